@@ -1,0 +1,3 @@
+pub mod Term
+pub mod Value
+pub mod Wrap
