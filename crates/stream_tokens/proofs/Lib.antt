@@ -1,0 +1,7 @@
+pub mod Runs
+pub mod Fronts
+pub mod SymbolFronts
+pub mod Longest
+pub mod FrontReads
+pub mod Cutting
+pub mod LineLemmas

@@ -1,0 +1,6 @@
+pub mod Bytes
+pub mod Symbols
+pub mod Tokens
+pub mod Scanning
+pub mod Lines
+pub mod JobTexts

@@ -1,0 +1,40 @@
+-- Meaning: how each symbol is written, as bytes of ASCII.
+use Rattle.std.specs.Prelude.{ℕ, List, codes}
+use Rattle.stream_tokens.specs.declared.symbol.Symbol.{Symbol}
+use Rattle.stream_tokens.specs.declared.symbol.Symbol.TheVariants as symbol
+
+-- the bytes of a symbol
+abbrev pub spelling_of : Symbol → List ℕ
+spelling_of symbol.Arrow = codes "->"
+spelling_of symbol.DoubleColon = codes "::"
+spelling_of symbol.ShiftLeft = codes "<<"
+spelling_of symbol.ShiftRight = codes ">>"
+spelling_of symbol.ShiftRightUnsigned = codes ">>>"
+spelling_of symbol.AtMost = codes "<="
+spelling_of symbol.AtLeast = codes ">="
+spelling_of symbol.Equal = codes "=="
+spelling_of symbol.NotEqual = codes "!="
+spelling_of symbol.AndAnd = codes "&&"
+spelling_of symbol.OrOr = codes "||"
+spelling_of symbol.PlusPlus = codes "++"
+spelling_of symbol.MinusMinus = codes "--"
+spelling_of symbol.Open = codes "("
+spelling_of symbol.Close = codes ")"
+spelling_of symbol.Comma = codes ","
+spelling_of symbol.Dot = codes "."
+spelling_of symbol.Semicolon = codes ";"
+spelling_of symbol.Assign = codes "="
+spelling_of symbol.Less = codes "<"
+spelling_of symbol.More = codes ">"
+spelling_of symbol.Plus = codes "+"
+spelling_of symbol.Minus = codes "-"
+spelling_of symbol.Star = codes "*"
+spelling_of symbol.Slash = codes "/"
+spelling_of symbol.Percent = codes "%"
+spelling_of symbol.And = codes "&"
+spelling_of symbol.Or = codes "|"
+spelling_of symbol.Xor = codes "^"
+spelling_of symbol.Tilde = codes "~"
+spelling_of symbol.Bang = codes "!"
+spelling_of symbol.Question = codes "?"
+spelling_of symbol.Colon = codes ":"

@@ -1,0 +1,29 @@
+//! The tokens of a text, and the texts of the jobs of a file.
+//!
+//! A text of a job or of a lambda is cut into names, numbers, strings, references and symbols, from
+//! left to right and the longest first (`cut`); a file of jobs is taken apart into the texts of its
+//! jobs, each with the number of its line (`job_texts`). Both take every byte string.
+//!
+//! Stands on std alone. The readers of lambdas and of jobs stand on it: `cut`, clause `tokens`, gives
+//! them the one list of tokens that a text has (`one_cut`), and `job_texts`, clause `ok`, the lines.
+//! They match on `TokenKind` and `Symbol`, and read a token's bytes by `Token::text`.
+//!
+//! Begin with `specs/Tokens.antt`, then `scanner.rt`.
+//!
+//! Not promised: that a token stands in some grammar. A bad byte, `++`, `--` and a number such as `007`
+//! are cut like all others, and the readers refuse them.
+#![tactic(auto)]
+
+mod bytes;
+mod job_text;
+mod line;
+mod scanner;
+mod symbol;
+mod token;
+
+pub use bytes::Bytes;
+pub use job_text::{JobText, TextFault, job_texts};
+pub use scanner::{cut, one_cut, tokens_stand_in_order};
+pub use std::alloc::AllocError as NoMemory;
+pub use symbol::Symbol;
+pub use token::{Token, TokenKind};
