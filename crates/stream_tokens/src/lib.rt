@@ -19,6 +19,8 @@ mod job_text;
 mod line;
 mod scanner;
 mod symbol;
+#[cfg(test)]
+mod tests;
 mod token;
 
 pub use bytes::Bytes;
