@@ -10,7 +10,8 @@ use Rattle.stream_tokens.specs.declared.token.TokenKind.{TokenKind}
 use Rattle.stream_tokens.specs.declared.token.TokenKind.TheVariants.{Bad}
 use Rattle.stream_tokens.specs.declared.token.Token.{Token}
 use Rattle.stream_tokens.specs.Bytes.{is_blank}
-use Rattle.stream_tokens.specs.Tokens.{HasForm, IsLongest, IsFirstToken, AreBlank, CutBetween, StandInOrder}
+use Rattle.stream_tokens.specs.Forms.{HasForm}
+use Rattle.stream_tokens.specs.Tokens.{IsLongest, IsFirstToken, AreBlank, CutBetween, StandInOrder}
 use Rattle.stream_tokens.proofs.Runs.{and_true}
 use Rattle.stream_tokens.proofs.Fronts.{kind_at, kind_is}
 use Rattle.stream_tokens.proofs.Longest.{formed_some}

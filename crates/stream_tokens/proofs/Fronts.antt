@@ -10,7 +10,7 @@ use Rattle.stream_tokens.specs.declared.token.TokenKind.TheVariants.{Name, Numbe
 use Rattle.stream_tokens.specs.Bytes.{is_name_start}
 use Rattle.stream_tokens.specs.Symbols.{spelling_of}
 use Rattle.stream_tokens.specs.Scanning.{symbol_at}
-use Rattle.stream_tokens.specs.Tokens.{HasForm}
+use Rattle.stream_tokens.specs.Forms.{HasForm}
 use Rattle.stream_tokens.proofs.Runs.{and_left}
 
 abbrev pub kind_of_symbol : Option SymbolType → TokenKind

@@ -13,7 +13,8 @@ use Rattle.stream_tokens.specs.declared.token.TokenKind.TheVariants.{Name, Numbe
 use Rattle.stream_tokens.specs.Bytes.{is_blank, is_name_start, is_name_byte, is_long_mark, ends_text}
 use Rattle.stream_tokens.specs.Symbols.{spelling_of}
 use Rattle.stream_tokens.specs.Scanning.{symbol_at}
-use Rattle.stream_tokens.specs.Tokens.{IsName, IsMark, HasForm, IsLongest, IsBadByte, IsFirstToken}
+use Rattle.stream_tokens.specs.Forms.{IsName, IsMark, HasForm}
+use Rattle.stream_tokens.specs.Tokens.{IsLongest, IsBadByte, IsFirstToken}
 use Rattle.stream_tokens.proofs.Runs.{run_passed, passes_run, longest_run}
 use Rattle.stream_tokens.proofs.Fronts.{kind_of_symbol, kind_at, kind_is}
 use Rattle.stream_tokens.proofs.SymbolFronts.{BeginsWith, symbol_begins, symbol_longest}

@@ -1,4 +1,4 @@
--- Meaning: how each symbol is written, as bytes of ASCII.
+-- Meaning: how each symbol is written, in ASCII. All are separators and operators of Java (JLS 17, 3.11 and 3.12).
 use Rattle.std.specs.Prelude.{ℕ, List, codes}
 use Rattle.stream_tokens.specs.declared.symbol.Symbol.{Symbol}
 use Rattle.stream_tokens.specs.declared.symbol.Symbol.TheVariants as symbol

@@ -1,32 +1,11 @@
--- Meaning: the tokens of a text, cut from left to right, the longest first.
-use Rattle.std.specs.Prelude.{◌≡◌, ℕ, ◌-◌, ◌<◌, ◌≤◌, true, false, not, ◌⊎◌, List, [], ◌∷◌, ◌++◌, length, take, drop, slice_index, slice_range}
+-- Meaning: the tokens of a text, cut from left to right, the longest first (JLS 17, 3.2).
+use Rattle.std.specs.Prelude.{◌≡◌, ℕ, ◌-◌, ◌<◌, ◌≤◌, true, false, ◌⊎◌, List, [], ◌∷◌, length, take, drop, slice_index, slice_range}
 use Rattle.std.specs.List.{list_all}
-use Rattle.std.specs.Char.{is_ascii_digit}
 use Rattle.stream_tokens.specs.declared.token.TokenKind.{TokenKind}
-use Rattle.stream_tokens.specs.declared.token.TokenKind.TheVariants.{Name, Number, Text, Reference, Symbol, Bad}
+use Rattle.stream_tokens.specs.declared.token.TokenKind.TheVariants.{Bad}
 use Rattle.stream_tokens.specs.declared.token.Token.{Token}
-use Rattle.stream_tokens.specs.Bytes.{is_blank, is_name_start, is_name_byte, is_long_mark, ends_text}
-use Rattle.stream_tokens.specs.Symbols.{spelling_of}
-
--- a letter or `_`, then letters, digits and `_`
-abbrev pub IsName : List ℕ → Type 0
-IsName [] = ⊥
-IsName (b ∷ bs) = (is_name_start b ≡ true) × (list_all is_name_byte bs ≡ true)
-
--- nothing, or one `L` or `l`
-abbrev pub IsMark : List ℕ → Type 0
-IsMark [] = Unit {0}
-IsMark (b ∷ []) = is_long_mark b ≡ true
-IsMark (b ∷ c ∷ bs) = ⊥
-
--- the form of each kind; a bad byte has none
-abbrev pub HasForm : TokenKind → List ℕ → Type 0
-HasForm Name w = IsName w
-HasForm Number w = (digits mark : List ℕ) × (w ≡ digits ++ mark) × (0 < length digits) × (list_all is_ascii_digit digits ≡ true) × IsMark mark
-HasForm Text w = (inside : List ℕ) × (w ≡ 34 ∷ inside ++ 34 ∷ []) × (list_all (λ b. not (ends_text b)) inside ≡ true)
-HasForm Reference w = (name : List ℕ) × (w ≡ 36 ∷ name) × IsName name
-HasForm (Symbol s) w = w ≡ spelling_of s
-HasForm Bad w = ⊥
+use Rattle.stream_tokens.specs.Bytes.{is_blank}
+use Rattle.stream_tokens.specs.Forms.{HasForm}
 
 -- the first n bytes have the form of a kind, and no longer front has the form of any
 pub record IsLongest (text : List ℕ) (kind : TokenKind) (n : ℕ) : Type 0 where

@@ -1,5 +1,5 @@
 // Tables of tokens and of lines.
-use crate::{Symbol, Token, TokenKind, cut, job_texts};
+use crate::{Bytes, Symbol, Token, TokenKind, cut, job_texts};
 use std::test::Fail;
 
 fn token(kind: TokenKind, from: usize, to: usize) -> Token {
@@ -172,5 +172,14 @@ fn every_line_that_is_not_blank_begins_a_job(rt: HostRuntime) -> Result<(), Fail
         assert_eq!(rt; numbers.as_slice(), lines, "in {bytes:?}");
         assert_eq!(rt; joined.as_slice(), texts, "in {bytes:?}");
     }
+    Ok(())
+}
+
+#[test]
+fn bytes_give_their_vector_back(rt: HostRuntime) -> Result<(), Fail> {
+    let text: &[u8] = b"a\xff";
+    let bytes = Bytes::from(Vec::from_slice(rt.alloc(), text)?);
+    assert_eq!(rt; bytes.as_slice(), text);
+    assert_eq!(rt; bytes.into_vec().as_slice(), text);
     Ok(())
 }
