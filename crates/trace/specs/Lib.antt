@@ -1,0 +1,3 @@
+pub mod Cover
+pub mod Stages
+pub mod Trace

@@ -1,0 +1,50 @@
+-- Meaning: what the stages of a pipeline make of a trace.
+use Rattle.std.specs.Prelude.{ℕ, suc, ℤ, Bool, true, false, List, [], ◌∷◌, Option, Some, Result, Ok, Err}
+use Rattle.lambda_expr.specs.declared.fault.FaultKind.{FaultKind}
+use Rattle.lambda_expr.specs.Term.{Long, Truth, long_of, truth_of}
+use Rattle.lambda_expr.specs.Value.{long_value, truth_value}
+use Rattle.trace.specs.declared.item.Item.{Item}
+use Rattle.trace.specs.declared.item.End.{End}
+use Rattle.trace.specs.declared.item.End.TheVariants as end
+use Rattle.trace.specs.declared.stage.Stage.{Stage}
+use Rattle.trace.specs.declared.stage.Stage.TheVariants as stage
+use Rattle.trace.specs.Trace.{Trace, trace, each}
+
+-- a stage as it is thought of
+pub data StageTerm : Type 0 where
+  map : Long → StageTerm
+  filter : Truth → StageTerm
+
+-- the walk ends at this item, with a fault of this kind in this stage
+abbrev pub faulted : FaultKind → ℕ → Item → Trace
+faulted k n x = trace [] (end.Fault (record { kind = k; stage = n; origin = Some x.origin }))
+
+-- the image of an item, which keeps its place (`LongStream.map`)
+abbrev pub image : ℕ → Item → Result ℤ FaultKind → Trace
+image n x (Ok v) = trace (record { origin = x.origin; value = v } ∷ []) end.Done
+image n x (Err k) = faulted k n x
+
+-- the item itself, if it passes (`LongStream.filter`)
+abbrev pub passed : ℕ → Item → Result Bool FaultKind → Trace
+passed n x (Ok true) = trace (x ∷ []) end.Done
+passed n x (Ok false) = trace [] end.Done
+passed n x (Err k) = faulted k n x
+
+-- what stage number n makes of one item
+abbrev pub of_item : ℕ → StageTerm → List ℤ → Item → Trace
+of_item n (map e) env x = image n x (long_value e x.value env)
+of_item n (filter p) env x = passed n x (truth_value p x.value env)
+
+-- the stages in order of writing, the first of them with this number; each of them takes what the one before it gives
+abbrev pub pipe : ℕ → List StageTerm → List ℤ → Trace → Trace
+pipe n [] env t = t
+pipe n (g ∷ gs) env t = pipe (suc n) gs env (each (of_item n g env) t.items t.ending)
+
+-- what a stage of the program stands for
+abbrev pub stage_of : Stage → StageTerm
+stage_of (stage.Map e) = map (long_of e)
+stage_of (stage.Filter p) = filter (truth_of p)
+
+abbrev pub stages_of : List Stage → List StageTerm
+stages_of [] = []
+stages_of (g ∷ gs) = stage_of g ∷ stages_of gs
