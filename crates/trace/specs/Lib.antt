@@ -1,3 +1,4 @@
 pub mod Cover
+pub mod Sinks
 pub mod Stages
 pub mod Trace

@@ -1,10 +1,9 @@
 -- Meaning: what the stages of a pipeline make of a trace.
-use Rattle.std.specs.Prelude.{ℕ, suc, ℤ, Bool, true, false, List, [], ◌∷◌, Option, Some, Result, Ok, Err}
+use Rattle.std.specs.Prelude.{ℕ, suc, ℤ, Bool, true, false, List, [], ◌∷◌, Some, Result, Ok, Err}
 use Rattle.lambda_expr.specs.declared.fault.FaultKind.{FaultKind}
 use Rattle.lambda_expr.specs.Term.{Long, Truth, long_of, truth_of}
 use Rattle.lambda_expr.specs.Value.{long_value, truth_value}
 use Rattle.trace.specs.declared.item.Item.{Item}
-use Rattle.trace.specs.declared.item.End.{End}
 use Rattle.trace.specs.declared.item.End.TheVariants as end
 use Rattle.trace.specs.declared.stage.Stage.{Stage}
 use Rattle.trace.specs.declared.stage.Stage.TheVariants as stage

@@ -12,6 +12,10 @@ pub record Trace : Type 0 where
 abbrev pub trace : List Item → End → Trace
 trace xs e = record { items = xs; ending = e }
 
+-- a walk that gives no item and is done
+abbrev pub nothing : Trace
+nothing = trace [] end.Done
+
 -- these items, and then what comes after them; after a fault nothing comes
 abbrev pub then_on : List Item → End → Trace → Trace
 then_on xs end.Done b = trace (xs ++ b.items) b.ending

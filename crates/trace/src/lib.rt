@@ -1,8 +1,28 @@
 //! Walks over items, their joining, and the stages that take one item at a time.
+//!
+//! Stands on `lambda_expr`, which gives a lambda's value at an item. Used by whatever walks a source or
+//! joins what pieces of a walk gave. What it promises to them: `feed` leaves in any sink what
+//! `specs/Stages.antt` says that the stages make of that item (`specs/Sinks.antt`), and `Chunk::append`
+//! is `append` of `specs/Trace.antt`, where the first fault ends the whole.
+//! Begin with `specs/Trace.antt` and `specs/Stages.antt`, then `chunk.rt` and `feeding.rt`; `laws.rt` says
+//! why a walk may be cut anywhere. `specs/Cover.antt` has the items of the sources.
+//! Not promised: that memory for an item is there.
+//! The stages are `map` and `filter` of `LongStream` (Java SE 17, java.util.stream).
 #![tactic(auto)]
 
+mod chunk;
+mod feeding;
 mod item;
+mod laws;
+mod sink;
 mod stage;
 
+pub use chunk::Chunk;
+pub use feeding::{Fed, feed};
 pub use item::{End, Fault, Item};
+pub use laws::{
+    joining_is_associative, nothing_is_the_unit, stages_go_item_by_item, stages_keep_joining,
+};
+pub use sink::{Flow, LongSink};
 pub use stage::Stage;
+pub use std::alloc::AllocError as NoMemory;

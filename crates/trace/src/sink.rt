@@ -1,0 +1,40 @@
+// Where the items go after the last stage.
+
+ghost use Rattle.std.specs.Prelude.{◌≡◌, List, [], ◌∷◌, ◌++◌, IfOk, OnOk, OnErr};
+ghost use Rattle.trace.specs.declared.item.Item.{Item};
+ghost use Rattle.trace.specs.declared.sink.Flow.{Flow};
+
+use super::NoMemory;
+use super::item::Item;
+
+/// Whether a sink wants another item.
+#[derive(Clone, Copy, Debug, PartialEq, Eq)]
+pub enum Flow {
+    More,
+    Enough,
+}
+
+/// What takes the items after the last stage, one by one.
+pub trait LongSink {
+    // These are the items that the sink has taken, in turn.
+    ghost has_taken: { Self → List Item → Type 0 };
+
+    // Whether the sink wants another item.
+    ghost flow: { Self → Flow };
+
+    // Whether a sink of this type may need memory for an item.
+    ghost takes_memory: { Type 0 };
+
+    /// Takes one more item, and answers whether the sink wants another.
+    ///
+    /// After a refusal it has taken what it had before.
+    fn accept(&mut self, item: Item) -> Result<Flow, NoMemory>
+        requires { flow self.old ≡ Flow.More }
+        ensures ok { OnOk result
+            ((xs : List Item) → has_taken self.old xs → has_taken self.new (xs ++ item ∷ [])) }
+        ensures answer { IfOk result (λ answer. answer ≡ flow self.new) }
+        ensures err { OnErr result
+            ((xs : List Item) → has_taken self.old xs → has_taken self.new xs) }
+        ensures wants { OnErr result (flow self.new ≡ Flow.More) }
+        ensures refused { OnErr result takes_memory };
+}
