@@ -15,12 +15,19 @@ abbrev pub flow_at : End → Flow
 flow_at end.Done = flow.More
 flow_at (end.Fault f) = flow.Enough
 
--- how this walk went on into a sink that had taken the items xs before, by what was answered:
--- More, Fault: the sink took all items of the walk and wants more; the walk was done, or ended in this fault
--- Enough: it took the first of them, up to and with the one after which it had enough
--- no memory: it took the first of them, up to, not with, one that it refused
-abbrev pub IsFed : {S : Type 0} → (S → List Item → Type 0) → (S → Flow) → List Item → Trace → Result Fed AllocError → S → Type 0
-IsFed has_taken wants xs t (Ok fed.More) s = has_taken s (xs ++ t.items) × (t.ending ≡ end.Done) × (wants s ≡ flow.More)
-IsFed has_taken wants xs t (Ok (fed.Fault f)) s = has_taken s (xs ++ t.items) × (t.ending ≡ end.Fault f) × (wants s ≡ flow.More)
-IsFed has_taken wants xs t (Ok fed.Enough) s = (k : ℕ) × (k < length t.items) × has_taken s (xs ++ take (suc k) t.items) × (wants s ≡ flow.Enough)
-IsFed has_taken wants xs t (Err e) s = (k : ℕ) × (k < length t.items) × has_taken s (xs ++ take k t.items) × (wants s ≡ flow.More)
+-- a sink that had taken the items xs took these of the walk t, and is s now, by what was answered:
+-- More, Fault: all; the walk was done, or ended in this fault
+-- Enough: the first ones, up to and with the one after which it had enough
+-- no memory: the first ones, up to, not with, the one that it refused
+abbrev pub IsFed : {S : Type 0} → (S → List Item → Type 0) → List Item → Trace → Result Fed AllocError → S → Type 0
+IsFed has_taken xs t (Ok fed.More) s = has_taken s (xs ++ t.items) × (t.ending ≡ end.Done)
+IsFed has_taken xs t (Ok (fed.Fault f)) s = has_taken s (xs ++ t.items) × (t.ending ≡ end.Fault f)
+IsFed has_taken xs t (Ok fed.Enough) s = (k : ℕ) × (k < length t.items) × has_taken s (xs ++ take (suc k) t.items)
+IsFed has_taken xs t (Err e) s = (k : ℕ) × (k < length t.items) × has_taken s (xs ++ take k t.items)
+
+-- what the sink wants after that: it was given items until it had enough
+abbrev pub flow_after : Result Fed AllocError → Flow
+flow_after (Ok fed.More) = flow.More
+flow_after (Ok (fed.Fault f)) = flow.More
+flow_after (Ok fed.Enough) = flow.Enough
+flow_after (Err e) = flow.More

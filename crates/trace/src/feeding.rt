@@ -3,7 +3,7 @@
 ghost use Rattle.std.specs.Prelude.{◌≡◌, ◌+◌, ◌<◌, ◌^◌, List, [], ◌∷◌, length, OnErr};
 ghost use Rattle.trace.specs.Trace.{trace};
 ghost use Rattle.trace.specs.Stages.{pipe, stages_of};
-ghost use Rattle.trace.specs.Sinks.{IsFed};
+ghost use Rattle.trace.specs.Sinks.{IsFed, flow_after};
 ghost use Rattle.trace.specs.declared.item.Item.{Item};
 ghost use Rattle.trace.specs.declared.item.End.TheVariants as end;
 
@@ -39,8 +39,9 @@ pub fn feed<S: LongSink>(
 ) -> Result<Fed, NoMemory>
     requires numbered { first_stage + length stages.now < 2 ^ 32 }
     requires wants { S.flow sink.old ≡ Flow.More }
-    ensures fed { (xs : List Item) → S.has_taken sink.old xs → IsFed S.has_taken S.flow xs
+    ensures fed { (xs : List Item) → S.has_taken sink.old xs → IsFed S.has_taken xs
         (pipe first_stage (stages_of stages.now) env.now (trace (item ∷ []) end.Done)) result sink.new }
+    ensures flow { S.flow sink.new ≡ flow_after result }
     ensures refused { OnErr result S.takes_memory }
 {
     let Some((stage, later)) = stages.split_first() else {
@@ -66,6 +67,32 @@ pub fn feed<S: LongSink>(
             Err(kind) => Ok(Fed::Fault(fault_at(first_stage, item, kind))),
         },
     }
+}
+
+/// Takes items one after the other through all stages, as `feed` does each.
+///
+/// It ends at the first fault, and where the sink has enough: no later item is looked at.
+pub fn feed_all<S: LongSink>(
+    stages: &[Stage],
+    first_stage: u32,
+    env: &Env,
+    items: &[Item],
+    sink: &mut S,
+) -> Result<Fed, NoMemory>
+    requires numbered { first_stage + length stages.now < 2 ^ 32 }
+    requires wants { S.flow sink.old ≡ Flow.More }
+    ensures fed { (xs : List Item) → S.has_taken sink.old xs → IsFed S.has_taken xs
+        (pipe first_stage (stages_of stages.now) env.now (trace items.now end.Done)) result sink.new }
+    ensures flow { S.flow sink.new ≡ flow_after result }
+    ensures refused { OnErr result S.takes_memory }
+{
+    for item in items {
+        match feed(stages, first_stage, env, *item, sink)? {
+            Fed::More => {}
+            ended => return Ok(ended),
+        }
+    }
+    Ok(Fed::More)
 }
 
 /// The fault of this stage at this item.

@@ -18,7 +18,7 @@ mod sink;
 mod stage;
 
 pub use chunk::Chunk;
-pub use feeding::{Fed, feed};
+pub use feeding::{Fed, feed, feed_all};
 pub use item::{End, Fault, Item};
 pub use laws::{
     joining_is_associative, nothing_is_the_unit, stages_go_item_by_item, stages_keep_joining,
