@@ -38,7 +38,7 @@ impl Chunk {
         }
     }
 
-    /// Puts an item after the others, at a cost that is constant on the whole.
+    /// Puts an item after the others, in amortized constant time.
     ///
     /// A refusal leaves the chunk as it was.
     pub fn push(&mut self, item: Item) -> Result<(), NoMemory>
@@ -60,12 +60,13 @@ impl Chunk {
         ensures right_returned { IfErr result (λ chunk. chunk ≡ right) }
         ensures refused { OnErr result ((self.old.ending ≡ End.Done) × (right.items ≢ [])) }
     {
-        if let End::Done = self.end {
-            if self.items.append(&mut right.items).is_err() {
-                return Err(right);
-            }
-            self.end = right.end;
+        if let End::Fault(_) = self.end {
+            return Ok(());
         }
+        if self.items.append(&mut right.items).is_err() {
+            return Err(right);
+        }
+        self.end = right.end;
         Ok(())
     }
 

@@ -177,12 +177,15 @@ fn a_chunk_goes_on_with_another_until_a_fault(rt: HostRuntime) -> Result<(), Fai
 #[test]
 fn the_values_of_a_chunk_come_in_turn(rt: HostRuntime) -> Result<(), Fail> {
     let alloc = rt.alloc();
-    let chunk = walked(alloc, &[], &[3, -1, 2])?;
+    let mut chunk = walked(alloc, &[], &[3, -1, 2])?;
+    assert_eq!(rt; chunk.end(), End::Done);
+    let fed = feed(&[], 1, &Env::empty(alloc), item(3, 8), &mut chunk)?;
+    assert_eq!(rt; fed, Fed::More);
     assert_eq!(rt; chunk.end(), End::Done);
     let Ok(values) = chunk.into_values(alloc) else {
         return Err(AllocError.into());
     };
-    assert_eq!(rt; values.as_slice(), [3, -1, 2].as_slice());
+    assert_eq!(rt; values.as_slice(), [3, -1, 2, 8].as_slice());
     Ok(())
 }
 
