@@ -1,1 +1,9 @@
+pub mod Depths
+pub mod Frames
+pub mod Heads
+pub mod Literals
+pub mod Machine
 mod Quotient
+pub mod Turning
+pub mod Values
+pub mod WordList

@@ -1,3 +1,9 @@
+pub mod Grammar
+pub mod Judging
+pub mod Numerals
+pub mod Reading
+pub mod Refusals
 pub mod Term
 pub mod Value
+pub mod Words
 pub mod Wrap

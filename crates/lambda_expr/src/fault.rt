@@ -1,5 +1,8 @@
 // Why an expression has no value.
 
+ghost use Rattle.std.specs.Prelude.{◌≡◌};
+ghost use Rattle.lambda_expr.specs.declared.fault.ReadFault.TheVariants.{NoMemory};
+
 use std::alloc::{AllocError, AllocFailed};
 
 /// Why an expression has no value at an item, or a source no items.
@@ -15,4 +18,38 @@ pub enum FaultKind {
     OutOfArray,
     /// More than 2^62 values.
     SourceTooLong,
+}
+
+/// Why a text is not read as a lambda of the want. Numbers 1 to 6, in this order.
+#[derive(Clone, Copy, Debug, PartialEq, Eq)]
+pub enum ReadFault {
+    /// The text is not in the grammar. The column is a byte position from 1: of the first token
+    /// such that no lambda begins with the tokens up to and with it, or one past the last byte.
+    Syntax { column: usize },
+    /// An operand of the wrong type, or a body that is not of the wanted type.
+    WrongType,
+    /// A name that is not the parameter.
+    UnknownName,
+    /// More than 4,096 tokens, or an expression deeper than 64.
+    TooDeep,
+    /// A number above 2^63 - 1; 2^63 may stand directly after a unary minus.
+    LiteralTooLarge,
+    /// A growth was refused.
+    NoMemory,
+}
+
+impl From<AllocError> for ReadFault {
+    ghost from_gives = { λ _ fault. fault ≡ NoMemory };
+
+    fn from(_error: AllocError) -> ReadFault {
+        ReadFault::NoMemory
+    }
+}
+
+impl<T: Drop> From<AllocFailed<T>> for ReadFault {
+    ghost from_gives = { λ _ fault. fault ≡ NoMemory };
+
+    fn from(_error: AllocFailed<T>) -> ReadFault {
+        ReadFault::NoMemory
+    }
 }

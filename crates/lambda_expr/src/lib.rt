@@ -10,9 +10,17 @@
 mod env;
 mod expr;
 mod fault;
+mod judge;
+mod lambda;
+mod number;
 mod operator;
+mod parse;
+mod read;
+mod tree;
 
 pub use env::Env;
 pub use expr::{BoolExpr, LongExpr};
-pub use fault::FaultKind;
-pub use operator::{BinaryOperator, Comparison, UnaryOperator};
+pub use fault::{FaultKind, ReadFault};
+pub use lambda::{Body, Lambda, Want};
+pub use operator::{BinaryOperator, Comparison, Infix, UnaryOperator};
+pub use read::read_lambda;

@@ -81,3 +81,10 @@ impl Comparison {
         }
     }
 }
+
+/// An operator between two operands, as it is written.
+#[derive(Clone, Copy, Debug, PartialEq, Eq)]
+pub enum Infix {
+    Compare(Comparison),
+    Compute(BinaryOperator),
+}

@@ -1,0 +1,58 @@
+-- The words of a list of tokens, place by place.
+use Rattle.std.proofs.Common.{◌≡◌, ℕ, zero, suc, ◌<◌, ◌≤◌, List, [], ◌∷◌, length, drop, get_or, refl, ap, arith}
+use Rattle.stream_tokens.specs.declared.token.Token.{Token}
+use Rattle.stream_tokens.specs.declared.token.TokenKind.{TokenKind}
+use Rattle.stream_tokens.specs.declared.token.TokenKind.TheVariants as kind
+use Rattle.stream_tokens.specs.declared.symbol.Symbol.{Symbol}
+use Rattle.lambda_expr.specs.Words.{named, sign, bad, word_of, words_of, word_for}
+use Rattle.lambda_expr.specs.Refusals.{column}
+
+pub length-words_of : (text : List ℕ) (ts : List Token) → length (words_of text ts) ≡ length ts
+length-words_of text [] = refl
+length-words_of text (t ∷ ts) = ap suc (length-words_of text ts)
+
+pub get_or-words_of : (text : List ℕ) (ts : List Token) (i : ℕ) (d : Token) → i < length ts → get_or (words_of text ts) i bad ≡ word_of text (get_or ts i d)
+get_or-words_of text [] i d h = absurd (omega arith)
+get_or-words_of text (t ∷ ts) zero d h = refl
+get_or-words_of text (t ∷ ts) (suc i) d h = let k : i < length ts = omega arith in get_or-words_of text ts i d k
+
+pub drop-words_of : (text : List ℕ) (n : ℕ) (ts : List Token) → words_of text (drop n ts) ≡ drop n (words_of text ts)
+drop-words_of text zero ts = refl
+drop-words_of text (suc n) [] = refl
+drop-words_of text (suc n) (t ∷ ts) = drop-words_of text n ts
+
+-- what the word of a token says of the token
+pub named_kind : (k : TokenKind) (bytes p : List ℕ) → word_for k bytes ≡ named p → k ≡ kind.Name
+named_kind kind.Name bytes p h = refl
+named_kind kind.Number bytes p h = cc
+named_kind kind.Text bytes p h = cc
+named_kind kind.Reference bytes p h = cc
+named_kind (kind.Symbol s) bytes p h = cc
+named_kind kind.Bad bytes p h = cc
+
+pub named_bytes : (k : TokenKind) (bytes p : List ℕ) → word_for k bytes ≡ named p → bytes ≡ p
+named_bytes kind.Name bytes p h = cc
+named_bytes kind.Number bytes p h = cc
+named_bytes kind.Text bytes p h = cc
+named_bytes kind.Reference bytes p h = cc
+named_bytes (kind.Symbol s) bytes p h = cc
+named_bytes kind.Bad bytes p h = cc
+
+pub sign_kind : (k : TokenKind) (bytes : List ℕ) (s : Symbol) → word_for k bytes ≡ sign s → k ≡ kind.Symbol s
+sign_kind kind.Name bytes s h = cc
+sign_kind kind.Number bytes s h = cc
+sign_kind kind.Text bytes s h = cc
+sign_kind kind.Reference bytes s h = cc
+sign_kind (kind.Symbol r) bytes s h = let same : r ≡ s = cc in ap kind.Symbol same
+sign_kind kind.Bad bytes s h = cc
+
+-- the column of a token, and of the end
+pub column-at : (text : List ℕ) (ts : List Token) (i : ℕ) (d : Token) → i < length ts → column text ts i ≡ suc (get_or ts i d).from
+column-at text [] i d h = absurd (omega arith)
+column-at text (t ∷ ts) zero d h = refl
+column-at text (t ∷ ts) (suc i) d h = let k : i < length ts = omega arith in column-at text ts i d k
+
+pub column-past : (text : List ℕ) (ts : List Token) (i : ℕ) → length ts ≤ i → column text ts i ≡ suc (length text)
+column-past text [] i h = refl
+column-past text (t ∷ ts) zero h = absurd (omega arith)
+column-past text (t ∷ ts) (suc i) h = let k : length ts ≤ i = omega arith in column-past text ts i k
