@@ -1,0 +1,2 @@
+pub mod EachNamed
+mod Written

@@ -1,0 +1,3 @@
+pub mod CountedWrite
+pub mod Named
+pub mod Text
