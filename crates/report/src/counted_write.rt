@@ -1,5 +1,5 @@
 // Writers that count their failed writes, and writing all of some bytes to one.
-ghost use Rattle.std.specs.Prelude.{◌≡◌, ◌<◌, ◌≤◌, ℕ, List, Option, length, take, IfOk, IfErr, IfSome, IfNone, OnOk};
+ghost use Rattle.std.specs.Prelude.{◌≡◌, ◌<◌, ◌≤◌, ℕ, List, Option, length, take, IfOk, IfErr, IfSome, IfNone, OnOk, OnErr};
 ghost use Rattle.std.specs.Io.{WritesAtMost};
 ghost use Rattle.std.specs.Io.KnownBytes.{Appends, Keeps, WriteAppends};
 ghost use Rattle.report.specs.CountedWrite.{HasRisen, counted_failures, counted_writer, failures_after};
@@ -96,7 +96,7 @@ pub fn write_all_of<W: CountedWrite>(writer: &mut W, bytes: &[u8]) -> Result<(),
     ensures ok { OnOk result (Appends (W.contents writer.old) (W.contents writer.new) bytes.now) }
     ensures err { IfErr result (λ fault. Appends (W.contents writer.old) (W.contents writer.new) (take fault.written bytes.now)) }
     ensures short { IfErr result (λ fault. fault.written < length bytes.now) }
-    ensures failed { IfErr result (λ _. HasRisen (W.failures writer.old) (W.failures writer.new)) }
+    ensures failed { OnErr result (HasRisen (W.failures writer.old) (W.failures writer.new)) }
     ensures counts { W.failures writer.old ≤ W.failures writer.new }
 {
     let mut written = 0;

@@ -14,9 +14,11 @@ mod kind;
 mod printable;
 #[cfg(test)]
 mod tests;
+mod worked;
 
 pub use as_text::text;
 pub use counted_write::{CountedOut, CountedWrite, WriteFault, write_all_of};
 pub use kind::kind_name;
 pub use printable::a_meaning_has_a_report;
 pub use std::alloc::AllocError as NoMemory;
+pub use worked::worked_reports;
