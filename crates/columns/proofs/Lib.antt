@@ -1,1 +1,7 @@
+pub mod CellLemmas
+pub mod FileLemmas
 pub mod GivenBytes
+pub mod RecordLemmas
+pub mod RowLemmas
+pub mod SpelledNumbers
+pub mod TableLemmas

@@ -1,0 +1,159 @@
+-- A header and rows of cells, one more name, cell or row at a time.
+use Rattle.std.proofs.Common.{◌≡◌, ◌<◌, ◌≤◌, ◌+◌, ℕ, ℤ, zero, suc, List, [], ◌∷◌, ◌++◌, Bool, true, false, ◌||◌, Some, None, length, map, take, drop, get_or, set, refl, sym, ap, ◌∙◌, arith, if◌then◌else◌, ◌==◌}
+use Rattle.std.proofs.lemmas.Option.{slice_get-get_or}
+use Rattle.std.proofs.lemmas.List.{drop_more, take_more_set, drop-set-lt, append_assoc, get_or-map, length-map, map-set}
+use Rattle.std.proofs.lemmas.Bool.Decides.{nat_tests}
+use Rattle.std.specs.Prelude.{slice_get, is_some, option_and_then}
+use Rattle.std.specs.List.{list_any}
+use Rattle.std.specs.Str.{bytes_eq}
+use Rattle.csv.specs.Records.{field_at}
+use Rattle.columns.specs.declared.table.Column.{Column}
+use Rattle.std.specs.Borrow.{Bor}
+use Rattle.csv.specs.declared.reader.Reader.{Reader}
+use Rattle.columns.specs.declared.fault.ColumnFault.{ColumnFault}
+use Rattle.columns.specs.declared.fault.ColumnFault.TheVariants.{BadNumber}
+use Rattle.columns.specs.Records.{GaveNext, IsReading}
+use Rattle.columns.specs.Cell.{number_of}
+use Rattle.columns.specs.Refusals.{cell_fault, has_twice, row_fault, rows_fault}
+use Rattle.columns.specs.Table.{Named, columns_under}
+use Rattle.columns.specs.TableOfColumns.{named, with_row, with_rows}
+
+-- a field of a record is an element of the list of its fields
+pub field_at_is : (fields : List (List ℕ)) (i : ℕ) → field_at fields i ≡ slice_get fields i
+unfolding field_at
+field_at_is [] i = refl
+field_at_is (f ∷ fields) zero = refl
+field_at_is (f ∷ fields) (suc i) = field_at_is fields i
+
+list_any-map : {X Y : Type 0} (p : Y → Bool) (f : X → Y) (xs : List X) → list_any p (map f xs) ≡ list_any (λ x. p (f x)) xs
+list_any-map p f [] = refl
+list_any-map p f (x ∷ xs) = ap (λ b. p (f x) || b) (list_any-map p f xs)
+
+-- one name is compared with those after it
+pub has_twice_more : (columns : List Column) (i : ℕ) (d : Column) → i < length columns
+    → has_twice (map (λ c. c.name.items) (drop i columns))
+    ≡ (list_any (λ c. bytes_eq (get_or columns i d).name.items c.name.items) (drop (i + 1) columns) || has_twice (map (λ c. c.name.items) (drop (i + 1) columns)))
+has_twice_more columns i d h =
+    let here = drop_more columns i d h in
+    rw here (ap (λ b. b || has_twice (map (λ c. c.name.items) (drop (i + 1) columns)))
+    (list_any-map (bytes_eq (get_or columns i d).name.items) (λ c. c.name.items) (drop (i + 1) columns)))
+
+-- a column more under a name more
+pub columns_under-append : (names : List (List ℕ)) (name : List ℕ)
+    → columns_under (names ++ name ∷ []) [] ≡ columns_under names [] ++ record { name = name; cells = [] } ∷ []
+columns_under-append [] name = refl
+columns_under-append (n ∷ names) name = ap (λ columns. record { name = n; cells = [] } ∷ columns) (columns_under-append names name)
+
+-- the names of the columns under a header are those of the header
+names_under : (names : List (List ℕ)) → map (λ c. c.name) (columns_under names []) ≡ names
+names_under [] = refl
+names_under (name ∷ names) = ap (λ l. name ∷ l) (names_under names)
+
+names_of : (columns : List Column) → map (λ c. c.name) (map named columns) ≡ map (λ c. c.name.items) columns
+names_of [] = refl
+names_of (c ∷ columns) = ap (λ l. c.name.items ∷ l) (names_of columns)
+
+pub names_under_header : (columns : List Column) (names : List (List ℕ)) → map named columns ≡ columns_under names [] → map (λ c. c.name.items) columns ≡ names
+names_under_header columns names e = sym (names_of columns) ∙ ap (map (λ c. c.name)) e ∙ names_under names
+
+-- a cell more that spells a number, or the fault of the one that spells none
+pub cell_fault_more : (r i : ℕ) (fields : List (List ℕ)) → i < length fields
+    → cell_fault r (i + 1) (drop i fields)
+    ≡ (if is_some (number_of (get_or fields i [])) then cell_fault r (i + 1 + 1) (drop (i + 1) fields) else Some (BadNumber r (i + 1)))
+cell_fault_more r i fields h = rw (drop_more fields i [] h) refl
+
+-- the number of a row's cell goes under its column
+pub with_row_more : (columns : List Named) (fields : List (List ℕ)) (i : ℕ) (c : Named) (n : ℤ) → i < length columns → i < length fields
+    → number_of (get_or fields i []) ≡ Some n → c ≡ get_or columns i c
+    → take (i + 1) (set columns i record c { cells = c.cells ++ n ∷ [] }) ++ with_row (drop (i + 1) (set columns i record c { cells = c.cells ++ n ∷ [] })) (drop (i + 1) fields)
+    ≡ take i columns ++ with_row (drop i columns) (drop i fields)
+with_row_more columns fields i c n in_columns in_fields value here =
+    let after = record c { cells = c.cells ++ n ∷ [] } in
+    let rest = with_row (drop (i + 1) columns) (drop (i + 1) fields) in
+    let front : take (i + 1) (set columns i after) ≡ take i columns ++ after ∷ [] = take_more_set columns i after in_columns in
+    let back : drop (i + 1) (set columns i after) ≡ drop (i + 1) columns = drop-set-lt (i + 1) columns i after (omega arith) in
+    let split : drop i columns ≡ c ∷ drop (i + 1) columns = drop_more columns i c in_columns ∙ ap (λ k. k ∷ drop (i + 1) columns) (sym here) in
+    let cells : drop i fields ≡ get_or fields i [] ∷ drop (i + 1) fields = drop_more fields i [] in_fields in
+    rw (front, back, split, cells, value) (append_assoc (take i columns) (after ∷ []) rest)
+
+-- the rows that a reader has left, from row n on, give the fault and the table that all rows give, over the columns so far
+pub record RowsLeft (width : ℕ) (reader : Reader (Bor (List ℕ))) (n : ℕ) (now start : List Named) (rows : List (List (List ℕ))) : Type 0 where
+  pub left : List (List (List ℕ))
+  pub reading : IsReading reader left
+  pub faults : rows_fault width n left ≡ rows_fault width 1 rows
+  pub table : with_rows now left ≡ with_rows start rows
+
+-- no row is left
+pub RowsLeft-end : (width : ℕ) (a b : Reader (Bor (List ℕ))) (n : ℕ) (now start : List Named) (rows : List (List (List ℕ))) (found : Bool) (fields : List (List ℕ))
+    → (s : RowsLeft width a n now start rows) → GaveNext s.left found fields b → found ≡ false → (rows_fault width 1 rows ≡ None) × (now ≡ with_rows start rows)
+RowsLeft-end width a b n now start rows found fields s gave none =
+    let end = rw none at gave in
+    (sym s.faults ∙ ap (rows_fault width n) end, ap (with_rows now) (sym end) ∙ s.table)
+
+-- a row more is read
+pub RowsLeft-more : (width : ℕ) (a b : Reader (Bor (List ℕ))) (n : ℕ) (now next start : List Named) (rows : List (List (List ℕ))) (found : Bool) (fields : List (List ℕ))
+    → (s : RowsLeft width a n now start rows) → GaveNext s.left found fields b → found ≡ true → row_fault width n fields ≡ None → next ≡ with_row now fields
+    → RowsLeft width b (n + 1) next start rows
+RowsLeft-more width a b n now next start rows found fields s gave some good put =
+    let (others, split, after) = rw some at gave in
+    let one : rows_fault width n (fields ∷ others) ≡ rows_fault width (n + 1) others = rw good refl in
+    record {
+      left = others;
+      reading = after;
+      faults = sym one ∙ ap (rows_fault width n) (sym split) ∙ s.faults;
+      table = ap (λ c. with_rows c others) put ∙ ap (with_rows now) (sym split) ∙ s.table;
+    }
+
+-- a row is no good
+pub RowsLeft-fault : (width : ℕ) (a b : Reader (Bor (List ℕ))) (n : ℕ) (now start : List Named) (rows : List (List (List ℕ))) (found : Bool) (fields : List (List ℕ)) (fault : ColumnFault)
+    → (s : RowsLeft width a n now start rows) → GaveNext s.left found fields b → found ≡ true → row_fault width n fields ≡ Some fault
+    → rows_fault width 1 rows ≡ Some fault
+RowsLeft-fault width a b n now start rows found fields fault s gave some bad =
+    let (others, split, after) = rw some at gave in
+    let one : rows_fault width n (fields ∷ others) ≡ Some fault = rw bad refl in
+    sym s.faults ∙ ap (rows_fault width n) split ∙ one
+
+-- the column at a place of the header, under its name, and those after it
+pub has_twice_at : (columns : List Column) (i : ℕ) (column : Column) (name : List ℕ) (others : List Column) (b : Bool) → i < length columns
+    → column ≡ get_or columns i column → name ≡ column.name.items → others ≡ drop (i + 1) columns → b ≡ list_any (λ c. bytes_eq name c.name.items) others
+    → has_twice (map (λ c. c.name.items) (drop i columns)) ≡ (b || has_twice (map (λ c. c.name.items) (drop (i + 1) columns)))
+has_twice_at columns i column name others b h here is rest found =
+    has_twice_more columns i column h
+    ∙ ap (λ a. a || has_twice (map (λ c. c.name.items) (drop (i + 1) columns))) (rw (sym here, sym is, sym rest) (sym found))
+
+-- past the last element
+pub slice_get_end : (fields : List (List ℕ)) (i : ℕ) → slice_get fields i ≡ None → length fields ≤ i
+slice_get_end [] i h = omega arith
+slice_get_end (f ∷ fields) zero h = cc h
+slice_get_end (f ∷ fields) (suc i) h = omega (arith, slice_get_end fields i h)
+
+-- the cell at a place spells a number
+pub number_there : (fields : List (List ℕ)) (i : ℕ) (n : ℤ) → i < length fields → option_and_then number_of (slice_get fields i) ≡ Some n → number_of (get_or fields i []) ≡ Some n
+number_there fields i n h e = rw (slice_get-get_or fields i [] h) at e
+
+pub cell_fault_good : (r i : ℕ) (fields : List (List ℕ)) (n : ℤ) → i < length fields → option_and_then number_of (slice_get fields i) ≡ Some n
+    → cell_fault r (i + 1 + 1) (drop (i + 1) fields) ≡ cell_fault r (i + 1) (drop i fields)
+cell_fault_good r i fields n h e = sym (rw (cell_fault_more r i fields h, number_there fields i n h e) refl)
+
+-- the cell at a place spells none
+pub cell_fault_bad : (r i : ℕ) (fields : List (List ℕ)) → i < length fields → option_and_then number_of (slice_get fields i) ≡ None
+    → cell_fault r (i + 1) (drop i fields) ≡ Some (BadNumber r (i + 1))
+cell_fault_bad r i fields h e =
+    let bad : number_of (get_or fields i []) ≡ None = rw (slice_get-get_or fields i [] h) at e in
+    rw (cell_fault_more r i fields h, bad) refl
+
+-- a row of the right length is judged by its cells
+pub row_fault_is : (width r : ℕ) (row : List (List ℕ)) → length row ≡ width → row_fault width r row ≡ cell_fault r 1 row
+row_fault_is width r row h =
+    let same : (length row == width) ≡ true = grind (arith, nat_tests) in
+    rw same refl
+
+-- the same of columns in memory: the column at the place is now a, with the number at its end
+pub put_number : (columns : List Column) (fields : List (List ℕ)) (i : ℕ) (c a : Column) (n : ℤ) → i < length columns → i < length fields
+    → number_of (get_or fields i []) ≡ Some n → c ≡ get_or columns i c → named a ≡ record { name = c.name.items; cells = c.cells.items ++ n ∷ [] }
+    → take (i + 1) (map named (set columns i a)) ++ with_row (drop (i + 1) (map named (set columns i a))) (drop (i + 1) fields)
+    ≡ take i (map named columns) ++ with_row (drop i (map named columns)) (drop i fields)
+put_number columns fields i c a n in_columns in_fields value here grown =
+    let there : named c ≡ get_or (map named columns) i (named c) = ap named here ∙ sym (get_or-map named columns i c (named c) in_columns) in
+    rw (map-set named columns i a, grown)
+    (with_row_more (map named columns) fields i (named c) n (rw length-map in_columns) in_fields value there)

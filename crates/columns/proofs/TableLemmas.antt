@@ -1,0 +1,43 @@
+-- Columns in memory, and the table that they show.
+use Rattle.std.proofs.Common.{◌≡◌, ◌∙◌, ◌++◌, ℕ, suc, List, [], ◌∷◌, ap, drop, length, map, option_map, refl, sym, inl, inr, append_assoc}
+use Rattle.std.proofs.lemmas.List.{append-nil, length-map, map_push}
+use Rattle.std.proofs.lemmas.Bool.{cases_Bool}
+use Rattle.std.specs.List.{find}
+use Rattle.std.specs.Str.{bytes_eq}
+use Rattle.columns.specs.declared.table.Column.{Column}
+use Rattle.columns.specs.Table.{cells_named, columns_under, first_number}
+use Rattle.columns.specs.TableOfColumns.{named, with_row, with_rows}
+
+pub cells_named-map : (name : List ℕ) (columns : List Column)
+    → cells_named name (map named columns) ≡ option_map (λ c. c.cells.items) (find (λ c. bytes_eq c.name.items name) columns)
+cells_named-map name [] = refl
+cells_named-map name (c ∷ columns) = elim (cases_Bool (bytes_eq c.name.items name)) [
+  | inl same ↦ rw same refl
+  | inr other ↦ rw other (cells_named-map name columns)
+]
+
+length-columns_under : (names : List (List ℕ)) (rows : List (List (List ℕ))) → length (columns_under names rows) ≡ length names
+length-columns_under [] rows = refl
+length-columns_under (name ∷ names) rows = ap suc (length-columns_under names (map (drop 1) rows))
+
+-- as many columns as names
+pub length_of_header : (columns : List Column) (names : List (List ℕ)) → map named columns ≡ columns_under names [] → length columns ≡ length names
+length_of_header columns names e = sym (length-map columns named) ∙ ap length e ∙ length-columns_under names []
+
+-- a row more stands under the others
+with_row-columns_under : (names : List (List ℕ)) (rows : List (List (List ℕ))) (row : List (List ℕ))
+    → with_row (columns_under names rows) row ≡ columns_under names (rows ++ row ∷ [])
+with_row-columns_under [] rows row = refl
+with_row-columns_under (name ∷ names) rows row =
+    rw (map_push first_number rows row, map_push (drop 1) rows row)
+    (ap (λ columns. record { name = name; cells = map first_number rows ++ first_number row ∷ [] } ∷ columns)
+    (with_row-columns_under names (map (drop 1) rows) (drop 1 row)))
+
+-- and so do all rows
+pub with_rows-columns_under : (names : List (List ℕ)) (before rows : List (List (List ℕ)))
+    → with_rows (columns_under names before) rows ≡ columns_under names (before ++ rows)
+with_rows-columns_under names before [] = ap (columns_under names) (sym (append-nil before))
+with_rows-columns_under names before (row ∷ rows) =
+    ap (λ c. with_rows c rows) (with_row-columns_under names before row)
+    ∙ with_rows-columns_under names (before ++ row ∷ []) rows
+    ∙ ap (columns_under names) (append_assoc before (row ∷ []) rows)

@@ -1,0 +1,10 @@
+use Rattle.std.proofs.Common.{◌≡◌, length, reverse}
+use Rattle.columns.specs.Cell.{drop_blanks}
+use Rattle.columns.proofs.cell.without_last_blanks.Given as goal
+
+-- what is passed over so far were blanks
+abbrev pub invariant-loop-rest : goal.invariant-loop-rest
+invariant-loop-rest l = drop_blanks (reverse l.rest) ≡ drop_blanks (reverse l.initial.rest)
+
+abbrev pub decreases-loop-rest : goal.decreases-loop-rest
+decreases-loop-rest l = length l.rest

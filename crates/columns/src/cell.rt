@@ -1,0 +1,93 @@
+//! The number that a cell spells.
+ghost use Rattle.std.specs.Prelude.{◌≡◌, ◌<◌, ◌^◌, ◌⊎◌, ◌≤◌, ℤ, pos, neg_ℤ, IfSome, IfNone, Some, length, true, false, reverse, if◌then◌else◌, ◌==◌, ◌||◌, FitsSigned};
+ghost use Rattle.std.specs.Option.{SomeIff};
+ghost use Rattle.std.specs.Int.{w64};
+ghost use Rattle.std.specs.List.{list_all};
+ghost use Rattle.std.specs.Char.{is_ascii_digit};
+ghost use Rattle.columns.specs.Cell.{Spells, digits_value, drop_blanks, is_blank, number_of, signed_digits, signed_number};
+
+/// The number that a cell spells in decimal digits, with spaces and tabs around it and one sign
+/// before it, or none. There may be any number of digits, of which the first ones may be zeros.
+/// `None` is any other text, and a number that an `i64` doesn't hold. Takes one look at each byte.
+pub fn read_cell(cell: &[u8]) -> Option<i64>
+    ensures value { result ≡ number_of cell.now }
+    ensures spells { IfSome result (λ n. Spells cell.now n) }
+    ensures only { (n : ℤ) → Spells cell.now n → result ≡ Some n }
+{
+    signed(without_last_blanks(without_first_blanks(cell)))
+}
+
+fn signed(text: &[u8]) -> Option<i64>
+    ensures { result ≡ signed_number text.now }
+{
+    match text {
+        [b'-', digits @ ..] => negative(digits),
+        [b'+', digits @ ..] => positive(digits),
+        digits => positive(digits),
+    }
+}
+
+fn blank(byte: u8) -> bool
+    ensures { result ≡ is_blank byte }
+{
+    byte == b' ' || byte == b'\t'
+}
+
+fn without_first_blanks(cell: &[u8]) -> &[u8]
+    ensures { result.now ≡ drop_blanks cell.now }
+{
+    let mut rest = cell;
+    while let [first, more @ ..] = rest {
+        if !blank(*first) {
+            break;
+        }
+        rest = more;
+    }
+    rest
+}
+
+fn without_last_blanks(cell: &[u8]) -> &[u8]
+    ensures { result.now ≡ reverse (drop_blanks (reverse cell.now)) }
+{
+    let mut rest = cell;
+    while let [more @ .., last] = rest {
+        if !blank(*last) {
+            break;
+        }
+        rest = more;
+    }
+    rest
+}
+
+fn positive(digits: &[u8]) -> Option<i64>
+    ensures { result ≡ signed_digits pos digits.now }
+{
+    i64::try_from(magnitude(digits)?).ok()
+}
+
+fn negative(digits: &[u8]) -> Option<i64>
+    ensures { result ≡ signed_digits (λ m. neg_ℤ (pos m)) digits.now }
+{
+    i64::try_from(-i128::from(magnitude(digits)?)).ok()
+}
+
+/// What one digit or more are worth, where a `u64` holds it.
+#[tactic(auto, using(crate::proofs::CellLemmas::digits_value_more))]
+fn magnitude(digits: &[u8]) -> Option<u64>
+    ensures digits { IfSome result (λ m. (0 < length digits.now) × (list_all is_ascii_digit digits.now ≡ true) × (m ≡ digits_value digits.now)) }
+    ensures none { IfNone result ((length digits.now ≡ 0) ⊎ (list_all is_ascii_digit digits.now ≡ false) ⊎ (2 ^ 64 ≤ digits_value digits.now)) }
+{
+    if digits.is_empty() {
+        return None;
+    }
+    let mut value = 0u64;
+    for digit in digits {
+        if !digit.is_ascii_digit() {
+            return None;
+        }
+        value = value
+            .checked_mul(10)?
+            .checked_add(u64::from(*digit - b'0'))?;
+    }
+    Some(value)
+}

@@ -1,0 +1,63 @@
+//! Column files, read whole.
+ghost use Rattle.std.specs.Prelude.{◌≡◌, ◌≢◌, ◌≤◌, ℕ, List, Ok, IfErr, IfOk, IfSome, OnOk};
+ghost use Rattle.std.specs.Io.KnownBytes.{IsAtEnd};
+ghost use Rattle.columns.specs.Cells.{Tells, cells_of};
+ghost use Rattle.columns.specs.CountedRead.{GaveSome, HasRisen};
+
+use crate::counted_read::{CountedRead, ReadAllFault, read_all_of};
+use crate::fault::ColumnFault;
+use crate::records::{next_record, reader_of};
+use crate::rows::{columns_of_header, read_rows};
+use crate::table::Columns;
+use csv::ByteRecord;
+use std::alloc::Global;
+
+/// The columns of a file of comma-separated whole numbers.
+///
+/// The bytes are read whole first, then their records: the first one is the header, whose fields are
+/// the names as they stand, and each one after it is a row of numbers, counted from 1. One byte
+/// order mark at the start is passed over, fields may be quoted, a record ends with LF, CR or CR LF,
+/// and empty lines are no records. The whole file is held while it is read, and beside it 8 bytes
+/// for each cell. A read that fails otherwise than by an interruption is `Read`.
+pub fn read_columns<R: CountedRead>(alloc: Global, reader: &mut R) -> Result<Columns, ColumnFault>
+    // Of a reader whose bytes are known.
+    ensures cells { IfSome (R.remaining reader.old) (λ bytes. Tells bytes result) }
+    ensures end { OnOk result (IsAtEnd (R.remaining reader.new)) }
+    ensures gave { GaveSome (R.remaining reader.old) (R.remaining reader.new) }
+
+    // Of every reader.
+    ensures table { IfOk result (λ columns. (bytes : List ℕ) × (cells_of bytes ≡ Ok columns)) }
+    ensures read { IfErr result (λ fault. fault ≡ ColumnFault.Read
+        → HasRisen (R.failures reader.old) (R.failures reader.new)) }
+    ensures counts { R.failures reader.old ≤ R.failures reader.new }
+{
+    match read_all_of(alloc, reader) {
+        Ok(bytes) => columns_in(alloc, bytes.as_slice()),
+        Err(ReadAllFault::Failed) => Err(ColumnFault::Read),
+        Err(ReadAllFault::NoMemory) => Err(ColumnFault::NoMemory),
+    }
+}
+
+fn columns_in(alloc: Global, bytes: &[u8]) -> Result<Columns, ColumnFault>
+    ensures tells { Tells bytes.now result }
+    ensures unread { IfErr result (λ fault. fault ≢ ColumnFault.Read) }
+{
+    let mut reader = reader_of(alloc, bytes);
+    let mut row = ByteRecord::new(alloc);
+    if !next_record(&mut reader, &mut row)? {
+        return Err(ColumnFault::NoHeader);
+    }
+    let rows = rows_at_most(bytes, row.len());
+    let mut columns = columns_of_header(alloc, &row, rows)?;
+    read_rows(&mut reader, &mut row, columns.as_mut_slice())?;
+    Ok(Columns::of(columns))
+}
+
+/// As many rows as a file of numbers can have: each takes a line, and two bytes for each cell.
+fn rows_at_most(bytes: &[u8], columns: usize) -> usize {
+    let line_feeds = bytes.iter().filter(|byte| **byte == b'\n').count();
+    let returns = bytes.iter().filter(|byte| **byte == b'\r').count();
+    line_feeds
+        .max(returns)
+        .min(bytes.len() / 2 / columns.max(1))
+}

@@ -1,0 +1,75 @@
+//! Columns of numbers, by their names.
+ghost use Rattle.std.specs.Prelude.{◌≡◌, [], find, map, option_map};
+ghost use Rattle.std.specs.Option.{option_copied};
+ghost use Rattle.std.specs.Str.{bytes_eq};
+ghost use Rattle.columns.specs.Table.{cells_named};
+
+use std::marker::Model;
+
+/// One column: its name and its cells, from the top.
+#[derive(Drop)]
+pub(crate) struct Column {
+    pub(crate) name: Vec<u8>,
+    pub(crate) cells: Vec<i64>,
+}
+
+/// The columns of a file, in its order, all of one length and each under a name of its own.
+#[derive(Drop)]
+pub struct Columns {
+    // `None` is no column: an empty vector would want an allocator.
+    columns: Option<Vec<Column>>,
+}
+
+impl Model for Columns {
+    ghost use Rattle.std.specs.Prelude.{List, map};
+    ghost use Rattle.columns.specs.Table.{Named};
+    ghost use Rattle.columns.specs.TableOfColumns.{named, columns_in};
+
+    ghost Value = { List Named };
+
+    ghost view = { λ c. map named (columns_in c.columns) };
+}
+
+impl Columns {
+    ghost use Rattle.columns.specs.TableOfColumns.{named};
+
+    /// No columns: what stands in for a file where there is none. Takes no memory.
+    pub fn none() -> Columns
+        ensures { result ≡ [] }
+    {
+        Columns { columns: None }
+    }
+
+    pub(crate) fn of(columns: Vec<Column>) -> Columns
+        ensures { result ≡ map named columns.items }
+    {
+        Columns {
+            columns: Some(columns),
+        }
+    }
+
+    /// The cells under a name, from the top. Looks at the names in turn.
+    pub fn get(&self, name: &[u8]) -> Option<&[i64]>
+        ensures { option_map (λ cells. cells.now) result ≡ cells_named name.now self.now }
+    {
+        match &self.columns {
+            None => None,
+            Some(columns) => cells_under(columns, name),
+        }
+    }
+}
+
+ghost use Rattle.columns.specs.TableOfColumns.{named};
+
+fn cells_under<'a>(columns: &'a [Column], name: &[u8]) -> Option<&'a [i64]>
+    ensures { option_map (λ cells. cells.now) result ≡ cells_named name.now (map named columns.now) }
+{
+    let column = column_under(columns, name)?;
+    Some(column.cells.as_slice())
+}
+
+fn column_under<'a>(columns: &'a [Column], name: &[u8]) -> Option<&'a Column>
+    ensures { option_copied result ≡ find (λ c. bytes_eq c.name.items name.now) columns.now }
+{
+    columns.iter().find(|column| column.name.as_slice() == name)
+}
