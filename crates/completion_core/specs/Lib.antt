@@ -1,3 +1,6 @@
+pub mod Book
 pub mod Graph
+pub mod Holdings
 pub mod Legal
+pub mod Refusals
 pub mod Runs

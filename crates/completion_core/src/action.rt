@@ -1,44 +1,11 @@
 //! What an actor may ask of the machine, what it answers, and why it refuses.
-ghost use Rattle.std.specs.Prelude.{◌≡◌};
-
-use std::alloc::AllocError;
-use std::marker::Model;
+use crate::nodes::Nodes;
 
 /// A node by its number. 0 is END, the others are numbered from 1 as they are drawn.
 pub type Node = u32;
 
 /// An actor by a number of the caller's choice. Actor 0 begins with all arrivals at END.
 pub type Actor = u32;
-
-/// A list of nodes, in which a node may stand several times.
-#[derive(Drop, Debug)]
-pub struct Nodes {
-    items: Vec<Node>,
-}
-
-impl Model for Nodes {
-    ghost use Rattle.std.specs.Prelude.{ℕ, List};
-
-    ghost Value = { List ℕ };
-
-    ghost view = { λ a. a.items.items };
-}
-
-impl Nodes {
-    /// The nodes of a vector, which takes no memory.
-    pub fn new(items: Vec<Node>) -> Nodes
-        ensures { result ≡ items.items }
-    {
-        Nodes { items }
-    }
-
-    /// The nodes in their order.
-    pub fn as_slice(&self) -> &[Node]
-        ensures { result.now ≡ self.now }
-    {
-        self.items.as_slice()
-    }
-}
 
 /// One event of the machine.
 #[derive(Drop, Debug)]

@@ -2,6 +2,10 @@
 #![tactic(auto)]
 
 mod action;
+mod holdings;
+mod node_state;
+mod nodes;
 
-pub use action::{Action, Actor, Illegal, Node, Nodes, Reply};
+pub use action::{Action, Actor, Illegal, Node, Reply};
+pub use nodes::Nodes;
 pub use std::alloc::AllocError as NoMemory;

@@ -1,0 +1,50 @@
+-- Meaning: why an action is refused: of the demands that it doesn't meet the first, in a fixed order.
+use Rattle.std.specs.Prelude.{◌≡◌, ℕ, ◌+◌, ◌<◌, ◌≤◌, ◌^◌, false, Some, ⊤, length}
+use Rattle.completion_core.specs.declared.action.Action.{Action}
+use Rattle.completion_core.specs.declared.action.Action.TheVariants.{Claim, Arm, Add, Give, Arrive, Run, Settle}
+use Rattle.completion_core.specs.declared.action.Illegal.{Illegal}
+use Rattle.completion_core.specs.declared.action.Illegal.TheVariants.{NoSuchNode, NotClaimedHere, AlreadyArmed, NotHeld, NotFinisher, OnwardNotEarlier, TooMany, NoMemory}
+use Rattle.completion_core.specs.Graph.{Held, amount, left, Graph, IsDrawn}
+use Rattle.completion_core.specs.Legal.{count}
+
+-- the place of a demand in the order
+abbrev pub rank : Illegal → ℕ
+rank NoSuchNode = 1
+rank NotClaimedHere = 2
+rank AlreadyArmed = 3
+rank NotHeld = 4
+rank NotFinisher = 5
+rank OnwardNotEarlier = 6
+rank TooMany = 7
+rank NoMemory = 8
+
+-- What an action must meet lest it be refused by this name. The first six are the parts of `Legal`; the last two are limits of the store.
+abbrev pub Meets : Illegal → Action → Graph → Type 0
+Meets NoSuchNode (Arm a node pending onward) g = IsDrawn g node
+Meets NoSuchNode (Add a node d) g = IsDrawn g node
+Meets NoSuchNode (Give a b node k) g = 0 < node → node ≤ g.drawn
+Meets NoSuchNode (Arrive a node) g = IsDrawn g node
+Meets NoSuchNode (Run a node) g = IsDrawn g node
+Meets NotClaimedHere (Arm a node pending onward) g = g.claimer node ≡ a
+Meets AlreadyArmed (Arm a node pending onward) g = g.armed node ≡ false
+Meets NotHeld (Arm a node pending onward) g = (i : ℕ) → count i onward ≤ amount (Held a) (g.arrivals i)
+Meets NotHeld (Add a node d) g = 0 < amount (Held a) (g.arrivals node)
+Meets NotHeld (Give a b node k) g = k ≤ amount (Held a) (g.arrivals node)
+Meets NotHeld (Arrive a node) g = 0 < amount (Held a) (g.arrivals node)
+Meets NotHeld (Settle a) g = 0 < amount (Held a) (g.arrivals 0)
+Meets NotFinisher (Run a node) g = (g.ran node ≡ false) × (left (g.arrivals node) ≡ 0) × (g.last node ≡ Some a)
+Meets OnwardNotEarlier (Arm a node pending onward) g = (i : ℕ) → 0 < count i onward → i < node
+-- a node's arrivals, made ones counted in, stay within 2^62
+Meets TooMany (Arm a node pending onward) g = length (g.arrivals node) + (pending + 1) ≤ 2 ^ 62
+Meets TooMany (Add a node d) g = length (g.arrivals node) + d ≤ 2 ^ 62
+-- memory may be refused wherever it is needed; a claim needs none where no node is left
+Meets NoMemory (Claim a) g = g.nodes ≤ g.drawn
+Meets NoMemory (Arm a node pending onward) g = ⊥
+Meets NoMemory (Give a b node k) g = ⊥
+Meets NoMemory (Run a node) g = ⊥
+-- nothing else is demanded
+Meets demand action g = ⊤
+
+abbrev pub IsRefusal : Illegal → Action → Graph → Type 0
+IsRefusal reason action g =
+    ((demand : Illegal) → rank demand < rank reason → Meets demand action g) × ¬ Meets reason action g

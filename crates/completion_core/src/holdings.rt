@@ -1,0 +1,64 @@
+//! How many arrivals each actor holds at each node.
+ghost use Rattle.std.specs.Prelude.{◌≡◌, ℕ, ◌+◌, ◌-◌, ◌<◌, ◌≤◌, ◌^◌, OnOk, OnErr};
+ghost use Rattle.completion_core.specs.Holdings.{held, room, place};
+
+use crate::action::{Actor, Node};
+use std::alloc::{AllocError, Global};
+use std::collections::HashMap;
+
+/// Numbers of arrivals by node and actor; an actor that holds none at a node has no entry there.
+#[derive(Drop)]
+pub struct Holdings {
+    entries: HashMap<(Node, Actor), u64>,
+}
+
+impl Holdings {
+    ghost use Rattle.completion_core.specs.Holdings.{held, room, place};
+
+    pub fn new(alloc: Global) -> Holdings
+        ensures { (a i : ℕ) → held result a i ≡ 0 }
+    {
+        Holdings {
+            entries: HashMap::new(alloc),
+        }
+    }
+
+    pub fn get(&self, actor: Actor, node: Node) -> u64
+        ensures { result ≡ held self.now actor node }
+    {
+        self.entries.get(&(node, actor)).copied().unwrap_or(0)
+    }
+
+    /// Makes room for as many new entries.
+    pub fn reserve(&mut self, additional: usize) -> Result<(), AllocError>
+        ensures held { (a i : ℕ) → held self.new a i ≡ held self.old a i }
+        ensures room { OnOk result (additional ≤ room self.new) }
+        ensures err { OnErr result (self.new.entries.entries ≡ self.old.entries.entries) }
+    {
+        self.entries.reserve(additional)
+    }
+
+    /// `k` more arrivals for an actor at a node.
+    pub fn put(&mut self, actor: Actor, node: Node, k: u64)
+        requires room { 0 < room self.old }
+        requires fits { held self.old actor node + k < 2 ^ 64 }
+        ensures held { (a i : ℕ) → held self.new a i ≡ held self.old a i + place actor node k a i }
+        ensures room { room self.old ≤ room self.new + 1 }
+    {
+        let had = self.get(actor, node);
+        let _ = self.entries.insert((node, actor), had + k);
+    }
+
+    /// `k` arrivals fewer for an actor at a node.
+    pub fn take(&mut self, actor: Actor, node: Node, k: u64)
+        requires { k ≤ held self.old actor node }
+        ensures { (a i : ℕ) → held self.new a i + place actor node k a i ≡ held self.old a i }
+    {
+        let had = self.get(actor, node);
+        if had == k {
+            self.entries.remove(&(node, actor));
+        } else {
+            let _ = self.entries.insert((node, actor), had - k);
+        }
+    }
+}

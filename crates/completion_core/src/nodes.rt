@@ -1,0 +1,52 @@
+//! Bags of nodes.
+ghost use Rattle.std.specs.Prelude.{◌≡◌, []};
+ghost use Rattle.std.specs.List.Sorted.{IsPermutation, IsNonDecreasing};
+
+use crate::action::Node;
+use std::alloc::Global;
+use std::marker::Model;
+
+/// Nodes in ascending order, in which one may stand several times.
+#[derive(Drop, Debug)]
+pub struct Nodes {
+    items: Vec<Node>,
+}
+
+impl Model for Nodes {
+    ghost use Rattle.std.specs.Prelude.{ℕ, List};
+    ghost use Rattle.std.specs.List.Sorted.{IsNonDecreasing};
+
+    ghost Value = { List ℕ };
+
+    ghost view = { λ a. a.items.items };
+
+    ghost invariant = { λ a. IsNonDecreasing a.items.items };
+}
+
+impl Nodes {
+    /// The nodes of a vector, put into order in place.
+    pub fn new(mut items: Vec<Node>) -> Nodes
+        ensures same { IsPermutation items.items result }
+        ensures ordered { IsNonDecreasing result }
+    {
+        items.sort_unstable();
+        Nodes { items }
+    }
+
+    /// No nodes.
+    pub fn none(alloc: Global) -> Nodes
+        ensures { result ≡ [] }
+    {
+        Nodes {
+            items: Vec::new(alloc),
+        }
+    }
+
+    /// The nodes in their order.
+    pub fn as_slice(&self) -> &[Node]
+        ensures same { result.now ≡ self.now }
+        ensures ordered { IsNonDecreasing self.now }
+    {
+        self.items.as_slice()
+    }
+}
