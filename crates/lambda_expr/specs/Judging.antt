@@ -15,10 +15,10 @@ NumeralsFit (group a) = NumeralsFit a
 NumeralsFit (negate a) = NumeralsFit a
 NumeralsFit (between o a b) = NumeralsFit a × NumeralsFit b
 
-abbrev pub IsNoNumber : Typed → Type 0
-IsNoNumber (long a) = ⊥
-IsNoNumber (truth a) = Unit {0}
-IsNoNumber untyped = Unit {0}
+abbrev pub IsNotLong : Typed → Type 0
+IsNotLong (long a) = ⊥
+IsNotLong (truth a) = Unit {0}
+IsNotLong untyped = Unit {0}
 
 -- an expression has no type, or memory was refused
 abbrev pub IsTypeFault : Typed → ReadFault → Type 0

@@ -1,5 +1,7 @@
 pub mod Grammar
 pub mod Judging
+pub mod NumberReading
+pub mod Numbers
 pub mod Numerals
 pub mod Reading
 pub mod Refusals

@@ -1,6 +1,6 @@
 // What a lambda that is in the grammar gives: its refusals in their order, or its expression.
 
-ghost use Rattle.lambda_expr.specs.Judging.{IsJudged, IsNoNumber, IsTypeFault, NumeralsFit};
+ghost use Rattle.lambda_expr.specs.Judging.{IsJudged, IsNotLong, IsTypeFault, NumeralsFit};
 ghost use Rattle.lambda_expr.specs.Reading.{shape_of};
 ghost use Rattle.lambda_expr.specs.Refusals.{body_of, depth, literals_fit, long, names_are, typed, verdict};
 ghost use Rattle.lambda_expr.specs.Term.{long_of};
@@ -70,7 +70,7 @@ impl Body {
     // The expression, where it is a number.
     fn into_long(self) -> Result<LongExpr, ReadFault>
         ensures ok { IfOk result (λ expr. body_of self ≡ long (long_of expr)) }
-        ensures refused { IfErr result (λ fault. (fault ≡ ReadFault.WrongType) × IsNoNumber (body_of self)) }
+        ensures refused { IfErr result (λ fault. (fault ≡ ReadFault.WrongType) × IsNotLong (body_of self)) }
     {
         match self {
             Body::Long(expr) => Ok(expr),

@@ -22,5 +22,6 @@ pub use env::Env;
 pub use expr::{BoolExpr, LongExpr};
 pub use fault::{FaultKind, ReadFault};
 pub use lambda::{Body, Lambda, Want};
+pub use number::read_number;
 pub use operator::{BinaryOperator, Comparison, Infix, UnaryOperator};
 pub use read::read_lambda;

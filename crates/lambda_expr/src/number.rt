@@ -1,7 +1,45 @@
-// The values of numbers as they are written.
+// Numbers as they are written, and the value of each.
 
+ghost use Rattle.lambda_expr.specs.Numbers.{ANumber, IsNumber, IsNumberRefused, SpellsNumber, number_value};
+ghost use Rattle.lambda_expr.specs.NumberReading.{HasNumeral, HasSign, IsNoNumeral, number_of};
+ghost use Rattle.lambda_expr.specs.Grammar.{StopsAt};
 ghost use Rattle.lambda_expr.specs.Numerals.{numeral_value};
-ghost use Rattle.std.specs.Prelude.{◌≡◌, min};
+ghost use Rattle.lambda_expr.specs.Reading.{StandIn};
+ghost use Rattle.lambda_expr.specs.Words.{words_of};
+ghost use Rattle.std.specs.Option.{SomeIff};
+ghost use Rattle.std.specs.Prelude.{◌≡◌, ◌≤◌, FitsSigned, IfErr, IfOk, MatchOption, length, min};
+ghost use Rattle.std.specs.Int.{w64};
+ghost use Rattle.stream_tokens.specs.Tokens.{StandInOrder};
+
+use stream_tokens::{Symbol, Token, TokenKind};
+
+use super::fault::ReadFault;
+use super::read::column_of;
+use super::tree::may_stand;
+
+/// A number as it is written.
+#[derive(Clone, Copy)]
+struct Numeral<'a> {
+    is_negative: bool,
+    digits: &'a [u8],
+}
+
+impl Numeral<'_> {
+    // The value, where it is in 64 bits.
+    fn value(self) -> Option<i64>
+        ensures {
+            let value = number_value (number_of self.entry.is_negative self.entry.digits.now) in
+            SomeIff result (FitsSigned w64 value) value
+        }
+    {
+        let size = value_of(self.digits);
+        if self.is_negative {
+            0i64.checked_sub_unsigned(size)
+        } else {
+            0i64.checked_add_unsigned(size)
+        }
+    }
+}
 
 /// The value of a number's digits, or the greatest `u64` where it is above that. A mark behind the
 /// digits is passed over.
@@ -18,4 +56,74 @@ pub(crate) fn value_of(number: &[u8]) -> u64
             .saturating_add(u64::from(*byte - b'0'));
     }
     value
+}
+
+// Whether the tokens begin with a minus.
+fn begins_with_minus(text: &[u8], tokens: &[Token]) -> bool
+    ensures { HasSign (words_of text.now tokens.now) result }
+{
+    match tokens.first() {
+        Some(token) => token.kind == TokenKind::Symbol(Symbol::Minus),
+        None => false,
+    }
+}
+
+// The bytes of the token at a place, where it is a number that may stand there.
+fn numeral_at<'a>(text: &'a [u8], tokens: &[Token], place: usize) -> Option<&'a [u8]>
+    requires { StandIn text.now tokens.now }
+    ensures { MatchOption result (IsNoNumeral (words_of text.now tokens.now) place) (λ digits. HasNumeral (words_of text.now tokens.now) place digits.now) }
+{
+    if place >= tokens.len() {
+        return None;
+    }
+    let token = tokens[place];
+    match token.kind {
+        TokenKind::Number => {
+            let digits = token.text(text);
+            if may_stand(digits) {
+                Some(digits)
+            } else {
+                None
+            }
+        }
+        _ => None,
+    }
+}
+
+// Reads a number, or says at which token it stops.
+fn parse_number<'a>(text: &'a [u8], tokens: &[Token]) -> Result<Numeral<'a>, usize>
+    requires { StandIn text.now tokens.now }
+    ensures ok { IfOk result (λ n. IsNumber (words_of text.now tokens.now) (number_of n.is_negative n.digits.now)) }
+    ensures stops { IfErr result (λ place. StopsAt ANumber (words_of text.now tokens.now) place) }
+{
+    let is_negative = begins_with_minus(text, tokens);
+    let place = usize::from(is_negative);
+    let Some(digits) = numeral_at(text, tokens, place) else {
+        return Err(place);
+    };
+    if tokens.len() > place + 1 {
+        return Err(place + 1);
+    }
+    Ok(Numeral {
+        is_negative,
+        digits,
+    })
+}
+
+/// The value of a number: digits, or a minus and digits. The tokens are a part of those that were
+/// cut from the text.
+///
+/// `LiteralTooLarge` for a value outside 64 bits, `Syntax` for tokens that are no number. It takes no
+/// memory.
+pub fn read_number(text: &[u8], tokens: &[Token]) -> Result<i64, ReadFault>
+    requires { StandInOrder 0 tokens.now (length text.now) }
+    ensures ok { IfOk result (λ number. SpellsNumber text.now tokens.now number) }
+    ensures refused { IfErr result (λ fault. IsNumberRefused text.now tokens.now fault) }
+{
+    match parse_number(text, tokens) {
+        Ok(numeral) => numeral.value().ok_or(ReadFault::LiteralTooLarge),
+        Err(place) => Err(ReadFault::Syntax {
+            column: column_of(text, tokens, place),
+        }),
+    }
 }
