@@ -1,10 +1,14 @@
+mod Quotient
 pub mod Depths
 pub mod Frames
 pub mod Heads
 pub mod Literals
 pub mod Machine
+pub mod NumberLaws
 pub mod NumberStops
-mod Quotient
+pub mod OneAnswer
+pub mod Only
 pub mod Turning
+pub mod Unique
 pub mod Values
 pub mod WordList

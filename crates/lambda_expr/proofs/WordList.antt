@@ -6,8 +6,6 @@ use Rattle.stream_tokens.specs.declared.token.TokenKind.TheVariants as kind
 use Rattle.stream_tokens.specs.declared.symbol.Symbol.{Symbol}
 use Rattle.lambda_expr.specs.Words.{named, numeral, sign, bad, word_of, words_of, word_for}
 use Rattle.lambda_expr.specs.Refusals.{column}
-use Rattle.lambda_expr.specs.Reading.{StandIn}
-use Rattle.stream_tokens.specs.Tokens.{StandInOrder}
 
 pub length-words_of : (text : List ℕ) (ts : List Token) → length (words_of text ts) ≡ length ts
 length-words_of text [] = refl
@@ -63,19 +61,6 @@ numeral_bytes kind.Text bytes w h = cc
 numeral_bytes kind.Reference bytes w h = cc
 numeral_bytes (kind.Symbol s) bytes w h = cc
 numeral_bytes kind.Bad bytes w h = cc
-
-in_order_below : (a : ℕ) (ts : List Token) (b : ℕ) → StandInOrder a ts b → a ≤ b
-in_order_below a [] b h = h
-in_order_below a (t ∷ ts) b h = let rest = in_order_below t.to ts b h.2 in omega (arith, h.0, h.1)
-
-each : (text : List ℕ) (t : Token) (ts : List Token) → StandIn text ts → t.from < t.to → t.to ≤ length text → (k : ℕ) (d : Token) → k < length (t ∷ ts) → ((get_or (t ∷ ts) k d).from < (get_or (t ∷ ts) k d).to) × ((get_or (t ∷ ts) k d).to ≤ length text)
-each text t ts rest some within zero d lt = (some, within)
-each text t ts rest some within (suc k) d lt = let below : k < length ts = omega arith in rest k d below
-
--- each token of a list that stands in order has bytes of the text
-pub stand_in : (text : List ℕ) (a : ℕ) (ts : List Token) → StandInOrder a ts (length text) → StandIn text ts
-stand_in text a [] h = λ k d lt. absurd (omega arith)
-stand_in text a (t ∷ ts) h = λ k d lt. each text t ts (stand_in text t.to ts h.2) h.1 (in_order_below t.to ts (length text) h.2) k d lt
 
 -- the column of a token, and of the end
 pub column-at : (text : List ℕ) (ts : List Token) (i : ℕ) (d : Token) → i < length ts → column text ts i ≡ suc (get_or ts i d).from

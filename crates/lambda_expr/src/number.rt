@@ -11,11 +11,10 @@ ghost use Rattle.std.specs.Prelude.{◌≡◌, ◌≤◌, FitsSigned, IfErr, IfO
 ghost use Rattle.std.specs.Int.{w64};
 ghost use Rattle.stream_tokens.specs.Tokens.{StandInOrder};
 
-use stream_tokens::{Symbol, Token, TokenKind};
-
 use super::fault::ReadFault;
 use super::read::column_of;
 use super::tree::may_stand;
+use stream_tokens::{Symbol, Token, TokenKind};
 
 /// A number as it is written.
 #[derive(Clone, Copy)]
@@ -27,10 +26,8 @@ struct Numeral<'a> {
 impl Numeral<'_> {
     // The value, where it is in 64 bits.
     fn value(self) -> Option<i64>
-        ensures {
-            let value = number_value (number_of self.entry.is_negative self.entry.digits.now) in
-            SomeIff result (FitsSigned w64 value) value
-        }
+        ensures { let value = number_value (number_of self.entry.is_negative self.entry.digits.now) in
+            SomeIff result (FitsSigned w64 value) value }
     {
         let size = value_of(self.digits);
         if self.is_negative {

@@ -1,9 +1,9 @@
-use Rattle.std.proofs.Common.{◌≡◌, ℕ, ◌<◌, ◌≤◌, true, false, List, length, slice_index_or, sym, ap, subst, ◌∙◌, arith}
+use Rattle.std.proofs.Common.{◌≡◌, ℕ, ◌<◌, true, false, List, length, slice_index_or, sym, ap, subst, ◌∙◌, arith}
 use Rattle.stream_tokens.specs.declared.token.Token.{Token}
 use Rattle.stream_tokens.specs.declared.token.TokenKind.{TokenKind}
 use Rattle.stream_tokens.specs.declared.token.TokenKind.TheVariants as kind
 use Rattle.stream_tokens.specs.Tokens.{token_text}
-use Rattle.lambda_expr.specs.Words.{numeral, words_of, word_for}
+use Rattle.lambda_expr.specs.Words.{numeral, word_for}
 use Rattle.lambda_expr.specs.Numerals.{is_numeral}
 use Rattle.lambda_expr.proofs.WordList.{length-words_of, get_or-words_of, numeral_kind, numeral_bytes}
 use Rattle.lambda_expr.proofs.number.numeral_at.Goals as goal

@@ -1,0 +1,92 @@
+-- Each text has one answer.
+use Rattle.std.proofs.Common.{◌≡◌, ◌≢◌, ℕ, ◌≤◌, inl, inr, List, length, Result, Ok, Err, refl, sym, ap, subst, ◌∙◌, arith}
+use Rattle.stream_tokens.specs.declared.token.Token.{Token}
+use Rattle.stream_tokens.specs.Tokens.{AreTokensOf}
+use Rattle.stream_tokens.proofs.Cutting.{same_tokens}
+use Rattle.lambda_expr.specs.declared.fault.ReadFault.{ReadFault}
+use Rattle.lambda_expr.specs.declared.fault.ReadFault.TheVariants as fault
+use Rattle.lambda_expr.specs.declared.lambda.Want.{Want}
+use Rattle.lambda_expr.specs.declared.lambda.Lambda.{Lambda}
+use Rattle.lambda_expr.specs.Words.{words_of}
+use Rattle.lambda_expr.specs.Grammar.{IsLambda, ALambda, StopsAt}
+use Rattle.lambda_expr.specs.Refusals.{Typed, verdict, Judged, IsNoLambda, HasTooManyTokens, column, body_of, Spells, IsRefused}
+use Rattle.lambda_expr.proofs.Only.{one_place}
+use Rattle.lambda_expr.proofs.Unique.{one_lambda}
+
+-- what a text gives, memory aside
+pub data Outcome (text : List ℕ) (want : Want) (r : Result Typed ReadFault) : Type 0 where
+  many : HasTooManyTokens text → r ≡ Err fault.TooDeep → Outcome text want r
+  outside : (at : ℕ) → IsNoLambda text at → r ≡ Err (fault.Syntax at) → Outcome text want r
+  judged : Judged text want r → Outcome text want r
+
+one_cut : (text : List ℕ) (ts us : List Token) → AreTokensOf ts text → AreTokensOf us text → ts ≡ us
+one_cut text ts us h k = same_tokens text 0 ts us (length text) h k
+
+few_or_many : (text : List ℕ) (ts : List Token) → AreTokensOf ts text → length ts ≤ 4096 → HasTooManyTokens text → ⊥
+few_or_many text ts cut few m =
+    let same : length m.tokens ≡ length ts = ap length (one_cut text m.tokens ts m.cut cut) in
+    let many = m.many in
+    omega arith
+
+in_or_out : (text : List ℕ) (want : Want) (r : Result Typed ReadFault) (at : ℕ) → Judged text want r → IsNoLambda text at → ⊥
+in_or_out text want r at j n =
+    let ts = j.2.tokens in
+    let out = subst (λ us. ALambda (words_of text us) → ⊥) (one_cut text n.tokens ts n.cut j.2.cut) n.stops.outside in
+    out (j.0, j.1, j.2.lambda)
+
+one_column : (text : List ℕ) (a b : ℕ) → IsNoLambda text a → IsNoLambda text b → a ≡ b
+one_column text a b m n =
+    let same : n.tokens ≡ m.tokens = one_cut text n.tokens m.tokens n.cut m.cut in
+    let there = subst (λ us. StopsAt ALambda (words_of text us) n.place) same n.stops in
+    let place : m.place ≡ n.place = one_place ALambda (words_of text m.tokens) m.place n.place m.stops there in
+    m.here ∙ ap (column text m.tokens) place ∙ ap (λ us. column text us n.place) (sym same) ∙ sym n.here
+
+one_judgement : (text : List ℕ) (want : Want) (r s : Result Typed ReadFault) → Judged text want r → Judged text want s → r ≡ s
+one_judgement text want r s j k =
+    let same : k.2.tokens ≡ j.2.tokens = one_cut text k.2.tokens j.2.tokens k.2.cut j.2.cut in
+    let there = subst (λ us. IsLambda (words_of text us) k.0 k.1) same k.2.lambda in
+    let one = one_lambda (words_of text j.2.tokens) j.0 k.0 j.1 k.1 j.2.lambda there in
+    sym j.3 ∙ ap (λ p. verdict want p j.1) one.0 ∙ ap (verdict want k.0) one.1 ∙ k.3
+
+pub one_outcome : (text : List ℕ) (want : Want) (r s : Result Typed ReadFault) → Outcome text want r → Outcome text want s → r ≡ s
+one_outcome text want r s (many m e) (many n f) = e ∙ sym f
+one_outcome text want r s (many m e) (outside at n f) = absurd (few_or_many text n.tokens n.cut n.few m)
+one_outcome text want r s (many m e) (judged j) = absurd (few_or_many text j.2.tokens j.2.cut j.2.few m)
+one_outcome text want r s (outside at n e) (many m f) = absurd (few_or_many text n.tokens n.cut n.few m)
+one_outcome text want r s (outside at n e) (outside to m f) = e ∙ ap (λ k. Err (fault.Syntax k)) (one_column text at to n m) ∙ sym f
+one_outcome text want r s (outside at n e) (judged j) = absurd (in_or_out text want s at j n)
+one_outcome text want r s (judged j) (many m f) = absurd (few_or_many text j.2.tokens j.2.cut j.2.few m)
+one_outcome text want r s (judged j) (outside at n f) = absurd (in_or_out text want r at j n)
+one_outcome text want r s (judged j) (judged k) = one_judgement text want r s j k
+
+-- a refusal is an outcome, want of memory apart
+outcome_of : (text : List ℕ) (want : Want) (f : ReadFault) → IsRefused text want f → f ≢ fault.NoMemory → Outcome text want (Err f)
+outcome_of text want (fault.Syntax at) h n = outside at h refl
+outcome_of text want fault.TooDeep (inl m) n = many m refl
+outcome_of text want fault.TooDeep (inr j) n = judged j
+outcome_of text want fault.LiteralTooLarge j n = judged j
+outcome_of text want fault.UnknownName j n = judged j
+outcome_of text want fault.WrongType j n = judged j
+outcome_of text want fault.NoMemory h n = absurd (n refl)
+
+-- a text spells one lambda
+pub same_lambda : (text : List ℕ) (want : Want) (l m : Lambda) → Spells text want l → Spells text want m → body_of l.body ≡ body_of m.body
+same_lambda text want l m h k = let e = one_judgement text want (Ok (body_of l.body)) (Ok (body_of m.body)) h k in cc
+
+-- a text is refused for one thing
+pub same_refusal : (text : List ℕ) (want : Want) (f g : ReadFault) → IsRefused text want f → IsRefused text want g → f ≢ fault.NoMemory → g ≢ fault.NoMemory → f ≡ g
+same_refusal text want f g h k n m =
+    let e = one_outcome text want (Err f) (Err g) (outcome_of text want f h n) (outcome_of text want g k m) in
+    cc
+
+apart : (text : List ℕ) (want : Want) (l : Lambda) (f : ReadFault) → Spells text want l → Outcome text want (Err f) → ⊥
+apart text want l f h o = let e = one_outcome text want (Ok (body_of l.body)) (Err f) (judged h) o in cc
+
+-- what spells a lambda is refused for want of memory alone
+pub only_memory : (text : List ℕ) (want : Want) (l : Lambda) (f : ReadFault) → Spells text want l → IsRefused text want f → f ≡ fault.NoMemory
+only_memory text want l (fault.Syntax at) h k = absurd (apart text want l (fault.Syntax at) h (outcome_of text want (fault.Syntax at) k (λ e. cc)))
+only_memory text want l fault.TooDeep h k = absurd (apart text want l fault.TooDeep h (outcome_of text want fault.TooDeep k (λ e. cc)))
+only_memory text want l fault.LiteralTooLarge h k = absurd (apart text want l fault.LiteralTooLarge h (outcome_of text want fault.LiteralTooLarge k (λ e. cc)))
+only_memory text want l fault.UnknownName h k = absurd (apart text want l fault.UnknownName h (outcome_of text want fault.UnknownName k (λ e. cc)))
+only_memory text want l fault.WrongType h k = absurd (apart text want l fault.WrongType h (outcome_of text want fault.WrongType k (λ e. cc)))
+only_memory text want l fault.NoMemory h k = refl

@@ -1,0 +1,6 @@
+use Rattle.lambda_expr.specs.Grammar.{ALambda}
+use Rattle.lambda_expr.proofs.Only.{one_place}
+use Rattle.lambda_expr.proofs.laws.one_stop.Goals as goal
+
+pub returns : goal.returns
+returns c = one_place ALambda
