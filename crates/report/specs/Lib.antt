@@ -1,3 +1,4 @@
 pub mod CountedWrite
 pub mod Named
 pub mod Text
+pub mod Worked

@@ -18,3 +18,7 @@ returns-clause-wraps c = refl
 pub returns-clause-depth_first : goal.returns-clause-depth_first
 unfolding int_wrap digits
 returns-clause-depth_first c = refl
+
+pub returns-clause-two_lines : goal.returns-clause-two_lines
+unfolding int_wrap digits
+returns-clause-two_lines c = refl
