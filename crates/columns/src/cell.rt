@@ -71,11 +71,14 @@ fn negative(digits: &[u8]) -> Option<i64>
     i64::try_from(-i128::from(magnitude(digits)?)).ok()
 }
 
-/// What one digit or more are worth, where a `u64` holds it.
+/// A number of 19 digits: a digit behind it makes it larger than every `i64`.
+const TOO_LARGE_FOR_MORE: u64 = 1_000_000_000_000_000_000;
+
+/// What one digit or more are worth, where it is below 10^19.
 #[tactic(auto, using(crate::proofs::CellLemmas::digits_value_more))]
 fn magnitude(digits: &[u8]) -> Option<u64>
     ensures digits { IfSome result (λ m. (0 < length digits.now) × (list_all is_ascii_digit digits.now ≡ true) × (m ≡ digits_value digits.now)) }
-    ensures none { IfNone result ((length digits.now ≡ 0) ⊎ (list_all is_ascii_digit digits.now ≡ false) ⊎ (2 ^ 64 ≤ digits_value digits.now)) }
+    ensures none { IfNone result ((length digits.now ≡ 0) ⊎ (list_all is_ascii_digit digits.now ≡ false) ⊎ (10 ^ 19 ≤ digits_value digits.now)) }
 {
     if digits.is_empty() {
         return None;
@@ -85,9 +88,10 @@ fn magnitude(digits: &[u8]) -> Option<u64>
         if !digit.is_ascii_digit() {
             return None;
         }
-        value = value
-            .checked_mul(10)?
-            .checked_add(u64::from(*digit - b'0'))?;
+        if value >= TOO_LARGE_FOR_MORE {
+            return None;
+        }
+        value = value * 10 + u64::from(*digit - b'0');
     }
     Some(value)
 }

@@ -88,8 +88,11 @@ pub enum ReadAllFault {
     NoMemory,
 }
 
-/// How many bytes there is room for before the first read.
+/// How many bytes are reserved before the first read.
 const FIRST_ROOM: usize = 64 * 1024;
+
+/// How many bytes one read asks for at most: few enough to be in a processor's cache when they are filled.
+const LONGEST_READ: usize = 256 * 1024;
 
 /// All bytes that the reader has left.
 ///
@@ -116,18 +119,18 @@ pub fn read_all_of<R: CountedRead>(alloc: Global, reader: &mut R) -> Result<Vec<
     Ok(bytes)
 }
 
-/// Makes `bytes` longer by zeros, to at least twice its length.
+/// Makes `bytes` longer by zeros, for one read. A full vector is reserved as much again.
 fn make_room(bytes: &mut Vec<u8>) -> Result<(), ReadAllFault>
     ensures room { OnOk result (vec_len bytes.old < vec_len bytes.new) }
     ensures front { OnOk result (take (vec_len bytes.old) bytes.new.items ≡ bytes.old.items) }
     ensures err { IfErr result (λ fault. fault ≡ ReadAllFault.NoMemory) }
 {
-    let more = bytes.len().max(FIRST_ROOM);
-    if bytes.reserve(more).is_err() {
+    let filled = bytes.len();
+    if filled == bytes.capacity() && bytes.reserve(filled.max(FIRST_ROOM)).is_err() {
         return Err(ReadAllFault::NoMemory);
     }
-    let room = bytes.capacity();
-    if bytes.resize(room, 0).is_err() {
+    let room = (bytes.capacity() - filled).min(LONGEST_READ);
+    if bytes.resize(filled + room, 0).is_err() {
         return Err(ReadAllFault::NoMemory);
     }
     Ok(())

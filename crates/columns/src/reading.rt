@@ -47,17 +47,24 @@ fn columns_in(alloc: Global, bytes: &[u8]) -> Result<Columns, ColumnFault>
     if !next_record(&mut reader, &mut row)? {
         return Err(ColumnFault::NoHeader);
     }
-    let rows = rows_at_most(bytes, row.len());
+    let rows = rows_to_expect(bytes, row.len());
     let mut columns = columns_of_header(alloc, &row, rows)?;
     read_rows(&mut reader, &mut row, columns.as_mut_slice())?;
     Ok(Columns::of(columns))
 }
 
-/// As many rows as a file of numbers can have: each takes a line, and two bytes for each cell.
-fn rows_at_most(bytes: &[u8], columns: usize) -> usize {
-    let line_feeds = bytes.iter().filter(|byte| **byte == b'\n').count();
-    let returns = bytes.iter().filter(|byte| **byte == b'\r').count();
+/// How many bytes at the start of a file tell how long its lines are.
+const SAMPLE: usize = 64 * 1024;
+
+/// How many rows to expect: as many as there were if the first lines told the length of all. It is no more
+/// than a file of numbers can have, whose rows take two bytes or more for each cell.
+fn rows_to_expect(bytes: &[u8], columns: usize) -> usize {
+    let sample = &bytes[..bytes.len().min(SAMPLE)];
+    let line_feeds = sample.iter().filter(|byte| **byte == b'\n').count();
+    let returns = sample.iter().filter(|byte| **byte == b'\r').count();
+    let samples = bytes.len() / SAMPLE + 1;
     line_feeds
         .max(returns)
+        .saturating_mul(samples)
         .min(bytes.len() / 2 / columns.max(1))
 }
