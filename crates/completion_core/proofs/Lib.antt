@@ -1,2 +1,9 @@
+pub mod BagLemmas
+pub mod Checks
+pub mod Demands
+pub mod Effects
 pub mod Keys
+pub mod Places
+pub mod Starts
 pub mod Totals
+pub mod Writes

@@ -49,6 +49,19 @@ upd_here f i x = ap (λ b. cond b x (f i)) (here i)
 pub upd_else : {A : Type 0} (f : ℕ → A) (i : ℕ) (x : A) (j : ℕ) → j ≢ i → upd f i x j ≡ f j
 upd_else f i x j n = ap (λ b. cond b x (f j)) (ne_eqb j i n)
 
+-- as many as there are at this node
+pub total-fresh : {A : Type 0} (f : A → ℕ) (node n : ℕ) (x : A) (i : ℕ) → total f (cond (eqb i node) (copies n x) []) ≡ total f (copies (only_at node n i) x)
+total-fresh f node n x i = by_bool (eqb i node) (λ l. total f l ≡ total f (copies (cond (eqb i node) n 0) x)) (copies n x) []
+    (λ e. ap (λ b. total f (copies (cond b n 0) x)) (sym e)) (λ e. ap (λ b. total f (copies (cond b n 0) x)) (sym e))
+
+pub length-copies : {A : Type 0} (n : ℕ) (x : A) → length (copies n x) ≡ n
+length-copies zero x = refl
+length-copies (suc n) x = ap suc (length-copies n x)
+
+pub length-fresh : {A : Type 0} (node n : ℕ) (x : A) (i : ℕ) → length (cond (eqb i node) (copies n x) []) ≡ only_at node n i
+length-fresh node n x i = by_bool (eqb i node) (λ l. length l ≡ cond (eqb i node) n 0) (copies n x) []
+    (λ e. length-copies n x ∙ ap (λ b. cond b n 0) (sym e)) (λ e. ap (λ b. cond b n 0) (sym e))
+
 -- the kinds of arrival
 pub same_is : (x z : Arrival) → same x z ≡ true → x ≡ z
 same_is Made Made e = refl
@@ -129,3 +142,11 @@ made_le (Kept i) = omega arith
 pub left_length : (xs : List Arrival) → left xs ≤ length xs
 left_length [] = omega arith
 left_length (x ∷ xs) = let r = left_length xs in let s = made_le x in omega arith
+
+held_kept_le : (a k : ℕ) (x : Arrival) → one_same (Held a) x + one_same (Kept k) x ≤ not_made x
+held_kept_le a k Made = omega arith
+held_kept_le a k (Held b) = let e = held_le a (Held b) in omega arith
+held_kept_le a k (Kept j) = by_bool (eqb k j) (λ n. 0 + n ≤ 1) 1 0 (λ e. omega arith) (λ e. omega arith)
+
+pub held_kept_left : (a k : ℕ) (xs : List Arrival) → amount (Held a) xs + amount (Kept k) xs ≤ left xs
+held_kept_left a k xs = let e = total-add (one_same (Held a)) (one_same (Kept k)) xs in let r = total-below (λ x. one_same (Held a) x + one_same (Kept k) x) not_made (held_kept_le a k) xs in omega arith

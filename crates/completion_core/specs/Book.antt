@@ -38,6 +38,7 @@ pub record StandsFor (b : Book) (g : Graph) : Type 0 where
   pub left : (i : ℕ) → left (g.arrivals i) ≡ (state_of b.states i).left
   pub held : (a i : ℕ) → amount (Held a) (g.arrivals i) ≡ held_in b.holdings a i
   pub kept : (k i : ℕ) → amount (Kept k) (g.arrivals i) ≡ count i (state_of b.states k).kept
+  pub idle : (k i : ℕ) → g.armed k ≡ false → amount (Kept k) (g.arrivals i) ≡ 0
   pub bare : (i : ℕ) → 0 < i → g.armed i ≡ false → g.arrivals i ≡ []
   pub few : (i : ℕ) → 0 < i → length (g.arrivals i) ≤ 2 ^ 62
   pub fits : (i : ℕ) → length (g.arrivals i) < 2 ^ 64

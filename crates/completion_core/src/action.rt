@@ -1,5 +1,9 @@
 //! What an actor may ask of the machine, what it answers, and why it refuses.
+ghost use Rattle.std.specs.Prelude.{◌≡◌, IfOk, OnErr};
+ghost use Rattle.completion_core.specs.declared.action.Illegal.TheVariants.{NoMemory};
+
 use crate::nodes::Nodes;
+use std::alloc::AllocError;
 
 /// A node by its number. 0 is END, the others are numbered from 1 as they are drawn.
 pub type Node = u32;
@@ -84,4 +88,57 @@ pub enum Illegal {
     TooMany = 7,
     /// Memory was refused.
     NoMemory = 8,
+}
+
+impl Clone for Action {
+    ghost use Rattle.completion_core.specs.Runs.{IsArm};
+
+    /// Needs memory for the nodes of an `Arm` alone.
+    fn clone(&self) -> Result<Action, AllocError>
+        ensures same { IfOk result (λ copy. copy ≡ self.now) }
+        ensures arm { OnErr result (IsArm self.now) }
+    {
+        Ok(match self {
+            Action::Claim { actor } => Action::Claim { actor: *actor },
+            Action::Arm {
+                actor,
+                node,
+                pending,
+                onward,
+            } => Action::Arm {
+                actor: *actor,
+                node: *node,
+                pending: *pending,
+                onward: onward.clone()?,
+            },
+            Action::Add { actor, node, d } => Action::Add {
+                actor: *actor,
+                node: *node,
+                d: *d,
+            },
+            Action::Give { from, to, node, k } => Action::Give {
+                from: *from,
+                to: *to,
+                node: *node,
+                k: *k,
+            },
+            Action::Arrive { actor, node } => Action::Arrive {
+                actor: *actor,
+                node: *node,
+            },
+            Action::Run { actor, node } => Action::Run {
+                actor: *actor,
+                node: *node,
+            },
+            Action::Settle { actor } => Action::Settle { actor: *actor },
+        })
+    }
+}
+
+impl From<AllocError> for Illegal {
+    ghost from_gives = { λ _ reason. reason ≡ NoMemory };
+
+    fn from(_refused: AllocError) -> Illegal {
+        Illegal::NoMemory
+    }
 }

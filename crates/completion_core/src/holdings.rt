@@ -1,8 +1,8 @@
 //! How many arrivals each actor holds at each node.
-ghost use Rattle.std.specs.Prelude.{◌≡◌, ℕ, ◌+◌, ◌-◌, ◌<◌, ◌≤◌, ◌^◌, OnOk, OnErr};
-ghost use Rattle.completion_core.specs.Holdings.{held, room, place};
+ghost use Rattle.std.specs.Prelude.{◌≡◌, ℕ, ◌+◌, ◌-◌, ◌<◌, ◌≤◌, ◌^◌, length, OnOk, OnErr};
 
 use crate::action::{Actor, Node};
+use crate::nodes::Nodes;
 use std::alloc::{AllocError, Global};
 use std::collections::HashMap;
 
@@ -13,7 +13,8 @@ pub struct Holdings {
 }
 
 impl Holdings {
-    ghost use Rattle.completion_core.specs.Holdings.{held, room, place};
+    ghost use Rattle.completion_core.specs.Holdings.{held, room, place, each_place};
+    ghost use Rattle.completion_core.specs.Legal.{count};
 
     pub fn new(alloc: Global) -> Holdings
         ensures { (a i : ℕ) → held result a i ≡ 0 }
@@ -38,9 +39,9 @@ impl Holdings {
         self.entries.reserve(additional)
     }
 
-    /// `k` more arrivals for an actor at a node.
+    /// `k` more arrivals for an actor at a node. It needs room only where the actor has none there.
     pub fn put(&mut self, actor: Actor, node: Node, k: u64)
-        requires room { 0 < room self.old }
+        requires room { held self.old actor node ≡ 0 → 0 < room self.old }
         requires fits { held self.old actor node + k < 2 ^ 64 }
         ensures held { (a i : ℕ) → held self.new a i ≡ held self.old a i + place actor node k a i }
         ensures room { room self.old ≤ room self.new + 1 }
@@ -59,6 +60,27 @@ impl Holdings {
             self.entries.remove(&(node, actor));
         } else {
             let _ = self.entries.insert((node, actor), had - k);
+        }
+    }
+
+    /// One more arrival for an actor at each of the nodes.
+    pub fn put_all(&mut self, actor: Actor, nodes: &Nodes)
+        requires room { length nodes.now ≤ room self.old }
+        requires fits { (i : ℕ) → held self.old actor i + count i nodes.now < 2 ^ 64 }
+        ensures { (a i : ℕ) → held self.new a i ≡ held self.old a i + each_place actor nodes.now a i }
+    {
+        for &node in nodes.as_slice() {
+            self.put(actor, node, 1);
+        }
+    }
+
+    /// One arrival fewer for an actor at each of the nodes.
+    pub fn take_all(&mut self, actor: Actor, nodes: &Nodes)
+        requires { (i : ℕ) → count i nodes.now ≤ held self.old actor i }
+        ensures { (a i : ℕ) → held self.new a i + each_place actor nodes.now a i ≡ held self.old a i }
+    {
+        for &node in nodes.as_slice() {
+            self.take(actor, node, 1);
         }
     }
 }

@@ -2,10 +2,16 @@
 #![tactic(auto)]
 
 mod action;
+mod changes;
+mod graph;
 mod holdings;
+mod legal;
 mod node_state;
 mod nodes;
+mod stepping;
 
 pub use action::{Action, Actor, Illegal, Node, Reply};
+pub use graph::{END, Graph};
 pub use nodes::Nodes;
 pub use std::alloc::AllocError as NoMemory;
+pub use stepping::step;

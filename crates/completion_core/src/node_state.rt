@@ -1,7 +1,8 @@
 //! What the graph keeps of one node, as numbers.
-ghost use Rattle.std.specs.Prelude.{◌≡◌, false, [], None};
+ghost use Rattle.std.specs.Prelude.{◌≡◌, ◌-◌, ◌<◌, ◌==◌, if◌then◌else◌, false, [], Some, None};
+ghost use Rattle.completion_core.specs.Legal.{reply_of_arrival};
 
-use crate::action::Actor;
+use crate::action::{Actor, Reply};
 use crate::nodes::Nodes;
 use std::alloc::Global;
 
@@ -34,6 +35,21 @@ impl NodeState {
             left: owed,
             last: None,
             kept: Nodes::none(alloc),
+        }
+    }
+
+    /// Takes one made arrival more into account.
+    pub fn arrive(&mut self, actor: Actor) -> Reply
+        requires { 0 < self.old.left }
+        ensures state { self.new ≡ record self.old { left = self.old.left - 1; last = (if self.old.left - 1 == 0 then Some actor else self.old.last) } }
+        ensures reply { result ≡ reply_of_arrival (self.old.left - 1) }
+    {
+        self.left -= 1;
+        if self.left == 0 {
+            self.last = Some(actor);
+            Reply::Last
+        } else {
+            Reply::Pending(self.left - 1)
         }
     }
 }

@@ -1,9 +1,9 @@
 //! Bags of nodes.
-ghost use Rattle.std.specs.Prelude.{◌≡◌, []};
+ghost use Rattle.std.specs.Prelude.{◌≡◌, ◌<◌, ◌↔◌, IfOk, IsTrue, All, [], length};
 ghost use Rattle.std.specs.List.Sorted.{IsPermutation, IsNonDecreasing};
 
 use crate::action::Node;
-use std::alloc::Global;
+use std::alloc::{AllocError, Global};
 use std::marker::Model;
 
 /// Nodes in ascending order, in which one may stand several times.
@@ -48,5 +48,27 @@ impl Nodes {
         ensures ordered { IsNonDecreasing self.now }
     {
         self.items.as_slice()
+    }
+
+    pub(crate) fn len(&self) -> usize
+        ensures { result ≡ length self.now }
+    {
+        self.items.len()
+    }
+
+    pub(crate) fn all_below(&self, node: Node) -> bool
+        ensures { IsTrue result ↔ All (λ item. item < node) self.now }
+    {
+        self.items.iter().all(|&item| item < node)
+    }
+}
+
+impl Clone for Nodes {
+    fn clone(&self) -> Result<Nodes, AllocError>
+        ensures { IfOk result (λ copy. copy ≡ self.now) }
+    {
+        Ok(Nodes {
+            items: self.items.clone()?,
+        })
     }
 }
