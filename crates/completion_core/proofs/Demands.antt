@@ -1,11 +1,12 @@
 -- A legal action meets all demands but those that are limits of the store.
-use Rattle.std.proofs.Common.{◌<◌, arith}
+use Rattle.std.proofs.Common.{◌≡◌, ℕ, ◌<◌, sym, subst, arith}
 use Rattle.completion_core.specs.declared.action.Action.{Action}
-use Rattle.completion_core.specs.declared.action.Action.TheVariants.{Arm, Add, Give, Arrive, Run, Settle}
+use Rattle.completion_core.specs.declared.action.Action.TheVariants.{Claim, Arm, Add, Give, Arrive, Run, Settle}
 use Rattle.completion_core.specs.declared.action.Illegal.{Illegal}
 use Rattle.completion_core.specs.declared.action.Illegal.TheVariants.{NoSuchNode, NotClaimedHere, AlreadyArmed, NotHeld, NotFinisher, OnwardNotEarlier, TooMany, NoMemory}
 use Rattle.completion_core.specs.Graph.{Graph}
 use Rattle.completion_core.specs.Legal.{Legal}
+use Rattle.completion_core.specs.Runs.{IsArm}
 use Rattle.completion_core.specs.Refusals.{rank, Meets, IsRefusal}
 
 pub legal_meets : (action : Action) (g : Graph) → Legal action g → (demand : Illegal) → rank demand < 7 → Meets demand action g
@@ -42,3 +43,16 @@ wanting action g l few none = (demands, none)
     demands OnwardNotEarlier lt = legal_meets action g l OnwardNotEarlier (omega arith)
     demands TooMany lt = few
     demands NoMemory lt = absurd (omega arith)
+
+-- an arming and a run may want memory
+pub arm_wants : (action : Action) (g : Graph) → IsArm action → Meets NoMemory action g → ⊥
+arm_wants (Arm a node pending onward) g is m = m
+arm_wants (Claim a) g is m = is
+arm_wants (Add a node d) g is m = is
+arm_wants (Give a b node k) g is m = is
+arm_wants (Arrive a node) g is m = is
+arm_wants (Run a node) g is m = is
+arm_wants (Settle a) g is m = is
+
+pub run_wants : (action : Action) (g : Graph) (a node : ℕ) → action ≡ Run a node → Meets NoMemory action g → ⊥
+run_wants action g a node e = subst (λ x. Meets NoMemory x g → ⊥) (sym e) (λ m. m)

@@ -2,8 +2,11 @@ pub mod BagLemmas
 pub mod Checks
 pub mod Demands
 pub mod Effects
+pub mod Histories
 pub mod Keys
+pub mod Makings
 pub mod Places
+pub mod Plays
 pub mod Starts
 pub mod Totals
 pub mod Writes

@@ -2,7 +2,9 @@ pub mod Bags
 pub mod Book
 pub mod Graph
 pub mod Holdings
+pub mod Laws
 pub mod Legal
+pub mod Played
 pub mod Refusals
 pub mod Runs
 pub mod Steps

@@ -1,11 +1,12 @@
 -- Meaning: why an action is refused: of the demands that it doesn't meet the first, in a fixed order.
-use Rattle.std.specs.Prelude.{◌≡◌, ℕ, ◌+◌, ◌<◌, ◌≤◌, ◌^◌, false, Some, ⊤, length}
+use Rattle.std.specs.Prelude.{◌≡◌, ℕ, ◌+◌, ◌<◌, ◌≤◌, ◌^◌, false, List, Some, ⊤, length, take, slice_get}
 use Rattle.completion_core.specs.declared.action.Action.{Action}
 use Rattle.completion_core.specs.declared.action.Action.TheVariants.{Claim, Arm, Add, Give, Arrive, Run, Settle}
 use Rattle.completion_core.specs.declared.action.Illegal.{Illegal}
 use Rattle.completion_core.specs.declared.action.Illegal.TheVariants.{NoSuchNode, NotClaimedHere, AlreadyArmed, NotHeld, NotFinisher, OnwardNotEarlier, TooMany, NoMemory}
 use Rattle.completion_core.specs.Graph.{Held, amount, left, Graph, IsDrawn}
 use Rattle.completion_core.specs.Legal.{count}
+use Rattle.completion_core.specs.Runs.{LegalAll, after_all}
 
 -- the place of a demand in the order
 abbrev pub rank : Illegal → ℕ
@@ -48,3 +49,9 @@ Meets demand action g = ⊤
 abbrev pub IsRefusal : Illegal → Action → Graph → Type 0
 IsRefusal reason action g =
     ((demand : Illegal) → rank demand < rank reason → Meets demand action g) × ¬ Meets reason action g
+
+-- the action at this index is refused on the graph that those before it left, which are legal
+abbrev pub IsFirstRefused : ℕ → Illegal → List Action → Graph → Type 0
+IsFirstRefused index reason actions g =
+    (action : Action) × (slice_get actions index ≡ Some action)
+    × LegalAll (take index actions) g × IsRefusal reason action (after_all (take index actions) g)

@@ -3,7 +3,7 @@ ghost use Rattle.std.specs.Prelude.{◌≡◌, IfOk, OnErr};
 ghost use Rattle.completion_core.specs.declared.action.Illegal.TheVariants.{NoMemory};
 
 use crate::nodes::Nodes;
-use std::alloc::AllocError;
+use std::alloc::{AllocError, AllocFailed};
 
 /// A node by its number. 0 is END, the others are numbered from 1 as they are drawn.
 pub type Node = u32;
@@ -139,6 +139,14 @@ impl From<AllocError> for Illegal {
     ghost from_gives = { λ _ reason. reason ≡ NoMemory };
 
     fn from(_refused: AllocError) -> Illegal {
+        Illegal::NoMemory
+    }
+}
+
+impl<T: Drop> From<AllocFailed<T>> for Illegal {
+    ghost from_gives = { λ _ reason. reason ≡ NoMemory };
+
+    fn from(_refused: AllocFailed<T>) -> Illegal {
         Illegal::NoMemory
     }
 }

@@ -8,10 +8,12 @@ mod holdings;
 mod legal;
 mod node_state;
 mod nodes;
+mod replay;
 mod stepping;
 
 pub use action::{Action, Actor, Illegal, Node, Reply};
 pub use graph::{END, Graph};
 pub use nodes::Nodes;
+pub use replay::play;
 pub use std::alloc::AllocError as NoMemory;
 pub use stepping::step;
