@@ -1,0 +1,14 @@
+pub mod Sums
+pub mod Parts
+pub mod Records
+pub mod Arrivals
+pub mod Claims
+pub mod Opening
+pub mod Arming
+pub mod Adding
+pub mod Giving
+pub mod Joining
+pub mod Allowed
+pub mod Ranges
+pub mod Callers
+pub mod Uses

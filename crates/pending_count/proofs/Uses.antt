@@ -1,0 +1,67 @@
+-- What the callers in the tests know before each of their calls.
+use Rattle.std.proofs.Common.{◌≡◌, ◌≢◌, ℕ, ◌<◌, ◌≤◌, [], ◌∷◌, sym, ap, ◌∙◌, subst, arith, Some}
+use mathlib.Core.Logic.{dite}
+use native.Mathlib.Decide.{ℕ_discrete}
+use Rattle.completion_core.specs.Legal.{count}
+use Rattle.pending_count.specs.declared.view.View.{View}
+use Rattle.pending_count.specs.Views.{first_view, note_of}
+use Rattle.pending_count.specs.Steps.{IsClaimed, IsArmed, IsArrived, drawn_node}
+use Rattle.pending_count.proofs.Sums.{at_here, at_else}
+use Rattle.pending_count.proofs.Records.{fresh_here}
+use Rattle.pending_count.proofs.Callers.{drawn_is, claim_held, claim_noted, claim_larger, pending_held, arm_held, arm_note, arm_note_else, pending_noted, last_held, last_noted}
+
+-- the single entry of a list
+pub only_one : (i a : ℕ) → 0 < count i (a ∷ []) → i ≡ a
+only_one i a h = dite (ℕ_discrete i a) (λ e. e) (λ n. let z = at_else i a (λ e. n (sym e)) in absurd (omega arith))
+
+-- a claims and arms the first node, b the second, which keeps an arrival at the first
+module _ {S T : Type 0} {nodes k1 k2 k3 : ℕ} (v0 v1 v2 v3 : View T) (a b n1 n2 : ℕ) (first : v0 ≡ first_view 1) (c1 : IsClaimed S nodes k1 v0 n1 v1) (d1 : drawn_node nodes n1 ≡ Some a)
+    (r1 : IsArmed S nodes k2 a 0 (0 ∷ []) v1 v2) (c2 : IsClaimed S nodes k3 v2 n2 v3) (d2 : drawn_node nodes n2 ≡ Some b) where
+  pub first_above : 0 < a
+  first_above = let d = (drawn_is nodes n1 a d1).0 in omega arith
+
+  fit1 : (i : ℕ) → count i (0 ∷ []) ≤ count i v1.held
+  fit1 i = let e : count i v1.held ≡ count i (0 ∷ []) = ap (count i) (claim_held n1 a c1 d1 ∙ ap (λ (u : View T). u.held) first) in omega arith
+
+  have_first : 0 < count a v2.held
+  have_first = let h = arm_held a 0 (0 ∷ []) r1 fit1 a in let o = at_here a in let f = fit1 a in omega arith
+
+  pub second_above : a < b
+  second_above = claim_larger n2 b c2 d2 a have_first
+
+  pub onward_smaller : (i : ℕ) → 0 < count i (a ∷ []) → i < b
+  onward_smaller i h = let e = only_one i a h in let s = second_above in omega arith
+
+  fit2 : (i : ℕ) → count i (a ∷ []) ≤ count i v3.held
+  fit2 i = let e : count i v3.held ≡ count i v2.held = ap (count i) (claim_held n2 b c2 d2) in dite (ℕ_discrete i a)
+      (λ q. subst (λ k. count k (a ∷ []) ≤ count k v3.held) (sym q) (let o = at_here a in let f : count a v3.held ≡ count a v2.held = ap (count a) (claim_held n2 b c2 d2) in let h = have_first in omega arith))
+      (λ m. let z = at_else i a (λ q. m (sym q)) in omega arith)
+
+  module _ {k4 k5 k6 : ℕ} (v4 v5 v6 : View T) (r2 : IsArmed S nodes k4 b 1 (a ∷ []) v3 v4) (n3 n4 : ℕ) (p : IsArrived S nodes k5 b v4 n3 v5) (more : n3 ≢ 1) (l : IsArrived S nodes k6 b v5 n4 v6) (one : n4 ≡ 1) where
+    apart : a ≢ b
+    apart e = let s = second_above in absurd (omega arith)
+
+    two_there : 1 < count b v4.held
+    two_there = let h = arm_held b 1 (a ∷ []) r2 fit2 b in let o = fresh_here b 2 in let z = at_else b a apart in omega arith
+
+    some_there : 0 < count b v4.held
+    some_there = let h = two_there in omega arith
+
+    one_there : 0 < count b v5.held
+    one_there = let h = pending_held b n3 p some_there more b in let t = two_there in let o = at_here b in omega arith
+
+    pub first_is_back : 0 < count a v6.held
+    first_is_back =
+        let note : note_of b v5.noted ≡ Some (a ∷ []) = ap (note_of b) (pending_noted b n3 p some_there more) ∙ arm_note b 1 (a ∷ []) r2 in
+        let h = last_held b n4 l one_there one (a ∷ []) note a in
+        let o = at_here a in
+        let z = at_else b a apart in
+        omega arith
+
+    module _ {k7 : ℕ} (v7 : View T) (n5 : ℕ) (m : IsArrived S nodes k7 a v6 n5 v7) (one' : n5 ≡ 1) where
+      pub end_is_back : 0 < count 0 v7.held
+      end_is_back =
+          let note : note_of a v6.noted ≡ Some (0 ∷ []) = ap (note_of a) (last_noted b n4 l one_there one ∙ pending_noted b n3 p some_there more) ∙ arm_note_else b 1 (a ∷ []) r2 a apart ∙ ap (note_of a) (claim_noted n2 b c2 d2) ∙ arm_note a 0 (0 ∷ []) r1 in
+          let h = last_held a n5 m first_is_back one' (0 ∷ []) note 0 in
+          let z = at_else a 0 (λ e. let q = first_above in absurd (omega arith)) in
+          omega arith

@@ -1,0 +1,27 @@
+//! Counts of pending arrivals, each in one atomic word, and the seats that hold the arrivals.
+//!
+//! A node of a completion tree owes a number of arrivals. Threads share the `Counts` by `&`; what each of them
+//! may do stands in its `Seat`, a token that is passed in and given back. Each call is one atomic instruction on
+//! one word, takes no memory and no lock, and is one action of the machine of `completion_core`, on whose graph
+//! and actions this crate stands, beside `atomic_table`. `completer_tree` runs continuations on it and cites
+//! `Counts::arrive`, clause `arrived`: `Last` exactly where one arrival was owed and not made at its step.
+//! Begin with `specs/Shows.antt`, then `specs/Steps.antt` and `src/counts.rt`; docs/completers.md has the words,
+//! the tokens and a worked trace.
+//! Not promised: that a last arrival ever comes, since a seat may be dropped, nor which of two threads comes first.
+//! Java SE 17: the pending count of `CountedCompleter`, which is here the number of arrivals owed, less one.
+#![tactic(auto)]
+
+mod counts;
+mod place;
+mod rule;
+mod seat;
+mod view;
+
+pub use completion_core::Node;
+pub use counts::Counts;
+pub use place::{Fits, Place, Side};
+pub use seat::{Arrived, Finish, Seat};
+pub use std::alloc::AllocError as NoMemory;
+
+#[cfg(test)]
+mod tests;
