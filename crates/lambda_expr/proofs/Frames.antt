@@ -7,19 +7,19 @@ use Rattle.lambda_expr.specs.declared.operator.Infix.{Infix}
 use Rattle.lambda_expr.specs.declared.operator.Infix.TheVariants.{Compare, Compute}
 use Rattle.lambda_expr.specs.Words.{Word, sign}
 use Rattle.lambda_expr.specs.Grammar.{Shape, name, number, group, negate, between, spells, level, Binds}
-use Rattle.lambda_expr.specs.Reading.{Frame, open_, minus, left, before, wanted, Ordered}
+use Rattle.lambda_expr.specs.Reading.{Frame, paren, minus, left, before, wanted_level, Ordered}
 
 -- the words that still close what is open
 abbrev pub after : List Frame → List Word
 after [] = []
-after (open_ ∷ fs) = sign symbol.Close ∷ after fs
+after (paren ∷ fs) = sign symbol.Close ∷ after fs
 after (minus ∷ fs) = after fs
 after (left a o ∷ fs) = after fs
 
 -- the whole expression, with this one as the operand that is waited for
 abbrev pub filled : List Frame → Shape → Shape
 filled [] e = e
-filled (open_ ∷ fs) e = filled fs (group e)
+filled (paren ∷ fs) e = filled fs (group e)
 filled (minus ∷ fs) e = filled fs (negate e)
 filled (left a o ∷ fs) e = filled fs (between o a e)
 
@@ -49,9 +49,9 @@ level_high (Compute Multiply) = omega arith
 level_high (Compute Divide) = omega arith
 level_high (Compute Remainder) = omega arith
 
-pub wanted_high : (fs : List Frame) → wanted fs ≤ 12
+pub wanted_high : (fs : List Frame) → wanted_level fs ≤ 12
 wanted_high [] = omega arith
-wanted_high (open_ ∷ fs) = omega arith
+wanted_high (paren ∷ fs) = omega arith
 wanted_high (minus ∷ fs) = omega arith
 wanted_high (left a o ∷ fs) = omega (arith, level_high o)
 
@@ -65,12 +65,12 @@ binds_lower (between o a c) m n h b = (omega (arith, b.0), b.1, b.2)
 
 pub spells_filled : (fs : List Frame) (e : Shape) → spells (filled fs e) ≡ before fs ++ (spells e ++ after fs)
 spells_filled [] e = sym (append-nil (spells e))
-spells_filled (open_ ∷ fs) e = spells_filled fs (group e) ∙ simp append_assoc
+spells_filled (paren ∷ fs) e = spells_filled fs (group e) ∙ simp append_assoc
 spells_filled (minus ∷ fs) e = spells_filled fs (negate e) ∙ simp append_assoc
 spells_filled (left a o ∷ fs) e = spells_filled fs (between o a e) ∙ simp append_assoc
 
-pub binds_filled : (fs : List Frame) (e : Shape) → Ordered fs → Binds (wanted fs) e → Binds 1 (filled fs e)
+pub binds_filled : (fs : List Frame) (e : Shape) → Ordered fs → Binds (wanted_level fs) e → Binds 1 (filled fs e)
 binds_filled [] e h b = b
-binds_filled (open_ ∷ fs) e h b = binds_filled fs (group e) h b
+binds_filled (paren ∷ fs) e h b = binds_filled fs (group e) h b
 binds_filled (minus ∷ fs) e h b = binds_filled fs (negate e) h.1 (h.0, b)
 binds_filled (left a o ∷ fs) e h b = binds_filled fs (between o a e) h.2 (h.0, h.1, b)

@@ -7,7 +7,7 @@ use Rattle.lambda_expr.specs.declared.parse.Stop.{Stop}
 use Rattle.lambda_expr.specs.declared.parse.Stop.TheVariants.{At, NoMemory}
 use Rattle.lambda_expr.specs.Words.{Word, numeral, sign, bad}
 use Rattle.lambda_expr.specs.Grammar.{Shape, number, group, spells, symbol_of, Binds, Begins, StopsAt}
-use Rattle.lambda_expr.specs.Reading.{Frame, open_, left, before, nesting, wanted, Ordered, Joins, Stands, Place, operand, operator, place, shift, shifts, first, next, held_words, HeldTight, shape_of, Expression, Starts, Follows, Continues, Closes, Turns}
+use Rattle.lambda_expr.specs.Reading.{Frame, paren, left, before, nesting, wanted_level, Ordered, Joins, Stands, Place, operand, operator, place, shift, shifts, first, next, held_words, HeldTight, shape_of, Expression, Starts, Follows, Continues, Closes, Turns}
 use Rattle.lambda_expr.proofs.Machine.{shifts_append, shifts_none, shifts_expr, followed_by}
 use Rattle.lambda_expr.proofs.Frames.{after, filled, spells_filled, binds_filled, wanted_high, binds_lower}
 
@@ -36,7 +36,7 @@ begins_of ws fs (Some e) s = (
   (
     filled fs e,
     record {
-      binds = binds_filled fs e s.ordered (let h = wanted_high fs in let k : wanted fs ≤ 13 = omega arith in binds_lower e 13 (wanted fs) k s.tight);
+      binds = binds_filled fs e s.ordered (let h = wanted_high fs in let k : wanted_level fs ≤ 13 = omega arith in binds_lower e 13 (wanted_level fs) k s.tight);
       spelled = spells_filled fs e ∙ sym (append_assoc (before fs) (spells e) (after fs)) ∙ ap (λ b. b ++ after fs) s.whole;
     },
   ),
@@ -100,7 +100,7 @@ opens ws at fs gs w lt is s words step ordered = stands_more ws at fs gs None No
 -- an operator after an operand
 signs : (ws : List Word) (at : ℕ) (fs gs : List Frame) (e : Shape) (w : Word) → at < length ws → get_or ws at bad ≡ w → Stands (take at ws) fs (Some e) → Continues w fs e gs → Stands (take (at + 1) ws) gs None
 signs ws at fs gs e w lt is s t =
-    let o = t.infix_ in
+    let o = t.operation in
     let f = t.operand_left in
     let hs = t.rest in
     let words : (before hs ++ (spells f ++ sign (symbol_of o) ∷ [])) ++ [] ≡ (before fs ++ spells e) ++ sign (symbol_of o) ∷ [] = simp append-nil (sym (append_assoc (before hs) (spells f) (sign (symbol_of o) ∷ [])) ∙ ap (λ v. v ++ sign (symbol_of o) ∷ []) t.joins.same_words) in
@@ -138,7 +138,7 @@ ends_wanting ws n fs h s =
     stops_end ws fs None (operand (nesting fs)) t refl (λ e. cc)
 
 -- the words end inside a parenthesis
-pub ends_open : (ws : List Word) (n : ℕ) (fs gs : List Frame) (e f : Shape) → length ws ≤ n → Stands (take n ws) fs (Some e) → Joins 1 fs e (open_ ∷ gs) f → StopsAt Expression ws (length ws)
+pub ends_open : (ws : List Word) (n : ℕ) (fs gs : List Frame) (e f : Shape) → length ws ≤ n → Stands (take n ws) fs (Some e) → Joins 1 fs e (paren ∷ gs) f → StopsAt Expression ws (length ws)
 ends_open ws n fs gs e f h s j =
     let t = subst (λ v. Stands v fs (Some e)) (take_all n ws h) s in
     stops_end ws fs (Some e) (operator (suc (nesting gs))) t (ap operator (sym j.same_nesting)) (λ e. cc)

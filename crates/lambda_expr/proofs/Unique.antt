@@ -10,7 +10,7 @@ use Rattle.lambda_expr.specs.declared.operator.Infix.{Infix}
 use Rattle.lambda_expr.specs.declared.operator.Infix.TheVariants.{Compare, Compute}
 use Rattle.lambda_expr.specs.Words.{Word, named, numeral, sign}
 use Rattle.lambda_expr.specs.Grammar.{Shape, name, number, group, negate, between, spells, symbol_of, level, Binds, IsLambda}
-use Rattle.lambda_expr.specs.Reading.{Frame, open_, minus, left, wanted, infix_of}
+use Rattle.lambda_expr.specs.Reading.{Frame, paren, minus, left, wanted_level, infix_of}
 use Rattle.lambda_expr.proofs.Frames.{binds_lower, level_high}
 
 pub record Held : Type 0 where
@@ -19,7 +19,7 @@ pub record Held : Type 0 where
 
 abbrev pub joined : ℕ → List Frame → Shape → Held
 joined n [] e = record { frames = []; top = e }
-joined n (open_ ∷ fs) e = record { frames = open_ ∷ fs; top = e }
+joined n (paren ∷ fs) e = record { frames = paren ∷ fs; top = e }
 joined n (minus ∷ fs) e = joined n fs (negate e)
 joined n (left a o ∷ fs) e = if nat_lt (level o) n then record { frames = left a o ∷ fs; top = e } else joined n fs (between o a e)
 
@@ -29,7 +29,7 @@ pub data State : Type 0 where
   stuck : State
 
 abbrev pub opens : List Frame → Symbol → State
-opens fs symbol.Open = wants (open_ ∷ fs)
+opens fs symbol.Open = wants (paren ∷ fs)
 opens fs symbol.Minus = wants (minus ∷ fs)
 opens fs _ = stuck
 
@@ -37,7 +37,7 @@ abbrev pub push : Infix → Held → State
 push o h = wants (left h.top o ∷ h.frames)
 
 abbrev pub shut_at : List Frame → Shape → State
-shut_at (open_ ∷ fs) e = has fs (group e)
+shut_at (paren ∷ fs) e = has fs (group e)
 shut_at _ e = stuck
 
 abbrev pub shut : Held → State
@@ -94,9 +94,9 @@ below_test a b h = grind (arith, common_steps)
 above_test : (a b : ℕ) → b ≤ a → nat_lt a b ≡ false
 above_test a b h = grind (arith, common_steps)
 
-stays : (k : ℕ) (fs : List Frame) (e : Shape) → wanted fs ≤ k → k ≤ 11 → joined k fs e ≡ record { frames = fs; top = e }
+stays : (k : ℕ) (fs : List Frame) (e : Shape) → wanted_level fs ≤ k → k ≤ 11 → joined k fs e ≡ record { frames = fs; top = e }
 stays k [] e h l = refl
-stays k (open_ ∷ fs) e h l = refl
+stays k (paren ∷ fs) e h l = refl
 stays k (minus ∷ fs) e h l = absurd (omega arith)
 stays k (left a o ∷ fs) e h l = rw (below_test (level o) k (omega arith)) refl
 
@@ -109,14 +109,14 @@ pub record Leads (fs : List Frame) (e : Shape) : Type 0 where
   pub run : reads (wants fs) (spells e) ≡ has held.frames held.top
   pub same : (k : ℕ) → k ≤ 12 → Binds k e → joined k held.frames held.top ≡ joined k fs e
 
-leads : (e : Shape) (fs : List Frame) → Binds (wanted fs) e → Leads fs e
+leads : (e : Shape) (fs : List Frame) → Binds (wanted_level fs) e → Leads fs e
 leads (name w) fs b = record { held = record { frames = fs; top = name w }; run = refl; same = λ k h c. refl }
 leads (number w) fs b = record { held = record { frames = fs; top = number w }; run = refl; same = λ k h c. refl }
 leads (group a) fs b =
-    let l = leads a (open_ ∷ fs) b in
+    let l = leads a (paren ∷ fs) b in
     record {
       held = record { frames = fs; top = group a };
-      run = reads_append (wants (open_ ∷ fs)) (spells a) (sign symbol.Close ∷ []) ∙ ap (λ s. read s (sign symbol.Close)) l.run ∙ ap shut (l.same 1 (omega arith) b);
+      run = reads_append (wants (paren ∷ fs)) (spells a) (sign symbol.Close ∷ []) ∙ ap (λ s. read s (sign symbol.Close)) l.run ∙ ap shut (l.same 1 (omega arith) b);
       same = λ k h c. refl;
     }
 leads (negate a) fs b =
@@ -124,7 +124,7 @@ leads (negate a) fs b =
     record { held = l.held; run = l.run; same = λ k h c. l.same k h (binds_lower a 12 k h b.1) }
 leads (between o a c) fs b =
     let high = level_high o in
-    let l = leads a fs (binds_lower a (level o) (wanted fs) b.0 b.1) in
+    let l = leads a fs (binds_lower a (level o) (wanted_level fs) b.0 b.1) in
     let m = leads c (left a o ∷ fs) b.2 in
     let small : level o ≤ 12 = omega arith in
     let top : joined (level o) l.held.frames l.held.top ≡ record { frames = fs; top = a } = l.same (level o) small b.1 ∙ stays (level o) fs a b.0 high in

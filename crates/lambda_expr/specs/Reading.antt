@@ -102,12 +102,12 @@ shifts p (w ∷ ws) = shifts (shift p w) ws
 
 -- what waits for the operand to its right
 pub data Frame : Type 0 where
-  open_ : Frame
+  paren : Frame
   minus : Frame
   left : Shape → Infix → Frame
 
 abbrev pub frame_of : Pending → Frame
-frame_of pending.Open = open_
+frame_of pending.Open = paren
 frame_of pending.Negate = minus
 frame_of (pending.Left t o) = left (shape_of t) o
 
@@ -119,36 +119,36 @@ frames_of (p ∷ ps) = frame_of p ∷ frames_of ps
 -- the words so far
 abbrev pub before : List Frame → List Word
 before [] = []
-before (open_ ∷ fs) = before fs ++ sign symbol.Open ∷ []
+before (paren ∷ fs) = before fs ++ sign symbol.Open ∷ []
 before (minus ∷ fs) = before fs ++ sign symbol.Minus ∷ []
 before (left a o ∷ fs) = before fs ++ (spells a ++ sign (symbol_of o) ∷ [])
 
 -- how many parentheses are open
 abbrev pub nesting : List Frame → ℕ
 nesting [] = 0
-nesting (open_ ∷ fs) = suc (nesting fs)
+nesting (paren ∷ fs) = suc (nesting fs)
 nesting (minus ∷ fs) = nesting fs
 nesting (left a o ∷ fs) = nesting fs
 
 -- the level of the operand that is waited for
-abbrev pub wanted : List Frame → ℕ
-wanted [] = 1
-wanted (open_ ∷ fs) = 1
-wanted (minus ∷ fs) = 12
-wanted (left a o ∷ fs) = suc (level o)
+abbrev pub wanted_level : List Frame → ℕ
+wanted_level [] = 1
+wanted_level (paren ∷ fs) = 1
+wanted_level (minus ∷ fs) = 12
+wanted_level (left a o ∷ fs) = suc (level o)
 
 abbrev pub Ordered : List Frame → Type 0
 Ordered [] = Unit {0}
-Ordered (open_ ∷ fs) = Ordered fs
-Ordered (minus ∷ fs) = (wanted fs ≤ 12) × Ordered fs
-Ordered (left a o ∷ fs) = (wanted fs ≤ level o) × Binds (level o) a × Ordered fs
+Ordered (paren ∷ fs) = Ordered fs
+Ordered (minus ∷ fs) = (wanted_level fs ≤ 12) × Ordered fs
+Ordered (left a o ∷ fs) = (wanted_level fs ≤ level o) × Binds (level o) a × Ordered fs
 
 -- what stands on top is joined to this expression, as far as it binds as tightly as n
 pub record Joins (n : ℕ) (fs : List Frame) (e : Shape) (gs : List Frame) (f : Shape) : Type 0 where
   pub same_words : before gs ++ spells f ≡ before fs ++ spells e
   pub same_nesting : nesting gs ≡ nesting fs
   pub ordered : Ordered gs
-  pub tight : Binds (wanted gs) f
+  pub tight : Binds (wanted_level gs) f
   pub binds : Binds n f
 
 abbrev pub held_words : Option Shape → List Word
@@ -189,18 +189,18 @@ Starts w at fs gs (Err NoMemory) = Unit {0}
 pub record Continues (w : Word) (fs : List Frame) (e : Shape) (gs : List Frame) : Type 0 where
   pub rest : List Frame
   pub operand_left : Shape
-  pub infix_ : Infix
-  pub word : w ≡ sign (symbol_of infix_)
-  pub pushed : gs ≡ left operand_left infix_ ∷ rest
-  pub joins : Joins (level infix_) fs e rest operand_left
-  pub stops : wanted rest ≤ level infix_
+  pub operation : Infix
+  pub word : w ≡ sign (symbol_of operation)
+  pub pushed : gs ≡ left operand_left operation ∷ rest
+  pub joins : Joins (level operation) fs e rest operand_left
+  pub stops : wanted_level rest ≤ level operation
 
 -- a parenthesis that closes one
 pub record Closes (w : Word) (fs : List Frame) (e : Shape) (gs : List Frame) (g : Shape) : Type 0 where
   pub inner : Shape
   pub word : w ≡ sign symbol.Close
   pub grouped : g ≡ group inner
-  pub joins : Joins 1 fs e (open_ ∷ gs) inner
+  pub joins : Joins 1 fs e (paren ∷ gs) inner
 
 -- what a word does where an operator is wanted
 abbrev pub Follows : Word → ℕ → List Frame → Shape → List Frame → Result (Option Tree) Stop → Type 0

@@ -1,4 +1,4 @@
-// Why an expression has no value.
+// Why an expression has no value, and why a text is no lambda.
 
 ghost use Rattle.std.specs.Prelude.{◌≡◌};
 ghost use Rattle.lambda_expr.specs.declared.fault.ReadFault.TheVariants.{NoMemory};

@@ -13,7 +13,8 @@ ghost use Rattle.stream_tokens.specs.declared.token.Token.{Token};
 
 /// Words are one lambda at most.
 pub fn one_reading()
-    ensures { (ws : List Word) (p q : List ℕ) (e f : Shape) → IsLambda ws p e → IsLambda ws q f → (p ≡ q) × (e ≡ f) }
+    ensures { (ws : List Word) (p q : List ℕ) (e f : Shape) →
+        IsLambda ws p e → IsLambda ws q f → (p ≡ q) × (e ≡ f) }
 {}
 
 /// Words stop being the beginning of a lambda at one place at most.
@@ -25,14 +26,21 @@ pub fn one_stop()
 /// apart. So `read_lambda` answers `Ok` for every text that spells a lambda, unless a growth was
 /// refused.
 pub fn one_answer()
-    ensures lambda { (text : List ℕ) (want : Want) (l m : Lambda) → Spells text want l → Spells text want m → body_of l.body ≡ body_of m.body }
-    ensures refusal { (text : List ℕ) (want : Want) (f g : ReadFault) → IsRefused text want f → IsRefused text want g → f ≢ ReadFault.NoMemory → g ≢ ReadFault.NoMemory → f ≡ g }
-    ensures apart { (text : List ℕ) (want : Want) (l : Lambda) (f : ReadFault) → Spells text want l → IsRefused text want f → f ≡ ReadFault.NoMemory }
+    ensures lambda { (text : List ℕ) (want : Want) (l m : Lambda) →
+        Spells text want l → Spells text want m → body_of l.body ≡ body_of m.body }
+    ensures refusal { (text : List ℕ) (want : Want) (f g : ReadFault) →
+        IsRefused text want f → IsRefused text want g →
+        f ≢ ReadFault.NoMemory → g ≢ ReadFault.NoMemory → f ≡ g }
+    ensures apart { (text : List ℕ) (want : Want) (l : Lambda) (f : ReadFault) →
+        Spells text want l → IsRefused text want f → f ≡ ReadFault.NoMemory }
 {}
 
 /// Tokens spell one number at most, are refused for one thing at most, and not both.
 pub fn one_number()
-    ensures number { (text : List ℕ) (ts : List Token) (y z : ℤ) → SpellsNumber text ts y → SpellsNumber text ts z → y ≡ z }
-    ensures refusal { (text : List ℕ) (ts : List Token) (f g : ReadFault) → IsNumberRefused text ts f → IsNumberRefused text ts g → f ≡ g }
-    ensures apart { (text : List ℕ) (ts : List Token) (z : ℤ) (f : ReadFault) → SpellsNumber text ts z → IsNumberRefused text ts f → ⊥ }
+    ensures number { (text : List ℕ) (ts : List Token) (y z : ℤ) →
+        SpellsNumber text ts y → SpellsNumber text ts z → y ≡ z }
+    ensures refusal { (text : List ℕ) (ts : List Token) (f g : ReadFault) →
+        IsNumberRefused text ts f → IsNumberRefused text ts g → f ≡ g }
+    ensures apart { (text : List ℕ) (ts : List Token) (z : ℤ) (f : ReadFault) →
+        SpellsNumber text ts z → IsNumberRefused text ts f → ⊥ }
 {}

@@ -1,10 +1,18 @@
-//! Lambdas over numbers of 64 bits: their expressions, and the value of each at an item.
+//! Lambdas over numbers of 64 bits: reading them from texts, and the value of each at an item.
 //!
-//! Used by `trace`. What it promises to it: `LongExpr::eval` and `BoolExpr::eval` give the value that
-//! `specs/Value.antt` defines over whole numbers without bound, or the first fault from left to right.
-//! Begin with `specs/Value.antt`, then `expr.rt`.
-//! Not promised: that an expression nested without limit fits the stack.
-//! The arithmetic is that of `long` in the Java language (JLS 17, chapter 15).
+//! It stands on `stream_tokens`, which cuts a text into tokens. Its users:
+//! - the reader of job files reads lambdas and numbers by `read_lambda` and `read_number`, clauses
+//!   `ok` and `refused`: a text gives the lambda that it spells, or the first refusal that applies, a
+//!   syntax fault with its column. `one_answer` and `one_number` say that there is no other answer;
+//! - `trace` evaluates by `LongExpr::eval` and `BoolExpr::eval`: the value over whole numbers without
+//!   bound, cut to 64 bits where Java does it (JLS 17, chapter 15), or the first fault from left to
+//!   right.
+//!
+//! Begin with `specs/Grammar.antt` and `specs/Refusals.antt`, then `read.rt` and `parse.rt`; for
+//! values with `specs/Value.antt`, then `expr.rt`.
+//!
+//! Not promised: that memory is there, that an expression nested without limit fits the stack (what
+//! `read_lambda` gives is at most 64 deep), and how fast an expression is evaluated.
 #![tactic(auto)]
 
 mod env;
@@ -27,3 +35,6 @@ pub use laws::{one_answer, one_number, one_reading, one_stop};
 pub use number::read_number;
 pub use operator::{BinaryOperator, Comparison, Infix, UnaryOperator};
 pub use read::read_lambda;
+
+#[cfg(test)]
+mod tests;

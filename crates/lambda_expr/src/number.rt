@@ -26,7 +26,8 @@ struct Numeral<'a> {
 impl Numeral<'_> {
     // The value, where it is in 64 bits.
     fn value(self) -> Option<i64>
-        ensures { let value = number_value (number_of self.entry.is_negative self.entry.digits.now) in
+        ensures { let number = number_of self.entry.is_negative self.entry.digits.now in
+            let value = number_value number in
             SomeIff result (FitsSigned w64 value) value }
     {
         let size = value_of(self.digits);
@@ -68,7 +69,8 @@ fn begins_with_minus(text: &[u8], tokens: &[Token]) -> bool
 // The bytes of the token at a place, where it is a number that may stand there.
 fn numeral_at<'a>(text: &'a [u8], tokens: &[Token], place: usize) -> Option<&'a [u8]>
     requires { StandIn text.now tokens.now }
-    ensures { MatchOption result (IsNoNumeral (words_of text.now tokens.now) place) (λ digits. HasNumeral (words_of text.now tokens.now) place digits.now) }
+    ensures { let ws = words_of text.now tokens.now in
+        MatchOption result (IsNoNumeral ws place) (λ digits. HasNumeral ws place digits.now) }
 {
     if place >= tokens.len() {
         return None;
@@ -90,7 +92,8 @@ fn numeral_at<'a>(text: &'a [u8], tokens: &[Token], place: usize) -> Option<&'a 
 // Reads a number, or says at which token it stops.
 fn parse_number<'a>(text: &'a [u8], tokens: &[Token]) -> Result<Numeral<'a>, usize>
     requires { StandIn text.now tokens.now }
-    ensures ok { IfOk result (λ n. IsNumber (words_of text.now tokens.now) (number_of n.is_negative n.digits.now)) }
+    ensures ok { let ws = words_of text.now tokens.now in
+        IfOk result (λ n. IsNumber ws (number_of n.is_negative n.digits.now)) }
     ensures stops { IfErr result (λ place. StopsAt ANumber (words_of text.now tokens.now) place) }
 {
     let is_negative = begins_with_minus(text, tokens);

@@ -3,7 +3,7 @@
 ghost use Rattle.std.specs.Prelude.{◌≡◌, ◌≢◌, ℕ, ◌≤◌, ◌<◌, ◌^◌, List, [], ◌∷◌, take, length, OnOk, IfOk, IfErr, true, false, All};
 ghost use Rattle.lambda_expr.specs.Grammar.{Binds, ALambda};
 ghost use Rattle.stream_tokens.specs.declared.symbol.Symbol.TheVariants as symbol;
-ghost use Rattle.lambda_expr.specs.Reading.{Joins, Ordered, Stands, StandIn, Starts, Follows, Turns, Answers, HasHead, IsStop, LambdaAnswers, shape_of, frames_of, held_of, wanted, open_};
+ghost use Rattle.lambda_expr.specs.Reading.{Joins, Ordered, Stands, StandIn, Starts, Follows, Turns, Answers, HasHead, IsStop, LambdaAnswers, shape_of, frames_of, held_of, wanted_level, paren};
 ghost use Rattle.lambda_expr.specs.Words.{words_of, word_of, word_for, sign};
 ghost use Rattle.lambda_expr.specs.declared.parse.Stop.TheVariants.{NoMemory};
 
@@ -48,8 +48,10 @@ fn join<'a>(
     requires least { least ≤ 12 }
     requires ordered { Ordered (frames_of stack.old) }
     requires tight { Binds 13 (shape_of tree) }
-    ensures joins { IfOk result (λ t. Joins least (frames_of stack.old) (shape_of tree.entry) (frames_of stack.new) (shape_of t)) }
-    ensures stops { 1 ≤ least → IfOk result (λ _. wanted (frames_of stack.new) ≤ least) }
+    ensures joins { let old = frames_of stack.old in
+        let new = frames_of stack.new in
+        IfOk result (λ t. Joins least old (shape_of tree.entry) new (shape_of t)) }
+    ensures stops { 1 ≤ least → IfOk result (λ _. wanted_level (frames_of stack.new) ≤ least) }
 {
     let mut tree = tree;
     while let Some(top) = stack.pop_front() {
@@ -73,8 +75,8 @@ fn join<'a>(
 
 // Takes the parenthesis from the top, if there is anything.
 fn pop_open(stack: &mut LinkedList<Pending<'_>>) -> bool
-    requires { wanted (frames_of stack.old) ≤ 1 }
-    ensures open { result ≡ true → frames_of stack.old ≡ open_ ∷ frames_of stack.new }
+    requires { wanted_level (frames_of stack.old) ≤ 1 }
+    ensures open { result ≡ true → frames_of stack.old ≡ paren ∷ frames_of stack.new }
     ensures none { result ≡ false → (frames_of stack.old ≡ []) × (frames_of stack.new ≡ []) }
 {
     stack.pop_front().is_some()
@@ -89,7 +91,9 @@ fn begin<'a>(
 ) -> Result<Option<Tree<'a>>, Stop>
     requires in_order { token.from ≤ token.to }
     requires in_range { token.to ≤ length text.now }
-    ensures { Starts (word_of text.now token) at (frames_of stack.old) (frames_of stack.new) result }
+    ensures { let old = frames_of stack.old in
+        let new = frames_of stack.new in
+        Starts (word_of text.now token) at old new result }
 {
     match token.kind {
         TokenKind::Name => {
@@ -130,7 +134,9 @@ fn close<'a>(
 ) -> Result<Option<Tree<'a>>, Stop>
     requires ordered { Ordered (frames_of stack.old) }
     requires tight { Binds 13 (shape_of tree) }
-    ensures { Follows (sign symbol.Close) at (frames_of stack.old) (shape_of tree.entry) (frames_of stack.new) result }
+    ensures { let old = frames_of stack.old in
+        let new = frames_of stack.new in
+        Follows (sign symbol.Close) at old (shape_of tree.entry) new result }
 {
     let inner = join(alloc, stack, tree, 1)?;
     if pop_open(stack) {
@@ -149,7 +155,9 @@ fn go_on<'a>(
 ) -> Result<Option<Tree<'a>>, Stop>
     requires ordered { Ordered (frames_of stack.old) }
     requires tight { Binds 13 (shape_of tree) }
-    ensures { (bytes : List ℕ) → Follows (word_for kind bytes) at (frames_of stack.old) (shape_of tree.entry) (frames_of stack.new) result }
+    ensures { let old = frames_of stack.old in
+        let new = frames_of stack.new in
+        (bytes : List ℕ) → Follows (word_for kind bytes) at old (shape_of tree.entry) new result }
 {
     match kind {
         TokenKind::Symbol(symbol) => match symbol {
@@ -178,7 +186,8 @@ fn turn<'a>(
 ) -> Result<Option<Tree<'a>>, Stop>
     requires in_range { at < length tokens.now }
     requires within { StandIn text.now tokens.now }
-    requires stands { Stands (take at (words_of text.now tokens.now)) (frames_of stack.old) (held_of held) }
+    requires stands { let read = take at (words_of text.now tokens.now) in
+        Stands read (frames_of stack.old) (held_of held) }
     ensures { Turns (words_of text.now tokens.now) at (frames_of stack.new) result }
 {
     let token = tokens[at];

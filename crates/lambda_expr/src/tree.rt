@@ -80,7 +80,7 @@ pub(crate) fn is_reserved_name(name: &[u8]) -> bool
         || name == b"false".as_slice()
 }
 
-/// Whether a number of these bytes may stand in a grammar: not where two or more digits begin with 0.
+/// Whether a number of these bytes may stand in a grammar: two or more digits don't begin with 0.
 pub(crate) fn may_stand(number: &[u8]) -> bool
     ensures { result ≡ is_numeral number.now }
 {
