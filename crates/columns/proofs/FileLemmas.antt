@@ -7,7 +7,7 @@ use Rattle.columns.specs.declared.fault.ColumnFault.TheVariants.{NoHeader}
 use Rattle.columns.specs.Cells.{cells_of, records_of}
 use Rattle.columns.specs.Records.{GaveNext, IsReading}
 use Rattle.columns.specs.Refusals.{header_fault, rows_fault}
-use Rattle.columns.specs.Table.{Named, columns_under, table_of}
+use Rattle.columns.specs.Table.{NamedColumn, columns_under, table_of}
 use Rattle.columns.specs.TableOfColumns.{with_rows}
 use Rattle.columns.proofs.TableLemmas.{with_rows-columns_under}
 
@@ -32,7 +32,7 @@ rows_refused bytes header rows width fault split good wide bad =
     let whole : table_of (header ∷ rows) ≡ Err fault = rw (good, sym wide, bad) refl in
     ap table_of split ∙ whole
 
-pub columns_given : (bytes : List ℕ) (header : List (List ℕ)) (rows : List (List (List ℕ))) (width : ℕ) (empty columns : List Named)
+pub columns_given : (bytes : List ℕ) (header : List (List ℕ)) (rows : List (List (List ℕ))) (width : ℕ) (empty columns : List NamedColumn)
     → records_of bytes ≡ header ∷ rows → header_fault header ≡ None → width ≡ length header → rows_fault width 1 rows ≡ None
     → empty ≡ columns_under header [] → columns ≡ with_rows empty rows → cells_of bytes ≡ Ok columns
 columns_given bytes header rows width empty columns split good wide fits start table =

@@ -13,9 +13,9 @@ use Rattle.csv.specs.declared.reader.Reader.{Reader}
 use Rattle.columns.specs.declared.fault.ColumnFault.{ColumnFault}
 use Rattle.columns.specs.declared.fault.ColumnFault.TheVariants.{BadNumber}
 use Rattle.columns.specs.Records.{GaveNext, IsReading}
-use Rattle.columns.specs.Cell.{number_of}
+use Rattle.columns.specs.Number.{number_of}
 use Rattle.columns.specs.Refusals.{cell_fault, has_twice, row_fault, rows_fault}
-use Rattle.columns.specs.Table.{Named, columns_under}
+use Rattle.columns.specs.Table.{NamedColumn, columns_under}
 use Rattle.columns.specs.TableOfColumns.{named, with_row, with_rows}
 
 -- a field of a record is an element of the list of its fields
@@ -63,7 +63,7 @@ pub cell_fault_more : (r i : ℕ) (fields : List (List ℕ)) → i < length fiel
 cell_fault_more r i fields h = rw (drop_more fields i [] h) refl
 
 -- the number of a row's cell goes under its column
-pub with_row_more : (columns : List Named) (fields : List (List ℕ)) (i : ℕ) (c : Named) (n : ℤ) → i < length columns → i < length fields
+pub with_row_more : (columns : List NamedColumn) (fields : List (List ℕ)) (i : ℕ) (c : NamedColumn) (n : ℤ) → i < length columns → i < length fields
     → number_of (get_or fields i []) ≡ Some n → c ≡ get_or columns i c
     → take (i + 1) (set columns i record c { cells = c.cells ++ n ∷ [] }) ++ with_row (drop (i + 1) (set columns i record c { cells = c.cells ++ n ∷ [] })) (drop (i + 1) fields)
     ≡ take i columns ++ with_row (drop i columns) (drop i fields)
@@ -77,21 +77,21 @@ with_row_more columns fields i c n in_columns in_fields value here =
     rw (front, back, split, cells, value) (append_assoc (take i columns) (after ∷ []) rest)
 
 -- the rows that a reader has left, from row n on, give the fault and the table that all rows give, over the columns so far
-pub record RowsLeft (width : ℕ) (reader : Reader (Bor (List ℕ))) (n : ℕ) (now start : List Named) (rows : List (List (List ℕ))) : Type 0 where
+pub record RowsLeft (width : ℕ) (reader : Reader (Bor (List ℕ))) (n : ℕ) (now start : List NamedColumn) (rows : List (List (List ℕ))) : Type 0 where
   pub left : List (List (List ℕ))
   pub reading : IsReading reader left
   pub faults : rows_fault width n left ≡ rows_fault width 1 rows
   pub table : with_rows now left ≡ with_rows start rows
 
 -- no row is left
-pub RowsLeft-end : (width : ℕ) (a b : Reader (Bor (List ℕ))) (n : ℕ) (now start : List Named) (rows : List (List (List ℕ))) (found : Bool) (fields : List (List ℕ))
+pub RowsLeft-end : (width : ℕ) (a b : Reader (Bor (List ℕ))) (n : ℕ) (now start : List NamedColumn) (rows : List (List (List ℕ))) (found : Bool) (fields : List (List ℕ))
     → (s : RowsLeft width a n now start rows) → GaveNext s.left found fields b → found ≡ false → (rows_fault width 1 rows ≡ None) × (now ≡ with_rows start rows)
 RowsLeft-end width a b n now start rows found fields s gave none =
     let end = rw none at gave in
     (sym s.faults ∙ ap (rows_fault width n) end, ap (with_rows now) (sym end) ∙ s.table)
 
 -- a row more is read
-pub RowsLeft-more : (width : ℕ) (a b : Reader (Bor (List ℕ))) (n : ℕ) (now next start : List Named) (rows : List (List (List ℕ))) (found : Bool) (fields : List (List ℕ))
+pub RowsLeft-more : (width : ℕ) (a b : Reader (Bor (List ℕ))) (n : ℕ) (now next start : List NamedColumn) (rows : List (List (List ℕ))) (found : Bool) (fields : List (List ℕ))
     → (s : RowsLeft width a n now start rows) → GaveNext s.left found fields b → found ≡ true → row_fault width n fields ≡ None → next ≡ with_row now fields
     → RowsLeft width b (n + 1) next start rows
 RowsLeft-more width a b n now next start rows found fields s gave some good put =
@@ -105,7 +105,7 @@ RowsLeft-more width a b n now next start rows found fields s gave some good put 
     }
 
 -- a row is no good
-pub RowsLeft-fault : (width : ℕ) (a b : Reader (Bor (List ℕ))) (n : ℕ) (now start : List Named) (rows : List (List (List ℕ))) (found : Bool) (fields : List (List ℕ)) (fault : ColumnFault)
+pub RowsLeft-fault : (width : ℕ) (a b : Reader (Bor (List ℕ))) (n : ℕ) (now start : List NamedColumn) (rows : List (List (List ℕ))) (found : Bool) (fields : List (List ℕ)) (fault : ColumnFault)
     → (s : RowsLeft width a n now start rows) → GaveNext s.left found fields b → found ≡ true → row_fault width n fields ≡ Some fault
     → rows_fault width 1 rows ≡ Some fault
 RowsLeft-fault width a b n now start rows found fields fault s gave some bad =

@@ -6,7 +6,8 @@ use Rattle.std.proofs.lemmas.List.{reverse-append, reverse-reverse}
 use Rattle.std.proofs.lemmas.List.Folds.{list_all-append}
 use Rattle.std.specs.List.{list_all}
 use Rattle.std.specs.Char.{is_ascii_digit}
-use Rattle.columns.specs.Cell.{Spells, IsSigned, digits_value, drop_blanks, in_range, is_blank, number_of, signed_digits, signed_number}
+use Rattle.columns.specs.Cell.{Spells, IsSigned, digits_value, is_blank}
+use Rattle.columns.specs.Number.{drop_blanks, in_range, number_of, signed_digits, signed_number}
 
 both : (a b : Bool) → (a && b) ≡ true → (a ≡ true) × (b ≡ true)
 both true b h = (refl, h)

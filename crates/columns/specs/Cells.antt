@@ -3,17 +3,17 @@ use Rattle.std.specs.Prelude.{◌≡◌, ◌≢◌, ℕ, List, Result, Ok, Err, 
 use Rattle.csv.specs.Reading.{default_config, records, strip_bom}
 use Rattle.columns.specs.declared.fault.ColumnFault.{ColumnFault}
 use Rattle.columns.specs.declared.fault.ColumnFault.TheVariants.{Read, NoMemory}
-use Rattle.columns.specs.Table.{Named, table_of}
+use Rattle.columns.specs.Table.{NamedColumn, table_of}
 
 -- the records of the bytes, as `csv` defines them with its defaults, one byte order mark at the start passed over
 abbrev pub records_of : List ℕ → List (List (List ℕ))
 records_of bytes = records default_config (strip_bom bytes)
 
 -- the columns that the bytes of a file give, or the first reason why they give none
-abbrev pub cells_of : List ℕ → Result (List Named) ColumnFault
+abbrev pub cells_of : List ℕ → Result (List NamedColumn) ColumnFault
 cells_of bytes = table_of (records_of bytes)
 
 -- an answer is that of the bytes, or says that a read failed or that memory was refused
-abbrev pub Tells : List ℕ → Result (List Named) ColumnFault → Type 0
+abbrev pub Tells : List ℕ → Result (List NamedColumn) ColumnFault → Type 0
 Tells bytes answer =
     MatchResult answer (λ columns. cells_of bytes ≡ Ok columns) (λ fault. fault ≢ Read → fault ≢ NoMemory → cells_of bytes ≡ Err fault)

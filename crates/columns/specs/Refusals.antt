@@ -5,7 +5,7 @@ use Rattle.std.specs.Option.{option_or}
 use Rattle.std.specs.Str.{bytes_eq}
 use Rattle.columns.specs.declared.fault.ColumnFault.{ColumnFault}
 use Rattle.columns.specs.declared.fault.ColumnFault.TheVariants.{NoHeader, SameName, BadNumber, RowLength, TooManyColumns, Read, NoMemory}
-use Rattle.columns.specs.Cell.{number_of}
+use Rattle.columns.specs.Number.{number_of}
 
 -- whether two names are equal
 abbrev pub has_twice : List (List ℕ) → Bool

@@ -5,11 +5,11 @@ use Rattle.std.specs.Option.{option_or}
 use Rattle.std.specs.Str.{bytes_eq}
 use Rattle.columns.specs.declared.fault.ColumnFault.{ColumnFault}
 use Rattle.columns.specs.declared.fault.ColumnFault.TheVariants.{NoHeader}
-use Rattle.columns.specs.Cell.{number_of}
+use Rattle.columns.specs.Number.{number_of}
 use Rattle.columns.specs.Refusals.{header_fault, rows_fault}
 
 -- a column: its name, and its numbers from the top
-pub record Named : Type 0 where
+pub record NamedColumn : Type 0 where
   pub name : List ℕ
   pub cells : List ℤ
 
@@ -19,22 +19,22 @@ first_number [] = pos 0
 first_number (cell ∷ cells) = unwrap_or (number_of cell) (pos 0)
 
 -- the columns under these names: the first numbers of the rows, and then those to the right of them
-abbrev pub columns_under : List (List ℕ) → List (List (List ℕ)) → List Named
+abbrev pub columns_under : List (List ℕ) → List (List (List ℕ)) → List NamedColumn
 columns_under [] rows = []
 columns_under (name ∷ names) rows =
     record { name = name; cells = map first_number rows } ∷ columns_under names (map (drop 1) rows)
 
 -- these columns, unless there is a fault
-abbrev pub unless : Option ColumnFault → List Named → Result (List Named) ColumnFault
+abbrev pub unless : Option ColumnFault → List NamedColumn → Result (List NamedColumn) ColumnFault
 unless None columns = Ok columns
 unless (Some fault) columns = Err fault
 
 -- the table of some records, of which the first is the header: its columns, or the first fault of the header and then of the rows
-abbrev pub table_of : List (List (List ℕ)) → Result (List Named) ColumnFault
+abbrev pub table_of : List (List (List ℕ)) → Result (List NamedColumn) ColumnFault
 table_of [] = Err NoHeader
 table_of (header ∷ rows) =
     unless (option_or (header_fault header) (rows_fault (length header) 1 rows)) (columns_under header rows)
 
 -- the numbers under a name
-abbrev pub cells_named : List ℕ → List Named → Option (List ℤ)
+abbrev pub cells_named : List ℕ → List NamedColumn → Option (List ℤ)
 cells_named name columns = option_map (λ c. c.cells) (find (λ c. bytes_eq c.name name) columns)

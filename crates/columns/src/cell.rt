@@ -4,7 +4,8 @@ ghost use Rattle.std.specs.Option.{SomeIff};
 ghost use Rattle.std.specs.Int.{w64};
 ghost use Rattle.std.specs.List.{list_all};
 ghost use Rattle.std.specs.Char.{is_ascii_digit};
-ghost use Rattle.columns.specs.Cell.{Spells, digits_value, drop_blanks, is_blank, number_of, signed_digits, signed_number};
+ghost use Rattle.columns.specs.Cell.{Spells, digits_value, is_blank};
+ghost use Rattle.columns.specs.Number.{drop_blanks, number_of, signed_digits, signed_number};
 
 /// The number that a cell spells in decimal digits, with spaces and tabs around it and one sign
 /// before it, or none. There may be any number of digits, of which the first ones may be zeros.
@@ -27,7 +28,7 @@ fn signed(text: &[u8]) -> Option<i64>
     }
 }
 
-fn blank(byte: u8) -> bool
+fn is_blank(byte: u8) -> bool
     ensures { result ≡ is_blank byte }
 {
     byte == b' ' || byte == b'\t'
@@ -38,7 +39,7 @@ fn without_first_blanks(cell: &[u8]) -> &[u8]
 {
     let mut rest = cell;
     while let [first, more @ ..] = rest {
-        if !blank(*first) {
+        if !is_blank(*first) {
             break;
         }
         rest = more;
@@ -51,7 +52,7 @@ fn without_last_blanks(cell: &[u8]) -> &[u8]
 {
     let mut rest = cell;
     while let [more @ .., last] = rest {
-        if !blank(*last) {
+        if !is_blank(*last) {
             break;
         }
         rest = more;

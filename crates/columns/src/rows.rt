@@ -3,7 +3,7 @@ ghost use Rattle.std.specs.Prelude.{◌≡◌, ◌≢◌, [], ℕ, List, None, S
 ghost use Rattle.std.specs.List.{list_any};
 ghost use Rattle.std.specs.Str.{bytes_eq};
 ghost use Rattle.csv.specs.Records.{fields_of};
-ghost use Rattle.columns.specs.Cell.{number_of};
+ghost use Rattle.columns.specs.Number.{number_of};
 ghost use Rattle.columns.specs.Records.{IsReading};
 ghost use Rattle.columns.specs.Refusals.{has_twice, header_fault, row_fault, rows_fault};
 ghost use Rattle.columns.specs.Table.{columns_under};

@@ -7,14 +7,14 @@ ghost use Rattle.columns.specs.Table.{cells_named};
 use std::marker::Model;
 
 /// One column: its name and its cells, from the top.
-#[derive(Drop)]
+#[derive(Debug, Drop)]
 pub(crate) struct Column {
     pub(crate) name: Vec<u8>,
     pub(crate) cells: Vec<i64>,
 }
 
 /// The columns of a file, in its order, all of one length and each under a name of its own.
-#[derive(Drop)]
+#[derive(Debug, Drop)]
 pub struct Columns {
     // `None` is no column: an empty vector would want an allocator.
     columns: Option<Vec<Column>>,
@@ -22,10 +22,10 @@ pub struct Columns {
 
 impl Model for Columns {
     ghost use Rattle.std.specs.Prelude.{List, map};
-    ghost use Rattle.columns.specs.Table.{Named};
+    ghost use Rattle.columns.specs.Table.{NamedColumn};
     ghost use Rattle.columns.specs.TableOfColumns.{named, columns_in};
 
-    ghost Value = { List Named };
+    ghost Value = { List NamedColumn };
 
     ghost view = { λ c. map named (columns_in c.columns) };
 }

@@ -1,5 +1,5 @@
 use Rattle.std.proofs.Common.{ap, ◌∙◌, reverse}
-use Rattle.columns.specs.Cell.{number_of, drop_blanks, signed_number}
+use Rattle.columns.specs.Number.{number_of, drop_blanks, signed_number}
 use Rattle.columns.proofs.SpelledNumbers.{Spells-if_some, number_of-Spells}
 use Rattle.columns.proofs.cell.read_cell.Goals as goal
 

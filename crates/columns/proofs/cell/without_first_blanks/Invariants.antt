@@ -1,5 +1,5 @@
 use Rattle.std.proofs.Common.{◌≡◌, length}
-use Rattle.columns.specs.Cell.{drop_blanks}
+use Rattle.columns.specs.Number.{drop_blanks}
 use Rattle.columns.proofs.cell.without_first_blanks.Given as goal
 
 -- what is passed over so far were blanks

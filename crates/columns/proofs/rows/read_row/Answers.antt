@@ -2,7 +2,7 @@ use Rattle.std.proofs.Common.{◌≡◌, ◌<◌, ◌∙◌, ◌++◌, ◌∷◌
 use Rattle.std.proofs.lemmas.Int.{to_z-of_z}
 use Rattle.std.specs.Prelude.{is_ok, option_and_then, slice_get}
 use Rattle.csv.specs.Records.{fields_of}
-use Rattle.columns.specs.Cell.{number_of}
+use Rattle.columns.specs.Number.{number_of}
 use Rattle.columns.proofs.RowLemmas.{cell_fault_bad, cell_fault_good, number_there, put_number, row_fault_is}
 use Rattle.columns.proofs.rows.read_row.Goals as goal
 

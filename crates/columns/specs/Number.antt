@@ -1,0 +1,32 @@
+-- Meaning: the number of a cell as a function; the contract of `read_cell` says that it is the one of the grammar.
+use Rattle.std.specs.Prelude.{◌^◌, [], ◌∷◌, ◌&&◌, ◌==◌, ℕ, ℤ, pos, negsuc, neg_ℤ, List, Option, Some, None, length, reverse, nat_lt, if◌then◌else◌}
+use Rattle.std.specs.List.{list_all}
+use Rattle.std.specs.Char.{is_ascii_digit}
+use Rattle.columns.specs.Cell.{digits_value, is_blank}
+
+-- a text without the blanks at its start
+abbrev pub drop_blanks : List ℕ → List ℕ
+drop_blanks [] = []
+drop_blanks (b ∷ bs) = if is_blank b then drop_blanks bs else b ∷ bs
+
+-- a number, where it lies between -2^63 and 2^63 - 1
+abbrev pub in_range : ℤ → Option ℤ
+in_range (pos m) = if nat_lt m (2 ^ 63) then Some (pos m) else None
+in_range (negsuc m) = if nat_lt m (2 ^ 63) then Some (negsuc m) else None
+
+-- the number that one digit or more spell behind a sign
+abbrev pub signed_digits : (ℕ → ℤ) → List ℕ → Option ℤ
+signed_digits sign digits =
+    if nat_lt 0 (length digits) && list_all is_ascii_digit digits then in_range (sign (digits_value digits)) else None
+
+-- the number that a text without blanks around it spells
+abbrev pub signed_number : List ℕ → Option ℤ
+signed_number [] = None
+signed_number (b ∷ rest) =
+    if b == 45 then signed_digits (λ m. neg_ℤ (pos m)) rest
+    else if b == 43 then signed_digits pos rest
+    else signed_digits pos (b ∷ rest)
+
+-- the number that a cell spells, or none
+unfoldable pub number_of : List ℕ → Option ℤ
+number_of cell = signed_number (reverse (drop_blanks (reverse (drop_blanks cell))))
