@@ -91,10 +91,10 @@ impl Graph {
         if self.drawn(node).is_none() {
             return Err(Illegal::NoSuchNode);
         }
-        if self.held(actor, node) == 0 {
-            return Err(Illegal::NotHeld);
+        match self.held(actor, node) {
+            0 => Err(Illegal::NotHeld),
+            _ => Ok(()),
         }
-        Ok(())
     }
 
     fn check_run(&self, actor: Actor, node: Node) -> Result<(), Illegal>
