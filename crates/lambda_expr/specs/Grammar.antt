@@ -32,7 +32,7 @@ level (Compute binary_operator.Multiply) = 11
 level (Compute binary_operator.Divide) = 11
 level (Compute binary_operator.Remainder) = 11
 
--- how an operator is written
+-- how an operator is written (JLS 17, 3.12)
 abbrev pub symbol_of : Infix → Symbol
 symbol_of (Compare comparison.Equal) = symbol.Equal
 symbol_of (Compare comparison.NotEqual) = symbol.NotEqual
@@ -69,7 +69,7 @@ Binds n (group a) = Binds 1 a
 Binds n (negate a) = (n ≤ 12) × Binds 12 a
 Binds n (between o a b) = (n ≤ level o) × Binds (level o) a × Binds (suc (level o)) b
 
--- the words are this lambda: its parameter, an arrow and its body
+-- the words are this lambda: its parameter, an arrow and its body (JLS 17, 15.27)
 pub record IsLambda (ws : List Word) (parameter : List ℕ) (body : Shape) : Type 0 where
   pub free : is_reserved parameter ≡ false
   pub binds : Binds 1 body

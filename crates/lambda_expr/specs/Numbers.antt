@@ -15,6 +15,7 @@ pub data Number : Type 0 where
   plain : List ℕ → Number
   negative : List ℕ → Number
 
+-- its value, without bound (JLS 17, 3.10.1 and 15.15.4)
 abbrev pub number_value : Number → ℤ
 number_value (plain w) = pos (numeral_value w)
 number_value (negative w) = neg_ℤ (pos (numeral_value w))

@@ -6,11 +6,12 @@ use Rattle.std.specs.Char.{is_ascii_digit}
 abbrev pub read_on : ℕ → List ℕ → ℕ
 read_on n ds = fold (λ n d. 10 * n + (d - 48)) n ds
 
--- the value of a number: of its digits, a mark `L` or `l` behind them apart
+-- the value of a number: of its digits, a mark `L` or `l` behind them apart (JLS 17, 3.10.1)
 abbrev pub numeral_value : List ℕ → ℕ
 numeral_value w = read_on 0 (take_while is_ascii_digit w)
 
--- a number that may stand in a grammar: not one of two or more digits that begins with 0
+-- a number that may stand in a grammar: not one of two or more digits that begins with 0, which are octal in
+-- JLS 17, 3.10.1
 abbrev pub is_numeral : List ℕ → Bool
 is_numeral [] = false
 is_numeral (a ∷ []) = true

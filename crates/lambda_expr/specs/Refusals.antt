@@ -51,11 +51,12 @@ pub data Typed : Type 0 where
   truth : Truth → Typed
   untyped : Typed
 
+-- a minus stands before a number (JLS 17, 15.15.4)
 abbrev pub negated : Typed → Typed
 negated (long a) = long (term.unary Negate a)
 negated _ = untyped
 
--- both operands are numbers
+-- both operands are numbers (JLS 17, 15.17 to 15.21)
 abbrev pub joined : Infix → Typed → Typed → Typed
 joined (Compute o) (long a) (long b) = long (term.binary o a b)
 joined (Compare o) (long a) (long b) = truth (term.compare o a b)

@@ -283,6 +283,7 @@ fn numbers_are_worked_out_as_java_does(rt: HostRuntime) {
         let found = number_at(rt.alloc(), text, x);
         assert_eq!(rt; found, Ok(value), "{text:?}");
     }
+    assert_eq!(rt; UnaryOperator::Negate.apply(i64::MIN), i64::MIN);
 }
 
 #[test]
