@@ -1,0 +1,16 @@
+mod Counting
+mod Covering
+mod FewStages
+mod JobLists
+mod Placing
+pub mod Arguing
+pub mod Calling
+pub mod Checking
+pub mod Cutting
+pub mod Filing
+pub mod Nesting
+pub mod Numbering
+pub mod Order
+pub mod Parting
+pub mod Sourcing
+pub mod Stepping

@@ -1,0 +1,11 @@
+pub mod ArgumentReading
+pub mod Causes
+pub mod JobGrammar
+pub mod JobParts
+pub mod JobReading
+pub mod JobRefusals
+pub mod Jobs
+pub mod NumberReading
+pub mod PartReading
+pub mod Refused
+pub mod Run

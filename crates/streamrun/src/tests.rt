@@ -1,0 +1,5 @@
+// What a run writes and tells. The reports are worked out by hand, the sums and quotients by Java 17.
+
+mod refusals;
+mod reports;
+mod streams;
