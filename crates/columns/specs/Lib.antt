@@ -1,3 +1,4 @@
+-- Condition: the files of this crate's definitions; of each the first line says what it is.
 pub mod Cell
 pub mod Cells
 pub mod CountedRead

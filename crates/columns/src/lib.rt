@@ -1,13 +1,13 @@
 //! Column files: text files of whole-number columns, read into their columns or refused by their first fault.
 //!
-//! Stands on `csv`, whose own definition of the records of a text is cited here, and on `thiserror`. Used by
-//! the job reader, which takes a job's cells from `Columns::get`, and by the program. What it promises to
+//! Stands on `csv`, whose own definition of the records of a text is cited here, and on `thiserror`. It is for
+//! the job reader, which takes a job's cells from `Columns::get`, and for the program. What it promises to
 //! them: `read_columns`, clause `cells`: the columns that the bytes give, names and cells in order, or the
 //! first fault with its row and column; clause `read`: a failed read is told only where one was counted.
 //!
 //! Begin with `specs/Cells.antt` (bytes to columns), then `specs/Table.antt`, `specs/Refusals.antt` and
-//! `specs/Cell.antt` (the grammar of one number); of the code with `reading.rt`. What is known of `csv` stands
-//! in `records.rt`. `counted_read.rt` needs nothing else of the crate.
+//! `specs/Cell.antt` (the grammar of one number); of the code with `reading.rt`. `records.rt` alone opens a
+//! `csv` reader, and `counted_read.rt` needs nothing else of the crate.
 //!
 //! Not promised: anything of the bytes that a file or a pipe holds, and that there is enough memory.
 #![tactic(auto)]
@@ -26,5 +26,4 @@ pub use cell::read_cell;
 pub use counted_read::{Counted, CountedRead, ReadAllFault, read_all_of};
 pub use fault::ColumnFault;
 pub use reading::read_columns;
-pub use std::alloc::AllocError as NoMemory;
 pub use table::Columns;

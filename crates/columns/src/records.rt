@@ -1,4 +1,4 @@
-//! The records of a text, one after another. What is known of `csv` is here.
+//! The records of a text, one after another.
 ghost use Rattle.std.specs.Prelude.{ℕ, List, IfOk};
 ghost use Rattle.csv.specs.Records.{fields_of};
 ghost use Rattle.columns.specs.Cells.{records_of};
