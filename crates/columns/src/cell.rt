@@ -78,8 +78,10 @@ const TOO_LARGE_FOR_MORE: u64 = 1_000_000_000_000_000_000;
 /// What one digit or more are worth, where it is below 10^19.
 #[tactic(auto, using(crate::proofs::CellLemmas::digits_value_more))]
 fn magnitude(digits: &[u8]) -> Option<u64>
-    ensures digits { IfSome result (λ m. (0 < length digits.now) × (list_all is_ascii_digit digits.now ≡ true) × (m ≡ digits_value digits.now)) }
-    ensures none { IfNone result ((length digits.now ≡ 0) ⊎ (list_all is_ascii_digit digits.now ≡ false) ⊎ (10 ^ 19 ≤ digits_value digits.now)) }
+    ensures digits { IfSome result (λ m. (0 < length digits.now)
+        × (list_all is_ascii_digit digits.now ≡ true) × (m ≡ digits_value digits.now)) }
+    ensures none { IfNone result ((length digits.now ≡ 0)
+        ⊎ (list_all is_ascii_digit digits.now ≡ false) ⊎ (10 ^ 19 ≤ digits_value digits.now)) }
 {
     if digits.is_empty() {
         return None;

@@ -91,7 +91,7 @@ pub enum ReadAllFault {
 /// How many bytes are reserved before the first read.
 const FIRST_ROOM: usize = 64 * 1024;
 
-/// How many bytes one read asks for at most: few enough to be in a processor's cache when they are filled.
+/// How many bytes one read asks for at most: few enough to be still in a cache when it fills them.
 const LONGEST_READ: usize = 256 * 1024;
 
 /// All bytes that the reader has left.
@@ -145,7 +145,8 @@ fn read_more<R: CountedRead>(
     requires { filled ≤ vec_len bytes.old }
     ensures front { OnOk result (take filled bytes.new.items ≡ take filled bytes.old.items) }
     ensures fits { IfOk result (λ n. filled + n ≤ vec_len bytes.new) }
-    ensures ok { IfOk result (λ n. Consumes (R.remaining reader.old) (R.remaining reader.new) (take n (drop filled bytes.new.items))) }
+    ensures ok { IfOk result (λ n. Consumes (R.remaining reader.old) (R.remaining reader.new)
+        (take n (drop filled bytes.new.items))) }
     ensures end { IfOk result (λ n. n ≡ 0 → IsAtEnd (R.remaining reader.new)) }
     ensures err { OnErr result (Keeps (R.remaining reader.old) (R.remaining reader.new)) }
     ensures failed { IfErr result (λ fault. fault ≡ ReadAllFault.Failed
@@ -163,7 +164,8 @@ fn read_at<R: CountedRead>(reader: &mut R, buf: &mut [u8], at: usize) -> Result<
     requires { at < length buf.old }
     ensures front { take at buf.new ≡ take at buf.old }
     ensures fits { IfOk result (λ n. at + n ≤ length buf.new) }
-    ensures ok { IfOk result (λ n. Consumes (R.remaining reader.old) (R.remaining reader.new) (take n (drop at buf.new))) }
+    ensures ok { IfOk result (λ n. Consumes (R.remaining reader.old) (R.remaining reader.new)
+        (take n (drop at buf.new))) }
     ensures end { IfOk result (λ n. n ≡ 0 → IsAtEnd (R.remaining reader.new)) }
     ensures err { OnErr result (Keeps (R.remaining reader.old) (R.remaining reader.new)) }
     ensures failed { OnErr result (HasRisen (R.failures reader.old) (R.failures reader.new)) }
@@ -175,7 +177,8 @@ fn read_at<R: CountedRead>(reader: &mut R, buf: &mut [u8], at: usize) -> Result<
 /// One read, made again where it was interrupted.
 fn read_retrying<R: CountedRead>(reader: &mut R, buf: &mut [u8]) -> Result<usize, ReadAllFault>
     ensures bound { ReadsAtMost result buf.new }
-    ensures ok { IfOk result (λ n. Consumes (R.remaining reader.old) (R.remaining reader.new) (take n buf.new)) }
+    ensures ok { IfOk result (λ n. Consumes (R.remaining reader.old) (R.remaining reader.new)
+        (take n buf.new)) }
     ensures end { IfOk result (λ n. n ≡ 0 → 0 < length buf.old → IsAtEnd (R.remaining reader.new)) }
     ensures err { OnErr result (Keeps (R.remaining reader.old) (R.remaining reader.new)) }
     ensures failed { OnErr result (HasRisen (R.failures reader.old) (R.failures reader.new)) }

@@ -56,8 +56,8 @@ fn columns_in(alloc: Global, bytes: &[u8]) -> Result<Columns, ColumnFault>
 /// How many bytes at the start of a file tell how long its lines are.
 const SAMPLE: usize = 64 * 1024;
 
-/// How many rows to expect: as many as there were if the first lines told the length of all. It is no more
-/// than a file of numbers can have, whose rows take two bytes or more for each cell.
+/// How many rows to expect: as many as there were if the first lines told the length of all, and no
+/// more than a file of numbers can have, whose rows take two bytes or more for each cell.
 fn rows_to_expect(bytes: &[u8], columns: usize) -> usize {
     let sample = &bytes[..bytes.len().min(SAMPLE)];
     let line_feeds = sample.iter().filter(|byte| **byte == b'\n').count();

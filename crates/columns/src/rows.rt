@@ -26,8 +26,10 @@ pub(crate) fn columns_of_header(
     rows: usize,
 ) -> Result<Vec<Column>, ColumnFault>
     ensures fits { OnOk result (header_fault (fields_of header.now) ≡ None) }
-    ensures ok { IfOk result (λ columns. map named columns.items ≡ columns_under (fields_of header.now) []) }
-    ensures refused { IfErr result (λ fault. fault ≢ ColumnFault.NoMemory → header_fault (fields_of header.now) ≡ Some fault) }
+    ensures ok { IfOk result (λ columns.
+        map named columns.items ≡ columns_under (fields_of header.now) []) }
+    ensures refused { IfErr result (λ fault. fault ≢ ColumnFault.NoMemory
+        → header_fault (fields_of header.now) ≡ Some fault) }
     ensures unread { IfErr result (λ fault. fault ≢ ColumnFault.Read) }
 {
     if header.len() > MOST_COLUMNS {
@@ -41,7 +43,8 @@ pub(crate) fn columns_of_header(
 }
 
 fn columns_named(alloc: Global, header: &ByteRecord, rows: usize) -> Result<Vec<Column>, AllocError>
-    ensures { IfOk result (λ columns. map named columns.items ≡ columns_under (fields_of header.now) []) }
+    ensures { IfOk result (λ columns.
+        map named columns.items ≡ columns_under (fields_of header.now) []) }
 {
     let mut columns = Vec::with_capacity(alloc, header.len())?;
     for name in header.iter() {
@@ -75,7 +78,8 @@ fn is_named(columns: &[Column], name: &[u8]) -> bool
 /// Puts the numbers of one row under the others.
 fn read_row(columns: &mut [Column], row: &ByteRecord, number: usize) -> Result<(), ColumnFault>
     ensures fits { OnOk result (row_fault (length columns.old) number (fields_of row.now) ≡ None) }
-    ensures ok { OnOk result (map named columns.new ≡ with_row (map named columns.old) (fields_of row.now)) }
+    ensures ok { OnOk result
+        (map named columns.new ≡ with_row (map named columns.old) (fields_of row.now)) }
     ensures refused { IfErr result (λ fault. fault ≢ ColumnFault.NoMemory
         → row_fault (length columns.old) number (fields_of row.now) ≡ Some fault) }
     ensures unread { IfErr result (λ fault. fault ≢ ColumnFault.Read) }
@@ -113,7 +117,8 @@ pub(crate) fn read_rows(
     ensures rows { (rows : List (List (List ℕ))) → IsReading reader.old rows → MatchResult result
         (λ _. (rows_fault (length columns.old) 1 rows ≡ None)
         × (map named columns.new ≡ with_rows (map named columns.old) rows))
-        (λ fault. fault ≢ ColumnFault.NoMemory → rows_fault (length columns.old) 1 rows ≡ Some fault) }
+        (λ fault. fault ≢ ColumnFault.NoMemory
+        → rows_fault (length columns.old) 1 rows ≡ Some fault) }
     ensures unread { IfErr result (λ fault. fault ≢ ColumnFault.Read) }
 {
     for number in 1..usize::MAX {
