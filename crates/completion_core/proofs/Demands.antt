@@ -6,7 +6,7 @@ use Rattle.completion_core.specs.declared.action.Illegal.{Illegal}
 use Rattle.completion_core.specs.declared.action.Illegal.TheVariants.{NoSuchNode, NotClaimedHere, AlreadyArmed, NotHeld, NotFinisher, OnwardNotEarlier, TooMany, NoMemory}
 use Rattle.completion_core.specs.Graph.{Graph}
 use Rattle.completion_core.specs.Legal.{Legal}
-use Rattle.completion_core.specs.Runs.{IsArm}
+use Rattle.completion_core.specs.Steps.{IsArm}
 use Rattle.completion_core.specs.Refusals.{rank, Meets, IsRefusal}
 
 pub legal_meets : (action : Action) (g : Graph) → Legal action g → (demand : Illegal) → rank demand < 7 → Meets demand action g

@@ -24,12 +24,3 @@ log (Give a b node k ∷ rest) = log rest
 log (Arrive a node ∷ rest) = log rest
 log (Run a node ∷ rest) = node ∷ log rest
 log (Settle a ∷ rest) = log rest
-
-abbrev pub IsArm : Action → Type 0
-IsArm (Arm a node pending onward) = ⊤
-IsArm (Claim a) = ⊥
-IsArm (Add a node d) = ⊥
-IsArm (Give a b node k) = ⊥
-IsArm (Arrive a node) = ⊥
-IsArm (Run a node) = ⊥
-IsArm (Settle a) = ⊥

@@ -1,6 +1,7 @@
 -- Condition: what the two halves of a step say of a book, for every graph that it stands for.
-use Rattle.std.specs.Prelude.{◌≡◌, MatchResult, Result}
+use Rattle.std.specs.Prelude.{◌≡◌, MatchResult, Result, ⊤}
 use Rattle.completion_core.specs.declared.action.Action.{Action}
+use Rattle.completion_core.specs.declared.action.Action.TheVariants.{Claim, Arm, Add, Give, Arrive, Run, Settle}
 use Rattle.completion_core.specs.declared.action.Reply.{Reply}
 use Rattle.completion_core.specs.declared.action.Illegal.{Illegal}
 use Rattle.completion_core.specs.declared.action.Illegal.TheVariants.{TooMany, NoMemory}
@@ -24,3 +25,13 @@ IsTaken action old new answer = (g : Graph) → StandsFor old g → (answer ≡ 
 -- the action needs memory, which may be refused
 abbrev pub MayWant : Action → Book → Type 0
 MayWant action b = (g : Graph) → StandsFor b g → ¬ Meets NoMemory action g
+
+-- an action that has a list, whose copy needs memory
+abbrev pub IsArm : Action → Type 0
+IsArm (Arm a node pending onward) = ⊤
+IsArm (Claim a) = ⊥
+IsArm (Add a node d) = ⊥
+IsArm (Give a b node k) = ⊥
+IsArm (Arrive a node) = ⊥
+IsArm (Run a node) = ⊥
+IsArm (Settle a) = ⊥

@@ -91,7 +91,7 @@ pub enum Illegal {
 }
 
 impl Clone for Action {
-    ghost use Rattle.completion_core.specs.Runs.{IsArm};
+    ghost use Rattle.completion_core.specs.Steps.{IsArm};
 
     /// Needs memory for the nodes of an `Arm` alone.
     fn clone(&self) -> Result<Action, AllocError>

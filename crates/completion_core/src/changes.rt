@@ -101,8 +101,8 @@ impl Graph {
         requires { IsAllowed (Run actor node) self.old }
         ensures { MatchResult result (λ answer. IsTaken (Run actor node) self.old self.new answer) (λ _. self.new ≡ self.old) }
     {
-        self.holdings
-            .reserve(self.states[node as usize].kept.len())?;
+        let entries = self.states[node as usize].kept.len();
+        self.holdings.reserve(entries)?;
         let state = &mut self.states[node as usize];
         state.ran = true;
         let kept = mem::replace(&mut state.kept, Nodes::none(self.alloc));

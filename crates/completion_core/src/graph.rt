@@ -4,11 +4,12 @@ ghost use Rattle.completion_core.specs.Graph.{start};
 ghost use Rattle.completion_core.specs.Legal.{count};
 ghost use Rattle.completion_core.specs.Book.{StandsFor, state_of, held_in};
 
+use crate::NoMemory;
 use crate::action::{Actor, Node};
 use crate::holdings::Holdings;
 use crate::node_state::NodeState;
 use crate::nodes::Nodes;
-use std::alloc::{AllocError, Global};
+use std::alloc::Global;
 use std::marker::Model;
 
 /// The node that is there from the beginning, owes an arrival for each end and is never armed or run.
@@ -36,7 +37,7 @@ impl Model for Graph {
 
 impl Graph {
     /// A graph in which nodes 1 to `nodes` may be drawn, and actor 0 holds the `ends` arrivals that are owed to END.
-    pub fn new(alloc: Global, nodes: u32, ends: u64) -> Result<Graph, AllocError>
+    pub fn new(alloc: Global, nodes: u32, ends: u64) -> Result<Graph, NoMemory>
         ensures { IfOk result (λ graph. StandsFor graph (start nodes ends)) }
     {
         let mut states = Vec::new(alloc);

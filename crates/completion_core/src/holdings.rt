@@ -6,7 +6,7 @@ use crate::nodes::Nodes;
 use std::alloc::{AllocError, Global};
 use std::collections::HashMap;
 
-/// Numbers of arrivals by node and actor; an actor that holds none at a node has no entry there.
+/// Numbers of arrivals by node and actor. An actor that gave away or made all that it held at a node has no entry there.
 #[derive(Drop)]
 pub struct Holdings {
     entries: HashMap<(Node, Actor), u64>,
@@ -47,6 +47,7 @@ impl Holdings {
         ensures room { room self.old ≤ room self.new + 1 }
     {
         let had = self.get(actor, node);
+        // There is an entry, or room for one.
         let _ = self.entries.insert((node, actor), had + k);
     }
 
@@ -59,6 +60,7 @@ impl Holdings {
         if had == k {
             self.entries.remove(&(node, actor));
         } else {
+            // There is an entry.
             let _ = self.entries.insert((node, actor), had - k);
         }
     }

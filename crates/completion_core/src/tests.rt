@@ -331,3 +331,35 @@ fn a_run_is_for_the_one_who_arrived_last(rt: HostRuntime) -> Result<(), Fail> {
     );
     Ok(())
 }
+
+/// Takes an action, and once more where memory was refused: the graph is as it was then.
+fn persists(graph: &mut Graph, action: &Action) -> Result<Reply, Fail> {
+    match step(graph, action.clone()?) {
+        Err(Illegal::NoMemory) => Ok(step(graph, action.clone()?)?),
+        answer => Ok(answer?),
+    }
+}
+
+#[test]
+fn an_action_refused_for_memory_can_be_taken_again(rt: HostRuntime) -> Result<(), Fail> {
+    let alloc = rt.alloc();
+    let steps = [
+        (claim(0), Reply::Node(1)),
+        (arm_onto(alloc, 0, 1, 1, &[0])?, Reply::Done),
+        (claim(1), Reply::Node(2)),
+        (give(0, 1, 1, 1), Reply::Done),
+        (arm_onto(alloc, 1, 2, 0, &[1])?, Reply::Done),
+        (give(1, 2, 2, 1), Reply::Done),
+        (arrive(2, 2), Reply::Last),
+        (run(2, 2), Reply::Done),
+        (arrive(2, 1), Reply::Pending(0)),
+        (arrive(0, 1), Reply::Last),
+        (run(0, 1), Reply::Done),
+        (settle(0), Reply::Done),
+    ];
+    let mut graph = Graph::new(alloc, 2, 1)?;
+    for (action, reply) in &steps {
+        assert_eq!(rt; persists(&mut graph, action)?, *reply, "{action:?}");
+    }
+    Ok(())
+}
