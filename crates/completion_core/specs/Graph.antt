@@ -31,9 +31,11 @@ same (Kept i) Made = false
 same (Kept i) (Held b) = false
 same (Kept i) (Kept j) = i == j
 
+-- 1 for an arrival in these hands, and 0 for any other
 abbrev pub one_same : Arrival → Arrival → ℕ
 one_same z x = if same z x then 1 else 0
 
+-- 1 for an arrival that isn't made, and 0 for one that is
 abbrev pub not_made : Arrival → ℕ
 not_made Made = 0
 not_made (Held a) = 1

@@ -35,6 +35,7 @@ count i nodes = total (only_at i 1) nodes
 abbrev pub upd : {A : Type 0} → (ℕ → A) → ℕ → A → ℕ → A
 upd f i x j = if j == i then x else f j
 
+-- the actor may do this now
 abbrev pub Legal : Action → Graph → Type 0
 -- drawing a node is always legal, also where none is left
 Legal (Claim a) g = ⊤
@@ -53,6 +54,7 @@ Legal (Run a node) g = IsDrawn g node × (g.ran node ≡ false) × (left (g.arri
 -- a held arrival at END is made
 Legal (Settle a) g = 0 < amount (Held a) (g.arrivals 0)
 
+-- the graph after the action
 abbrev pub after : Action → Graph → Graph
 -- the next node is the actor's, where there is one
 after (Claim a) g =
@@ -84,6 +86,7 @@ abbrev pub reply_of_arrival : ℕ → Reply
 reply_of_arrival zero = Last
 reply_of_arrival (suc pending) = Pending pending
 
+-- the answer to the action: a claim tells the node that it drew, and an arrival how many may come before the last
 abbrev pub reply : Action → Graph → Reply
 reply (Claim a) g = if nat_lt g.drawn g.nodes then Node (g.drawn + 1) else NoNode
 reply (Arm a node pending onward) g = Done

@@ -46,6 +46,7 @@ Meets NoMemory (Run a node) g = ⊥
 -- nothing else is demanded
 Meets demand action g = ⊤
 
+-- the action doesn't meet this demand, and it meets all that come before it in the order
 abbrev pub IsRefusal : Illegal → Action → Graph → Type 0
 IsRefusal reason action g =
     ((demand : Illegal) → rank demand < rank reason → Meets demand action g) × ¬ Meets reason action g

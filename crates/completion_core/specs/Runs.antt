@@ -10,6 +10,7 @@ abbrev pub LegalAll : List Action → Graph → Type 0
 LegalAll [] g = ⊤
 LegalAll (action ∷ rest) g = Legal action g × LegalAll rest (after action g)
 
+-- the graph after all of them
 abbrev pub after_all : List Action → Graph → Graph
 after_all [] g = g
 after_all (action ∷ rest) g = after_all rest (after action g)
