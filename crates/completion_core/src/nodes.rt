@@ -33,6 +33,14 @@ impl Nodes {
         Nodes { items }
     }
 
+    /// The vector of the nodes, in their order.
+    pub fn into_vec(self) -> Vec<Node>
+        ensures { result.items ≡ self }
+    {
+        let Nodes { items } = self;
+        items
+    }
+
     /// No nodes.
     pub fn none(alloc: Global) -> Nodes
         ensures { result ≡ [] }

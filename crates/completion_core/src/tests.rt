@@ -84,6 +84,14 @@ fn refuses(rt: &impl Abort, alloc: Global, reason: Illegal, index: usize, action
 }
 
 #[test]
+fn nodes_stand_in_ascending_order(rt: HostRuntime) -> Result<(), Fail> {
+    let nodes = Nodes::new([2, 0, 2, 1].to_vec(rt.alloc())?);
+    assert_eq!(rt; nodes.clone()?.as_slice(), [0, 1, 2, 2].as_slice());
+    assert_eq!(rt; nodes.into_vec().as_slice(), [0, 1, 2, 2].as_slice());
+    Ok(())
+}
+
+#[test]
 fn an_arrival_is_given_and_made_by_another_actor(rt: HostRuntime) -> Result<(), Fail> {
     let alloc = rt.alloc();
     let steps = [
