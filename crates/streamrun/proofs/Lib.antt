@@ -10,6 +10,8 @@ pub mod Cutting
 pub mod Filing
 pub mod Nesting
 pub mod Numbering
+pub mod OneFile
+pub mod OneShape
 pub mod Order
 pub mod Parting
 pub mod Sourcing

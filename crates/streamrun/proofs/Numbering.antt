@@ -34,7 +34,7 @@ plain_words : (text : List ℕ) (ts : List Token) → HaveNoComma ts → Plain (
 plain_words text [] h = tt
 plain_words text (t ∷ ts) h = (λ e. h.0 (kind_of_sign t.kind (token_text text t) symbol.Comma e), plain_words text ts h.1)
 
-plain_number : (ws : List Word) (n : Number) → IsNumber ws n → Plain ws
+pub plain_number : (ws : List Word) (n : Number) → IsNumber ws n → Plain ws
 plain_number ws (plain w) h = subst Plain h.1 (λ e. cc, tt)
 plain_number ws (negative w) h = subst Plain h.1 (λ e. cc, (λ e. cc, tt))
 
@@ -48,7 +48,7 @@ one_split (v ∷ a) (w ∷ b) x y p q e =
     let rest = one_split a b x y p.1 q.1 tails in
     (ap (λ (u : Word). u ∷ a) head ∙ ap (λ (us : List Word). w ∷ us) rest.0, rest.1)
 
-no_split : (ws a x : List Word) → Plain ws → ws ≡ a ++ sign symbol.Comma ∷ x → ⊥
+pub no_split : (ws a x : List Word) → Plain ws → ws ≡ a ++ sign symbol.Comma ∷ x → ⊥
 no_split [] [] x p e = cc
 no_split [] (w ∷ a) x p e = cc
 no_split (v ∷ ws) [] x p e = p.0 cc
@@ -71,12 +71,12 @@ up_to_words text ts first comma rest h e =
     ap (words_of text) e ∙ words_append text first (comma ∷ rest)
     ∙ ap (λ (w : Word). words_of text first ++ w ∷ words_of text rest) (word_is_sign text comma symbol.Comma h)
 
-only_last : (ws : List Word) (n : Number) → Plain ws → IsNumber ws n → (ns : List Number) → AreNumbers ws ns → ns ≡ n ∷ []
+pub only_last : (ws : List Word) (n : Number) → Plain ws → IsNumber ws n → (ns : List Number) → AreNumbers ws ns → ns ≡ n ∷ []
 only_last ws n p h [] k = absurd (no_empty_number n (subst (λ (vs : List Word). IsNumber vs n) k h))
 only_last ws n p h (m ∷ []) k = ap (λ (x : Number). x ∷ []) (one_number ws m n k h)
 only_last ws n p h (m ∷ l ∷ ns) k = absurd (no_split ws k.0 k.1 p k.2)
 
-only_before : (ws a b : List Word) (n : Number) → ws ≡ a ++ sign symbol.Comma ∷ b → Plain a → IsNumber a n → (ns : List Number) → ns ≢ [] → AreNumbers ws ns → (ms : List Number) × (ns ≡ n ∷ ms) × (ms ≢ []) × AreNumbers b ms
+pub only_before : (ws a b : List Word) (n : Number) → ws ≡ a ++ sign symbol.Comma ∷ b → Plain a → IsNumber a n → (ns : List Number) → ns ≢ [] → AreNumbers ws ns → (ms : List Number) × (ns ≡ n ∷ ms) × (ms ≢ []) × AreNumbers b ms
 only_before ws a b n e p h [] some_numbers k = absurd (some_numbers refl)
 only_before ws a b n e p h (m ∷ []) some_numbers k = absurd (no_split ws a b (plain_number ws m k) e)
 only_before ws a b n e p h (m ∷ l ∷ ns) some_numbers k =
@@ -136,7 +136,7 @@ begins_none text ts first (Some rest) up h ns k = none_before (words_of text ts)
 
 -- ---- whether there are any
 
-none_of_none : (ns : List Number) → AreNumbers [] ns → ns ≡ []
+pub none_of_none : (ns : List Number) → AreNumbers [] ns → ns ≡ []
 none_of_none [] h = refl
 none_of_none (n ∷ []) h = absurd (no_empty_number n h)
 none_of_none (n ∷ m ∷ ns) h = absurd (no_split [] h.0 h.1 tt h.2)

@@ -30,21 +30,21 @@ step_shorter text ts cut rest b =
 pub step_order : (text : List ℕ) (ts : List Token) (cut : Cut) (rest : List Token) → BeginsWithStep text ts cut rest → StandInOrder 0 cut.inner.now (length text)
 step_order text ts cut rest b = subst (λ (us : List Token). StandInOrder 0 us (length text)) (sym b.begins.inner) b.begins.inner_order
 
-last_is : (text : List ℕ) (ts : List Token) (dot : Token) (c : Call) (rest : List Token) → IsWellCut c → ts ≡ dot ∷ (call_tokens c ++ rest) → (t : TerminalTerm) → AreSteps text ts [] t → (rest ≡ []) × IsTerminal text c t
+pub last_is : (text : List ℕ) (ts : List Token) (dot : Token) (c : Call) (rest : List Token) → IsWellCut c → ts ≡ dot ∷ (call_tokens c ++ rest) → (t : TerminalTerm) → AreSteps text ts [] t → (rest ≡ []) × IsTerminal text c t
 last_is text ts dot c rest h e t k =
     let both : dot ∷ (call_tokens c ++ rest) ≡ k.0 ∷ call_tokens k.1 = sym e ∙ k.2 in
     let tails : call_tokens c ++ rest ≡ call_tokens k.1 = cc in
     let same = one_call c k.1 rest [] h (terminal_well text k.1 t k.4) (tails ∙ sym (append-nil (call_tokens k.1))) in
     (same.1, subst (λ (d : Call). IsTerminal text d t) (sym same.0) k.4)
 
-next_is : (text : List ℕ) (ts : List Token) (dot : Token) (c : Call) (rest : List Token) → IsWellCut c → ts ≡ dot ∷ (call_tokens c ++ rest) → (g : StageShape) (gs : List StageShape) (t : TerminalTerm) → AreSteps text ts (g ∷ gs) t → IsStage text c g × AreSteps text rest gs t
+pub next_is : (text : List ℕ) (ts : List Token) (dot : Token) (c : Call) (rest : List Token) → IsWellCut c → ts ≡ dot ∷ (call_tokens c ++ rest) → (g : StageShape) (gs : List StageShape) (t : TerminalTerm) → AreSteps text ts (g ∷ gs) t → IsStage text c g × AreSteps text rest gs t
 next_is text ts dot c rest h e g gs t k =
     let both : dot ∷ (call_tokens c ++ rest) ≡ k.0 ∷ (call_tokens k.1 ++ k.2) = sym e ∙ k.3 in
     let tails : call_tokens c ++ rest ≡ call_tokens k.1 ++ k.2 = cc in
     let same = one_call c k.1 rest k.2 h (stage_well text k.1 g k.5) tails in
     (subst (λ (d : Call). IsStage text d g) (sym same.0) k.5, subst (λ (us : List Token). AreSteps text us gs t) (sym same.1) k.6)
 
-no_steps : (text : List ℕ) (gs : List StageShape) (t : TerminalTerm) → AreSteps text [] gs t → ⊥
+pub no_steps : (text : List ℕ) (gs : List StageShape) (t : TerminalTerm) → AreSteps text [] gs t → ⊥
 no_steps text [] t h = let e = h.2 in cc
 no_steps text (g ∷ gs) t h = let e = h.3 in cc
 

@@ -6,6 +6,7 @@ pub mod checks;
 pub mod fault;
 pub mod file;
 pub mod job;
+pub mod laws;
 pub mod nums;
 pub mod parts;
 pub mod sources;
