@@ -37,6 +37,12 @@ fn a_file_gives_each_column_under_its_name(rt: HostRuntime) -> Result<(), Fail> 
         // A header alone has empty columns.
         (b"a,b\n", b"b", &[]),
         (b"a,b", b"a", &[]),
+        // A hundred digits, nearly all of them zeros.
+        (
+            b"a\n-0000000000000000000000000000000000000000000000000000000000000000000000000000000000000000000000000042\n",
+            b"a",
+            &[-42],
+        ),
         (
             b"a\n9223372036854775807\n-9223372036854775808\n",
             b"a",
