@@ -19,39 +19,68 @@ mod source_values;
 mod telling;
 mod walk;
 
-use anyhow::Result;
 use arguments::{Arguments, read_arguments};
+use clap::error::ErrorKind as ArgumentErrorKind;
 use columns::Counted;
 use engine::run;
+use engine_fault::EngineFault;
 use report::CountedOut;
-use std::io::Write;
+use std::io::{ErrorKind, Read, Write};
 use std::process::ExitCode;
 use std::{env, fs};
+use stream_tokens::NoMemory;
 use telling::tell;
+
+/// The exit status where the command line is refused.
+const REFUSED: u8 = 2;
 
 /// The exit status where a file can't be opened.
 const NOT_OPENED: u8 = 4;
 
-fn main(rt: HostRuntime) -> Result<ExitCode> {
-    let arguments: Vec<String> = env::args(&rt)?.collect(rt.alloc())?;
-    let words: Vec<&str> = arguments.iter().map(|a| a.as_str()).collect(rt.alloc())?;
-    let path = match read_arguments(rt.alloc(), words.as_slice()) {
-        Ok(Arguments { jobs }) => jobs,
-        Err(refused) => {
-            refused.print(&rt)?;
-            return Ok(ExitCode::from(if refused.exit_code() == 0 { 0 } else { 2 }));
+fn main(rt: HostRuntime) -> ExitCode {
+    ExitCode::from(match status_of(&rt) {
+        Ok(status) => status,
+        Err(_) => tell(&EngineFault::NoMemory, &mut rt.stderr()),
+    })
+}
+
+/// Does what the command line asks for, and answers the exit status.
+fn status_of(rt: &HostRuntime) -> Result<u8, NoMemory> {
+    let given: Vec<String> = match env::args(rt) {
+        Ok(given) => given.collect(rt.alloc())?,
+        Err(error) if error.kind() == ErrorKind::OutOfMemory => return Err(NoMemory),
+        Err(_) => {
+            let _ = writeln!(rt.stderr(), "streamrun: an argument is no text");
+            return Ok(REFUSED);
         }
     };
-    let Ok(file) = fs::open(&rt, path) else {
-        let _ = writeln!(rt.stderr(), "streamrun: cannot open jobs");
-        return Ok(ExitCode::from(NOT_OPENED));
+    let words: Vec<&str> = given.iter().map(|word| word.as_str()).collect(rt.alloc())?;
+    let path = match read_arguments(rt.alloc(), words.as_slice()) {
+        Ok(Arguments { jobs }) => jobs,
+        Err(error) if error.kind() == ArgumentErrorKind::OutOfMemory => return Err(NoMemory),
+        Err(refused) => {
+            let _ = refused.print(rt);
+            return Ok(if refused.exit_code() == 0 { 0 } else { REFUSED });
+        }
     };
+    match fs::open(rt, path) {
+        Ok(file) => Ok(report_of_file(rt, file)),
+        Err(error) if error.kind() == ErrorKind::OutOfMemory => Err(NoMemory),
+        Err(_) => {
+            let _ = writeln!(rt.stderr(), "streamrun: cannot open jobs");
+            Ok(NOT_OPENED)
+        }
+    }
+}
+
+/// Runs the jobs of an open file, and answers the exit status.
+fn report_of_file<F: Read + Drop>(rt: &HostRuntime, file: F) -> u8 {
     let mut jobs = Counted::new(file);
     let mut writer = CountedOut::new(rt.stdout());
-    Ok(match run(rt.alloc(), &mut jobs, &mut writer) {
-        Ok(()) => ExitCode::SUCCESS,
-        Err(fault) => ExitCode::from(tell(&fault, &mut rt.stderr())),
-    })
+    match run(rt.alloc(), &mut jobs, &mut writer) {
+        Ok(()) => 0,
+        Err(fault) => tell(&fault, &mut rt.stderr()),
+    }
 }
 
 #[cfg(test)]
