@@ -14,6 +14,7 @@ use Rattle.streamrun.specs.declared.jobs.fault.JobFault.{JobFault}
 use Rattle.streamrun.specs.declared.jobs.job.Job.{Job}
 use Rattle.streamrun.specs.JobGrammar.{JobShape, IsJob}
 use Rattle.streamrun.specs.JobParts.{AreParts}
+use Rattle.streamrun.specs.FileReading.{IsNextJob, IsNextFault}
 use Rattle.streamrun.specs.JobRefusals.{is_too_long, JobRead, TextRead, fault_at, TextsRead}
 use Rattle.streamrun.specs.Jobs.{job_of, jobs_of}
 use Rattle.streamrun.specs.PartReading.{IsSyntaxOf}
@@ -91,17 +92,17 @@ file_none texts jobs e = subst (FileSoFar texts 0) (sym e) (record { goes = λ r
 next_text : (texts : List JobText) (n : ℕ) (t : JobText) → n < length texts → t ≡ get_or texts n t → drop n texts ≡ t ∷ drop (n + 1) texts
 next_text texts n t lt is = drop_more texts n t lt ∙ ap (λ (u : JobText). u ∷ drop (n + 1) texts) (sym is)
 
-pub file_more : (texts : List JobText) (n : ℕ) (jobs more : List JobTerm) (t : JobText) (j : JobTerm) → n < length texts → t ≡ get_or texts n t → FileSoFar texts n jobs → TextRead (names_of jobs) t.text (Ok j) → more ≡ jobs ++ j ∷ [] → FileSoFar texts (n + 1) more
-file_more texts n jobs more t j lt is h read pushed = subst (FileSoFar texts (n + 1)) (sym pushed) (record {
+pub file_more : (texts : List JobText) (n : ℕ) (jobs more : List JobTerm) (t : JobText) → n < length texts → t ≡ get_or texts n t → FileSoFar texts n jobs → IsNextJob jobs t more → FileSoFar texts (n + 1) more
+file_more texts n jobs more t lt is h next = subst (FileSoFar texts (n + 1)) (sym next.put) (record {
   goes = λ r k.
-      let here : TextsRead jobs (t ∷ drop (n + 1) texts) r = inr (j, read, k) in
+      let here : TextsRead jobs (t ∷ drop (n + 1) texts) r = inr (next.job, next.read, k) in
       h.goes r (subst (λ (ts : List JobText). TextsRead jobs ts r) (sym (next_text texts n t lt is)) here);
 })
 
-pub file_refused : (texts : List JobText) (n : ℕ) (jobs : List JobTerm) (t : JobText) (c : Cause) (fault : JobFault) → n < length texts → t ≡ get_or texts n t → FileSoFar texts n jobs → TextRead (names_of jobs) t.text (Err c) → fault.cause ≡ c → fault.line ≡ t.line → TextsRead [] texts (Err fault)
-file_refused texts n jobs t c fault lt is h read causes lines =
-    let same : fault ≡ fault_at t c = ap (λ (d : Cause). record { line = fault.line; cause = d }) causes ∙ ap (λ (l : ℕ). record { line = l; cause = c }) lines in
-    let here : TextsRead jobs (t ∷ drop (n + 1) texts) (Err fault) = inl (c, read, ap (λ (f : JobFault). Err f) same) in
+pub file_refused : (texts : List JobText) (n : ℕ) (jobs : List JobTerm) (t : JobText) (fault : JobFault) → n < length texts → t ≡ get_or texts n t → FileSoFar texts n jobs → IsNextFault jobs t fault → TextsRead [] texts (Err fault)
+file_refused texts n jobs t fault lt is h next =
+    let same : fault ≡ fault_at t fault.cause = ap (λ (l : ℕ). record { line = l; cause = fault.cause }) next.at in
+    let here : TextsRead jobs (t ∷ drop (n + 1) texts) (Err fault) = inl (fault.cause, next.read, ap (λ (f : JobFault). Err f) same) in
     h.goes (Err fault) (subst (λ (ts : List JobText). TextsRead jobs ts (Err fault)) (sym (next_text texts n t lt is)) here)
 
 -- what a text says after jobs that are known by another name

@@ -1,4 +1,4 @@
--- Meaning: what the jobs of the program stand for.
+-- Condition: what the jobs of the program stand for.
 use Rattle.std.specs.Prelude.{List, [], ◌∷◌}
 use Rattle.trace.specs.Cover as cover
 use Rattle.trace.specs.Cover.{SourceTerm}

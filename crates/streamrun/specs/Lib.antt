@@ -1,5 +1,6 @@
 pub mod ArgumentReading
 pub mod Causes
+pub mod FileReading
 pub mod JobGrammar
 pub mod JobParts
 pub mod JobReading

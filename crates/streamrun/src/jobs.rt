@@ -12,3 +12,5 @@ pub mod parts;
 pub mod sources;
 pub mod steps;
 pub mod symbols;
+#[cfg(test)]
+mod tests;

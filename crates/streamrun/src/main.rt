@@ -1,11 +1,14 @@
-//! `streamrun JOBS`: runs the jobs of a file over whole numbers, and writes a report with one answer a job.
+//! `streamrun JOBS`: runs the jobs of a file over whole numbers, and writes a report with one answer
+//! a job.
 //!
-//! Stands on `stream_tokens`, `lambda_expr`, `trace`, `job_plan`, `report` and `columns`, by their public contracts alone.
-//! Its own promise is the contract of `engine::run`: the writer gets exactly the report that `specs/Run.antt`
-//! defines, from the bytes of the job file to the bytes of the report, or the fault says why not.
-//! Begin with `specs/Run.antt`, then `engine.rt`. `jobs/` reads job files; `walk.rt` takes one job's items.
-//! Not promised: that a file can be read or written, or that memory is there; `tell` says which it was.
-//! The operations are those of `java.util.stream.LongStream` (Java SE 17), the arithmetic is that of `long`.
+//! Stands on `stream_tokens`, `lambda_expr`, `trace`, `job_plan`, `report` and `columns`, by their
+//! public contracts alone. Its own promise is the contract of `engine::run`: the writer gets exactly
+//! the report that `specs/Run.antt` defines, from the bytes of the job file to the bytes of the
+//! report, or the fault says why not. Begin with `specs/Run.antt`, then `engine.rt`; `jobs/` reads
+//! job files, and `walk.rt` takes the items of one job.
+//! Not promised: that a file can be read or written, or that memory is there; the line on standard
+//! error says which it was. The operations are those of `java.util.stream.LongStream` (Java SE 17),
+//! the arithmetic is that of `long`.
 #![tactic(auto)]
 
 mod answering;

@@ -20,7 +20,7 @@ pub enum Piece {
     Unsound,
 }
 
-/// Whether a number may stand in a grammar: it is no number of two or more digits that begins with 0.
+/// Whether a number may stand in a grammar: not one of two or more digits that begins with 0.
 fn is_numeral(word: &[u8]) -> bool
     ensures { result ≡ is_numeral word.now }
 {

@@ -16,10 +16,11 @@ pub struct Call<'a> {
     pub argument: &'a [u8],
 }
 
-/// The tokens before the parenthesis that closes one which is open before them, that parenthesis, and
-/// the tokens after it.
+/// The tokens before the parenthesis that closes one which is open before them, that parenthesis,
+/// and the tokens after it.
 fn split_closed(tokens: &[Token]) -> Option<(&[Token], Token, &[Token])>
-    ensures { MatchOption result (IsOpen tokens.now) (λ parts. IsClosed tokens.now parts.0.now parts.1 parts.2.now) }
+    ensures { MatchOption result (IsOpen tokens.now)
+        (λ parts. IsClosed tokens.now parts.0.now parts.1 parts.2.now) }
 {
     let mut depth: usize = 0;
     for (at, token) in tokens.iter().enumerate() {
@@ -70,7 +71,8 @@ fn call_of<'a>(
 /// The call that the tokens begin with, and the tokens after it.
 pub fn split_call<'a>(text: &'a [u8], tokens: &'a [Token]) -> Option<(Call<'a>, &'a [Token])>
     requires { StandInOrder 0 tokens.now (length text.now) }
-    ensures { MatchOption result (IsNoCall tokens.now) (λ parts. BeginsWith text.now tokens.now parts.0 parts.1.now) }
+    ensures { MatchOption result (IsNoCall tokens.now)
+        (λ parts. BeginsWith text.now tokens.now parts.0 parts.1.now) }
 {
     match tokens {
         [callee, opened, after @ ..] => call_of(text, *callee, *opened, after),

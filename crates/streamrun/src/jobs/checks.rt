@@ -6,7 +6,8 @@ ghost use Rattle.trace.specs.Stages.{stage_of, stages_of};
 ghost use Rattle.job_plan.specs.Meaning.{names_of};
 ghost use Rattle.streamrun.specs.JobGrammar.{SourceShape, map, filter};
 ghost use Rattle.streamrun.specs.JobParts.{shape_with};
-ghost use Rattle.streamrun.specs.JobRefusals.{name_read, source_read, IsReadAs, IsNotRead, StagesRead, JobRead};
+ghost use Rattle.streamrun.specs.JobRefusals.{name_read, source_read, IsReadAs, IsNotRead};
+ghost use Rattle.streamrun.specs.JobRefusals.{StagesRead, JobRead};
 ghost use Rattle.streamrun.specs.Jobs.{source_of, job_of, jobs_of};
 ghost use Rattle.streamrun.specs.NumberReading.{Gives};
 ghost use Rattle.streamrun.specs.PartReading.{StandsFor, shape_of, shapes_of};
@@ -56,7 +57,8 @@ fn read_name(alloc: Global, earlier: &[Job], name: &[u8]) -> Result<Bytes, Cause
 
 fn read_source(alloc: Global, text: &[u8], part: SourcePart) -> Result<Source, Cause>
     requires { (source : SourceShape) × StandsFor text.now part source }
-    ensures { (source : SourceShape) → StandsFor text.now part.entry source → Gives source_of result (source_read source) }
+    ensures { (source : SourceShape) → StandsFor text.now part.entry source
+        → Gives source_of result (source_read source) }
 {
     match part {
         SourcePart::Range { from, to } => {
@@ -76,7 +78,8 @@ fn read_source(alloc: Global, text: &[u8], part: SourcePart) -> Result<Source, C
 
 fn read_map(alloc: Global, argument: &[u8]) -> Result<Stage, Cause>
     ensures ok { IfOk result (λ stage. IsReadAs (map argument.now) (stage_of stage)) }
-    ensures refused { IfErr result (λ cause. cause ≢ Cause.NoMemory → IsNotRead (map argument.now) cause) }
+    ensures refused { IfErr result
+        (λ cause. cause ≢ Cause.NoMemory → IsNotRead (map argument.now) cause) }
 {
     let lambda = read_lambda(alloc, argument, Want::Long)?;
     match lambda.body {
@@ -87,7 +90,8 @@ fn read_map(alloc: Global, argument: &[u8]) -> Result<Stage, Cause>
 
 fn read_filter(alloc: Global, argument: &[u8]) -> Result<Stage, Cause>
     ensures ok { IfOk result (λ stage. IsReadAs (filter argument.now) (stage_of stage)) }
-    ensures refused { IfErr result (λ cause. cause ≢ Cause.NoMemory → IsNotRead (filter argument.now) cause) }
+    ensures refused { IfErr result
+        (λ cause. cause ≢ Cause.NoMemory → IsNotRead (filter argument.now) cause) }
 {
     let lambda = read_lambda(alloc, argument, Want::Bool)?;
     match lambda.body {
@@ -98,7 +102,8 @@ fn read_filter(alloc: Global, argument: &[u8]) -> Result<Stage, Cause>
 
 fn read_stage(alloc: Global, part: StagePart) -> Result<Stage, Cause>
     ensures ok { IfOk result (λ stage. IsReadAs (shape_of part.entry) (stage_of stage)) }
-    ensures refused { IfErr result (λ cause. cause ≢ Cause.NoMemory → IsNotRead (shape_of part.entry) cause) }
+    ensures refused { IfErr result
+        (λ cause. cause ≢ Cause.NoMemory → IsNotRead (shape_of part.entry) cause) }
 {
     match part {
         StagePart::Map(argument) => read_map(alloc, argument),
@@ -107,8 +112,10 @@ fn read_stage(alloc: Global, part: StagePart) -> Result<Stage, Cause>
 }
 
 fn read_stages(alloc: Global, parts: &[StagePart]) -> Result<Vec<Stage>, Cause>
-    ensures ok { IfOk result (λ stages. StagesRead 0 (shapes_of parts.now) (Ok (stages_of stages.items))) }
-    ensures refused { IfErr result (λ cause. cause ≢ Cause.NoMemory → StagesRead 0 (shapes_of parts.now) (Err cause)) }
+    ensures ok { IfOk result
+        (λ stages. StagesRead 0 (shapes_of parts.now) (Ok (stages_of stages.items))) }
+    ensures refused { IfErr result
+        (λ cause. cause ≢ Cause.NoMemory → StagesRead 0 (shapes_of parts.now) (Err cause)) }
 {
     let mut stages = Vec::new(alloc);
     for part in parts {
@@ -125,9 +132,11 @@ fn read_stages(alloc: Global, parts: &[StagePart]) -> Result<Vec<Stage>, Cause>
 pub fn read_parts(alloc: Global, earlier: &[Job], text: &[u8], parts: Parts) -> Result<Job, Cause>
     requires { (source : SourceShape) × StandsFor text.now parts.source source }
     ensures ok { (source : SourceShape) → StandsFor text.now parts.entry.source source
-        → IfOk result (λ job. JobRead (names_of (jobs_of earlier.now)) (shape_with parts.entry source) (Ok (job_of job))) }
+        → IfOk result (λ job.
+        JobRead (names_of (jobs_of earlier.now)) (shape_with parts.entry source) (Ok (job_of job))) }
     ensures refused { (source : SourceShape) → StandsFor text.now parts.entry.source source
-        → IfErr result (λ cause. cause ≢ Cause.NoMemory → JobRead (names_of (jobs_of earlier.now)) (shape_with parts.entry source) (Err cause)) }
+        → IfErr result (λ cause. cause ≢ Cause.NoMemory
+        → JobRead (names_of (jobs_of earlier.now)) (shape_with parts.entry source) (Err cause)) }
 {
     let name = read_name(alloc, earlier, parts.name)?;
     let source = read_source(alloc, text, parts.source)?;

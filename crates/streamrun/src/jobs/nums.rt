@@ -5,7 +5,8 @@ ghost use Rattle.lambda_expr.specs.Numbers.{Number, IsNumber};
 ghost use Rattle.lambda_expr.specs.Words.{words_of};
 ghost use Rattle.streamrun.specs.JobGrammar.{AreNumbers};
 ghost use Rattle.streamrun.specs.JobRefusals.{number_read, numbers_read};
-ghost use Rattle.streamrun.specs.NumberReading.{AreListed, BeginsNumbers, IsNoNumber, IsUpToComma, Gives, list_of};
+ghost use Rattle.streamrun.specs.NumberReading.{AreListed, BeginsNumbers, IsNoNumber, IsUpToComma};
+ghost use Rattle.streamrun.specs.NumberReading.{Gives, list_of};
 
 use super::fault::Cause;
 use super::symbols::is_symbol;
@@ -17,7 +18,8 @@ use stream_tokens::{Symbol, Token};
 fn number(text: &[u8], tokens: &[Token]) -> Option<Result<i64, Cause>>
     requires { StandInOrder 0 tokens.now (length text.now) }
     ensures { MatchOption result (IsNoNumber (words_of text.now tokens.now))
-        (λ value. (n : Number) × IsNumber (words_of text.now tokens.now) n × (number_read n ≡ value)) }
+        (λ value. (n : Number) × IsNumber (words_of text.now tokens.now) n
+        × (number_read n ≡ value)) }
 {
     match read_number(text, tokens) {
         Ok(value) => Some(Ok(value)),
@@ -69,8 +71,10 @@ fn listed(tokens: &[Token]) -> Option<&[Token]>
 /// How many numbers the tokens are, with commas between them.
 pub fn count_numbers(text: &[u8], tokens: &[Token]) -> Option<usize>
     requires { StandInOrder 0 tokens.now (length text.now) }
-    ensures { MatchOption result ((ns : List Number) → AreNumbers (words_of text.now tokens.now) ns → ⊥)
-        (λ count. (ns : List Number) × AreNumbers (words_of text.now tokens.now) ns × (length ns ≡ count)) }
+    ensures { MatchOption result ((ns : List Number)
+        → AreNumbers (words_of text.now tokens.now) ns → ⊥)
+        (λ count. (ns : List Number) × AreNumbers (words_of text.now tokens.now) ns
+        × (length ns ≡ count)) }
 {
     let mut count: usize = 0;
     let mut rest = listed(tokens);

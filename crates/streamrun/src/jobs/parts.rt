@@ -32,9 +32,11 @@ fn parts_of<'a>(
     after: &'a [Token],
 ) -> Result<Parts<'a>, Cause>
     requires { StandInOrder 0 (name ∷ assign ∷ after.now) (length text.now) }
-    ensures ok { IfOk result (λ parts. (source : SourceShape) × StandsFor text.now parts.source source
+    ensures ok { IfOk result
+        (λ parts. (source : SourceShape) × StandsFor text.now parts.source source
         × AreParts text.now (name ∷ assign ∷ after.now) (shape_with parts source)) }
-    ensures refused { IfErr result (IsSyntaxOf ((job : JobShape) → AreParts text.now (name ∷ assign ∷ after.now) job → ⊥)) }
+    ensures refused { IfErr result (IsSyntaxOf ((job : JobShape)
+        → AreParts text.now (name ∷ assign ∷ after.now) job → ⊥)) }
 {
     if name.kind != TokenKind::Name || !is_symbol(assign, Symbol::Assign) {
         return Err(Cause::Syntax);
@@ -61,9 +63,11 @@ pub fn split_parts<'a>(
     tokens: &'a [Token],
 ) -> Result<Parts<'a>, Cause>
     requires { StandInOrder 0 tokens.now (length text.now) }
-    ensures ok { IfOk result (λ parts. (source : SourceShape) × StandsFor text.now parts.source source
+    ensures ok { IfOk result
+        (λ parts. (source : SourceShape) × StandsFor text.now parts.source source
         × AreParts text.now tokens.now (shape_with parts source)) }
-    ensures refused { IfErr result (IsSyntaxOf ((job : JobShape) → AreParts text.now tokens.now job → ⊥)) }
+    ensures refused { IfErr result (IsSyntaxOf ((job : JobShape)
+        → AreParts text.now tokens.now job → ⊥)) }
 {
     match tokens {
         [name, assign, after @ ..] => parts_of(alloc, text, *name, *assign, after),

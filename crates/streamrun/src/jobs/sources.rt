@@ -28,8 +28,10 @@ pub enum SourcePart<'a> {
 
 fn range_part<'a>(text: &[u8], tokens: &'a [Token]) -> Option<SourcePart<'a>>
     requires { StandInOrder 0 tokens.now (length text.now) }
-    ensures { MatchOption result ((a b : Number) → AreNumbers (words_of text.now tokens.now) (a ∷ b ∷ []) → ⊥)
-        (λ part. (a b : Number) × AreNumbers (words_of text.now tokens.now) (a ∷ b ∷ []) × StandsFor text.now part (range a b)) }
+    ensures { MatchOption result ((a b : Number)
+        → AreNumbers (words_of text.now tokens.now) (a ∷ b ∷ []) → ⊥)
+        (λ part. (a b : Number) × AreNumbers (words_of text.now tokens.now) (a ∷ b ∷ [])
+        × StandsFor text.now part (range a b)) }
 {
     let (from, after) = split_number(text, tokens)?;
     let (to, after) = split_number(text, after?)?;
@@ -41,8 +43,10 @@ fn range_part<'a>(text: &[u8], tokens: &'a [Token]) -> Option<SourcePart<'a>>
 
 fn values_part<'a>(text: &[u8], tokens: &'a [Token]) -> Option<SourcePart<'a>>
     requires { StandInOrder 0 tokens.now (length text.now) }
-    ensures { MatchOption result ((ns : List Number) → AreNumbers (words_of text.now tokens.now) ns → ⊥)
-        (λ part. (ns : List Number) × AreNumbers (words_of text.now tokens.now) ns × StandsFor text.now part (values ns)) }
+    ensures { MatchOption result ((ns : List Number)
+        → AreNumbers (words_of text.now tokens.now) ns → ⊥)
+        (λ part. (ns : List Number) × AreNumbers (words_of text.now tokens.now) ns
+        × StandsFor text.now part (values ns)) }
 {
     let count = count_numbers(text, tokens)?;
     Some(SourcePart::Values {
@@ -56,7 +60,8 @@ pub fn source_part<'a>(text: &[u8], name: &[u8], inner: &'a [Token]) -> Option<S
     requires { StandInOrder 0 inner.now (length text.now) }
     ensures { MatchOption result
         ((source : SourceShape) → SourceSays name.now (words_of text.now inner.now) source → ⊥)
-        (λ part. (source : SourceShape) × SourceSays name.now (words_of text.now inner.now) source × StandsFor text.now part source) }
+        (λ part. (source : SourceShape) × SourceSays name.now (words_of text.now inner.now) source
+        × StandsFor text.now part source) }
 {
     if is_word(name, b"range") {
         range_part(text, inner)

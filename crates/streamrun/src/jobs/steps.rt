@@ -5,7 +5,8 @@ ghost use Rattle.lambda_expr.specs.Words.{words_of};
 ghost use Rattle.job_plan.specs.Answers.{TerminalTerm};
 ghost use Rattle.streamrun.specs.JobGrammar.{AreSteps, StageShape};
 ghost use Rattle.streamrun.specs.Jobs.{terminal_of};
-ghost use Rattle.streamrun.specs.PartReading.{StageSays, TerminalSays, shape_of, shapes_of, IsNoStep, BeginsWithStep, IsSyntaxOf};
+ghost use Rattle.streamrun.specs.PartReading.{StageSays, TerminalSays, shape_of, shapes_of};
+ghost use Rattle.streamrun.specs.PartReading.{IsNoStep, BeginsWithStep, IsSyntaxOf};
 
 use super::arguments::is_argument;
 use super::calls::{Call, split_call};
@@ -31,7 +32,8 @@ fn stage_part<'a>(
 ) -> Option<StagePart<'a>>
     requires { StandInOrder 0 inner.now (length text.now) }
     ensures { MatchOption result
-        ((stage : StageShape) → StageSays name.now (words_of text.now inner.now) argument.now stage → ⊥)
+        ((stage : StageShape)
+        → StageSays name.now (words_of text.now inner.now) argument.now stage → ⊥)
         (λ part. StageSays name.now (words_of text.now inner.now) argument.now (shape_of part)) }
 {
     if !is_argument(text, inner) {
@@ -65,7 +67,8 @@ fn terminal_part(name: &[u8], inner: &[Token]) -> Option<Terminal>
 /// The call behind a dot that the tokens begin with, and the tokens after it.
 fn split_step<'a>(text: &'a [u8], tokens: &'a [Token]) -> Option<(Call<'a>, &'a [Token])>
     requires { StandInOrder 0 tokens.now (length text.now) }
-    ensures { MatchOption result (IsNoStep tokens.now) (λ parts. BeginsWithStep text.now tokens.now parts.0 parts.1.now) }
+    ensures { MatchOption result (IsNoStep tokens.now)
+        (λ parts. BeginsWithStep text.now tokens.now parts.0 parts.1.now) }
 {
     let (dot, after) = tokens.split_first()?;
     if is_symbol(*dot, Symbol::Dot) {
@@ -82,8 +85,10 @@ pub fn split_steps<'a>(
     tokens: &'a [Token],
 ) -> Result<(Vec<StagePart<'a>>, Terminal), Cause>
     requires { StandInOrder 0 tokens.now (length text.now) }
-    ensures ok { IfOk result (λ steps. AreSteps text.now tokens.now (shapes_of steps.0.items) (terminal_of steps.1)) }
-    ensures refused { IfErr result (IsSyntaxOf ((stages : List StageShape) (terminal : TerminalTerm) → AreSteps text.now tokens.now stages terminal → ⊥)) }
+    ensures ok { IfOk result
+        (λ steps. AreSteps text.now tokens.now (shapes_of steps.0.items) (terminal_of steps.1)) }
+    ensures refused { IfErr result (IsSyntaxOf ((stages : List StageShape) (terminal : TerminalTerm)
+        → AreSteps text.now tokens.now stages terminal → ⊥)) }
 {
     let mut stages = Vec::new(alloc);
     let mut rest = tokens;
