@@ -17,7 +17,7 @@ use Rattle.pending_count.proofs.Parts.{here_is, else_is, stays, sum_stays, holdi
 
 module _ {S T : Type 0} (nodes : ℕ) (s : State S (View T)) (g : Graph) (r : Shows nodes s g) (id : ℕ) (v : View T) (at : get_elem? s.views id ≡ some v) where
   module _ (node d : ℕ) (pos : 0 < node) (have : 0 < count node v.held) (pays : d ≤ v.credit) where
-    abbrev arr : ℕ → List Arrival
+    abbrev pub arr : ℕ → List Arrival
     arr = with_fresh node d (Held id) g.arrivals
 
     abbrev w : View T

@@ -31,7 +31,7 @@ module _ {S T : Type 0} (nodes : ℕ) (s : State S (View T)) (g : Graph) (r : Sh
   abbrev keep : ℕ → List Arrival
   keep = renamed (Held id) (Kept node) (λ j. count j onward) g.arrivals
 
-  abbrev arr : ℕ → List Arrival
+  abbrev pub arr : ℕ → List Arrival
   arr = with_fresh node (p + 1) (Held id) keep
 
   -- a weight of the arrivals at a node, of which some are fresh

@@ -9,7 +9,7 @@ use Rattle.completion_core.specs.declared.action.Action.TheVariants.{Arrive, Run
 use Rattle.completion_core.specs.Graph.{Arrival, Made, Held, Kept, one_same, not_made, total, amount, left, Graph}
 use Rattle.completion_core.specs.Legal.{renamed, rename, only_at, count, upd, Legal, after}
 use Rattle.pending_count.specs.declared.view.View.{View}
-use Rattle.pending_count.specs.Views.{names, keeps_at, less, given_by_all, arrived_view, finished_view}
+use Rattle.pending_count.specs.Views.{names, keeps_at, less, given_by_all, sides_given_by_all, arrived_view, finished_view}
 use Rattle.pending_count.specs.Shows.{Shows, Counting, Claiming, Running, Keeping, Noting}
 use Rattle.pending_count.proofs.Sums.{one_at, total-append, total-less, bool_case, self_held, self_kept, one_held, one_kept, at_here, at_else, at_sym, held_left, same_after, fewer_after, more_after, rename-none, upd_here, upd_else}
 use Rattle.pending_count.proofs.Records.{count-given_by_all}
@@ -151,7 +151,7 @@ module _ {S T : Type 0} (nodes : ℕ) (s : State S (View T)) (g : Graph) (r : Sh
   keeps2 k i n = same_after (Kept node) (Held id) m2 arr1 fit2 (one_same (Kept k)) (one_kept k node n) i ∙ keeps1 k i
 
   abbrev pub w2 : View T
-  w2 = finished_view node kept v
+  w2 = finished_view node kept (sides_given_by_all node s.views) v
 
   module _ (pos : 0 < node) where
     pub armed_there : g.armed node ≡ true

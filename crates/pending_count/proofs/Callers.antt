@@ -1,11 +1,11 @@
 -- What a caller knows of its seat after a call, as numbers of arrivals and as notes.
-use Rattle.std.proofs.Common.{◌≡◌, ◌≢◌, ℕ, zero, suc, ◌+◌, ◌-◌, ◌<◌, ◌≤◌, cond, true, List, ◌∷◌, ◌++◌, sym, refl, ap, ◌∙◌, arith, ne_eqb, Some, nat_lt}
+use Rattle.std.proofs.Common.{eq-eqb, eqb, [], ◌≡◌, ◌≢◌, ℕ, zero, suc, ◌+◌, ◌-◌, ◌<◌, ◌≤◌, cond, true, List, ◌∷◌, ◌++◌, sym, refl, ap, ◌∙◌, arith, ne_eqb, Some, nat_lt}
 use Rattle.std.proofs.lemmas.Grind.{common_steps}
 use Rattle.completion_core.specs.declared.action.Reply.TheVariants.{Pending, Last}
 use Rattle.completion_core.specs.Graph.{copies}
 use Rattle.completion_core.specs.Legal.{count, only_at, reply_of_arrival}
 use Rattle.pending_count.specs.declared.view.View.{View}
-use Rattle.pending_count.specs.Views.{note_of, less, minus}
+use Rattle.pending_count.specs.Views.{left_slot, right_slot, side_at, sides_of, note_of, less, minus}
 use Rattle.pending_count.specs.Steps.{IsClaimed, IsArmed, IsArrived, drawn_node}
 use Rattle.pending_count.proofs.Sums.{one_at, total-append, total-less, total-minus, here, at_here, at_sym}
 use Rattle.pending_count.proofs.Records.{fresh-count}
@@ -29,6 +29,13 @@ was_last zero e h = absurd (omega arith)
 was_last (suc zero) e h = refl
 was_last (suc (suc n)) e h = absurd (grind (arith, common_steps))
 
+-- where no side is held, none stands for an entry
+pub no_sides_of : (onward sides : List ℕ) → ((k : ℕ) → count k sides ≡ 0) → sides_of onward sides ≡ []
+no_sides_of [] sides none_held = refl
+no_sides_of (i ∷ is) sides none_held =
+    let a : side_at i sides ≡ [] = ap (λ b. cond b (cond (eqb (count (right_slot i) sides) 0) [] (right_slot i ∷ [])) (left_slot i ∷ [])) (eq-eqb (count (left_slot i) sides) 0 (none_held (left_slot i))) ∙ ap (λ b. cond b [] (right_slot i ∷ [])) (eq-eqb (count (right_slot i) sides) 0 (none_held (right_slot i))) in
+    ap (λ l. l ++ sides_of is sides) a ∙ no_sides_of is sides none_held
+
 module _ {S T : Type 0} {nodes actor : ℕ} {v w : View T} where
   module _ (n b : ℕ) (told : IsClaimed S nodes actor v n w) (drew : drawn_node nodes n ≡ Some b) where
     abbrev drawn : View T
@@ -45,6 +52,9 @@ module _ {S T : Type 0} {nodes actor : ℕ} {v w : View T} where
 
     pub claim_noted : w.noted ≡ v.noted
     claim_noted = ap (λ (u : View T). u.noted) claim_view
+
+    pub claim_sides : w.sides ≡ v.sides
+    claim_sides = ap (λ (u : View T). u.sides) claim_view
 
     pub claim_has : 0 < count b w.claims
     claim_has = let d = drawn_is nodes n b drew in
@@ -67,6 +77,12 @@ module _ {S T : Type 0} {nodes actor : ℕ} {v w : View T} where
     pub arm_note : note_of node w.noted ≡ Some onward
     arm_note = ap (λ (u : View T). note_of node u.noted) told.view ∙ ap (λ b. cond b (Some onward) (note_of node v.noted)) (here node)
 
+    pub arm_sides : ((k : ℕ) → count k v.sides ≡ 0) → (k : ℕ) → count k w.sides ≡ 0
+    arm_sides none_held k = ap (λ (u : View T). count k u.sides) told.view ∙ ap (λ l. count k (minus l v.sides)) (no_sides_of onward v.sides none_held) ∙ none_held k
+
+    pub arm_side_note : ((k : ℕ) → count k v.sides ≡ 0) → note_of node w.noted_sides ≡ Some []
+    arm_side_note none_held = ap (λ (u : View T). note_of node u.noted_sides) told.view ∙ ap (λ b. cond b (Some (sides_of onward v.sides)) (note_of node v.noted_sides)) (here node) ∙ ap Some (no_sides_of onward v.sides none_held)
+
     pub arm_note_else : (i : ℕ) → i ≢ node → note_of i w.noted ≡ note_of i v.noted
     arm_note_else i n = ap (λ (u : View T). note_of i u.noted) told.view ∙ ap (λ b. cond b (Some onward) (note_of i v.noted)) (ne_eqb node i (λ e. n (sym e)))
 
@@ -77,15 +93,30 @@ module _ {S T : Type 0} {nodes actor : ℕ} {v w : View T} where
     pub pending_noted : n ≢ 1 → w.noted ≡ v.noted
     pending_noted more = ap (λ (u : View T). u.noted) (told.pending more)
 
+    pub pending_sides : n ≢ 1 → w.sides ≡ v.sides
+    pending_sides more = ap (λ (u : View T). u.sides) (told.pending more)
+
+    pub pending_side_notes : n ≢ 1 → w.noted_sides ≡ v.noted_sides
+    pending_side_notes more = ap (λ (u : View T). u.noted_sides) (told.pending more)
+
+    pub last_sides : n ≡ 1 → note_of node v.noted_sides ≡ Some [] → ((k : ℕ) → count k v.sides ≡ 0) → (k : ℕ) → count k w.sides ≡ 0
+    last_sides one note none_held k =
+        let l = told.last one in
+        let e : count k w.sides ≡ count k (l.1 ++ v.sides) = ap (λ (u : View T). count k u.sides) l.2 in
+        let a = total-append (one_at k) l.1 v.sides in
+        let c : count k l.1 ≡ 0 = l.4 [] note k in
+        let d = none_held k in
+        omega arith
+
     pub last_held : n ≡ 1 → (given : List ℕ) → note_of node v.noted ≡ Some given → (i : ℕ) → count i w.held + only_at node 1 i ≡ count i given + count i v.held
     last_held one given note i =
         let l = told.last one in
-        let e : count i w.held ≡ count i (l.0 ++ less node v.held) = ap (λ (u : View T). count i u.held) l.1 in
+        let e : count i w.held ≡ count i (l.0 ++ less node v.held) = ap (λ (u : View T). count i u.held) l.2 in
         let a = total-append (one_at i) l.0 (less node v.held) in
         let b = total-less (one_at i) node v.held have in
-        let c = l.2 given note i in
+        let c = l.3 given note i in
         let d = at_sym i node in
         omega arith
 
     pub last_noted : n ≡ 1 → w.noted ≡ v.noted
-    last_noted one = ap (λ (u : View T). u.noted) (told.last one).1
+    last_noted one = ap (λ (u : View T). u.noted) (told.last one).2

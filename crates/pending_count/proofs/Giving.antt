@@ -84,20 +84,20 @@ module _ {S T : Type 0} (nodes : ℕ) (s : State S (View T)) (g : Graph) (r : Sh
   }
 
 -- a new seat gets k arrivals at one node, and some credit
-module _ {S T : Type 0} (nodes : ℕ) (s : State S (View T)) (g : Graph) (r : Shows nodes s g) (id : ℕ) (v : View T) (at : get_elem? s.views id ≡ some v) (node k c : ℕ) (have : k ≤ count node v.held) (pays : c ≤ v.credit) where
-  abbrev new : ℕ
+module _ {S T : Type 0} (nodes : ℕ) (s : State S (View T)) (g : Graph) (r : Shows nodes s g) (id : ℕ) (v : View T) (at : get_elem? s.views id ≡ some v) (node k c : ℕ) (l : List ℕ) (have : k ≤ count node v.held) (pays : c ≤ v.credit) where
+  abbrev pub new : ℕ
   new = length s.views
 
-  abbrev m : ℕ → ℕ
+  abbrev pub m : ℕ → ℕ
   m = only_at node k
 
   id_low : id < new
   id_low = there s.views id v at
 
-  new_apart : id ≢ new
+  pub new_apart : id ≢ new
   new_apart e = let a = id_low in absurd (omega arith)
 
-  part_fit : (i : ℕ) → m i ≤ amount (Held id) (g.arrivals i)
+  pub part_fit : (i : ℕ) → m i ≤ amount (Held id) (g.arrivals i)
   part_fit i = dite (ℕ_discrete i node)
       (λ e. subst (λ j. m j ≤ amount (Held id) (g.arrivals j)) (sym e) (let a = my_part nodes s g r id v at node in let b = fresh_here node k in omega arith))
       (λ n. let b = fresh_else node k i n in omega arith)
@@ -105,30 +105,30 @@ module _ {S T : Type 0} (nodes : ℕ) (s : State S (View T)) (g : Graph) (r : Sh
   enough : (i : ℕ) → count i (copies k node) ≤ count i v.held
   enough i = let a = fresh-count node k i in let b = part_fit i in let c = my_part nodes s g r id v at i in omega arith
 
-  abbrev rest : View T
-  rest = rest_view node k c v
+  abbrev pub rest : View T
+  rest = rest_view node k c l v
 
-  abbrev part : View T
-  part = part_view node k c v
+  abbrev pub part : View T
+  part = part_view node k c l v
 
-  abbrev views1 : List (View T)
+  abbrev pub views1 : List (View T)
   views1 = set s.views id rest
 
-  abbrev views2 : List (View T)
+  abbrev pub views2 : List (View T)
   views2 = views1 ++ part ∷ []
 
-  size1 : length views1 ≡ new
+  pub size1 : length views1 ≡ new
   size1 = length-set s.views id rest
 
-  at_new : view_at views2 new ≡ part
+  pub at_new : view_at views2 new ≡ part
   at_new = ap (λ k. view_at views2 k) (sym size1) ∙ snoc_at blank views1 part
 
-  at_old : (a : ℕ) → a ≢ new → view_at views2 a ≡ view_at views1 a
+  pub at_old : (a : ℕ) → a ≢ new → view_at views2 a ≡ view_at views1 a
   at_old a n = dite (dec_le new a)
       (λ h. snoc_high blank views1 part a (let e = size1 in omega arith) ∙ sym (beyond blank views1 a (let e = size1 in omega arith)))
       (λ h. let l : a < new = lt_of_not-le h in snoc_low blank views1 part a (let e = size1 in omega arith))
 
-  sum_is : (f : View T → ℕ) → total f views2 ≡ total f views1 + f part
+  pub sum_is : (f : View T → ℕ) → total f views2 ≡ total f views1 + f part
   sum_is f = let a = total-append f views1 (part ∷ []) in omega arith
 
   nothing : (i : ℕ) → amount (Held new) (g.arrivals i) ≡ 0
@@ -144,12 +144,12 @@ module _ {S T : Type 0} (nodes : ℕ) (s : State S (View T)) (g : Graph) (r : Sh
       (λ n'. ap (λ (u : View T). count i u.held) (else_is s.views id v at rest a n') ∙ r.holding a i ∙ sym (same_else nodes s g r id new new_apart m part_fit a i n' n)))
 
   -- a part of a view that both seats have of the first one
-  both_have : {A : Type 0} (p : View T → A) → p rest ≡ p v → p part ≡ p v → (a : ℕ) → (p (view_at views2 a) ≡ p v) ⊎ (p (view_at views2 a) ≡ p (view_at s.views a))
+  pub both_have : {A : Type 0} (p : View T → A) → p rest ≡ p v → p part ≡ p v → (a : ℕ) → (p (view_at views2 a) ≡ p v) ⊎ (p (view_at views2 a) ≡ p (view_at s.views a))
   both_have p e f a = dite (ℕ_discrete a new)
       (λ h. inl (ap (λ k. p (view_at views2 k)) h ∙ ap p at_new ∙ f))
       (λ n. inr (ap p (at_old a n) ∙ stays s.views id v at p rest e a))
 
-  kept_same : (i j : ℕ) → kept_at i j views2 ≡ kept_at i j s.views
+  pub kept_same : (i j : ℕ) → kept_at i j views2 ≡ kept_at i j s.views
   kept_same i j = let a = sum_is (λ (v : View T). total (keeps_at i j) v.armed) in let b = sum_stays s.views id v at (λ u. total (keeps_at i j) u.armed) rest refl in omega arith
 
   part_noting : Noting nodes s.words views2 g.armed
@@ -180,5 +180,5 @@ module _ {S T : Type 0} (nodes : ℕ) (s : State S (View T)) (g : Graph) (r : Sh
       part_noting
 
 -- whatever the table shows, it is Give to the new seat
-pub is_split : (S : Type 0) {T : Type 0} (nodes node k c : ℕ) (v : View T) → k ≤ count node v.held → c ≤ v.credit → (k ≡ 0 → node ≡ 0) → IsSplit S nodes node k v (rest_view node k c v) (part_view node k c v)
-is_split S nodes node k c v have pays end s g id r at = (((λ pos. is_drawn nodes s g r id v at node pos (dite (ℕ_discrete k 0) (λ z. let e = end z in absurd (omega arith)) (λ n. omega arith))), (let a = my_part nodes s g r id v at node in omega arith)), parts nodes s g r id v at node k c have pays)
+pub is_split : (S : Type 0) {T : Type 0} (nodes node k c : ℕ) (l : List ℕ) (v : View T) → k ≤ count node v.held → c ≤ v.credit → (k ≡ 0 → node ≡ 0) → IsSplit S nodes node k v (rest_view node k c l v) (part_view node k c l v)
+is_split S nodes node k c l v have pays end s g id r at = (((λ pos. is_drawn nodes s g r id v at node pos (dite (ℕ_discrete k 0) (λ z. let e = end z in absurd (omega arith)) (λ n. omega arith))), (let a = my_part nodes s g r id v at node in omega arith)), parts nodes s g r id v at node k c l have pays)

@@ -82,45 +82,45 @@ module _ (from to : ℕ) (apart : from ≢ to) (held : List ℕ) where
         legal_gives n (after (Give from to (suc n) (count (suc n) held)) g) (λ i l. subst (λ j. count i held ≤ amount (Held from) (rename j (Held from) (Held to) (g.arrivals i))) (sym (fresh_else (suc n) (count (suc n) held) i (λ e. absurd (omega arith)))) (have i (omega arith))) drawn,
       ))
 
-note-append : {A : Type 0} (i : ℕ) (k : A) (xs ys : List (ℕ × A)) → note_of i (xs ++ ys) ≡ Some k → (note_of i xs ≡ Some k) ⊎ (note_of i ys ≡ Some k)
+pub note-append : {A : Type 0} (i : ℕ) (k : A) (xs ys : List (ℕ × A)) → note_of i (xs ++ ys) ≡ Some k → (note_of i xs ≡ Some k) ⊎ (note_of i ys ≡ Some k)
 note-append i k [] ys e = inr e
 note-append i k (x ∷ xs) ys e = dite (ℕ_discrete x.0 i)
     (λ h. inl (ap (λ b. cond b (Some x.1) (note_of i xs)) (eq-eqb x.0 i h) ∙ sym (ap (λ b. cond b (Some x.1) (note_of i (xs ++ ys))) (eq-eqb x.0 i h)) ∙ e))
     (λ n. ⊎_elim (λ z. inl (ap (λ b. cond b (Some x.1) (note_of i xs)) (ne_eqb x.0 i n) ∙ z)) (λ z. inr z) (note-append i k xs ys (sym (ap (λ b. cond b (Some x.1) (note_of i (xs ++ ys))) (ne_eqb x.0 i n)) ∙ e)))
 
-least_is : (x : ℕ) (a b : Option ℕ) (n : ℕ) → ((m : ℕ) → a ≡ Some m → x ≤ m) → ((m : ℕ) → b ≡ Some m → x ≤ m) → least a b ≡ Some n → x ≤ n
+pub least_is : (x : ℕ) (a b : Option ℕ) (n : ℕ) → ((m : ℕ) → a ≡ Some m → x ≤ m) → ((m : ℕ) → b ≡ Some m → x ≤ m) → least a b ≡ Some n → x ≤ n
 least_is x None b n p q e = q n e
 least_is x (Some m) None n p q e = p n e
 least_is x (Some m) (Some k) n p q e = let h = some_is (min m k) n e in let a = p m refl in let b = q k refl in omega arith
 
-or_is : (a b : Bool) → (a || b) ≡ true → (a ≡ true) ⊎ (b ≡ true)
+pub or_is : (a b : Bool) → (a || b) ≡ true → (a ≡ true) ⊎ (b ≡ true)
 or_is true b e = inl refl
 or_is false b e = inr e
 
 module _ {S T : Type 0} (nodes : ℕ) (s : State S (View T)) (g : Graph) (r : Shows nodes s g) (id other : ℕ) (apart : other ≢ id) (v u : View T) (at : get_elem? s.views id ≡ some v) (there' : get_elem? s.views other ≡ some u) (spent : (i : ℕ) → count i u.claims ≡ 0) where
-  abbrev both : View T
+  abbrev pub both : View T
   both = joined_view v u
 
-  abbrev views1 : List (View T)
+  abbrev pub views1 : List (View T)
   views1 = set s.views id both
 
-  abbrev views2 : List (View T)
+  abbrev pub views2 : List (View T)
   views2 = set views1 other blank
 
-  at1 : get_elem? views1 other ≡ some u
+  pub at1 : get_elem? views1 other ≡ some u
   at1 = set_else s.views id other both apart ∙ there'
 
-  abbrev m : ℕ → ℕ
+  abbrev pub m : ℕ → ℕ
   m i = upto other id apart u.held nodes i
 
-  m_is : (i : ℕ) → m i ≡ count i u.held
+  pub m_is : (i : ℕ) → m i ≡ count i u.held
   m_is i = dite (dec_le i nodes) (λ l. upto_low other id apart u.held nodes i l) (λ l. let h : nodes < i = lt_of_not-le l in upto_high other id apart u.held nodes i h ∙ sym (dite (ℕ_discrete (count i u.held) 0) (λ e. e) (λ n. let q = held_low nodes s g r other u there' i (omega arith) in absurd (omega arith))))
 
-  join_fit : (i : ℕ) → m i ≤ amount (Held other) (g.arrivals i)
+  pub join_fit : (i : ℕ) → m i ≤ amount (Held other) (g.arrivals i)
   join_fit i = let a = m_is i in let b = my_part nodes s g r other u there' i in omega arith
 
   -- a sum over all views
-  sum_is : (f : View T → ℕ) → f blank ≡ 0 → total f views2 + f v + f u ≡ total f s.views + f both
+  pub sum_is : (f : View T → ℕ) → f blank ≡ 0 → total f views2 + f v + f u ≡ total f s.views + f both
   sum_is f z = let a = total-set f views1 other u blank at1 in let b = total-set f s.views id v both at in omega arith
 
   join_holding : Holding views2 (renamed (Held other) (Held id) m g.arrivals)
@@ -133,14 +133,14 @@ module _ {S T : Type 0} (nodes : ℕ) (s : State S (View T)) (g : Graph) (r : Sh
       (λ n'. ap (λ (w : View T). count i w.held) (else_is s.views id v at both a n') ∙ r.holding a i ∙ sym (same_else nodes s g r other id apart m join_fit a i n n')))
 
   -- a part of a view: that of the joined ones, nothing, or as it was
-  part_of : {A : Type 0} (p : View T → A) (a : ℕ) → (p (view_at views2 a) ≡ p both) ⊎ ((p (view_at views2 a) ≡ p blank) ⊎ (p (view_at views2 a) ≡ p (view_at s.views a)))
+  pub part_of : {A : Type 0} (p : View T → A) (a : ℕ) → (p (view_at views2 a) ≡ p both) ⊎ ((p (view_at views2 a) ≡ p blank) ⊎ (p (view_at views2 a) ≡ p (view_at s.views a)))
   part_of p a = dite (ℕ_discrete a other)
       (λ e. inr (inl (ap (λ k. p (view_at views2 k)) e ∙ ap p (here_is views1 other u at1 blank))))
       (λ n. dite (ℕ_discrete a id)
       (λ e. inl (ap p (else_is views1 other u at1 blank a n) ∙ ap (λ k. p (view_at views1 k)) e ∙ ap p (here_is s.views id v at both)))
       (λ n'. inr (inr (ap p (else_is views1 other u at1 blank a n) ∙ ap p (else_is s.views id v at both a n')))))
 
-  kept_same : (i j : ℕ) → kept_at i j views2 ≡ kept_at i j s.views
+  pub kept_same : (i j : ℕ) → kept_at i j views2 ≡ kept_at i j s.views
   kept_same i j = let a = sum_is (λ (w : View T). total (keeps_at i j) w.armed) refl in let b = total-append (keeps_at i j) v.armed u.armed in omega arith
 
   noted_one : (a i : ℕ) (q : List ℕ) → note_of i (view_at s.views a).noted ≡ Some q → (g.armed i ≡ true) × ((j : ℕ) → count j q ≡ kept_at i j views2)
@@ -176,7 +176,7 @@ module _ {S T : Type 0} (nodes : ℕ) (s : State S (View T)) (g : Graph) (r : Sh
       none_seen n e = absurd (grind arith)
 
   -- the credits of two seats are no more than the whole
-  credits : v.credit + u.credit ≤ 4611686018427387904
+  pub credits : v.credit + u.credit ≤ 4611686018427387904
   credits = let a = total-set (λ (w : View T). w.credit) s.views id v blank at in let b = term_le (λ (w : View T). w.credit) (set s.views id blank) other u (set_else s.views id other blank apart ∙ there') in let p = r.counting.paid in omega arith
 
   pub joins : Shows nodes (record { words = s.words; homes = s.homes; views = views2 }) (after_all (gives_all other id u.held nodes) g)

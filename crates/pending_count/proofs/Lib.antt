@@ -12,3 +12,17 @@ pub mod Allowed
 pub mod Ranges
 pub mod Callers
 pub mod Uses
+pub mod SideParts
+pub mod Turning
+pub mod PlainSides
+pub mod ArmedSides
+pub mod GivenSides
+pub mod MoreSides
+pub mod OpenedSides
+pub mod Retold
+pub mod TakenSides
+pub mod PairedSides
+pub mod HandedSides
+pub mod MovedSides
+pub mod AllowedPairs
+pub mod Collected

@@ -7,7 +7,7 @@ use Rattle.completion_core.specs.Graph.{Held, Kept, one_same, not_made, copies, 
 use Rattle.completion_core.specs.Legal.{count}
 use Rattle.pending_count.specs.declared.view.View.{View}
 use Rattle.pending_count.specs.Views.{InRange, first_view, view_at, note_of}
-use Rattle.pending_count.specs.Shows.{Ruled}
+use Rattle.pending_count.specs.Shows.{Shows}
 use Rattle.pending_count.proofs.Sums.{one_at, total-ones, total-zeros, one_held, at_else, some_is}
 
 abbrev row : ℕ → List ℕ
@@ -68,43 +68,41 @@ module _ (S T : Type 0) (nodes ends : ℕ) where
   last_zero : get_or words' (nodes + 1) 0 ≡ 0
   last_zero = let e : nodes + 1 ≡ suc nodes = omega arith in ap (λ k. get_or words' k 0) e ∙ zeros (nodes + 1) nodes
 
-  pub opens : (slots : List S) (ws : List ℕ) → ws ≡ words' → Ruled {T = T} nodes (opening ws slots (first_view ends))
-  opens slots ws is = subst (λ ws. Ruled {T = T} nodes (opening ws slots (first_view ends))) (sym is) (
-    g,
-    record {
-      all_nodes = refl;
-      counting = record {
-        size = (let a = long_zeros (nodes + 1) in omega arith);
-        draws = (let a = last_zero in omega arith);
-        added = 0;
-        paid = (let a = last_zero in omega arith);
-        few = λ i p. let a = ap left (at_first i (λ e. absurd (omega arith))) in omega arith;
-        word = first_words;
-      };
-      holding = first_holds;
-      claiming = record {
-        drew = λ a i h. absurd (no_claims a i h);
-        once = λ a i p q. absurd (omega arith);
-      };
-      running = record {
-        below = λ i e. absurd (true≢false (sym e));
-        bare = λ i p e. at_first i (λ e. absurd (omega arith));
-        idle = λ i e. refl;
-        waits = λ i e. absurd (true≢false (sym e));
-        over = λ i e. absurd (true≢false (sym e));
-      };
-      keeping = record {
-        records = λ i. refl;
-        keeping = λ i j e. kept_first i j;
-        spent = λ i j e. kept_first i j;
-      };
-      noting = record {
-        noted = λ a i k e. absurd (no_notes a i k e);
-        seen = first_seen;
-        exhausted = λ a e. absurd (none_spent a e);
-      };
-    },
-  )
+  pub opens : (slots : List S) → Shows {T = T} nodes (opening words' slots (first_view ends)) g
+  opens slots =
+      record {
+        all_nodes = refl;
+        counting = record {
+          size = (let a = long_zeros (nodes + 1) in omega arith);
+          draws = (let a = last_zero in omega arith);
+          added = 0;
+          paid = (let a = last_zero in omega arith);
+          few = λ i p. let a = ap left (at_first i (λ e. absurd (omega arith))) in omega arith;
+          word = first_words;
+        };
+        holding = first_holds;
+        claiming = record {
+          drew = λ a i h. absurd (no_claims a i h);
+          once = λ a i p q. absurd (omega arith);
+        };
+        running = record {
+          below = λ i e. absurd (true≢false (sym e));
+          bare = λ i p e. at_first i (λ e. absurd (omega arith));
+          idle = λ i e. refl;
+          waits = λ i e. absurd (true≢false (sym e));
+          over = λ i e. absurd (true≢false (sym e));
+        };
+        keeping = record {
+          records = λ i. refl;
+          keeping = λ i j e. kept_first i j;
+          spent = λ i j e. kept_first i j;
+        };
+        noting = record {
+          noted = λ a i k e. absurd (no_notes a i k e);
+          seen = first_seen;
+          exhausted = λ a e. absurd (none_spent a e);
+        };
+      }
 
 -- the first seat holds arrivals at END alone
 pub first_ranged : {T : Type 0} (words ends : ℕ) (v : View T) → v ≡ first_view ends → (n : ℕ) → words ≡ n + 2 → InRange n v

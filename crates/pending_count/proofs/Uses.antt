@@ -4,11 +4,11 @@ use mathlib.Core.Logic.{dite}
 use native.Mathlib.Decide.{ℕ_discrete}
 use Rattle.completion_core.specs.Legal.{count}
 use Rattle.pending_count.specs.declared.view.View.{View}
-use Rattle.pending_count.specs.Views.{first_view, note_of}
+use Rattle.pending_count.specs.Views.{IsPlainAt, left_slot, right_slot, first_view, note_of}
 use Rattle.pending_count.specs.Steps.{IsClaimed, IsArmed, IsArrived, drawn_node}
 use Rattle.pending_count.proofs.Sums.{at_here, at_else}
 use Rattle.pending_count.proofs.Records.{fresh_here}
-use Rattle.pending_count.proofs.Callers.{drawn_is, claim_held, claim_noted, claim_larger, pending_held, arm_held, arm_note, arm_note_else, pending_noted, last_held, last_noted}
+use Rattle.pending_count.proofs.Callers.{drawn_is, claim_held, claim_noted, claim_sides, claim_larger, pending_held, pending_sides, pending_side_notes, arm_held, arm_sides, arm_side_note, arm_note, arm_note_else, pending_noted, last_sides, last_held, last_noted}
 
 -- the single entry of a list
 pub only_one : (i a : ℕ) → 0 < count i (a ∷ []) → i ≡ a
@@ -37,6 +37,33 @@ module _ {S T : Type 0} {nodes k1 k2 k3 : ℕ} (v0 v1 v2 v3 : View T) (a b n1 n2
       (λ q. subst (λ k. count k (a ∷ []) ≤ count k v3.held) (sym q) (let o = at_here a in let f : count a v3.held ≡ count a v2.held = ap (count a) (claim_held n2 b c2 d2) in let h = have_first in omega arith))
       (λ m. let z = at_else i a (λ q. m (sym q)) in omega arith)
 
+  none_held1 : (k : ℕ) → count k v1.sides ≡ 0
+  none_held1 k = ap (count k) (claim_sides n1 a c1 d1 ∙ ap (λ (u : View T). u.sides) first)
+
+  none_held3 : (k : ℕ) → count k v3.sides ≡ 0
+  none_held3 k = ap (count k) (claim_sides n2 b c2 d2) ∙ arm_sides a 0 (0 ∷ []) r1 none_held1 k
+
+  pub both_above : 0 < b
+  both_above = let s = second_above in let f = first_above in omega arith
+
+  -- the arrivals at the second node
+  module _ {k4 : ℕ} (v4 : View T) (r2 : IsArmed S nodes k4 b 1 (a ∷ []) v3 v4) where
+    pub second_plain : IsPlainAt b v4
+    second_plain = (arm_sides b 1 (a ∷ []) r2 none_held3 (left_slot b), arm_sides b 1 (a ∷ []) r2 none_held3 (right_slot b))
+
+    second_held : 1 < count b v4.held
+    second_held = let h = arm_held b 1 (a ∷ []) r2 fit2 b in let o = fresh_here b 2 in let z = at_else b a (λ e. let s = second_above in absurd (omega arith)) in omega arith
+
+    module _ {k5 : ℕ} (v5 : View T) (n3 : ℕ) (p : IsArrived S nodes k5 b v4 n3 v5) (more : n3 ≢ 1) where
+      some_held : 0 < count b v4.held
+      some_held = let h = second_held in omega arith
+
+      pub second_again : IsPlainAt b v5
+      second_again = (ap (count (left_slot b)) (pending_sides b n3 p some_held more) ∙ second_plain.0, ap (count (right_slot b)) (pending_sides b n3 p some_held more) ∙ second_plain.1)
+
+      pub second_left : 0 < count b v5.held
+      second_left = let h = pending_held b n3 p some_held more b in let t = second_held in let o = at_here b in omega arith
+
   module _ {k4 k5 k6 : ℕ} (v4 v5 v6 : View T) (r2 : IsArmed S nodes k4 b 1 (a ∷ []) v3 v4) (n3 n4 : ℕ) (p : IsArrived S nodes k5 b v4 n3 v5) (more : n3 ≢ 1) (l : IsArrived S nodes k6 b v5 n4 v6) (one : n4 ≡ 1) where
     apart : a ≢ b
     apart e = let s = second_above in absurd (omega arith)
@@ -49,6 +76,18 @@ module _ {S T : Type 0} {nodes k1 k2 k3 : ℕ} (v0 v1 v2 v3 : View T) (a b n1 n2
 
     one_there : 0 < count b v5.held
     one_there = let h = pending_held b n3 p some_there more b in let t = two_there in let o = at_here b in omega arith
+
+    none_held4 : (k : ℕ) → count k v4.sides ≡ 0
+    none_held4 = arm_sides b 1 (a ∷ []) r2 none_held3
+
+    none_held5 : (k : ℕ) → count k v5.sides ≡ 0
+    none_held5 k = ap (count k) (pending_sides b n3 p some_there more) ∙ none_held4 k
+
+    none_held6 : (k : ℕ) → count k v6.sides ≡ 0
+    none_held6 = last_sides b n4 l one_there one (ap (note_of b) (pending_side_notes b n3 p some_there more) ∙ arm_side_note b 1 (a ∷ []) r2 none_held3) none_held5
+
+    pub first_plain : IsPlainAt a v6
+    first_plain = (none_held6 (left_slot a), none_held6 (right_slot a))
 
     pub first_is_back : 0 < count a v6.held
     first_is_back =

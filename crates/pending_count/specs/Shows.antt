@@ -63,6 +63,6 @@ module _ {T : Type 0} where
     pub keeping : Keeping s.views g.arrivals g.armed g.ran
     pub noting : Noting nodes s.words s.views g.armed
 
-  -- between any two steps the words and the views show some graph
-  abbrev pub Ruled : {S : Type 0} → ℕ → State S (View T) → Type 0
-  Ruled nodes s = (g : Graph) × Shows nodes s g
+  -- the words and the views show some graph
+  abbrev pub IsShown : {S : Type 0} → ℕ → State S (View T) → Type 0
+  IsShown nodes s = (g : Graph) × Shows nodes s g

@@ -12,7 +12,7 @@ use Rattle.completion_core.specs.Legal.{count, Legal, after, reply, reply_of_arr
 use Rattle.completion_core.specs.Runs.{LegalAll, after_all}
 use Rattle.pending_count.specs.declared.view.View.{View}
 use Rattle.pending_count.specs.Views.{blank, InRange, note_of, claimed_view, armed_view, arrived_view, finished_view, added_view, looked_view}
-use Rattle.pending_count.specs.Shows.{Shows, Ruled}
+use Rattle.pending_count.specs.Shows.{Shows, IsShown}
 
 -- the first of the actions answers this
 abbrev pub Answers : List Action → Graph → Reply → Type 0
@@ -41,7 +41,7 @@ module _ {T : Type 0} where
   pub record OneStep (S : Type 0) (nodes i n n' : ℕ) (actor : ℕ) (v w : View T) (actions : List Action) (answer : Reply) : Type 0 where
     pub before : State S (View T)
     pub later : State S (View T)
-    pub ruled : Ruled nodes before
+    pub ruled : IsShown nodes before
     pub found : slice_index before.words i ≡ n
     pub viewed : get_elem? before.views actor ≡ some v
     pub words : later.words ≡ slice_set before.words i n'
@@ -65,7 +65,7 @@ module _ {T : Type 0} where
   pub record IsArrived (S : Type 0) (nodes actor node : ℕ) (v : View T) (n : ℕ) (w : View T) : Type 0 where
     pub some_owed : 0 < n
     pub pending : n ≢ 1 → w ≡ arrived_view node v
-    pub last : n ≡ 1 → (kept : List ℕ) × (w ≡ finished_view node kept v) × ((given : List ℕ) → note_of node v.noted ≡ Some given → (j : ℕ) → count j kept ≡ count j given)
+    pub last : n ≡ 1 → (kept kept_sides : List ℕ) × (w ≡ finished_view node kept kept_sides v) × ((given : List ℕ) → note_of node v.noted ≡ Some given → (j : ℕ) → count j kept ≡ count j given) × ((given : List ℕ) → note_of node v.noted_sides ≡ Some given → (k : ℕ) → count k kept_sides ≡ count k given)
     pub one_step : OneStep S nodes node n (n - 1) actor v w (arrival_actions actor node n) (reply_of_arrival (n - 1))
 
   -- d arrivals were added, where n were owed and not made

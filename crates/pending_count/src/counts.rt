@@ -1,13 +1,13 @@
 //! The counts of a completion tree, and the steps of their seats.
 ghost use Rattle.std.specs.Prelude.{◌≡◌, ◌≢◌, None, ℕ, ◌+◌, ◌-◌, ◌*◌, ◌^◌, ◌<◌, ◌≤◌, List, [], ◌∷◌, IfOk, IfErr, IfSome, replicate};
 ghost use Rattle.completion_core.specs.Legal.{count, reply_of_arrival};
-ghost use Rattle.pending_count.specs.Views.{first_view, joined_view, rest_view, part_view};
+ghost use Rattle.pending_count.specs.Views.{left_slot, right_slot, IsPlainAt, first_view, joined_view, rest_view, part_view};
 ghost use Rattle.pending_count.specs.Steps.{IsClaimed, IsArmed, IsArrived, IsAdded, IsSettled, IsLeft, IsSplit, IsJoined, drawn_node};
 ghost use Rattle.pending_count.specs.Seats.{Content, view_of, actor_of, table_of, IsSameSeat, seat_back, reply_back, IsFinishOf};
 
 use crate::place::{Fits, Slot};
 use crate::rule::{
-    Acting, Add, Arm, Arming, Arrive, Both, Claim, Look, Part, Parting, Rule, Settle,
+    Acting, Add, All, Arm, Arming, Arrive, Both, Claim, Look, Part, Parting, Rule, Settle,
 };
 use crate::seat::{Arrived, Finish, Seat};
 use crate::view::{Sizes, View};
@@ -18,13 +18,13 @@ use std::marker::Brand;
 
 const CREDIT: u64 = 1 << 62;
 
-type Words<V, K, T> = Table<Option<Slot<V, K>>, View<T>, Sizes, Rule<V, K>, Global>;
+pub(crate) type Words<V, K, T> = Table<Option<Slot<V, K>>, View<T>, Sizes, Rule<V, K>, Global>;
 
 /// The pending counts of many nodes, each in an atomic word of its own, and of END. Threads share it by `&`; what each of them may do stands in its `Seat`.
 #[derive(Drop)]
 pub struct Counts<V, K: Fits<V>> {
-    table: Words<V, K, K::Tag>,
-    nodes: Node,
+    pub(crate) table: Words<V, K, K::Tag>,
+    pub(crate) nodes: Node,
     ghost words: { (table.shared.table_id.words ≡ nodes + 2) × (table.shared.table_id.slots ≡ 3 * (nodes + 1)) },
     ghost told: { table.shared.key.nodes ≡ nodes },
 }
@@ -88,6 +88,7 @@ impl<V, K: Fits<V>> Counts<V, K> {
         requires claimed { 0 < count node (view_of seat).claims }
         requires have { (i : ℕ) → count i onward.now ≤ count i (view_of seat).held }
         requires smaller { (i : ℕ) → 0 < count i onward.now → i < node }
+        requires one_side { (i : ℕ) → 0 < count i onward.now → count (left_slot i) (view_of seat).sides + count (right_slot i) (view_of seat).sides ≤ 1 }
         ensures seat { IsSameSeat seat result }
         ensures armed { IsArmed (Content V K) self.now.nodes (actor_of seat) node pending onward.now (view_of seat) (view_of result) }
     {
@@ -105,6 +106,7 @@ impl<V, K: Fits<V>> Counts<V, K> {
         requires claimed { 0 < count node (view_of seat).claims }
         requires have { (i : ℕ) → count i onward.now ≤ count i (view_of seat).held }
         requires smaller { (i : ℕ) → 0 < count i onward.now → i < node }
+        requires one_side { (i : ℕ) → 0 < count i onward.now → count (left_slot i) (view_of seat).sides + count (right_slot i) (view_of seat).sides ≤ 1 }
         requires picked { (A.nodes ≡ self.now.nodes) × (A.actor ≡ actor_of seat) × (A.pending ≡ pending) × (A.onward ≡ onward.now) }
         ensures seat { IsSameSeat seat result }
         ensures armed { IsArmed (Content V K) self.now.nodes (actor_of seat) node pending onward.now (view_of seat) (view_of result) }
@@ -121,6 +123,7 @@ impl<V, K: Fits<V>> Counts<V, K> {
         requires table { table_of seat ≡ self.now.table.shared.table_id }
         requires node { 0 < node }
         requires have { 0 < count node (view_of seat).held }
+        requires plain { IsPlainAt node (view_of seat) }
         ensures added { IfOk result (λ later. IsSameSeat seat later × IsAdded (Content V K) self.now.nodes (actor_of seat) node d (view_of seat) (view_of later)) }
         ensures paid { IfOk result (λ _. d ≤ (view_of seat).credit) }
         ensures unpaid { IfErr result (λ same. ((view_of seat).credit < d) × IsSameSeat seat same × (view_of same ≡ view_of seat)) }
@@ -137,6 +140,7 @@ impl<V, K: Fits<V>> Counts<V, K> {
         requires table { table_of seat ≡ self.now.table.shared.table_id }
         requires node { 0 < node }
         requires have { 0 < count node (view_of seat).held }
+        requires plain { IsPlainAt node (view_of seat) }
         requires picked { (A.nodes ≡ self.now.nodes) × (A.actor ≡ actor_of seat) }
         ensures added { IfOk result (λ later. IsSameSeat seat later × IsAdded (Content V K) self.now.nodes (actor_of seat) node d (view_of seat) (view_of later)) }
         ensures paid { IfOk result (λ _. d ≤ (view_of seat).credit) }
@@ -161,6 +165,7 @@ impl<V, K: Fits<V>> Counts<V, K> {
         requires table { table_of seat ≡ self.now.table.shared.table_id }
         requires node { 0 < node }
         requires have { 0 < count node (view_of seat).held }
+        requires plain { IsPlainAt node (view_of seat) }
         ensures seat { IsSameSeat seat (seat_back result) }
         ensures arrived { (n : ℕ) × (reply_back result ≡ reply_of_arrival (n - 1)) × IsArrived (Content V K) self.now.nodes (actor_of seat) node (view_of seat) n (view_of (seat_back result)) }
         ensures finish { IsFinishOf node result }
@@ -172,6 +177,7 @@ impl<V, K: Fits<V>> Counts<V, K> {
         requires table { table_of seat ≡ self.now.table.shared.table_id }
         requires node { 0 < node }
         requires have { 0 < count node (view_of seat).held }
+        requires plain { IsPlainAt node (view_of seat) }
         requires picked { (A.nodes ≡ self.now.nodes) × (A.actor ≡ actor_of seat) }
         ensures seat { IsSameSeat seat (seat_back result) }
         ensures arrived { (n : ℕ) × (reply_back result ≡ reply_of_arrival (n - 1)) × IsArrived (Content V K) self.now.nodes (actor_of seat) node (view_of seat) n (view_of (seat_back result)) }
@@ -242,10 +248,11 @@ impl<V, K: Fits<V>> Counts<V, K> {
     ) -> (Seat<V, K>, Seat<V, K>)
         requires table { table_of seat ≡ self.now.table.shared.table_id }
         requires have { k ≤ count node (view_of seat).held }
+        requires plain { 0 < node → IsPlainAt node (view_of seat) }
         requires end { k ≡ 0 → node ≡ 0 }
         requires credit { credit ≤ (view_of seat).credit }
         ensures seat { IsSameSeat seat result.0 × (table_of result.1 ≡ table_of seat) }
-        ensures parts { (view_of result.0 ≡ rest_view node k credit (view_of seat)) × (view_of result.1 ≡ part_view node k credit (view_of seat)) }
+        ensures parts { (view_of result.0 ≡ rest_view node k credit [] (view_of seat)) × (view_of result.1 ≡ part_view node k credit [] (view_of seat)) }
         ensures split { IsSplit (Content V K) self.now.nodes node k (view_of seat) (view_of result.0) (view_of result.1) }
     {
         self.split_by::<Brand>(seat, node, k, credit)
@@ -260,11 +267,12 @@ impl<V, K: Fits<V>> Counts<V, K> {
     ) -> (Seat<V, K>, Seat<V, K>)
         requires table { table_of seat ≡ self.now.table.shared.table_id }
         requires have { k ≤ count node (view_of seat).held }
+        requires plain { 0 < node → IsPlainAt node (view_of seat) }
         requires end { k ≡ 0 → node ≡ 0 }
         requires credit { credit ≤ (view_of seat).credit }
-        requires picked { (A.node ≡ node) × (A.arrivals ≡ k) × (A.credit ≡ credit) }
+        requires picked { (A.node ≡ node) × (A.arrivals ≡ k) × (A.credit ≡ credit) × (A.sides ≡ []) }
         ensures seat { IsSameSeat seat result.0 × (table_of result.1 ≡ table_of seat) }
-        ensures parts { (view_of result.0 ≡ rest_view node k credit (view_of seat)) × (view_of result.1 ≡ part_view node k credit (view_of seat)) }
+        ensures parts { (view_of result.0 ≡ rest_view node k credit [] (view_of seat)) × (view_of result.1 ≡ part_view node k credit [] (view_of seat)) }
     {
         let Seat {
             mut token,
@@ -294,10 +302,12 @@ impl<V, K: Fits<V>> Counts<V, K> {
     {
         let Seat { mut token, credit } = seat;
         let Seat {
-            token: second,
+            token: mut second,
             credit: more,
         } = other;
-        self.table.shared.join_seat::<Both>(&mut token, second);
+        // Slots that are out with the second seat for good stay with its old token.
+        let whole = self.table.shared.split_seat::<All>(&mut second);
+        self.table.shared.join_seat::<Both>(&mut token, whole);
         Seat {
             token,
             credit: (credit + more).min(CREDIT),

@@ -12,6 +12,7 @@
 #![tactic(auto)]
 
 mod counts;
+mod pairs;
 mod place;
 mod rule;
 mod seat;
@@ -20,7 +21,7 @@ mod view;
 pub use completion_core::Node;
 pub use counts::Counts;
 pub use place::{Fits, Place, Side};
-pub use seat::{Arrived, Finish, Seat};
+pub use seat::{Arrived, ArrivedPair, Finish, FinishPair, Seat};
 pub use std::alloc::AllocError as NoMemory;
 
 #[cfg(test)]

@@ -25,7 +25,7 @@ pub struct Place<T> {
 /// What is kept at a pair for the last of its two arrivals. It tells the pair's tag and where the pair's own value goes.
 pub trait Fits<V> {
     /// What tells one pair from another, as a range of items that it stands for.
-    type Tag;
+    type Tag: Copy;
 
     // The fact of a tag, a side and a value that comes in on it.
     ghost fits: { Self.Tag → Side → V → Type 0 };

@@ -1,8 +1,8 @@
 //! The rule of the table, and what each step tells.
-ghost use Rattle.std.specs.Prelude.{ℕ, List, []};
-ghost use Rattle.pending_count.specs.Shows.{Ruled};
+ghost use Rattle.std.specs.Prelude.{ℕ, Bool, true, List, []};
+ghost use Rattle.pending_count.specs.Pairs.{Ruled};
 ghost use Rattle.pending_count.specs.Views.{blank, first_view, rest_view, part_view, joined_view};
-ghost use Rattle.pending_count.specs.Plays.{claimed, armed, arrived, added, settled, looked};
+ghost use Rattle.pending_count.specs.Plays.{claimed, armed, arrived, added, settled, looked, took, paired, handed};
 
 use crate::place::{Fits, Slot};
 use crate::view::{Sizes, View};
@@ -14,7 +14,7 @@ pub struct Rule<V, K> {
 }
 
 impl<V, K: Fits<V>> TableRule<Option<Slot<V, K>>, View<K::Tag>, Sizes> for Rule<V, K> {
-    ghost holds = { λ z. Ruled z.nodes };
+    ghost holds = { λ z. Ruled K.fits K.tag_of K.place_of z.nodes };
 
     ghost first = { λ z. first_view z.ends };
 }
@@ -81,6 +81,9 @@ pub trait Arming {
     ghost pending: { ℕ };
 
     ghost onward: { List ℕ };
+
+    // Of a pair, the slot of what it keeps.
+    ghost slot: { ℕ };
 }
 
 impl Arming for Brand {
@@ -91,6 +94,8 @@ impl Arming for Brand {
     ghost pending = { 0 };
 
     ghost onward = { [] };
+
+    ghost slot = { 0 };
 }
 
 pub struct Arm<A> {
@@ -108,6 +113,8 @@ pub trait Parting {
     ghost arrivals: { ℕ };
 
     ghost credit: { ℕ };
+
+    ghost sides: { List ℕ };
 }
 
 impl Parting for Brand {
@@ -116,6 +123,8 @@ impl Parting for Brand {
     ghost arrivals = { 0 };
 
     ghost credit = { 0 };
+
+    ghost sides = { [] };
 }
 
 pub struct Part<A> {
@@ -123,9 +132,9 @@ pub struct Part<A> {
 }
 
 impl<T, A: Parting> Split<View<T>> for Part<A> {
-    ghost left = { rest_view A.node A.arrivals A.credit };
+    ghost left = { rest_view A.node A.arrivals A.credit A.sides };
 
-    ghost right = { part_view A.node A.arrivals A.credit };
+    ghost right = { part_view A.node A.arrivals A.credit A.sides };
 }
 
 pub struct Both;
@@ -134,4 +143,65 @@ impl<T> Join<View<T>> for Both {
     ghost both = { joined_view };
 
     ghost spent = { blank };
+}
+
+pub struct All;
+
+impl<T> Split<View<T>> for All {
+    ghost left = { λ _. blank };
+
+    ghost right = { λ v. v };
+}
+
+pub struct TakeKept<A> {
+    of: PhantomData<A>,
+}
+
+impl<S, T, A: Arming> Play<Option<S>, View<T>> for TakeKept<A> {
+    ghost then = { took A.slot };
+}
+
+pub struct ArmPair<V, K, A> {
+    of: PhantomData<(V, K, A)>,
+}
+
+impl<V, K: Fits<V>, A: Arming> Play<Option<Slot<V, K>>, View<K::Tag>> for ArmPair<V, K, A> {
+    ghost then = { paired K.fits K.tag_of K.place_of A.nodes A.actor A.onward };
+}
+
+/// On which side a value is handed in, and in which slot. Each call picks it.
+pub trait Handing {
+    ghost nodes: { ℕ };
+
+    ghost actor: { ℕ };
+
+    ghost slot: { ℕ };
+
+    ghost left: { Bool };
+}
+
+impl Handing for Brand {
+    ghost nodes = { 0 };
+
+    ghost actor = { 0 };
+
+    ghost slot = { 0 };
+
+    ghost left = { true };
+}
+
+pub struct TakeSide<A> {
+    of: PhantomData<A>,
+}
+
+impl<S, T, A: Handing> Play<Option<S>, View<T>> for TakeSide<A> {
+    ghost then = { took A.slot };
+}
+
+pub struct Hand<V, K, A> {
+    of: PhantomData<(V, K, A)>,
+}
+
+impl<V, K: Fits<V>, A: Handing> Play<Option<Slot<V, K>>, View<K::Tag>> for Hand<V, K, A> {
+    ghost then = { handed K.fits K.tag_of K.place_of A.nodes A.actor A.left };
 }

@@ -14,7 +14,7 @@ pub struct Seat<V, K: Fits<V>> {
     pub(crate) token: Token<V, K, K::Tag>,
     pub(crate) credit: u64,
     ghost paid: { (token.me.0.credit ≡ credit) × (credit ≤ 2 ^ 62) },
-    ghost home: { token.me.1 ≡ [] },
+    ghost idle: { token.me.0.taken ≡ [] },
     ghost ranged: { (nodes : ℕ) → token.table_id.words ≡ nodes + 2 → InRange nodes token.me.0 },
 }
 
@@ -49,4 +49,21 @@ impl Finish {
     {
         self.node
     }
+}
+
+/// The right to run the continuation of a pair, with what came in on its sides and what was kept for it.
+#[derive(Drop)]
+pub struct FinishPair<V, K> {
+    pub left: V,
+    pub right: V,
+    pub kept: K,
+}
+
+/// What an arrival at a pair found.
+#[derive(Drop)]
+pub enum ArrivedPair<V, K: Fits<V>> {
+    /// The other side is still owed; the number is the pending count that is left.
+    Pending(Seat<V, K>, u64),
+    /// It was the last. The seat has what the node kept.
+    Last(Seat<V, K>, FinishPair<V, K>),
 }

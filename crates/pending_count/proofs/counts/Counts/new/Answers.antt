@@ -1,9 +1,10 @@
 use Rattle.std.proofs.Common.{rules}
-use Rattle.pending_count.proofs.Opening.{opens, first_ranged}
+use Rattle.pending_count.proofs.Opening.{first_ranged}
+use Rattle.pending_count.proofs.OpenedSides.{opens_all}
 use Rattle.pending_count.proofs.counts.Counts.new.Goals as goal
 
 pub vacant-requires : goal.vacant-requires
-vacant-requires g c = opens _ _ _ _ _ _ (search rules)
+vacant-requires g c = opens_all g.K.Fits.fits g.K.Fits.tag_of g.K.Fits.place_of c.args.nodes c.args.ends _ (search rules)
 
 pub invariant_of-seat-clause-ranged : goal.invariant_of-seat-clause-ranged
 invariant_of-seat-clause-ranged g c = first_ranged {T = g.row.K-Tag.Denot} _ c.args.ends c.in_ok-table.token.me.0 (search rules)

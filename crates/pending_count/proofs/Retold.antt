@@ -1,0 +1,68 @@
+-- A view that changes in what it says of pairs alone shows the same graph.
+use Rattle.std.proofs.Common.{◌≡◌, ◌≢◌, ℕ, zero, suc, ◌+◌, ◌-◌, ◌*◌, ◌/◌, ◌%◌, ◌<◌, ◌≤◌, eqb, cond, not, Bool, true, false, List, [], ◌∷◌, ◌++◌, length, get_or, set, sym, refl, ap, ◌∙◌, subst, arith, eq-eqb, ne_eqb, true≢false, get_or-set_same, get_or-set_other, length-set, Option, Some, None, ◌⊎◌, inl, inr, ⊎_elim, ◌||◌}
+use mathlib.Core.Logic.{dite}
+use mathlib.Core.Option.{none, some}
+use mathlib.Core.Option as mc
+use native.Mathlib.Decide.{ℕ_discrete, dec_le}
+use lib.ListN.{get_elem?}
+use Rattle.atomic_table.specs.Table.{State}
+use Rattle.atomic_table.proofs.Lists.{set_here, set_else}
+use Rattle.completion_core.specs.Graph.{Arrival, Made, Held, Kept, same, one_same, not_made, total, copies, amount, left, Graph}
+use Rattle.completion_core.specs.Legal.{renamed, rename, with_fresh, only_at, count, upd}
+use Rattle.pending_count.specs.declared.view.View.{View}
+use Rattle.pending_count.specs.declared.place.Side.{Side}
+use Rattle.pending_count.specs.declared.place.Side.TheVariants.{Left, Right, Whole}
+use Rattle.pending_count.specs.declared.place.Place.{Place}
+use Rattle.pending_count.specs.declared.place.Slot.{Slot}
+use Rattle.pending_count.specs.declared.place.Slot.TheVariants.{Value, Kept as KeptValue}
+use Rattle.pending_count.specs.Views.{left_slot, right_slot, kept_slot, side_at, sides_of, blank, view_at, names, keeps_at, given, note_of, less, minus, given_by_all, sides_given_by_all, IsPlainAt, armed_view, arrived_view, finished_view, rest_view, part_view, joined_view}
+use Rattle.pending_count.specs.Shows.{Shows, Counting, Holding, Claiming, Keeping, Noting, kept_at, one_if}
+use Rattle.pending_count.specs.Pairs.{side_slot, side_of, slot_of, noted_place, side_kept_at, Sided, SideKeeping, SideNoting, Slotted, Pairing}
+use Rattle.pending_count.proofs.Sums.{one_at, total-append, total-set, total-less, total-minus, total-ones, total-zeros, total-rename, term_le, bool_case, here, self_held, self_kept, one_held, one_kept, at_here, at_else, at_sym, same_is, some_is, upd_here, upd_else, seat_is}
+use Rattle.pending_count.proofs.Records.{count-given, names_is, names_not, keeps_is, keeps_not, unnamed, one_if_le}
+use Rattle.pending_count.proofs.Parts.{there, mine, here_is, else_is, stays, sum_stays}
+use Rattle.pending_count.proofs.SideParts.{by_option, none_some, one_is, one_le, held_is, held_not_made, kept_not_made, slot_node, slot_bool, slot_not_kept, slot_other, slot_cases, keeping_as, noting_as, slotted_as}
+use Rattle.pending_count.proofs.Turning.{turn, turn_is, all_turned, moved, moved_out, moved_in, moved_is, both_moved, else_moved, rest_moved, sides_within, one_side_each, no_side_each, count-sides_given, unnamed_sides}
+use Rattle.pending_count.proofs.Parts.{my_part, is_armed, claim_is}
+use Rattle.pending_count.proofs.Parts.{claiming_as, keeping_as as keeps_as, noting_as as notes_as}
+
+set-set : {A : Type 0} (l : List A) (i : ℕ) (a b : A) → set (set l i a) i b ≡ set l i b
+set-set [] i a b = refl
+set-set (x ∷ xs) zero a b = refl
+set-set (x ∷ xs) (suc i) a b = ap (λ l. x ∷ l) (set-set xs i a b)
+
+-- the two views agree in all but what they say of pairs
+pub record Agrees {T : Type 0} (v u : View T) : Type 0 where
+  pub credit : u.credit ≡ v.credit
+  pub held : u.held ≡ v.held
+  pub claims : u.claims ≡ v.claims
+  pub armed : u.armed ≡ v.armed
+  pub noted : u.noted ≡ v.noted
+  pub seen : u.seen ≡ v.seen
+  pub none_left : u.none_left ≡ v.none_left
+
+module _ {S T : Type 0} (nodes : ℕ) (words : List ℕ) (g : Graph) (id : ℕ) where
+  pub retold : (views : List (View T)) (homes homes' : List (mc.Option S)) (v u : View T) → get_elem? views id ≡ some v → Agrees v u → Shows nodes (record { words = words; homes = homes; views = views }) g → Shows nodes (record { words = words; homes = homes'; views = set views id u }) g
+  retold views homes homes' v u at same r = record {
+    all_nodes = r.all_nodes;
+    counting = record {
+      size = r.counting.size;
+      draws = r.counting.draws;
+      added = r.counting.added;
+      paid = (let a = sum_stays views id v at (λ w. w.credit) u same.credit in let p = r.counting.paid in omega arith);
+      few = r.counting.few;
+      word = r.counting.word;
+    };
+    holding = λ a i. stays views id v at (λ w. count i w.held) u (ap (count i) same.held) a ∙ r.holding a i;
+    claiming = claiming_as views (set views id u) (λ a i. stays views id v at (λ w. count i w.claims) u (ap (count i) same.claims) a) r.claiming;
+    running = r.running;
+    keeping = keeps_as views (set views id u) (λ i. sum_stays views id v at (λ w. total (names i) w.armed) u (ap (total (names i)) same.armed)) kept (λ i j. refl) r.keeping;
+    noting = notes_as views (set views id u) (stays views id v at (λ w. w.noted) u same.noted) (stays views id v at (λ w. w.seen) u same.seen) (stays views id v at (λ w. w.none_left) u same.none_left) kept (omega arith) (omega arith) r.noting;
+  }
+    where
+      kept : (i j : ℕ) → kept_at i j (set views id u) ≡ kept_at i j views
+      kept i j = sum_stays views id v at (λ w. total (keeps_at i j) w.armed) u (ap (total (keeps_at i j)) same.armed)
+
+  -- a step of this seat to u in place of v, where the step to v is known
+  pub retold_step : (views : List (View T)) (homes homes' : List (mc.Option S)) (v u : View T) → id < length views → Agrees v u → Shows nodes (record { words = words; homes = homes; views = set views id v }) g → Shows nodes (record { words = words; homes = homes'; views = set views id u }) g
+  retold_step views homes homes' v u low same r = subst (λ l. Shows nodes (record { words = words; homes = homes'; views = l }) g) (set-set views id v u) (retold (set views id v) homes homes' v u (set_here views id v low) same r)

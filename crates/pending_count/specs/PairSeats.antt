@@ -1,0 +1,34 @@
+-- Meaning: what an arrival at a pair gives back, and what stands in its last answer.
+use Rattle.std.specs.Prelude.{◌≡◌, ℕ, List, Option, ⊤}
+use Rattle.completion_core.specs.declared.action.Reply.{Reply}
+use Rattle.completion_core.specs.declared.action.Reply.TheVariants.{Pending, Last}
+use Rattle.pending_count.specs.declared.view.View.{View}
+use Rattle.pending_count.specs.declared.place.Side.{Side}
+use Rattle.pending_count.specs.declared.place.Side.TheVariants.{Left, Right}
+use Rattle.pending_count.specs.declared.place.Place.{Place}
+use Rattle.pending_count.specs.declared.place.Fits.{Ghosts}
+use Rattle.pending_count.specs.declared.seat.Seat.{Seat}
+use Rattle.pending_count.specs.declared.seat.ArrivedPair.{ArrivedPair}
+use Rattle.pending_count.specs.declared.seat.ArrivedPair.TheVariants as handed
+use Rattle.pending_count.specs.Views.{closed_view}
+use Rattle.pending_count.specs.Pairs.{slot_of, tags_after}
+use Rattle.pending_count.specs.PairSteps.{IsKept}
+use Rattle.pending_count.specs.Seats.{view_of}
+
+module _ {V K T : Type 0} {g : Ghosts K V T} where
+  -- the seat that an arrival at a pair gives back
+  abbrev pub pair_seat : ArrivedPair V K T g → Seat V K T g
+  pair_seat (handed.Pending seat pending) = seat
+  pair_seat (handed.Last seat finish) = seat
+
+  -- what it answers, as the machine says it
+  abbrev pub pair_reply : ArrivedPair V K T g → Reply
+  pair_reply (handed.Pending seat pending) = Pending pending
+  pair_reply (handed.Last seat finish) = Last
+
+  -- the last answer: what came in fits the node's tag on each side, and the kept value is the node's
+  abbrev pub IsClosed : (node slot : ℕ) → T → View T → ArrivedPair V K T g → Type 0
+  IsClosed node slot tag v (handed.Pending seat pending) = ⊤
+  IsClosed node slot tag v (handed.Last seat finish) =
+      (kept kept_sides : List ℕ) × (view_of seat ≡ closed_view node slot kept kept_sides (tags_after (g.place_of finish.kept) v.tags) v)
+      × g.fits tag Left finish.left × g.fits tag Right finish.right × IsKept g.fits g.tag_of g.place_of node tag v finish.kept kept kept_sides
