@@ -1,7 +1,7 @@
 // The answer of a job, by one walk over its source.
 
 ghost use Rattle.job_plan.specs.Meaning.{answer_of_job};
-ghost use Rattle.std.specs.Prelude.{◌≡◌, ◌≤◌, length, IfOk};
+ghost use Rattle.std.specs.Prelude.{◌≡◌, ◌≤◌, length, IfOk, OnErr};
 ghost use Rattle.streamrun.specs.Jobs.{job_of};
 
 use super::jobs::job::{Job, Terminal};
@@ -18,7 +18,8 @@ use trace::Fed;
 /// The values of `toArray` take 8 bytes each; a sum takes no memory.
 pub fn answer_of(alloc: Global, job: &Job) -> Result<Answer, NoMemory>
     requires few { length job.now.stages.items ≤ 32 }
-    ensures { IfOk result (λ answer. answer ≡ answer_of_job (job_of job.now)) }
+    ensures ok { IfOk result (λ answer. answer ≡ answer_of_job (job_of job.now)) }
+    ensures refused { OnErr result (job.now.terminal ≡ Terminal.ToArray) }
 {
     let env = Env::empty(alloc);
     match job.terminal {

@@ -1,7 +1,7 @@
 // A walk over a source, item by item, through the stages and into a sink.
 
 ghost use Rattle.lambda_expr.specs.declared.fault.FaultKind.{FaultKind};
-ghost use Rattle.std.specs.Prelude.{◌≡◌, ◌<◌, ◌≤◌, ◌+◌, ◌^◌, ℕ, List, [], length, IfSome, IfNone};
+ghost use Rattle.std.specs.Prelude.{◌≡◌, ◌<◌, ◌≤◌, ◌+◌, ◌^◌, ℕ, List, [], length, IfSome, IfNone, OnErr};
 ghost use Rattle.streamrun.specs.Jobs.{source_of};
 ghost use Rattle.trace.specs.Cover.{cover, distance, placed};
 ghost use Rattle.trace.specs.Sinks.{IsFed, flow_after};
@@ -37,6 +37,7 @@ pub fn walk_values<V: SourceValues, S: LongSink>(
     ensures fed { S.has_taken sink.old [] → IsFed S.has_taken []
         (pipe 1 (stages_of stages.now) env.now (trace (placed 0 (V.values values.now)) end.Done)) result sink.new }
     ensures flow { S.flow sink.new ≡ flow_after result }
+    ensures refused { OnErr result S.takes_memory }
 {
     for origin in 0..values.count() {
         match feed(stages, 1, env, values.item_at(origin), sink)? {
@@ -72,6 +73,7 @@ pub fn walk_source<S: LongSink>(
     ensures fed { S.has_taken sink.old [] → IsFed S.has_taken []
         (pipe 1 (stages_of stages.now) env.now (cover (source_of source.now))) result sink.new }
     ensures flow { S.flow sink.new ≡ flow_after result }
+    ensures refused { OnErr result S.takes_memory }
 {
     match source {
         Source::Range { from, to } => match counted_between(*from, *to) {

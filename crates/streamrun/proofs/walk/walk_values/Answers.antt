@@ -27,6 +27,7 @@ returns-in_default g c = record {
       let within : c.loop-origin.origin < length vs = omega (arith, c.loop-origin-test.true, c.count-origin-end.ensures) in
       stopped g.S.LongSink.has_taken (stages_of c.args.stages.now) c.args.env.now vs c.loop-origin.origin (Ok c.in_ok-ended.ended) c.loop-origin.sink c.feed.new.sink within (c.loop-origin.invariant.1 took) (λ xs took. subst (λ (x : Item). IsFed g.S.LongSink.has_taken xs (pipe 1 (stages_of c.args.stages.now) c.args.env.now (trace (x ∷ []) end.Done)) (Ok c.in_ok-ended.ended) c.feed.new.sink) c.item_at.ensures (c.in_ok-ended.ensures.fed xs took)) (λ e. c.in_default.not-More cc);
   flow = c.in_ok-ended.ensures.flow;
+  refused = tt;
 }
 
 pub loop-origin-preserved : goal.loop-origin-preserved
