@@ -15,8 +15,8 @@ use Rattle.pending_count.specs.Views.{blank, left_slot, right_slot, IsPlainAt, S
 use Rattle.pending_count.specs.declared.place.Side.{Side}
 use Rattle.pending_count.specs.declared.place.Place.{Place}
 use Rattle.pending_count.specs.declared.place.Slot.{Slot}
-use Rattle.pending_count.specs.Shows.{Shows, IsShown}
-use Rattle.pending_count.specs.Pairs.{Pairing, Ruled, side_kept_at}
+use Rattle.pending_count.specs.Shows.{Shows}
+use Rattle.pending_count.specs.Pairs.{Pairing, Ruled}
 use Rattle.pending_count.proofs.Sums.{held_left}
 use Rattle.pending_count.proofs.Records.{count-given_by_all}
 use Rattle.pending_count.proofs.Parts.{there, mine, in_range}

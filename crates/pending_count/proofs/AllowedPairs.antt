@@ -1,39 +1,35 @@
 -- Each step at a pair keeps the rule, and tells what it is to the graph.
-use Rattle.std.proofs.Common.{◌≡◌, ◌≢◌, ℕ, zero, suc, ◌+◌, ◌-◌, ◌*◌, ◌/◌, ◌%◌, ◌<◌, ◌≤◌, eqb, cond, not, Bool, true, false, List, [], ◌∷◌, ◌++◌, length, get_or, set, sym, refl, ap, ◌∙◌, subst, arith, eq-eqb, ne_eqb, true≢false, get_or-set_same, get_or-set_other, length-set, Option, Some, None, ◌⊎◌, inl, inr, ⊎_elim, ◌||◌}
+use Rattle.std.proofs.Common.{◌≡◌, ◌≢◌, ℕ, ◌+◌, ◌-◌, ◌%◌, ◌<◌, ◌≤◌, eqb, cond, not, Bool, List, [], ◌∷◌, get_or, set, sym, refl, ap, ◌∙◌, subst, arith, eq-eqb, ne_eqb, Option, Some, None, ◌⊎◌, inl, inr}
 use mathlib.Core.Logic.{dite}
 use mathlib.Core.Option.{none, some}
-use mathlib.Core.Option as mc
-use native.Mathlib.Decide.{ℕ_discrete, dec_le}
+use native.Mathlib.Decide.{ℕ_discrete}
 use lib.ListN.{get_elem?}
 use Rattle.atomic_table.specs.Table.{State, Me, step, stepped, takes, gives, chain, rest, Allows, Splits}
-use Rattle.atomic_table.proofs.Lists.{set_here, set_else}
-use Rattle.completion_core.specs.Graph.{Arrival, Made, Held, Kept, same, one_same, not_made, total, copies, amount, left, Graph}
-use Rattle.completion_core.specs.Legal.{renamed, rename, with_fresh, only_at, count, upd}
+use Rattle.atomic_table.proofs.Lists.{set_else}
+use Rattle.completion_core.specs.Graph.{left, Graph}
+use Rattle.completion_core.specs.Legal.{count}
 use Rattle.pending_count.specs.declared.view.View.{View}
 use Rattle.pending_count.specs.declared.place.Side.{Side}
 use Rattle.pending_count.specs.declared.place.Side.TheVariants.{Left, Right, Whole}
 use Rattle.pending_count.specs.declared.place.Place.{Place}
 use Rattle.pending_count.specs.declared.place.Slot.{Slot}
 use Rattle.pending_count.specs.declared.place.Slot.TheVariants.{Value, Kept as KeptValue}
-use Rattle.pending_count.specs.Views.{left_slot, right_slot, kept_slot, side_at, sides_of, blank, view_at, names, keeps_at, given, note_of, less, minus, given_by_all, sides_given_by_all, taken_view, IsPlainAt, paired_view, handed_view, closed_view, armed_view, arrived_view, finished_view, rest_view, part_view, joined_view}
-use Rattle.pending_count.specs.Shows.{Shows, Holding, kept_at, one_if}
-use Rattle.pending_count.specs.Pairs.{side_slot, side_of, slot_of, noted_place, side_kept_at, Sided, SideKeeping, SideNoting, Slotted, Pairing}
-use Rattle.pending_count.proofs.Sums.{one_at, total-append, total-set, total-less, total-minus, total-ones, total-zeros, total-rename, term_le, bool_case, here, self_held, self_kept, one_held, one_kept, at_here, at_else, at_sym, same_is, some_is, upd_here, upd_else, seat_is}
-use Rattle.pending_count.proofs.Records.{count-given, names_is, names_not, keeps_is, keeps_not, unnamed, one_if_le}
-use Rattle.pending_count.proofs.Parts.{there, mine, here_is, else_is, stays, sum_stays}
-use Rattle.pending_count.proofs.SideParts.{by_option, none_some, one_is, one_le, held_is, held_not_made, kept_not_made, slot_node, slot_bool, slot_not_kept, slot_other, slot_cases, keeping_as, noting_as, slotted_as}
-use Rattle.pending_count.proofs.Turning.{turn, turn_is, all_turned, moved, moved_out, moved_in, moved_is, both_moved, else_moved, rest_moved, sides_within, one_side_each, no_side_each, count-sides_given, unnamed_sides}
-use Rattle.pending_count.proofs.Parts.{my_part, is_armed, claim_is}
+use Rattle.pending_count.specs.Views.{left_slot, right_slot, kept_slot, side_at, sides_of, blank, note_of, given_by_all, sides_given_by_all, taken_view, paired_view, handed_view, closed_view, armed_view, arrived_view, finished_view}
+use Rattle.pending_count.specs.Shows.{Shows}
+use Rattle.pending_count.specs.Pairs.{side_slot, side_of, slot_of, noted_place, Pairing}
+use Rattle.pending_count.proofs.Sums.{one_at, total-append, at_here, at_else, some_is}
+use Rattle.pending_count.proofs.Parts.{there, mine}
+use Rattle.pending_count.proofs.SideParts.{slot_not_kept}
+use Rattle.pending_count.proofs.Turning.{count-sides_given}
 use Rattle.std.proofs.Common.{◌^◌}
 use Rattle.std.proofs.lemmas.List.{set-get_or}
 use Rattle.completion_core.specs.declared.action.Action.TheVariants.{Arm, Arrive, Run}
 use Rattle.completion_core.specs.declared.action.Reply.TheVariants.{Done}
 use Rattle.completion_core.specs.Legal.{reply, reply_of_arrival, after}
-use Rattle.completion_core.specs.Runs.{LegalAll, after_all}
 use Rattle.pending_count.specs.Steps.{OneStep, arrival_actions}
 use Rattle.pending_count.specs.Pairs.{Ruled, tags_after}
-use Rattle.pending_count.specs.PairSteps.{IsPlaced, IsPaired, IsKept, IsHanded}
-use Rattle.pending_count.specs.Plays.{took, paired, Closed, handed}
+use Rattle.pending_count.specs.PairSteps.{IsPlaced}
+use Rattle.pending_count.specs.Plays.{took, paired, handed}
 use Rattle.pending_count.proofs.Sums.{held_left}
 use Rattle.pending_count.proofs.Records.{count-given_by_all}
 use Rattle.pending_count.proofs.Allowed.{steps_to, one_less, cond_one, cond_more}
@@ -130,9 +126,9 @@ module _ {V K T : Type 0} (fits : T → Side → V → Type 0) (tag_of : K → T
     -- the tags that the seat knows after the last arrival are those of their nodes
     known_after : (tag : ℕ → Option T) (place : Option (Place T)) (tags : List (ℕ × T)) → ((i : ℕ) (c : T) → note_of i tags ≡ Some c → tag i ≡ Some c) → ((pl : Place T) → place ≡ Some pl → tag pl.node ≡ Some pl.tag)
         → (i : ℕ) (c : T) → note_of i (tags_after place tags) ≡ Some c → tag i ≡ Some c
-    known_after tag None tags before there i c e = before i c e
-    known_after tag (Some pl) tags before there i c e = dite (ℕ_discrete pl.node i)
-        (λ q. ap tag (sym q) ∙ there pl refl ∙ sym (ap (λ y. cond y (Some pl.tag) (note_of i tags)) (eq-eqb pl.node i q)) ∙ e)
+    known_after tag None tags before holds i c e = before i c e
+    known_after tag (Some pl) tags before holds i c e = dite (ℕ_discrete pl.node i)
+        (λ q. ap tag (sym q) ∙ holds pl refl ∙ sym (ap (λ y. cond y (Some pl.tag) (note_of i tags)) (eq-eqb pl.node i q)) ∙ e)
         (λ m. before i c (sym (ap (λ y. cond y (Some pl.tag) (note_of i tags)) (ne_eqb pl.node i m)) ∙ e))
 
     hands_here : Allows Rule slots id hand node (λ n. (n + (2 ^ 64 - 1)) % 2 ^ 64) (handed fits tag_of place_of nodes actor b (step slots node 1 0 none) hand)

@@ -5,10 +5,10 @@ use Rattle.completion_core.specs.declared.action.Reply.TheVariants.{Pending, Las
 use Rattle.completion_core.specs.Graph.{copies}
 use Rattle.completion_core.specs.Legal.{count, only_at, reply_of_arrival}
 use Rattle.pending_count.specs.declared.view.View.{View}
-use Rattle.pending_count.specs.Views.{left_slot, right_slot, side_at, sides_of, note_of, less, minus}
+use Rattle.pending_count.specs.Views.{IsPlainAt, part_view, left_slot, right_slot, side_at, sides_of, note_of, less, minus}
 use Rattle.pending_count.specs.Steps.{IsClaimed, IsArmed, IsArrived, drawn_node}
 use Rattle.pending_count.proofs.Sums.{one_at, total-append, total-less, total-minus, here, at_here, at_sym}
-use Rattle.pending_count.proofs.Records.{fresh-count}
+use Rattle.pending_count.proofs.Records.{fresh-count, fresh_here}
 
 pub drawn_is : (nodes n b : ℕ) → drawn_node nodes n ≡ Some b → (b ≡ n + 1) × (n < nodes)
 drawn_is nodes n b e = (first nodes n b e, second nodes n b e)
@@ -120,3 +120,9 @@ module _ {S T : Type 0} {nodes actor : ℕ} {v w : View T} where
 
     pub last_noted : n ≡ 1 → w.noted ≡ v.noted
     last_noted one = ap (λ (u : View T). u.noted) (told.last one).2
+
+-- a seat that was split off with k arrivals at a node, and no side
+pub part_has : {T : Type 0} (node k c : ℕ) (v u : View T) → u ≡ part_view node k c [] v → 0 < k → ((0 < count node u.held) × (k - 1 ≤ count node u.held)) × IsPlainAt node u
+part_has node k c v u is some_there =
+    let e : count node u.held ≡ k = ap (λ (w : View _). count node w.held) is ∙ fresh-count node k node ∙ fresh_here node k in
+    ((omega arith, omega arith), (ap (λ (w : View _). count (left_slot node) w.sides) is, ap (λ (w : View _). count (right_slot node) w.sides) is))

@@ -1,30 +1,22 @@
 -- What a claim and an addition are to the sides of pairs, and what is split off.
-use Rattle.std.proofs.Common.{◌≡◌, ◌≢◌, ℕ, zero, suc, ◌+◌, ◌-◌, ◌*◌, ◌/◌, ◌%◌, ◌<◌, ◌≤◌, eqb, cond, not, Bool, true, false, List, [], ◌∷◌, ◌++◌, length, get_or, set, sym, refl, ap, ◌∙◌, subst, arith, eq-eqb, ne_eqb, true≢false, get_or-set_same, get_or-set_other, length-set, Option, Some, None, ◌⊎◌, inl, inr, ⊎_elim, ◌||◌}
+use Rattle.std.proofs.Common.{◌≡◌, ◌≢◌, ℕ, ◌+◌, ◌-◌, ◌<◌, ◌≤◌, cond, Bool, true, false, List, [], ◌∷◌, ◌++◌, set, sym, refl, ap, ◌∙◌, arith, ne_eqb, Option, Some, None, ◌⊎◌, ⊎_elim}
 use mathlib.Core.Logic.{dite}
-use mathlib.Core.Option.{none, some}
-use mathlib.Core.Option as mc
-use native.Mathlib.Decide.{ℕ_discrete, dec_le}
+use mathlib.Core.Option.{some}
+use native.Mathlib.Decide.{ℕ_discrete}
 use lib.ListN.{get_elem?}
 use Rattle.atomic_table.specs.Table.{State}
-use Rattle.atomic_table.proofs.Lists.{set_here, set_else}
-use Rattle.completion_core.specs.Graph.{Arrival, Made, Held, Kept, same, one_same, not_made, total, copies, amount, left, Graph}
-use Rattle.completion_core.specs.Legal.{renamed, rename, with_fresh, only_at, count, upd}
+use Rattle.completion_core.specs.Graph.{Held, total, copies, Graph}
+use Rattle.completion_core.specs.Legal.{with_fresh, only_at, count, upd}
 use Rattle.pending_count.specs.declared.view.View.{View}
 use Rattle.pending_count.specs.declared.place.Side.{Side}
-use Rattle.pending_count.specs.declared.place.Side.TheVariants.{Left, Right, Whole}
 use Rattle.pending_count.specs.declared.place.Place.{Place}
 use Rattle.pending_count.specs.declared.place.Slot.{Slot}
-use Rattle.pending_count.specs.declared.place.Slot.TheVariants.{Value, Kept as KeptValue}
-use Rattle.pending_count.specs.Views.{left_slot, right_slot, kept_slot, side_at, sides_of, blank, view_at, names, keeps_at, given, note_of, less, minus, given_by_all, sides_given_by_all, IsPlainAt, SplitOff, added_view, armed_view, arrived_view, finished_view, rest_view, part_view, joined_view}
-use Rattle.pending_count.specs.Shows.{Shows, Holding, kept_at, one_if}
-use Rattle.pending_count.specs.Pairs.{side_slot, side_of, slot_of, noted_place, side_kept_at, Sided, SideKeeping, SideNoting, Slotted, Pairing}
-use Rattle.pending_count.proofs.Sums.{one_at, total-append, total-set, total-less, total-minus, total-ones, total-zeros, total-rename, term_le, bool_case, here, self_held, self_kept, one_held, one_kept, at_here, at_else, at_sym, same_is, some_is, upd_here, upd_else, seat_is}
-use Rattle.pending_count.proofs.Records.{count-given, names_is, names_not, keeps_is, keeps_not, unnamed, one_if_le}
-use Rattle.pending_count.proofs.Parts.{there, mine, here_is, else_is, stays, sum_stays}
-use Rattle.pending_count.proofs.SideParts.{by_option, none_some, one_is, one_le, held_is, held_not_made, kept_not_made, slot_node, slot_bool, slot_not_kept, slot_other, slot_cases, keeping_as, noting_as, slotted_as}
-use Rattle.pending_count.proofs.Turning.{turn, turn_is, all_turned, moved, moved_out, moved_in, moved_is, both_moved, else_moved, rest_moved, sides_within, one_side_each, no_side_each, count-sides_given, unnamed_sides}
-use Rattle.pending_count.proofs.Parts.{my_part, is_armed, claim_is}
-use Rattle.pending_count.proofs.Records.{fresh_here, fresh_else}
+use Rattle.pending_count.specs.Views.{left_slot, right_slot, IsPlainAt, SplitOff, added_view}
+use Rattle.pending_count.specs.Shows.{Shows}
+use Rattle.pending_count.specs.Pairs.{Pairing}
+use Rattle.pending_count.proofs.Sums.{one_at, total-append, at_here, at_else}
+use Rattle.pending_count.proofs.SideParts.{by_option, none_some}
+use Rattle.pending_count.proofs.Records.{fresh_else}
 use Rattle.pending_count.proofs.PlainSides as plain
 
 module _ {V K T : Type 0} (fits : T → Side → V → Type 0) (tag_of : K → T) (place_of : K → Option (Place T)) (nodes : ℕ) (s : State (Option (Slot V K)) (View T)) (g : Graph) (r : Shows nodes s g) (p : Pairing fits tag_of place_of nodes s.homes s.views g.arrivals g.armed g.ran) where

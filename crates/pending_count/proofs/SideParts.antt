@@ -1,26 +1,19 @@
 -- What a step leaves of sides and slots.
-use Rattle.std.proofs.Common.{◌≡◌, ◌≢◌, ℕ, zero, suc, ◌+◌, ◌-◌, ◌*◌, ◌/◌, ◌%◌, ◌<◌, ◌≤◌, eqb, cond, not, Bool, true, false, List, [], ◌∷◌, ◌++◌, length, get_or, set, sym, refl, ap, ◌∙◌, subst, arith, eq-eqb, ne_eqb, true≢false, get_or-set_same, get_or-set_other, length-set, Option, Some, None, ◌⊎◌, inl, inr, ⊎_elim, ◌||◌}
+use Rattle.std.proofs.Common.{◌≡◌, ◌≢◌, ℕ, ◌+◌, ◌*◌, ◌/◌, ◌%◌, ◌<◌, ◌≤◌, cond, not, Bool, true, false, List, sym, refl, ap, ◌∙◌, subst, arith, Option, Some, None}
 use mathlib.Core.Logic.{dite}
 use mathlib.Core.Option.{none, some}
 use mathlib.Core.Option as mc
-use native.Mathlib.Decide.{ℕ_discrete, dec_le}
-use lib.ListN.{get_elem?}
-use Rattle.atomic_table.specs.Table.{State}
-use Rattle.atomic_table.proofs.Lists.{set_here, set_else}
-use Rattle.completion_core.specs.Graph.{Arrival, Made, Held, Kept, same, one_same, not_made, total, copies, amount, left, Graph}
-use Rattle.completion_core.specs.Legal.{renamed, rename, with_fresh, only_at, count, upd}
+use native.Mathlib.Decide.{ℕ_discrete}
+use Rattle.completion_core.specs.Graph.{Arrival, Made, Held, Kept, same, one_same, total}
+use Rattle.completion_core.specs.Legal.{count}
 use Rattle.pending_count.specs.declared.view.View.{View}
 use Rattle.pending_count.specs.declared.place.Side.{Side}
-use Rattle.pending_count.specs.declared.place.Side.TheVariants.{Left, Right, Whole}
 use Rattle.pending_count.specs.declared.place.Place.{Place}
 use Rattle.pending_count.specs.declared.place.Slot.{Slot}
-use Rattle.pending_count.specs.declared.place.Slot.TheVariants.{Value, Kept as KeptValue}
-use Rattle.pending_count.specs.Views.{left_slot, right_slot, kept_slot, side_at, sides_of, blank, view_at, names, keeps_at, given, note_of, less, minus, given_by_all, sides_given_by_all, IsPlainAt, armed_view, arrived_view, finished_view, rest_view, part_view, joined_view}
-use Rattle.pending_count.specs.Shows.{Shows, Holding, kept_at, one_if}
-use Rattle.pending_count.specs.Pairs.{side_slot, side_of, slot_of, noted_place, side_kept_at, Sided, SideKeeping, SideNoting, Slotted, Pairing}
-use Rattle.pending_count.proofs.Sums.{one_at, total-append, total-set, total-less, total-minus, total-ones, total-zeros, total-rename, term_le, bool_case, here, self_held, self_kept, one_held, one_kept, at_here, at_else, at_sym, same_is, some_is, upd_here, upd_else, seat_is}
-use Rattle.pending_count.proofs.Records.{count-given, names_is, names_not, keeps_is, keeps_not, unnamed, one_if_le}
-use Rattle.pending_count.proofs.Parts.{there, mine, here_is, else_is, stays, sum_stays}
+use Rattle.pending_count.specs.Views.{kept_slot, view_at, names, note_of}
+use Rattle.pending_count.specs.Shows.{kept_at}
+use Rattle.pending_count.specs.Pairs.{side_slot, side_kept_at, SideKeeping, SideNoting, Slotted}
+use Rattle.pending_count.proofs.Sums.{bool_case, self_held, self_kept, one_held, same_is}
 
 -- whether an optional value is there
 pub by_option : {A : Type 0} (o : Option A) (F : Type 0) → (o ≡ None → F) → ((a : A) → o ≡ Some a → F) → F

@@ -1,17 +1,15 @@
 -- Meaning: what an arrival at a pair gives back, and what stands in its last answer.
-use Rattle.std.specs.Prelude.{◌≡◌, ℕ, List, Option, ⊤}
+use Rattle.std.specs.Prelude.{◌≡◌, ℕ, List, ⊤}
 use Rattle.completion_core.specs.declared.action.Reply.{Reply}
 use Rattle.completion_core.specs.declared.action.Reply.TheVariants.{Pending, Last}
 use Rattle.pending_count.specs.declared.view.View.{View}
-use Rattle.pending_count.specs.declared.place.Side.{Side}
 use Rattle.pending_count.specs.declared.place.Side.TheVariants.{Left, Right}
-use Rattle.pending_count.specs.declared.place.Place.{Place}
 use Rattle.pending_count.specs.declared.place.Fits.{Ghosts}
 use Rattle.pending_count.specs.declared.seat.Seat.{Seat}
 use Rattle.pending_count.specs.declared.seat.ArrivedPair.{ArrivedPair}
 use Rattle.pending_count.specs.declared.seat.ArrivedPair.TheVariants as handed
 use Rattle.pending_count.specs.Views.{closed_view}
-use Rattle.pending_count.specs.Pairs.{slot_of, tags_after}
+use Rattle.pending_count.specs.Pairs.{tags_after}
 use Rattle.pending_count.specs.PairSteps.{IsKept}
 use Rattle.pending_count.specs.Seats.{view_of}
 

@@ -1,18 +1,16 @@
 -- Meaning: what arming a pair, and arriving at one with a value, is to the graph, and what the last of the two gets.
-use Rattle.std.specs.Prelude.{◌≡◌, ◌≢◌, ℕ, ◌-◌, ◌<◌, Bool, List, [], ◌∷◌, Option, Some, None}
-use Rattle.atomic_table.specs.Table.{Me, Step, rest}
+use Rattle.std.specs.Prelude.{◌≡◌, ◌≢◌, ℕ, ◌-◌, ◌<◌, List, [], ◌∷◌, Option, Some}
 use Rattle.completion_core.specs.declared.action.Action.TheVariants.{Arm}
 use Rattle.completion_core.specs.declared.action.Reply.TheVariants.{Done}
 use Rattle.completion_core.specs.Legal.{count, reply_of_arrival}
 use Rattle.pending_count.specs.declared.view.View.{View}
 use Rattle.pending_count.specs.declared.place.Side.{Side}
-use Rattle.pending_count.specs.declared.place.Side.TheVariants.{Left, Right, Whole}
+use Rattle.pending_count.specs.declared.place.Side.TheVariants.{Whole}
 use Rattle.pending_count.specs.declared.place.Place.{Place}
 use Rattle.pending_count.specs.declared.place.Slot.{Slot}
-use Rattle.pending_count.specs.declared.place.Slot.TheVariants.{Value, Kept as KeptValue}
-use Rattle.pending_count.specs.Views.{kept_slot, note_of, taken_view, paired_view, handed_view, closed_view}
+use Rattle.pending_count.specs.Views.{kept_slot, note_of, taken_view, paired_view, handed_view}
 use Rattle.pending_count.specs.Steps.{OneStep, arrival_actions}
-use Rattle.pending_count.specs.Pairs.{side_slot, side_of, slot_of, noted_place, tags_after}
+use Rattle.pending_count.specs.Pairs.{slot_of, noted_place}
 
 -- the seat holds the side of the place
 abbrev pub HoldsSide : {T : Type 0} → Place T → View T → Type 0

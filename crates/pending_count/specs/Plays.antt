@@ -2,7 +2,7 @@
 use Rattle.std.specs.Prelude.{◌≡◌, ℕ, List}
 use Rattle.atomic_table.specs.Table.{Me, Step}
 use Rattle.pending_count.specs.declared.view.View.{View}
-use Rattle.std.specs.Prelude.{◌≢◌, ◌∷◌, Bool, not, Option, Some, None}
+use Rattle.std.specs.Prelude.{◌∷◌, Bool, not, Option, Some, None}
 use Rattle.atomic_table.specs.Table.{rest}
 use Rattle.pending_count.specs.declared.place.Side.{Side}
 use Rattle.pending_count.specs.declared.place.Place.{Place}

@@ -7,6 +7,7 @@ use Rattle.completion_core.specs.Legal.{count}
 use Rattle.pending_count.specs.declared.view.View.{View}
 use Rattle.pending_count.specs.Views.{whole_credit, names, keeps_at, note_of, view_at}
 
+-- 1 for true
 abbrev pub one_if : Bool → ℕ
 one_if true = 1
 one_if false = 0
@@ -54,6 +55,7 @@ module _ {T : Type 0} where
     pub seen : (a n : ℕ) → (view_at views a).seen ≡ Some n → slice_index words 0 ≤ n
     pub exhausted : (a : ℕ) → (view_at views a).none_left ≡ true → nodes ≤ slice_index words (nodes + 1)
 
+  -- words and views show the graph
   pub record Shows {S : Type 0} (nodes : ℕ) (s : State S (View T)) (g : Graph) : Type 0 where
     pub all_nodes : g.nodes ≡ nodes
     pub counting : Counting nodes s.words s.views g.drawn g.arrivals

@@ -23,9 +23,11 @@ Answers (action ∷ rest) g r = reply action g ≡ r
 abbrev pub arrival_actions : ℕ → ℕ → ℕ → List Action
 arrival_actions actor node n = if n == 1 then Arrive actor node ∷ Run actor node ∷ [] else Arrive actor node ∷ []
 
+-- the node that a claim draws for which the claim word had n, where one is left
 abbrev pub drawn_node : ℕ → ℕ → Option ℕ
 drawn_node nodes n = if nat_lt n nodes then Some (n + 1) else None
 
+-- what a claim answers, as the machine says it
 abbrev pub reply_of_claim : Option ℕ → Reply
 reply_of_claim (Some node) = Node node
 reply_of_claim None = NoNode

@@ -86,6 +86,7 @@ module _ {T : Type 0} where
   given_by_all i [] = []
   given_by_all i (v ∷ vs) = given i v.armed ++ given_by_all i vs
 
+  -- what they say of sides
   abbrev pub sides_given_by_all : ℕ → List (View T) → List ℕ
   sides_given_by_all i [] = []
   sides_given_by_all i (v ∷ vs) = given i v.armed_sides ++ sides_given_by_all i vs

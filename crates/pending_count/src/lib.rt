@@ -1,10 +1,11 @@
 //! Counts of pending arrivals, each in one atomic word, and the seats that hold the arrivals.
 //!
 //! A node of a completion tree owes a number of arrivals. Threads share the `Counts` by `&`; what each of them
-//! may do stands in its `Seat`, a token that is passed in and given back. Each call is one atomic instruction on
-//! one word, takes no memory and no lock, and is one action of the machine of `completion_core`, on whose graph
-//! and actions this crate stands, beside `atomic_table`. `completer_tree` runs continuations on it and cites
-//! `Counts::arrive`, clause `arrived`: `Last` exactly where one arrival was owed and not made at its step.
+//! may do stands in its `Seat`, a token that is passed in and given back. Each step is one atomic instruction on
+//! one word, and one action of the machine of `completion_core`, on whose graph and actions this crate stands,
+//! beside `atomic_table`. No call but `Counts::new` takes memory, and none can wait. Nodes of `arm` have any number
+//! of arrivals; pairs, of `arm_pair`, have two, which bring values. `completer_tree` runs continuations on both and
+//! cites `Counts::arrive`, clause `arrived`, and `Counts::arrive_with`, clause `closed`.
 //! Begin with `specs/Shows.antt`, then `specs/Steps.antt` and `src/counts.rt`; docs/completers.md has the words,
 //! the tokens and a worked trace.
 //! Not promised: that a last arrival ever comes, since a seat may be dropped, nor which of two threads comes first.

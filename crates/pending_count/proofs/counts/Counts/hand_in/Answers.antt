@@ -1,8 +1,8 @@
-use Rattle.std.proofs.Common.{arith, sym, ap, subst, ◌∙◌, ◌+◌, ◌-◌, ◌<◌, ◌≤◌, ◌≡◌, ℕ, List, [], ◌∷◌, ◌++◌, Some, Bool, not}
+use Rattle.std.proofs.Common.{arith, sym, ap, subst, ◌∙◌, ◌+◌, ◌<◌, ◌≡◌, ℕ, ◌∷◌, Some, Bool, not}
 use Rattle.completion_core.specs.Legal.{count}
 use Rattle.pending_count.specs.declared.view.View.{View}
 use Rattle.pending_count.specs.declared.place.Slot.TheVariants.{Value, Kept}
-use Rattle.pending_count.specs.Views.{InRange, kept_slot, note_of, closed_view}
+use Rattle.pending_count.specs.Views.{InRange, kept_slot, closed_view}
 use Rattle.pending_count.specs.Pairs.{side_slot, side_of, tags_after}
 use Rattle.pending_count.specs.PairSteps.{IsHanded, IsKept}
 use Rattle.pending_count.proofs.Sums.{some_is}

@@ -1,4 +1,4 @@
-use Rattle.std.proofs.Common.{arith, sym, ap, subst, ◌∙◌, ◌≤◌, ◌<◌, ◌≡◌, inr, refl, List, ℕ}
+use Rattle.std.proofs.Common.{arith, sym, ap, subst, ◌∙◌, ◌≤◌, inr, refl, List, ℕ}
 use Rattle.completion_core.specs.Legal.{count}
 use Rattle.pending_count.specs.declared.view.View.{View}
 use Rattle.pending_count.specs.Seats.{view_of}
