@@ -7,6 +7,7 @@ use Rattle.completion_core.specs.Graph.{Held, Kept, one_same, not_made, copies, 
 use Rattle.completion_core.specs.Legal.{count}
 use Rattle.pending_count.specs.declared.view.View.{View}
 use Rattle.pending_count.specs.Views.{InRange, first_view, view_at, note_of}
+use Rattle.pending_count.specs.Steps.{IsOpened}
 use Rattle.pending_count.specs.Shows.{Shows}
 use Rattle.pending_count.proofs.Sums.{one_at, total-ones, total-zeros, one_held, at_else, some_is}
 
@@ -107,3 +108,6 @@ module _ (S T : Type 0) (nodes ends : ℕ) where
 -- the first seat holds arrivals at END alone
 pub first_ranged : {T : Type 0} (words ends : ℕ) (v : View T) → v ≡ first_view ends → (n : ℕ) → words ≡ n + 2 → InRange n v
 first_ranged words ends v is n e = subst (λ u. InRange n u) (sym is) (λ i h. dite (ℕ_discrete i 0) (λ z. omega arith) (λ m. let q = total-zeros (one_at i) ends 0 (at_else i 0 (λ e. m (sym e))) in absurd (omega arith)))
+
+pub opened_as : (S : Type 0) {T : Type 0} (nodes ends : ℕ) (v : View T) → v ≡ first_view ends → IsOpened S nodes ends v
+opened_as S {T} nodes ends v is slots = subst (λ u. Shows nodes (opening (ends ∷ replicate (nodes + 1) 0) slots u) (start nodes ends)) (sym is) (opens S T nodes ends slots)

@@ -2,7 +2,9 @@
 use Rattle.std.specs.Prelude.{◌≡◌, ◌≢◌, ℕ, zero, suc, ◌+◌, ◌-◌, ◌<◌, ◌≤◌, ◌==◌, List, [], ◌∷◌, ◌++◌, length, slice_set, slice_index, Option, Some, None, nat_lt, if◌then◌else◌, ⊤}
 use mathlib.Core.Option.{some}
 use lib.ListN.{get_elem?}
-use Rattle.atomic_table.specs.Table.{State}
+use Rattle.std.specs.Prelude.{replicate}
+use Rattle.atomic_table.specs.Table.{State, opening}
+use Rattle.completion_core.specs.Graph.{start}
 use Rattle.completion_core.specs.declared.action.Action.{Action}
 use Rattle.completion_core.specs.declared.action.Action.TheVariants.{Claim, Arm, Add, Give, Arrive, Run, Settle}
 use Rattle.completion_core.specs.declared.action.Reply.{Reply}
@@ -99,3 +101,7 @@ module _ {T : Type 0} where
   abbrev pub IsJoined : (S : Type 0) → ℕ → View T → View T → View T → Type 0
   IsJoined S nodes v u both = (s : State S (View T)) (g : Graph) (id other : ℕ) → Shows nodes s g → get_elem? s.views id ≡ some v → get_elem? s.views other ≡ some u → other ≢ id
       → LegalAll (gives_all other id u.held nodes) g × Shows nodes (record { words = s.words; homes = s.homes; views = slice_set (slice_set s.views id both) other blank }) (after_all (gives_all other id u.held nodes) g)
+
+  -- the words that new counts begin with, and the first seat, show the new graph
+  abbrev pub IsOpened : (S : Type 0) → ℕ → ℕ → View T → Type 0
+  IsOpened S nodes ends v = (slots : List S) → Shows nodes (opening (ends ∷ replicate (nodes + 1) 0) slots v) (start nodes ends)

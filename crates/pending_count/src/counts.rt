@@ -2,7 +2,7 @@
 ghost use Rattle.std.specs.Prelude.{◌≡◌, ◌≢◌, None, ℕ, ◌+◌, ◌-◌, ◌*◌, ◌^◌, ◌<◌, ◌≤◌, List, [], ◌∷◌, IfOk, IfErr, IfSome, replicate};
 ghost use Rattle.completion_core.specs.Legal.{count, reply_of_arrival};
 ghost use Rattle.pending_count.specs.Views.{left_slot, right_slot, IsPlainAt, first_view, joined_view, rest_view, part_view};
-ghost use Rattle.pending_count.specs.Steps.{IsClaimed, IsArmed, IsArrived, IsAdded, IsSettled, IsLeft, IsSplit, IsJoined, drawn_node};
+ghost use Rattle.pending_count.specs.Steps.{IsOpened, IsClaimed, IsArmed, IsArrived, IsAdded, IsSettled, IsLeft, IsSplit, IsJoined, drawn_node};
 ghost use Rattle.pending_count.specs.Seats.{Content, view_of, actor_of, table_of, IsSameSeat, seat_back, reply_back, IsFinishOf};
 
 use crate::place::{Fits, Slot};
@@ -36,7 +36,8 @@ impl<V, K: Fits<V>> Counts<V, K> {
         nodes: u32,
         ends: u64,
     ) -> Result<(Counts<V, K>, Seat<V, K>), AllocError>
-        ensures { IfOk result (λ c. (table_of c.1 ≡ c.0.table.shared.table_id) × (c.0.nodes ≡ nodes) × (actor_of c.1 ≡ 0) × (view_of c.1 ≡ first_view ends)) }
+        ensures seat { IfOk result (λ c. (table_of c.1 ≡ c.0.table.shared.table_id) × (c.0.nodes ≡ nodes) × (actor_of c.1 ≡ 0) × (view_of c.1 ≡ first_view ends)) }
+        ensures opened { IfOk result (λ c. IsOpened (Content V K) nodes ends (view_of c.1)) }
     {
         let words = opening(alloc, nodes, ends)?;
         let slots = 3 * (nodes as usize + 1);
