@@ -4,8 +4,8 @@
 //! may do stands in its `Seat`, a token that is passed in and given back. Each step is one atomic instruction on
 //! one word, and one action of the machine of `completion_core`, on whose graph and actions this crate stands,
 //! beside `atomic_table`. No call but `Counts::new` takes memory, and none can wait. Nodes of `arm` have any number
-//! of arrivals; pairs, of `arm_pair`, have two, which bring values. `completer_tree` runs continuations on both and
-//! cites `Counts::arrive`, clause `arrived`, and `Counts::arrive_with`, clause `closed`.
+//! of arrivals; pairs, of `arm_pair`, have two, which bring values. Used by no crate yet; whoever runs continuations
+//! on both cites `Counts::arrive`, clause `arrived`, and `Counts::arrive_with`, clause `closed`.
 //! Begin with `specs/Shows.antt`, then `specs/Steps.antt` and `src/counts.rt`; docs/completers.md has the words,
 //! the tokens and a worked trace.
 //! Not promised: that a last arrival ever comes, since a seat may be dropped, nor which of two threads comes first.
