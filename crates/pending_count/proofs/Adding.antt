@@ -61,7 +61,7 @@ module _ {S T : Type 0} (nodes : ℕ) (s : State S (View T)) (g : Graph) (r : Sh
     pub adds : (t : State S (View T)) → t.words ≡ set s.words node (x + d) → t.views ≡ set s.views id w → Shows nodes t (after (Add id node d) g)
     adds t ws vs = subst (λ (y : List ℕ × List (View T)). Shows nodes (record { words = y.0; homes = t.homes; views = y.1 }) (after (Add id node d) g)) (λ k. (sym ws k, sym vs k)) (record {
       all_nodes = r.all_nodes;
-      counting = counting_word nodes s.words s.views g.drawn g.arrivals r.counting node (x + d) low (set s.views id w) arr d (let a = total-set (λ (v : View T). v.credit) s.views id v w at in omega arith)
+      counting = counting_word nodes s.words s.views g.drawn g.arrivals r.counting node (x + d) low (set s.views id w) arr d (let a = total-set (λ (v : View T). v.credit) s.views id v w at in omega arith) (let a = total-set (λ (v : View T). v.added) s.views id v w at in omega arith)
           (let a = left_is node in let b = fresh_here node d in let c = r.counting.word node low in omega arith)
           (λ i n. let a = left_is i in let b = fresh_else node d i n in omega arith)
           (λ q. let a = left_is node in let b = fresh_here node d in let c = r.counting.few node pos in omega arith);
@@ -99,9 +99,8 @@ module _ {S T : Type 0} (nodes : ℕ) (s : State S (View T)) (g : Graph) (r : Sh
     counting = record {
       size = r.counting.size;
       draws = r.counting.draws;
-      added = r.counting.added;
-      paid = (let a = sum_stays s.views id v at (λ u. u.credit) l refl in let p = r.counting.paid in omega arith);
-      few = r.counting.few;
+      paid = (let a = sum_stays s.views id v at (λ u. u.credit) l refl in let b = sum_stays s.views id v at (λ u. u.added) l refl in let p = r.counting.paid in omega arith);
+      few = λ i p. let b = sum_stays s.views id v at (λ u. u.added) l refl in let f = r.counting.few i p in omega arith;
       word = r.counting.word;
     };
     holding = λ a i. stays s.views id v at (λ u. count i u.held) l refl a ∙ r.holding a i;

@@ -130,7 +130,7 @@ module _ {S T : Type 0} (nodes : ℕ) (s : State S (View T)) (g : Graph) (r : Sh
   pub arms : (t : State S (View T)) → t.words ≡ set s.words node (p + 1) → t.views ≡ views' → Shows nodes t (after (Arm id node p onward) g)
   arms t ws vs = subst (λ (y : List ℕ × List (View T)). Shows nodes (record { words = y.0; homes = t.homes; views = y.1 }) (after (Arm id node p onward) g)) (λ k. (sym ws k, sym vs k)) (record {
     all_nodes = r.all_nodes;
-    counting = counting_word nodes s.words s.views g.drawn g.arrivals r.counting node (p + 1) low views' arr 0 (let a = sum_stays s.views id v at (λ u. u.credit) w refl in omega arith)
+    counting = counting_word nodes s.words s.views g.drawn g.arrivals r.counting node (p + 1) low views' arr 0 (let a = sum_stays s.views id v at (λ u. u.credit) w refl in omega arith) (let a = sum_stays s.views id v at (λ u. u.added) w refl in omega arith)
         (let a = left_is node in let b = fresh_here node (p + 1) in let c = ap left (r.running.bare node claimed.0 claimed.3) in omega arith)
         (λ i n. let a = left_is i in let b = fresh_else node (p + 1) i n in omega arith)
         (λ q. let a = left_is node in let b = fresh_here node (p + 1) in let c = ap left (r.running.bare node claimed.0 claimed.3) in omega arith);

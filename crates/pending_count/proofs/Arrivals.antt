@@ -64,8 +64,8 @@ module _ {S T : Type 0} (nodes : ℕ) (s : State S (View T)) (g : Graph) (r : Sh
     abbrev pub w1 : View T
     w1 = arrived_view node v
 
-    pub counting1 : (w : View T) → w.credit ≡ v.credit → Counting nodes (set s.words node n) (set s.views id w) g.drawn arr1
-    counting1 w same = counting_word nodes s.words s.views g.drawn g.arrivals r.counting node n low (set s.views id w) arr1 0 (let a = sum_stays s.views id v at (λ u. u.credit) w same in omega arith) fewer left_else
+    pub counting1 : (w : View T) → w.credit ≡ v.credit → w.added ≡ v.added → Counting nodes (set s.words node n) (set s.views id w) g.drawn arr1
+    counting1 w same adds = counting_word nodes s.words s.views g.drawn g.arrivals r.counting node n low (set s.views id w) arr1 0 (let a = sum_stays s.views id v at (λ u. u.credit) w same in omega arith) (let a = sum_stays s.views id v at (λ u. u.added) w adds in omega arith) fewer left_else
         (λ p. let a = left_here in let b = r.counting.few node p in omega arith)
 
     pub noting1 : (w : View T) → w.noted ≡ v.noted → w.seen ≡ v.seen → w.none_left ≡ v.none_left → w.armed ≡ v.armed → Noting nodes (set s.words node n) (set s.views id w) g.armed
@@ -96,7 +96,7 @@ module _ {S T : Type 0} (nodes : ℕ) (s : State S (View T)) (g : Graph) (r : Sh
     pub pends : (t : State S (View T)) → t.words ≡ set s.words node n → t.views ≡ set s.views id w1 → (0 < node → 0 < n) → Shows nodes t (after (Arrive id node) g)
     pends t ws vs more = subst (λ (z : List ℕ × List (View T)). Shows nodes (record { words = z.0; homes = t.homes; views = z.1 }) (after (Arrive id node) g)) (λ k. (sym ws k, sym vs k)) (record {
       all_nodes = r.all_nodes;
-      counting = counting1 w1 refl;
+      counting = counting1 w1 refl refl;
       holding = holding_set s.views id v at w1 g.arrivals arr1 own1 others1 r.holding;
       claiming = claiming1 w1 refl;
       running = running1 more;
@@ -108,7 +108,7 @@ module _ {S T : Type 0} (nodes : ℕ) (s : State S (View T)) (g : Graph) (r : Sh
     pub settles : node ≡ 0 → (t : State S (View T)) → t.words ≡ set s.words node n → t.views ≡ set s.views id w1 → Shows nodes t (after (Settle id) g)
     settles z t ws vs = subst (λ (y : List ℕ × List (View T)). Shows nodes (record { words = y.0; homes = t.homes; views = y.1 }) (after (Settle id) g)) (λ k. (sym ws k, sym vs k)) (subst (λ j. Shows nodes (record { words = set s.words node n; homes = t.homes; views = set s.views id w1 }) (record g { arrivals = renamed (Held id) Made (only_at j 1) g.arrivals })) z (record {
       all_nodes = r.all_nodes;
-      counting = counting1 w1 refl;
+      counting = counting1 w1 refl refl;
       holding = holding_set s.views id v at w1 g.arrivals arr1 own1 others1 r.holding;
       claiming = claiming1 w1 refl;
       running = running1 (λ p. absurd (omega arith));
@@ -171,7 +171,7 @@ module _ {S T : Type 0} (nodes : ℕ) (s : State S (View T)) (g : Graph) (r : Sh
     pub runs : (is : 0 + 1 ≡ get_or s.words node 0) (t : State S (View T)) → t.words ≡ set s.words node 0 → t.views ≡ set s.views id w2 → Shows nodes t (after (Run id node) (after (Arrive id node) g))
     runs is t ws vs = subst (λ (y : List ℕ × List (View T)). Shows nodes (record { words = y.0; homes = t.homes; views = y.1 }) (after (Run id node) (after (Arrive id node) g))) (λ k. (sym ws k, sym vs k)) (record {
       all_nodes = r.all_nodes;
-      counting = counting_word nodes s.words s.views g.drawn g.arrivals r.counting node 0 low (set s.views id w2) arr2 0 (let a = sum_stays s.views id v at (λ u. u.credit) w2 refl in omega arith) (fewer 0 is ∙ sym (left2 node)) (λ i n. left2 i ∙ left_else i n)
+      counting = counting_word nodes s.words s.views g.drawn g.arrivals r.counting node 0 low (set s.views id w2) arr2 0 (let a = sum_stays s.views id v at (λ u. u.credit) w2 refl in omega arith) (let a = sum_stays s.views id v at (λ u. u.added) w2 refl in omega arith) (fewer 0 is ∙ sym (left2 node)) (λ i n. left2 i ∙ left_else i n)
           (λ p. let a = left_here in let b = r.counting.few node p in let c = left2 node in omega arith);
       holding = holding_set s.views id v at w2 g.arrivals arr2 own2 others2 r.holding;
       claiming = claiming1 0 is w2 refl;

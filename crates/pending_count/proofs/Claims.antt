@@ -30,13 +30,12 @@ module _ {S T : Type 0} (nodes : ℕ) (s : State S (View T)) (g : Graph) (r : Sh
   word_else : (i : ℕ) → i ≤ nodes → get_or (set s.words (nodes + 1) (x + 1)) i 0 ≡ get_or s.words i 0
   word_else i h = get_or-set_other s.words (nodes + 1) i (x + 1) 0 (λ e. absurd (omega arith))
 
-  pub counting' : (w : View T) (drawn : ℕ) → w.credit + 1 ≡ v.credit → drawn ≡ min (x + 1) nodes → Counting nodes (set s.words (nodes + 1) (x + 1)) (set s.views id w) drawn g.arrivals
-  counting' w drawn pays is = record {
+  pub counting' : (w : View T) (drawn : ℕ) → w.credit + 1 ≡ v.credit → w.added ≡ v.added → drawn ≡ min (x + 1) nodes → Counting nodes (set s.words (nodes + 1) (x + 1)) (set s.views id w) drawn g.arrivals
+  counting' w drawn pays adds is = record {
     size = length-set s.words (nodes + 1) (x + 1) ∙ r.counting.size;
     draws = is ∙ ap (λ c. min c nodes) (sym word_is);
-    added = r.counting.added;
-    paid = (let a = total-set (λ (v : View T). v.credit) s.views id v w at in let p = r.counting.paid in let q = word_is in omega arith);
-    few = r.counting.few;
+    paid = (let a = total-set (λ (v : View T). v.credit) s.views id v w at in let b = sum_stays s.views id v at (λ u. u.added) w adds in let p = r.counting.paid in let q = word_is in omega arith);
+    few = λ i p. let b = sum_stays s.views id v at (λ u. u.added) w adds in let f = r.counting.few i p in omega arith;
     word = λ i h. word_else i h ∙ r.counting.word i h;
   }
 
@@ -72,7 +71,7 @@ module _ {S T : Type 0} (nodes : ℕ) (s : State S (View T)) (g : Graph) (r : Sh
   draws_one t ws vs is low = subst (λ (y : List ℕ × List (View T)). Shows nodes (record { words = y.0; homes = t.homes; views = y.1 }) (record g { drawn = g.drawn + 1; claimer = upd g.claimer (g.drawn + 1) id })) (λ k. (sym ws k, sym vs k))
       (let next : x + 1 ≡ g.drawn + 1 = omega arith in record {
         all_nodes = r.all_nodes;
-        counting = counting' w1 (g.drawn + 1) (omega arith) (omega arith);
+        counting = counting' w1 (g.drawn + 1) (omega arith) refl (omega arith);
         holding = holding' w1 refl;
         keeping = keeping' w1 refl;
         running = record {
@@ -104,7 +103,7 @@ module _ {S T : Type 0} (nodes : ℕ) (s : State S (View T)) (g : Graph) (r : Sh
   draws_none : (t : State S (View T)) → t.words ≡ words' → t.views ≡ set s.views id w2 → nodes ≤ x → Shows nodes t g
   draws_none t ws vs high = subst (λ (y : List ℕ × List (View T)). Shows nodes (record { words = y.0; homes = t.homes; views = y.1 }) g) (λ k. (sym ws k, sym vs k)) (record {
     all_nodes = r.all_nodes;
-    counting = counting' w2 g.drawn (omega arith) (let a = r.counting.draws in omega arith);
+    counting = counting' w2 g.drawn (omega arith) refl (let a = r.counting.draws in omega arith);
     holding = holding' w2 refl;
     keeping = keeping' w2 refl;
     running = r.running;

@@ -11,7 +11,7 @@ use Rattle.completion_core.specs.Graph.{Arrival, Held, Kept, one_same, not_made,
 use Rattle.completion_core.specs.Legal.{renamed, rename, only_at, count, after}
 use Rattle.pending_count.specs.declared.view.View.{View}
 use Rattle.pending_count.specs.Views.{blank, view_at, names, keeps_at, note_of, rest_view, part_view}
-use Rattle.pending_count.specs.Shows.{Shows, Holding, Noting, kept_at}
+use Rattle.pending_count.specs.Shows.{additions, Shows, Holding, Noting, kept_at}
 use Rattle.pending_count.proofs.Sums.{one_at, total-append, total-set, total-minus, self_held, one_held, same_after, fewer_after, more_after, rename-none}
 use Rattle.pending_count.proofs.Records.{fresh_here, fresh_else, fresh-count}
 use Rattle.pending_count.proofs.Parts.{there, mine, here_is, else_is, stays, sum_stays, claiming_as, keeping_as, my_part, is_drawn}
@@ -57,15 +57,14 @@ module _ {S T : Type 0} (nodes : ℕ) (s : State S (View T)) (g : Graph) (r : Sh
   pub same_else : (x i : ℕ) → x ≢ a → x ≢ b → amount (Held x) (arr i) ≡ amount (Held x) (g.arrivals i)
   same_else x i n n' = same_after (Held a) (Held b) m g.arrivals fit (one_same (Held x)) (one_held x a n ∙ sym (one_held x b n')) i
 
-  pub given : (views' : List (View T)) → total (λ v. v.credit) views' ≡ total (λ v. v.credit) s.views → Holding views' arr → ((x i : ℕ) → count i (view_at views' x).claims ≡ count i (view_at s.views x).claims)
+  pub given : (views' : List (View T)) → total (λ v. v.credit) views' ≡ total (λ v. v.credit) s.views → additions views' ≡ additions s.views → Holding views' arr → ((x i : ℕ) → count i (view_at views' x).claims ≡ count i (view_at s.views x).claims)
       → ((i : ℕ) → total (λ v. total (names i) v.armed) views' ≡ total (λ v. total (names i) v.armed) s.views) → ((i j : ℕ) → kept_at i j views' ≡ kept_at i j s.views) → Noting nodes s.words views' g.armed
       → Shows nodes (record { words = s.words; homes = s.homes; views = views' }) (record g { arrivals = arr })
-  given views' credit holding claims named kept noting = record {
+  given views' credit added holding claims named kept noting = record {
     all_nodes = r.all_nodes;
     counting = record {
       size = r.counting.size;
       draws = r.counting.draws;
-      added = r.counting.added;
       paid = (let p = r.counting.paid in omega arith);
       few = λ i p. let x = left_is i in let y = r.counting.few i p in omega arith;
       word = λ i h. r.counting.word i h ∙ sym (left_is i);
@@ -171,6 +170,7 @@ module _ {S T : Type 0} (nodes : ℕ) (s : State S (View T)) (g : Graph) (r : Sh
   pub parts : Shows nodes (record { words = s.words; homes = s.homes; views = views2 }) (after (Give id new node k) g)
   parts = given nodes s g r id new new_apart m part_fit views2
       (let a = sum_is (λ (v : View T). v.credit) in let b = total-set (λ (v : View T). v.credit) s.views id v rest at in omega arith)
+      (let a = sum_is (λ (v : View T). v.added) in let b = sum_stays s.views id v at (λ u. u.added) rest refl in omega arith)
       part_holding
       (λ a i. dite (ℕ_discrete a new)
       (λ e. ap (λ k. count i (view_at views2 k).claims) e ∙ ap (λ (u : View T). count i u.claims) at_new ∙ sym (ap (λ (u : View T). count i u.claims) (ap (λ k. view_at s.views k) e ∙ beyond blank s.views new (omega arith))))

@@ -182,6 +182,7 @@ module _ {S T : Type 0} (nodes : ℕ) (s : State S (View T)) (g : Graph) (r : Sh
   pub joins : Shows nodes (record { words = s.words; homes = s.homes; views = views2 }) (after_all (gives_all other id u.held nodes) g)
   joins = subst (λ h. Shows nodes (record { words = s.words; homes = s.homes; views = views2 }) h) (sym (after_gives other id apart u.held nodes g)) (given nodes s g r other id apart m join_fit views2
       (let a = sum_is (λ (w : View T). w.credit) refl in let b = credits in omega arith)
+      (let a = sum_is (λ (w : View T). w.added) refl in omega arith)
       join_holding
       (λ a i. dite (ℕ_discrete a other)
       (λ e. ap (λ k. count i (view_at views2 k).claims) e ∙ ap (λ (w : View T). count i w.claims) (here_is views1 other u at1 blank) ∙ sym (spent i) ∙ ap (λ (w : View T). count i w.claims) (sym (mine s.views other u there')) ∙ ap (λ k. count i (view_at s.views k).claims) (sym e))

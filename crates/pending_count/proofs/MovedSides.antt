@@ -110,7 +110,7 @@ module _ {V K T : Type 0} (fits : T → Side → V → Type 0) (tag_of : K → T
       (λ n'. ap (λ (u : View T). count i u.claims) (new_else a n' n)))
 
   pub moves : Shows nodes (record { words = s.words; homes = s.homes; views = views2 }) (record g { arrivals = arr })
-  moves = giving.given nodes s g r id new apart m fit views2 (sums (λ u. u.credit) refl) holding claims_same (λ i. sums (λ u. total (names i) u.armed) refl) kept_same (record {
+  moves = giving.given nodes s g r id new apart m fit views2 (sums (λ u. u.credit) refl) (sums (λ u. u.added) refl) holding claims_same (λ i. sums (λ u. total (names i) u.armed) refl) kept_same (record {
     noted = λ a i k e. let b = from (λ u. u.noted) refl a i k e in let h = r.noting.noted b.0 i k b.1 in (h.0, λ j. h.1 j ∙ sym (kept_same i j));
     seen = λ a n. by_seat a (λ u. u.seen ≡ Some n → get_or s.words 0 0 ≤ n) (λ h. absurd (none_some n h)) (λ h. r.noting.seen id n (ap (λ (u : View T). u.seen) old_id ∙ h)) (r.noting.seen a n);
     exhausted = λ a. by_seat a (λ u. u.none_left ≡ true → nodes ≤ get_or s.words (nodes + 1) 0) (λ h. absurd (true≢false (sym h))) (λ h. r.noting.exhausted id (ap (λ (u : View T). u.none_left) old_id ∙ h)) (r.noting.exhausted a);

@@ -76,7 +76,6 @@ module _ (S T : Type 0) (nodes ends : ℕ) where
         counting = record {
           size = (let a = long_zeros (nodes + 1) in omega arith);
           draws = (let a = last_zero in omega arith);
-          added = 0;
           paid = (let a = last_zero in omega arith);
           few = λ i p. let a = ap left (at_first i (λ e. absurd (omega arith))) in omega arith;
           word = first_words;

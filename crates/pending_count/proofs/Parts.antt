@@ -9,7 +9,7 @@ use Rattle.completion_core.specs.Graph.{Arrival, Held, Kept, total, amount, left
 use Rattle.completion_core.specs.Legal.{count}
 use Rattle.pending_count.specs.declared.view.View.{View}
 use Rattle.pending_count.specs.Views.{blank, InRange, view_at, names, note_of}
-use Rattle.pending_count.specs.Shows.{Counting, Holding, Claiming, Keeping, Noting, Shows, kept_at}
+use Rattle.pending_count.specs.Shows.{additions, Counting, Holding, Claiming, Keeping, Noting, Shows, kept_at}
 use Rattle.pending_count.proofs.Sums.{total-kept, seat_is, bool_case}
 
 pub within : (d c n : ℕ) → d ≡ min c n → d ≤ n
@@ -80,15 +80,14 @@ module _ {T : Type 0} (nodes : ℕ) (words : List ℕ) (views : List (View T)) (
       (λ e. let h : get_or (set words node n) 0 0 ≡ n = ap (λ k. get_or (set words node n) k 0) e ∙ word_here in let l = less (sym e) in omega arith)
       (λ m. let h = get_or-set_other words node 0 n 0 m in omega arith)
 
-  pub counting_word : (views' : List (View T)) (arr' : ℕ → List Arrival) (d : ℕ) → total (λ v. v.credit) views' + d ≡ total (λ v. v.credit) views → n ≡ left (arr' node) → ((i : ℕ) → i ≢ node → left (arr' i) ≡ left (arr i)) → (0 < node → left (arr' node) ≤ 4294967296 + (r.added + d))
+  pub counting_word : (views' : List (View T)) (arr' : ℕ → List Arrival) (d : ℕ) → total (λ v. v.credit) views' + d ≡ total (λ v. v.credit) views → additions views' ≡ additions views + d → n ≡ left (arr' node) → ((i : ℕ) → i ≢ node → left (arr' i) ≡ left (arr i)) → (0 < node → left (arr' node) ≤ 4294967296 + (additions views + d))
       → Counting nodes (set words node n) views' drawn arr'
-  counting_word views' arr' d pays is same few = record {
+  counting_word views' arr' d pays adds is same few = record {
     size = length-set words node n ∙ r.size;
     draws = r.draws ∙ ap (λ c. min c nodes) (sym claim_word);
-    added = r.added + d;
     paid = (let a = claim_word in let p = r.paid in omega arith);
     few = λ i p. dite (ℕ_discrete i node)
-        (λ e. subst (λ k. left (arr' k) ≤ 4294967296 + (r.added + d)) (sym e) (few (subst (λ k. 0 < k) e p)))
+        (λ e. subst (λ k. left (arr' k) ≤ 4294967296 + additions views') (sym e) (let f = few (subst (λ k. 0 < k) e p) in omega arith))
         (λ m. let a = same i m in let b = r.few i p in omega arith);
     word = λ i h. dite (ℕ_discrete i node)
         (λ e. ap (λ k. get_or (set words node n) k 0) e ∙ word_here ∙ is ∙ ap (λ k. left (arr' k)) (sym e))

@@ -20,6 +20,7 @@ set-set (x ∷ xs) (suc i) a b = ap (λ l. x ∷ l) (set-set xs i a b)
 -- the two views agree in all but what they say of pairs
 pub record Agrees {T : Type 0} (v u : View T) : Type 0 where
   pub credit : u.credit ≡ v.credit
+  pub added : u.added ≡ v.added
   pub held : u.held ≡ v.held
   pub claims : u.claims ≡ v.claims
   pub armed : u.armed ≡ v.armed
@@ -34,9 +35,8 @@ module _ {S T : Type 0} (nodes : ℕ) (words : List ℕ) (g : Graph) (id : ℕ) 
     counting = record {
       size = r.counting.size;
       draws = r.counting.draws;
-      added = r.counting.added;
-      paid = (let a = sum_stays views id v at (λ w. w.credit) u same.credit in let p = r.counting.paid in omega arith);
-      few = r.counting.few;
+      paid = (let a = sum_stays views id v at (λ w. w.credit) u same.credit in let b = sum_stays views id v at (λ w. w.added) u same.added in let p = r.counting.paid in omega arith);
+      few = λ i p. let b = sum_stays views id v at (λ w. w.added) u same.added in let f = r.counting.few i p in omega arith;
       word = r.counting.word;
     };
     holding = λ a i. stays views id v at (λ w. count i w.held) u (ap (count i) same.held) a ∙ r.holding a i;

@@ -25,13 +25,16 @@ module _ {T : Type 0} where
   abbrev pub kept_at : ℕ → ℕ → List (View T) → ℕ
   kept_at i j views = total (λ v. total (keeps_at i j) v.armed) views
 
-  -- the words are the numbers of arrivals owed and not made, the claim word counts the claims, and what was paid and what is left of the credit are the whole of it
+  -- how many arrivals all seats have added
+  abbrev pub additions : List (View T) → ℕ
+  additions views = total (λ v. v.added) views
+
+  -- the words are the numbers of arrivals owed and not made, the claim word counts the claims; claims, credits and additions together are the whole credit
   pub record Counting (nodes : ℕ) (words : List ℕ) (views : List (View T)) (drawn : ℕ) (arrivals : ℕ → List Arrival) : Type 0 where
     pub size : length words ≡ nodes + 2
     pub draws : drawn ≡ min (slice_index words (nodes + 1)) nodes
-    pub added : ℕ
-    pub paid : slice_index words (nodes + 1) + total (λ v. v.credit) views + added ≡ whole_credit
-    pub few : (i : ℕ) → 0 < i → left (arrivals i) ≤ 4294967296 + added
+    pub paid : slice_index words (nodes + 1) + total (λ v. v.credit) views + additions views ≡ whole_credit
+    pub few : (i : ℕ) → 0 < i → left (arrivals i) ≤ 4294967296 + additions views
     pub word : (i : ℕ) → i ≤ nodes → slice_index words i ≡ left (arrivals i)
 
   -- a view has the arrivals that its actor holds

@@ -71,11 +71,11 @@ least (Some m) (Some n) = Some (min m n)
 module _ {T : Type 0} where
   -- who has no seat, or a seat that was joined into another, holds nothing
   abbrev pub blank : View T
-  blank = record { credit = 0; held = []; sides = []; taken = []; claims = []; armed = []; armed_sides = []; noted = []; noted_sides = []; tags = []; places = []; seen = None; none_left = false; of = record {} }
+  blank = record { credit = 0; added = 0; held = []; sides = []; taken = []; claims = []; armed = []; armed_sides = []; noted = []; noted_sides = []; tags = []; places = []; seen = None; none_left = false; of = record {} }
 
   -- the first seat
   abbrev pub first_view : ℕ → View T
-  first_view ends = record { credit = whole_credit; held = copies ends 0; sides = []; taken = []; claims = []; armed = []; armed_sides = []; noted = []; noted_sides = []; tags = []; places = []; seen = Some ends; none_left = false; of = record {} }
+  first_view ends = record { credit = whole_credit; added = 0; held = copies ends 0; sides = []; taken = []; claims = []; armed = []; armed_sides = []; noted = []; noted_sides = []; tags = []; places = []; seen = Some ends; none_left = false; of = record {} }
 
   -- the view of the actor a, among those of all seats
   abbrev pub view_at : List (View T) → ℕ → View T
@@ -155,7 +155,7 @@ module _ {T : Type 0} where
 
   -- after d arrivals were added at the node
   abbrev pub added_view : ℕ → ℕ → View T → View T
-  added_view node d v = record v { credit = v.credit - d; held = copies d node ++ v.held }
+  added_view node d v = record v { credit = v.credit - d; added = v.added + d; held = copies d node ++ v.held }
 
   -- after END's word was seen
   abbrev pub looked_view : ℕ → View T → View T
@@ -174,6 +174,7 @@ module _ {T : Type 0} where
   joined_view v u =
       record v {
         credit = min (v.credit + u.credit) whole_credit;
+        added = v.added + u.added;
         held = v.held ++ u.held;
         sides = v.sides ++ u.sides;
         armed = v.armed ++ u.armed;

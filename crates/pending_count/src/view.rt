@@ -9,6 +9,8 @@ use std::marker::{Model, PhantomData};
 pub struct View<T> {
     /// What it may still pay with: a claim costs one, and an addition of `d` arrivals costs `d`.
     pub ghost credit: { ℕ },
+    /// How many arrivals it has added. It is never taken back.
+    pub ghost added: { ℕ },
     /// The arrivals that it has to make, each by its node.
     pub ghost held: { List ℕ },
     /// Which of these are sides of pairs, each by the slot of its value.
