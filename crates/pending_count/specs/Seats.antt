@@ -6,6 +6,7 @@ use Rattle.completion_core.specs.declared.action.Reply.TheVariants.{Pending, Las
 use Rattle.pending_count.specs.declared.view.View.{View}
 use Rattle.pending_count.specs.declared.place.Fits.{Ghosts}
 use Rattle.pending_count.specs.declared.place.Slot.{Slot}
+use Rattle.pending_count.specs.declared.counts.Counts.{Counts}
 use Rattle.pending_count.specs.declared.seat.Seat.{Seat}
 use Rattle.pending_count.specs.declared.seat.Arrived.{Arrived}
 use Rattle.pending_count.specs.declared.seat.Arrived.TheVariants as arrived
@@ -13,6 +14,10 @@ use Rattle.pending_count.specs.declared.seat.Arrived.TheVariants as arrived
 -- what a slot of the table has
 abbrev pub Content : Type 0 → Type 0 → Type 0
 Content V K = Option (Slot V K)
+
+-- how many nodes the counts have
+abbrev pub nodes_of : {V K T : Type 0} → Counts V K T → ℕ
+nodes_of counts = counts.nodes
 
 module _ {V K T : Type 0} {g : Ghosts K V T} where
   -- what the seat knows
@@ -26,6 +31,10 @@ module _ {V K T : Type 0} {g : Ghosts K V T} where
   -- the table that it is a seat of
   abbrev pub table_of : Seat V K T g → TableId
   table_of seat = seat.token.table_id
+
+  -- the seat is one of these counts
+  abbrev pub IsSeatOf : Counts V K T → Seat V K T g → Type 0
+  IsSeatOf counts seat = table_of seat ≡ counts.table.shared.table_id
 
   -- a seat of the same actor and table
   abbrev pub IsSameSeat : Seat V K T g → Seat V K T g → Type 0

@@ -6,7 +6,7 @@
 //! beside `atomic_table`. No call but `Counts::new` takes memory, and none can wait. Nodes of `arm` have any number
 //! of arrivals; pairs, of `arm_pair`, have two, which bring values. Used by no crate yet; whoever runs continuations
 //! on both cites `Counts::arrive`, clause `arrived`, and `Counts::arrive_with`, clause `closed`.
-//! Begin with `specs/Shows.antt`, then `specs/Steps.antt` and `src/counts.rt`; docs/completers.md has the words,
+//! Begin with `specs/Shows.antt`, then `specs/Steps.antt` and `src/steps.rt`; docs/completers.md has the words,
 //! the tokens and a worked trace.
 //! Not promised: that a last arrival ever comes, since a seat may be dropped, nor which of two threads comes first.
 //! Java SE 17: the pending count of `CountedCompleter`, which is here the number of arrivals owed, less one.
@@ -17,6 +17,7 @@ mod pairs;
 mod place;
 mod rule;
 mod seat;
+mod steps;
 mod view;
 
 pub use completion_core::Node;

@@ -5,7 +5,7 @@ ghost use Rattle.pending_count.specs.Views.{left_slot, right_slot, kept_slot, no
 ghost use Rattle.pending_count.specs.Steps.{IsSplit};
 ghost use Rattle.pending_count.specs.Pairs.{slot_of, side_of, side_slot};
 ghost use Rattle.pending_count.specs.PairSteps.{HoldsSide, IsPlaced, IsPaired, IsHanded};
-ghost use Rattle.pending_count.specs.Seats.{Content, view_of, actor_of, table_of, IsSameSeat};
+ghost use Rattle.pending_count.specs.Seats.{Content, view_of, actor_of, table_of, IsSameSeat, IsSeatOf, nodes_of};
 ghost use Rattle.pending_count.specs.PairSeats.{pair_seat, pair_reply, IsClosed};
 ghost use Rattle.pending_count.specs.declared.place.Slot.TheVariants.{Value, Kept};
 ghost use Rattle.pending_count.specs.declared.place.Side.TheVariants.{Whole};
@@ -20,14 +20,14 @@ use std::marker::Brand;
 impl<V, K: Fits<V>> Counts<V, K> {
     /// Arms a node that the seat drew as a pair, which owes two arrivals, a left and a right one. It keeps `kept` for the last of them.
     pub fn arm_pair(&self, seat: Seat<V, K>, node: Node, onward: &[Node], kept: K) -> Seat<V, K>
-        requires table { table_of seat ≡ self.now.table.shared.table_id }
+        requires table { IsSeatOf self.now seat }
         requires claimed { 0 < count node (view_of seat).claims }
         requires have { (i : ℕ) → count i onward.now ≤ count i (view_of seat).held }
         requires smaller { (i : ℕ) → 0 < count i onward.now → i < node }
         requires one_side { (i : ℕ) → 0 < count i onward.now → count (left_slot i) (view_of seat).sides + count (right_slot i) (view_of seat).sides ≤ 1 }
         requires placed { IsPlaced K.place_of kept onward.now (view_of seat) }
         ensures seat { IsSameSeat seat result }
-        ensures paired { IsPaired K.fits K.tag_of K.place_of self.now.nodes (actor_of seat) node onward.now kept (view_of seat) (view_of result) }
+        ensures paired { IsPaired K.fits K.tag_of K.place_of (nodes_of self.now) (actor_of seat) node onward.now kept (view_of seat) (view_of result) }
     {
         self.arm_pair_by::<Brand>(seat, node, onward, kept)
     }
@@ -39,15 +39,15 @@ impl<V, K: Fits<V>> Counts<V, K> {
         onward: &[Node],
         kept: K,
     ) -> Seat<V, K>
-        requires table { table_of seat ≡ self.now.table.shared.table_id }
+        requires table { IsSeatOf self.now seat }
         requires claimed { 0 < count node (view_of seat).claims }
         requires have { (i : ℕ) → count i onward.now ≤ count i (view_of seat).held }
         requires smaller { (i : ℕ) → 0 < count i onward.now → i < node }
         requires one_side { (i : ℕ) → 0 < count i onward.now → count (left_slot i) (view_of seat).sides + count (right_slot i) (view_of seat).sides ≤ 1 }
         requires placed { IsPlaced K.place_of kept onward.now (view_of seat) }
-        requires picked { (A.nodes ≡ self.now.nodes) × (A.actor ≡ actor_of seat) × (A.onward ≡ onward.now) × (A.slot ≡ kept_slot node) }
+        requires picked { (A.nodes ≡ nodes_of self.now) × (A.actor ≡ actor_of seat) × (A.onward ≡ onward.now) × (A.slot ≡ kept_slot node) }
         ensures seat { IsSameSeat seat result }
-        ensures paired { IsPaired K.fits K.tag_of K.place_of self.now.nodes (actor_of seat) node onward.now kept (view_of seat) (view_of result) }
+        ensures paired { IsPaired K.fits K.tag_of K.place_of (nodes_of self.now) (actor_of seat) node onward.now kept (view_of seat) (view_of result) }
     {
         let Seat { mut token, credit } = seat;
         let shared = &self.table.shared;
@@ -60,13 +60,13 @@ impl<V, K: Fits<V>> Counts<V, K> {
 
     /// One arrival at a pair, with the value for the place's side. The last of the two gets both values and what the node kept.
     pub fn arrive_with(&self, seat: Seat<V, K>, place: Place<K::Tag>, value: V) -> ArrivedPair<V, K>
-        requires table { table_of seat ≡ self.now.table.shared.table_id }
+        requires table { IsSeatOf self.now seat }
         requires have { 0 < count place.node (view_of seat).held }
         requires side { HoldsSide place (view_of seat) }
         requires tag { note_of place.node (view_of seat).tags ≡ Some place.tag }
         requires fits { K.fits place.tag place.side value }
         ensures seat { IsSameSeat seat (pair_seat result) }
-        ensures handed { (n : ℕ) × (pair_reply result ≡ reply_of_arrival (n - 1)) × IsHanded K.fits K.tag_of K.place_of self.now.nodes (actor_of seat) place.node (slot_of place.node place.side) (view_of seat) n (view_of (pair_seat result)) }
+        ensures handed { (n : ℕ) × (pair_reply result ≡ reply_of_arrival (n - 1)) × IsHanded K.fits K.tag_of K.place_of (nodes_of self.now) (actor_of seat) place.node (slot_of place.node place.side) (view_of seat) n (view_of (pair_seat result)) }
         ensures closed { IsClosed place.node (slot_of place.node place.side) place.tag (view_of seat) result }
     {
         match place.side {
@@ -84,13 +84,13 @@ impl<V, K: Fits<V>> Counts<V, K> {
         side: Side,
         credit: u64,
     ) -> (Seat<V, K>, Seat<V, K>)
-        requires table { table_of seat ≡ self.now.table.shared.table_id }
+        requires table { IsSeatOf self.now seat }
         requires have { (0 < node) × (0 < count node (view_of seat).held) }
         requires side { (0 < count (slot_of node side) (view_of seat).sides) × (side ≢ Whole) }
         requires credit { credit ≤ (view_of seat).credit }
         ensures seat { IsSameSeat seat result.0 × (table_of result.1 ≡ table_of seat) }
         ensures parts { (view_of result.0 ≡ rest_view node 1 credit (slot_of node side ∷ []) (view_of seat)) × (view_of result.1 ≡ part_view node 1 credit (slot_of node side ∷ []) (view_of seat)) }
-        ensures split { IsSplit (Content V K) self.now.nodes node 1 (view_of seat) (view_of result.0) (view_of result.1) }
+        ensures split { IsSplit (Content V K) (nodes_of self.now) node 1 (view_of seat) (view_of result.0) (view_of result.1) }
     {
         self.split_side_by::<Brand>(seat, node, side, credit)
     }
@@ -102,7 +102,7 @@ impl<V, K: Fits<V>> Counts<V, K> {
         side: Side,
         credit: u64,
     ) -> (Seat<V, K>, Seat<V, K>)
-        requires table { table_of seat ≡ self.now.table.shared.table_id }
+        requires table { IsSeatOf self.now seat }
         requires have { (0 < node) × (0 < count node (view_of seat).held) }
         requires side { (0 < count (slot_of node side) (view_of seat).sides) × (side ≢ Whole) }
         requires credit { credit ≤ (view_of seat).credit }
@@ -135,13 +135,13 @@ impl<V, K: Fits<V>> Counts<V, K> {
         is_left: bool,
         value: V,
     ) -> ArrivedPair<V, K>
-        requires table { table_of seat ≡ self.now.table.shared.table_id }
+        requires table { IsSeatOf self.now seat }
         requires have { 0 < count node (view_of seat).held }
         requires side { 0 < count (side_slot node is_left) (view_of seat).sides }
         requires known { (tag : K.Tag) × (note_of node (view_of seat).tags ≡ Some tag) × K.fits tag (side_of is_left) value }
-        requires picked { (A.nodes ≡ self.now.nodes) × (A.actor ≡ actor_of seat) × (A.slot ≡ side_slot node is_left) × (A.left ≡ is_left) }
+        requires picked { (A.nodes ≡ nodes_of self.now) × (A.actor ≡ actor_of seat) × (A.slot ≡ side_slot node is_left) × (A.left ≡ is_left) }
         ensures seat { IsSameSeat seat (pair_seat result) }
-        ensures handed { (n : ℕ) × (pair_reply result ≡ reply_of_arrival (n - 1)) × IsHanded K.fits K.tag_of K.place_of self.now.nodes (actor_of seat) node (side_slot node is_left) (view_of seat) n (view_of (pair_seat result)) }
+        ensures handed { (n : ℕ) × (pair_reply result ≡ reply_of_arrival (n - 1)) × IsHanded K.fits K.tag_of K.place_of (nodes_of self.now) (actor_of seat) node (side_slot node is_left) (view_of seat) n (view_of (pair_seat result)) }
         ensures closed { (tag : K.Tag) → note_of node (view_of seat).tags ≡ Some tag → IsClosed node (side_slot node is_left) tag (view_of seat) result }
     {
         let Seat { mut token, credit } = seat;

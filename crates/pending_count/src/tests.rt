@@ -5,7 +5,7 @@ ghost use Rattle.pending_count.specs.Views.{IsPlainAt, left_slot, right_slot, no
 ghost use Rattle.pending_count.specs.Pairs.{slot_of};
 ghost use Rattle.pending_count.specs.declared.place.Side.TheVariants.{Whole};
 ghost use Rattle.std.specs.Thread.{IsSync};
-ghost use Rattle.pending_count.specs.Seats.{view_of, table_of};
+ghost use Rattle.pending_count.specs.Seats.{view_of, IsSeatOf};
 
 use crate::{Arrived, ArrivedPair, Counts, Fits, Node, Place, Seat, Side};
 use std::sync::Arc;
@@ -39,7 +39,7 @@ type PlainSeat = Seat<(), NoPair>;
 
 // Two nodes, of which the second keeps an arrival at the first, and the first one at END: what each step answered.
 fn two_nodes(counts: &Plain, seat: PlainSeat) -> Option<([Node; 2], u64, [Node; 2], u64)>
-    requires table { table_of seat ≡ counts.now.table.shared.table_id }
+    requires table { IsSeatOf counts.now seat }
     requires first { view_of seat ≡ first_view 1 }
 {
     let (seat, drawn) = counts.claim(seat);
@@ -64,11 +64,11 @@ fn two_nodes(counts: &Plain, seat: PlainSeat) -> Option<([Node; 2], u64, [Node; 
 
 // Splits k, k - 1, .. 1 arrivals off, each time from the second seat of the split before, with half its credit.
 fn last_part(counts: &Plain, seat: PlainSeat, node: Node, k: u64) -> PlainSeat
-    requires table { table_of seat ≡ counts.now.table.shared.table_id }
+    requires table { IsSeatOf counts.now seat }
     requires node { 0 < node }
     requires have { (0 < count node (view_of seat).held) × (k ≤ count node (view_of seat).held) }
     requires plain { IsPlainAt node (view_of seat) }
-    ensures table { table_of result ≡ counts.now.table.shared.table_id }
+    ensures table { IsSeatOf counts.now result }
     ensures have { 0 < count node (view_of result).held }
     ensures plain { IsPlainAt node (view_of result) }
 {
@@ -82,7 +82,7 @@ fn last_part(counts: &Plain, seat: PlainSeat, node: Node, k: u64) -> PlainSeat
 
 // What a seat finds whose credit was halved away: no claim, no addition, and what its arrival answers.
 fn without_credit(counts: &Plain, seat: PlainSeat) -> Option<(Option<Node>, u64)>
-    requires table { table_of seat ≡ counts.now.table.shared.table_id }
+    requires table { IsSeatOf counts.now seat }
     requires first { view_of seat ≡ first_view 0 }
 {
     let (seat, drawn) = counts.claim(seat);
@@ -104,7 +104,7 @@ fn without_credit(counts: &Plain, seat: PlainSeat) -> Option<(Option<Node>, u64)
 
 // What one arrival answers: the pending count, or none where it was the last.
 fn one_arrival(counts: &Plain, seat: PlainSeat, node: Node) -> Option<u64>
-    requires table { table_of seat ≡ counts.now.table.shared.table_id }
+    requires table { IsSeatOf counts.now seat }
     requires node { 0 < node }
     requires have { 0 < count node (view_of seat).held }
     requires plain { IsPlainAt node (view_of seat) }
@@ -121,7 +121,7 @@ fn on_three_threads<R: Threads + Sync>(
     counts: &Plain,
     seat: PlainSeat,
 ) -> Option<[Option<u64>; 3]>
-    requires table { table_of seat ≡ counts.now.table.shared.table_id }
+    requires table { IsSeatOf counts.now seat }
     requires first { view_of seat ≡ first_view 0 }
 {
     let (seat, drawn) = counts.claim(seat);
@@ -132,18 +132,18 @@ fn on_three_threads<R: Threads + Sync>(
     let (one, (two, three)) = thread::join(
         rt,
         move || -> Option<u64>
-            requires { (table_of first ≡ counts.now.table.shared.table_id) × (0 < node) × (0 < count node (view_of first).held) × IsPlainAt node (view_of first) }
+            requires { IsSeatOf counts.now first × (0 < node) × (0 < count node (view_of first).held) × IsPlainAt node (view_of first) }
         { one_arrival(counts, first, node) },
         move || -> (Option<u64>, Option<u64>)
-            requires { IsSync R.row × (table_of second ≡ counts.now.table.shared.table_id) × (table_of third ≡ counts.now.table.shared.table_id) × (0 < node) × (0 < count node (view_of second).held) × IsPlainAt node (view_of second) × (0 < count node (view_of third).held) × IsPlainAt node (view_of third) }
+            requires { IsSync R.row × IsSeatOf counts.now second × IsSeatOf counts.now third × (0 < node) × (0 < count node (view_of second).held) × IsPlainAt node (view_of second) × (0 < count node (view_of third).held) × IsPlainAt node (view_of third) }
         {
             thread::join(
                 rt,
                 move || -> Option<u64>
-                    requires { (table_of second ≡ counts.now.table.shared.table_id) × (0 < node) × (0 < count node (view_of second).held) × IsPlainAt node (view_of second) }
+                    requires { IsSeatOf counts.now second × (0 < node) × (0 < count node (view_of second).held) × IsPlainAt node (view_of second) }
                 { one_arrival(counts, second, node) },
                 move || -> Option<u64>
-                    requires { (table_of third ≡ counts.now.table.shared.table_id) × (0 < node) × (0 < count node (view_of third).held) × IsPlainAt node (view_of third) }
+                    requires { IsSeatOf counts.now third × (0 < node) × (0 < count node (view_of third).held) × IsPlainAt node (view_of third) }
                 { one_arrival(counts, third, node) },
             )
         },
@@ -181,9 +181,9 @@ type PairSeat<V> = Seat<V, Top>;
 
 // A seat of each side of a pair that was armed with the tag 5.
 fn two_sides<V>(counts: &Pairs<V>, seat: PairSeat<V>) -> Option<(PairSeat<V>, PairSeat<V>, Node)>
-    requires table { table_of seat ≡ counts.now.table.shared.table_id }
+    requires table { IsSeatOf counts.now seat }
     requires first { view_of seat ≡ first_view 0 }
-    ensures { IfSome result (λ s. (table_of s.0 ≡ counts.now.table.shared.table_id) × (table_of s.1 ≡ counts.now.table.shared.table_id) × (0 < count s.2 (view_of s.0).held) × (0 < count (left_slot s.2) (view_of s.0).sides) × (note_of s.2 (view_of s.0).tags ≡ Some 5) × (0 < count s.2 (view_of s.1).held) × (0 < count (right_slot s.2) (view_of s.1).sides) × (note_of s.2 (view_of s.1).tags ≡ Some 5)) }
+    ensures { IfSome result (λ s. IsSeatOf counts.now s.0 × IsSeatOf counts.now s.1 × (0 < count s.2 (view_of s.0).held) × (0 < count (left_slot s.2) (view_of s.0).sides) × (note_of s.2 (view_of s.0).tags ≡ Some 5) × (0 < count s.2 (view_of s.1).held) × (0 < count (right_slot s.2) (view_of s.1).sides) × (note_of s.2 (view_of s.1).tags ≡ Some 5)) }
 {
     let (seat, drawn) = counts.claim(seat);
     let node = drawn?;
@@ -200,7 +200,7 @@ fn hand<V>(
     side: Side,
     value: V,
 ) -> Option<(V, V, u64)>
-    requires table { table_of seat ≡ counts.now.table.shared.table_id }
+    requires table { IsSeatOf counts.now seat }
     requires have { 0 < count node (view_of seat).held }
     requires side { (0 < count (slot_of node side) (view_of seat).sides) × (side ≢ Whole) }
     requires tag { note_of node (view_of seat).tags ≡ Some 5 }
@@ -223,17 +223,17 @@ fn on_two_threads<R: Threads + Sync>(
     counts: &Pairs<u64>,
     seat: PairSeat<u64>,
 ) -> Option<[Option<(u64, u64, u64)>; 2]>
-    requires table { table_of seat ≡ counts.now.table.shared.table_id }
+    requires table { IsSeatOf counts.now seat }
     requires first { view_of seat ≡ first_view 0 }
 {
     let (left, right, node) = two_sides(counts, seat)?;
     let (one, other) = thread::join(
         rt,
         move || -> Option<(u64, u64, u64)>
-            requires { (table_of left ≡ counts.now.table.shared.table_id) × (0 < count node (view_of left).held) × (0 < count (left_slot node) (view_of left).sides) × (note_of node (view_of left).tags ≡ Some 5) }
+            requires { IsSeatOf counts.now left × (0 < count node (view_of left).held) × (0 < count (left_slot node) (view_of left).sides) × (note_of node (view_of left).tags ≡ Some 5) }
         { hand(counts, left, node, Side::Left, 10) },
         move || -> Option<(u64, u64, u64)>
-            requires { (table_of right ≡ counts.now.table.shared.table_id) × (0 < count node (view_of right).held) × (0 < count (right_slot node) (view_of right).sides) × (note_of node (view_of right).tags ≡ Some 5) }
+            requires { IsSeatOf counts.now right × (0 < count node (view_of right).held) × (0 < count (right_slot node) (view_of right).sides) × (note_of node (view_of right).tags ≡ Some 5) }
         { hand(counts, right, node, Side::Right, 20) },
     );
     Some([one, other])

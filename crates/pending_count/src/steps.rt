@@ -1,0 +1,317 @@
+//! New counts, and the steps of their seats.
+ghost use Rattle.std.specs.Prelude.{◌≡◌, ◌≢◌, None, ℕ, ◌+◌, ◌-◌, ◌*◌, ◌^◌, ◌<◌, ◌≤◌, List, [], ◌∷◌, IfOk, IfErr, IfSome, replicate};
+ghost use Rattle.completion_core.specs.Legal.{count, reply_of_arrival};
+ghost use Rattle.pending_count.specs.Views.{left_slot, right_slot, IsPlainAt, first_view, joined_view, rest_view, part_view};
+ghost use Rattle.pending_count.specs.Steps.{IsOpened, IsClaimed, IsArmed, IsArrived, IsAdded, IsSettled, IsLeft, IsSplit, IsJoined, drawn_node};
+ghost use Rattle.pending_count.specs.Seats.{Content, view_of, actor_of, table_of, IsSameSeat, seat_back, reply_back, IsFinishOf, IsSeatOf, nodes_of};
+
+use crate::counts::Counts;
+use crate::place::Fits;
+use crate::rule::{
+    Acting, Add, All, Arm, Arming, Arrive, Both, Claim, Look, Part, Parting, Settle,
+};
+use crate::seat::{Arrived, Finish, Seat};
+use crate::view::Sizes;
+use atomic_table::Table;
+use completion_core::Node;
+use std::alloc::{AllocError, Global};
+use std::marker::Brand;
+
+const CREDIT: u64 = 1 << 62;
+
+impl<V, K: Fits<V>> Counts<V, K> {
+    /// Counts of nodes 1 to `nodes`, none of which is drawn, and of END, which owes `ends` arrivals. The seat holds all of these, and a credit of 2^62.
+    pub fn new(
+        alloc: Global,
+        nodes: u32,
+        ends: u64,
+    ) -> Result<(Counts<V, K>, Seat<V, K>), AllocError>
+        ensures seat { IfOk result (λ c. IsSeatOf c.0 c.1 × (nodes_of c.0 ≡ nodes) × (actor_of c.1 ≡ 0) × (view_of c.1 ≡ first_view ends)) }
+        ensures opened { IfOk result (λ c. IsOpened (Content V K) nodes ends (view_of c.1)) }
+    {
+        let words = opening(alloc, nodes, ends)?;
+        let slots = 3 * (nodes as usize + 1);
+        let (table, token) = Table::vacant(alloc, words.as_slice(), slots, &Sizes { nodes, ends })?;
+        let seat = Seat {
+            token,
+            credit: CREDIT,
+        };
+        Ok((Counts { table, nodes }, seat))
+    }
+
+    /// Draws the next node, for one credit: `None` where the credit is 0 or no node is left. The node is larger than all that the seat holds.
+    pub fn claim(&self, seat: Seat<V, K>) -> (Seat<V, K>, Option<Node>)
+        requires table { IsSeatOf self.now seat }
+        ensures seat { IsSameSeat seat result.0 }
+        ensures unpaid { (view_of seat).credit ≡ 0 → (result.1 ≡ None) × (view_of result.0 ≡ view_of seat) }
+        ensures claimed { 0 < (view_of seat).credit → (n : ℕ) × (result.1 ≡ drawn_node (nodes_of self.now) n) × IsClaimed (Content V K) (nodes_of self.now) (actor_of seat) (view_of seat) n (view_of result.0) }
+    {
+        self.claim_by::<Brand>(seat)
+    }
+
+    fn claim_by<A: Acting>(&self, seat: Seat<V, K>) -> (Seat<V, K>, Option<Node>)
+        requires table { IsSeatOf self.now seat }
+        requires picked { (A.nodes ≡ nodes_of self.now) × (A.actor ≡ actor_of seat) }
+        ensures seat { IsSameSeat seat result.0 }
+        ensures unpaid { (view_of seat).credit ≡ 0 → (result.1 ≡ None) × (view_of result.0 ≡ view_of seat) }
+        ensures claimed { 0 < (view_of seat).credit → (n : ℕ) × (result.1 ≡ drawn_node (nodes_of self.now) n) × IsClaimed (Content V K) (nodes_of self.now) (actor_of seat) (view_of seat) n (view_of result.0) }
+    {
+        let Seat { mut token, credit } = seat;
+        if credit == 0 {
+            return (Seat { token, credit }, None);
+        }
+        let word = self.nodes as usize + 1;
+        let found = self.table.shared.fetch_add::<Claim<A>>(&mut token, word, 1);
+        let seat = Seat {
+            token,
+            credit: credit - 1,
+        };
+        if found < self.nodes as u64 {
+            (seat, Some(found as Node + 1))
+        } else {
+            (seat, None)
+        }
+    }
+
+    /// Arms a node that the seat drew. It owes `pending + 1` arrivals from then on, which the seat has; and it keeps one arrival of the seat's for each entry of `onward`, all at smaller nodes, until it runs.
+    pub fn arm(&self, seat: Seat<V, K>, node: Node, pending: u32, onward: &[Node]) -> Seat<V, K>
+        requires table { IsSeatOf self.now seat }
+        requires claimed { 0 < count node (view_of seat).claims }
+        requires have { (i : ℕ) → count i onward.now ≤ count i (view_of seat).held }
+        requires smaller { (i : ℕ) → 0 < count i onward.now → i < node }
+        requires one_side { (i : ℕ) → 0 < count i onward.now → count (left_slot i) (view_of seat).sides + count (right_slot i) (view_of seat).sides ≤ 1 }
+        ensures seat { IsSameSeat seat result }
+        ensures armed { IsArmed (Content V K) (nodes_of self.now) (actor_of seat) node pending onward.now (view_of seat) (view_of result) }
+    {
+        self.arm_by::<Brand>(seat, node, pending, onward)
+    }
+
+    fn arm_by<A: Arming>(
+        &self,
+        seat: Seat<V, K>,
+        node: Node,
+        pending: u32,
+        onward: &[Node],
+    ) -> Seat<V, K>
+        requires table { IsSeatOf self.now seat }
+        requires claimed { 0 < count node (view_of seat).claims }
+        requires have { (i : ℕ) → count i onward.now ≤ count i (view_of seat).held }
+        requires smaller { (i : ℕ) → 0 < count i onward.now → i < node }
+        requires one_side { (i : ℕ) → 0 < count i onward.now → count (left_slot i) (view_of seat).sides + count (right_slot i) (view_of seat).sides ≤ 1 }
+        requires picked { (A.nodes ≡ nodes_of self.now) × (A.actor ≡ actor_of seat) × (A.pending ≡ pending) × (A.onward ≡ onward.now) }
+        ensures seat { IsSameSeat seat result }
+        ensures armed { IsArmed (Content V K) (nodes_of self.now) (actor_of seat) node pending onward.now (view_of seat) (view_of result) }
+    {
+        let Seat { mut token, credit } = seat;
+        self.table
+            .shared
+            .store::<Arm<A>>(&mut token, node as usize, pending as u64 + 1);
+        Seat { token, credit }
+    }
+
+    /// `d` more arrivals at a node of `arm` at which the seat holds one, for as much credit. `Err` where the credit is less; then nothing changes.
+    pub fn add(&self, seat: Seat<V, K>, node: Node, d: u32) -> Result<Seat<V, K>, Seat<V, K>>
+        requires table { IsSeatOf self.now seat }
+        requires node { 0 < node }
+        requires have { 0 < count node (view_of seat).held }
+        requires plain { IsPlainAt node (view_of seat) }
+        ensures added { IfOk result (λ later. IsSameSeat seat later × IsAdded (Content V K) (nodes_of self.now) (actor_of seat) node d (view_of seat) (view_of later)) }
+        ensures paid { IfOk result (λ _. d ≤ (view_of seat).credit) }
+        ensures unpaid { IfErr result (λ same. ((view_of seat).credit < d) × IsSameSeat seat same × (view_of same ≡ view_of seat)) }
+    {
+        self.add_by::<Brand>(seat, node, d)
+    }
+
+    fn add_by<A: Acting>(
+        &self,
+        seat: Seat<V, K>,
+        node: Node,
+        d: u32,
+    ) -> Result<Seat<V, K>, Seat<V, K>>
+        requires table { IsSeatOf self.now seat }
+        requires node { 0 < node }
+        requires have { 0 < count node (view_of seat).held }
+        requires plain { IsPlainAt node (view_of seat) }
+        requires picked { (A.nodes ≡ nodes_of self.now) × (A.actor ≡ actor_of seat) }
+        ensures added { IfOk result (λ later. IsSameSeat seat later × IsAdded (Content V K) (nodes_of self.now) (actor_of seat) node d (view_of seat) (view_of later)) }
+        ensures paid { IfOk result (λ _. d ≤ (view_of seat).credit) }
+        ensures unpaid { IfErr result (λ same. ((view_of seat).credit < d) × IsSameSeat seat same × (view_of same ≡ view_of seat)) }
+    {
+        let Seat { mut token, credit } = seat;
+        let price = d as u64;
+        if credit < price {
+            return Err(Seat { token, credit });
+        }
+        self.table
+            .shared
+            .fetch_add::<Add<A>>(&mut token, node as usize, price);
+        Ok(Seat {
+            token,
+            credit: credit - price,
+        })
+    }
+
+    /// One arrival at a node of `arm`. It is `Last` exactly where one was owed and not made.
+    pub fn arrive(&self, seat: Seat<V, K>, node: Node) -> Arrived<V, K>
+        requires table { IsSeatOf self.now seat }
+        requires node { 0 < node }
+        requires have { 0 < count node (view_of seat).held }
+        requires plain { IsPlainAt node (view_of seat) }
+        ensures seat { IsSameSeat seat (seat_back result) }
+        ensures arrived { (n : ℕ) × (reply_back result ≡ reply_of_arrival (n - 1)) × IsArrived (Content V K) (nodes_of self.now) (actor_of seat) node (view_of seat) n (view_of (seat_back result)) }
+        ensures finish { IsFinishOf node result }
+    {
+        self.arrive_by::<Brand>(seat, node)
+    }
+
+    fn arrive_by<A: Acting>(&self, seat: Seat<V, K>, node: Node) -> Arrived<V, K>
+        requires table { IsSeatOf self.now seat }
+        requires node { 0 < node }
+        requires have { 0 < count node (view_of seat).held }
+        requires plain { IsPlainAt node (view_of seat) }
+        requires picked { (A.nodes ≡ nodes_of self.now) × (A.actor ≡ actor_of seat) }
+        ensures seat { IsSameSeat seat (seat_back result) }
+        ensures arrived { (n : ℕ) × (reply_back result ≡ reply_of_arrival (n - 1)) × IsArrived (Content V K) (nodes_of self.now) (actor_of seat) node (view_of seat) n (view_of (seat_back result)) }
+        ensures finish { IsFinishOf node result }
+    {
+        let Seat { mut token, credit } = seat;
+        let found = self
+            .table
+            .shared
+            .fetch_sub::<Arrive<A>>(&mut token, node as usize, 1);
+        let seat = Seat { token, credit };
+        if found == 1 {
+            Arrived::Last(seat, Finish { node })
+        } else {
+            Arrived::Pending(seat, found - 2)
+        }
+    }
+
+    /// One arrival at END.
+    pub fn settle(&self, seat: Seat<V, K>) -> Seat<V, K>
+        requires table { IsSeatOf self.now seat }
+        requires have { 0 < count 0 (view_of seat).held }
+        ensures seat { IsSameSeat seat result }
+        ensures settled { IsSettled (Content V K) (nodes_of self.now) (actor_of seat) (view_of seat) (view_of result) }
+    {
+        self.settle_by::<Brand>(seat)
+    }
+
+    fn settle_by<A: Acting>(&self, seat: Seat<V, K>) -> Seat<V, K>
+        requires table { IsSeatOf self.now seat }
+        requires have { 0 < count 0 (view_of seat).held }
+        requires picked { (A.nodes ≡ nodes_of self.now) × (A.actor ≡ actor_of seat) }
+        ensures seat { IsSameSeat seat result }
+        ensures settled { IsSettled (Content V K) (nodes_of self.now) (actor_of seat) (view_of seat) (view_of result) }
+    {
+        let Seat { mut token, credit } = seat;
+        self.table.shared.fetch_sub::<Settle<A>>(&mut token, 0, 1);
+        Seat { token, credit }
+    }
+
+    /// How many arrivals at END are owed and not made.
+    pub fn left(&self, seat: Seat<V, K>) -> (Seat<V, K>, u64)
+        requires table { IsSeatOf self.now seat }
+        ensures seat { IsSameSeat seat result.0 }
+        ensures left { IsLeft (Content V K) (nodes_of self.now) (actor_of seat) (view_of seat) result.1 (view_of result.0) }
+    {
+        self.left_by::<Brand>(seat)
+    }
+
+    fn left_by<A: Acting>(&self, seat: Seat<V, K>) -> (Seat<V, K>, u64)
+        requires table { IsSeatOf self.now seat }
+        requires picked { (A.nodes ≡ nodes_of self.now) × (A.actor ≡ actor_of seat) }
+        ensures seat { IsSameSeat seat result.0 }
+        ensures left { IsLeft (Content V K) (nodes_of self.now) (actor_of seat) (view_of seat) result.1 (view_of result.0) }
+    {
+        let Seat { mut token, credit } = seat;
+        let found = self.table.shared.load::<Look<A>>(&mut token, 0);
+        (Seat { token, credit }, found)
+    }
+
+    /// A second seat with `k` of this seat's arrivals at the node, and some of its credit. It knows what this one knows.
+    pub fn split(
+        &self,
+        seat: Seat<V, K>,
+        node: Node,
+        k: u64,
+        credit: u64,
+    ) -> (Seat<V, K>, Seat<V, K>)
+        requires table { IsSeatOf self.now seat }
+        requires have { k ≤ count node (view_of seat).held }
+        requires plain { 0 < node → IsPlainAt node (view_of seat) }
+        requires end { k ≡ 0 → node ≡ 0 }
+        requires credit { credit ≤ (view_of seat).credit }
+        ensures seat { IsSameSeat seat result.0 × (table_of result.1 ≡ table_of seat) }
+        ensures parts { (view_of result.0 ≡ rest_view node k credit [] (view_of seat)) × (view_of result.1 ≡ part_view node k credit [] (view_of seat)) }
+        ensures split { IsSplit (Content V K) (nodes_of self.now) node k (view_of seat) (view_of result.0) (view_of result.1) }
+    {
+        self.split_by::<Brand>(seat, node, k, credit)
+    }
+
+    fn split_by<A: Parting>(
+        &self,
+        seat: Seat<V, K>,
+        node: Node,
+        k: u64,
+        credit: u64,
+    ) -> (Seat<V, K>, Seat<V, K>)
+        requires table { IsSeatOf self.now seat }
+        requires have { k ≤ count node (view_of seat).held }
+        requires plain { 0 < node → IsPlainAt node (view_of seat) }
+        requires end { k ≡ 0 → node ≡ 0 }
+        requires credit { credit ≤ (view_of seat).credit }
+        requires picked { (A.node ≡ node) × (A.arrivals ≡ k) × (A.credit ≡ credit) × (A.sides ≡ []) }
+        ensures seat { IsSameSeat seat result.0 × (table_of result.1 ≡ table_of seat) }
+        ensures parts { (view_of result.0 ≡ rest_view node k credit [] (view_of seat)) × (view_of result.1 ≡ part_view node k credit [] (view_of seat)) }
+    {
+        let Seat {
+            mut token,
+            credit: all,
+        } = seat;
+        let part = self.table.shared.split_seat::<Part<A>>(&mut token);
+        let rest = Seat {
+            token,
+            credit: all - credit,
+        };
+        (
+            rest,
+            Seat {
+                token: part,
+                credit,
+            },
+        )
+    }
+
+    /// One seat with all that the two hold. The second one has armed every node that it claimed.
+    pub fn join(&self, seat: Seat<V, K>, other: Seat<V, K>) -> Seat<V, K>
+        requires tables { IsSeatOf self.now seat × IsSeatOf self.now other }
+        requires armed { (i : ℕ) → count i (view_of other).claims ≡ 0 }
+        ensures seat { IsSameSeat seat result }
+        ensures both { view_of result ≡ joined_view (view_of seat) (view_of other) }
+        ensures joined { IsJoined (Content V K) (nodes_of self.now) (view_of seat) (view_of other) (view_of result) }
+    {
+        let Seat { mut token, credit } = seat;
+        let Seat {
+            token: mut second,
+            credit: more,
+        } = other;
+        // Slots that are out with the second seat for good stay with its old token.
+        let whole = self.table.shared.split_seat::<All>(&mut second);
+        self.table.shared.join_seat::<Both>(&mut token, whole);
+        Seat {
+            token,
+            credit: (credit + more).min(CREDIT),
+        }
+    }
+}
+
+// The words at the start.
+fn opening(alloc: Global, nodes: u32, ends: u64) -> Result<Vec<u64>, AllocError>
+    ensures { IfOk result (λ v. v.items ≡ ends ∷ replicate (nodes + 1) 0) }
+{
+    let mut words = Vec::new(alloc);
+    words.push(ends)?;
+    words.resize(nodes as usize + 2, 0)?;
+    Ok(words)
+}
