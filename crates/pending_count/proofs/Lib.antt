@@ -12,6 +12,7 @@ pub mod Allowed
 pub mod Ranges
 pub mod Callers
 pub mod Uses
+pub mod TreeUses
 pub mod SideParts
 pub mod Turning
 pub mod PlainSides

@@ -28,3 +28,5 @@ pub use std::alloc::AllocError as NoMemory;
 
 #[cfg(test)]
 mod tests;
+#[cfg(test)]
+mod tree_tests;

@@ -15,7 +15,7 @@ use std::thread::Threads;
 
 /// No pair is armed with it.
 #[derive(Drop)]
-struct NoPair;
+pub(crate) struct NoPair;
 
 impl Fits<()> for NoPair {
     type Tag = ();
@@ -33,9 +33,9 @@ impl Fits<()> for NoPair {
     }
 }
 
-type Plain = Counts<(), NoPair>;
+pub(crate) type Plain = Counts<(), NoPair>;
 
-type PlainSeat = Seat<(), NoPair>;
+pub(crate) type PlainSeat = Seat<(), NoPair>;
 
 // Two nodes, of which the second keeps an arrival at the first, and the first one at END: what each step answered.
 fn two_nodes(counts: &Plain, seat: PlainSeat) -> Option<([Node; 2], u64, [Node; 2], u64)>
