@@ -56,6 +56,9 @@ module _ {S T : Type 0} {nodes actor : ℕ} {v w : View T} where
     pub claim_sides : w.sides ≡ v.sides
     claim_sides = ap (λ (u : View T). u.sides) claim_view
 
+    pub claim_side_notes : w.noted_sides ≡ v.noted_sides
+    claim_side_notes = ap (λ (u : View T). u.noted_sides) claim_view
+
     pub claim_has : 0 < count b w.claims
     claim_has = let d = drawn_is nodes n b drew in
         let e : count b w.claims ≡ one_at b (n + 1) + count b v.claims = ap (λ (u : View T). count b u.claims) claim_view in
@@ -85,6 +88,9 @@ module _ {S T : Type 0} {nodes actor : ℕ} {v w : View T} where
 
     pub arm_note_else : (i : ℕ) → i ≢ node → note_of i w.noted ≡ note_of i v.noted
     arm_note_else i n = ap (λ (u : View T). note_of i u.noted) told.view ∙ ap (λ b. cond b (Some onward) (note_of i v.noted)) (ne_eqb node i (λ e. n (sym e)))
+
+    pub arm_side_note_else : (i : ℕ) → i ≢ node → note_of i w.noted_sides ≡ note_of i v.noted_sides
+    arm_side_note_else i n = ap (λ (u : View T). note_of i u.noted_sides) told.view ∙ ap (λ b. cond b (Some (sides_of onward v.sides)) (note_of i v.noted_sides)) (ne_eqb node i (λ e. n (sym e)))
 
   module _ (node n : ℕ) (told : IsArrived S nodes actor node v n w) (have : 0 < count node v.held) where
     pub pending_held : n ≢ 1 → (i : ℕ) → count i w.held + only_at node 1 i ≡ count i v.held
@@ -120,6 +126,9 @@ module _ {S T : Type 0} {nodes actor : ℕ} {v w : View T} where
 
     pub last_noted : n ≡ 1 → w.noted ≡ v.noted
     last_noted one = ap (λ (u : View T). u.noted) (told.last one).2
+
+    pub last_side_notes : n ≡ 1 → w.noted_sides ≡ v.noted_sides
+    last_side_notes one = ap (λ (u : View T). u.noted_sides) (told.last one).2
 
 -- a seat that was split off with k arrivals at a node, and no side
 pub part_has : {T : Type 0} (node k c : ℕ) (v u : View T) → u ≡ part_view node k c [] v → 0 < k → ((0 < count node u.held) × (k - 1 ≤ count node u.held)) × IsPlainAt node u

@@ -6,3 +6,4 @@ pub mod Plays
 pub mod Seats
 pub mod PairSeats
 pub mod Pairs
+pub mod TestTrees

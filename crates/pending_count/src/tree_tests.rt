@@ -1,12 +1,19 @@
-//! Callers that join seats.
-ghost use Rattle.std.specs.Prelude.{◌≡◌, ◌+◌, ◌^◌, ◌<◌, IfSome};
+//! Callers that join seats, and a tree of ten thousand nodes on eight threads.
+ghost use Rattle.std.specs.Prelude.{◌≡◌, ℕ, ◌+◌, ◌-◌, ◌^◌, ◌<◌, ◌≤◌, [], ◌∷◌, IfOk, IfSome};
+ghost use Rattle.std.specs.Thread.{IsSync};
 ghost use Rattle.completion_core.specs.Legal.{count};
 ghost use Rattle.pending_count.specs.Views.{IsPlainAt, first_view};
 ghost use Rattle.pending_count.specs.Seats.{view_of, table_of};
+ghost use Rattle.pending_count.specs.TestTrees.{parent, Knows, Has, IsInTree, CanClimb};
 
 use crate::tests::{Plain, PlainSeat};
 use crate::{Arrived, Node};
+use std::alloc::{AllocError, Global};
 use std::test::Fail;
+use std::thread;
+use std::thread::Threads;
+
+const NODES: Node = 10_000;
 
 // A node that owes three arrivals.
 fn three_owed(counts: &Plain, seat: PlainSeat) -> Option<(PlainSeat, Node)>
@@ -57,10 +64,177 @@ fn split_and_joined(counts: &Plain, seat: PlainSeat) -> Option<([u64; 2], [u64; 
     Some(([before, after], pending, last))
 }
 
+// Where a node keeps an arrival: END for the first node, a smaller one, picked by a multiplicative hash, for each other.
+fn parent_of(node: Node) -> Node
+    ensures { result ≡ parent node }
+{
+    if node < 2 {
+        return 0;
+    }
+    (u64::from(node) * 2_654_435_761 / 65_536 % u64::from(node - 1)) as Node + 1
+}
+
+// Arms the first node, which keeps the arrival at END.
+fn plant(counts: &Plain, seat: PlainSeat) -> Option<PlainSeat>
+    requires table { table_of seat ≡ counts.now.table.shared.table_id }
+    requires first { view_of seat ≡ first_view 1 }
+    ensures { IfSome result (λ later. (table_of later ≡ counts.now.table.shared.table_id) × Knows 1 (view_of later) × Has 1 2 (view_of later)) }
+{
+    let (seat, drawn) = counts.claim(seat);
+    if drawn? != 1 {
+        return None;
+    }
+    Some(counts.arm(seat, 1, 0, &[0]))
+}
+
+// Arms the next node, which keeps a new arrival at its parent.
+fn grow_one(counts: &Plain, seat: PlainSeat, node: Node) -> Option<PlainSeat>
+    requires table { table_of seat ≡ counts.now.table.shared.table_id }
+    requires node { 1 < node }
+    requires knows { Knows (node - 1) (view_of seat) }
+    requires has { Has 1 node (view_of seat) }
+    ensures { IfSome result (λ later. (table_of later ≡ counts.now.table.shared.table_id) × Knows node (view_of later) × Has 1 (node + 1) (view_of later)) }
+{
+    let parent = parent_of(node);
+    let Ok(seat) = counts.add(seat, parent, 1) else {
+        return None;
+    };
+    let (seat, drawn) = counts.claim(seat);
+    if drawn? != node {
+        return None;
+    }
+    Some(counts.arm(seat, node, 0, &[parent]))
+}
+
+// All nodes in order. Each then owes one arrival of its own, and one for each node below it.
+fn grow(counts: &Plain, seat: PlainSeat) -> Option<PlainSeat>
+    requires table { table_of seat ≡ counts.now.table.shared.table_id }
+    requires first { view_of seat ≡ first_view 1 }
+    ensures { IfSome result (λ later. CanClimb counts.now 1 (counts.now.nodes + 1) later) }
+{
+    let mut seat = plant(counts, seat)?;
+    for node in 2..=counts.nodes {
+        seat = grow_one(counts, seat, node)?;
+    }
+    Some(seat)
+}
+
+// An arrival at the node, and where it is the last, one at the node's parent, and so on. `entered` gets each node that may run.
+fn climb(
+    counts: &Plain,
+    seat: PlainSeat,
+    node: Node,
+    entered: &mut Vec<Node>,
+) -> Result<PlainSeat, AllocError>
+    requires seat { IsInTree counts.now seat }
+    requires node { (0 < node) × (node ≤ counts.now.nodes) }
+    requires have { 0 < count node (view_of seat).held }
+    ensures seat { IfOk result (λ later. IsInTree counts.now later) }
+    ensures held { IfOk result (λ later. (j : ℕ) → count j (view_of seat).held ≤ count j (view_of later).held + count j (node ∷ [])) }
+{
+    let (seat, finish) = match counts.arrive(seat, node) {
+        Arrived::Pending(seat, _pending) => return Ok(seat),
+        Arrived::Last(seat, finish) => (seat, finish),
+    };
+    entered.push(finish.node())?;
+    let parent = parent_of(node);
+    if parent == 0 {
+        return Ok(counts.settle(seat));
+    }
+    climb(counts, seat, parent, entered)
+}
+
+// Climbs from each of these nodes: which ones it entered.
+fn climb_all(
+    alloc: Global,
+    counts: &Plain,
+    seat: PlainSeat,
+    from: Node,
+    to: Node,
+) -> Result<Vec<Node>, AllocError>
+    requires nodes { (0 < from) × (to ≤ counts.now.nodes + 1) }
+    requires seat { CanClimb counts.now from to seat }
+{
+    let mut entered = Vec::new(alloc);
+    let mut seat = seat;
+    for node in from..to {
+        seat = climb(counts, seat, node, &mut entered)?;
+    }
+    Ok(entered)
+}
+
+// Splits the arrivals at the nodes from `middle` on off, one by one, and joins them to one seat.
+fn hand_over(
+    counts: &Plain,
+    seat: PlainSeat,
+    from: Node,
+    middle: Node,
+    to: Node,
+) -> (PlainSeat, PlainSeat)
+    requires nodes { (from ≤ middle) × (middle ≤ to) }
+    requires seat { CanClimb counts.now from to seat }
+    ensures rest { CanClimb counts.now from middle result.0 }
+    ensures part { CanClimb counts.now middle to result.1 }
+{
+    let (mut rest, mut part) = counts.split(seat, 0, 0, 0);
+    for node in middle..to {
+        let (fewer, one) = counts.split(rest, node, 1, 0);
+        rest = fewer;
+        part = counts.join(part, one);
+    }
+    (rest, part)
+}
+
+// Climbs from each of these nodes on 2^`levels` threads: which ones they entered.
+#[cycle(halves)]
+fn on_threads<R: Threads + Sync>(
+    rt: &R,
+    alloc: Global,
+    counts: &Plain,
+    seat: PlainSeat,
+    from: Node,
+    to: Node,
+    levels: u32,
+) -> Result<Vec<Node>, AllocError>
+    requires nodes { (0 < from) × (from ≤ to) × (to ≤ counts.now.nodes + 1) }
+    requires seat { CanClimb counts.now from to seat }
+{
+    if levels == 0 {
+        return climb_all(alloc, counts, seat, from, to);
+    }
+    let middle = from + (to - from) / 2;
+    let (low, high) = hand_over(counts, seat, from, middle, to);
+    let (one, other) = thread::join(
+        rt,
+        move || -> Result<Vec<Node>, AllocError>
+            requires { IsSync R.row × (0 < levels) × (0 < from) × (from ≤ middle) × (middle ≤ counts.now.nodes + 1) × CanClimb counts.now from middle low }
+        { on_threads(rt, alloc, counts, low, from, middle, levels - 1) },
+        move || -> Result<Vec<Node>, AllocError>
+            requires { IsSync R.row × (0 < levels) × (0 < middle) × (middle ≤ to) × (to ≤ counts.now.nodes + 1) × CanClimb counts.now middle to high }
+        { on_threads(rt, alloc, counts, high, middle, to, levels - 1) },
+    );
+    let mut entered = one?;
+    entered.append(&mut other?)?;
+    Ok(entered)
+}
+
 #[test]
 fn a_joined_seat_makes_the_arrivals_of_both(rt: HostRuntime) -> Result<(), Fail> {
     let (counts, seat) = Plain::new(rt.alloc(), 1, 0)?;
     let credit = (1 << 62) - 3;
     assert!(rt; split_and_joined(&counts, seat) == Some(([credit, credit], [1, 0], 1)));
+    Ok(())
+}
+
+#[test]
+fn eight_threads_enter_each_node_of_a_large_tree_once(rt: HostRuntime) -> Result<(), Fail> {
+    let (counts, seat) = Plain::new(rt.alloc(), NODES, 1)?;
+    let seat = grow(&counts, seat).expect(&rt, "each node is drawn");
+    let (seat, aside) = counts.split(seat, 0, 0, 0);
+    let mut entered = on_threads(&rt, rt.alloc(), &counts, seat, 1, NODES + 1, 3)?;
+    entered.sort()?;
+    assert!(rt; entered.iter().copied().eq(1..=NODES));
+    let (_aside, left) = counts.left(aside);
+    assert!(rt; left == 0);
     Ok(())
 }
