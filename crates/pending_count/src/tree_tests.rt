@@ -1,4 +1,4 @@
-//! Callers that join seats, and a tree of ten thousand nodes on eight threads.
+//! Callers that join seats, and that run a tree of ten thousand nodes on eight threads, proved and run.
 ghost use Rattle.std.specs.Prelude.{◌≡◌, ℕ, ◌+◌, ◌-◌, ◌^◌, ◌<◌, ◌≤◌, [], ◌∷◌, IfOk, IfSome};
 ghost use Rattle.std.specs.Thread.{IsSync};
 ghost use Rattle.completion_core.specs.Legal.{count};
@@ -50,7 +50,7 @@ fn three_made(counts: &Plain, seat: PlainSeat, node: Node) -> Option<([u64; 2], 
     Some(([first, second], finish.node()))
 }
 
-// Two of three arrivals are split off, with some credit, and joined back: the credit before and after, and what the arrivals answer.
+// Splits two of three arrivals off, with some credit, and joins them back: the credit before and after, and what the arrivals answer.
 fn split_and_joined(counts: &Plain, seat: PlainSeat) -> Option<([u64; 2], [u64; 2], Node)>
     requires table { table_of seat ≡ counts.now.table.shared.table_id }
     requires first { view_of seat ≡ first_view 0 }
@@ -87,7 +87,7 @@ fn plant(counts: &Plain, seat: PlainSeat) -> Option<PlainSeat>
     Some(counts.arm(seat, 1, 0, &[0]))
 }
 
-// Arms the next node, which keeps a new arrival at its parent.
+// Arms the next node, which keeps a new arrival at its parent. `None` where another node is drawn than this one.
 fn grow_one(counts: &Plain, seat: PlainSeat, node: Node) -> Option<PlainSeat>
     requires table { table_of seat ≡ counts.now.table.shared.table_id }
     requires node { 1 < node }
@@ -106,7 +106,7 @@ fn grow_one(counts: &Plain, seat: PlainSeat, node: Node) -> Option<PlainSeat>
     Some(counts.arm(seat, node, 0, &[parent]))
 }
 
-// All nodes in order. Each then owes one arrival of its own, and one for each node below it.
+// Arms all nodes in order, on one seat. Each then owes one arrival for itself, and one for each node whose parent it is.
 fn grow(counts: &Plain, seat: PlainSeat) -> Option<PlainSeat>
     requires table { table_of seat ≡ counts.now.table.shared.table_id }
     requires first { view_of seat ≡ first_view 1 }
@@ -119,7 +119,7 @@ fn grow(counts: &Plain, seat: PlainSeat) -> Option<PlainSeat>
     Some(seat)
 }
 
-// An arrival at the node, and where it is the last, one at the node's parent, and so on. `entered` gets each node that may run.
+// Arrives at the node, and where that is the last arrival, at what the node kept, and so on up to END. `entered` gets each node that may run.
 fn climb(
     counts: &Plain,
     seat: PlainSeat,
@@ -144,7 +144,7 @@ fn climb(
     climb(counts, seat, parent, entered)
 }
 
-// Climbs from each of these nodes: which ones it entered.
+// Climbs from each node `from`, `from + 1`, .. `to - 1`: the nodes that it entered.
 fn climb_all(
     alloc: Global,
     counts: &Plain,
@@ -163,7 +163,7 @@ fn climb_all(
     Ok(entered)
 }
 
-// Splits the arrivals at the nodes from `middle` on off, one by one, and joins them to one seat.
+// A second seat for the nodes from `middle` on: their arrivals are split off one by one, and each is joined to that seat.
 fn hand_over(
     counts: &Plain,
     seat: PlainSeat,
@@ -185,7 +185,7 @@ fn hand_over(
     (rest, part)
 }
 
-// Climbs from each of these nodes on 2^`levels` threads: which ones they entered.
+// The same on 2^`levels` threads.
 #[cycle(halves)]
 fn on_threads<R: Threads + Sync>(
     rt: &R,
