@@ -53,6 +53,9 @@ module _ {S T : Type 0} {nodes actor : ℕ} {v w : View T} where
     pub claim_noted : w.noted ≡ v.noted
     claim_noted = ap (λ (u : View T). u.noted) claim_view
 
+    pub claim_credit : w.credit ≡ v.credit - 1
+    claim_credit = ap (λ (u : View T). u.credit) claim_view
+
     pub claim_sides : w.sides ≡ v.sides
     claim_sides = ap (λ (u : View T). u.sides) claim_view
 

@@ -8,11 +8,19 @@ use Rattle.pending_count.specs.Views.{IsPlainAt, left_slot, right_slot, first_vi
 use Rattle.pending_count.specs.Steps.{IsClaimed, IsArmed, IsArrived, drawn_node}
 use Rattle.pending_count.proofs.Sums.{at_here, at_else}
 use Rattle.pending_count.proofs.Records.{fresh_here}
-use Rattle.pending_count.proofs.Callers.{drawn_is, claim_held, claim_noted, claim_sides, claim_larger, pending_held, pending_sides, pending_side_notes, arm_held, arm_sides, arm_side_note, arm_note, arm_note_else, pending_noted, last_sides, last_held, last_noted}
+use Rattle.pending_count.proofs.Callers.{drawn_is, claim_held, claim_noted, claim_credit, claim_sides, claim_larger, pending_held, pending_sides, pending_side_notes, arm_held, arm_sides, arm_side_note, arm_note, arm_note_else, pending_noted, last_sides, last_held, last_noted}
 
 -- the single entry of a list
 pub only_one : (i a : ℕ) → 0 < count i (a ∷ []) → i ≡ a
 only_one i a h = dite (ℕ_discrete i a) (λ e. e) (λ n. let z = at_else i a (λ e. n (sym e)) in absurd (omega arith))
+
+-- a seat that drew one node, and armed it, can pay for another
+pub can_claim : {S T : Type 0} {nodes k1 k2 : ℕ} (v0 v1 v2 : View T) (a n1 : ℕ) → v0 ≡ first_view 1 → IsClaimed S nodes k1 v0 n1 v1 → drawn_node nodes n1 ≡ Some a → IsArmed S nodes k2 a 0 (0 ∷ []) v1 v2 → 0 < v2.credit
+can_claim v0 v1 v2 a n1 first c1 d1 r1 =
+    let e : v2.credit ≡ v1.credit = ap (λ (u : View _). u.credit) r1.view in
+    let f = claim_credit n1 a c1 d1 in
+    let h : v0.credit ≡ 4611686018427387904 = ap (λ (u : View _). u.credit) first in
+    omega arith
 
 -- a claims and arms the first node, b the second, which keeps an arrival at the first
 module _ {S T : Type 0} {nodes k1 k2 k3 : ℕ} (v0 v1 v2 v3 : View T) (a b n1 n2 : ℕ) (first : v0 ≡ first_view 1) (c1 : IsClaimed S nodes k1 v0 n1 v1) (d1 : drawn_node nodes n1 ≡ Some a)

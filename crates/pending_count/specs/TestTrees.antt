@@ -6,7 +6,7 @@ use Rattle.pending_count.specs.declared.place.Fits.{Ghosts}
 use Rattle.pending_count.specs.declared.seat.Seat.{Seat}
 use Rattle.pending_count.specs.declared.counts.Counts.{Counts}
 use Rattle.pending_count.specs.Views.{note_of}
-use Rattle.pending_count.specs.Seats.{view_of, table_of}
+use Rattle.pending_count.specs.Seats.{view_of, IsSeatOf, nodes_of}
 
 -- the node at which a node keeps an arrival: END for the first node, one of the smaller nodes for each other
 abbrev pub parent : ℕ → ℕ
@@ -26,7 +26,7 @@ module _ {T : Type 0} where
 module _ {V K T : Type 0} {g : Ghosts K V T} where
   -- a seat of these counts that knows the whole tree
   abbrev pub IsInTree : Counts V K T → Seat V K T g → Type 0
-  IsInTree counts seat = (table_of seat ≡ counts.table.shared.table_id) × Knows counts.nodes (view_of seat)
+  IsInTree counts seat = IsSeatOf counts seat × Knows (nodes_of counts) (view_of seat)
 
   -- it can climb from each of these nodes
   abbrev pub CanClimb : Counts V K T → ℕ → ℕ → Seat V K T g → Type 0

@@ -3,7 +3,7 @@ ghost use Rattle.std.specs.Prelude.{◌≡◌, ℕ, ◌+◌, ◌-◌, ◌^◌, �
 ghost use Rattle.std.specs.Thread.{IsSync};
 ghost use Rattle.completion_core.specs.Legal.{count};
 ghost use Rattle.pending_count.specs.Views.{IsPlainAt, first_view};
-ghost use Rattle.pending_count.specs.Seats.{view_of, table_of};
+ghost use Rattle.pending_count.specs.Seats.{view_of, IsSeatOf, nodes_of};
 ghost use Rattle.pending_count.specs.TestTrees.{parent, Knows, Has, IsInTree, CanClimb};
 
 use crate::tests::{Plain, PlainSeat};
@@ -17,9 +17,9 @@ const NODES: Node = 10_000;
 
 // A node that owes three arrivals.
 fn three_owed(counts: &Plain, seat: PlainSeat) -> Option<(PlainSeat, Node)>
-    requires table { table_of seat ≡ counts.now.table.shared.table_id }
+    requires table { IsSeatOf counts.now seat }
     requires first { view_of seat ≡ first_view 0 }
-    ensures table { IfSome result (λ s. table_of s.0 ≡ counts.now.table.shared.table_id) }
+    ensures table { IfSome result (λ s. IsSeatOf counts.now s.0) }
     ensures owed { IfSome result (λ s. (0 < s.1) × (2 < count s.1 (view_of s.0).held)) }
     ensures plain { IfSome result (λ s. IsPlainAt s.1 (view_of s.0)) }
     ensures credit { IfSome result (λ s. (view_of s.0).credit + 3 ≡ 2 ^ 62) }
@@ -33,7 +33,7 @@ fn three_owed(counts: &Plain, seat: PlainSeat) -> Option<(PlainSeat, Node)>
 
 // Three arrivals of one seat: the pending counts that two of them find, and the node that the last one may run.
 fn three_made(counts: &Plain, seat: PlainSeat, node: Node) -> Option<([u64; 2], Node)>
-    requires table { table_of seat ≡ counts.now.table.shared.table_id }
+    requires table { IsSeatOf counts.now seat }
     requires node { 0 < node }
     requires have { 2 < count node (view_of seat).held }
     requires plain { IsPlainAt node (view_of seat) }
@@ -52,7 +52,7 @@ fn three_made(counts: &Plain, seat: PlainSeat, node: Node) -> Option<([u64; 2], 
 
 // Splits two of three arrivals off, with some credit, and joins them back: the credit before and after, and what the arrivals answer.
 fn split_and_joined(counts: &Plain, seat: PlainSeat) -> Option<([u64; 2], [u64; 2], Node)>
-    requires table { table_of seat ≡ counts.now.table.shared.table_id }
+    requires table { IsSeatOf counts.now seat }
     requires first { view_of seat ≡ first_view 0 }
 {
     let (seat, node) = three_owed(counts, seat)?;
@@ -76,9 +76,9 @@ fn parent_of(node: Node) -> Node
 
 // Arms the first node, which keeps the arrival at END.
 fn plant(counts: &Plain, seat: PlainSeat) -> Option<PlainSeat>
-    requires table { table_of seat ≡ counts.now.table.shared.table_id }
+    requires table { IsSeatOf counts.now seat }
     requires first { view_of seat ≡ first_view 1 }
-    ensures { IfSome result (λ later. (table_of later ≡ counts.now.table.shared.table_id) × Knows 1 (view_of later) × Has 1 2 (view_of later)) }
+    ensures { IfSome result (λ later. IsSeatOf counts.now later × Knows 1 (view_of later) × Has 1 2 (view_of later)) }
 {
     let (seat, drawn) = counts.claim(seat);
     if drawn? != 1 {
@@ -89,11 +89,11 @@ fn plant(counts: &Plain, seat: PlainSeat) -> Option<PlainSeat>
 
 // Arms the next node, which keeps a new arrival at its parent. `None` where another node is drawn than this one.
 fn grow_one(counts: &Plain, seat: PlainSeat, node: Node) -> Option<PlainSeat>
-    requires table { table_of seat ≡ counts.now.table.shared.table_id }
+    requires table { IsSeatOf counts.now seat }
     requires node { 1 < node }
     requires knows { Knows (node - 1) (view_of seat) }
     requires has { Has 1 node (view_of seat) }
-    ensures { IfSome result (λ later. (table_of later ≡ counts.now.table.shared.table_id) × Knows node (view_of later) × Has 1 (node + 1) (view_of later)) }
+    ensures { IfSome result (λ later. IsSeatOf counts.now later × Knows node (view_of later) × Has 1 (node + 1) (view_of later)) }
 {
     let parent = parent_of(node);
     let Ok(seat) = counts.add(seat, parent, 1) else {
@@ -108,9 +108,9 @@ fn grow_one(counts: &Plain, seat: PlainSeat, node: Node) -> Option<PlainSeat>
 
 // Arms all nodes in order, on one seat. Each then owes one arrival for itself, and one for each node whose parent it is.
 fn grow(counts: &Plain, seat: PlainSeat) -> Option<PlainSeat>
-    requires table { table_of seat ≡ counts.now.table.shared.table_id }
+    requires table { IsSeatOf counts.now seat }
     requires first { view_of seat ≡ first_view 1 }
-    ensures { IfSome result (λ later. CanClimb counts.now 1 (counts.now.nodes + 1) later) }
+    ensures { IfSome result (λ later. CanClimb counts.now 1 (nodes_of counts.now + 1) later) }
 {
     let mut seat = plant(counts, seat)?;
     for node in 2..=counts.nodes {
@@ -127,7 +127,7 @@ fn climb(
     entered: &mut Vec<Node>,
 ) -> Result<PlainSeat, AllocError>
     requires seat { IsInTree counts.now seat }
-    requires node { (0 < node) × (node ≤ counts.now.nodes) }
+    requires node { (0 < node) × (node ≤ nodes_of counts.now) }
     requires have { 0 < count node (view_of seat).held }
     ensures seat { IfOk result (λ later. IsInTree counts.now later) }
     ensures held { IfOk result (λ later. (j : ℕ) → count j (view_of seat).held ≤ count j (view_of later).held + count j (node ∷ [])) }
@@ -152,7 +152,7 @@ fn climb_all(
     from: Node,
     to: Node,
 ) -> Result<Vec<Node>, AllocError>
-    requires nodes { (0 < from) × (to ≤ counts.now.nodes + 1) }
+    requires nodes { (0 < from) × (to ≤ nodes_of counts.now + 1) }
     requires seat { CanClimb counts.now from to seat }
 {
     let mut entered = Vec::new(alloc);
@@ -196,7 +196,7 @@ fn on_threads<R: Threads + Sync>(
     to: Node,
     levels: u32,
 ) -> Result<Vec<Node>, AllocError>
-    requires nodes { (0 < from) × (from ≤ to) × (to ≤ counts.now.nodes + 1) }
+    requires nodes { (0 < from) × (from ≤ to) × (to ≤ nodes_of counts.now + 1) }
     requires seat { CanClimb counts.now from to seat }
 {
     if levels == 0 {
@@ -207,10 +207,10 @@ fn on_threads<R: Threads + Sync>(
     let (one, other) = thread::join(
         rt,
         move || -> Result<Vec<Node>, AllocError>
-            requires { IsSync R.row × (0 < levels) × (0 < from) × (from ≤ middle) × (middle ≤ counts.now.nodes + 1) × CanClimb counts.now from middle low }
+            requires { IsSync R.row × (0 < levels) × (0 < from) × (from ≤ middle) × (middle ≤ nodes_of counts.now + 1) × CanClimb counts.now from middle low }
         { on_threads(rt, alloc, counts, low, from, middle, levels - 1) },
         move || -> Result<Vec<Node>, AllocError>
-            requires { IsSync R.row × (0 < levels) × (0 < middle) × (middle ≤ to) × (to ≤ counts.now.nodes + 1) × CanClimb counts.now middle to high }
+            requires { IsSync R.row × (0 < levels) × (0 < middle) × (middle ≤ to) × (to ≤ nodes_of counts.now + 1) × CanClimb counts.now middle to high }
         { on_threads(rt, alloc, counts, high, middle, to, levels - 1) },
     );
     let mut entered = one?;
