@@ -16,7 +16,7 @@ use Rattle.pending_count.specs.declared.place.Side.{Side}
 use Rattle.pending_count.specs.declared.place.Place.{Place}
 use Rattle.pending_count.specs.declared.place.Slot.{Slot}
 use Rattle.pending_count.specs.Shows.{Shows}
-use Rattle.pending_count.specs.Pairs.{Pairing, Ruled}
+use Rattle.pending_count.specs.Pairs.{Pairing, Ruled, side_slot}
 use Rattle.pending_count.proofs.Sums.{held_left}
 use Rattle.pending_count.proofs.Records.{count-given_by_all}
 use Rattle.pending_count.proofs.Parts.{there, mine, in_range}
@@ -36,7 +36,7 @@ use Rattle.pending_count.proofs.Turning.{count-sides_given}
 use Rattle.pending_count.proofs.PlainSides as plain_sides
 use Rattle.pending_count.proofs.ArmedSides as armed_sides
 use Rattle.pending_count.proofs.GivenSides as given_sides
-use Rattle.pending_count.proofs.MoreSides.{claimed_sides, end_plain, added_sides, split_off}
+use Rattle.pending_count.proofs.MoreSides.{claimed_sides, not_drawn, end_plain, added_sides, split_off}
 use Rattle.pending_count.proofs.Giving as giving
 use Rattle.pending_count.proofs.Joining as joining
 
@@ -69,12 +69,13 @@ module _ {S T : Type 0} (nodes : ℕ) where
       in_range = in_range nodes t (after_all actions g0) (shown g0 r0).2 id w (ap (λ l. get_elem? l id) vs ∙ set_here s.views id w (there s.views id v at));
     }
 
-taken_claimed : {T : Type 0} (nodes n : ℕ) (v : View T) → (claimed_view nodes n v).taken ≡ v.taken
-taken_claimed nodes n v = either (nat_lt n nodes)
+-- what a claim leaves as it was, whether or not a node is left
+claim_keeps : {T A : Type 0} (part : View T → A) (nodes n : ℕ) (v : View T) → part (record v { credit = v.credit - 1; claims = (n + 1) ∷ v.claims }) ≡ part v → part (record v { credit = v.credit - 1; none_left = true }) ≡ part v → part (claimed_view nodes n v) ≡ part v
+claim_keeps part nodes n v one none_there = either (nat_lt n nodes)
   where
-    either : (b : Bool) → (cond b (record v { credit = v.credit - 1; claims = (n + 1) ∷ v.claims }) (record v { credit = v.credit - 1; none_left = true })).taken ≡ v.taken
-    either true = refl
-    either false = refl
+    either : (b : Bool) → part (cond b (record v { credit = v.credit - 1; claims = (n + 1) ∷ v.claims }) (record v { credit = v.credit - 1; none_left = true })) ≡ part v
+    either true = one
+    either false = none_there
 
 module _ {V K T : Type 0} (fits : T → Side → V → Type 0) (tag_of : K → T) (place_of : K → Option (Place T)) (nodes : ℕ) where
   abbrev Rule : State (Option (Slot V K)) (View T) → Type 0
@@ -97,10 +98,15 @@ module _ {V K T : Type 0} (fits : T → Side → V → Type 0) (tag_of : K → T
             subst (λ k. Rule (stepped s (nodes + 1) k id me.1 w keeps)) (sym same) (after (Claim id) g0, claims.drawn_shows nodes s g0 r0 id v at paying t refl refl, claimed_sides fits tag_of place_of nodes s g0 r0 p0 id v at n (nat_lt n nodes) (nat_lt g0.drawn g0.nodes)),
             (
               refl,
-              taken_claimed nodes n v,
+              claim_keeps (λ (u : View T). u.taken) nodes n v refl refl,
               record {
                 view = refl;
                 larger = claims.larger nodes s g0 r0 id v at paying;
+                no_side =
+                    (let d = r0.counting.draws in
+                    let same_sides : w.sides ≡ v.sides = claim_keeps (λ (u : View T). u.sides) nodes n v refl refl in
+                    let none_at : (b : Bool) → count (side_slot (n + 1) b) w.sides ≡ 0 = λ b. ap (count (side_slot (n + 1) b)) same_sides ∙ not_drawn fits tag_of place_of nodes s g0 r0 p0 id v at (n + 1) b (omega arith) in
+                    (none_at true, none_at false));
                 one_step = subst (λ a. OneStep (Option (Slot V K)) nodes (nodes + 1) n (n + 1) a v w (Claim a ∷ []) (reply_of_claim (drawn_node nodes n))) (sym by_me)
                     (steps_to nodes s g0 r0 id v at (nodes + 1) (n + 1) id w (Claim id ∷ []) (reply_of_claim (drawn_node nodes n)) t refl refl refl (λ g r. ((tt, tt), claims.answers nodes s g r id v at paying, claims.drawn_shows nodes s g r id v at paying t refl refl)));
               },

@@ -58,6 +58,16 @@ module _ {V K T : Type 0} (fits : T → Side → V → Type 0) (tag_of : K → T
   agrees : (v : View T) (l : List ℕ) → Agrees v (record v { taken = l })
   agrees v l = record { credit = refl; added = refl; held = refl; claims = refl; armed = refl; noted = refl; seen = refl; none_left = refl }
 
+  -- views of pairs beside those of plain nodes, with a slot out
+  agrees_paired : (node : ℕ) (onward : List ℕ) (tag : T) (place : Option (ℕ × (ℕ × (ℕ × T)))) (v : View T) → Agrees (armed_view node 1 onward (taken_view (kept_slot node) v)) (paired_view node onward tag place v)
+  agrees_paired node onward tag place v = record { credit = refl; added = refl; held = refl; claims = refl; armed = refl; noted = refl; seen = refl; none_left = refl }
+
+  agrees_closed : (node slot : ℕ) (kept kept_sides : List ℕ) (tags : List (ℕ × T)) (v : View T) → Agrees (finished_view node kept kept_sides (taken_view slot v)) (closed_view node slot kept kept_sides tags v)
+  agrees_closed node slot kept kept_sides tags v = record { credit = refl; added = refl; held = refl; claims = refl; armed = refl; noted = refl; seen = refl; none_left = refl }
+
+  agrees_handed : (node slot : ℕ) (v : View T) → Agrees (arrived_view node (taken_view slot v)) (handed_view node slot v)
+  agrees_handed node slot v = record { credit = refl; added = refl; held = refl; claims = refl; armed = refl; noted = refl; seen = refl; none_left = refl }
+
   -- a load by which an empty slot is taken
   takes_one : (slots id i t : ℕ) (me : Me (Option (Slot V K)) (View T)) → ((s : State (Option (Slot V K)) (View T)) (g : Graph) → Shows nodes s g → Pairing fits tag_of place_of nodes s.homes s.views g.arrivals g.armed g.ran → get_elem? s.views id ≡ some me.0
       → (get_elem? s.homes t ≡ some (some None)) × Pairing fits tag_of place_of nodes (set s.homes t none) (set s.views id (taken_view t me.0)) g.arrivals g.armed g.ran)
@@ -99,7 +109,7 @@ module _ {V K T : Type 0} (fits : T → Side → V → Type 0) (tag_of : K → T
         let out : u.taken ≡ kept_slot node ∷ [] = ap (λ l. kept_slot node ∷ l) free in
         let t : State (Option (Slot V K)) (View T) = stepped s node 2 id mine'.1 w gives in
         let shows : (g : Graph) → Shows nodes s g → Shows nodes t (after (Arm id node 1 onward) g) = λ g r. retold_step nodes (set s.words node 2) (after (Arm id node 1 onward) g) id s.views s.homes t.homes (armed_view node 1 onward u) w (there s.views id u at)
-        (record { credit = refl; added = refl; held = refl; claims = refl; armed = refl; noted = refl; seen = refl; none_left = refl })
+        (agrees_paired node onward (tag_of kept) (noted_place (place_of kept)) v)
         (arming.arms nodes s g r id u at node 1 onward drew small have (record { words = set s.words node 2; homes = s.homes; views = set s.views id (armed_view node 1 onward u) }) refl refl) in (
           w,
           gives,
@@ -156,7 +166,7 @@ module _ {V K T : Type 0} (fits : T → Side → V → Type 0) (tag_of : K → T
         let t : State (Option (Slot V K)) (View T) = stepped s node n id hand.1 w act in
         let acts : arrival_actions id node n0 ≡ Arrive id node ∷ Run id node ∷ [] = cond_one n0 _ _ one in
         let shows : (g : Graph) → Shows nodes s g → Shows nodes t (after (Run id node) (after (Arrive id node) g)) = λ g r. retold_step nodes (set s.words node n) (after (Run id node) (after (Arrive id node) g)) id s.views s.homes t.homes (finished_view node kept kept_sides h) w (there s.views id h at)
-        (record { credit = refl; added = refl; held = refl; claims = refl; armed = refl; noted = refl; seen = refl; none_left = refl })
+        (agrees_closed node (side_slot node b) kept kept_sides tags v)
         (arrivals.runs nodes s g r id h at node have pos (sym one) (record { words = set s.words node n; homes = s.homes; views = set s.views id (finished_view node kept kept_sides h) }) (ap (set s.words node) none_left) refl) in (
           w,
           act,
@@ -204,7 +214,7 @@ module _ {V K T : Type 0} (fits : T → Side → V → Type 0) (tag_of : K → T
         let t : State (Option (Slot V K)) (View T) = stepped s node n id hand.1 w gives in
         let acts : arrival_actions id node n0 ≡ Arrive id node ∷ [] = cond_more n0 _ _ more in
         let shows : (g : Graph) → Shows nodes s g → Shows nodes t (after (Arrive id node) g) = λ g r. retold_step nodes (set s.words node n) (after (Arrive id node) g) id s.views s.homes t.homes (arrived_view node h) w (there s.views id h at)
-        (record { credit = refl; added = refl; held = refl; claims = refl; armed = refl; noted = refl; seen = refl; none_left = refl })
+        (agrees_handed node (side_slot node b) v)
         (arrivals.pends nodes s g r id h at node have n less_one (record { words = set s.words node n; homes = s.homes; views = set s.views id (arrived_view node h) }) refl refl (λ _. some_left)) in (
           w,
           gives,

@@ -5,7 +5,7 @@ use mathlib.Core.Option.{some}
 use native.Mathlib.Decide.{ℕ_discrete}
 use lib.ListN.{get_elem?}
 use Rattle.atomic_table.specs.Table.{State}
-use Rattle.completion_core.specs.Graph.{Held, total, copies, Graph}
+use Rattle.completion_core.specs.Graph.{Held, one_same, total, copies, Graph}
 use Rattle.completion_core.specs.Legal.{with_fresh, only_at, count, upd}
 use Rattle.pending_count.specs.declared.view.View.{View}
 use Rattle.pending_count.specs.declared.place.Side.{Side}
@@ -13,10 +13,11 @@ use Rattle.pending_count.specs.declared.place.Place.{Place}
 use Rattle.pending_count.specs.declared.place.Slot.{Slot}
 use Rattle.pending_count.specs.Views.{left_slot, right_slot, IsPlainAt, SplitOff, added_view}
 use Rattle.pending_count.specs.Shows.{Shows}
-use Rattle.pending_count.specs.Pairs.{Pairing}
+use Rattle.pending_count.specs.Pairs.{Pairing, side_slot}
 use Rattle.pending_count.proofs.Sums.{one_at, total-append, at_here, at_else}
 use Rattle.pending_count.proofs.SideParts.{by_option, none_some}
 use Rattle.pending_count.proofs.Records.{fresh_else}
+use Rattle.pending_count.proofs.Parts.{mine}
 use Rattle.pending_count.proofs.PlainSides as plain
 
 module _ {V K T : Type 0} (fits : T → Side → V → Type 0) (tag_of : K → T) (place_of : K → Option (Place T)) (nodes : ℕ) (s : State (Option (Slot V K)) (View T)) (g : Graph) (r : Shows nodes s g) (p : Pairing fits tag_of place_of nodes s.homes s.views g.arrivals g.armed g.ran) where
@@ -31,6 +32,11 @@ module _ {V K T : Type 0} (fits : T → Side → V → Type 0) (tag_of : K → T
     claimed_sides n true false = plain.plain_stays fits tag_of place_of nodes s g r p id v at (record v { credit = v.credit - 1; claims = (n + 1) ∷ v.claims }) g.arrivals refl refl refl refl refl refl refl (λ i h. omega arith) (λ i t e f. refl)
     claimed_sides n false true = plain.plain_stays fits tag_of place_of nodes s g r p id v at (record v { credit = v.credit - 1; none_left = true }) g.arrivals refl refl refl refl refl refl refl (λ i h. h) (λ i t e f. refl)
     claimed_sides n false false = plain.plain_stays fits tag_of place_of nodes s g r p id v at (record v { credit = v.credit - 1; none_left = true }) g.arrivals refl refl refl refl refl refl refl (λ i h. h) (λ i t e f. refl)
+
+    -- behind the drawn nodes it holds no side
+    pub not_drawn : (i : ℕ) (b : Bool) → g.drawn < i → count (side_slot i b) v.sides ≡ 0
+    not_drawn i b behind = ap (λ (u : View T). count (side_slot i b) u.sides) (sym (mine s.views id v at)) ∙ p.mine id (side_slot i b)
+        ∙ ap (one_same (Held id)) (p.sided.alone i b (by_option (p.tag i) (p.tag i ≡ None) (λ e. e) (λ t e. let low = (r.running.below i (p.sided.pairs i t e)).1 in absurd (omega arith))))
 
     pub added_sides : (node d : ℕ) → p.tag node ≡ None → Pairing fits tag_of place_of nodes s.homes (set s.views id (added_view node d v)) (with_fresh node d (Held id) g.arrivals) g.armed g.ran
     added_sides node d none_there = plain.plain_stays fits tag_of place_of nodes s g r p id v at (added_view node d v) (with_fresh node d (Held id) g.arrivals) refl refl refl refl refl refl refl (λ i h. h)

@@ -13,7 +13,7 @@ use Rattle.completion_core.specs.Graph.{left, Graph}
 use Rattle.completion_core.specs.Legal.{count, Legal, after, reply, reply_of_arrival}
 use Rattle.completion_core.specs.Runs.{LegalAll, after_all}
 use Rattle.pending_count.specs.declared.view.View.{View}
-use Rattle.pending_count.specs.Views.{blank, InRange, note_of, claimed_view, armed_view, arrived_view, finished_view, added_view, looked_view}
+use Rattle.pending_count.specs.Views.{blank, InRange, IsPlainAt, note_of, claimed_view, armed_view, arrived_view, finished_view, added_view, looked_view}
 use Rattle.pending_count.specs.Shows.{Shows, IsShown}
 
 -- the first of the actions answers this
@@ -57,6 +57,7 @@ module _ {T : Type 0} where
   pub record IsClaimed (S : Type 0) (nodes actor : ℕ) (v : View T) (n : ℕ) (w : View T) : Type 0 where
     pub view : w ≡ claimed_view nodes n v
     pub larger : (i : ℕ) → 0 < count i v.held + count i v.claims → i ≤ n
+    pub no_side : IsPlainAt (n + 1) w
     pub one_step : OneStep S nodes (nodes + 1) n (n + 1) actor v w (Claim actor ∷ []) (reply_of_claim (drawn_node nodes n))
 
   -- a node was armed

@@ -217,6 +217,23 @@ fn hand<V>(
     }
 }
 
+// A plain node that is drawn while both sides of a pair are held, and its one arrival.
+fn beside_a_pair(counts: &Pairs<()>, seat: PairSeat<()>) -> Option<[Node; 2]>
+    requires table { IsSeatOf counts.now seat }
+    requires first { view_of seat ≡ first_view 0 }
+{
+    let (seat, drawn) = counts.claim(seat);
+    let pair = drawn?;
+    let seat = counts.arm_pair(seat, pair, &[], Top { tag: 5 });
+    let (seat, drawn) = counts.claim(seat);
+    let node = drawn?;
+    let seat = counts.arm(seat, node, 0, &[]);
+    match counts.arrive(seat, node) {
+        Arrived::Pending(_seat, _pending) => None,
+        Arrived::Last(_seat, finish) => Some([pair, finish.node()]),
+    }
+}
+
 // The two sides of a pair, each handed in by a thread of its own.
 fn on_two_threads<R: Threads + Sync>(
     rt: &R,
@@ -286,6 +303,13 @@ fn the_last_of_two_arrivals_gets_both_values(rt: HostRuntime) -> Result<(), Fail
         };
         assert!(rt; first == None && last == Some((10, 20, 5)));
     }
+    Ok(())
+}
+
+#[test]
+fn a_plain_node_is_drawn_beside_a_pair(rt: HostRuntime) -> Result<(), Fail> {
+    let (counts, seat) = Pairs::<()>::new(rt.alloc(), 2, 0)?;
+    assert!(rt; beside_a_pair(&counts, seat) == Some([1, 2]));
     Ok(())
 }
 
