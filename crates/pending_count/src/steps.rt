@@ -20,7 +20,7 @@ use std::marker::Brand;
 const CREDIT: u64 = 1 << 62;
 
 impl<V, K: Fits<V>> Counts<V, K> {
-    /// Counts of nodes 1 to `nodes`, none of which is drawn, and of END, which owes `ends` arrivals. The seat holds all of these, and a credit of 2^62.
+    /// Counts of nodes 1 to `nodes`, none of which is drawn, and of END, which owes `ends` arrivals. The seat holds all of these, and a credit of 2^62. `Err` where memory is refused: 8 bytes for each word, and three slots a node.
     pub fn new(
         alloc: Global,
         nodes: u32,
@@ -39,7 +39,7 @@ impl<V, K: Fits<V>> Counts<V, K> {
         Ok((Counts { table, nodes }, seat))
     }
 
-    /// Draws the next node, for one credit: `None` where the credit is 0 or no node is left. The node is larger than all that the seat holds.
+    /// Draws the next node, for one credit: `None` where the credit is 0 or no node is left. The node is larger than all that the seat holds. One `fetch_add`; none without credit.
     pub fn claim(&self, seat: Seat<V, K>) -> (Seat<V, K>, Option<Node>)
         requires table { IsSeatOf self.now seat }
         ensures seat { IsSameSeat seat result.0 }
@@ -73,7 +73,7 @@ impl<V, K: Fits<V>> Counts<V, K> {
         }
     }
 
-    /// Arms a node that the seat drew. It owes `pending + 1` arrivals from then on, which the seat has; and it keeps one arrival of the seat's for each entry of `onward`, all at smaller nodes, until it runs.
+    /// Arms a node that the seat drew. It owes `pending + 1` arrivals from then on, which the seat has; and it keeps one arrival of the seat's for each entry of `onward`, all at smaller nodes, until it runs. One store. Java: `CountedCompleter.setPendingCount`.
     pub fn arm(&self, seat: Seat<V, K>, node: Node, pending: u32, onward: &[Node]) -> Seat<V, K>
         requires table { IsSeatOf self.now seat }
         requires claimed { 0 < count node (view_of seat).claims }
@@ -109,7 +109,7 @@ impl<V, K: Fits<V>> Counts<V, K> {
         Seat { token, credit }
     }
 
-    /// `d` more arrivals at a node of `arm` at which the seat holds one, for as much credit. `Err` where the credit is less; then nothing changes.
+    /// `d` more arrivals at a node of `arm` at which the seat holds one, for as much credit. `Err` where the credit is less; then nothing changes. One `fetch_add`. Java: `CountedCompleter.addToPendingCount`.
     pub fn add(&self, seat: Seat<V, K>, node: Node, d: u32) -> Result<Seat<V, K>, Seat<V, K>>
         requires table { IsSeatOf self.now seat }
         requires node { 0 < node }
@@ -151,7 +151,7 @@ impl<V, K: Fits<V>> Counts<V, K> {
         })
     }
 
-    /// One arrival at a node of `arm`. It is `Last` exactly where one was owed and not made.
+    /// One arrival at a node of `arm`. It is `Last` exactly where one was owed and not made. One `fetch_sub`. Java: the count that `CountedCompleter.tryComplete` lowers.
     pub fn arrive(&self, seat: Seat<V, K>, node: Node) -> Arrived<V, K>
         requires table { IsSeatOf self.now seat }
         requires node { 0 < node }
@@ -187,7 +187,7 @@ impl<V, K: Fits<V>> Counts<V, K> {
         }
     }
 
-    /// One arrival at END.
+    /// One arrival at END: one `fetch_sub`.
     pub fn settle(&self, seat: Seat<V, K>) -> Seat<V, K>
         requires table { IsSeatOf self.now seat }
         requires have { 0 < count 0 (view_of seat).held }
@@ -209,7 +209,7 @@ impl<V, K: Fits<V>> Counts<V, K> {
         Seat { token, credit }
     }
 
-    /// How many arrivals at END are owed and not made.
+    /// How many arrivals at END are owed and not made: one load.
     pub fn left(&self, seat: Seat<V, K>) -> (Seat<V, K>, u64)
         requires table { IsSeatOf self.now seat }
         ensures seat { IsSameSeat seat result.0 }
@@ -229,7 +229,7 @@ impl<V, K: Fits<V>> Counts<V, K> {
         (Seat { token, credit }, found)
     }
 
-    /// A second seat with `k` of this seat's arrivals at the node, and some of its credit. It knows what this one knows.
+    /// A second seat with `k` of this seat's arrivals at the node, and some of its credit. It knows what this one knows. One load.
     pub fn split(
         &self,
         seat: Seat<V, K>,
@@ -283,7 +283,7 @@ impl<V, K: Fits<V>> Counts<V, K> {
         )
     }
 
-    /// One seat with all that the two hold. The second one has armed every node that it claimed.
+    /// One seat with all that the two hold. The second one has armed every node that it claimed. Two loads.
     pub fn join(&self, seat: Seat<V, K>, other: Seat<V, K>) -> Seat<V, K>
         requires tables { IsSeatOf self.now seat × IsSeatOf self.now other }
         requires armed { (i : ℕ) → count i (view_of other).claims ≡ 0 }
