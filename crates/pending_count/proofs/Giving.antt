@@ -13,7 +13,7 @@ use Rattle.pending_count.specs.declared.view.View.{View}
 use Rattle.pending_count.specs.Views.{blank, view_at, names, keeps_at, note_of, rest_view, part_view}
 use Rattle.pending_count.specs.Shows.{additions, Shows, Holding, Noting, kept_at}
 use Rattle.pending_count.proofs.Sums.{one_at, total-append, total-set, total-minus, self_held, one_held, same_after, fewer_after, more_after, rename-none}
-use Rattle.pending_count.proofs.Records.{fresh_here, fresh_else, fresh-count}
+use Rattle.pending_count.proofs.Records.{fresh_here, fresh_else, fresh-count, copies_fit}
 use Rattle.pending_count.proofs.Parts.{there, mine, here_is, else_is, stays, sum_stays, claiming_as, keeping_as, my_part, is_drawn}
 
 module _ {A : Type 0} (d : A) where
@@ -101,9 +101,6 @@ module _ {S T : Type 0} (nodes : ℕ) (s : State S (View T)) (g : Graph) (r : Sh
       (λ e. subst (λ j. m j ≤ amount (Held id) (g.arrivals j)) (sym e) (let a = my_part nodes s g r id v at node in let b = fresh_here node k in omega arith))
       (λ n. let b = fresh_else node k i n in omega arith)
 
-  enough : (i : ℕ) → count i (copies k node) ≤ count i v.held
-  enough i = let a = fresh-count node k i in let b = part_fit i in let c = my_part nodes s g r id v at i in omega arith
-
   abbrev pub rest : View T
   rest = rest_view node k c l v
 
@@ -139,7 +136,7 @@ module _ {S T : Type 0} (nodes : ℕ) (s : State S (View T)) (g : Graph) (r : Sh
       ∙ (let x = more_there nodes s g r id new new_apart m part_fit i in let y = nothing i in let z = fresh-count node k i in omega arith) ∙ ap (λ k. amount (Held k) (arr nodes s g r id new new_apart m part_fit i)) (sym e))
       (λ n. ap (λ (u : View T). count i u.held) (at_old a n) ∙ dite (ℕ_discrete a id)
       (λ e. ap (λ k. count i (view_at views1 k).held) e ∙ ap (λ (u : View T). count i u.held) (here_is s.views id v at rest)
-      ∙ (let x = fewer_here nodes s g r id new new_apart m part_fit i in let y = total-minus (one_at i) (copies k node) v.held enough in let z = fresh-count node k i in let q = my_part nodes s g r id v at i in omega arith) ∙ ap (λ k. amount (Held k) (arr nodes s g r id new new_apart m part_fit i)) (sym e))
+      ∙ (let x = fewer_here nodes s g r id new new_apart m part_fit i in let y = total-minus (one_at i) (copies k node) v.held (copies_fit node k v.held have) in let z = fresh-count node k i in let q = my_part nodes s g r id v at i in omega arith) ∙ ap (λ k. amount (Held k) (arr nodes s g r id new new_apart m part_fit i)) (sym e))
       (λ n'. ap (λ (u : View T). count i u.held) (else_is s.views id v at rest a n') ∙ r.holding a i ∙ sym (same_else nodes s g r id new new_apart m part_fit a i n' n)))
 
   -- a part of a view that both seats have of the first one

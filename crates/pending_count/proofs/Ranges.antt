@@ -1,5 +1,5 @@
 -- The nodes of a view that was split or joined.
-use Rattle.std.proofs.Common.{List, ℕ, ◌≤◌, sym, subst, arith}
+use Rattle.std.proofs.Common.{List, ℕ, ◌≤◌, arith}
 use mathlib.Core.Logic.{dite}
 use native.Mathlib.Decide.{ℕ_discrete}
 use Rattle.completion_core.specs.Graph.{copies}
@@ -7,19 +7,14 @@ use Rattle.completion_core.specs.Legal.{count}
 use Rattle.pending_count.specs.declared.view.View.{View}
 use Rattle.pending_count.specs.Views.{InRange, joined_view, rest_view, part_view}
 use Rattle.pending_count.proofs.Sums.{one_at, total-append, total-minus}
-use Rattle.pending_count.proofs.Records.{fresh_here, fresh_else, fresh-count}
+use Rattle.pending_count.proofs.Records.{copies_fit}
 
 module _ {T : Type 0} (n node k c : ℕ) (l : List ℕ) (v : View T) (have : k ≤ count node v.held) (low : InRange n v) where
-  few : (i : ℕ) → count i (copies k node) ≤ count i v.held
-  few i = let a = fresh-count node k i in dite (ℕ_discrete i node)
-      (λ e. subst (λ j. count j (copies k node) ≤ count j v.held) (sym e) (let b = fresh-count node k node in let d = fresh_here node k in omega arith))
-      (λ m. let b = fresh_else node k i m in omega arith)
-
   pub rest_ranged : InRange n (rest_view node k c l v)
-  rest_ranged i h = low i (let a = total-minus (one_at i) (copies k node) v.held few in omega arith)
+  rest_ranged i h = low i (let a = total-minus (one_at i) (copies k node) v.held (copies_fit node k v.held have) in omega arith)
 
   pub part_ranged : InRange n (part_view node k c l v)
-  part_ranged i h = low i (let a = few i in omega arith)
+  part_ranged i h = low i (let a = copies_fit node k v.held have i in omega arith)
 
 pub joined_ranged : {T : Type 0} (n : ℕ) (v u : View T) → InRange n v → InRange n u → InRange n (joined_view v u)
 joined_ranged n v u low low' i h = let a = total-append (one_at i) v.held u.held in

@@ -71,3 +71,9 @@ fresh-count node q i = dite (ℕ_discrete i node)
 pub one_if_le : (b : Bool) → one_if b ≤ 1
 one_if_le true = omega arith
 one_if_le false = omega arith
+
+-- where k entries are there, a list of k of them is a part of what is there
+pub copies_fit : (node k : ℕ) (held : List ℕ) → k ≤ count node held → (i : ℕ) → count i (copies k node) ≤ count i held
+copies_fit node k held enough i = dite (ℕ_discrete i node)
+    (λ e. subst (λ j. count j (copies k node) ≤ count j held) (sym e) (let f = fresh-count node k node in let h = fresh_here node k in omega arith))
+    (λ n. let f = fresh-count node k i in let z = fresh_else node k i n in omega arith)

@@ -12,7 +12,7 @@ use Rattle.pending_count.specs.Views.{IsPlainAt, left_slot, right_slot, less, mi
 use Rattle.pending_count.specs.Steps.{IsArrived, IsArmed, IsAdded, IsClaimed, IsSettled, drawn_node}
 use Rattle.pending_count.specs.TestTrees.{parent, Knows, Has}
 use Rattle.pending_count.proofs.Sums.{one_at, total-append, total-minus, total-less, at_here, at_else, at_sym}
-use Rattle.pending_count.proofs.Records.{fresh-count, fresh_here, fresh_else}
+use Rattle.pending_count.proofs.Records.{fresh-count, fresh_here, copies_fit}
 use Rattle.pending_count.proofs.Callers.{was_pending, was_last, pending_held, pending_sides, last_held, last_noted, last_side_notes, last_sides, claim_held, claim_noted, claim_side_notes, claim_sides, arm_held, arm_note, arm_note_else, arm_side_note, arm_side_note_else, arm_sides}
 
 -- an arrival that wasn't the last
@@ -49,15 +49,10 @@ module _ {T : Type 0} (node k c : ℕ) (v rest part : View T) (is : rest ≡ res
   part_held i = ap (λ (u : View T). count i u.held) off ∙ fresh-count node k i
 
   module _ (have : k ≤ count node v.held) where
-    some_held : (i : ℕ) → count i (copies k node) ≤ count i v.held
-    some_held i = dite (ℕ_discrete i node)
-        (λ e. subst (λ j. count j (copies k node) ≤ count j v.held) (sym e) (let f = fresh-count node k node in let h = fresh_here node k in omega arith))
-        (λ n. let f = fresh-count node k i in let z = fresh_else node k i n in omega arith)
-
     pub rest_held : (i : ℕ) → count i rest.held + only_at node k i ≡ count i v.held
     rest_held i =
         let e : count i rest.held ≡ count i (minus (copies k node) v.held) = ap (λ (u : View T). count i u.held) is in
-        let m = total-minus (one_at i) (copies k node) v.held some_held in
+        let m = total-minus (one_at i) (copies k node) v.held (copies_fit node k v.held have) in
         let f = fresh-count node k i in
         omega arith
 

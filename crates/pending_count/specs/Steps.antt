@@ -53,7 +53,7 @@ module _ {T : Type 0} where
     pub shown : (g : Graph) → Shows nodes before g → LegalAll actions g × Answers actions g answer × Shows nodes later (after_all actions g)
     pub in_range : InRange nodes w
 
-  -- a claim, for which the claim word had n
+  -- a claim, for which the claim word had n: the node that it may draw is larger than all that the seat has, and the seat has no side of it
   pub record IsClaimed (S : Type 0) (nodes actor : ℕ) (v : View T) (n : ℕ) (w : View T) : Type 0 where
     pub view : w ≡ claimed_view nodes n v
     pub larger : (i : ℕ) → 0 < count i v.held + count i v.claims → i ≤ n

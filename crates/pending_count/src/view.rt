@@ -9,7 +9,7 @@ use std::marker::{Model, PhantomData};
 pub struct View<T> {
     /// What it may still pay with: a claim costs one, and an addition of `d` arrivals costs `d`.
     pub ghost credit: { ℕ },
-    /// How many arrivals it has added. It is never taken back.
+    /// How many arrivals it has added, or a seat that was joined into it. It is never taken back.
     pub ghost added: { ℕ },
     /// The arrivals that it has to make, each by its node.
     pub ghost held: { List ℕ },
