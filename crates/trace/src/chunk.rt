@@ -2,6 +2,7 @@
 
 ghost use Rattle.std.specs.Prelude.{◌≡◌, ◌≢◌, [], ◌∷◌, ◌++◌, OnOk, OnErr, IfErr, IfOk, ⊤, map};
 ghost use Rattle.trace.specs.Trace.{trace, append};
+ghost use Rattle.trace.specs.declared.item.End.TheVariants as end;
 ghost use Rattle.trace.specs.Sinks.{flow_at};
 
 use super::NoMemory;
@@ -110,7 +111,7 @@ impl Chunk {
 }
 
 impl LongSink for Chunk {
-    ghost has_taken = { λ chunk items. chunk.items ≡ items };
+    ghost has_taken = { λ chunk items. chunk ≡ trace items end.Done };
 
     ghost flow = { λ chunk. flow_at chunk.ending };
 
