@@ -4,6 +4,7 @@ pub mod Frames
 pub mod Heads
 pub mod Literals
 pub mod Machine
+pub mod Multiples
 pub mod NumberLaws
 pub mod NumberStops
 pub mod OneAnswer

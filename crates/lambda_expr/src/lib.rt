@@ -26,6 +26,7 @@ mod operator;
 mod parse;
 mod read;
 mod tree;
+mod wrapping;
 
 pub use env::Env;
 pub use expr::{BoolExpr, LongExpr};
@@ -35,6 +36,7 @@ pub use laws::{one_answer, one_number, one_reading, one_stop};
 pub use number::read_number;
 pub use operator::{BinaryOperator, Comparison, Infix, UnaryOperator};
 pub use read::read_lambda;
+pub use wrapping::wrap_is_the_remainder_in_64_bits;
 
 #[cfg(test)]
 mod tests;
