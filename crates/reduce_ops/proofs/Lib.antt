@@ -1,0 +1,5 @@
+mod Bits
+mod Products
+mod Affine
+mod Associative
+mod Identities
