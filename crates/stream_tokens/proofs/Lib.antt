@@ -4,4 +4,5 @@ pub mod SymbolFronts
 pub mod Longest
 pub mod FrontReads
 pub mod Cutting
+pub mod CutTextLemmas
 pub mod LineLemmas

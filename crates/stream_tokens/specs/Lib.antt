@@ -5,3 +5,5 @@ pub mod Tokens
 pub mod Scanning
 pub mod Lines
 pub mod JobTexts
+pub mod CutTexts
+pub mod CutFields

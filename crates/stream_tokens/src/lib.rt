@@ -6,7 +6,8 @@
 //!
 //! Stands on std alone. The readers of lambdas and of jobs stand on it: `cut`, clause `tokens`, gives
 //! them the one list of tokens that a text has (`one_cut`), and `job_texts`, clause `ok`, the lines.
-//! They match on `TokenKind` and `Symbol`, and read a token's bytes by `Token::text`.
+//! They match on `TokenKind` and `Symbol`, and read a token's bytes by `Token::text`. `CutText` is a text
+//! with its tokens, or the part of one between two tokens: it is cut once, and columns count from the part.
 //!
 //! Begin with `specs/Tokens.antt`, then `scanner.rt`.
 //!
@@ -15,6 +16,7 @@
 #![tactic(auto)]
 
 mod bytes;
+mod cut_text;
 mod job_text;
 mod line;
 mod scanner;
@@ -24,6 +26,7 @@ mod tests;
 mod token;
 
 pub use bytes::Bytes;
+pub use cut_text::{CutText, tokens_of_a_part};
 pub use job_text::{JobText, TextFault, job_texts};
 pub use scanner::{cut, one_cut, tokens_stand_in_order};
 pub use std::alloc::AllocError as NoMemory;

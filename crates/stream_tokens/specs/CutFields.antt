@@ -1,0 +1,15 @@
+-- Condition: how the fields of a cut text stand for the text and its tokens.
+use Rattle.std.specs.Prelude.{◌≤◌, length, slice_range}
+use Rattle.stream_tokens.specs.declared.cut_text.CutText.TheInside.{Inside}
+use Rattle.stream_tokens.specs.Tokens.{CutBetween}
+use Rattle.stream_tokens.specs.CutTexts.{TokenizedText, shifted}
+
+-- the bytes from `from` up to `to`, with positions counted from there
+abbrev pub tokenized : Inside → TokenizedText
+tokenized c = record { bytes = slice_range c.text.now c.from c.to; tokens = shifted c.from c.tokens.now }
+
+-- the tokens are those of these bytes
+pub record IsCut (c : Inside) : Type 0 where
+  pub within : c.to ≤ length c.text.now
+  pub in_order : c.from ≤ c.to
+  pub tokens : CutBetween c.text.now c.from c.tokens.now c.to
