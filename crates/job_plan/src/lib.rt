@@ -11,8 +11,6 @@
 
 mod answer;
 mod laws;
-#[cfg(test)]
-mod tests;
 mod values;
 
 pub use answer::Answer;

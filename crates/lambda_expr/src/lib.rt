@@ -37,6 +37,3 @@ pub use number::read_number;
 pub use operator::{BinaryOperator, Comparison, Infix, UnaryOperator};
 pub use read::read_lambda;
 pub use wrapping::wrap_is_the_remainder_in_64_bits;
-
-#[cfg(test)]
-mod tests;

@@ -21,8 +21,6 @@ mod job_text;
 mod line;
 mod scanner;
 mod symbol;
-#[cfg(test)]
-mod tests;
 mod token;
 
 pub use bytes::Bytes;

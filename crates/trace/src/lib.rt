@@ -16,8 +16,6 @@ mod item;
 mod laws;
 mod sink;
 mod stage;
-#[cfg(test)]
-mod tests;
 
 pub use chunk::Chunk;
 pub use feeding::{Fed, feed, feed_all};

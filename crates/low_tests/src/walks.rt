@@ -1,0 +1,194 @@
+//! Walks through stages. The values are those of Java 17, and the faults are worked out by hand.
+ghost use Rattle.std.specs.Prelude.{◌≡◌, ◌+◌, ◌<◌, ◌^◌, ⊤, List, length, if◌then◌else◌, ◌==◌};
+ghost use Rattle.trace.specs.declared.item.Item.{Item};
+ghost use Rattle.trace.specs.declared.sink.Flow.TheVariants as flow;
+
+use lambda_expr::{Body, Env, FaultKind, ReadFault, Want, read_lambda};
+use std::alloc::{AllocError, Global};
+use std::test::Fail;
+use trace::{Chunk, End, Fault, Fed, Flow, Item, LongSink, NoMemory, Stage, feed, feed_all};
+
+/// `map` or `filter` by a lambda.
+fn stage(alloc: Global, text: &str, want: Want) -> Result<Stage, NoMemory> {
+    match read_lambda(alloc, text.as_bytes(), want) {
+        Ok(lambda) => Ok(match lambda.body {
+            Body::Long(image) => Stage::Map(image),
+            Body::Bool(condition) => Stage::Filter(condition),
+        }),
+        Err(_) => Err(AllocError),
+    }
+}
+
+/// The values at the places 0, 1, 2 and so on.
+fn items_of(alloc: Global, values: &[i64]) -> Result<Vec<Item>, NoMemory> {
+    (0..)
+        .zip(values)
+        .map(|(origin, value)| Item {
+            origin,
+            value: *value,
+        })
+        .collect(alloc)
+}
+
+const fn division_by_zero(stage: u32, origin: u64) -> End {
+    End::Fault(Fault {
+        kind: FaultKind::DivideByZero,
+        stage,
+        origin: Some(origin),
+    })
+}
+
+const fn item(origin: u64, value: i64) -> Item {
+    Item { origin, value }
+}
+
+/// What a walk through all stages gives, from stage 1 on.
+fn walked(alloc: Global, stages: &[Stage], values: &[i64]) -> Result<Chunk, NoMemory>
+    requires { 1 + length stages.now < 2 ^ 32 }
+{
+    let items = items_of(alloc, values)?;
+    let mut chunk = Chunk::ending(alloc, End::Done);
+    if let Fed::Fault(fault) = feed_all(stages, 1, &Env::empty(alloc), &items, &mut chunk)? {
+        chunk.end_with(End::Fault(fault));
+    }
+    Ok(chunk)
+}
+
+/// Whether a chunk has these values at these places, and ends so.
+fn is_chunk(chunk: &Chunk, origins: &[u64], values: &[i64], end: End) -> bool {
+    chunk.end() == end
+        && chunk.items().len() == values.len()
+        && chunk.items().iter().zip(origins).zip(values).all(|((item, origin), value)| item.origin
+            == *origin
+            && item.value == *value)
+}
+
+#[test]
+fn a_walk_ends_at_the_first_fault_in_encounter_order(rt: HostRuntime) -> Result<(), Fail> {
+    let alloc = rt.alloc();
+    let places = [0, 1, 2, 3, 4, 5, 6];
+    let stages = [stage(alloc, "x -> 10 / (x - 7)", Want::Long)?];
+    let chunk = walked(alloc, &stages, &[0, 1, 2, 3, 4, 5, 6, 7, 8, 9])?;
+    let values = [-1, -1, -2, -2, -3, -5, -10];
+    assert!(rt; is_chunk(&chunk, &places, &values, division_by_zero(1, 7)));
+    let chunk = walked(alloc, &stages, &[-1, 0])?;
+    assert!(rt; is_chunk(&chunk, &places, &[-1, -1], End::Done));
+    Ok(())
+}
+
+#[test]
+fn an_item_passes_all_stages_before_the_next_one(rt: HostRuntime) -> Result<(), Fail> {
+    let alloc = rt.alloc();
+    let stages = [
+        stage(alloc, "x -> 1 / x", Want::Long)?,
+        stage(alloc, "x -> 1 / (x - 1)", Want::Long)?,
+    ];
+    let chunk = walked(alloc, &stages, &[1, 0])?;
+    assert!(rt; is_chunk(&chunk, &[], &[], division_by_zero(2, 0)));
+    let stages = [stage(alloc, "x -> 10 / x > 3", Want::Bool)?];
+    let chunk = walked(alloc, &stages, &[5, 2, 0, 1])?;
+    assert!(rt; is_chunk(&chunk, &[1], &[2], division_by_zero(1, 2)));
+    let chunk = walked(alloc, &stages, &[5, 2, 4, 1])?;
+    assert!(rt; is_chunk(&chunk, &[1, 3], &[2, 1], End::Done));
+    Ok(())
+}
+
+/// A chunk of these items.
+fn chunk_of(alloc: Global, items: &[Item], end: End) -> Result<Chunk, NoMemory> {
+    let mut chunk = Chunk::ending(alloc, End::Done);
+    for item in items {
+        if let End::Done = chunk.end() {
+            chunk.push(*item)?;
+        }
+    }
+    chunk.end_with(end);
+    Ok(chunk)
+}
+
+#[test]
+fn a_chunk_goes_on_with_another_until_a_fault(rt: HostRuntime) -> Result<(), Fail> {
+    let alloc = rt.alloc();
+    let mut chunk = chunk_of(alloc, &[item(0, 4)], End::Done)?;
+    let second = chunk_of(alloc, &[item(1, -5), item(2, 6)], division_by_zero(1, 3))?;
+    let third = chunk_of(alloc, &[item(4, 7)], division_by_zero(2, 5))?;
+    assert!(rt; chunk.append(Chunk::ending(alloc, End::Done)).is_ok());
+    assert!(rt; is_chunk(&chunk, &[0], &[4], End::Done));
+    assert!(rt; chunk.append(second).is_ok());
+    assert!(rt; chunk.append(third).is_ok());
+    chunk.end_with(division_by_zero(3, 6));
+    assert!(rt; is_chunk(&chunk, &[0, 1, 2], &[4, -5, 6], division_by_zero(1, 3)));
+    Ok(())
+}
+
+#[test]
+fn the_values_of_a_chunk_come_in_turn(rt: HostRuntime) -> Result<(), Fail> {
+    let alloc = rt.alloc();
+    let mut chunk = walked(alloc, &[], &[3, -1, 2])?;
+    assert!(rt; chunk.end() == End::Done);
+    let fed = feed(&[], 1, &Env::empty(alloc), item(3, 8), &mut chunk)?;
+    assert!(rt; fed == Fed::More && chunk.end() == End::Done);
+    let Ok(values) = chunk.into_values(alloc) else {
+        return Err(AllocError.into());
+    };
+    assert!(rt; values.as_slice() == [3, -1, 2, 8].as_slice());
+    Ok(())
+}
+
+/// A sink that wants `all` items, and has room for `room` of them.
+#[derive(Drop)]
+struct Few {
+    all: u64,
+    left: u64,
+    room: u64,
+}
+
+impl LongSink for Few {
+    ghost has_taken = { λ sink items. sink.left + length items ≡ sink.all };
+
+    ghost flow = { λ sink. if sink.left == 0 then flow.Enough else flow.More };
+
+    ghost takes_memory = { ⊤ };
+
+    fn accept(&mut self, _: Item) -> Result<Flow, NoMemory> {
+        if self.room == 0 {
+            return Err(AllocError);
+        }
+        self.room -= 1;
+        self.left -= 1;
+        Ok(if self.left == 0 {
+            Flow::Enough
+        } else {
+            Flow::More
+        })
+    }
+}
+
+#[test]
+fn a_sink_that_has_enough_or_no_room_ends_the_walk(rt: HostRuntime) -> Result<(), Fail> {
+    let alloc = rt.alloc();
+    let env = Env::empty(alloc);
+    let stages = [stage(alloc, "x -> 6 / x", Want::Long)?];
+    let items = items_of(alloc, &[3, 2, 0])?;
+    let fault = Fed::Fault(Fault {
+        kind: FaultKind::DivideByZero,
+        stage: 1,
+        origin: Some(2),
+    });
+    for (all, room, answer, left) in [
+        (1, 9, Ok(Fed::Enough), 0),
+        (2, 9, Ok(Fed::Enough), 0),
+        (3, 9, Ok(fault), 1),
+        (3, 1, Err(AllocError), 2),
+        (3, 0, Err(AllocError), 3),
+    ] {
+        assert!(rt; all != 0);
+        let mut sink = Few {
+            all,
+            left: all,
+            room,
+        };
+        let found = feed_all(&stages, 1, &env, &items, &mut sink);
+        assert!(rt; found == answer && sink.left == left, "{all}, {room}");
+    }
+    Ok(())
+}
