@@ -20,8 +20,6 @@ mod reading;
 mod records;
 mod rows;
 mod table;
-#[cfg(test)]
-mod tests;
 
 pub use cell::read_cell;
 pub use counted_read::{Counted, CountedRead, ReadAllFault, read_all_of};

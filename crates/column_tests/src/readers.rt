@@ -1,10 +1,13 @@
-// Readers that give little, are interrupted or fail.
-use crate::{ColumnFault, Counted, CountedRead, ReadAllFault, read_all_of, read_columns};
+//! Readers that give few bytes at a time, are interrupted or fail.
+use columns::{
+    ColumnFault, Columns, Counted, CountedRead, ReadAllFault, read_all_of, read_columns,
+};
+use std::alloc::Global;
 use std::io;
 use std::io::{ErrorKind, Read};
 use std::test::Fail;
 
-// Gives one byte a read, and at one of its reads an error.
+/// Gives one byte per read, and at one of its reads an error.
 #[derive(Drop)]
 struct Grudging<'a> {
     bytes: &'a [u8],
@@ -33,11 +36,6 @@ impl Read for Grudging<'_> {
 
 const FILE: &[u8; 21] = b"\xef\xbb\xbfa,b\r\n1,-20\r\n\r\n3,4\n";
 
-// The columns of the file.
-const A: &[i64] = &[1, 3];
-
-const B: &[i64] = &[-20, 4];
-
 fn failing_at(fails_at: Option<(usize, ErrorKind)>) -> Counted<Grudging<'static>> {
     Counted::new(Grudging {
         bytes: FILE,
@@ -46,40 +44,43 @@ fn failing_at(fails_at: Option<(usize, ErrorKind)>) -> Counted<Grudging<'static>
     })
 }
 
+/// Whether these are the columns of the file.
+fn is_file(columns: &Columns) -> bool {
+    columns.get(b"a") == Some([1, 3].as_slice()) && columns.get(b"b") == Some([-20, 4].as_slice())
+}
+
+fn gives_the_file(alloc: Global, reader: &mut Counted<Grudging<'static>>) -> bool {
+    read_columns(alloc, reader).is_ok_and(|columns| is_file(&columns))
+}
+
 #[test]
-fn a_byte_a_read_gives_the_same_columns(rt: HostRuntime) {
+fn one_byte_per_read_gives_the_same_columns(rt: HostRuntime) {
     let mut reader = failing_at(None);
-    match read_columns(rt.alloc(), &mut reader) {
-        Ok(table) => {
-            assert_eq!(rt; table.get(b"a"), Some(A));
-            assert_eq!(rt; table.get(b"b"), Some(B));
-        }
-        Err(fault) => assert!(rt; false, "{fault}"),
-    }
-    assert_eq!(rt; reader.failures(), 0);
-    assert_eq!(rt; reader.into_inner().reads, FILE.len() + 1);
+    assert!(rt; gives_the_file(rt.alloc(), &mut reader) && reader.failures() == 0);
+    assert!(rt; reader.into_inner().reads == FILE.len() + 1);
 }
 
 #[test]
 fn an_interrupted_read_is_made_again_and_counts(rt: HostRuntime) {
     for at in 0..=FILE.len() {
         let mut reader = failing_at(Some((at, ErrorKind::Interrupted)));
-        match read_columns(rt.alloc(), &mut reader) {
-            Ok(table) => assert_eq!(rt; table.get(b"b"), Some(B), "read {at}"),
-            Err(fault) => assert!(rt; false, "read {at}: {fault}"),
-        }
-        assert_eq!(rt; reader.failures(), 1, "read {at}");
+        assert!(rt;
+            gives_the_file(rt.alloc(), &mut reader) && reader.failures() == 1,
+            "read {at}"
+        );
     }
 }
 
 #[test]
-fn a_failed_read_is_told_wherever_it_comes(rt: HostRuntime) {
+fn a_failed_read_is_reported_wherever_it_comes(rt: HostRuntime) {
     for at in 0..=FILE.len() {
         let mut reader = failing_at(Some((at, ErrorKind::BrokenPipe)));
-        let told = read_columns(rt.alloc(), &mut reader).err();
-        assert_eq!(rt; told, Some(ColumnFault::Read), "read {at}");
-        assert_eq!(rt; reader.failures(), 1, "read {at}");
-        assert_eq!(rt; reader.into_inner().reads, at + 1, "read {at}");
+        let found = read_columns(rt.alloc(), &mut reader).err();
+        assert!(rt;
+            found == Some(ColumnFault::Read) && reader.failures() == 1,
+            "read {at}"
+        );
+        assert!(rt; reader.into_inner().reads == at + 1, "read {at}");
     }
 }
 
@@ -88,13 +89,12 @@ fn all_that_a_reader_has_left_is_read(rt: HostRuntime) -> Result<(), Fail> {
     let long = vec![in rt.alloc(); b'x'; 700_000]?;
     let mut reader = Counted::new(long.as_slice());
     let mut first = [0u8; 3];
-    assert_eq!(rt; reader.read_some(&mut first)?, 3);
+    assert!(rt; reader.read_some(&mut first)? == 3);
     let rest = read_all_of(rt.alloc(), &mut reader)?;
-    assert_eq!(rt; rest.len(), 699_997);
-    assert!(rt; rest.iter().all(|byte| *byte == b'x'));
-    assert_eq!(rt; read_all_of(rt.alloc(), &mut reader)?.len(), 0);
+    assert!(rt; rest.len() == 699_997 && rest.iter().all(|byte| *byte == b'x'));
+    assert!(rt; read_all_of(rt.alloc(), &mut reader)?.is_empty());
     let mut failing = failing_at(Some((2, ErrorKind::NotFound)));
-    let told = read_all_of(rt.alloc(), &mut failing).err();
-    assert_eq!(rt; told, Some(ReadAllFault::Failed));
+    let found = read_all_of(rt.alloc(), &mut failing).err();
+    assert!(rt; found == Some(ReadAllFault::Failed));
     Ok(())
 }

@@ -1,3 +1,0 @@
-mod cells;
-mod files;
-mod readers;
