@@ -107,6 +107,21 @@ module _ {V K T : Type 0} (fits : T → Side → V → Type 0) (tag_of : K → T
                     let same_sides : w.sides ≡ v.sides = claim_keeps (λ (u : View T). u.sides) nodes n v refl refl in
                     let none_at : (b : Bool) → count (side_slot (n + 1) b) w.sides ≡ 0 = λ b. ap (count (side_slot (n + 1) b)) same_sides ∙ not_drawn fits tag_of place_of nodes s g0 r0 p0 id v at (n + 1) b (omega arith) in
                     (none_at true, none_at false));
+                unnoted = λ i l e.
+                    let armed_there = (r0.noting.noted id i l (ap (λ (u : View T). note_of i u.noted) (mine s.views id v at) ∙ e)).0 in
+                    let b = r0.running.below i armed_there in
+                    let low = b.1 in
+                    let d = r0.counting.draws in omega arith;
+                unnoted_sides = λ i l e.
+                    let armed_there = (p0.noting.noted id i l (ap (λ (u : View T). note_of i u.noted_sides) (mine s.views id v at) ∙ e)).0 in
+                    let b = r0.running.below i armed_there in
+                    let low = b.1 in
+                    let d = r0.counting.draws in omega arith;
+                unplaced = λ i q e.
+                    let armed_there = p0.noting.placed id i q (ap (λ (u : View T). note_of i u.places) (mine s.views id v at) ∙ e) in
+                    let b = r0.running.below i armed_there in
+                    let low = b.1 in
+                    let d = r0.counting.draws in omega arith;
                 one_step = subst (λ a. OneStep (Option (Slot V K)) nodes (nodes + 1) n (n + 1) a v w (Claim a ∷ []) (reply_of_claim (drawn_node nodes n))) (sym by_me)
                     (steps_to nodes s g0 r0 id v at (nodes + 1) (n + 1) id w (Claim id ∷ []) (reply_of_claim (drawn_node nodes n)) t refl refl refl (λ g r. ((tt, tt), claims.answers nodes s g r id v at paying, claims.drawn_shows nodes s g r id v at paying t refl refl)));
               },

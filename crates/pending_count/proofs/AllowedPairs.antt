@@ -114,7 +114,7 @@ module _ {V K T : Type 0} (fits : T → Side → V → Type 0) (tag_of : K → T
           w,
           gives,
           tt,
-          (after (Arm id node 1 onward) g0, shows g0 r0, paired_sides.pairs_sides fits tag_of place_of nodes s g0 r0 p0 id u at node onward drew small have one_side out kept placed),
+          (after (Arm id node 1 onward) g0, shows g0 r0, paired_sides.pairs_sides fits tag_of place_of nodes s g0 r0 p0 id u at node onward drew small have one_side out kept lower placed),
           λ v' k same loaded.
               let is : kept ≡ k = ap (kept_head kept) loaded in
               record {
@@ -200,6 +200,8 @@ module _ {V K T : Type 0} (fits : T → Side → V → Type 0) (tag_of : K → T
                     record {
                       tells = k.2 ∙ is;
                       place = λ pl z. ((λ j. count-given_by_all node j s.views ∙ (k.3 pl z).1 j), λ j. count-sides_given node j s.views ∙ (k.3 pl z).2 j);
+                      smaller = λ pl z. (k.3 pl z).3;
+                      agrees = λ pl z t e. some_is t pl.tag (sym (p0.noting.tags id pl.node t (ap (λ (u : View T). note_of pl.node u.tags) (mine s.views id h at ∙ same) ∙ e)) ∙ (k.3 pl z).0);
                       armed_with = λ q z. k.4 id q (ap (λ (u : View T). note_of node u.places) (mine s.views id h at ∙ same) ∙ z);
                       noted = λ given z j. count-given_by_all node j s.views ∙ sym ((r0.noting.noted id node given (ap (λ (u : View T). note_of node u.noted) (mine s.views id h at ∙ same) ∙ z)).1 j);
                       noted_sides = λ given z j. count-sides_given node j s.views ∙ sym ((p0.noting.noted id node given (ap (λ (u : View T). note_of node u.noted_sides) (mine s.views id h at ∙ same) ∙ z)).1 j);

@@ -165,7 +165,7 @@ module _ {V K T : Type 0} (fits : T → Side → V → Type 0) (tag_of : K → T
           f.0,
           home_else (kept_slot i) n ∙ f.1,
           f.2,
-          (λ pl z. let y = f.3 pl z in (y.0, (λ j. sum_stays s.views id v at (λ u. total (keeps_at i j) u.armed) w refl ∙ y.1 j), λ j. side_sums i j ∙ y.2 j)),
+          (λ pl z. let y = f.3 pl z in (y.0, (λ j. sum_stays s.views id v at (λ u. total (keeps_at i j) u.armed) w refl ∙ y.1 j), (λ j. side_sums i j ∙ y.2 j), y.3)),
           λ a pl z. f.4 a pl (sym (stays s.views id v at (λ u. note_of i u.places) w refl a) ∙ z),
         );
       };
@@ -192,7 +192,7 @@ module _ {V K T : Type 0} (fits : T → Side → V → Type 0) (tag_of : K → T
     other_value = p.slotted.full node (not b) tg tagged still other_made
 
     pub kept_value : (k : K) × (get_elem? s.homes (kept_slot node) ≡ some (some (Some (KeptValue k)))) × (tag_of k ≡ tg)
-        × ((pl : Place T) → place_of k ≡ Some pl → (p.tag pl.node ≡ Some pl.tag) × ((j : ℕ) → kept_at node j s.views ≡ count j (pl.node ∷ [])) × ((j : ℕ) → side_kept_at node j s.views ≡ count j (slot_of pl.node pl.side ∷ [])))
+        × ((pl : Place T) → place_of k ≡ Some pl → (p.tag pl.node ≡ Some pl.tag) × ((j : ℕ) → kept_at node j s.views ≡ count j (pl.node ∷ [])) × ((j : ℕ) → side_kept_at node j s.views ≡ count j (slot_of pl.node pl.side ∷ [])) × (pl.node < node))
         × ((a : ℕ) (q : Option (ℕ × (ℕ × (ℕ × T)))) → note_of node (view_at s.views a).places ≡ Some q → noted_place (place_of k) ≡ q)
     kept_value = p.slotted.kept_full node tg tagged still
 
@@ -331,7 +331,7 @@ module _ {V K T : Type 0} (fits : T → Side → V → Type 0) (tag_of : K → T
             f.0,
             home_else2 (kept_slot i) (λ h. slot_not_kept node i (not b) (sym h)) (λ h. n.0 (omega arith)) ∙ f.1,
             f.2,
-            (λ pl z. let y = f.3 pl z in (y.0, (λ j. sum_stays s.views id v at (λ u. total (keeps_at i j) u.armed) w2 refl ∙ y.1 j), λ j. side_sums2 i j ∙ y.2 j)),
+            (λ pl z. let y = f.3 pl z in (y.0, (λ j. sum_stays s.views id v at (λ u. total (keeps_at i j) u.armed) w2 refl ∙ y.1 j), (λ j. side_sums2 i j ∙ y.2 j), y.3)),
             λ a pl z. f.4 a pl (sym (stays s.views id v at (λ u. note_of i u.places) w2 refl a) ∙ z),
           );
         };

@@ -1,3 +1,4 @@
+-- Lemmas of this crate, lowest first.
 pub mod Sums
 pub mod Parts
 pub mod Records
@@ -11,8 +12,6 @@ pub mod Joining
 pub mod Allowed
 pub mod Ranges
 pub mod Callers
-pub mod Uses
-pub mod TreeUses
 pub mod SideParts
 pub mod Turning
 pub mod PlainSides

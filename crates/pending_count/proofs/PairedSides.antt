@@ -28,7 +28,7 @@ use Rattle.pending_count.proofs.PlainSides as plain
 
 module _ {V K T : Type 0} (fits : T → Side → V → Type 0) (tag_of : K → T) (place_of : K → Option (Place T)) (nodes : ℕ) (s : State (Option (Slot V K)) (View T)) (g : Graph) (r : Shows nodes s g) (p : Pairing fits tag_of place_of nodes s.homes s.views g.arrivals g.armed g.ran) (id : ℕ) (v : View T) (at : get_elem? s.views id ≡ some v)
     (node : ℕ) (onward : List ℕ) (drew : 0 < count node v.claims) (small : 1 < 4294967296) (have : (i : ℕ) → count i onward ≤ count i v.held) (one_side : (i : ℕ) → 0 < count i onward → count (left_slot i) v.sides + count (right_slot i) v.sides ≤ 1)
-    (out : v.taken ≡ kept_slot node ∷ []) (kept : K)
+    (out : v.taken ≡ kept_slot node ∷ []) (kept : K) (lower : (i : ℕ) → 0 < count i onward → i < node)
     (placed : (pl : Place T) → place_of kept ≡ Some pl → (onward ≡ pl.node ∷ []) × ((j : ℕ) → count j (sides_of onward v.sides) ≡ count j (slot_of pl.node pl.side ∷ [])) × (note_of pl.node v.tags ≡ Some pl.tag)) where
   abbrev pub tg : T
   tg = tag_of kept
@@ -205,7 +205,7 @@ module _ {V K T : Type 0} (fits : T → Side → V → Type 0) (tag_of : K → T
 
   abbrev pub KeptFull : ℕ → T → Type 0
   KeptFull i t = (k : K) × (get_elem? homes' (kept_slot i) ≡ some (some (Some (KeptValue k)))) × (tag_of k ≡ t)
-      × ((pl : Place T) → place_of k ≡ Some pl → (tag' pl.node ≡ Some pl.tag) × ((j : ℕ) → kept_at i j views' ≡ count j (pl.node ∷ [])) × ((j : ℕ) → side_kept_at i j views' ≡ count j (slot_of pl.node pl.side ∷ [])))
+      × ((pl : Place T) → place_of k ≡ Some pl → (tag' pl.node ≡ Some pl.tag) × ((j : ℕ) → kept_at i j views' ≡ count j (pl.node ∷ [])) × ((j : ℕ) → side_kept_at i j views' ≡ count j (slot_of pl.node pl.side ∷ [])) × (pl.node < i))
       × ((a : ℕ) (q : Option (ℕ × (ℕ × (ℕ × T)))) → note_of i (view_at views' a).places ≡ Some q → noted_place (place_of k) ≡ q)
 
   new_kept : (i : ℕ) (t : T) → tag' i ≡ Some t → i ≡ node → KeptFull i t
@@ -216,7 +216,8 @@ module _ {V K T : Type 0} (fits : T → Side → V → Type 0) (tag_of : K → T
     (λ pl z. let y = placed pl z in (
       tagged_still pl.node pl.tag (p.noting.tags id pl.node pl.tag (ap (λ (u : View T). note_of pl.node u.tags) (mine s.views id v at) ∙ y.2)),
       (λ j. armed.kept_mine fits tag_of place_of nodes s g r p id v at node 1 onward drew small have one_side w refl refl j ∙ ap (count j) y.0),
-      λ j. armed.keep_mine fits tag_of place_of nodes s g r p id v at node 1 onward drew small have one_side w refl refl j ∙ y.1 j,
+      (λ j. armed.keep_mine fits tag_of place_of nodes s g r p id v at node 1 onward drew small have one_side w refl refl j ∙ y.1 j),
+      lower pl.node (let b = ap (count pl.node) y.0 in let c = at_here pl.node in omega arith),
     )),
     λ a q z. ⊎_elim
         (λ (x : (node ≡ node) × (q ≡ noted_place (place_of kept)) × (a ≡ id)). sym x.1)
@@ -233,7 +234,8 @@ module _ {V K T : Type 0} (fits : T → Side → V → Type 0) (tag_of : K → T
         (λ pl z. let y = f.3 pl z in (
           tagged_still pl.node pl.tag y.0,
           (λ j. armed.kept_same fits tag_of place_of nodes s g r p id v at node 1 onward drew small have one_side w refl refl i j n ∙ y.1 j),
-          λ j. armed.keep_same fits tag_of place_of nodes s g r p id v at node 1 onward drew small have one_side w refl refl i j n ∙ y.2 j,
+          (λ j. armed.keep_same fits tag_of place_of nodes s g r p id v at node 1 onward drew small have one_side w refl refl i j n ∙ y.2 j),
+          y.3,
         )),
         λ a x z. ⊎_elim
             (λ (y : (i ≡ node) × (x ≡ noted_place (place_of kept)) × (a ≡ id)). absurd (n y.0))

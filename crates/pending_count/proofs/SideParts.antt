@@ -106,5 +106,5 @@ module _ {T : Type 0} (views views' : List (View T)) where
       full = λ i b t e q m. r.full i b t e (run i q) (made (side_slot i b) m);
       kept_empty = λ i pos low e all. r.kept_empty i pos low (arm i e) (λ a. sym (taken a (kept_slot i)) ∙ all a);
       kept_full = λ i t e q. let h = r.kept_full i t e (run i q) in
-          (h.0, h.1, h.2, (λ p z. let y = h.3 p z in (y.0, (λ j. kept i j t e ∙ y.1 j), λ j. sides i j t e ∙ y.2 j)), λ a p z. let b = places a i p z in h.4 b.0 p b.1);
+          (h.0, h.1, h.2, (λ p z. let y = h.3 p z in (y.0, (λ j. kept i j t e ∙ y.1 j), (λ j. sides i j t e ∙ y.2 j), y.3)), λ a p z. let b = places a i p z in h.4 b.0 p b.1);
     }

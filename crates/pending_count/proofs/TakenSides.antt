@@ -86,7 +86,7 @@ module _ {V K T : Type 0} (fits : T → Side → V → Type 0) (tag_of : K → T
           f.0,
           home_else (kept_slot i) (not_kept i tg e) ∙ f.1,
           f.2,
-          (λ pl z. let y = f.3 pl z in (y.0, (λ j. sum_stays s.views id v at (λ u. total (keeps_at i j) u.armed) w refl ∙ y.1 j), λ j. side_sums i j ∙ y.2 j)),
+          (λ pl z. let y = f.3 pl z in (y.0, (λ j. sum_stays s.views id v at (λ u. total (keeps_at i j) u.armed) w refl ∙ y.1 j), (λ j. side_sums i j ∙ y.2 j), y.3)),
           λ a pl z. f.4 a pl (sym (stays s.views id v at (λ u. note_of i u.places) w refl a) ∙ z),
         );
       };

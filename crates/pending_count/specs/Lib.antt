@@ -1,3 +1,4 @@
+-- The definitions of this crate; begin with Shows.
 pub mod Views
 pub mod Shows
 pub mod Steps
@@ -6,4 +7,3 @@ pub mod Plays
 pub mod Seats
 pub mod PairSeats
 pub mod Pairs
-pub mod TestTrees

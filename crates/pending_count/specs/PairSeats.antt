@@ -1,4 +1,4 @@
--- Meaning: what an arrival at a pair gives back, and what stands in its last answer.
+-- Condition: the seat that an arrival at a pair gives back, and what its last answer contains.
 use Rattle.std.specs.Prelude.{◌≡◌, ℕ, List, ⊤}
 use Rattle.completion_core.specs.declared.action.Reply.{Reply}
 use Rattle.completion_core.specs.declared.action.Reply.TheVariants.{Pending, Last}

@@ -1,4 +1,4 @@
--- Meaning: what arming a pair, and arriving at one with a value, is to the graph, and what the last of the two gets.
+-- Condition: what arming a pair, and arriving at one with a value, means for the graph, and what the last of the two arrivals gets.
 use Rattle.std.specs.Prelude.{◌≡◌, ◌≢◌, ℕ, ◌-◌, ◌<◌, List, [], ◌∷◌, Option, Some}
 use Rattle.completion_core.specs.declared.action.Action.TheVariants.{Arm}
 use Rattle.completion_core.specs.declared.action.Reply.TheVariants.{Done}
@@ -16,7 +16,7 @@ use Rattle.pending_count.specs.Pairs.{slot_of, noted_place}
 abbrev pub HoldsSide : {T : Type 0} → Place T → View T → Type 0
 HoldsSide p v = (0 < count (slot_of p.node p.side) v.sides) × (p.side ≢ Whole)
 
--- where the kept value tells a place, that place's arrival is all that the node keeps, and the seat knows the place's tag
+-- if the kept value has a place, that place's arrival is all that the node keeps, and the seat knows the place's tag
 abbrev pub IsPlaced : {K T : Type 0} → (K → Option (Place T)) → K → List ℕ → View T → Type 0
 IsPlaced {T = T} place_of kept onward v = (p : Place T) → place_of kept ≡ Some p → (onward ≡ p.node ∷ []) × HoldsSide p v × (note_of p.node v.tags ≡ Some p.tag)
 
@@ -27,11 +27,13 @@ module _ {V K T : Type 0} (fits : T → Side → V → Type 0) (tag_of : K → T
     pub found : ℕ
     pub one_step : OneStep (Option (Slot V K)) nodes node found 2 actor (taken_view (kept_slot node) v) w (Arm actor node 1 onward ∷ []) Done
 
-  -- What the last arrival at a pair with this tag gets: the kept value tells the tag, and the place that it was armed with;
-  -- where it tells one, the node kept the arrival of that place alone, and the seat knows its tag.
+  -- What the last arrival at a pair with this tag gets: the kept value has the tag, and the place that it was armed with;
+  -- that place is at a smaller node and has the tag that the seat noted, and the node kept the arrival of that place alone.
   pub record IsKept (node : ℕ) (tag : T) (v : View T) (k : K) (kept kept_sides : List ℕ) : Type 0 where
     pub tells : tag_of k ≡ tag
     pub place : (p : Place T) → place_of k ≡ Some p → ((j : ℕ) → count j kept ≡ count j (p.node ∷ [])) × ((j : ℕ) → count j kept_sides ≡ count j (slot_of p.node p.side ∷ []))
+    pub smaller : (p : Place T) → place_of k ≡ Some p → p.node < node
+    pub agrees : (p : Place T) → place_of k ≡ Some p → (t : T) → note_of p.node v.tags ≡ Some t → t ≡ p.tag
     pub armed_with : (q : Option (ℕ × (ℕ × (ℕ × T)))) → note_of node v.places ≡ Some q → noted_place (place_of k) ≡ q
     pub noted : (given : List ℕ) → note_of node v.noted ≡ Some given → (j : ℕ) → count j kept ≡ count j given
     pub noted_sides : (given : List ℕ) → note_of node v.noted_sides ≡ Some given → (j : ℕ) → count j kept_sides ≡ count j given

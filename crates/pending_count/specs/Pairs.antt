@@ -1,4 +1,4 @@
--- Meaning: who has the sides of pairs, and what lies in the slots of their values.
+-- Condition: which seat holds the sides of pairs, and what the slots of their values contain.
 use Rattle.std.specs.Prelude.{◌≡◌, ℕ, ◌+◌, ◌*◌, ◌<◌, ◌≤◌, Bool, true, false, List, [], ◌∷◌, length, Option, Some, None}
 use mathlib.Core.Option.{some}
 use mathlib.Core.Option as mc
@@ -36,7 +36,7 @@ abbrev pub noted_place : {T : Type 0} → Option (Place T) → Option (ℕ × (�
 noted_place None = None
 noted_place (Some p) = Some (p.node, (slot_of p.node p.side, (p.root, p.tag)))
 
--- the tags that a seat knows once it has a kept value that told this place
+-- the tags that a seat knows once it has a kept value with this place
 abbrev pub tags_after : {T : Type 0} → Option (Place T) → List (ℕ × T) → List (ℕ × T)
 tags_after None tags = tags
 tags_after (Some p) tags = (p.node, p.tag) ∷ tags
@@ -66,7 +66,7 @@ module _ {T : Type 0} where
     pub placed : (a i : ℕ) (p : Option (ℕ × (ℕ × (ℕ × T)))) → note_of i (view_at views a).places ≡ Some p → armed i ≡ true
 
 module _ {V K T : Type 0} (fits : T → Side → V → Type 0) (tag_of : K → T) (place_of : K → Option (Place T)) where
-  -- the slots at home: a side's is empty until its arrival was made, and then has a value that fits; the kept value's is empty until the node is armed, and then has one that tells the pair's tag, and where it tells a place, the node keeps the arrival of that place alone
+  -- the slots at home: a side's is empty until its arrival was made, and then has a value that fits; the kept value's is empty until the node is armed, and then has one with the pair's tag; if it has a place, the node keeps the arrival of that place alone
   pub record Slotted (nodes : ℕ) (homes : List (mc.Option (Option (Slot V K)))) (views : List (View T)) (armed ran : ℕ → Bool) (tag : ℕ → Option T) (side : ℕ → Arrival) : Type 0 where
     pub room : length homes ≡ 3 * (nodes + 1)
     pub once : (a k : ℕ) → count k (view_at views a).taken ≤ 1
@@ -76,7 +76,7 @@ module _ {V K T : Type 0} (fits : T → Side → V → Type 0) (tag_of : K → T
     pub full : (i : ℕ) (b : Bool) (t : T) → tag i ≡ Some t → ran i ≡ false → side (side_slot i b) ≡ Made → (x : V) × (get_elem? homes (side_slot i b) ≡ some (some (Some (Value x)))) × fits t (side_of b) x
     pub kept_empty : (i : ℕ) → 0 < i → i ≤ nodes → armed i ≡ false → ((a : ℕ) → count (kept_slot i) (view_at views a).taken ≡ 0) → get_elem? homes (kept_slot i) ≡ some (some None)
     pub kept_full : (i : ℕ) (t : T) → tag i ≡ Some t → ran i ≡ false → (k : K) × (get_elem? homes (kept_slot i) ≡ some (some (Some (KeptValue k)))) × (tag_of k ≡ t)
-        × ((p : Place T) → place_of k ≡ Some p → (tag p.node ≡ Some p.tag) × ((j : ℕ) → kept_at i j views ≡ count j (p.node ∷ [])) × ((j : ℕ) → side_kept_at i j views ≡ count j (slot_of p.node p.side ∷ [])))
+        × ((p : Place T) → place_of k ≡ Some p → (tag p.node ≡ Some p.tag) × ((j : ℕ) → kept_at i j views ≡ count j (p.node ∷ [])) × ((j : ℕ) → side_kept_at i j views ≡ count j (slot_of p.node p.side ∷ [])) × (p.node < i))
         × ((a : ℕ) (q : Option (ℕ × (ℕ × (ℕ × T)))) → note_of i (view_at views a).places ≡ Some q → noted_place (place_of k) ≡ q)
 
   -- between any two steps, beside the graph that is shown: the sides, their tags, and the slots

@@ -1,4 +1,4 @@
--- Condition: what each step of the table tells its caller.
+-- Condition: what each step of the table says to its caller.
 use Rattle.std.specs.Prelude.{◌≡◌, ℕ, List}
 use Rattle.atomic_table.specs.Table.{Me, Step}
 use Rattle.pending_count.specs.declared.view.View.{View}

@@ -7,7 +7,7 @@ use Rattle.completion_core.specs.Legal.{count}
 use Rattle.pending_count.specs.declared.view.View.{View}
 use Rattle.pending_count.specs.Views.{whole_credit, names, keeps_at, note_of, view_at}
 
--- 1 for true
+-- helper: 1 for true
 abbrev pub one_if : Bool → ℕ
 one_if true = 1
 one_if false = 0

@@ -1,4 +1,4 @@
--- Meaning: what a call of the counts is to the graph that words and views show.
+-- Condition: what each call of the counts means for the graph that words and views show.
 use Rattle.std.specs.Prelude.{◌≡◌, ◌≢◌, ℕ, zero, suc, ◌+◌, ◌-◌, ◌<◌, ◌≤◌, ◌==◌, List, [], ◌∷◌, ◌++◌, length, slice_set, slice_index, Option, Some, None, nat_lt, if◌then◌else◌, ⊤}
 use mathlib.Core.Option.{some}
 use lib.ListN.{get_elem?}
@@ -58,6 +58,9 @@ module _ {T : Type 0} where
     pub view : w ≡ claimed_view nodes n v
     pub larger : (i : ℕ) → 0 < count i v.held + count i v.claims → i ≤ n
     pub no_side : IsPlainAt (n + 1) w
+    pub unnoted : (i : ℕ) (l : List ℕ) → note_of i v.noted ≡ Some l → i ≤ n
+    pub unnoted_sides : (i : ℕ) (l : List ℕ) → note_of i v.noted_sides ≡ Some l → i ≤ n
+    pub unplaced : (i : ℕ) (q : Option (ℕ × (ℕ × (ℕ × T)))) → note_of i v.places ≡ Some q → i ≤ n
     pub one_step : OneStep S nodes (nodes + 1) n (n + 1) actor v w (Claim actor ∷ []) (reply_of_claim (drawn_node nodes n))
 
   -- a node was armed

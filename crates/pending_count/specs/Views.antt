@@ -1,68 +1,70 @@
--- Meaning: what a seat knows, as lists in which an entry stands for one arrival, and what single calls make of it.
+-- Meaning: what a seat knows, as lists in which an entry stands for one arrival, and how each call changes it.
 use Rattle.std.specs.Prelude.{◌≡◌, ℕ, ◌+◌, ◌-◌, ◌*◌, ◌^◌, ◌<◌, ◌≤◌, ◌==◌, min, true, false, List, [], ◌∷◌, ◌++◌, Option, Some, None, nat_lt, if◌then◌else◌, slice_index_or, ◌||◌, ◌⊎◌}
 use Rattle.completion_core.specs.Graph.{copies}
 use Rattle.completion_core.specs.Legal.{count}
 use Rattle.pending_count.specs.declared.view.View.{View}
 
--- the slots of a node: that of its left side's value, that of its right side's, and that of what is kept for the last
+-- helper: the slot of a node for its left side's value
 abbrev pub left_slot : ℕ → ℕ
 left_slot i = 3 * i
 
+-- helper: the slot for its right side's value
 abbrev pub right_slot : ℕ → ℕ
 right_slot i = 3 * i + 1
 
+-- helper: the slot for the value that is kept for the last arrival
 abbrev pub kept_slot : ℕ → ℕ
 kept_slot i = 3 * i + 2
 
--- of a node's two sides the one that is among these, where there is one
+-- helper: of a node's two sides the one that is among these, where there is one
 abbrev pub side_at : ℕ → List ℕ → List ℕ
 side_at i sides =
     if count (left_slot i) sides == 0
     then (if count (right_slot i) sides == 0 then [] else right_slot i ∷ [])
     else left_slot i ∷ []
 
--- the sides that stand for the entries of a list of nodes
+-- helper: the sides that stand for the entries of a list of nodes
 abbrev pub sides_of : List ℕ → List ℕ → List ℕ
 sides_of [] sides = []
 sides_of (i ∷ is) sides = side_at i sides ++ sides_of is sides
 
--- all credit that there is, for claims and for additions
+-- helper: all credit that there is, for claims and for additions
 abbrev pub whole_credit : ℕ
 whole_credit = 2 ^ 62
 
--- the list with one i less
+-- helper: the list with one i less
 abbrev pub less : ℕ → List ℕ → List ℕ
 less i [] = []
 less i (j ∷ js) = if j == i then js else j ∷ less i js
 
--- the list without the entries of another one, each taken once
+-- helper: the list without the entries of another one, each taken once
 abbrev pub minus : List ℕ → List ℕ → List ℕ
 minus [] xs = xs
 minus (i ∷ is) xs = minus is (less i xs)
 
--- a record: a node, and what it was given to keep
+-- helper: a record: a node, and what it was given to keep
 abbrev pub Record : Type 0
 Record = ℕ × List ℕ
 
--- whether a record is of the node i
+-- helper: whether a record is of the node i
 abbrev pub names : ℕ → Record → ℕ
 names i r = if r.0 == i then 1 else 0
 
--- how often j stands in what the record says that the node i was given
+-- helper: how often j stands in what the record says that the node i was given
 abbrev pub keeps_at : ℕ → ℕ → Record → ℕ
 keeps_at i j r = if r.0 == i then count j r.1 else 0
 
--- what a list of records says that the node i was given
+-- helper: what a list of records says that the node i was given
 abbrev pub given : ℕ → List Record → List ℕ
 given i [] = []
 given i (r ∷ rs) = (if r.0 == i then r.1 else []) ++ given i rs
 
--- the first note of the node i
+-- helper: the first note of the node i
 abbrev pub note_of : {A : Type 0} → ℕ → List (ℕ × A) → Option A
 note_of i [] = None
 note_of i (x ∷ xs) = if x.0 == i then Some x.1 else note_of i xs
 
--- the smaller of two numbers, where they are known
+-- helper: the smaller of two numbers, where they are known
 abbrev pub least : Option ℕ → Option ℕ → Option ℕ
 least None b = b
 least (Some m) None = Some m
@@ -135,7 +137,7 @@ module _ {T : Type 0} where
   abbrev pub taken_view : ℕ → View T → View T
   taken_view slot v = record v { taken = slot ∷ v.taken }
 
-  -- after the node was armed as a pair with this tag, whose kept value told this place
+  -- after the node was armed as a pair with this tag, whose kept value has this place
   abbrev pub paired_view : ℕ → List ℕ → T → Option (ℕ × (ℕ × (ℕ × T))) → View T → View T
   paired_view node onward tag place v =
       record (armed_view node 1 onward v) {

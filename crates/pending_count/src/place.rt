@@ -1,11 +1,11 @@
-//! Places in a completion tree, and what a kept value tells of its node.
+//! Places in a completion tree, and what a kept value says of its node.
 ghost use Rattle.std.specs.Prelude.{◌≡◌, Option};
 ghost use Rattle.pending_count.specs.declared.place.Place.{Place};
 ghost use Rattle.pending_count.specs.declared.place.Side.{Side};
 
 use completion_core::Node;
 
-/// Which of a pair's two arrivals a value is for, or the whole of what a top node gives.
+/// The arrival of a pair that a value is for; `Whole` is the value that the top node of a tree gives.
 #[derive(Clone, Copy, Debug, PartialEq, Eq)]
 pub enum Side {
     Left,
@@ -22,12 +22,22 @@ pub struct Place<T> {
     pub tag: T,
 }
 
-/// What is kept at a pair for the last of its two arrivals. It tells the pair's tag and where the pair's own value goes.
+impl<T> Place<T> {
+    /// The top node of the tree (Java: `CountedCompleter.getRoot`).
+    pub fn root(&self) -> Node
+        ensures { result ≡ self.now.root }
+    {
+        self.root
+    }
+}
+
+/// What is kept at a pair for the last of its two arrivals. It has the pair's tag, and the place to which the pair's own value goes.
 pub trait Fits<V> {
-    /// What tells one pair from another, as a range of items that it stands for.
+    /// Distinguishes one pair from another, for example by the range of items that the pair covers. It has to be one struct of
+    /// plain fields without type parameters: the toolchain doesn't prove generic callers over a tuple or a generic struct here.
     type Tag: Copy;
 
-    // The fact of a tag, a side and a value that comes in on it.
+    // The fact about a tag, a side of its pair and a value that is handed in on that side.
     ghost fits: { Self.Tag → Side → V → Type 0 };
 
     ghost tag_of: { Self → Self.Tag };
@@ -38,12 +48,12 @@ pub trait Fits<V> {
     fn tag(&self) -> Self::Tag
         ensures { result ≡ tag_of self.now };
 
-    /// Where the pair's value goes; `None` at the top of a tree.
+    /// The place to which the pair's value goes; `None` at the top of a tree.
     fn place(&self) -> Option<Place<Self::Tag>>
         ensures { result ≡ place_of self.now };
 }
 
-/// What lies in a slot of the table.
+/// The content of a slot of the table.
 #[derive(Drop)]
 pub(crate) enum Slot<V, K> {
     Value(V),

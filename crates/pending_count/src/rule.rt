@@ -1,4 +1,4 @@
-//! The rule of the table, and what each step tells.
+//! The rule of the table, and what each step says to its caller.
 ghost use Rattle.std.specs.Prelude.{ℕ, Bool, true, List, []};
 ghost use Rattle.pending_count.specs.Pairs.{Ruled};
 ghost use Rattle.pending_count.specs.Views.{blank, first_view, rest_view, part_view, joined_view};

@@ -39,6 +39,13 @@ impl<V, K: Fits<V>> Counts<V, K> {
         Ok((Counts { table, nodes }, seat))
     }
 
+    /// The greatest number that a node may have.
+    pub fn nodes(&self) -> Node
+        ensures { result ≡ nodes_of self.now }
+    {
+        self.nodes
+    }
+
     /// Draws the next node, for one credit: `None` where the credit is 0 or no node is left. The node is larger than all that the seat holds. One `fetch_add`; none without credit.
     pub fn claim(&self, seat: Seat<V, K>) -> (Seat<V, K>, Option<Node>)
         requires table { IsSeatOf self.now seat }

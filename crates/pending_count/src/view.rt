@@ -29,7 +29,7 @@ pub struct View<T> {
     pub ghost noted_sides: { List (ℕ × List ℕ) },
     /// The tags of pairs, each by its node.
     pub ghost tags: { List (ℕ × T) } by { coded_list (coded× coded_ℕ T.code) },
-    /// Notes of the places that kept values told, each by the pair's node: a node, a side by its slot, a top and a tag.
+    /// Notes of the places of kept values, each by the pair's node: a node, a side by its slot, a top and a tag.
     pub ghost places: { List (ℕ × Option (ℕ × (ℕ × (ℕ × T)))) } by { coded_list (coded× coded_ℕ (coded_option (coded× coded_ℕ (coded× coded_ℕ (coded× coded_ℕ T.code))))) },
     /// The least that END's word has shown.
     pub ghost seen: { Option ℕ },
@@ -42,7 +42,7 @@ impl<T> Model for View<T> {
     ghost also_owns = { λ _. ftrue };
 }
 
-/// What the table is told when it is made.
+/// What the table is made with.
 #[derive(Drop)]
 pub struct Sizes {
     pub nodes: u32,

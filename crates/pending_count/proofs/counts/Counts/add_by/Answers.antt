@@ -9,3 +9,6 @@ fetch_add-requires g c =
     let have = c.requires.have in
     let low = in_table c.args.seat.token.table_id.words c.args.self.now.nodes words c.args.seat.token.me.0 c.args.seat.ranged c.args.node (omega arith) in
     (c.requires.table, omega arith, adds_told g.K.Fits.fits g.K.Fits.tag_of g.K.Fits.place_of c.args.self.now.table.shared.key.nodes g.A.Acting.nodes (c.args.self.now.told ∙ sym c.requires.picked.0) _ _ g.A.Acting.actor c.args.node c.args.d _ c.requires.picked.1 c.requires.node c.requires.have (search rules) c.requires.plain)
+
+pub invariant_of-result-2 : goal.invariant_of-result-2
+invariant_of-result-2 g c = search rules

@@ -1,4 +1,4 @@
-use Rattle.std.proofs.Common.{arith, sym, ap, subst, ◌∙◌, ◌≡◌}
+use Rattle.std.proofs.Common.{rules, arith, sym, ap, subst, ◌∙◌, ◌≡◌}
 use Rattle.pending_count.specs.declared.view.View.{View}
 use Rattle.pending_count.specs.Views.{InRange, joined_view}
 use Rattle.pending_count.specs.Steps.{IsJoined}
@@ -36,3 +36,6 @@ invariant_of-result-clause-ranged g c n e =
 pub returns-clause-joined : goal.returns-clause-joined
 returns-clause-joined g c = subst (λ (u : View g.row.K-Tag.Denot). IsJoined (Content g.row.V.Denot g.row.K.Denot) c.args.self.now.nodes (view_of c.args.seat) (view_of c.args.other) u) (sym (ap (λ m. m.0) c.join_seat.ensures.2 ∙ ap (joined_view (view_of c.args.seat)) (ap (λ m. m.0) c.split_seat-whole.ensures.4)))
     (is_joined _ c.args.self.now.nodes (view_of c.args.seat) (view_of c.args.other) c.requires.armed)
+
+pub invariant_of-result-clause-paid : goal.invariant_of-result-clause-paid
+invariant_of-result-clause-paid g c = search rules

@@ -1,4 +1,4 @@
-use Rattle.std.proofs.Common.{arith, sym, ap, subst, ◌∙◌, ◌≤◌, ◌<◌, ◌≡◌, inl, ℕ}
+use Rattle.std.proofs.Common.{rules, arith, sym, ap, subst, ◌∙◌, ◌≤◌, ◌<◌, ◌≡◌, inl, ℕ}
 use Rattle.completion_core.specs.Legal.{count}
 use Rattle.pending_count.specs.declared.view.View.{View}
 use Rattle.pending_count.specs.Seats.{view_of}
@@ -33,3 +33,6 @@ invariant_of-result-clause-ranged g c n e =
     let have : g.A.Parting.arrivals ≤ count g.A.Parting.node c.args.seat.token.me.0.held = subst (λ (z : ℕ × ℕ). z.1 ≤ count z.0 c.args.seat.token.me.0.held) (λ i. (sym p.0 i, sym p.1 i)) c.requires.have in
     let low = c.args.seat.ranged n (sym (ap (λ t. t.words) c.split_seat-part.ensures.3) ∙ e) in
     subst (λ (u : View g.row.K-Tag.Denot). InRange n u) (sym (ap (λ m. m.0) c.split_seat-part.ensures.4)) (part_ranged n g.A.Parting.node g.A.Parting.arrivals g.A.Parting.credit g.A.Parting.sides (view_of c.args.seat) have low)
+
+pub invariant_of-rest-clause-paid : goal.invariant_of-rest-clause-paid
+invariant_of-rest-clause-paid g c = search rules

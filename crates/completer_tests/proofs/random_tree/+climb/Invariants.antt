@@ -1,0 +1,4 @@
+use Rattle.completer_tests.proofs.random_tree.+climb.Given as goal
+
+abbrev pub decreases-climb : goal.decreases-climb
+decreases-climb l = l.node

@@ -1,0 +1,7 @@
+//! Tests of the public calls of `completion_core`, `pending_count` and `completer_tree`, and callers of them that are proved.
+#![tactic(auto)]
+
+#[cfg(test)]
+mod counting;
+#[cfg(test)]
+mod random_tree;
