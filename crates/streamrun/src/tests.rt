@@ -1,6 +1,28 @@
-// What a run writes and tells. The reports are worked out by hand, the sums and quotients by Java 17.
+//! The command line: a missing argument or one too many is a mistake, a request for help is none.
 
-mod command_line;
-mod refusals;
-mod reports;
-mod streams;
+use crate::command_line::read_arguments;
+
+#[test]
+fn one_job_file_is_asked_for(rt: HostRuntime) {
+    let words = ["streamrun", "report.jobs"];
+    match read_arguments(rt.alloc(), &words) {
+        Ok(arguments) => assert_eq!(rt; arguments.jobs, "report.jobs"),
+        Err(_) => assert!(rt; false, "refused"),
+    }
+}
+
+#[test]
+fn a_mistake_is_told_from_a_request_for_help(rt: HostRuntime) {
+    for (words, status) in [
+        (["streamrun"].as_slice(), 2),
+        (["streamrun", "a.jobs", "b.jobs"].as_slice(), 2),
+        (["streamrun", "--workers", "a.jobs"].as_slice(), 2),
+        (["streamrun", "--help"].as_slice(), 0),
+        (["streamrun", "-h"].as_slice(), 0),
+    ] {
+        match read_arguments(rt.alloc(), words) {
+            Ok(_) => assert!(rt; false, "{words:?}"),
+            Err(told) => assert_eq!(rt; told.exit_code(), status, "{words:?}"),
+        }
+    }
+}

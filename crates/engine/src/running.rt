@@ -1,0 +1,128 @@
+//! A run: from the bytes of the job file to the bytes of the report.
+
+ghost use Rattle.columns.specs.CountedRead.{HasRisen as ReadHasRisen};
+ghost use Rattle.engine.specs.Jobs.{jobs_of};
+ghost use Rattle.engine.specs.Refused.{IsEarly};
+ghost use Rattle.engine.specs.Run.{Faulted, IsReport, Reported};
+ghost use Rattle.job_plan.specs.Meaning.{meaning_of, names_of};
+ghost use Rattle.report.specs.CountedWrite.{HasRisen};
+ghost use Rattle.report.specs.Text.{report_text};
+ghost use Rattle.std.specs.Io.KnownBytes.{Keeps};
+ghost use Rattle.std.specs.Prelude.{◌≡◌, ◌≢◌, ◌≤◌, ℕ, All, length, IfErr, IfOk, IfSome, OnOk};
+
+use crate::jobs::fault::JobFault;
+use crate::jobs::file::read_jobs;
+use crate::jobs::job::Job;
+use crate::walk::answer_of;
+use columns::{CountedRead, ReadAllFault, read_all_of};
+use job_plan::Answer;
+use report::{CountedWrite, text, write_all_of};
+use std::alloc::Global;
+use stream_tokens::{Bytes, NoMemory};
+use thiserror::Error;
+
+/// Why a run gives no report, or not a whole one. Except for `Write` nothing was written.
+///
+/// Number 1 is kept for a refused column file. The text is the program's line on standard error,
+/// without the program's name.
+#[derive(Clone, Copy, Debug, PartialEq, Eq, Error)]
+pub enum EngineFault {
+    /// 2: a job of the file is refused, or memory for its reading.
+    #[error("{0}")]
+    Jobs(JobFault),
+    /// 3: the job file could not be read.
+    #[error("jobs: read failed")]
+    JobsRead,
+    /// 4: a growth was refused.
+    #[error("out of memory")]
+    NoMemory,
+    /// 5: the first `written` bytes of the report went out, and no others.
+    #[error("write failed after {written} bytes")]
+    Write { written: u64 },
+}
+
+/// Reads the job file whole, checks it, runs its jobs, builds the report whole and writes it.
+///
+/// One thread; a walk over each source, at most one call of a stage for each of its items. The job
+/// file and the report are each held once.
+pub fn run<J: CountedRead, W: CountedWrite>(
+    alloc: Global,
+    jobs: &mut J,
+    writer: &mut W,
+) -> Result<(), EngineFault>
+    // The headline: the writer holds what it held before, and then the report of the jobs that the bytes spell.
+    ensures report { OnOk result (IfSome (J.remaining jobs.old) (λ bytes.
+        Reported bytes (W.contents writer.old) (W.contents writer.new))) }
+    ensures fault { IfErr result (λ fault. IfSome (J.remaining jobs.old) (λ bytes.
+        Faulted bytes (W.contents writer.old) (W.contents writer.new) fault)) }
+    ensures unwritten { IfErr result (λ fault. ((n : ℕ) → fault ≢ EngineFault.Write n) →
+        Keeps (W.contents writer.old) (W.contents writer.new)) }
+    ensures read_failed { IfErr result (λ fault. fault ≡ EngineFault.JobsRead →
+        ReadHasRisen (J.failures jobs.old) (J.failures jobs.new)) }
+    ensures write_failed { IfErr result (λ fault. (n : ℕ) → fault ≡ EngineFault.Write n →
+        HasRisen (W.failures writer.old) (W.failures writer.new)) }
+{
+    let bytes = match read_all_of(alloc, jobs) {
+        Ok(bytes) => bytes,
+        Err(ReadAllFault::Failed) => return Err(EngineFault::JobsRead),
+        Err(ReadAllFault::NoMemory) => return Err(EngineFault::NoMemory),
+    };
+    let report = match report_of(alloc, &bytes) {
+        Ok(report) => report,
+        Err(fault) => return Err(fault),
+    };
+    match write_all_of(writer, &report) {
+        Ok(()) => Ok(()),
+        Err(fault) => Err(EngineFault::Write {
+            written: fault.written,
+        }),
+    }
+}
+
+/// The report of the jobs that these bytes spell.
+pub fn report_of(alloc: Global, bytes: &[u8]) -> Result<Vec<u8>, EngineFault>
+    ensures ok { IfOk result (λ report. IsReport bytes.now report.items) }
+    ensures err { IfErr result (λ fault. IsEarly bytes.now fault) }
+{
+    let jobs = match read_jobs(alloc, bytes) {
+        Ok(jobs) => jobs,
+        Err(fault) => return Err(EngineFault::Jobs(fault)),
+    };
+    match written(alloc, jobs) {
+        Ok(report) => Ok(report),
+        Err(_) => Err(EngineFault::NoMemory),
+    }
+}
+
+/// The report of these jobs.
+fn written(alloc: Global, jobs: Vec<Job>) -> Result<Vec<u8>, NoMemory>
+    requires few { All (λ job. length job.stages.items ≤ 32) jobs.items }
+    ensures { IfOk result (λ report. report.items ≡ report_text (names_of (jobs_of jobs.items)) (meaning_of (jobs_of jobs.items))) }
+{
+    let answers = answers_of(alloc, &jobs)?;
+    let names = names_in(alloc, jobs)?;
+    text(alloc, &names, &answers)
+}
+
+/// The answers of jobs, in their order.
+fn answers_of(alloc: Global, jobs: &[Job]) -> Result<Vec<Answer>, NoMemory>
+    requires few { All (λ job. length job.stages.items ≤ 32) jobs.now }
+    ensures { IfOk result (λ answers. answers.items ≡ meaning_of (jobs_of jobs.now)) }
+{
+    let mut answers = Vec::new(alloc);
+    for job in jobs {
+        answers.push(answer_of(alloc, job)?)?;
+    }
+    Ok(answers)
+}
+
+/// The names of jobs, in their order; nothing is copied.
+fn names_in(alloc: Global, jobs: Vec<Job>) -> Result<Vec<Bytes>, NoMemory>
+    ensures { IfOk result (λ names. names.items ≡ names_of (jobs_of jobs.items)) }
+{
+    let mut names = Vec::new(alloc);
+    for job in jobs {
+        names.push(job.name)?;
+    }
+    Ok(names)
+}

@@ -1,0 +1,57 @@
+//! What the tests share: a run over bytes in memory, and what it wrote.
+
+use columns::Counted;
+use engine::{EngineFault, run, tell};
+use report::CountedOut;
+use std::alloc::Global;
+
+/// What a run over a job file of these bytes answers, and what it wrote.
+pub struct Outcome {
+    pub answer: Result<(), EngineFault>,
+    pub written: Vec<u8>,
+}
+
+/// Runs a job file of these bytes.
+pub fn outcome(alloc: Global, jobs: &[u8]) -> Outcome {
+    let mut reader = Counted::new(jobs);
+    let mut writer = CountedOut::new(Vec::new(alloc));
+    let answer = run(alloc, &mut reader, &mut writer);
+    Outcome {
+        answer,
+        written: writer.into_inner(),
+    }
+}
+
+/// Whether the bytes are this text and a line feed.
+pub fn is_line(bytes: &[u8], text: &str) -> bool {
+    match bytes.split_last() {
+        Some((last, front)) => *last == b'\n' && front == text.as_bytes(),
+        None => false,
+    }
+}
+
+/// Whether the run of this job file writes this report, whose last line feed is left out.
+pub fn reports(alloc: Global, jobs: &str, report: &str) -> bool {
+    let outcome = outcome(alloc, jobs.as_bytes());
+    outcome.answer.is_ok() && is_line(&outcome.written, report)
+}
+
+/// Whether the fault is told by this line, whose line feed is left out, and by this status.
+pub fn is_told(alloc: Global, fault: &EngineFault, line: &str, status: u8) -> bool {
+    let mut told = Vec::new(alloc);
+    tell(fault, &mut told) == status && is_line(&told, line)
+}
+
+/// Whether this job file is refused by this line, with status 1, and nothing is written.
+pub fn is_refused(alloc: Global, jobs: &[u8], line: &str) -> bool {
+    let outcome = outcome(alloc, jobs);
+    match outcome.answer {
+        Ok(()) => false,
+        Err(fault) => outcome.written.is_empty() && is_told(alloc, &fault, line, 1),
+    }
+}
+
+/// The two halves of a row of a table.
+pub fn halves(row: &str) -> (&str, &str) {
+    row.split_once(" => ").unwrap_or((row, ""))
+}

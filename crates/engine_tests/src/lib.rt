@@ -1,0 +1,20 @@
+//! Tests of the public calls of `engine` and `report`, as another program makes them.
+//!
+//! They hold what no contract says: reports worked out by hand, sums and quotients by Java 17, the
+//! text of each fault, and readers and writers that give or take little, or fail.
+#![tactic(auto)]
+
+#[cfg(test)]
+mod answers;
+#[cfg(test)]
+mod fixture;
+#[cfg(test)]
+mod job_files;
+#[cfg(test)]
+mod refusals;
+#[cfg(test)]
+mod reports;
+#[cfg(test)]
+mod streams;
+#[cfg(test)]
+mod writers;

@@ -1,0 +1,146 @@
+//! Job files that are refused: which job, why, and the line on standard error.
+
+use crate::fixture::{halves, is_refused, is_told};
+use engine::{Cause, EngineFault, JobFault};
+use lambda_expr::ReadFault;
+
+const OUTSIDE_THE_GRAMMAR: &str = "\
+s
+s =
+= of(1).sum()
+7 = of(1).sum()
+s of(1).sum()
+s == of(1).sum()
+s = of(1)
+s = of(1).
+s = of(1
+s = of(1)sum()
+s = of(1)..sum()
+s = of(1).map(x -> x)
+s = of 1.sum()
+s = off(1).sum()
+s = of(1,).sum()
+s = of(,).sum()
+s = of(1 2).sum()
+s = of(+1).sum()
+s = of(--1).sum()
+s = of(x).sum()
+s = of(007).sum()
+s = range().sum()
+s = range(1).sum()
+s = range(1, 2, 3).sum()
+s = range(0, 01).sum()
+s = of(1).sum(0)
+s = of(1).toArray(x)
+s = of(1).count()
+s = of(1).sum() sum
+s = of(1).sum().sum()
+s = of(1).map().sum()
+s = of(1).map(x, x).sum()
+s = of(1).map(x -> x, 1).sum()
+s = of(1).map((x), y).sum()
+s = of(1).map(x -> (x).sum()
+s = of(1).map(x -> x)).sum()
+s = of(1).map(x -> 007).sum()
+s = of(1).map(x -> x ++ 1).sum()
+s = of(1).map(x -> x # 1).sum()
+# x
+.sum()
+s = of(1).sum();
+s = LongStream.range(0, 1).sum()
+s = of(Long.MAX_VALUE).sum()
+\u{feff}s = of(1).sum()
+s = of(9223372036854775808).map(x -> y).sum(0)";
+
+#[test]
+fn a_text_outside_the_grammar_is_a_syntax_fault(rt: HostRuntime) {
+    for jobs in OUTSIDE_THE_GRAMMAR.lines() {
+        let line = "streamrun: jobs: line 1: syntax";
+        assert!(rt; is_refused(rt.alloc(), jobs.as_bytes(), line), "{jobs}");
+    }
+}
+
+const FAULTY_PARTS: &str = "\
+s = of(9223372036854775808).sum() => literal too large
+s = of(-9223372036854775809).sum() => literal too large
+s = range(0, -9223372036854775809).sum() => literal too large
+s = of(9223372036854775808).map(x -> y).sum() => literal too large
+s = of(1).map(x -> 9223372036854775808).sum() => literal too large
+s = of(1).map(x -> x +).sum() => expression syntax at column 9
+s = of(1).map(x -> x + ).sum() => expression syntax at column 10
+s = of(1).map( x - 1).sum() => expression syntax at column 4
+s = of(1).map((x) -> x).sum() => expression syntax at column 1
+s = of(1).map(x -> x & 1).sum() => expression syntax at column 8
+s = of(1).map(x -> x < 1).sum() => wrong type
+s = of(1).filter(x -> x).sum() => wrong type
+s = of(1).filter(x -> x).map(x -> y).sum() => wrong type
+s = of(1).map(x -> y).sum() => unknown name
+s = of(1).map(x -> y).filter(x -> x).sum() => unknown name
+aaaaaaaaaabbbbbbbbbbccccccccccddddddddddeeeeeeeeeeffffffffff12345 = of(1).sum() => too long";
+
+#[test]
+fn the_first_faulty_part_of_a_job_is_the_cause(rt: HostRuntime) {
+    let alloc = rt.alloc();
+    for row in FAULTY_PARTS.lines() {
+        let (jobs, cause) = halves(row);
+        let line = format!(in alloc; "streamrun: jobs: line 1: {cause}");
+        let told = line.is_ok_and(|line| is_refused(alloc, jobs.as_bytes(), line.as_str()));
+        assert!(rt; told, "{row}");
+    }
+}
+
+#[test]
+fn the_first_faulty_job_is_reported_with_its_line(rt: HostRuntime) {
+    let files = [
+        b" \n\ns = of(1).sum()\r\n\t\n  .sum()\n".as_slice(),
+        b"a = of(1).sum()\n\na = of(9223372036854775808).map(x -> ).sum()",
+        b"a = of(1).sum()\r\n \r\nb = of(1).map(x -> y).sum()\nb = (\na = of(1).sum()",
+        b"a = of(1).sum()\na = of(2).sum(0)",
+    ];
+    let lines = "line 5: syntax|line 3: same name|line 3: unknown name|line 2: syntax";
+    for (jobs, want) in files.into_iter().zip(lines.split('|')) {
+        let line = format!(in rt.alloc(); "streamrun: jobs: {want}");
+        let told = line.is_ok_and(|line| is_refused(rt.alloc(), jobs, line.as_str()));
+        assert!(rt; told, "{want}");
+    }
+}
+
+#[test]
+fn each_cause_has_its_text(rt: HostRuntime) {
+    let causes = [
+        Cause::Syntax,
+        Cause::SameName,
+        Cause::TooLong,
+        Cause::Expr(ReadFault::Syntax { column: 9 }),
+        Cause::Expr(ReadFault::WrongType),
+        Cause::Expr(ReadFault::UnknownName),
+        Cause::Expr(ReadFault::TooDeep),
+        Cause::Expr(ReadFault::LiteralTooLarge),
+    ];
+    let texts = "syntax|same name|too long|expression syntax at column 9|wrong type|unknown name\
+        |too deep|literal too large";
+    for (cause, text) in causes.into_iter().zip(texts.split('|')) {
+        let fault = EngineFault::Jobs(JobFault { line: 7, cause });
+        let line = format!(in rt.alloc(); "streamrun: jobs: line 7: {text}");
+        let told = line.is_ok_and(|line| is_told(rt.alloc(), &fault, line.as_str(), 1));
+        assert!(rt; told, "{text}");
+    }
+}
+
+#[test]
+fn each_fault_of_a_run_has_its_line_and_status(rt: HostRuntime) {
+    let cause = Cause::NoMemory;
+    let faults = [
+        EngineFault::Jobs(JobFault { line: 0, cause }),
+        EngineFault::NoMemory,
+        EngineFault::JobsRead,
+        EngineFault::Write { written: 4 },
+    ];
+    let lines = "out of memory|out of memory|jobs: read failed|write failed after 4 bytes";
+    let statuses = [3, 3, 4, 4];
+    for ((fault, line), status) in faults.into_iter().zip(lines.split('|')).zip(statuses) {
+        let line = format!(in rt.alloc(); "streamrun: {line}");
+        let told = line.is_ok_and(|line| is_told(rt.alloc(), &fault, line.as_str(), status));
+        assert!(rt; told, "{fault}");
+    }
+}

@@ -1,0 +1,116 @@
+//! Readers and writers that give or take little, or fail.
+
+use columns::Counted;
+use engine::{EngineFault, run};
+use report::CountedOut;
+use std::alloc::Global;
+use std::io;
+use std::io::{ErrorKind, Read, Write};
+
+const JOBS: &[u8] = b"s = of(3, 0, -5).sum()\n";
+
+const REPORT: &[u8] = b"s = -2\n";
+
+/// A reader that gives one byte per call, and fails at one of its calls.
+#[derive(Drop)]
+struct Grudging<'a> {
+    left: &'a [u8],
+    fails_in: usize,
+}
+
+impl Read for Grudging<'_> {
+    fn read(&mut self, buf: &mut [u8]) -> io::Result<usize> {
+        if self.fails_in == 0 {
+            return Err(io::Error::from(ErrorKind::Other));
+        }
+        self.fails_in -= 1;
+        if self.left.is_empty() || buf.is_empty() {
+            return Ok(0);
+        }
+        buf[0] = self.left[0];
+        self.left = &self.left[1..];
+        Ok(1)
+    }
+}
+
+/// A writer that takes one byte per call, until it has no room left.
+#[derive(Drop)]
+struct Tight {
+    held: Vec<u8>,
+    room: usize,
+}
+
+impl Write for Tight {
+    fn write(&mut self, bytes: &[u8]) -> io::Result<usize> {
+        if self.room == 0 || bytes.is_empty() {
+            return Err(io::Error::from(ErrorKind::StorageFull));
+        }
+        self.held.push(bytes[0])?;
+        self.room -= 1;
+        Ok(1)
+    }
+
+    fn flush(&mut self) -> io::Result<()> {
+        Ok(())
+    }
+}
+
+/// Runs `JOBS` from a reader that fails at this call: the answer, and whether anything was written.
+fn run_from(alloc: Global, fails_in: usize) -> (Result<(), EngineFault>, Vec<u8>) {
+    let mut reader = Counted::new(Grudging {
+        left: JOBS,
+        fails_in,
+    });
+    let mut writer = CountedOut::new(Vec::new(alloc));
+    let answer = run(alloc, &mut reader, &mut writer);
+    (answer, writer.into_inner())
+}
+
+/// Runs these jobs into a writer with room for this many bytes: the answer, and what it holds.
+fn run_into(alloc: Global, jobs: &[u8], room: usize) -> (Result<(), EngineFault>, Vec<u8>) {
+    let mut writer = CountedOut::new(Tight {
+        held: Vec::new(alloc),
+        room,
+    });
+    let answer = run(alloc, &mut Counted::new(jobs), &mut writer);
+    (answer, writer.into_inner().held)
+}
+
+#[test]
+fn a_reader_that_fails_at_any_read_gives_no_report(rt: HostRuntime) {
+    for fails_in in 0..JOBS.len() + 2 {
+        let (answer, written) = run_from(rt.alloc(), fails_in);
+        let expected = if fails_in <= JOBS.len() {
+            answer == Err(EngineFault::JobsRead) && written.is_empty()
+        } else {
+            answer == Ok(()) && written.as_slice() == REPORT
+        };
+        assert!(rt; expected, "the read after {fails_in} reads fails");
+    }
+}
+
+#[test]
+fn a_writer_that_fails_after_some_bytes_holds_just_those(rt: HostRuntime) {
+    for room in 0..REPORT.len() + 1 {
+        let (answer, held) = run_into(rt.alloc(), JOBS, room);
+        let expected = if room < REPORT.len() {
+            let written = room as u64;
+            answer == Err(EngineFault::Write { written })
+        } else {
+            answer == Ok(())
+        };
+        assert!(rt;
+            expected && held.as_slice() == &REPORT[..room],
+            "room for {room} bytes"
+        );
+    }
+}
+
+#[test]
+fn an_empty_report_is_no_write_at_all(rt: HostRuntime) {
+    // Without room every call of `write` fails, so an answer `Ok` shows that none was made.
+    for jobs in [b"".as_slice(), b"\n", b"\n \t\r\n"] {
+        let (answer, held) = run_into(rt.alloc(), jobs, 0);
+        assert!(rt; answer == Ok(()) && held.is_empty(), "{jobs:?}");
+    }
+}

@@ -1,7 +1,0 @@
-use Rattle.std.proofs.Common.{◌≡◌, take}
-use Rattle.job_plan.specs.Meaning.{meaning_of}
-use Rattle.streamrun.specs.Jobs.{jobs_of}
-use Rattle.streamrun.proofs.reporting.answers_of.Given as goal
-
-abbrev pub invariant-loop-job : goal.invariant-loop-job
-invariant-loop-job l = l.answers.items ≡ meaning_of (jobs_of (take l.job-index l.jobs))

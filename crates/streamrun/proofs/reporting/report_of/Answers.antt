@@ -1,5 +1,0 @@
-use Rattle.streamrun.proofs.FewStages.{spelled_few}
-use Rattle.streamrun.proofs.reporting.report_of.Goals as goal
-
-pub written-requires : goal.written-requires
-written-requires c = record { few = spelled_few c.args.bytes.now c.in-Ok.jobs.items c.in-Ok.ensures.ok }
