@@ -27,33 +27,20 @@ fn has_text(alloc: Global, answer: Answer, want: &str) -> Result<bool, AllocErro
 }
 
 #[test]
-fn a_number_has_its_sign_and_digits(rt: HostRuntime) -> Result<(), Fail> {
+fn a_number_a_boolean_and_an_optional_are_printed_as_in_java(rt: HostRuntime) -> Result<(), Fail> {
+    let alloc = rt.alloc();
     let numbers = [0, -2, 42949672982, i64::MAX, i64::MIN];
     let texts = "0 -2 42949672982 9223372036854775807 -9223372036854775808";
     for (value, want) in numbers.into_iter().zip(texts.split_whitespace()) {
-        assert!(rt;
-            has_text(rt.alloc(), Answer::Number(value), want)?,
-            "{want}"
-        );
+        assert!(rt; has_text(alloc, Answer::Number(value), want)?, "{want}");
     }
-    Ok(())
-}
-
-#[test]
-fn an_optional_is_its_number_or_empty(rt: HostRuntime) -> Result<(), Fail> {
     let optionals = [Some(5), Some(0), Some(-1), None];
     let texts = "OptionalLong[5] OptionalLong[0] OptionalLong[-1] OptionalLong.empty";
     for (value, want) in optionals.into_iter().zip(texts.split_whitespace()) {
-        assert!(rt;
-            has_text(rt.alloc(), Answer::Optional(value), want)?,
-            "{want}"
-        );
+        assert!(rt; has_text(alloc, Answer::Optional(value), want)?, "{want}");
     }
-    assert!(rt; has_text(rt.alloc(), Answer::Truth(true), "true")?, "true");
-    assert!(rt;
-        has_text(rt.alloc(), Answer::Truth(false), "false")?,
-        "false"
-    );
+    assert!(rt; has_text(alloc, Answer::Truth(true), "true")?, "true");
+    assert!(rt; has_text(alloc, Answer::Truth(false), "false")?, "false");
     Ok(())
 }
 

@@ -6,13 +6,14 @@ use report::CountedOut;
 use std::alloc::Global;
 
 /// What a run over a job file of these bytes answers, and what it wrote.
+#[derive(Drop)]
 pub struct Outcome {
     pub answer: Result<(), EngineFault>,
     pub written: Vec<u8>,
 }
 
 /// Runs a job file of these bytes.
-pub fn outcome(alloc: Global, jobs: &[u8]) -> Outcome {
+pub fn run_over(alloc: Global, jobs: &[u8]) -> Outcome {
     let mut reader = Counted::new(jobs);
     let mut writer = CountedOut::new(Vec::new(alloc));
     let answer = run(alloc, &mut reader, &mut writer);
@@ -32,7 +33,7 @@ pub fn is_line(bytes: &[u8], text: &str) -> bool {
 
 /// Whether the run of this job file writes this report, whose last line feed is left out.
 pub fn reports(alloc: Global, jobs: &str, report: &str) -> bool {
-    let outcome = outcome(alloc, jobs.as_bytes());
+    let outcome = run_over(alloc, jobs.as_bytes());
     outcome.answer.is_ok() && is_line(&outcome.written, report)
 }
 
@@ -44,7 +45,7 @@ pub fn is_told(alloc: Global, fault: &EngineFault, line: &str, status: u8) -> bo
 
 /// Whether this job file is refused by this line, with status 1, and nothing is written.
 pub fn is_refused(alloc: Global, jobs: &[u8], line: &str) -> bool {
-    let outcome = outcome(alloc, jobs);
+    let outcome = run_over(alloc, jobs);
     match outcome.answer {
         Ok(()) => false,
         Err(fault) => outcome.written.is_empty() && is_told(alloc, &fault, line, 1),

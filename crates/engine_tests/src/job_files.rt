@@ -1,7 +1,6 @@
 //! Job files and the jobs that they give, and their limits.
 
 use engine::{Cause, Job, Source, Terminal, read_jobs};
-use lambda_expr::ReadFault;
 use std::alloc::{AllocError, Global};
 use std::test::Fail;
 use trace::Stage;
@@ -39,6 +38,11 @@ fn many_jobs(alloc: Global, count: u8, last: &[u8]) -> Result<Vec<u8>, AllocErro
     Ok(text)
 }
 
+/// Whether a job has this name and this terminal.
+fn is_named(job: &Job, name: &str, terminal: Terminal) -> bool {
+    job.name.as_slice() == name.as_bytes() && job.terminal == terminal
+}
+
 /// Whether the source of a job is these values.
 fn has_values(job: &Job, expected: &[i64]) -> bool {
     match &job.source {
@@ -70,54 +74,37 @@ fn a_job_has_the_numbers_stages_and_terminal_that_are_written(rt: HostRuntime) -
         assert!(rt; false, "three jobs");
         return Ok(());
     };
-    assert!(rt; first.name.as_slice() == b"true" && first.terminal == Terminal::Sum);
+    assert!(rt; is_named(first, "true", Terminal::Sum));
     assert!(rt; has_values(first, &[i64::MIN, i64::MAX, -5, 5, 0]) && first.stages.is_empty());
-    assert!(rt; second.name.as_slice() == b"r" && second.terminal == Terminal::ToArray);
+    assert!(rt; is_named(second, "r", Terminal::ToArray));
     assert!(rt; has_bounds(second, -1, 10) && are_map_and_filter(&second.stages));
-    assert!(rt; third.name.as_slice() == b"e" && has_values(third, &[]));
-    Ok(())
-}
-
-#[test]
-fn the_longest_parts_are_read(rt: HostRuntime) -> Result<(), Fail> {
-    let alloc = rt.alloc();
-    for (front, times, middle, back) in [
-        ("", 64, "n", " = of().sum()"),
-        ("s = of(0", 1023, ",1", ").sum()"),
-        ("s = of()", 32, ".map(x->x)", ".sum()"),
-        ("s = of().sum()", 65522, " ", ""),
-    ] {
-        let file = repeated(alloc, front, times, middle, back)?;
-        assert!(rt; refusal(alloc, &file).is_none(), "{times} times {middle}");
-    }
+    assert!(rt; is_named(third, "e", Terminal::Sum) && has_values(third, &[]));
     Ok(())
 }
 
 #[test]
 fn a_part_past_its_limit_is_too_long_before_any_other_cause(rt: HostRuntime) -> Result<(), Fail> {
     let alloc = rt.alloc();
-    for (front, times, middle, back) in [
-        ("", 65, "n", " = of(9223372036854775808).sum()"),
-        ("s = of(9223372036854775808", 1024, ",1", ").sum()"),
-        ("s = of()", 32, ".map(x->x)", ".map(x->y).sum()"),
-        ("s = of().sum(0)", 65522, " ", ""),
+    let too_long = Some((Cause::TooLong, 1));
+    for (front, times, middle, back, expected) in [
+        ("", 64, "n", " = of().sum()", None),
+        ("", 65, "n", " = of(9223372036854775808).sum()", too_long),
+        ("s = of(0", 1023, ",1", ").sum()", None),
+        (
+            "s = of(9223372036854775808",
+            1024,
+            ",1",
+            ").sum()",
+            too_long,
+        ),
+        ("s = of()", 32, ".map(x->x)", ".sum()", None),
+        ("s = of()", 32, ".map(x->x)", ".map(x->y).sum()", too_long),
+        ("s = of().sum()", 65522, " ", "", None),
+        ("s = of().sum(0)", 65522, " ", "", too_long),
     ] {
         let file = repeated(alloc, front, times, middle, back)?;
-        let refused = refusal(alloc, &file) == Some((Cause::TooLong, 1));
-        assert!(rt; refused, "{times} times {middle}");
+        assert!(rt; refusal(alloc, &file) == expected, "{times} times {middle}");
     }
-    let stages = repeated(
-        alloc,
-        "s = of()",
-        31,
-        ".map(x->x)",
-        ".map(x->y).map(x->x).sum()",
-    )?;
-    let unknown = Cause::Expr(ReadFault::UnknownName);
-    assert!(rt;
-        refusal(alloc, &stages) == Some((unknown, 1)),
-        "the 32nd stage"
-    );
     Ok(())
 }
 

@@ -3,6 +3,7 @@
 use crate::fixture::{halves, is_refused, is_told};
 use engine::{Cause, EngineFault, JobFault};
 use lambda_expr::ReadFault;
+use std::alloc::Global;
 
 const OUTSIDE_THE_GRAMMAR: &str = "\
 s
@@ -105,8 +106,16 @@ fn the_first_faulty_job_is_reported_with_its_line(rt: HostRuntime) {
     }
 }
 
+/// Whether a job file that is refused for this cause at line 7 has this line and status 1.
+fn has_text(alloc: Global, cause: Cause, text: &str) -> bool {
+    let fault = EngineFault::Jobs(JobFault { line: 7, cause });
+    let line = format!(in alloc; "streamrun: jobs: line 7: {text}");
+    line.is_ok_and(|line| is_told(alloc, &fault, line.as_str(), 1))
+}
+
 #[test]
-fn each_cause_has_its_text(rt: HostRuntime) {
+fn each_fault_has_its_line_and_status(rt: HostRuntime) {
+    let alloc = rt.alloc();
     let causes = [
         Cause::Syntax,
         Cause::SameName,
@@ -120,27 +129,22 @@ fn each_cause_has_its_text(rt: HostRuntime) {
     let texts = "syntax|same name|too long|expression syntax at column 9|wrong type|unknown name\
         |too deep|literal too large";
     for (cause, text) in causes.into_iter().zip(texts.split('|')) {
-        let fault = EngineFault::Jobs(JobFault { line: 7, cause });
-        let line = format!(in rt.alloc(); "streamrun: jobs: line 7: {text}");
-        let told = line.is_ok_and(|line| is_told(rt.alloc(), &fault, line.as_str(), 1));
-        assert!(rt; told, "{text}");
+        assert!(rt; has_text(alloc, cause, text), "{text}");
     }
-}
-
-#[test]
-fn each_fault_of_a_run_has_its_line_and_status(rt: HostRuntime) {
-    let cause = Cause::NoMemory;
-    let faults = [
-        EngineFault::Jobs(JobFault { line: 0, cause }),
-        EngineFault::NoMemory,
-        EngineFault::JobsRead,
-        EngineFault::Write { written: 4 },
-    ];
-    let lines = "out of memory|out of memory|jobs: read failed|write failed after 4 bytes";
-    let statuses = [3, 3, 4, 4];
-    for ((fault, line), status) in faults.into_iter().zip(lines.split('|')).zip(statuses) {
-        let line = format!(in rt.alloc(); "streamrun: {line}");
-        let told = line.is_ok_and(|line| is_told(rt.alloc(), &fault, line.as_str(), status));
-        assert!(rt; told, "{fault}");
-    }
+    let memory = EngineFault::Jobs(JobFault {
+        line: 0,
+        cause: Cause::NoMemory,
+    });
+    assert!(rt; is_told(alloc, &memory, "streamrun: out of memory", 3));
+    assert!(rt; is_told(alloc, &EngineFault::NoMemory, "streamrun: out of memory", 3));
+    assert!(rt;
+        is_told(
+            alloc,
+            &EngineFault::JobsRead,
+            "streamrun: jobs: read failed",
+            4
+        )
+    );
+    let write = EngineFault::Write { written: 4 };
+    assert!(rt; is_told(alloc, &write, "streamrun: write failed after 4 bytes", 4));
 }

@@ -59,7 +59,7 @@ struct Sent {
 }
 
 /// Writes all of these bytes to a writer of this kind.
-fn sent(alloc: Global, bytes: &[u8], a_call: usize, room: usize, interruptions: u64) -> Sent {
+fn send(alloc: Global, bytes: &[u8], a_call: usize, room: usize, interruptions: u64) -> Sent {
     let mut writer = CountedOut::new(Tight {
         held: Vec::new(alloc),
         a_call,
@@ -79,25 +79,25 @@ const BYTES: &[u8] = b"s = -2\nz = true\n";
 #[test]
 fn exactly_the_first_bytes_went_out_when_a_write_fails(rt: HostRuntime) {
     for a_call in [1, 4, 100] {
-        for room in 0..BYTES.len() {
-            let sent = sent(rt.alloc(), BYTES, a_call, room, 0);
-            let written = room as u64;
-            let told = sent.answer == Err(WriteFault { written }) && sent.failures == 1;
-            assert!(rt;
-                told && sent.held.as_slice() == &BYTES[..room],
-                "{a_call} a call, {room} in all"
-            );
+        for room in 0..=BYTES.len() {
+            let sent = send(rt.alloc(), BYTES, a_call, room, 0);
+            let expected = if room < BYTES.len() {
+                let written = room as u64;
+                sent.answer == Err(WriteFault { written }) && sent.failures == 1
+            } else {
+                sent.answer == Ok(()) && sent.failures == 0
+            };
+            let held = sent.held.as_slice() == &BYTES[..room];
+            assert!(rt; expected && held, "{a_call} a call, room for {room}");
         }
     }
 }
 
 #[test]
-fn all_bytes_go_out_in_as_many_writes_as_it_takes(rt: HostRuntime) {
-    for (a_call, interruptions) in [(1, 0), (4, 0), (100, 0), (1, 1), (5, 3)] {
-        let sent = sent(rt.alloc(), BYTES, a_call, BYTES.len(), interruptions);
-        let whole = sent.answer == Ok(()) && sent.held.as_slice() == BYTES;
-        assert!(rt; whole && sent.failures == interruptions, "{a_call} a call");
-    }
+fn an_interrupted_write_is_made_again_and_counted(rt: HostRuntime) {
+    let sent = send(rt.alloc(), BYTES, 5, BYTES.len(), 3);
+    assert!(rt; sent.answer == Ok(()) && sent.failures == 3);
+    assert!(rt; sent.held.as_slice() == BYTES);
 }
 
 #[test]
@@ -106,7 +106,7 @@ fn a_writer_that_takes_nothing_fails_except_for_no_bytes(rt: HostRuntime) -> Res
     assert!(rt; write_all_of(&mut writer, b"") == Ok(()) && writer.failures() == 0);
     let fault = WriteFault { written: 0 };
     assert!(rt; write_all_of(&mut writer, b"s") == Err(fault) && writer.failures() == 1);
-    let told = format!(in rt.alloc(); "{}", WriteFault { written: 4 })?;
-    assert!(rt; told.as_str() == "write failed after 4 bytes");
+    let text = format!(in rt.alloc(); "{}", WriteFault { written: 4 })?;
+    assert!(rt; text.as_str() == "write failed after 4 bytes");
     Ok(())
 }

@@ -12,8 +12,6 @@ mod as_text;
 mod counted_write;
 mod kind;
 mod printable;
-#[cfg(test)]
-mod tests;
 mod worked;
 
 pub use as_text::text;
