@@ -1,15 +1,22 @@
-//! The operators of folds and prefixes.
+//! The operators of folds and prefixes, and folds of pieces that merge in encounter order.
 //!
 //! Stands on `trace`, for items and the fault that ends a walk. Used by whatever folds a stream: on one
-//! thread, or in parts. What it promises to them: `Op::apply` is `value_of` of `specs/Operators.antt`, and
-//! `laws.rt` says that each operator is associative and each identity works on both sides.
-//! Begin with `specs/Operators.antt`, then `op.rt`. No call takes memory.
+//! thread, or in pieces. What it promises to them: `Op::apply` is `value_of` of `specs/Operators.antt`, and
+//! `Partial::merge`, clause `stands`, gives the fold of two pieces side by side, where the first fault ends
+//! the whole. `laws.rt` says why: each operator is associative, and each identity works on both sides.
+//! Begin with `specs/Operators.antt` and `specs/Folds.antt`, then `op.rt` and `partial.rt`. No call takes
+//! memory.
 //! Not promised: that an operator is commutative; `affine`, `first` and `last` are not.
 //! Java: `Long::sum`, `Long::min`, `Long::max` and `reduce` of `LongStream` (Java SE 17, `java.util.stream`).
 #![tactic(auto)]
 
 mod laws;
 mod op;
+mod partial;
 
-pub use laws::{affine_composes_maps, identities_are_two_sided, operators_are_associative};
+pub use laws::{
+    affine_composes_maps, counts_are_sums_of_ones, identities_are_two_sided,
+    operators_are_associative, sums_are_wrapped_totals,
+};
 pub use op::Op;
+pub use partial::Partial;
