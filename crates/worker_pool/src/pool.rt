@@ -1,0 +1,70 @@
+//! Starting the workers and waiting for their end.
+ghost use Rattle.std.specs.Prelude.{◌≡◌, ◌<◌, vec_len, slice_get, IfSome};
+
+use crate::gate::Gate;
+use crate::queues::{Finder, Queues, queues_of};
+use crate::work::Work;
+use crate::worker::{begin, work_on};
+use deques::Inbox;
+use std::alloc::Global;
+use std::sync::Wait;
+use std::thread;
+use std::thread::Threads;
+use std::vec::IntoIter;
+
+// Worker 0 is the caller. Each other worker has a thread, if one can be made.
+fn run_workers<R: Threads + Wait + Sync, W: Work, G: Gate + Sync, F: Finder<W::Task> + Send + Drop>(
+    rt: &R,
+    gate: &G,
+    work: &W,
+    first: Vec<W::Task>,
+    idle: Vec<W::Idle>,
+    mine: F,
+    others: IntoIter<F>,
+) -> W::Idle
+    requires { 0 < vec_len idle }
+    ensures over { W.is_over work.now result }
+    ensures mine { IfSome (slice_get idle.items 0) (λ i. W.owner_of result ≡ W.owner_of i) }
+{
+    thread::scope(
+        thread::scope_env(),
+        rt,
+        move |scope| -> W::Idle
+            requires { 0 < vec_len idle }
+            ensures { W.is_over work.entry.now result × IfSome (slice_get idle.items 0) (λ i. W.owner_of result ≡ W.owner_of i) }
+        {
+            let mut mine = mine;
+            let mut idle = idle.into_iter();
+            let Some(my_idle) = idle.next() else {
+                unreachable!()
+            };
+            for (worker, (idle, finder)) in (1..).zip(idle.zip(others)) {
+                let _ = scope.spawn(move || {
+                    work_on(rt, gate, work, worker, idle, finder);
+                });
+            }
+            let my_idle = begin(rt, gate, work, my_idle, first, &mut mine);
+            work_on(rt, gate, work, 0, my_idle, mine)
+        },
+    )
+}
+
+/// Runs the tasks of `first`, and those that they push, with one worker for each `Idle`. The caller is worker 0, whose
+/// `Idle` comes back once nothing is left. What can't be made, a thread, a deque or the inbox, is done without.
+pub fn run_pool<R: Threads + Wait + Sync, W: Work, G: Gate + Sync>(
+    rt: &R,
+    alloc: Global,
+    gate: &G,
+    work: &W,
+    first: Vec<W::Task>,
+    idle: Vec<W::Idle>,
+) -> W::Idle
+    requires { 0 < vec_len idle }
+    ensures over { W.is_over work.now result }
+    ensures mine { IfSome (slice_get idle.items 0) (λ i. W.owner_of result ≡ W.owner_of i) }
+{
+    let inbox = Inbox::new(alloc).ok().map(|made| made.0);
+    let mut all = queues_of(alloc, idle.len(), inbox.as_ref()).into_iter();
+    let mine = all.next().unwrap_or(Queues::none(alloc));
+    run_workers(rt, gate, work, first, idle, mine, all)
+}

@@ -1,0 +1,169 @@
+//! The queues that one worker uses: its own deque, thieves of the other deques, and the inbox.
+ghost use Rattle.std.specs.Prelude.{◌≡◌, IfErr};
+ghost use Rattle.deques.specs.Handles.{IsOf};
+
+use crate::work::Spawn;
+use deques::{Inbox, Owner, Pass, Thief};
+use std::alloc::Global;
+use std::sync::Wait;
+
+/// Where a worker finds tasks. Threads are started for a type parameter with this bound, since a closure that is sent to
+/// a thread can't capture a deque whose task type is an associated type.
+pub trait Finder<T>: Spawn<T> {
+    fn find<R: Wait>(&mut self, rt: &R) -> Option<T>;
+
+    /// Puts a task where every worker finds it.
+    fn put<R: Wait>(&mut self, rt: &R, task: T) -> Result<(), T>;
+}
+
+// The inbox with the right to use it.
+#[derive(Drop)]
+struct Door<'a, T> {
+    inbox: &'a Inbox<T>,
+    pass: Pass<T>,
+    ghost of: { IsOf inbox.now pass },
+}
+
+impl<'a, T: Drop> Door<'a, T> {
+    fn of(inbox: &'a Inbox<T>) -> Door<'a, T> {
+        let pass = inbox.pass();
+        Door { inbox, pass }
+    }
+
+    fn put<R: Wait>(self, rt: &R, task: T) -> (Door<'a, T>, Result<(), T>) {
+        let Door { inbox, pass } = self;
+        let (pass, put) = inbox.put(rt, pass, task);
+        (Door { inbox, pass }, put)
+    }
+
+    fn take<R: Wait>(self, rt: &R) -> (Door<'a, T>, Option<T>) {
+        let Door { inbox, pass } = self;
+        let (pass, task) = inbox.take(rt, pass);
+        (Door { inbox, pass }, task)
+    }
+}
+
+/// The queues of one worker, each as far as it could be made.
+#[derive(Drop)]
+pub struct Queues<'a, T> {
+    own: Option<Owner<T>>,
+    others: Vec<Thief<T>>,
+    door: Option<Door<'a, T>>,
+}
+
+impl<'a, T: Drop> Queues<'a, T> {
+    /// No queues: nothing is found in them, and every task comes back.
+    pub fn none(alloc: Global) -> Queues<'a, T> {
+        Queues {
+            own: None,
+            others: Vec::new(alloc),
+            door: None,
+        }
+    }
+
+    fn pop(&mut self) -> Option<T> {
+        match &mut self.own {
+            Some(own) => own.pop(),
+            None => None,
+        }
+    }
+
+    fn steal(&mut self) -> Option<T> {
+        for thief in self.others.iter_mut() {
+            if let Some(task) = thief.steal() {
+                return Some(task);
+            }
+        }
+        None
+    }
+
+    fn take<R: Wait>(&mut self, rt: &R) -> Option<T> {
+        let (door, task) = self.door.take()?.take(rt);
+        self.door = Some(door);
+        task
+    }
+}
+
+impl<'a, T: Drop> Spawn<T> for Queues<'a, T> {
+    fn push(&mut self, task: T) -> Result<(), T> {
+        match &mut self.own {
+            Some(own) => own.push(task),
+            None => Err(task),
+        }
+    }
+}
+
+impl<'a, T: Drop> Finder<T> for Queues<'a, T> {
+    // The newest task of its own, then the oldest of another worker, then the oldest of the inbox.
+    fn find<R: Wait>(&mut self, rt: &R) -> Option<T> {
+        if let Some(task) = self.pop() {
+            return Some(task);
+        }
+        if let Some(task) = self.steal() {
+            return Some(task);
+        }
+        self.take(rt)
+    }
+
+    fn put<R: Wait>(&mut self, rt: &R, task: T) -> Result<(), T> {
+        let Some(door) = self.door.take() else {
+            return Err(task);
+        };
+        let (door, put) = door.put(rt, task);
+        self.door = Some(door);
+        put
+    }
+}
+
+// As many deques as are wanted and can be made.
+fn owners<T: Drop>(alloc: Global, workers: usize) -> Vec<Owner<T>> {
+    let mut owners = Vec::new(alloc);
+    for _ in 0..workers {
+        let Ok(owner) = Owner::new(alloc) else {
+            return owners;
+        };
+        if owners.push(owner).is_err() {
+            return owners;
+        }
+    }
+    owners
+}
+
+// Thieves of the deques of all other workers, the next one first.
+fn thieves<T: Drop>(alloc: Global, owners: &[Owner<T>], worker: usize) -> Vec<Thief<T>> {
+    let mut thieves = Vec::new(alloc);
+    let (before, from) = owners.split_at(worker.min(owners.len()));
+    for owner in from.iter().skip(1).chain(before.iter()) {
+        let Ok(thief) = owner.thief() else {
+            return thieves;
+        };
+        if thieves.push(thief).is_err() {
+            return thieves;
+        }
+    }
+    thieves
+}
+
+/// The queues of as many workers as there is memory for.
+pub fn queues_of<T: Drop>(
+    alloc: Global,
+    workers: usize,
+    inbox: Option<&Inbox<T>>,
+) -> Vec<Queues<T>> {
+    let owners = owners(alloc, workers);
+    let mut all = Vec::new(alloc);
+    for worker in 0..workers {
+        let queues = Queues {
+            own: None,
+            others: thieves(alloc, owners.as_slice(), worker),
+            door: inbox.map(Door::of),
+        };
+        if all.push(queues).is_err() {
+            break;
+        }
+    }
+    for (queues, owner) in all.iter_mut().zip(owners) {
+        queues.own = Some(owner);
+    }
+    all
+}

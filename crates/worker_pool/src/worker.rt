@@ -1,0 +1,56 @@
+//! What one worker does.
+ghost use Rattle.std.specs.Prelude.{◌≡◌};
+
+use crate::gate::Gate;
+use crate::queues::Finder;
+use crate::work::Work;
+use crossbeam_utils::Backoff;
+use std::sync::Wait;
+
+/// Runs the tasks that it finds, until nothing is left.
+pub fn work_on<R: Wait, W: Work, G: Gate, F: Finder<W::Task> + Drop>(
+    rt: &R,
+    gate: &G,
+    work: &W,
+    worker: usize,
+    mut idle: W::Idle,
+    mut finder: F,
+) -> W::Idle
+    ensures over { W.is_over work.now result }
+    ensures same { W.owner_of result ≡ W.owner_of idle }
+{
+    let pause = Backoff::new();
+    for _ in rt.forever() {
+        if let Some(task) = finder.find(rt) {
+            idle = work.run(rt, worker, gate, idle, task, &mut finder);
+            pause.reset();
+        } else {
+            let (asked, left) = work.left(rt, idle);
+            if left == 0 {
+                return asked;
+            }
+            idle = asked;
+            pause.snooze();
+        }
+    }
+    unreachable!()
+}
+
+/// Puts the tasks into the inbox, and runs those that it doesn't take.
+pub fn begin<R: Wait, W: Work, G: Gate, F: Finder<W::Task>>(
+    rt: &R,
+    gate: &G,
+    work: &W,
+    mut idle: W::Idle,
+    first: Vec<W::Task>,
+    finder: &mut F,
+) -> W::Idle
+    ensures same { W.owner_of result ≡ W.owner_of idle }
+{
+    for task in first {
+        if let Err(task) = finder.put(rt, task) {
+            idle = work.run(rt, 0, gate, idle, task, finder);
+        }
+    }
+    idle
+}
