@@ -3,6 +3,7 @@ mod Covering
 mod FewStages
 mod JobLists
 mod Placing
+mod RunLemmas
 pub mod Arguing
 pub mod Calling
 pub mod Checking

@@ -1,3 +1,4 @@
+-- Condition: the files of this crate's definitions; the first line of each says what it is.
 pub mod ArgumentReading
 pub mod Causes
 pub mod FileReading
@@ -10,3 +11,4 @@ pub mod NumberReading
 pub mod PartReading
 pub mod Refused
 pub mod Run
+pub mod Statuses

@@ -1,13 +1,9 @@
--- Condition: the faults that come before anything is written.
-use Rattle.std.specs.Prelude.{◌≡◌, ◌≢◌, ℕ, List}
+-- Condition: the faults that come after the job file was read and before anything is written.
+use Rattle.std.specs.Prelude.{◌≢◌}
 use Rattle.engine.specs.declared.running.EngineFault.{EngineFault}
-use Rattle.engine.specs.declared.running.EngineFault.TheVariants.{Jobs, JobsRead, NoMemory, Write}
-use Rattle.engine.specs.declared.jobs.fault.Cause.TheVariants as cause
-use Rattle.engine.specs.JobRefusals.{IsRefused}
+use Rattle.engine.specs.declared.running.EngineFault.TheVariants.{JobsRead}
+use Rattle.engine.specs.Run.{Input, Says}
 
--- a refused file, or want of memory
-abbrev pub IsEarly : List ℕ → EngineFault → Type 0
-IsEarly bytes (Jobs f) = (f.cause ≢ cause.NoMemory → IsRefused bytes f) × (f.cause ≡ cause.NoMemory → f.line ≡ 0)
-IsEarly bytes JobsRead = ⊥
-IsEarly bytes NoMemory = Unit {0}
-IsEarly bytes (Write n) = ⊥
+-- a refused file, or out of memory
+abbrev pub IsEarly : Input → EngineFault → Type 0
+IsEarly input fault = Says input fault × (fault ≢ JobsRead)

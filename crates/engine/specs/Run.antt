@@ -3,6 +3,7 @@
 --   texts of jobs         → jobs               JobGrammar, JobRefusals; their lambdas: lambda_expr/specs/Grammar, Refusals
 --   jobs                  → answers            job_plan/specs/Meaning; their walks: trace/specs/Cover, Stages, Trace
 --   answers               → bytes of the report     report/specs/Text
+-- Reports of small files, worked out: report/specs/Worked.
 use Rattle.std.specs.Prelude.{◌≡◌, ◌≢◌, ℕ, ◌<◌, List, length, take, Option}
 use Rattle.std.specs.Io.KnownBytes.{Appends, Keeps}
 use Rattle.job_plan.specs.Meaning.{JobTerm, meaning_of, names_of}
@@ -12,21 +13,30 @@ use Rattle.engine.specs.declared.running.EngineFault.TheVariants.{Jobs, JobsRead
 use Rattle.engine.specs.declared.jobs.fault.Cause.TheVariants as cause
 use Rattle.engine.specs.JobRefusals.{Spells, IsRefused}
 
--- the report of the jobs that these bytes spell: what one thread writes that takes the jobs in file order and each
+-- what a run is given: the bytes of the job file
+pub record Input : Type 0 where
+  pub jobs : List ℕ
+
+-- the report of the jobs that the input spells: what one thread writes that takes the jobs in file order and each
 -- source in encounter order, with the first fault that it meets in place of the job's answer
-pub record IsReport (bytes : List ℕ) (report : List ℕ) : Type 0 where
+pub record IsReport (input : Input) (report : List ℕ) : Type 0 where
   pub jobs : List JobTerm
-  pub spelled : Spells bytes jobs
+  pub spelled : Spells input.jobs jobs
   pub written : report ≡ report_text (names_of jobs) (meaning_of jobs)
 
 -- a writer that held these bytes before and those after took the report and nothing else
-abbrev pub Reported : List ℕ → Option (List ℕ) → Option (List ℕ) → Type 0
-Reported bytes before after = (report : List ℕ) × IsReport bytes report × Appends before after report
+abbrev pub Reported : Input → Option (List ℕ) → Option (List ℕ) → Type 0
+Reported input before after = (report : List ℕ) × IsReport input report × Appends before after report
 
--- what a fault says, and what the writer then holds: nothing was written, but after a failed write, when the first
--- bytes of that same report went out and no others
-abbrev pub Faulted : List ℕ → Option (List ℕ) → Option (List ℕ) → EngineFault → Type 0
-Faulted bytes before after (Jobs f) = (f.cause ≢ cause.NoMemory → IsRefused bytes f) × (f.cause ≡ cause.NoMemory → f.line ≡ 0) × Keeps before after
-Faulted bytes before after JobsRead = Keeps before after
-Faulted bytes before after NoMemory = Keeps before after
-Faulted bytes before after (Write n) = (report : List ℕ) × IsReport bytes report × (n < length report) × Appends before after (take n report)
+-- what a fault other than a failed write says of the input: a refused job file is refused for just this
+abbrev pub Says : Input → EngineFault → Type 0
+Says input (Jobs f) = (f.cause ≢ cause.NoMemory → IsRefused input.jobs f) × (f.cause ≡ cause.NoMemory → f.line ≡ 0)
+Says input JobsRead = Unit {0}
+Says input NoMemory = Unit {0}
+Says input (Write n) = ⊥
+
+-- what a fault says of the input, and what the writer then holds: after a failed write the first bytes of the report
+-- went out and no others; otherwise nothing was written
+abbrev pub Faulted : Input → Option (List ℕ) → Option (List ℕ) → EngineFault → Type 0
+Faulted input before after (Write n) = (report : List ℕ) × IsReport input report × (n < length report) × Appends before after (take n report)
+Faulted input before after fault = Says input fault × Keeps before after

@@ -3,7 +3,7 @@
 ghost use Rattle.columns.specs.CountedRead.{HasRisen as ReadHasRisen};
 ghost use Rattle.engine.specs.Jobs.{jobs_of};
 ghost use Rattle.engine.specs.Refused.{IsEarly};
-ghost use Rattle.engine.specs.Run.{Faulted, IsReport, Reported};
+ghost use Rattle.engine.specs.Run.{Faulted, Input, IsReport, Reported};
 ghost use Rattle.job_plan.specs.Meaning.{meaning_of, names_of};
 ghost use Rattle.report.specs.CountedWrite.{HasRisen};
 ghost use Rattle.report.specs.Text.{report_text};
@@ -16,7 +16,7 @@ use crate::jobs::job::Job;
 use crate::walk::answer_of;
 use columns::{CountedRead, ReadAllFault, read_all_of};
 use job_plan::Answer;
-use report::{CountedWrite, text, write_all_of};
+use report::{CountedWrite, WriteFault, text, write_all_of};
 use std::alloc::Global;
 use stream_tokens::{Bytes, NoMemory};
 use thiserror::Error;
@@ -52,11 +52,20 @@ pub fn run<J: CountedRead, W: CountedWrite>(
 ) -> Result<(), EngineFault>
     // The headline: the writer holds what it held before, and then the report of the jobs that the bytes spell.
     ensures report { OnOk result (IfSome (J.remaining jobs.old) (λ bytes.
-        Reported bytes (W.contents writer.old) (W.contents writer.new))) }
+        Reported (record { jobs = bytes }) (W.contents writer.old) (W.contents writer.new))) }
     ensures fault { IfErr result (λ fault. IfSome (J.remaining jobs.old) (λ bytes.
-        Faulted bytes (W.contents writer.old) (W.contents writer.new) fault)) }
+        Faulted (record { jobs = bytes }) (W.contents writer.old) (W.contents writer.new) fault)) }
+
+    // The same of some bytes, if those of the reader aren't known.
+    ensures of_some_bytes { OnOk result ((input : Input)
+        × Reported input (W.contents writer.old) (W.contents writer.new)) }
+    ensures fault_of_some_bytes { IfErr result (λ fault. (input : Input)
+        × Faulted input (W.contents writer.old) (W.contents writer.new) fault) }
+
     ensures unwritten { IfErr result (λ fault. ((n : ℕ) → fault ≢ EngineFault.Write n) →
         Keeps (W.contents writer.old) (W.contents writer.new)) }
+    ensures untouched { IfErr result (λ fault. ((n : ℕ) → fault ≢ EngineFault.Write n) →
+        W.failures writer.new ≡ W.failures writer.old) }
     ensures read_failed { IfErr result (λ fault. fault ≡ EngineFault.JobsRead →
         ReadHasRisen (J.failures jobs.old) (J.failures jobs.new)) }
     ensures write_failed { IfErr result (λ fault. (n : ℕ) → fault ≡ EngineFault.Write n →
@@ -73,16 +82,14 @@ pub fn run<J: CountedRead, W: CountedWrite>(
     };
     match write_all_of(writer, &report) {
         Ok(()) => Ok(()),
-        Err(fault) => Err(EngineFault::Write {
-            written: fault.written,
-        }),
+        Err(WriteFault { written }) => Err(EngineFault::Write { written }),
     }
 }
 
 /// The report of the jobs that these bytes spell.
 pub fn report_of(alloc: Global, bytes: &[u8]) -> Result<Vec<u8>, EngineFault>
-    ensures ok { IfOk result (λ report. IsReport bytes.now report.items) }
-    ensures err { IfErr result (λ fault. IsEarly bytes.now fault) }
+    ensures ok { IfOk result (λ report. IsReport (record { jobs = bytes.now }) report.items) }
+    ensures err { IfErr result (λ fault. IsEarly (record { jobs = bytes.now }) fault) }
 {
     let jobs = match read_jobs(alloc, bytes) {
         Ok(jobs) => jobs,

@@ -1,14 +1,19 @@
 //! One line on standard error for each fault of a run, and the status of the program.
 
+ghost use Rattle.engine.specs.Statuses.{status_of};
+ghost use Rattle.std.specs.Prelude.{◌≡◌};
+
 use crate::jobs::fault::Cause;
 use crate::running::EngineFault;
 use std::io::Write;
 
 /// Writes the fault's line and answers the program's exit status: 1 for input that is refused, 3 for
-/// want of memory, 4 for a file that can't be read or written.
+/// out of memory, 4 for a file that can't be read or written.
 ///
-/// A line that can't be written is passed over: the status still tells what went wrong.
-pub fn tell<W: Write>(fault: &EngineFault, writer: &mut W) -> u8 {
+/// If the line can't be written, it is skipped: the status still says what went wrong.
+pub fn tell<W: Write>(fault: &EngineFault, writer: &mut W) -> u8
+    ensures { result ≡ status_of fault.now }
+{
     let _ = writeln!(writer, "streamrun: {fault}");
     match fault {
         EngineFault::Jobs(refused) if refused.cause == Cause::NoMemory => 3,
