@@ -3,7 +3,7 @@ import java.util.stream.LongStream;
 
 /** Prints each operator at pairs of values, and folds by it. Java SE 17. */
 public class Operators {
-    static final long[] VALUES = {0, 1, -1, 3, 8589934595L, 21474836487L, -4294967297L, Long.MIN_VALUE, Long.MAX_VALUE};
+    static final long[] VALUES = {0, -1, 8589934595L, 21474836487L, Long.MIN_VALUE, Long.MAX_VALUE};
 
     static long affine(long f, long g) {
         int factor = (int) (f >>> 32) * (int) (g >>> 32);
