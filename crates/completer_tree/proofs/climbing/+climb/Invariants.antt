@@ -1,0 +1,5 @@
+use Rattle.completer_tree.proofs.Climbs.{height}
+use Rattle.completer_tree.proofs.climbing.+climb.Given as goal
+
+abbrev pub decreases-climb : goal.decreases-climb
+decreases-climb g l = height l.finisher.finish.kept.parent (g.C.Continuation.goes_to l.finisher.finish.kept.run)
