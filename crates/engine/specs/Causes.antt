@@ -7,12 +7,12 @@ use Rattle.engine.specs.declared.jobs.fault.Cause.{Cause}
 use Rattle.engine.specs.declared.jobs.fault.Cause.TheVariants as cause
 use Rattle.engine.specs.declared.jobs.fault.JobFault.{JobFault}
 
--- the fault of a lambda, apart from want of memory
+-- the fault of a lambda, apart from out of memory
 abbrev pub cause_of : ReadFault → Cause
 cause_of read.NoMemory = cause.NoMemory
 cause_of f = cause.Expr f
 
--- a line that belongs to no job, or want of memory
+-- a line that belongs to no job, or out of memory
 abbrev pub fault_of : TextFault → JobFault
 fault_of (text.Syntax line) = record { line = line; cause = cause.Syntax }
 fault_of text.NoMemory = record { line = 0; cause = cause.NoMemory }

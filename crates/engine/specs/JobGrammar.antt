@@ -21,13 +21,14 @@ pub data Argument : Type 0 where
   word : Word → Argument → Argument
   paired : Argument → Argument → Argument
 
+-- helper: the words of an argument
 abbrev pub argument_words : Argument → List Word
 argument_words nothing = []
 argument_words (word w a) = w ∷ argument_words a
 argument_words (paired a b) = sign symbol.Open ∷ (argument_words a ++ sign symbol.Close ∷ argument_words b)
 
--- a word that may stand in an argument by itself: no parenthesis, no bad byte, not `++` or `--`, and no number of two
--- or more digits that begins with 0
+-- helper: a word that may stand in an argument by itself is no parenthesis, no bad byte, not `++` or `--`, and no number
+-- of two or more digits that begins with 0
 abbrev pub is_sound_symbol : Symbol → Bool
 is_sound_symbol symbol.Open = false
 is_sound_symbol symbol.Close = false
@@ -68,6 +69,7 @@ pub record Call : Type 0 where
   pub inner : List Token
   pub closed : Token
 
+-- helper: the tokens of a call
 abbrev pub call_tokens : Call → List Token
 call_tokens c = c.callee ∷ c.opened ∷ (c.inner ++ c.closed ∷ [])
 

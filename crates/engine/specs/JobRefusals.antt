@@ -21,7 +21,7 @@ use Rattle.engine.specs.declared.jobs.fault.Cause.TheVariants.{Syntax, SameName,
 use Rattle.engine.specs.declared.jobs.fault.JobFault.{JobFault}
 use Rattle.engine.specs.JobGrammar.{SourceShape, range, values, StageShape, map, filter, JobShape, IsJob}
 
--- what goes on after an answer, unless that was a refusal
+-- helper: goes on after an answer, unless that was a refusal
 abbrev pub then_with : {A B : Type 0} → (A → Result B Cause) → Result A Cause → Result B Cause
 then_with f (Ok a) = f a
 then_with f (Err c) = Err c
@@ -32,14 +32,16 @@ name_read earlier w =
     if nat_lt 64 (length w) then Err TooLong
     else (if list_any (pointwise nat_eq w) earlier then Err SameName else Ok w)
 
--- a whole number of 64 bits (JLS 17, 3.10.1)
+-- helper: an integer of 64 bits (JLS 17, 3.10.1)
 abbrev pub number_fits : Number → Bool
 number_fits (plain w) = nat_lt (numeral_value w) (2 ^ 63)
 number_fits (negative w) = nat_le (numeral_value w) (2 ^ 63)
 
+-- a number of 64 bits, or too large
 abbrev pub number_read : Number → Result ℤ Cause
 number_read n = if number_fits n then Ok (number_value n) else Err (Expr LiteralTooLarge)
 
+-- helper: the numbers in order, or the first refusal
 abbrev pub numbers_read : List Number → Result (List ℤ) Cause
 numbers_read [] = Ok []
 numbers_read (n ∷ ns) = then_with (λ z. then_with (λ zs. Ok (z ∷ zs)) (numbers_read ns)) (number_read n)
@@ -49,11 +51,12 @@ abbrev pub source_read : SourceShape → Result SourceTerm Cause
 source_read (range a b) = then_with (λ x. then_with (λ y. Ok (cover.range x y)) (number_read b)) (number_read a)
 source_read (values ns) = if nat_lt 1024 (length ns) then Err TooLong else then_with (λ zs. Ok (cover.values zs)) (numbers_read ns)
 
--- what the argument of a stage is wanted as
+-- helper: the text of the argument of a stage
 abbrev pub text_of : StageShape → List ℕ
 text_of (map a) = a
 text_of (filter a) = a
 
+-- helper: what that argument has to be
 abbrev pub want_of : StageShape → Want
 want_of (map a) = want.Long
 want_of (filter a) = want.Bool
@@ -69,10 +72,11 @@ abbrev pub IsNotRead : StageShape → Cause → Type 0
 IsNotRead g (Expr f) = lambda.IsRefused (text_of g) (want_of g) f × (f ≢ NoMemory)
 IsNotRead g c = ⊥
 
+-- helper: this stage, and then those
 abbrev pub read_before : StageTerm → Result (List StageTerm) Cause → Result (List StageTerm) Cause
 read_before s r = then_with (λ ss. Ok (s ∷ ss)) r
 
--- the stages in order, so many of them before these: the first that is refused, or all; the 33rd is one too many
+-- the stages in order, with n stages before these: the first that is refused, or all; the 33rd is one too many
 abbrev pub StagesRead : ℕ → List StageShape → Result (List StageTerm) Cause → Type 0
 StagesRead n [] r = r ≡ Ok []
 StagesRead n (g ∷ gs) r =
@@ -80,10 +84,11 @@ StagesRead n (g ∷ gs) r =
     ⊎ ((n < 32) × (((c : Cause) × IsNotRead g c × (r ≡ Err c))
     ⊎ ((s : StageTerm) × IsReadAs g s × (q : Result (List StageTerm) Cause) × StagesRead (n + 1) gs q × (r ≡ read_before s q))))
 
+-- helper: a job of these parts
 abbrev pub job_with : List ℕ → SourceTerm → TerminalTerm → List StageTerm → JobTerm
 job_with w s t gs = record { name = w; source = s; stages = gs; terminal = t }
 
--- what is told of the next part, unless this one is refused
+-- helper: what holds of the next part, unless this one is refused
 abbrev pub Then : {A B : Type 0} → Result A Cause → (A → Result B Cause → Type 0) → Result B Cause → Type 0
 Then (Ok a) K r = K a r
 Then (Err c) K r = r ≡ Err c
@@ -94,7 +99,7 @@ JobRead earlier job r =
     Then (name_read earlier job.name) (λ w. Then (source_read job.source) (λ s r.
     (q : Result (List StageTerm) Cause) × StagesRead 0 job.stages q × (r ≡ then_with (λ gs. Ok (job_with w s job.terminal gs)) q))) r
 
--- one job more than 256, or a text of more than 65,536 bytes
+-- helper: one job more than 256, or a text of more than 65,536 bytes
 abbrev pub is_too_long : List (List ℕ) → List ℕ → Bool
 is_too_long earlier text = nat_lt 255 (length earlier) || nat_lt 65536 (length text)
 
@@ -105,6 +110,7 @@ TextRead earlier text r =
     ⊎ ((is_too_long earlier text ≡ false) × ((((job : JobShape) → IsJob text job → ⊥) × (r ≡ Err Syntax))
     ⊎ ((job : JobShape) × IsJob text job × JobRead earlier job r)))
 
+-- helper: a cause at the line of its job
 abbrev pub fault_at : JobText → Cause → JobFault
 fault_at t c = record { line = t.line; cause = c }
 

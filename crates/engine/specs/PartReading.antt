@@ -58,7 +58,7 @@ pub record BeginsWithStep (text : List ℕ) (ts : List Token) (cut : Cut) (rest 
 abbrev pub IsNoStep : List Token → Type 0
 IsNoStep ts = (dot : Token) (call : Call) (rest : List Token) → dot.kind ≡ kind.Symbol symbol.Dot → IsWellCut call → ts ≡ dot ∷ (call_tokens call ++ rest) → ⊥
 
--- a refusal tells no more than Syntax, where this is so, or want of memory
+-- a refusal is Syntax, and then this holds, or out of memory
 abbrev pub IsSyntaxOf : Type 0 → Cause → Type 0
 IsSyntaxOf P Syntax = P
 IsSyntaxOf P NoMemory = Unit {0}

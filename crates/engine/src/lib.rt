@@ -1,9 +1,10 @@
 //! The run: from the bytes of a job file to the bytes of the report, with the theorem on the call.
 //!
-//! Stands on `stream_tokens`, `lambda_expr`, `trace`, `job_plan`, `report` and `columns`, by their
-//! public contracts alone. Used by the program `streamrun`, and by any other program that has a job
-//! file and a writer. What it promises to them is the contract of `run`: the writer gets exactly the
-//! report that `specs/Run.antt` defines, or the fault says why not and what was written.
+//! Stands on `stream_tokens`, `lambda_expr`, `trace`, `job_plan`, `report` and `columns`: on their
+//! contracts, and on lemmas about their definitions. Used by the program `streamrun`, and by any other
+//! program that has a job file and a writer. What it promises to them is the contract of `run`: the
+//! writer gets exactly the report that `specs/Run.antt` defines, or the fault says why not and what
+//! was written.
 //! Begin with `specs/Run.antt`, then `running.rt`; `walk.rt` takes the items of one job, `jobs/`
 //! reads job files, and `telling.rt` has the line and the status of each fault.
 //! Not promised: that a file can be read or written, or that memory is there.

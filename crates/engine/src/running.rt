@@ -21,30 +21,30 @@ use std::alloc::Global;
 use stream_tokens::{Bytes, NoMemory};
 use thiserror::Error;
 
-/// Why a run gives no report, or not a whole one. Except for `Write` nothing was written.
+/// Why a run gives no report, or only a part of it. Unless it is `Write`, nothing was written.
 ///
-/// Number 1 is kept for a refused column file. The text is the program's line on standard error,
-/// without the program's name.
+/// The numbers are stable; 1 is kept for a refused column file. The text is the program's line on
+/// standard error, without the program's name.
 #[derive(Clone, Copy, Debug, PartialEq, Eq, Error)]
 pub enum EngineFault {
-    /// 2: a job of the file is refused, or memory for its reading.
+    /// 2: a job of the file is refused, or memory ran out while the file was checked.
     #[error("{0}")]
     Jobs(JobFault),
-    /// 3: the job file could not be read.
+    /// 3: a read of the job file failed.
     #[error("jobs: read failed")]
     JobsRead,
-    /// 4: a growth was refused.
+    /// 4: an allocation failed.
     #[error("out of memory")]
     NoMemory,
-    /// 5: the first `written` bytes of the report went out, and no others.
+    /// 5: a write failed; the first `written` bytes of the report went out, and no others.
     #[error("write failed after {written} bytes")]
     Write { written: u64 },
 }
 
 /// Reads the job file whole, checks it, runs its jobs, builds the report whole and writes it.
 ///
-/// One thread; a walk over each source, at most one call of a stage for each of its items. The job
-/// file and the report are each held once.
+/// It uses one thread and walks each source once, with at most one call of each stage per item. The
+/// job file and the report are each held in memory once.
 pub fn run<J: CountedRead, W: CountedWrite>(
     alloc: Global,
     jobs: &mut J,

@@ -1,4 +1,4 @@
-// Where a walk ends: what a terminal keeps of the items that come to it.
+//! Where a walk ends: what a terminal keeps of the items that come to it.
 
 ghost use Rattle.job_plan.specs.Answers.{total, values_in};
 ghost use Rattle.lambda_expr.specs.Wrap.{wrap};
@@ -45,7 +45,7 @@ pub struct Collected {
 }
 
 impl Collected {
-    /// No values. It takes no memory.
+    /// No values; nothing is allocated.
     pub fn new(alloc: Global) -> Collected
         ensures { result.values.items ≡ [] }
     {

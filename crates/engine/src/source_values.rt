@@ -1,4 +1,4 @@
-// The values of a source, by their places.
+//! The values of a source, by place.
 
 ghost use Rattle.std.specs.Prelude.{◌≡◌, ◌<◌, ◌≤◌, ◌+◌, ◌^◌, ℕ, ℤ, pos, ◌+ℤ◌, List, length, slice_index_or, FitsSigned};
 ghost use Rattle.std.specs.Int.{w64};
@@ -6,7 +6,7 @@ ghost use Rattle.trace.specs.Cover.{counted};
 
 use trace::Item;
 
-/// Values that are there at once, each at its place.
+/// A source whose values can be looked up by place.
 pub trait SourceValues {
     ghost values: { Self → List ℤ };
 
@@ -18,7 +18,7 @@ pub trait SourceValues {
         ensures { result ≡ record { origin = place; value = slice_index_or (values self.now) place (pos 0) } };
 }
 
-/// So many whole numbers, counted up from the first.
+/// `count` consecutive integers, starting at `first`.
 #[derive(Drop)]
 pub struct RangeValues {
     pub first: i64,
@@ -42,7 +42,7 @@ impl SourceValues for RangeValues {
     }
 }
 
-/// Values that stand in a list.
+/// The values of a list.
 #[derive(Clone, Copy)]
 pub struct SliceValues<'a> {
     pub items: &'a [i64],

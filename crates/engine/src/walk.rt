@@ -19,10 +19,10 @@ use std::alloc::Global;
 use stream_tokens::NoMemory;
 use trace::{Fault, Fed, Flow, LongSink, Stage, feed};
 
-/// How many values a source has at most.
+/// The most values that a source may have.
 const LONGEST: u64 = 1 << 62;
 
-/// The fault of a longer one: of no stage and no item.
+/// The fault of a longer source. It belongs to no stage and no item.
 const TOO_LONG: Fault = Fault {
     kind: FaultKind::SourceTooLong,
     stage: 0,
@@ -60,7 +60,9 @@ pub fn answer_of(alloc: Global, job: &Job) -> Result<Answer, NoMemory>
     }
 }
 
-/// Takes the values of a source one after the other through all stages.
+/// Takes the values of a source one after the other through all stages and into the sink.
+///
+/// The walk ends at the first fault, and when the sink has enough.
 pub fn walk_values<V: SourceValues, S: LongSink>(
     values: &V,
     stages: &[Stage],
@@ -83,7 +85,7 @@ pub fn walk_values<V: SourceValues, S: LongSink>(
     Ok(Fed::More)
 }
 
-/// The values of `range(from, to)`, or none where there are more than 2^62.
+/// The values of `range(from, to)`, or none if there are more than 2^62.
 fn counted_between(from: i64, to: i64) -> Option<RangeValues>
     ensures some { IfSome result (λ c. (c.first ≡ from) × (c.count ≡ distance from to)) }
     ensures none { IfNone result (2 ^ 62 < distance from to) }
@@ -95,8 +97,8 @@ fn counted_between(from: i64, to: i64) -> Option<RangeValues>
     Some(RangeValues { first: from, count })
 }
 
-/// Takes a source through all stages: its values one after the other, or no item where it has more
-/// than 2^62 values.
+/// Takes a source through all stages: its values one after the other, or no item if it has more than
+/// 2^62 values.
 pub fn walk_source<S: LongSink>(
     source: &Source,
     stages: &[Stage],

@@ -5,7 +5,7 @@ use engine::{EngineFault, run, tell};
 use report::CountedOut;
 use std::alloc::Global;
 
-/// What a run over a job file of these bytes answers, and what it wrote.
+/// What a run answers, and what it wrote.
 #[derive(Drop)]
 pub struct Outcome {
     pub answer: Result<(), EngineFault>,
@@ -31,13 +31,13 @@ pub fn is_line(bytes: &[u8], text: &str) -> bool {
     }
 }
 
-/// Whether the run of this job file writes this report, whose last line feed is left out.
+/// Whether the run of this job file writes this report; its last line feed is left out here.
 pub fn reports(alloc: Global, jobs: &str, report: &str) -> bool {
     let outcome = run_over(alloc, jobs.as_bytes());
     outcome.answer.is_ok() && is_line(&outcome.written, report)
 }
 
-/// Whether the fault is told by this line, whose line feed is left out, and by this status.
+/// Whether `tell` writes this line for the fault, without its line feed, and answers this status.
 pub fn is_told(alloc: Global, fault: &EngineFault, line: &str, status: u8) -> bool {
     let mut told = Vec::new(alloc);
     tell(fault, &mut told) == status && is_line(&told, line)

@@ -3,6 +3,6 @@ use Rattle.std.specs.Prelude.{◌≡◌, ℕ, ◌<◌, List, length}
 use Rattle.job_plan.specs.declared.answer.Answer.{Answer}
 use Rattle.job_plan.specs.declared.answer.Answer.TheVariants.{Unusable}
 
--- the job that an answer tells of, if it does, is one of those that have these names
+-- if an answer names a job, that job is one of those that have these names
 abbrev pub IsNamed : List (List ℕ) → Answer → Type 0
 IsNamed names a = (i : ℕ) → a ≡ Unusable i → i < length names

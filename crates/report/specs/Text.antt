@@ -7,7 +7,7 @@ use Rattle.trace.specs.declared.item.Fault.{Fault}
 use Rattle.job_plan.specs.declared.answer.Answer.{Answer}
 use Rattle.job_plan.specs.declared.answer.Answer.TheVariants as answer
 
--- a truth value (`Boolean.toString`)
+-- a boolean (`Boolean.toString`)
 abbrev pub truth_text : Bool → List ℕ
 truth_text true = codes "true"
 truth_text false = codes "false"
@@ -17,7 +17,7 @@ abbrev pub optional_text : Option ℤ → List ℕ
 optional_text None = codes "OptionalLong.empty"
 optional_text (Some v) = codes "OptionalLong[" ++ signed_decimal v ++ codes "]"
 
--- numbers after another one, each behind a comma and a blank
+-- helper: numbers after another one, each after a comma and a blank
 abbrev pub further : List ℤ → List ℕ
 further [] = []
 further (v ∷ vs) = codes ", " ++ signed_decimal v ++ further vs
@@ -34,7 +34,7 @@ kind_text Overflow = codes "overflow"
 kind_text OutOfArray = codes "out-of-array"
 kind_text SourceTooLong = codes "source-too-long"
 
--- the place of the item at which a fault was met, or a dash where it is of no item
+-- the place of the item at which a fault was met, or a dash if it belongs to no item
 abbrev pub place_text : Option ℕ → List ℕ
 place_text None = codes "-"
 place_text (Some place) = decimal place
@@ -42,7 +42,7 @@ place_text (Some place) = decimal place
 abbrev pub fault_text : Fault → List ℕ
 fault_text f = codes "fault " ++ kind_text f.kind ++ codes " stage " ++ decimal f.stage ++ codes " item " ++ place_text f.origin
 
--- an answer, where the names are those of all jobs
+-- an answer, given the names of all jobs
 abbrev pub answer_text : List (List ℕ) → Answer → List ℕ
 answer_text names (answer.Number v) = signed_decimal v
 answer_text names (answer.Truth b) = truth_text b
@@ -51,7 +51,7 @@ answer_text names (answer.Array vs) = array_text vs
 answer_text names (answer.Fault f) = fault_text f
 answer_text names (answer.Unusable i) = codes "unusable " ++ slice_index_or names i []
 
--- a job's line: its name, its answer, a line feed
+-- the line of a job: its name, its answer, a line feed
 abbrev pub line_of : List (List ℕ) → List ℕ → Answer → List ℕ
 line_of names name a = name ++ codes " = " ++ answer_text names a ++ codes "\n"
 
@@ -61,6 +61,6 @@ lines_of names [] answers = []
 lines_of names (n ∷ ns) [] = []
 lines_of names (n ∷ ns) (a ∷ more) = line_of names n a ++ lines_of names ns more
 
--- the report of jobs: one line a job, in file order
+-- the report of jobs: one line per job, in file order
 abbrev pub report_text : List (List ℕ) → List Answer → List ℕ
 report_text names answers = lines_of names names answers

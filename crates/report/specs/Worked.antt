@@ -1,4 +1,4 @@
--- Meaning: small files of jobs, as they are thought of, whose reports are worked out.
+-- Meaning: small files of jobs, in the terms of the definitions, whose reports are worked out.
 use Rattle.std.specs.Prelude.{ℤ, pos, negsuc, List, [], ◌∷◌, codes}
 use Rattle.lambda_expr.specs.Term.{Long, number, parameter, binary}
 use Rattle.lambda_expr.specs.declared.operator.BinaryOperator.TheVariants.{Divide, Subtract}
@@ -7,7 +7,7 @@ use Rattle.trace.specs.Stages.{map}
 use Rattle.job_plan.specs.Answers.{sum, to_array}
 use Rattle.job_plan.specs.Meaning.{JobTerm}
 
--- a / (x - b)
+-- helper: a / (x - b)
 abbrev pub quotient : ℤ → ℤ → Long
 quotient a b = binary Divide (number a) (binary Subtract parameter (number b))
 
@@ -15,14 +15,14 @@ quotient a b = binary Divide (number a) (binary Subtract parameter (number b))
 abbrev pub meets_a_zero : List JobTerm
 meets_a_zero = record { name = codes "q"; source = range (pos 0) (pos 10); stages = map (quotient (pos 10) (pos 7)) ∷ []; terminal = to_array } ∷ []
 
--- q = of(-1, 0).map(x -> 10 / (x - 7)).toArray()
+-- helper: q = of(-1, 0).map(x -> 10 / (x - 7)).toArray()
 abbrev pub meets_no_zero : List JobTerm
 meets_no_zero = record { name = codes "q"; source = values (negsuc 0 ∷ pos 0 ∷ []); stages = map (quotient (pos 10) (pos 7)) ∷ []; terminal = to_array } ∷ []
 
--- w = of(9223372036854775807, 1).sum()
+-- helper: w = of(9223372036854775807, 1).sum()
 abbrev pub passes_the_greatest : List JobTerm
 passes_the_greatest = record { name = codes "w"; source = values (pos 9223372036854775807 ∷ pos 1 ∷ []); stages = []; terminal = sum } ∷ []
 
--- f = of(1, 0).map(x -> 1 / (x - 0)).map(x -> 1 / (x - 1)).toArray()
+-- helper: f = of(1, 0).map(x -> 1 / (x - 0)).map(x -> 1 / (x - 1)).toArray()
 abbrev pub meets_two_zeros : List JobTerm
 meets_two_zeros = record { name = codes "f"; source = values (pos 1 ∷ pos 0 ∷ []); stages = map (quotient (pos 1) (pos 0)) ∷ map (quotient (pos 1) (pos 1)) ∷ []; terminal = to_array } ∷ []

@@ -1,5 +1,5 @@
-// The report as text: one line a job.
-ghost use Rattle.std.specs.Prelude.{◌≡◌, ◌++◌, All, length, IfOk, OnOk};
+//! The report as text: one line per job.
+ghost use Rattle.std.specs.Prelude.{◌≡◌, ◌≢◌, ◌++◌, [], All, length, IfOk, OnErr, OnOk};
 ghost use Rattle.std.specs.Fmt.{decimal, signed_decimal};
 ghost use Rattle.report.specs.Named.{IsNamed};
 ghost use Rattle.report.specs.Text.{answer_text, array_text, fault_text, further, line_of, optional_text, report_text};
@@ -12,14 +12,15 @@ use std::alloc::Global;
 use stream_tokens::Bytes;
 use trace::Fault;
 
-/// The report of answers: one line a job, in the order given.
+/// The report of answers: one line per job, in the order given.
 ///
 /// The bytes are written once, into one buffer that grows by doubling; each number is printed on the
-/// stack. Where a growth is refused nothing is left of the report.
+/// stack. Without answers nothing is allocated. If an allocation fails, the report is dropped.
 pub fn text(alloc: Global, names: &[Bytes], answers: &[Answer]) -> Result<Vec<u8>, NoMemory>
     requires paired { length names.now ≡ length answers.now }
     requires named { All (IsNamed names.now) answers.now }
-    ensures { IfOk result (λ report. report.items ≡ report_text names.now answers.now) }
+    ensures ok { IfOk result (λ report. report.items ≡ report_text names.now answers.now) }
+    ensures memory { OnErr result (answers.now ≢ []) }
 {
     let mut report = Vec::new(alloc);
     for (name, answer) in names.iter().zip(answers) {

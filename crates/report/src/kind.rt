@@ -1,4 +1,4 @@
-// The names of faults in a report.
+//! The names of faults in a report.
 ghost use Rattle.std.specs.Prelude.{◌≡◌};
 ghost use Rattle.report.specs.Text.{kind_text};
 

@@ -1,7 +1,7 @@
 //! The report of the answers, and writing it out so that each byte written is known.
 //!
 //! Stands on `job_plan`, whose answers it prints, on `stream_tokens` for the bytes of a name, and on
-//! `itoa` for digits. Used by `streamrun`. What it promises to it: `text` gives exactly the bytes that
+//! `itoa` for digits. Used by `engine`. What it promises to it: `text` gives exactly the bytes that
 //! `specs/Text.antt` defines, and `write_all_of` says which of them went out, clauses `ok` and `err`.
 //! Begin with `specs/Text.antt`, then `as_text.rt`; for writing with `specs/CountedWrite.antt`, then
 //! `counted_write.rt`.

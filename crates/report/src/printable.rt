@@ -1,10 +1,10 @@
-// What `text` asks of answers holds of those of every file of jobs.
+//! The precondition of `text` holds for the answers of every job file.
 ghost use Rattle.std.specs.Prelude.{◌≡◌, List, All, length};
 ghost use Rattle.job_plan.specs.Meaning.{JobTerm, meaning_of, names_of};
 ghost use Rattle.report.specs.Named.{IsNamed};
 
-/// The answers of a file's jobs have a report: there are as many as names, and each job that one tells
-/// of has a name there. This is what `text` asks for.
+/// The answers of a file's jobs have a report: there are as many answers as names, and each job that an
+/// answer names has a name. This is the precondition of `text`.
 #[tactic(auto, using(crate::proofs::EachNamed::paired, crate::proofs::EachNamed::named))]
 pub fn a_meaning_has_a_report()
     ensures paired { (jobs : List JobTerm) → length (names_of jobs) ≡ length (meaning_of jobs) }

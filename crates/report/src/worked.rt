@@ -1,11 +1,11 @@
-// Reports of small files, as the definitions give them: from the source of a job to the bytes.
+//! Reports of small files by the definitions: from the source of a job to the bytes.
 ghost use Rattle.std.specs.Prelude.{◌≡◌, ◌++◌, codes};
 ghost use Rattle.job_plan.specs.Meaning.{meaning_of, names_of};
 ghost use Rattle.report.specs.Text.{report_text};
 ghost use Rattle.report.specs.Worked.{meets_a_zero, meets_no_zero, meets_two_zeros, passes_the_greatest};
 
 /// What the definitions give for small files: the first fault and the place of its item, an array, a
-/// sum that wraps, and of two faults the one that the first item meets, though in a later stage.
+/// sum that wraps, and of two faults the one of the first item, although it is in a later stage.
 pub fn worked_reports()
     ensures fault { report_text (names_of meets_a_zero) (meaning_of meets_a_zero)
         ≡ codes "q = fault divide-by-zero stage 1 item 7\n" }

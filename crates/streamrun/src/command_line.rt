@@ -10,15 +10,15 @@ pub struct Arguments<'a> {
     pub jobs: &'a str,
 }
 
-/// Reads the words of a command line, the program's name first. A request for help comes as an `Err`
-/// too; its `exit_code` tells it from a mistake.
+/// Reads the words of a command line, the program's name first. A request for help is an `Err` too,
+/// with an `exit_code` of 0.
 pub fn read_arguments<'a>(alloc: Global, words: &'a [&'a str]) -> Result<Arguments<'a>, Error> {
     let jobs = Arg::new(alloc, "JOBS")
         .help("The file of jobs to run")
         .required(true)
         .action(ArgAction::Set);
     let command = Command::new(alloc, "streamrun")
-        .about("Runs pipelines over whole numbers and writes a report, one answer a job")
+        .about("Runs pipelines over 64-bit integers and writes a report with one answer per job")
         .arg(jobs)?;
     let matches = command.try_get_matches_from(words)?;
     Ok(Arguments {

@@ -6,13 +6,13 @@ use crate::command_line::read_arguments;
 fn one_job_file_is_asked_for(rt: HostRuntime) {
     let words = ["streamrun", "report.jobs"];
     match read_arguments(rt.alloc(), &words) {
-        Ok(arguments) => assert_eq!(rt; arguments.jobs, "report.jobs"),
+        Ok(arguments) => assert!(rt; arguments.jobs == "report.jobs", "{}", arguments.jobs),
         Err(_) => assert!(rt; false, "refused"),
     }
 }
 
 #[test]
-fn a_mistake_is_told_from_a_request_for_help(rt: HostRuntime) {
+fn a_request_for_help_is_no_mistake(rt: HostRuntime) {
     for (words, status) in [
         (["streamrun"].as_slice(), 2),
         (["streamrun", "a.jobs", "b.jobs"].as_slice(), 2),
@@ -22,7 +22,7 @@ fn a_mistake_is_told_from_a_request_for_help(rt: HostRuntime) {
     ] {
         match read_arguments(rt.alloc(), words) {
             Ok(_) => assert!(rt; false, "{words:?}"),
-            Err(told) => assert_eq!(rt; told.exit_code(), status, "{words:?}"),
+            Err(error) => assert!(rt; error.exit_code() == status, "{words:?}"),
         }
     }
 }

@@ -62,7 +62,7 @@ fn piece_of(text: &[u8], token: Token) -> Piece
     }
 }
 
-/// How many parentheses are open after a token, where so many were before it; none where it can't
+/// How many parentheses are open after a token, given how many were open before it; none if it can't
 /// stand there.
 fn after_piece(depth: usize, piece: Piece) -> Option<usize>
     requires { depth < usize.MAX }

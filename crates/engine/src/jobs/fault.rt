@@ -9,7 +9,7 @@ use std::fmt;
 use std::fmt::{Display, Formatter, Write};
 use stream_tokens::TextFault;
 
-/// Why a job is refused. A program that keeps numbers has those given here.
+/// Why a job is refused. The numbers are stable codes.
 #[derive(Clone, Copy, Debug, PartialEq, Eq)]
 pub enum Cause {
     /// 1: the text is not in the grammar.
@@ -19,9 +19,9 @@ pub enum Cause {
     /// 12: more than 256 jobs, 65,536 bytes of a job, 64 bytes of a name, 1,024 values of `of`,
     /// or 32 stages.
     TooLong,
-    /// 13: a number or a lambda is refused, never for want of memory.
+    /// 13: a number or a lambda is refused; never `ReadFault::NoMemory`.
     Expr(ReadFault),
-    /// 14: a growth was refused.
+    /// 14: an allocation failed.
     NoMemory,
 }
 
@@ -59,7 +59,7 @@ impl<T: Drop> From<AllocFailed<T>> for Cause {
     }
 }
 
-/// Want of memory is a cause of its own, wherever it was met.
+/// Out of memory is a cause of its own, whatever was read.
 impl From<ReadFault> for Cause {
     ghost from_gives = { λ fault cause. cause ≡ cause_of fault };
 
