@@ -1,10 +1,8 @@
 -- What waits for the operand to its right: the innermost first.
 use Rattle.std.proofs.Common.{◌≡◌, ℕ, ◌≤◌, List, [], ◌∷◌, ◌++◌, sym, ◌∙◌, append_assoc, append-nil, arith}
 use Rattle.stream_tokens.specs.declared.symbol.Symbol.TheVariants as symbol
-use Rattle.lambda_expr.specs.declared.operator.BinaryOperator.TheVariants.{Add, Subtract, Multiply, Divide, Remainder}
-use Rattle.lambda_expr.specs.declared.operator.Comparison.TheVariants.{Equal, NotEqual, Less, AtMost, More, AtLeast}
 use Rattle.lambda_expr.specs.declared.operator.Infix.{Infix}
-use Rattle.lambda_expr.specs.declared.operator.Infix.TheVariants.{Compare, Compute}
+use Rattle.lambda_expr.specs.declared.operator.Infix.TheVariants as infix_operator
 use Rattle.lambda_expr.specs.Words.{Word, sign}
 use Rattle.lambda_expr.specs.Grammar.{Shape, name, number, group, negate, between, spells, level, Binds}
 use Rattle.lambda_expr.specs.Reading.{Frame, paren, minus, left, before, wanted_level, Ordered}
@@ -24,30 +22,30 @@ filled (minus ∷ fs) e = filled fs (negate e)
 filled (left a o ∷ fs) e = filled fs (between o a e)
 
 pub level_low : (o : Infix) → 1 ≤ level o
-level_low (Compare Equal) = omega arith
-level_low (Compare NotEqual) = omega arith
-level_low (Compare Less) = omega arith
-level_low (Compare AtMost) = omega arith
-level_low (Compare More) = omega arith
-level_low (Compare AtLeast) = omega arith
-level_low (Compute Add) = omega arith
-level_low (Compute Subtract) = omega arith
-level_low (Compute Multiply) = omega arith
-level_low (Compute Divide) = omega arith
-level_low (Compute Remainder) = omega arith
+level_low infix_operator.Equal = omega arith
+level_low infix_operator.NotEqual = omega arith
+level_low infix_operator.Less = omega arith
+level_low infix_operator.AtMost = omega arith
+level_low infix_operator.More = omega arith
+level_low infix_operator.AtLeast = omega arith
+level_low infix_operator.Add = omega arith
+level_low infix_operator.Subtract = omega arith
+level_low infix_operator.Multiply = omega arith
+level_low infix_operator.Divide = omega arith
+level_low infix_operator.Remainder = omega arith
 
 pub level_high : (o : Infix) → level o ≤ 11
-level_high (Compare Equal) = omega arith
-level_high (Compare NotEqual) = omega arith
-level_high (Compare Less) = omega arith
-level_high (Compare AtMost) = omega arith
-level_high (Compare More) = omega arith
-level_high (Compare AtLeast) = omega arith
-level_high (Compute Add) = omega arith
-level_high (Compute Subtract) = omega arith
-level_high (Compute Multiply) = omega arith
-level_high (Compute Divide) = omega arith
-level_high (Compute Remainder) = omega arith
+level_high infix_operator.Equal = omega arith
+level_high infix_operator.NotEqual = omega arith
+level_high infix_operator.Less = omega arith
+level_high infix_operator.AtMost = omega arith
+level_high infix_operator.More = omega arith
+level_high infix_operator.AtLeast = omega arith
+level_high infix_operator.Add = omega arith
+level_high infix_operator.Subtract = omega arith
+level_high infix_operator.Multiply = omega arith
+level_high infix_operator.Divide = omega arith
+level_high infix_operator.Remainder = omega arith
 
 pub wanted_high : (fs : List Frame) → wanted_level fs ≤ 12
 wanted_high [] = omega arith

@@ -1,5 +1,5 @@
-mod Quotient
 pub mod Depths
+pub mod Exact
 pub mod Frames
 pub mod Heads
 pub mod Literals
@@ -9,6 +9,8 @@ pub mod NumberLaws
 pub mod NumberStops
 pub mod OneAnswer
 pub mod Only
+pub mod Quotients
+pub mod Shifts
 pub mod Turning
 pub mod Unique
 pub mod Values

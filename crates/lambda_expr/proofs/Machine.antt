@@ -2,10 +2,8 @@
 use Rattle.std.proofs.Common.{◌≡◌, ℕ, suc, List, [], ◌∷◌, ◌++◌, Option, Some, None, refl, ap, ◌∙◌}
 use Rattle.std.specs.Prelude.{not}
 use Rattle.stream_tokens.specs.declared.symbol.Symbol.TheVariants as symbol
-use Rattle.lambda_expr.specs.declared.operator.BinaryOperator.TheVariants.{Add, Subtract, Multiply, Divide, Remainder}
-use Rattle.lambda_expr.specs.declared.operator.Comparison.TheVariants.{Equal, NotEqual, Less, AtMost, More, AtLeast}
 use Rattle.lambda_expr.specs.declared.operator.Infix.{Infix}
-use Rattle.lambda_expr.specs.declared.operator.Infix.TheVariants.{Compare, Compute}
+use Rattle.lambda_expr.specs.declared.operator.Infix.TheVariants as infix_operator
 use Rattle.lambda_expr.specs.Words.{Word, sign}
 use Rattle.lambda_expr.specs.Grammar.{Shape, name, number, group, negate, between, spells, symbol_of, Binds}
 use Rattle.lambda_expr.specs.Reading.{Place, operand, operator, when, followed, shift, shifts}
@@ -20,17 +18,17 @@ shifts_none (w ∷ a) = shifts_none a
 
 -- each operator may follow an operand
 pub followed_by : (o : Infix) (d : ℕ) → followed d (symbol_of o) ≡ Some (operand d)
-followed_by (Compare Equal) d = refl
-followed_by (Compare NotEqual) d = refl
-followed_by (Compare Less) d = refl
-followed_by (Compare AtMost) d = refl
-followed_by (Compare More) d = refl
-followed_by (Compare AtLeast) d = refl
-followed_by (Compute Add) d = refl
-followed_by (Compute Subtract) d = refl
-followed_by (Compute Multiply) d = refl
-followed_by (Compute Divide) d = refl
-followed_by (Compute Remainder) d = refl
+followed_by infix_operator.Equal d = refl
+followed_by infix_operator.NotEqual d = refl
+followed_by infix_operator.Less d = refl
+followed_by infix_operator.AtMost d = refl
+followed_by infix_operator.More d = refl
+followed_by infix_operator.AtLeast d = refl
+followed_by infix_operator.Add d = refl
+followed_by infix_operator.Subtract d = refl
+followed_by infix_operator.Multiply d = refl
+followed_by infix_operator.Divide d = refl
+followed_by infix_operator.Remainder d = refl
 
 -- an expression is taken where an operand is wanted, and an operator is wanted after it
 pub shifts_expr : (e : Shape) (n d : ℕ) → Binds n e → shifts (Some (operand d)) (spells e) ≡ Some (operator d)

@@ -4,10 +4,8 @@ use Rattle.std.specs.Prelude.{if◌then◌else◌}
 use Rattle.std.proofs.lemmas.Grind.{common_steps}
 use Rattle.stream_tokens.specs.declared.symbol.Symbol.{Symbol}
 use Rattle.stream_tokens.specs.declared.symbol.Symbol.TheVariants as symbol
-use Rattle.lambda_expr.specs.declared.operator.BinaryOperator.TheVariants.{Add, Subtract, Multiply, Divide, Remainder}
-use Rattle.lambda_expr.specs.declared.operator.Comparison.TheVariants.{Equal, NotEqual, Less, AtMost, More, AtLeast}
 use Rattle.lambda_expr.specs.declared.operator.Infix.{Infix}
-use Rattle.lambda_expr.specs.declared.operator.Infix.TheVariants.{Compare, Compute}
+use Rattle.lambda_expr.specs.declared.operator.Infix.TheVariants as infix_operator
 use Rattle.lambda_expr.specs.Words.{Word, named, numeral, sign}
 use Rattle.lambda_expr.specs.Grammar.{Shape, name, number, group, negate, between, spells, symbol_of, level, Binds, IsLambda}
 use Rattle.lambda_expr.specs.Reading.{Frame, paren, minus, left, wanted_level, infix_of}
@@ -76,17 +74,17 @@ reads_append s (w ∷ a) b = reads_append (read s w) a b
 
 -- an operator pushes what it joins
 pushes : (o : Infix) (fs : List Frame) (e : Shape) → read (has fs e) (sign (symbol_of o)) ≡ push o (joined (level o) fs e)
-pushes (Compare Equal) fs e = refl
-pushes (Compare NotEqual) fs e = refl
-pushes (Compare Less) fs e = refl
-pushes (Compare AtMost) fs e = refl
-pushes (Compare More) fs e = refl
-pushes (Compare AtLeast) fs e = refl
-pushes (Compute Add) fs e = refl
-pushes (Compute Subtract) fs e = refl
-pushes (Compute Multiply) fs e = refl
-pushes (Compute Divide) fs e = refl
-pushes (Compute Remainder) fs e = refl
+pushes infix_operator.Equal fs e = refl
+pushes infix_operator.NotEqual fs e = refl
+pushes infix_operator.Less fs e = refl
+pushes infix_operator.AtMost fs e = refl
+pushes infix_operator.More fs e = refl
+pushes infix_operator.AtLeast fs e = refl
+pushes infix_operator.Add fs e = refl
+pushes infix_operator.Subtract fs e = refl
+pushes infix_operator.Multiply fs e = refl
+pushes infix_operator.Divide fs e = refl
+pushes infix_operator.Remainder fs e = refl
 
 below_test : (a b : ℕ) → a < b → nat_lt a b ≡ true
 below_test a b h = grind (arith, common_steps)

@@ -3,10 +3,8 @@ use Rattle.std.specs.Prelude.{◌≡◌, ℕ, suc, ◌+◌, ◌<◌, ◌≤◌, 
 use Rattle.std.specs.Cmp.Lexicographic.{pointwise}
 use Rattle.stream_tokens.specs.declared.symbol.Symbol.{Symbol}
 use Rattle.stream_tokens.specs.declared.symbol.Symbol.TheVariants as symbol
-use Rattle.lambda_expr.specs.declared.operator.BinaryOperator.TheVariants as binary_operator
-use Rattle.lambda_expr.specs.declared.operator.Comparison.TheVariants as comparison
 use Rattle.lambda_expr.specs.declared.operator.Infix.{Infix}
-use Rattle.lambda_expr.specs.declared.operator.Infix.TheVariants.{Compare, Compute}
+use Rattle.lambda_expr.specs.declared.operator.Infix.TheVariants as infix_operator
 use Rattle.lambda_expr.specs.Words.{Word, named, numeral, sign}
 use Rattle.lambda_expr.specs.Numerals.{is_numeral}
 
@@ -20,31 +18,31 @@ pub data Shape : Type 0 where
 
 -- how tightly an operator binds, as in JLS 17, 15.17 to 15.21
 abbrev pub level : Infix → ℕ
-level (Compare comparison.Equal) = 7
-level (Compare comparison.NotEqual) = 7
-level (Compare comparison.Less) = 8
-level (Compare comparison.AtMost) = 8
-level (Compare comparison.More) = 8
-level (Compare comparison.AtLeast) = 8
-level (Compute binary_operator.Add) = 10
-level (Compute binary_operator.Subtract) = 10
-level (Compute binary_operator.Multiply) = 11
-level (Compute binary_operator.Divide) = 11
-level (Compute binary_operator.Remainder) = 11
+level infix_operator.Equal = 7
+level infix_operator.NotEqual = 7
+level infix_operator.Less = 8
+level infix_operator.AtMost = 8
+level infix_operator.More = 8
+level infix_operator.AtLeast = 8
+level infix_operator.Add = 10
+level infix_operator.Subtract = 10
+level infix_operator.Multiply = 11
+level infix_operator.Divide = 11
+level infix_operator.Remainder = 11
 
 -- how an operator is written (JLS 17, 3.12)
 abbrev pub symbol_of : Infix → Symbol
-symbol_of (Compare comparison.Equal) = symbol.Equal
-symbol_of (Compare comparison.NotEqual) = symbol.NotEqual
-symbol_of (Compare comparison.Less) = symbol.Less
-symbol_of (Compare comparison.AtMost) = symbol.AtMost
-symbol_of (Compare comparison.More) = symbol.More
-symbol_of (Compare comparison.AtLeast) = symbol.AtLeast
-symbol_of (Compute binary_operator.Add) = symbol.Plus
-symbol_of (Compute binary_operator.Subtract) = symbol.Minus
-symbol_of (Compute binary_operator.Multiply) = symbol.Star
-symbol_of (Compute binary_operator.Divide) = symbol.Slash
-symbol_of (Compute binary_operator.Remainder) = symbol.Percent
+symbol_of infix_operator.Equal = symbol.Equal
+symbol_of infix_operator.NotEqual = symbol.NotEqual
+symbol_of infix_operator.Less = symbol.Less
+symbol_of infix_operator.AtMost = symbol.AtMost
+symbol_of infix_operator.More = symbol.More
+symbol_of infix_operator.AtLeast = symbol.AtLeast
+symbol_of infix_operator.Add = symbol.Plus
+symbol_of infix_operator.Subtract = symbol.Minus
+symbol_of infix_operator.Multiply = symbol.Star
+symbol_of infix_operator.Divide = symbol.Slash
+symbol_of infix_operator.Remainder = symbol.Percent
 
 -- a word that no parameter is named by
 abbrev pub is_reserved : List ℕ → Bool

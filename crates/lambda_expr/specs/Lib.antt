@@ -3,8 +3,11 @@ pub mod Judging
 pub mod NumberReading
 pub mod Numbers
 pub mod Numerals
+pub mod Operation
+pub mod Operators
 pub mod Reading
 pub mod Refusals
+pub mod Streams
 pub mod Term
 pub mod Value
 pub mod Words

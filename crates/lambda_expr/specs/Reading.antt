@@ -3,10 +3,8 @@ use Rattle.std.specs.Prelude.{◌≡◌, ℕ, zero, suc, ◌+◌, ◌<◌, ◌�
 use Rattle.stream_tokens.specs.declared.symbol.Symbol.{Symbol}
 use Rattle.stream_tokens.specs.declared.symbol.Symbol.TheVariants as symbol
 use Rattle.stream_tokens.specs.declared.token.Token.{Token}
-use Rattle.lambda_expr.specs.declared.operator.BinaryOperator.TheVariants as binary_operator
-use Rattle.lambda_expr.specs.declared.operator.Comparison.TheVariants as comparison
 use Rattle.lambda_expr.specs.declared.operator.Infix.{Infix}
-use Rattle.lambda_expr.specs.declared.operator.Infix.TheVariants.{Compare, Compute}
+use Rattle.lambda_expr.specs.declared.operator.Infix.TheVariants as infix_operator
 use Rattle.lambda_expr.specs.declared.tree.Tree.{Tree}
 use Rattle.lambda_expr.specs.declared.tree.Tree.TheVariants as tree
 use Rattle.lambda_expr.specs.declared.tree.Pending.{Pending}
@@ -20,17 +18,17 @@ use Rattle.lambda_expr.specs.Grammar.{Shape, name, number, group, negate, betwee
 
 -- the operator that a symbol writes
 abbrev pub infix_of : Symbol → Option Infix
-infix_of symbol.Equal = Some (Compare comparison.Equal)
-infix_of symbol.NotEqual = Some (Compare comparison.NotEqual)
-infix_of symbol.Less = Some (Compare comparison.Less)
-infix_of symbol.AtMost = Some (Compare comparison.AtMost)
-infix_of symbol.More = Some (Compare comparison.More)
-infix_of symbol.AtLeast = Some (Compare comparison.AtLeast)
-infix_of symbol.Plus = Some (Compute binary_operator.Add)
-infix_of symbol.Minus = Some (Compute binary_operator.Subtract)
-infix_of symbol.Star = Some (Compute binary_operator.Multiply)
-infix_of symbol.Slash = Some (Compute binary_operator.Divide)
-infix_of symbol.Percent = Some (Compute binary_operator.Remainder)
+infix_of symbol.Equal = Some infix_operator.Equal
+infix_of symbol.NotEqual = Some infix_operator.NotEqual
+infix_of symbol.Less = Some infix_operator.Less
+infix_of symbol.AtMost = Some infix_operator.AtMost
+infix_of symbol.More = Some infix_operator.More
+infix_of symbol.AtLeast = Some infix_operator.AtLeast
+infix_of symbol.Plus = Some infix_operator.Add
+infix_of symbol.Minus = Some infix_operator.Subtract
+infix_of symbol.Star = Some infix_operator.Multiply
+infix_of symbol.Slash = Some infix_operator.Divide
+infix_of symbol.Percent = Some infix_operator.Remainder
 infix_of _ = None
 
 -- an expression of the reader, without its place in memory

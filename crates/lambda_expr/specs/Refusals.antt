@@ -4,8 +4,9 @@ use Rattle.std.specs.Cmp.Lexicographic.{pointwise}
 use Rattle.stream_tokens.specs.declared.token.Token.{Token}
 use Rattle.stream_tokens.specs.Tokens.{AreTokensOf}
 use Rattle.lambda_expr.specs.declared.operator.UnaryOperator.TheVariants.{Negate}
-use Rattle.lambda_expr.specs.declared.operator.Infix.{Infix}
-use Rattle.lambda_expr.specs.declared.operator.Infix.TheVariants.{Compare, Compute}
+use Rattle.lambda_expr.specs.declared.operator.Operation.{Operation}
+use Rattle.lambda_expr.specs.declared.operator.Operation.TheVariants.{Compare, Compute}
+use Rattle.lambda_expr.specs.Operation.{operation_of}
 use Rattle.lambda_expr.specs.declared.fault.ReadFault.{ReadFault}
 use Rattle.lambda_expr.specs.declared.fault.ReadFault.TheVariants as fault
 use Rattle.lambda_expr.specs.declared.lambda.Want.{Want}
@@ -57,18 +58,18 @@ negated (long a) = long (term.unary Negate a)
 negated _ = untyped
 
 -- both operands are numbers (JLS 17, 15.17 to 15.21)
-abbrev pub joined : Infix → Typed → Typed → Typed
+abbrev pub joined : Operation → Typed → Typed → Typed
 joined (Compute o) (long a) (long b) = long (term.binary o a b)
 joined (Compare o) (long a) (long b) = truth (term.compare o a b)
 joined o _ _ = untyped
 
 -- the parameter is a number, and 2^63 is kept as the number of 64 bits that is its own negative
 abbrev pub typed : Shape → Typed
-typed (name w) = long term.parameter
+typed (name w) = long (term.parameter 0)
 typed (number w) = long (term.number (wrap (pos (numeral_value w))))
 typed (group a) = typed a
 typed (negate a) = negated (typed a)
-typed (between o a b) = joined o (typed a) (typed b)
+typed (between o a b) = joined (operation_of o) (typed a) (typed b)
 
 -- the type that a lambda's place wants
 abbrev pub wanted : Want → Typed → Result Typed ReadFault

@@ -1,6 +1,6 @@
 // The numbers of earlier jobs, by which a reference in a lambda is read.
 
-ghost use Rattle.std.specs.Prelude.{◌≡◌, List, ℤ, []};
+ghost use Rattle.std.specs.Prelude.{◌≡◌, List, ℤ, pos, [], slice_index_or};
 
 use std::alloc::Global;
 use std::marker::Model;
@@ -26,6 +26,16 @@ impl Env {
     {
         Env {
             numbers: Vec::new(alloc),
+        }
+    }
+
+    /// The number at a place, or 0 past the end.
+    pub(crate) fn number(&self, place: usize) -> i64
+        ensures { result ≡ slice_index_or self.now place (pos 0) }
+    {
+        match self.numbers.get(place) {
+            Some(number) => *number,
+            None => 0,
         }
     }
 }

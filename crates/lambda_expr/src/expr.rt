@@ -1,4 +1,4 @@
-// Expressions over the item of a lambda, as they are evaluated for each item.
+//! Expressions of a lambda, as they are evaluated for each item.
 
 ghost use Rattle.lambda_expr.specs.Term.{long_of, truth_of};
 ghost use Rattle.lambda_expr.specs.Value.{long_value, truth_value};
@@ -6,56 +6,103 @@ ghost use Rattle.std.specs.Prelude.{◌≡◌};
 
 use super::env::Env;
 use super::fault::FaultKind;
-use super::operator::{BinaryOperator, Comparison, UnaryOperator};
+use super::operator::{BinaryOperator, Comparison, Connective, UnaryOperator};
 
 /// An expression whose value is a number of 64 bits.
+#[cycle(ast)]
 #[derive(Drop)]
 pub enum LongExpr {
     Number(i64),
-    Parameter,
+    /// A parameter by its number: 0, or 1 for the second one of a pair.
+    Parameter(usize),
+    /// A `$` name by its place among the names of the lambda.
+    Reference(usize),
     Unary(UnaryOperator, Box<LongExpr>),
     Binary(BinaryOperator, Box<LongExpr>, Box<LongExpr>),
+    /// `c ? p : q` (JLS 17, 15.25).
+    Choose(Box<BoolExpr>, Box<LongExpr>, Box<LongExpr>),
 }
 
-/// An expression whose value is true or false.
+/// An expression whose value is a boolean.
+#[cycle(ast)]
 #[derive(Drop)]
 pub enum BoolExpr {
+    Literal(bool),
     Compare(Comparison, Box<LongExpr>, Box<LongExpr>),
+    /// `!p` (JLS 17, 15.15.6).
+    Not(Box<BoolExpr>),
+    Connect(Connective, Box<BoolExpr>, Box<BoolExpr>),
+    /// `c ? p : q` (JLS 17, 15.25).
+    Choose(Box<BoolExpr>, Box<BoolExpr>, Box<BoolExpr>),
 }
 
 impl LongExpr {
-    /// The value at the item `x`, or the first fault that is met from left to right
-    /// (JLS 17, 15.7.1). One call for each node; it takes no memory.
+    /// The value at the item `x`, or the first fault from left to right (JLS 17, 15.7). `env` holds
+    /// the numbers of the lambda's `$` names, in the order of `Lambda::names`. One call for each node
+    /// that is evaluated; it takes no memory.
+    #[cycle(eval)]
     pub fn eval(&self, x: i64, env: &Env) -> Result<i64, FaultKind>
         ensures { result ≡ long_value (long_of self.now) x env.now }
     {
         match self {
             LongExpr::Number(number) => Ok(*number),
-            LongExpr::Parameter => Ok(x),
+            LongExpr::Parameter(_) => Ok(x),
+            LongExpr::Reference(place) => Ok(env.number(*place)),
             LongExpr::Unary(operator, operand) => {
                 let value = operand.eval(x, env)?;
-                Ok(operator.apply(value))
+                operator.apply(value)
             }
             LongExpr::Binary(operator, left, right) => {
                 let left = left.eval(x, env)?;
                 let right = right.eval(x, env)?;
                 operator.apply(left, right)
             }
+            LongExpr::Choose(condition, chosen, other) => {
+                if condition.eval(x, env)? {
+                    chosen.eval(x, env)
+                } else {
+                    other.eval(x, env)
+                }
+            }
         }
     }
 }
 
 impl BoolExpr {
-    /// The truth value at the item `x`, or the first fault that is met from left to right
-    /// (JLS 17, 15.7.1). It takes no memory.
+    /// The boolean at the item `x`, or the first fault from left to right (JLS 17, 15.7). `&&`, `||`
+    /// and `? :` evaluate only what they need. It takes no memory.
+    #[cycle(eval)]
     pub fn eval(&self, x: i64, env: &Env) -> Result<bool, FaultKind>
         ensures { result ≡ truth_value (truth_of self.now) x env.now }
     {
         match self {
+            BoolExpr::Literal(value) => Ok(*value),
             BoolExpr::Compare(comparison, left, right) => {
                 let left = left.eval(x, env)?;
                 let right = right.eval(x, env)?;
                 Ok(comparison.apply(left, right))
+            }
+            BoolExpr::Not(operand) => Ok(!operand.eval(x, env)?),
+            BoolExpr::Connect(Connective::And, left, right) => {
+                if left.eval(x, env)? {
+                    right.eval(x, env)
+                } else {
+                    Ok(false)
+                }
+            }
+            BoolExpr::Connect(Connective::Or, left, right) => {
+                if left.eval(x, env)? {
+                    Ok(true)
+                } else {
+                    right.eval(x, env)
+                }
+            }
+            BoolExpr::Choose(condition, chosen, other) => {
+                if condition.eval(x, env)? {
+                    chosen.eval(x, env)
+                } else {
+                    other.eval(x, env)
+                }
             }
         }
     }

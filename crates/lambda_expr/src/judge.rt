@@ -10,7 +10,7 @@ use super::expr::{BoolExpr, LongExpr};
 use super::fault::ReadFault;
 use super::lambda::{Body, Lambda, Want};
 use super::number::value_of;
-use super::operator::{Infix, UnaryOperator};
+use super::operator::{Operation, UnaryOperator};
 use super::tree::{Tree, Written};
 use std::alloc::Global;
 
@@ -86,7 +86,7 @@ fn type_of(alloc: Global, tree: &Tree<'_>) -> Result<Body, ReadFault>
     ensures refused { IfErr result (λ fault. IsTypeFault (typed (shape_of tree.now)) fault) }
 {
     match tree {
-        Tree::Name(_) => Ok(Body::Long(LongExpr::Parameter)),
+        Tree::Name(_) => Ok(Body::Long(LongExpr::Parameter(0))),
         Tree::Number(number) => {
             let value = value_of(number).cast_signed();
             Ok(Body::Long(LongExpr::Number(value)))
@@ -102,9 +102,11 @@ fn type_of(alloc: Global, tree: &Tree<'_>) -> Result<Body, ReadFault>
             let right = type_of(alloc, right)?.into_long()?;
             let left = Box::new(alloc, left)?;
             let right = Box::new(alloc, right)?;
-            Ok(match infix {
-                Infix::Compare(operator) => Body::Bool(BoolExpr::Compare(*operator, left, right)),
-                Infix::Compute(operator) => Body::Long(LongExpr::Binary(*operator, left, right)),
+            Ok(match infix.operation() {
+                Operation::Compare(operator) => Body::Bool(BoolExpr::Compare(
+                    operator, left, right,
+                )),
+                Operation::Compute(operator) => Body::Long(LongExpr::Binary(operator, left, right)),
             })
         }
     }

@@ -1,21 +1,32 @@
-// The operators of expressions, grouped by how many operands they take and what they give.
+//! The operators of expressions, grouped by their operands and by the type of their result.
 
-ghost use Rattle.lambda_expr.specs.Value.{unary_value, binary_value, comparison_value};
-ghost use Rattle.std.specs.Prelude.{◌≡◌};
+ghost use Rattle.lambda_expr.specs.Operation.{operation_of};
+ghost use Rattle.lambda_expr.specs.Operators.{binary_value, comparison_value, exact, floor_quotient, quotient, remainder, unary_value};
+ghost use Rattle.lambda_expr.specs.Operators.{floor_remainder, is_opposite, low_six_bits, rounded_down, shifted_left, shifted_right, shifted_right_unsigned};
+ghost use Rattle.lambda_expr.specs.Wrap.{wrap};
+ghost use Rattle.std.specs.Int.{IsNonZero, w64};
+ghost use Rattle.std.specs.Option.{SomeIff};
+ghost use Rattle.std.specs.Prelude.{◌≡◌, ◌<◌, ℤ, FitsSigned};
 
 use super::fault::FaultKind;
 
-/// An operator before one operand.
-#[derive(Clone, Copy, Debug, PartialEq, Eq)]
+/// An operation on one number.
+#[derive(Clone, Copy, PartialEq, Eq)]
 pub enum UnaryOperator {
     /// `-x`, wrapping to 64 bits (JLS 17, 15.15.4).
     Negate,
+    /// `~x`, each bit flipped (JLS 17, 15.15.5).
+    Complement,
+    /// `Math.abs(x)`: `Long.MIN_VALUE` stays what it is.
+    Absolute,
+    /// `Math.negateExact(x)`: `Overflow` for `Long.MIN_VALUE`.
+    NegateExact,
 }
 
-/// An operator between two numbers that gives a number.
-#[derive(Clone, Copy, Debug, PartialEq, Eq)]
+/// An operation on two numbers.
+#[derive(Clone, Copy, PartialEq, Eq)]
 pub enum BinaryOperator {
-    /// `x + y`, wrapping to 64 bits (JLS 17, 15.18.2).
+    /// `x + y` and `Long.sum(x, y)`, wrapping to 64 bits (JLS 17, 15.18.2).
     Add,
     /// `x - y`, wrapping to 64 bits (JLS 17, 15.18.2).
     Subtract,
@@ -25,10 +36,36 @@ pub enum BinaryOperator {
     Divide,
     /// `x % y`, with the sign of `x` (JLS 17, 15.17.3).
     Remainder,
+    /// `x << y`, by the low six bits of `y` (JLS 17, 15.19).
+    ShiftLeft,
+    /// `x >> y`, which keeps the sign, by the low six bits of `y` (JLS 17, 15.19).
+    ShiftRight,
+    /// `x >>> y`, which fills with zeros, by the low six bits of `y` (JLS 17, 15.19).
+    ShiftRightUnsigned,
+    /// `x & y`, bit by bit (JLS 17, 15.22.1).
+    And,
+    /// `x ^ y`, bit by bit (JLS 17, 15.22.1).
+    Xor,
+    /// `x | y`, bit by bit (JLS 17, 15.22.1).
+    Or,
+    /// `Math.min(x, y)` and `Long.min(x, y)`.
+    Min,
+    /// `Math.max(x, y)` and `Long.max(x, y)`.
+    Max,
+    /// `Math.floorDiv(x, y)`: the quotient rounded down.
+    FloorDivide,
+    /// `Math.floorMod(x, y)`: the remainder with the sign of `y`.
+    FloorRemainder,
+    /// `Math.addExact(x, y)`: `Overflow` outside 64 bits.
+    AddExact,
+    /// `Math.subtractExact(x, y)`: `Overflow` outside 64 bits.
+    SubtractExact,
+    /// `Math.multiplyExact(x, y)`: `Overflow` outside 64 bits.
+    MultiplyExact,
 }
 
-/// An operator between two numbers that gives a truth value (JLS 17, 15.20.1 and 15.21.1).
-#[derive(Clone, Copy, Debug, PartialEq, Eq)]
+/// A comparison of two numbers (JLS 17, 15.20.1 and 15.21.1).
+#[derive(Clone, Copy, PartialEq, Eq)]
 pub enum Comparison {
     Equal,
     NotEqual,
@@ -38,19 +75,120 @@ pub enum Comparison {
     AtLeast,
 }
 
+/// An operation on two booleans that evaluates the right one only if it has to.
+#[derive(Clone, Copy, PartialEq, Eq)]
+pub enum Connective {
+    /// `p && q` (JLS 17, 15.23).
+    And,
+    /// `p || q` (JLS 17, 15.24).
+    Or,
+}
+
+// The value that an exact operation gives, or `Overflow`.
+fn or_overflow(value: Option<i64>) -> Result<i64, FaultKind>
+    ensures { (z : ℤ) → SomeIff value (FitsSigned w64 z) z → result ≡ exact z }
+{
+    value.ok_or(FaultKind::Overflow)
+}
+
+// How far a shift goes (JLS 17, 15.19).
+fn shift_distance(count: i64) -> u32
+    ensures value { result ≡ low_six_bits count }
+    ensures bound { result < 64 }
+{
+    (count.cast_unsigned() % 64) as u32
+}
+
+fn shift_left(x: i64, count: i64) -> i64
+    ensures { result ≡ shifted_left x count }
+{
+    x << shift_distance(count)
+}
+
+fn shift_right(x: i64, count: i64) -> i64
+    ensures { result ≡ shifted_right x count }
+{
+    x >> shift_distance(count)
+}
+
+fn shift_right_unsigned(x: i64, count: i64) -> i64
+    ensures { result ≡ shifted_right_unsigned x count }
+{
+    (x.cast_unsigned() >> shift_distance(count)).cast_signed()
+}
+
+fn divide(x: i64, y: i64) -> Result<i64, FaultKind>
+    ensures { result ≡ quotient x y }
+{
+    if y == 0 {
+        return Err(FaultKind::DivideByZero);
+    }
+    Ok(x.wrapping_div(y))
+}
+
+fn take_remainder(x: i64, y: i64) -> Result<i64, FaultKind>
+    ensures { result ≡ remainder x y }
+{
+    if y == 0 {
+        return Err(FaultKind::DivideByZero);
+    }
+    Ok(x.wrapping_rem(y))
+}
+
+// Whether a remainder other than 0 has not the sign of the divisor.
+fn is_opposite(rest: i64, divisor: i64) -> bool
+    ensures { result ≡ is_opposite rest divisor }
+{
+    rest != 0 && (rest < 0) != (divisor < 0)
+}
+
+// A quotient rounded toward zero is one too large if the remainder and the divisor differ in sign.
+fn round_down(x: i64, y: i64) -> i64
+    requires { IsNonZero w64 y }
+    ensures { result ≡ wrap (rounded_down x y) }
+{
+    let toward_zero = x.wrapping_div(y);
+    if is_opposite(x.wrapping_rem(y), y) {
+        toward_zero.wrapping_sub(1)
+    } else {
+        toward_zero
+    }
+}
+
+fn floor_divide(x: i64, y: i64) -> Result<i64, FaultKind>
+    ensures { result ≡ floor_quotient x y }
+{
+    if y == 0 {
+        return Err(FaultKind::DivideByZero);
+    }
+    Ok(round_down(x, y))
+}
+
+fn take_floor_remainder(x: i64, y: i64) -> Result<i64, FaultKind>
+    ensures { result ≡ floor_remainder x y }
+{
+    if y == 0 {
+        return Err(FaultKind::DivideByZero);
+    }
+    Ok(x.wrapping_sub(round_down(x, y).wrapping_mul(y)))
+}
+
 impl UnaryOperator {
-    /// The value for this operand.
-    pub fn apply(self, x: i64) -> i64
+    /// The value for this operand, or `Overflow`.
+    pub fn apply(self, x: i64) -> Result<i64, FaultKind>
         ensures { result ≡ unary_value self x }
     {
         match self {
-            UnaryOperator::Negate => x.wrapping_neg(),
+            UnaryOperator::Negate => Ok(x.wrapping_neg()),
+            UnaryOperator::Complement => Ok(!x),
+            UnaryOperator::Absolute => Ok(x.wrapping_abs()),
+            UnaryOperator::NegateExact => or_overflow(x.checked_neg()),
         }
     }
 }
 
 impl BinaryOperator {
-    /// The value for these operands, or `DivideByZero`.
+    /// The value for these operands, or `DivideByZero`, or `Overflow`.
     pub fn apply(self, x: i64, y: i64) -> Result<i64, FaultKind>
         ensures { result ≡ binary_value self x y }
     {
@@ -58,16 +196,27 @@ impl BinaryOperator {
             BinaryOperator::Add => Ok(x.wrapping_add(y)),
             BinaryOperator::Subtract => Ok(x.wrapping_sub(y)),
             BinaryOperator::Multiply => Ok(x.wrapping_mul(y)),
-            BinaryOperator::Divide if y == 0 => Err(FaultKind::DivideByZero),
-            BinaryOperator::Divide => Ok(x.wrapping_div(y)),
-            BinaryOperator::Remainder if y == 0 => Err(FaultKind::DivideByZero),
-            BinaryOperator::Remainder => Ok(x.wrapping_rem(y)),
+            BinaryOperator::Divide => divide(x, y),
+            BinaryOperator::Remainder => take_remainder(x, y),
+            BinaryOperator::ShiftLeft => Ok(shift_left(x, y)),
+            BinaryOperator::ShiftRight => Ok(shift_right(x, y)),
+            BinaryOperator::ShiftRightUnsigned => Ok(shift_right_unsigned(x, y)),
+            BinaryOperator::And => Ok(x & y),
+            BinaryOperator::Xor => Ok(x ^ y),
+            BinaryOperator::Or => Ok(x | y),
+            BinaryOperator::Min => Ok(x.min(y)),
+            BinaryOperator::Max => Ok(x.max(y)),
+            BinaryOperator::FloorDivide => floor_divide(x, y),
+            BinaryOperator::FloorRemainder => take_floor_remainder(x, y),
+            BinaryOperator::AddExact => or_overflow(x.checked_add(y)),
+            BinaryOperator::SubtractExact => or_overflow(x.checked_sub(y)),
+            BinaryOperator::MultiplyExact => or_overflow(x.checked_mul(y)),
         }
     }
 }
 
 impl Comparison {
-    /// Whether the operands stand so.
+    /// Whether the comparison holds.
     pub fn apply(self, x: i64, y: i64) -> bool
         ensures { result ≡ comparison_value self x y }
     {
@@ -83,8 +232,45 @@ impl Comparison {
 }
 
 /// An operator between two operands, as it is written.
-#[derive(Clone, Copy, Debug, PartialEq, Eq)]
+#[derive(Clone, Copy, PartialEq, Eq)]
 pub enum Infix {
-    Compare(Comparison),
+    Equal,
+    NotEqual,
+    Less,
+    AtMost,
+    More,
+    AtLeast,
+    Add,
+    Subtract,
+    Multiply,
+    Divide,
+    Remainder,
+}
+
+/// What an operator between two operands does.
+#[derive(Clone, Copy, PartialEq, Eq)]
+pub(crate) enum Operation {
     Compute(BinaryOperator),
+    Compare(Comparison),
+}
+
+impl Infix {
+    /// What the operator does.
+    pub(crate) fn operation(self) -> Operation
+        ensures { result ≡ operation_of self }
+    {
+        match self {
+            Infix::Equal => Operation::Compare(Comparison::Equal),
+            Infix::NotEqual => Operation::Compare(Comparison::NotEqual),
+            Infix::Less => Operation::Compare(Comparison::Less),
+            Infix::AtMost => Operation::Compare(Comparison::AtMost),
+            Infix::More => Operation::Compare(Comparison::More),
+            Infix::AtLeast => Operation::Compare(Comparison::AtLeast),
+            Infix::Add => Operation::Compute(BinaryOperator::Add),
+            Infix::Subtract => Operation::Compute(BinaryOperator::Subtract),
+            Infix::Multiply => Operation::Compute(BinaryOperator::Multiply),
+            Infix::Divide => Operation::Compute(BinaryOperator::Divide),
+            Infix::Remainder => Operation::Compute(BinaryOperator::Remainder),
+        }
+    }
 }

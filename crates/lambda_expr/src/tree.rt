@@ -5,7 +5,7 @@ ghost use Rattle.lambda_expr.specs.Numerals.{is_numeral};
 ghost use Rattle.lambda_expr.specs.Reading.{infix_of};
 ghost use Rattle.std.specs.Prelude.{◌≡◌};
 
-use super::operator::{BinaryOperator, Comparison, Infix};
+use super::operator::Infix;
 use stream_tokens::Symbol;
 
 /// An expression as it is written. Names and numbers are lent from the text.
@@ -39,10 +39,10 @@ impl Infix {
         ensures { result ≡ level self }
     {
         match self {
-            Infix::Compare(Comparison::Equal | Comparison::NotEqual) => 7,
-            Infix::Compare(_) => 8,
-            Infix::Compute(BinaryOperator::Add | BinaryOperator::Subtract) => 10,
-            Infix::Compute(_) => 11,
+            Infix::Equal | Infix::NotEqual => 7,
+            Infix::Less | Infix::AtMost | Infix::More | Infix::AtLeast => 8,
+            Infix::Add | Infix::Subtract => 10,
+            Infix::Multiply | Infix::Divide | Infix::Remainder => 11,
         }
     }
 
@@ -51,17 +51,17 @@ impl Infix {
         ensures { result ≡ infix_of symbol }
     {
         let infix = match symbol {
-            Symbol::Equal => Infix::Compare(Comparison::Equal),
-            Symbol::NotEqual => Infix::Compare(Comparison::NotEqual),
-            Symbol::Less => Infix::Compare(Comparison::Less),
-            Symbol::AtMost => Infix::Compare(Comparison::AtMost),
-            Symbol::More => Infix::Compare(Comparison::More),
-            Symbol::AtLeast => Infix::Compare(Comparison::AtLeast),
-            Symbol::Plus => Infix::Compute(BinaryOperator::Add),
-            Symbol::Minus => Infix::Compute(BinaryOperator::Subtract),
-            Symbol::Star => Infix::Compute(BinaryOperator::Multiply),
-            Symbol::Slash => Infix::Compute(BinaryOperator::Divide),
-            Symbol::Percent => Infix::Compute(BinaryOperator::Remainder),
+            Symbol::Equal => Infix::Equal,
+            Symbol::NotEqual => Infix::NotEqual,
+            Symbol::Less => Infix::Less,
+            Symbol::AtMost => Infix::AtMost,
+            Symbol::More => Infix::More,
+            Symbol::AtLeast => Infix::AtLeast,
+            Symbol::Plus => Infix::Add,
+            Symbol::Minus => Infix::Subtract,
+            Symbol::Star => Infix::Multiply,
+            Symbol::Slash => Infix::Divide,
+            Symbol::Percent => Infix::Remainder,
             _ => return None,
         };
         Some(infix)

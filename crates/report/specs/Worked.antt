@@ -9,7 +9,7 @@ use Rattle.job_plan.specs.Meaning.{JobTerm}
 
 -- helper: a / (x - b)
 abbrev pub quotient : ℤ → ℤ → Long
-quotient a b = binary Divide (number a) (binary Subtract parameter (number b))
+quotient a b = binary Divide (number a) (binary Subtract (parameter 0) (number b))
 
 -- q = range(0, 10).map(x -> 10 / (x - 7)).toArray()
 abbrev pub meets_a_zero : List JobTerm
