@@ -1,6 +1,8 @@
 -- A job that was read has at most 32 stages.
 use Rattle.std.proofs.Common.{◌≡◌, ℕ, zero, suc, ◌+◌, ◌<◌, ◌≤◌, inl, inr, List, [], ◌∷◌, ◌++◌, length, get_or, Result, Ok, Err, refl, ap, subst, arith}
 use Rattle.stream_tokens.specs.declared.job_text.JobText.{JobText}
+use Rattle.stream_tokens.specs.declared.job_text.TextFault.{TextFault}
+use Rattle.stream_tokens.specs.declared.job_text.TextFault.TheVariants as text
 use Rattle.stream_tokens.specs.JobTexts.{job_texts_of}
 use Rattle.trace.specs.declared.stage.Stage.{Stage}
 use Rattle.trace.specs.Cover.{SourceTerm}
@@ -10,7 +12,7 @@ use Rattle.job_plan.specs.Meaning.{JobTerm, names_of}
 use Rattle.engine.specs.declared.jobs.fault.Cause.{Cause}
 use Rattle.engine.specs.declared.jobs.job.Job.{Job}
 use Rattle.engine.specs.JobGrammar.{StageShape, JobShape}
-use Rattle.engine.specs.JobRefusals.{Then, then_with, read_before, job_with, name_read, source_read, StagesRead, JobRead, TextRead, TextsRead, Spells}
+use Rattle.engine.specs.JobRefusals.{Then, then_with, read_before, job_with, name_read, source_read, StagesRead, JobRead, TextRead, TextsRead, LeftRead, Spells}
 use Rattle.engine.specs.Jobs.{jobs_of}
 
 one_more : (n : ℕ) (ss : List StageTerm) (s : StageTerm) (q : Result (List StageTerm) Cause) → ((qs : List StageTerm) → q ≡ Ok qs → n + 1 + length qs ≤ 32) → Ok ss ≡ read_before s q → n + length ss ≤ 32
@@ -71,5 +73,10 @@ each_few [] few k d within = absurd (omega (arith, within))
 each_few (j ∷ js) few zero d within = omega (arith, few.0, same_length j.stages.items)
 each_few (j ∷ js) few (suc k) d within = each_few js few.1 k d (omega (arith, within))
 
+left_few : (texts : Result (List JobText) TextFault) (all : List JobTerm) → LeftRead [] texts (Ok all) → AllFew all
+left_few (Ok texts) all read = texts_few [] texts all tt read
+left_few (Err (text.Syntax line)) all read = absurd (let e = read in cc)
+left_few (Err text.NoMemory) all read = absurd read
+
 pub spelled_few : (bytes : List ℕ) (js : List Job) → Spells bytes (jobs_of js) → (k : ℕ) (d : Job) → k < length js → length (get_or js k d).stages.items ≤ 32
-spelled_few bytes js spelled = each_few js (texts_few [] (job_texts_of bytes) (jobs_of js) tt spelled)
+spelled_few bytes js spelled = each_few js (left_few (job_texts_of bytes) (jobs_of js) spelled)

@@ -1,10 +1,12 @@
 -- Texts of jobs, read one after the other.
-use Rattle.std.proofs.Common.{◌≡◌, ◌≢◌, ℕ, suc, ◌+◌, ◌<◌, ◌≤◌, Bool, true, false, List, [], ◌∷◌, ◌++◌, Result, Ok, Err, IfOk, IfErr, inl, inr, length, drop, get_or, refl, sym, ap, subst, ◌∙◌, arith}
+use Rattle.std.proofs.Common.{◌≡◌, ◌≢◌, ℕ, suc, ◌<◌, ◌≤◌, Bool, true, false, List, [], ◌∷◌, ◌++◌, Result, Ok, Err, IfOk, IfErr, inl, inr, length, refl, sym, ap, subst, ◌∙◌, arith}
 use Rattle.std.specs.Prelude.{nat_lt, nat_le, ◌||◌}
 use Rattle.std.proofs.lemmas.Bool.Decides.{nat_tests}
-use Rattle.std.proofs.lemmas.List.{drop_more, drop_all}
 use Rattle.stream_tokens.specs.declared.token.Token.{Token}
 use Rattle.stream_tokens.specs.declared.job_text.JobText.{JobText}
+use Rattle.stream_tokens.specs.declared.job_text.TextFault.{TextFault}
+use Rattle.stream_tokens.specs.declared.job_text.TextFault.TheVariants as text
+use Rattle.stream_tokens.specs.TextsLeft.{Texts}
 use Rattle.stream_tokens.specs.Tokens.{AreTokensOf}
 use Rattle.stream_tokens.proofs.Cutting.{same_tokens}
 use Rattle.job_plan.specs.Meaning.{JobTerm, names_of}
@@ -14,8 +16,9 @@ use Rattle.engine.specs.declared.jobs.fault.JobFault.{JobFault}
 use Rattle.engine.specs.declared.jobs.job.Job.{Job}
 use Rattle.engine.specs.JobGrammar.{JobShape, IsJob}
 use Rattle.engine.specs.JobParts.{AreParts}
+use Rattle.engine.specs.Causes.{fault_of}
 use Rattle.engine.specs.FileReading.{IsNextJob, IsNextFault}
-use Rattle.engine.specs.JobRefusals.{is_too_long, JobRead, TextRead, fault_at, TextsRead}
+use Rattle.engine.specs.JobRefusals.{is_too_long, JobRead, TextRead, fault_at, TextsRead, LeftRead}
 use Rattle.engine.specs.Jobs.{job_of, jobs_of}
 use Rattle.engine.specs.PartReading.{IsSyntaxOf}
 
@@ -82,35 +85,40 @@ pub jobs_push : (jobs : List Job) (j : Job) → jobs_of (jobs ++ j ∷ []) ≡ j
 jobs_push [] j = refl
 jobs_push (k ∷ jobs) j = ap (λ (js : List JobTerm). job_of k ∷ js) (jobs_push jobs j)
 
--- these jobs were read, and the texts from place n on are left
-pub record FileSoFar (texts : List JobText) (n : ℕ) (jobs : List JobTerm) : Type 0 where
-  pub goes : (r : Result (List JobTerm) JobFault) → TextsRead jobs (drop n texts) r → TextsRead [] texts r
+-- these jobs were read, and with the texts that are left they are the file
+pub record FileSoFar (all left : Texts) (jobs : List JobTerm) : Type 0 where
+  pub goes : (r : Result (List JobTerm) JobFault) → LeftRead jobs left r → LeftRead [] all r
 
-pub file_none : (texts : List JobText) (jobs : List JobTerm) → jobs ≡ [] → FileSoFar texts 0 jobs
-file_none texts jobs e = subst (FileSoFar texts 0) (sym e) (record { goes = λ r h. h })
+pub file_none : (all left : Texts) (jobs : List JobTerm) → left ≡ all → jobs ≡ [] → FileSoFar all left jobs
+file_none all left jobs same none_yet = record { goes = λ r h. rw (none_yet, same) at h }
 
-next_text : (texts : List JobText) (n : ℕ) (t : JobText) → n < length texts → t ≡ get_or texts n t → drop n texts ≡ t ∷ drop (n + 1) texts
-next_text texts n t lt is = drop_more texts n t lt ∙ ap (λ (u : JobText). u ∷ drop (n + 1) texts) (sym is)
-
-pub file_more : (texts : List JobText) (n : ℕ) (jobs more : List JobTerm) (t : JobText) → n < length texts → t ≡ get_or texts n t → FileSoFar texts n jobs → IsNextJob jobs t more → FileSoFar texts (n + 1) more
-file_more texts n jobs more t lt is h next = subst (FileSoFar texts (n + 1)) (sym next.put) (record {
+pub file_more : (all left next : Texts) (more : List JobText) (jobs js : List JobTerm) (t : JobText) → left ≡ Ok (t ∷ more) → next ≡ Ok more
+    → FileSoFar all left jobs → IsNextJob jobs t js → FileSoFar all next js
+file_more all left next more jobs js t before after h step = record {
   goes = λ r k.
-      let here : TextsRead jobs (t ∷ drop (n + 1) texts) r = inr (next.job, next.read, k) in
-      h.goes r (subst (λ (ts : List JobText). TextsRead jobs ts r) (sym (next_text texts n t lt is)) here);
-})
+      let there : TextsRead js more r = rw after at k in
+      let here : TextsRead jobs (t ∷ more) r = inr (step.job, step.read, rw step.put at there) in
+      h.goes r (rw before here);
+}
 
-pub file_refused : (texts : List JobText) (n : ℕ) (jobs : List JobTerm) (t : JobText) (fault : JobFault) → n < length texts → t ≡ get_or texts n t → FileSoFar texts n jobs → IsNextFault jobs t fault → TextsRead [] texts (Err fault)
-file_refused texts n jobs t fault lt is h next =
+pub file_refused : (all left : Texts) (more : List JobText) (jobs : List JobTerm) (t : JobText) (fault : JobFault) → left ≡ Ok (t ∷ more)
+    → FileSoFar all left jobs → IsNextFault jobs t fault → LeftRead [] all (Err fault)
+file_refused all left more jobs t fault before h next =
     let same : fault ≡ fault_at t fault.cause = ap (λ (l : ℕ). record { line = l; cause = fault.cause }) next.at in
-    let here : TextsRead jobs (t ∷ drop (n + 1) texts) (Err fault) = inl (fault.cause, next.read, ap (λ (f : JobFault). Err f) same) in
-    h.goes (Err fault) (subst (λ (ts : List JobText). TextsRead jobs ts (Err fault)) (sym (next_text texts n t lt is)) here)
+    let here : TextsRead jobs (t ∷ more) (Err fault) = inl (fault.cause, next.read, ap (λ (f : JobFault). Err f) same) in
+    h.goes (Err fault) (rw before here)
+
+pub file_stops : (all left : Texts) (jobs : List JobTerm) (fault : TextFault) → left ≡ Err fault → (fault_of fault).cause ≢ NoMemory
+    → FileSoFar all left jobs → LeftRead [] all (Err (fault_of fault))
+file_stops all left jobs (text.Syntax line) stops solid h = h.goes (Err (fault_of (text.Syntax line))) (rw stops refl)
+file_stops all left jobs text.NoMemory stops solid h = absurd (solid refl)
 
 -- what a text says after jobs that are known by another name
 pub text_same : (js ks : List Job) (a b : List ℕ) (r : Result JobTerm Cause) → js ≡ ks → a ≡ b → TextRead (names_of (jobs_of js)) a r → TextRead (names_of (jobs_of ks)) b r
 text_same js ks a b r p q h = subst (λ (t : List ℕ). TextRead (names_of (jobs_of ks)) t r) q (subst (λ (ls : List Job). TextRead (names_of (jobs_of ls)) a r) p h)
 
-pub file_all : (texts : List JobText) (n : ℕ) (jobs : List JobTerm) → length texts ≤ n → FileSoFar texts n jobs → TextsRead [] texts (Ok jobs)
-file_all texts n jobs end h = h.goes (Ok jobs) (subst (λ (ts : List JobText). TextsRead jobs ts (Ok jobs)) (sym (drop_all n texts end)) refl)
+pub file_all : (all left : Texts) (jobs : List JobTerm) → left ≡ Ok [] → FileSoFar all left jobs → LeftRead [] all (Ok jobs)
+file_all all left jobs ends h = h.goes (Ok jobs) (rw ends refl)
 
 -- ---- too long
 

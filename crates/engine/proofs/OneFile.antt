@@ -2,6 +2,8 @@
 use Rattle.std.proofs.Common.{◌≡◌, ◌≢◌, ℕ, ◌+◌, List, [], ◌∷◌, ◌++◌, Result, Ok, Err, inl, inr, refl, sym, ap, subst, ◌∙◌, arith}
 use Rattle.std.specs.Prelude.{◌⊎◌}
 use Rattle.stream_tokens.specs.declared.job_text.JobText.{JobText}
+use Rattle.stream_tokens.specs.declared.job_text.TextFault.{TextFault}
+use Rattle.stream_tokens.specs.declared.job_text.TextFault.TheVariants as text
 use Rattle.lambda_expr.specs.declared.fault.ReadFault.{ReadFault}
 use Rattle.lambda_expr.specs.declared.fault.ReadFault.TheVariants as fault
 use Rattle.lambda_expr.specs.declared.lambda.Want.{Want}
@@ -16,7 +18,7 @@ use Rattle.engine.specs.declared.jobs.fault.Cause.{Cause}
 use Rattle.engine.specs.declared.jobs.fault.Cause.TheVariants.{Syntax, SameName, TooLong, Expr, NoMemory}
 use Rattle.engine.specs.declared.jobs.fault.JobFault.{JobFault}
 use Rattle.engine.specs.JobGrammar.{StageShape, map, filter, JobShape, IsJob}
-use Rattle.engine.specs.JobRefusals.{then_with, name_read, source_read, text_of, want_of, IsReadAs, IsNotRead, read_before, StagesRead, job_with, Then, JobRead, TextRead, fault_at, TextsRead}
+use Rattle.engine.specs.JobRefusals.{then_with, name_read, source_read, text_of, want_of, IsReadAs, IsNotRead, read_before, StagesRead, job_with, Then, JobRead, TextRead, fault_at, TextsRead, LeftRead}
 use Rattle.engine.proofs.OneShape.{one_job}
 
 -- ---- one stage
@@ -132,3 +134,8 @@ texts_once before (t ∷ ts) r q (inr h) (inr k) =
     let e = text_once (names_of before) t.text (Ok h.0) (Ok k.0) h.1 k.1 in
     let same : h.0 ≡ k.0 = cc in
     texts_once (before ++ k.0 ∷ []) ts r q (subst (λ (j : JobTerm). TextsRead (before ++ j ∷ []) ts r) same h.2) k.2
+
+pub left_once : (before : List JobTerm) (texts : Result (List JobText) TextFault) (r q : Result (List JobTerm) JobFault) → LeftRead before texts r → LeftRead before texts q → r ≡ q
+left_once before (Ok texts) r q h k = texts_once before texts r q h k
+left_once before (Err (text.Syntax line)) r q h k = h ∙ sym k
+left_once before (Err text.NoMemory) r q h k = absurd h

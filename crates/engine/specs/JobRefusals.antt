@@ -3,6 +3,8 @@ use Rattle.std.specs.Prelude.{◌≡◌, ◌≢◌, ℕ, ◌+◌, ◌<◌, ◌�
 use Rattle.std.specs.List.{list_any}
 use Rattle.std.specs.Cmp.Lexicographic.{pointwise}
 use Rattle.stream_tokens.specs.declared.job_text.JobText.{JobText}
+use Rattle.stream_tokens.specs.declared.job_text.TextFault.{TextFault}
+use Rattle.stream_tokens.specs.declared.job_text.TextFault.TheVariants as text
 use Rattle.stream_tokens.specs.JobTexts.{job_texts_of}
 use Rattle.lambda_expr.specs.declared.fault.ReadFault.TheVariants.{LiteralTooLarge, NoMemory}
 use Rattle.lambda_expr.specs.declared.lambda.Want.{Want}
@@ -121,10 +123,16 @@ TextsRead before (t ∷ ts) r =
     ((c : Cause) × TextRead (names_of before) t.text (Err c) × (r ≡ Err (fault_at t c)))
     ⊎ ((j : JobTerm) × TextRead (names_of before) t.text (Ok j) × TextsRead (before ++ j ∷ []) ts r)
 
+-- the same of the texts that are left of a file; a line that continues no job is refused in place of all of them
+abbrev pub LeftRead : List JobTerm → Result (List JobText) TextFault → Result (List JobTerm) JobFault → Type 0
+LeftRead before (Ok texts) r = TextsRead before texts r
+LeftRead before (Err (text.Syntax line)) r = r ≡ Err (record { line = line; cause = Syntax })
+LeftRead before (Err text.NoMemory) r = ⊥
+
 -- the bytes are a file of these jobs
 abbrev pub Spells : List ℕ → List JobTerm → Type 0
-Spells bytes jobs = TextsRead [] (job_texts_of bytes) (Ok jobs)
+Spells bytes jobs = LeftRead [] (job_texts_of bytes) (Ok jobs)
 
 -- the bytes are refused with this fault
 abbrev pub IsRefused : List ℕ → JobFault → Type 0
-IsRefused bytes f = TextsRead [] (job_texts_of bytes) (Err f)
+IsRefused bytes f = LeftRead [] (job_texts_of bytes) (Err f)

@@ -45,12 +45,11 @@ s = of(1).map(x -> x)).sum()
 s = of(1).map(x -> 007).sum()
 s = of(1).map(x -> x ++ 1).sum()
 s = of(1).map(x -> x # 1).sum()
-# x
 .sum()
 s = of(1).sum();
 s = LongStream.range(0, 1).sum()
 s = of(Long.MAX_VALUE).sum()
-\u{feff}s = of(1).sum()
+\u{feff}\u{feff}s = of(1).sum()
 s = of(9223372036854775808).map(x -> y).sum(0)";
 
 #[test]
@@ -94,11 +93,13 @@ fn the_first_faulty_part_of_a_job_is_the_cause(rt: HostRuntime) {
 fn the_first_faulty_job_is_reported_with_its_line(rt: HostRuntime) {
     let files = [
         b" \n\ns = of(1).sum()\r\n\t\n  .sum()\n".as_slice(),
+        b"# s\n\n\t// s\n .sum()\ns = of(1).sum()",
         b"a = of(1).sum()\n\na = of(9223372036854775808).map(x -> ).sum()",
         b"a = of(1).sum()\r\n \r\nb = of(1).map(x -> y).sum()\nb = (\na = of(1).sum()",
         b"a = of(1).sum()\na = of(2).sum(0)",
     ];
-    let lines = "line 5: syntax|line 3: same name|line 3: unknown name|line 2: syntax";
+    let lines =
+        "line 3: syntax|line 4: syntax|line 3: same name|line 3: unknown name|line 2: syntax";
     for (jobs, want) in files.into_iter().zip(lines.split('|')) {
         let line = format!(in rt.alloc(); "streamrun: jobs: {want}");
         let told = line.is_ok_and(|line| is_refused(rt.alloc(), jobs, line.as_str()));

@@ -138,29 +138,55 @@ fn jobs_of(alloc: Global, bytes: &[u8]) -> Result<Vec<u8>, TextFault> {
     Ok(all)
 }
 
+/// Whether these are the jobs of a file.
+fn are_jobs(alloc: Global, file: &[u8], jobs: &str) -> bool {
+    jobs_of(alloc, file).is_ok_and(|found| found.as_slice() == jobs.as_bytes())
+}
+
 #[test]
-fn every_line_that_is_not_blank_begins_a_job(rt: HostRuntime) -> Result<(), Fail> {
-    let files: [&[u8]; 11] = [
+fn a_line_ends_with_a_line_feed_and_may_have_a_return_before_it(rt: HostRuntime) {
+    let files: [&[u8]; 9] = [
         b"",
         b"\n",
         b"a",
-        b"a\n",
         b"a\r\n",
         b"a\r",
         b"a\rb\nc",
         b"a\r\r\nb",
-        b"\n \t\n\r\n a \n\nb",
         b"a\n\r",
         b"\n\n\n\n\n\n\n\n\na",
     ];
-    let jobs = "//1:a|/1:a|/1:a|/1:a\r|/1:a\rb|2:c|/1:a\r|2:b|/4: a |6:b|/1:a|2:\r|/10:a|";
+    let jobs = "//1:a|/1:a|/1:a\r|/1:a\rb|2:c|/1:a\r|2:b|/1:a|2:\r|/10:a|";
     for (file, jobs) in files.into_iter().zip(jobs.split('/')) {
-        assert!(rt;
-            jobs_of(rt.alloc(), file).is_ok_and(|found| found.as_slice() == jobs.as_bytes()),
-            "{file:?}"
-        );
+        assert!(rt; are_jobs(rt.alloc(), file, jobs), "{file:?}");
     }
-    Ok(())
+}
+
+#[test]
+fn lines_are_skipped_joined_or_begin_a_job(rt: HostRuntime) {
+    let files: [&[u8]; 7] = [
+        b"\n \t\n\r\n a \n\nb",
+        b"\xef\xbb\xbfa\n",
+        b"a\n.b\n  .c \nd",
+        b"a\n#x\n\n // y\n\t.b\r\nc\n.d",
+        b"# a\n//b\n / c",
+        b"\n#\na #b\n..",
+        b"a\n/.\n\t.",
+    ];
+    let jobs =
+        "4: a |6:b|~1:a|~1:a .b   .c |4:d|~1:a \t.b|6:c .d|~3: / c|~3:a #b ..|~1:a|2:/. \t.|";
+    for (file, jobs) in files.into_iter().zip(jobs.split('~')) {
+        assert!(rt; are_jobs(rt.alloc(), file, jobs), "{file:?}");
+    }
+}
+
+#[test]
+fn a_line_that_continues_no_job_is_a_fault_there(rt: HostRuntime) {
+    let files: [&[u8]; 3] = [b".a", b"\xef\xbb\xbf\n#\n \t.a\nb", b"\n\n\n."];
+    for (file, line) in files.into_iter().zip([1, 3, 4]) {
+        let found = jobs_of(rt.alloc(), file).err();
+        assert!(rt; found == Some(TextFault::Syntax { line }), "{line}");
+    }
 }
 
 #[test]

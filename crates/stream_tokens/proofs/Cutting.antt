@@ -1,5 +1,5 @@
 -- What one turn of the loop in `cut` keeps, and what the tokens of a text have in common.
-use Rattle.std.proofs.Common.{◌≡◌, ℕ, zero, suc, ◌+◌, ◌-◌, ◌<◌, ◌≤◌, Bool, true, false, List, [], ◌∷◌, ◌++◌, length, take, drop, slice_index, sym, refl, ap, ◌∙◌, subst, arith, All, get_or, ⊎_elim, inl, inr, length-drop, length-take, ◌==◌, ◌||◌}
+use Rattle.std.proofs.Common.{◌≡◌, ℕ, zero, suc, ◌+◌, ◌-◌, ◌<◌, ◌≤◌, Bool, true, false, List, [], ◌∷◌, ◌++◌, length, take, drop, slice_index, sym, refl, ap, ◌∙◌, subst, arith, All, get_or, ⊎_elim, inl, inr, length-drop, length-take, ◌==◌, ◌||◌, Result, Ok, Err, OnErr}
 use Rattle.std.specs.List.{list_all}
 use Rattle.std.proofs.str.Laws.{order}
 use Rattle.std.proofs.lemmas.Bool.{eqb-true}
@@ -161,3 +161,8 @@ next_within text b kind n low first =
     let some = first_some (drop b text) kind n (subst (λ w. IsFirstToken w kind n) (take_rest text b) first) in
     let size = length-drop b text in
     omega (arith, some.1, size)
+
+-- a fact that needs no fault
+pub OnErr-all : {A E : Type 0} (P : Type 0) (r : Result A E) → P → OnErr r P
+OnErr-all P (Ok x) h = tt
+OnErr-all P (Err fault) h = h

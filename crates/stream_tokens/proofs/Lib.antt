@@ -6,3 +6,4 @@ pub mod FrontReads
 pub mod Cutting
 pub mod CutTextLemmas
 pub mod LineLemmas
+pub mod TextLemmas

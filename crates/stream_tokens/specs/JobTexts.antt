@@ -1,19 +1,69 @@
 -- Meaning: the texts of the jobs of a file, each with the number of the line that begins it.
-use Rattle.std.specs.Prelude.{ℕ, ◌+◌, Bool, List, [], ◌∷◌, if◌then◌else◌}
-use Rattle.std.specs.List.{list_all}
+use Rattle.std.specs.Prelude.{ℕ, ◌+◌, ◌++◌, ◌||◌, nat_eq, List, [], ◌∷◌, drop, if◌then◌else◌, Result, Ok, Err}
+use Rattle.std.specs.List.{starts_with}
 use Rattle.stream_tokens.specs.declared.job_text.JobText.{JobText}
+use Rattle.stream_tokens.specs.declared.job_text.TextFault.{TextFault}
+use Rattle.stream_tokens.specs.declared.job_text.TextFault.TheVariants.{Syntax}
+use Rattle.stream_tokens.specs.declared.line.LineKind.{LineKind}
+use Rattle.stream_tokens.specs.declared.line.LineKind.TheVariants.{Skipped, Continues, Begins}
 use Rattle.stream_tokens.specs.Bytes.{is_blank}
 use Rattle.stream_tokens.specs.Lines.{lines_of}
 
--- a line of spaces and tabs alone, or of nothing
-abbrev pub is_blank_line : List ℕ → Bool
-is_blank_line line = list_all is_blank line
+-- what a line that begins with no blank is for: `#` and `//` begin a comment, `.` continues a job
+abbrev pub kind_of_solid : List ℕ → LineKind
+kind_of_solid line =
+    if starts_with nat_eq line (35 ∷ []) || starts_with nat_eq line (47 ∷ 47 ∷ []) then Skipped
+    else (if starts_with nat_eq line (46 ∷ []) then Continues else Begins)
 
--- the jobs of the lines from line n on: a blank line is passed over, every other one is the text of a job
-abbrev pub jobs_from : ℕ → List (List ℕ) → List JobText
-jobs_from n [] = []
-jobs_from n (line ∷ lines) = if is_blank_line line then jobs_from (n + 1) lines else record { line = n; text = line } ∷ jobs_from (n + 1) lines
+-- what a line is for: one of blanks alone is skipped, and blanks at its start don't matter
+abbrev pub kind_of : List ℕ → LineKind
+kind_of [] = Skipped
+kind_of (b ∷ bs) = if is_blank b then kind_of bs else kind_of_solid (b ∷ bs)
 
--- the texts of the jobs; lines count from 1, blank ones too
-abbrev pub job_texts_of : List ℕ → List JobText
-job_texts_of bytes = jobs_from 1 (lines_of bytes)
+-- a line with its number
+pub record NumberedLine : Type 0 where
+  pub number : ℕ
+  pub bytes : List ℕ
+
+-- lines with their numbers, of which n is the first
+abbrev pub numbered : ℕ → List (List ℕ) → List NumberedLine
+numbered n [] = []
+numbered n (line ∷ lines) = record { number = n; bytes = line } ∷ numbered (n + 1) lines
+
+-- the one of three that goes with a kind of line
+abbrev pub by_kind : {A : Type 0} → LineKind → A → A → A → A
+by_kind Skipped skipped continues begins = skipped
+by_kind Continues skipped continues begins = continues
+by_kind Begins skipped continues begins = begins
+
+-- the job that a line begins
+abbrev pub begun : NumberedLine → JobText
+begun line = record { line = line.number; text = line.bytes }
+
+-- a job with one more line: a space stands between
+abbrev pub joined : JobText → List ℕ → JobText
+joined job line = record job { text = job.text ++ 32 ∷ line }
+
+-- this job and the further ones, with the lines after those that it has already
+abbrev pub jobs_after : JobText → List NumberedLine → List JobText
+jobs_after job [] = job ∷ []
+jobs_after job (line ∷ lines) =
+    by_kind (kind_of line.bytes) (jobs_after job lines) (jobs_after (joined job line.bytes) lines) (job ∷ jobs_after (begun line) lines)
+
+-- the jobs of some lines; before the first of them there is nothing to continue
+abbrev pub jobs_of_lines : List NumberedLine → Result (List JobText) TextFault
+jobs_of_lines [] = Ok []
+jobs_of_lines (line ∷ lines) =
+    by_kind (kind_of line.bytes) (jobs_of_lines lines) (Err (Syntax line.number)) (Ok (jobs_after (begun line) lines))
+
+-- a byte order mark: the three bytes of U+FEFF in UTF-8
+abbrev pub byte_order_mark : List ℕ
+byte_order_mark = 239 ∷ 187 ∷ 191 ∷ []
+
+-- the bytes after a byte order mark, if there is one
+abbrev pub without_mark : List ℕ → List ℕ
+without_mark bytes = if starts_with nat_eq bytes byte_order_mark then drop 3 bytes else bytes
+
+-- the texts of the jobs, or the line that continues nothing; lines count from 1, skipped ones too
+unfoldable pub job_texts_of : List ℕ → Result (List JobText) TextFault
+job_texts_of bytes = jobs_of_lines (numbered 1 (lines_of (without_mark bytes)))

@@ -1,3 +1,4 @@
+-- Meaning: the files of this crate's definitions; the first line of each says what it is.
 pub mod Bytes
 pub mod Symbols
 pub mod Forms
@@ -7,3 +8,4 @@ pub mod Lines
 pub mod JobTexts
 pub mod CutTexts
 pub mod CutFields
+pub mod TextsLeft

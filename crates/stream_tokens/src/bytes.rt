@@ -1,4 +1,4 @@
-// Bytes that their holder owns, which contracts see as a list.
+//! Bytes that their holder owns, which contracts see as a list.
 ghost use Rattle.std.specs.Prelude.{◌≡◌};
 
 use std::marker::Model;

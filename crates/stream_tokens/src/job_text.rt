@@ -1,27 +1,29 @@
-// The texts of the jobs of a file.
-ghost use Rattle.std.specs.Prelude.{◌≡◌, IfOk, IfErr};
-ghost use Rattle.stream_tokens.specs.JobTexts.{is_blank_line, job_texts_of};
+//! The texts of the jobs of a file.
+ghost use Rattle.std.specs.Prelude.{◌≡◌, ◌≢◌, [], Ok, Err, IfOk, IfErr, IfSome, IfNone};
+ghost use Rattle.stream_tokens.specs.JobTexts.{job_texts_of, jobs_after, jobs_of_lines};
+ghost use Rattle.stream_tokens.specs.TextsLeft.{Gives, HasText, IsWhole, lines_at};
 
-use crate::bytes::Bytes;
-use crate::line::first_line;
-use crate::scanner::is_blank;
+use crate::line::{LineKind, kind_of, without_mark};
+use crate::lines_left::LinesLeft;
+use crate::text::Text;
 use std::alloc::{AllocError, AllocFailed, Global};
+use std::marker::Model;
 
 /// The text of one job.
-#[derive(Debug, Drop)]
-pub struct JobText {
+#[derive(Drop)]
+pub struct JobText<'a> {
     /// The number of the line that begins the job, from 1 over all lines of the file.
     pub line: u64,
-    /// The text, without the line's end.
-    pub text: Bytes,
+    /// The lines of the job without their ends, joined by one space.
+    pub text: Text<'a>,
 }
 
-/// Why the texts of a file were not had.
+/// Why the texts of a file can't be listed.
 #[derive(Clone, Copy, Debug, PartialEq, Eq)]
 pub enum TextFault {
-    /// A line that belongs to no job.
+    /// A line that continues a job, with no job above it.
     Syntax { line: u64 },
-    /// A growth was refused.
+    /// An allocation failed.
     NoMemory,
 }
 
@@ -45,33 +47,118 @@ impl<T: Drop> From<AllocFailed<T>> for TextFault {
     }
 }
 
-// A line of spaces and tabs alone, or of nothing.
-fn is_blank_line(line: &[u8]) -> bool
-    ensures { result ≡ is_blank_line line.now }
-{
-    line.iter().all(|byte| is_blank(*byte))
+/// The texts of the jobs of a file, one after the other. To contracts they are the texts that are left, or
+/// the fault that stands in place of all of them.
+#[derive(Drop)]
+pub struct JobTexts<'a> {
+    lines: LinesLeft<'a>,
 }
 
-/// The texts of the jobs, in the order of the file. A line of spaces and tabs alone is passed over;
-/// every other line begins a job, and is its text.
-///
-/// Takes memory for the vector and for a copy of each text, and time in proportion to the bytes.
-/// `NoMemory` is answered only where a growth was refused; no line is `Syntax` today.
-pub fn job_texts(alloc: Global, bytes: &[u8]) -> Result<Vec<JobText>, TextFault>
-    ensures ok { IfOk result (λ texts. texts.items ≡ job_texts_of bytes.now) }
-    ensures refused { IfErr result (λ fault. fault ≡ TextFault.NoMemory) }
-{
-    let mut texts = Vec::new(alloc);
-    let mut rest = bytes;
-    let mut line = 0;
-    while !rest.is_empty() {
-        let (text, behind) = first_line(rest);
-        line += 1;
-        if !is_blank_line(text) {
-            let text = Bytes::from(Vec::from_slice(alloc, text)?);
-            texts.push(JobText { line, text })?;
+impl<'a> Model for JobTexts<'a> {
+    ghost use Rattle.std.specs.Prelude.{List, Result};
+    ghost use Rattle.stream_tokens.specs.JobTexts.{jobs_of_lines};
+    ghost use Rattle.stream_tokens.specs.TextsLeft.{lines_at};
+    ghost use Rattle.stream_tokens.specs.declared.job_text.JobText.{JobText};
+    ghost use Rattle.stream_tokens.specs.declared.job_text.TextFault.{TextFault};
+
+    ghost Value = { Result (List JobText) TextFault };
+
+    ghost view = { λ texts. jobs_of_lines (lines_at texts.lines) };
+}
+
+impl<'a> JobTexts<'a> {
+    /// All texts of a file. Takes no memory.
+    #[tactic(auto, unfolding(crate::specs::JobTexts::job_texts_of))]
+    pub fn of(bytes: &'a [u8]) -> JobTexts<'a>
+        ensures { result ≡ job_texts_of bytes.now }
+    {
+        JobTexts {
+            lines: LinesLeft::of(without_mark(bytes)),
         }
-        rest = behind;
+    }
+
+    /// The next text, or `None` after the last one.
+    ///
+    /// A text of one line lies in the file; memory is taken for the copy of a text that has more. Takes time
+    /// in proportion to the lines up to the next job. After a fault it isn't known what is left.
+    pub fn next_text(&mut self, alloc: Global) -> Result<Option<JobText<'a>>, TextFault>
+        ensures gives { Gives self.old result self.new }
+        ensures memory { IfErr result (λ fault. fault ≡ TextFault.NoMemory → HasText self.old) }
+    {
+        match next_begun(&mut self.lines)? {
+            Some(begun) => Ok(Some(join_lines(alloc, &mut self.lines, begun)?)),
+            None => Ok(None),
+        }
+    }
+}
+
+/// The job that the next line begins that isn't skipped, with that line alone.
+fn next_begun<'a>(lines: &mut LinesLeft<'a>) -> Result<Option<JobText<'a>>, TextFault>
+    ensures some { IfOk result (λ found. IfSome found
+        (λ job. jobs_of_lines (lines_at lines.old) ≡ Ok (jobs_after job (lines_at lines.new)))) }
+    ensures none { IfOk result (λ found. IfNone found
+        ((jobs_of_lines (lines_at lines.old) ≡ Ok []) × (lines_at lines.new ≡ []))) }
+    ensures refused { IfErr result (λ fault. (fault ≢ TextFault.NoMemory)
+        × (jobs_of_lines (lines_at lines.old) ≡ Err fault)) }
+{
+    while let Some((line, after)) = lines.first() {
+        *lines = after;
+        match kind_of(line.bytes) {
+            LineKind::Skipped => {}
+            LineKind::Continues => return Err(TextFault::Syntax { line: line.number }),
+            LineKind::Begins => {
+                return Ok(Some(JobText {
+                    line: line.number,
+                    text: Text::of_line(line.bytes),
+                }));
+            }
+        }
+    }
+    Ok(None)
+}
+
+/// The job with the lines that continue it.
+fn join_lines<'a>(
+    alloc: Global,
+    lines: &mut LinesLeft<'a>,
+    begun: JobText<'a>,
+) -> Result<JobText<'a>, AllocError>
+    ensures { IfOk result (λ job. IsWhole begun.entry (lines_at lines.old) job (lines_at lines.new)) }
+{
+    let mut job = begun;
+    while let Some((line, after)) = lines.first() {
+        match kind_of(line.bytes) {
+            LineKind::Skipped => {}
+            LineKind::Continues => {
+                job = JobText {
+                    line: job.line,
+                    text: job.text.join(alloc, line.bytes)?,
+                };
+            }
+            LineKind::Begins => return Ok(job),
+        }
+        *lines = after;
+    }
+    Ok(job)
+}
+
+/// The texts of the jobs, in the order of the file.
+///
+/// Lines end with LF or CR LF. A blank line and one that begins with `#` or `//` are skipped, one that begins
+/// with `.` continues the job above it, and every other line begins a job; blanks before that don't matter.
+/// A byte order mark at the start of the file is skipped. Takes memory for the vector, and for the bytes of
+/// texts of more than one line; time in proportion to the bytes.
+pub fn job_texts<'a>(alloc: Global, bytes: &'a [u8]) -> Result<Vec<JobText<'a>>, TextFault>
+    ensures ok { IfOk result (λ texts. job_texts_of bytes.now ≡ Ok texts.items) }
+    ensures refused { IfErr result
+        (λ fault. fault ≢ TextFault.NoMemory → job_texts_of bytes.now ≡ Err fault) }
+    ensures memory { IfErr result
+        (λ fault. fault ≡ TextFault.NoMemory → HasText (job_texts_of bytes.now)) }
+{
+    let mut left = JobTexts::of(bytes);
+    let mut texts = Vec::new(alloc);
+    while let Some(text) = left.next_text(alloc)? {
+        texts.push(text)?;
     }
     Ok(texts)
 }

@@ -19,14 +19,17 @@ mod bytes;
 mod cut_text;
 mod job_text;
 mod line;
+mod lines_left;
 mod scanner;
 mod symbol;
+mod text;
 mod token;
 
 pub use bytes::Bytes;
 pub use cut_text::{CutText, tokens_of_a_part};
-pub use job_text::{JobText, TextFault, job_texts};
+pub use job_text::{JobText, JobTexts, TextFault, job_texts};
 pub use scanner::{cut, one_cut, tokens_stand_in_order};
 pub use std::alloc::AllocError as NoMemory;
 pub use symbol::Symbol;
+pub use text::Text;
 pub use token::{Token, TokenKind};

@@ -1,6 +1,6 @@
-// Cutting a text into tokens.
-ghost use Rattle.std.specs.Prelude.{◌≡◌, ◌<◌, ◌≤◌, ◌+◌, ℕ, List, IfOk, length, slice_index, All, true, false, not};
-ghost use Rattle.std.specs.List.{prefix_len};
+//! Cutting a text into tokens.
+ghost use Rattle.std.specs.Prelude.{◌≡◌, ◌<◌, ◌≤◌, ◌+◌, ℕ, List, IfOk, OnErr, length, slice_index, All, true, false, not};
+ghost use Rattle.std.specs.List.{list_all, prefix_len};
 ghost use Rattle.std.specs.Char.{is_ascii_digit};
 ghost use Rattle.stream_tokens.specs.declared.token.Token.{Token as token};
 ghost use Rattle.stream_tokens.specs.Bytes.{is_blank, is_name_start, is_name_byte, is_long_mark, ends_text};
@@ -11,20 +11,20 @@ use crate::symbol::symbol_front;
 use crate::token::{Token, TokenKind};
 use std::alloc::Global;
 
-// The token at the front of a text: its kind, and how many bytes it has.
+/// The token at the front of a text: its kind, and how many bytes it has.
 #[derive(Clone, Copy)]
 struct Front {
     kind: TokenKind,
     len: usize,
 }
 
-// A byte that begins no token, by itself.
+/// A byte that begins no token, by itself.
 const BAD: Front = Front {
     kind: TokenKind::Bad,
     len: 1,
 };
 
-// A space or a tab.
+/// A space or a tab.
 pub fn is_blank(byte: u8) -> bool
     ensures { result ≡ is_blank byte }
 {
@@ -55,7 +55,7 @@ fn ends_text(byte: u8) -> bool
     byte == b'"' || byte == b'\\' || byte == b'\r' || byte == b'\n'
 }
 
-// How many name bytes stand at the front.
+/// How many name bytes stand at the front.
 fn name_bytes(text: &[u8]) -> usize
     ensures value { result ≡ prefix_len is_name_byte text.now }
     ensures in_range { result ≤ length text.now }
@@ -63,7 +63,7 @@ fn name_bytes(text: &[u8]) -> usize
     text.iter().take_while(|byte| is_name_byte(**byte)).count()
 }
 
-// How many digits stand at the front.
+/// How many digits stand at the front.
 fn digits(text: &[u8]) -> usize
     ensures value { result ≡ prefix_len is_ascii_digit text.now }
     ensures in_range { result ≤ length text.now }
@@ -71,7 +71,7 @@ fn digits(text: &[u8]) -> usize
     text.iter().take_while(|byte| byte.is_ascii_digit()).count()
 }
 
-// How many bytes at the front may stand inside a string.
+/// How many bytes at the front may stand inside a string.
 fn inside_bytes(text: &[u8]) -> usize
     ensures value { result ≡ prefix_len (λ b. not (ends_text b)) text.now }
     ensures in_range { result ≤ length text.now }
@@ -79,7 +79,7 @@ fn inside_bytes(text: &[u8]) -> usize
     text.iter().take_while(|byte| !ends_text(**byte)).count()
 }
 
-// How many bytes the number at the front has.
+/// How many bytes the number at the front has.
 fn number_len(text: &[u8]) -> usize
     requires no_name { is_name_start (slice_index text.now 0) ≡ false }
     requires digit { is_ascii_digit (slice_index text.now 0) ≡ true }
@@ -93,7 +93,7 @@ fn number_len(text: &[u8]) -> usize
     }
 }
 
-// What a quote begins: a string, or nothing.
+/// What a quote begins: a string, or a bad byte.
 fn string_front(text: &[u8]) -> Front
     requires some { 0 < length text.now }
     requires quote { slice_index text.now 0 ≡ 34 }
@@ -110,7 +110,7 @@ fn string_front(text: &[u8]) -> Front
     }
 }
 
-// What a dollar sign begins: a reference, or nothing.
+/// What a dollar sign begins: a reference, or a bad byte.
 fn reference_front(text: &[u8]) -> Front
     requires some { 0 < length text.now }
     requires dollar { slice_index text.now 0 ≡ 36 }
@@ -127,7 +127,7 @@ fn reference_front(text: &[u8]) -> Front
     }
 }
 
-// The token at the front of a text that begins with no blank.
+/// The token at the front of a text that begins with no blank.
 fn first_token(text: &[u8]) -> Front
     requires some { 0 < length text.now }
     requires solid { is_blank (slice_index text.now 0) ≡ false }
@@ -162,12 +162,13 @@ fn first_token(text: &[u8]) -> Front
 /// The tokens of a text, from left to right, the longest first. Every byte string is cut: a byte that
 /// begins no token is a token of kind `Bad`, and spaces and tabs stand between tokens.
 ///
-/// Takes memory for the vector alone, and time in proportion to the text. The one error is that a
-/// growth of the vector was refused.
+/// Takes memory for the vector alone, and time in proportion to the text. The one error is that an
+/// allocation failed; a text of blanks alone takes no memory.
 pub fn cut(alloc: Global, text: &[u8]) -> Result<Vec<Token>, NoMemory>
     ensures tokens { IfOk result (λ tokens. AreTokensOf tokens.items text.now) }
     ensures in_order { IfOk result (λ tokens. StandInOrder 0 tokens.items (length text.now)) }
     ensures in_range { IfOk result (λ tokens. All (λ t. (t.from < t.to) × (t.to ≤ length text.now)) tokens.items) }
+    ensures memory { OnErr result (list_all is_blank text.now ≡ false) }
 {
     let mut tokens = Vec::new(alloc);
     let mut at = 0;

@@ -1,4 +1,4 @@
-// The symbols, and the one at the front of a text.
+//! The symbols, and the one at the front of a text.
 ghost use Rattle.std.specs.Prelude.{◌≡◌, ◌<◌, length};
 ghost use Rattle.stream_tokens.specs.Symbols.{spelling_of};
 ghost use Rattle.stream_tokens.specs.Scanning.{pair_of, single_of, symbol_at};
@@ -117,7 +117,7 @@ impl Symbol {
     }
 }
 
-// The symbol of two bytes.
+/// The symbol of two bytes.
 fn pair(first: u8, second: u8) -> Option<Symbol>
     ensures { result ≡ pair_of first second }
 {
@@ -138,7 +138,7 @@ fn pair(first: u8, second: u8) -> Option<Symbol>
     }
 }
 
-// The symbol of one byte.
+/// The symbol of one byte.
 fn single(first: u8) -> Option<Symbol>
     ensures { result ≡ single_of first }
 {
@@ -167,7 +167,7 @@ fn single(first: u8) -> Option<Symbol>
     }
 }
 
-// The symbol at the front of a text, the longest one.
+/// The symbol at the front of a text, the longest one.
 pub fn symbol_front(text: &[u8]) -> Option<Symbol>
     requires { 0 < length text.now }
     ensures { result ≡ symbol_at text.now }

@@ -1,4 +1,4 @@
-// What a token is, and its text.
+//! What a token is, and its text.
 ghost use Rattle.std.specs.Prelude.{◌≡◌, ◌≤◌, length};
 ghost use Rattle.stream_tokens.specs.Tokens.{token_text};
 
@@ -9,7 +9,7 @@ use crate::symbol::Symbol;
 pub enum TokenKind {
     /// A letter or `_`, then letters, digits and `_`.
     Name,
-    /// Digits, and at most one `L` or `l` behind them.
+    /// Digits, and at most one `L` or `l` after them.
     Number,
     /// A string: a quote, any bytes but a quote, a backslash, CR and LF, and a quote.
     Text,
@@ -21,7 +21,7 @@ pub enum TokenKind {
     Bad,
 }
 
-/// A token: what it is, and where it stands in its text, from `from` up to, not with, `to`.
+/// A token: what it is, and where it stands in its text, from `from` up to but not including `to`.
 #[derive(Clone, Copy, Debug, PartialEq, Eq)]
 pub struct Token {
     pub kind: TokenKind,

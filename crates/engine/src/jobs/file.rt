@@ -10,7 +10,7 @@ use super::fault::{Cause, JobFault};
 use super::job::Job;
 use super::parts::split_parts;
 use std::alloc::Global;
-use stream_tokens::{JobText, cut, job_texts};
+use stream_tokens::{JobText, JobTexts, cut};
 
 /// How many jobs a file may have.
 const MAX_JOBS: usize = 256;
@@ -66,10 +66,10 @@ pub fn read_jobs(alloc: Global, bytes: &[u8]) -> Result<Vec<Job>, JobFault>
         (λ fault. fault.cause ≢ Cause.NoMemory → IsRefused bytes.now fault) }
     ensures memory { IfErr result (λ fault. fault.cause ≡ Cause.NoMemory → fault.line ≡ 0) }
 {
-    let texts = job_texts(alloc, bytes)?;
+    let mut texts = JobTexts::of(bytes);
     let mut jobs = Vec::new(alloc);
-    for text in &texts {
-        read_next(alloc, &mut jobs, text)?;
+    while let Some(text) = texts.next_text(alloc)? {
+        read_next(alloc, &mut jobs, &text)?;
     }
     Ok(jobs)
 }

@@ -1,14 +1,11 @@
-use Rattle.std.proofs.Common.{◌≡◌, ◌+◌, ◌++◌, ◌≤◌, length}
-use Rattle.stream_tokens.specs.Lines.{lines_of}
-use Rattle.stream_tokens.specs.JobTexts.{jobs_from, job_texts_of}
+use Rattle.std.proofs.Common.{◌≡◌}
+use Rattle.stream_tokens.specs.JobTexts.{job_texts_of}
+use Rattle.stream_tokens.proofs.TextLemmas.{with_front, count_left}
 use Rattle.stream_tokens.proofs.job_text.job_texts.Given as goal
 
--- the texts so far and those of the lines that are left are those of all; each line that was read had a byte
-abbrev pub invariant-loop-rest : goal.invariant-loop-rest
-invariant-loop-rest l = record {
-  told : l.texts.items ++ jobs_from (l.line + 1) (lines_of l.rest) ≡ job_texts_of l.bytes;
-  counted : l.line + length l.rest ≤ length l.bytes;
-}
+-- the texts so far and those that are left are those of all lines
+abbrev pub invariant-loop-texts : goal.invariant-loop-texts
+invariant-loop-texts l = job_texts_of l.bytes ≡ with_front l.texts.items l.left
 
-abbrev pub decreases-loop-rest : goal.decreases-loop-rest
-decreases-loop-rest l = length l.rest
+abbrev pub decreases-loop-texts : goal.decreases-loop-texts
+decreases-loop-texts l = count_left l.left
