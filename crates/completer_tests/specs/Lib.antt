@@ -1,1 +1,5 @@
+-- Definitions that callers in the tests use.
 pub mod RandomTrees
+pub mod Walks
+pub mod WalkLaws
+pub mod Halves

@@ -4,4 +4,10 @@
 #[cfg(test)]
 mod counting;
 #[cfg(test)]
+mod paths;
+#[cfg(test)]
 mod random_tree;
+#[cfg(test)]
+mod trees;
+#[cfg(test)]
+mod walks;
