@@ -1,8 +1,6 @@
-mod Counting
 mod Covering
 mod FewStages
 mod JobLists
-mod Placing
 mod RunLemmas
 pub mod Arguing
 pub mod Calling

@@ -15,7 +15,6 @@
 mod jobs;
 mod running;
 mod sinks;
-mod source_values;
 mod telling;
 mod walk;
 

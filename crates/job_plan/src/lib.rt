@@ -1,12 +1,12 @@
-//! Jobs as they are thought of, and the answer of each.
+//! What the jobs of a file mean: the answer of each.
 //!
-//! Stands on `trace`, whose sources, stages and walks the definitions cite, and on `lambda_expr`.
-//! Used by `report`, which writes answers out, and by whatever runs jobs. What it owes to them is one
+//! Stands on `trace`, for sources, stages and walks, and on `lambda_expr`.
+//! Used by `report`, which writes answers, and by whatever runs jobs. What it gives to both is one
 //! definition: `meaning_of` in `specs/Meaning.antt`, the list of the answers of a file's jobs.
 //! Begin with `specs/Answers.antt`, then `specs/Meaning.antt`, then `answer.rt`.
-//! The laws in `laws.rt` are what a walk from item to item needs: how a sum, the values and the
-//! meaning grow by one more. Not promised: that a program computes these answers; each that does says
-//! so in its own contract.
+//! The laws in `laws.rt` are what a program needs that goes from item to item and from job to job:
+//! how a sum, the values and the answers grow by one more. Not promised: that a program computes these
+//! answers; each program that does says so in its own contract.
 #![tactic(auto)]
 
 mod answer;

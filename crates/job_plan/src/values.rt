@@ -1,4 +1,5 @@
-// The values of an array, which contracts see as a list.
+//! The values of an array, which contracts see as a list.
+
 ghost use Rattle.std.specs.Prelude.{◌≡◌};
 
 use std::marker::Model;
@@ -18,7 +19,7 @@ impl Model for Values {
 }
 
 impl Values {
-    /// The values of a vector, which is taken over; nothing is copied.
+    /// The values of a vector, which is moved in; nothing is copied.
     pub fn from_vec(items: Vec<i64>) -> Values
         ensures { result ≡ items.items }
     {
@@ -32,7 +33,7 @@ impl Values {
         self.items
     }
 
-    /// The values, where they lie.
+    /// The values as a slice.
     pub fn as_slice(&self) -> &[i64]
         ensures { result.now ≡ self.now }
     {

@@ -1,3 +1,4 @@
+pub mod Earlier
 pub mod Grammar
 pub mod Judging
 pub mod NumberReading

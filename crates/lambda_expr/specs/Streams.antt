@@ -8,6 +8,7 @@ use Rattle.lambda_expr.specs.declared.inner.InnerExpr.TheVariants as inner_expr
 use Rattle.lambda_expr.specs.declared.inner.Inner.{Inner as Values}
 use Rattle.lambda_expr.specs.declared.inner.Inner.TheVariants as given
 use Rattle.lambda_expr.specs.declared.inner.Run.{Run}
+use Rattle.lambda_expr.specs.Earlier.{Numbers}
 use Rattle.lambda_expr.specs.Operators.{on}
 use Rattle.lambda_expr.specs.Term.{Long, long_of}
 use Rattle.lambda_expr.specs.Value.{long_value}
@@ -36,12 +37,12 @@ abbrev pub up_from : ℤ → ℕ → Result (List ℤ) FaultKind
 up_from a n = if nat_lt (2 ^ 62) n then Err SourceTooLong else Ok (counted a n)
 
 -- the values of operands from left to right, or the first fault (JLS 17, 15.7)
-abbrev pub each_value : List Long → ℤ → List ℤ → Result (List ℤ) FaultKind
+abbrev pub each_value : List Long → ℤ → Numbers → Result (List ℤ) FaultKind
 each_value [] x env = Ok []
 each_value (e ∷ es) x env = on (long_value e x env) (λ v. on (each_value es x env) (λ vs. Ok (v ∷ vs)))
 
 -- the values at the item x: of LongStream, range, rangeClosed, of and empty
-abbrev pub inner_value : Inner → ℤ → List ℤ → Result (List ℤ) FaultKind
+abbrev pub inner_value : Inner → ℤ → Numbers → Result (List ℤ) FaultKind
 inner_value (range a b) x env = on (long_value a x env) (λ v. on (long_value b x env) (λ w. up_from v (distance v w)))
 inner_value (range_closed a b) x env = on (long_value a x env) (λ v. on (long_value b x env) (λ w. up_from v (through v w)))
 inner_value (values es) x env = each_value es x env

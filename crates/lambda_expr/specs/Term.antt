@@ -1,5 +1,5 @@
 -- Meaning: expressions without their places in memory.
-use Rattle.std.specs.Prelude.{ℕ, ℤ, Bool}
+use Rattle.std.specs.Prelude.{ℕ, ℤ, Bool, List}
 use Rattle.lambda_expr.specs.declared.operator.UnaryOperator.{UnaryOperator}
 use Rattle.lambda_expr.specs.declared.operator.BinaryOperator.{BinaryOperator}
 use Rattle.lambda_expr.specs.declared.operator.Comparison.{Comparison}
@@ -10,11 +10,11 @@ use Rattle.lambda_expr.specs.declared.expr.BoolExpr.{BoolExpr}
 use Rattle.lambda_expr.specs.declared.expr.BoolExpr.TheVariants as bool_expr
 
 mutual
-  -- an expression whose value is a number; parameters count from 0, and so do the `$` names of a lambda
+  -- an expression whose value is a number; parameters count from 0, and a reference is the name of an earlier job
   pub data Long : Type 0 where
     number : ℤ → Long
     parameter : ℕ → Long
-    reference : ℕ → Long
+    reference : List ℕ → Long
     unary : UnaryOperator → Long → Long
     binary : BinaryOperator → Long → Long → Long
     choose : Truth → Long → Long → Long
@@ -32,7 +32,7 @@ abbrev mutual
   pub long_of : LongExpr → Long
   long_of (long_expr.Number z) = number z
   long_of (long_expr.Parameter n) = parameter n
-  long_of (long_expr.Reference n) = reference n
+  long_of (long_expr.Reference name) = reference name
   long_of (long_expr.Unary' o p a) = unary o (long_of a)
   long_of (long_expr.Binary' o p a q b) = binary o (long_of a) (long_of b)
   long_of (long_expr.Choose' o c p a q b) = choose (truth_of c) (long_of a) (long_of b)

@@ -7,6 +7,7 @@ ghost use Rattle.std.specs.Prelude.{◌≡◌};
 use super::env::Env;
 use super::fault::FaultKind;
 use super::operator::{BinaryOperator, Comparison, Connective, UnaryOperator};
+use stream_tokens::Bytes;
 
 /// An expression whose value is a number of 64 bits.
 #[cycle(ast)]
@@ -15,8 +16,8 @@ pub enum LongExpr {
     Number(i64),
     /// A parameter by its number: 0, or 1 for the second one of a pair.
     Parameter(usize),
-    /// A `$` name by its place among the names of the lambda.
-    Reference(usize),
+    /// The number of the earlier job with this name: `$name`.
+    Reference(Bytes),
     Unary(UnaryOperator, Box<LongExpr>),
     Binary(BinaryOperator, Box<LongExpr>, Box<LongExpr>),
     /// `c ? p : q` (JLS 17, 15.25).
@@ -38,8 +39,8 @@ pub enum BoolExpr {
 
 impl LongExpr {
     /// The value at the item `x`, or the first fault from left to right (JLS 17, 15.7). `env` holds
-    /// the numbers of the lambda's `$` names, in the order of `Lambda::names`. One call for each node
-    /// that is evaluated; it takes no memory.
+    /// the numbers of the earlier jobs that `$` names stand for. One call for each node that is
+    /// evaluated, and for a reference a comparison with each name up to its own; it takes no memory.
     #[cycle(eval)]
     pub fn eval(&self, x: i64, env: &Env) -> Result<i64, FaultKind>
         ensures { result ≡ long_value (long_of self.now) x env.now }
@@ -47,7 +48,7 @@ impl LongExpr {
         match self {
             LongExpr::Number(number) => Ok(*number),
             LongExpr::Parameter(_) => Ok(x),
-            LongExpr::Reference(place) => Ok(env.number(*place)),
+            LongExpr::Reference(name) => Ok(env.number(name.as_slice()).unwrap_or(0)),
             LongExpr::Unary(operator, operand) => {
                 let value = operand.eval(x, env)?;
                 operator.apply(value)

@@ -30,7 +30,7 @@ mod read;
 mod tree;
 mod wrapping;
 
-pub use env::Env;
+pub use env::{Env, NamedNumber};
 pub use expr::{BoolExpr, LongExpr};
 pub use fault::{FaultKind, ReadFault};
 pub use inner::{Inner, InnerExpr, Run};

@@ -49,18 +49,31 @@ fn walked(alloc: Global, stages: &[Stage], values: &[i64]) -> Result<Chunk, NoMe
     let items = items_of(alloc, values)?;
     let mut chunk = Chunk::ending(alloc, End::Done);
     if let Fed::Fault(fault) = feed_all(stages, 1, &Env::empty(alloc), &items, &mut chunk)? {
-        chunk.end_with(End::Fault(fault));
+        end(alloc, &mut chunk, End::Fault(fault))?;
     }
     Ok(chunk)
 }
 
+/// Ends a chunk. No clause lets this fail, since the other chunk has no items.
+fn end(alloc: Global, chunk: &mut Chunk, end: End) -> Result<(), NoMemory> {
+    match chunk.append(Chunk::ending(alloc, end)) {
+        Ok(()) => Ok(()),
+        Err(_) => Err(AllocError),
+    }
+}
+
 /// Whether a chunk has these values at these places, and ends so.
 fn is_chunk(chunk: &Chunk, origins: &[u64], values: &[i64], end: End) -> bool {
-    chunk.end() == end
-        && chunk.items().len() == values.len()
-        && chunk.items().iter().zip(origins).zip(values).all(|((item, origin), value)| item.origin
-            == *origin
-            && item.value == *value)
+    let mut expected = origins.iter().zip(values);
+    for piece in chunk.pieces() {
+        for item in piece {
+            match expected.next() {
+                Some((origin, value)) if item.origin == *origin && item.value == *value => {}
+                _ => return false,
+            }
+        }
+    }
+    expected.next().is_none() && chunk.end() == end
 }
 
 #[test]
@@ -101,7 +114,7 @@ fn chunk_of(alloc: Global, items: &[Item], end: End) -> Result<Chunk, NoMemory> 
             chunk.push(*item)?;
         }
     }
-    chunk.end_with(end);
+    self::end(alloc, &mut chunk, end)?;
     Ok(chunk)
 }
 
@@ -115,8 +128,19 @@ fn a_chunk_goes_on_with_another_until_a_fault(rt: HostRuntime) -> Result<(), Fai
     assert!(rt; is_chunk(&chunk, &[0], &[4], End::Done));
     assert!(rt; chunk.append(second).is_ok());
     assert!(rt; chunk.append(third).is_ok());
-    chunk.end_with(division_by_zero(3, 6));
+    end(alloc, &mut chunk, division_by_zero(3, 6))?;
     assert!(rt; is_chunk(&chunk, &[0, 1, 2], &[4, -5, 6], division_by_zero(1, 3)));
+    Ok(())
+}
+
+#[test]
+fn a_chunk_that_goes_on_with_another_keeps_its_pieces(rt: HostRuntime) -> Result<(), Fail> {
+    let alloc = rt.alloc();
+    let mut chunk = chunk_of(alloc, &[item(0, 4), item(1, 5)], End::Done)?;
+    let second = chunk_of(alloc, &[item(2, 6), item(3, 7), item(4, 8)], End::Done)?;
+    assert!(rt; chunk.append(second).is_ok());
+    assert!(rt; chunk.pieces().iter().map(|piece| piece.len()).eq([2, 3]));
+    assert!(rt; is_chunk(&chunk, &[0, 1, 2, 3, 4], &[4, 5, 6, 7, 8], End::Done));
     Ok(())
 }
 

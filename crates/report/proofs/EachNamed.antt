@@ -1,31 +1,35 @@
 -- The answers of a file's jobs can be printed.
-use Rattle.std.proofs.Common.{◌≡◌, ℕ, suc, List, [], ◌∷◌, length, ap, refl, All}
+use Rattle.std.proofs.Common.{◌≡◌, ℕ, suc, List, [], ◌∷◌, ◌++◌, length, ap, refl, All}
 use Rattle.std.specs.List.{AllByRecursion}
 use Rattle.std.proofs.lemmas.List.Elements.{All-from_recursion}
+use Rattle.lambda_expr.specs.Earlier.{Numbers}
 use Rattle.trace.specs.declared.item.End.{End}
 use Rattle.trace.specs.declared.item.End.TheVariants as end
 use Rattle.trace.specs.Trace.{Trace}
 use Rattle.job_plan.specs.declared.answer.Answer.{Answer}
 use Rattle.job_plan.specs.declared.answer.Answer.TheVariants.{Unusable}
 use Rattle.job_plan.specs.Answers.{TerminalTerm, sum, to_array, answer_of, unless_fault}
-use Rattle.job_plan.specs.Meaning.{JobTerm, meaning_of, names_of}
+use Rattle.job_plan.specs.Meaning.{JobTerm, NamedAnswer, answer_after, answers_from, answers_in, meaning_of, names_of}
 use Rattle.report.specs.Named.{IsNamed}
 
 usable_or_fault : (e : End) (a : Answer) → ((i : ℕ) → a ≡ Unusable i → ⊥) → (i : ℕ) → unless_fault e a ≡ Unusable i → ⊥
 usable_or_fault end.Done a other i is = other i is
 usable_or_fault (end.Fault f) a other i is = cc
 
-usable : (terminal : TerminalTerm) (t : Trace) (i : ℕ) → answer_of terminal t ≡ Unusable i → ⊥
-usable sum t = usable_or_fault t.ending _ (λ i is. cc)
-usable to_array t = usable_or_fault t.ending _ (λ i is. cc)
+usable : (n : ℕ) (env : Numbers) (terminal : TerminalTerm) (t : Trace) (i : ℕ) → answer_of n env terminal t ≡ Unusable i → ⊥
+usable n env sum t = usable_or_fault t.ending _ (λ i is. cc)
+usable n env to_array t = usable_or_fault t.ending _ (λ i is. cc)
 
-each_named : (names : List (List ℕ)) (jobs : List JobTerm) → AllByRecursion (IsNamed names) (meaning_of jobs)
-each_named names [] = tt
-each_named names (job ∷ jobs) = ((λ i is. absurd (usable job.terminal _ i is)), each_named names jobs)
+each_named : (names : List (List ℕ)) (before : List NamedAnswer) (jobs : List JobTerm) → AllByRecursion (IsNamed names) (answers_in (answers_from before jobs))
+each_named names before [] = tt
+each_named names before (job ∷ jobs) = ((λ i is. absurd (usable (suc (length job.stages)) [] job.terminal _ i is)), each_named names (before ++ answer_after before job ∷ []) jobs)
 
 pub named : (jobs : List JobTerm) → All (IsNamed (names_of jobs)) (meaning_of jobs)
-named jobs = All-from_recursion (IsNamed (names_of jobs)) (meaning_of jobs) (each_named (names_of jobs) jobs)
+named jobs = All-from_recursion (IsNamed (names_of jobs)) (meaning_of jobs) (each_named (names_of jobs) [] jobs)
+
+each_paired : (before : List NamedAnswer) (jobs : List JobTerm) → length (names_of jobs) ≡ length (answers_in (answers_from before jobs))
+each_paired before [] = refl
+each_paired before (job ∷ jobs) = ap suc (each_paired (before ++ answer_after before job ∷ []) jobs)
 
 pub paired : (jobs : List JobTerm) → length (names_of jobs) ≡ length (meaning_of jobs)
-paired [] = refl
-paired (job ∷ jobs) = ap suc (paired jobs)
+paired jobs = each_paired [] jobs

@@ -1,3 +1,6 @@
+pub mod Covering
+pub mod InPieces
 pub mod Joining
+pub mod Ranges
 pub mod Sources
 pub mod Walking

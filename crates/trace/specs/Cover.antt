@@ -1,43 +1,40 @@
 -- Meaning: the items of a source, in encounter order.
-use Rattle.std.specs.Prelude.{ℕ, zero, suc, ◌^◌, ℤ, pos, ◌+ℤ◌, ◌-ℤ◌, int_lt, unsigned_abs, nat_lt, if◌then◌else◌, List, [], ◌∷◌, length, None}
+use Rattle.std.specs.Prelude.{ℕ, zero, suc, ◌^◌, ℤ, pos, ◌+ℤ◌, ◌-ℤ◌, int_lt, unsigned_abs, nat_lt, if◌then◌else◌, List, [], ◌∷◌, ◌++◌, length, None}
 use Rattle.lambda_expr.specs.declared.fault.FaultKind.TheVariants.{SourceTooLong}
 use Rattle.trace.specs.declared.item.Item.{Item}
 use Rattle.trace.specs.declared.item.End.TheVariants as end
 use Rattle.trace.specs.Trace.{Trace, trace}
 
--- a source as it is thought of
+-- an abstract source
 pub data SourceTerm : Type 0 where
   range : ℤ → ℤ → SourceTerm
   values : List ℤ → SourceTerm
+  concat : SourceTerm → SourceTerm → SourceTerm
 
--- so many whole numbers, counted up from the first
+-- n integers, counted up from the first
 abbrev pub counted : ℤ → ℕ → List ℤ
 counted a zero = []
 counted a (suc n) = a ∷ counted (a +ℤ pos 1) n
 
--- how many whole numbers there are from a up to, not with, b
+-- how many integers there are from a up to, not with, b
 abbrev pub distance : ℤ → ℤ → ℕ
 distance a b = if int_lt a b then unsigned_abs (b -ℤ a) else 0
 
--- the values of a source (`LongStream.range`, `LongStream.of`)
+-- the values of a source (`LongStream.range`, `of`, `concat`)
 abbrev pub values_of : SourceTerm → List ℤ
 values_of (range a b) = counted a (distance a b)
 values_of (values vs) = vs
+values_of (concat s t) = values_of s ++ values_of t
 
 -- values at places that count up from the first
 abbrev pub placed : ℕ → List ℤ → List Item
 placed i [] = []
 placed i (v ∷ vs) = record { origin = i; value = v } ∷ placed (suc i) vs
 
--- how many values a source has
-abbrev pub size : SourceTerm → ℕ
-size (range a b) = distance a b
-size (values vs) = length vs
-
--- a source of more than 2^62 values has no items and this fault, which is of no stage and no item
+-- a source of more than 2^62 values has no items, and a fault of no stage and no item
 abbrev pub too_long : Trace
 too_long = trace [] (end.Fault (record { kind = SourceTooLong; stage = 0; origin = None }))
 
 -- the trace of a source: its values at the places 0, 1, 2 and so on
 abbrev pub cover : SourceTerm → Trace
-cover s = if nat_lt (2 ^ 62) (size s) then too_long else trace (placed 0 (values_of s)) end.Done
+cover s = if nat_lt (2 ^ 62) (length (values_of s)) then too_long else trace (placed 0 (values_of s)) end.Done

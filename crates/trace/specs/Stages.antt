@@ -1,6 +1,7 @@
--- Meaning: what the stages of a pipeline make of a trace.
+-- Meaning: what the stages that look at one item at a time make of a trace.
 use Rattle.std.specs.Prelude.{ℕ, suc, ℤ, Bool, true, false, List, [], ◌∷◌, Some, Result, Ok, Err}
 use Rattle.lambda_expr.specs.declared.fault.FaultKind.{FaultKind}
+use Rattle.lambda_expr.specs.Earlier.{Numbers}
 use Rattle.lambda_expr.specs.Term.{Long, Truth, long_of, truth_of}
 use Rattle.lambda_expr.specs.Value.{long_value, truth_value}
 use Rattle.trace.specs.declared.item.Item.{Item}
@@ -9,7 +10,7 @@ use Rattle.trace.specs.declared.stage.Stage.{Stage}
 use Rattle.trace.specs.declared.stage.Stage.TheVariants as stage
 use Rattle.trace.specs.Trace.{Trace, trace, each}
 
--- a stage as it is thought of
+-- an abstract stage that looks at one item at a time
 pub data StageTerm : Type 0 where
   map : Long → StageTerm
   filter : Truth → StageTerm
@@ -30,16 +31,20 @@ passed n x (Ok false) = trace [] end.Done
 passed n x (Err k) = faulted k n x
 
 -- what stage number n makes of one item
-abbrev pub of_item : ℕ → StageTerm → List ℤ → Item → Trace
+abbrev pub of_item : ℕ → StageTerm → Numbers → Item → Trace
 of_item n (map e) env x = image n x (long_value e x.value env)
 of_item n (filter p) env x = passed n x (truth_value p x.value env)
 
--- the stages in order of writing, the first of them with this number; each of them takes what the one before it gives
-abbrev pub pipe : ℕ → List StageTerm → List ℤ → Trace → Trace
-pipe n [] env t = t
-pipe n (g ∷ gs) env t = pipe (suc n) gs env (each (of_item n g env) t.items t.ending)
+-- what stage number n makes of a trace: what it makes of each item, one after the other
+abbrev pub through : ℕ → StageTerm → Numbers → Trace → Trace
+through n g env t = each (of_item n g env) t.items t.ending
 
--- what a stage of the program stands for
+-- the stages in order of writing, the first one with this number; each takes what the one before it gives
+abbrev pub pipe : ℕ → List StageTerm → Numbers → Trace → Trace
+pipe n [] env t = t
+pipe n (g ∷ gs) env t = pipe (suc n) gs env (through n g env t)
+
+-- the abstract stage of a stage of the program
 abbrev pub stage_of : Stage → StageTerm
 stage_of (stage.Map e) = map (long_of e)
 stage_of (stage.Filter p) = filter (truth_of p)

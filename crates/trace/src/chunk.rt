@@ -1,31 +1,34 @@
-// The items of a walk so far, and how the walk ended.
+//! The items of a walk so far, and how the walk ended.
 
-ghost use Rattle.std.specs.Prelude.{◌≡◌, ◌≢◌, [], ◌∷◌, ◌++◌, OnOk, OnErr, IfErr, IfOk, ⊤, map};
+ghost use Rattle.std.specs.Prelude.{◌≡◌, ◌≢◌, [], ◌∷◌, ◌++◌, All, OnOk, OnErr, IfErr, IfOk, ⊤, flat_map, map};
 ghost use Rattle.trace.specs.Trace.{trace, append};
-ghost use Rattle.trace.specs.declared.item.End.TheVariants as end;
 ghost use Rattle.trace.specs.Sinks.{flow_at};
+ghost use Rattle.trace.specs.declared.item.End.TheVariants as end;
 
-use super::NoMemory;
-use super::item::{End, Fault, Item};
-use super::sink::{Flow, LongSink};
-use std::alloc::{AllocFailed, Global};
+use crate::NoMemory;
+use crate::item::{End, Item};
+use crate::sink::{Flow, LongSink};
+use std::alloc::Global;
 use std::marker::Model;
 
 /// The items that a walk gave, and how it ended.
 ///
-/// To contracts a chunk is the trace of that walk. As a sink it takes items until it has ended.
-#[derive(Debug, Drop)]
+/// Contracts see a chunk as the trace of that walk. As a sink it takes items until it has ended.
+/// The items are stored in pieces: joining two chunks moves the pieces and no item.
+#[derive(Drop)]
 pub struct Chunk {
-    items: Vec<Item>,
+    pieces: Vec<Vec<Item>>,
     end: End,
+    ghost no_empty_piece: { All (λ piece. piece.items ≢ []) pieces.items },
 }
 
 impl Model for Chunk {
+    ghost use Rattle.std.specs.Prelude.{flat_map};
     ghost use Rattle.trace.specs.Trace.{Trace, trace};
 
     ghost Value = { Trace };
 
-    ghost view = { λ chunk. trace chunk.items.items chunk.end };
+    ghost view = { λ chunk. trace (flat_map (λ piece. piece.items) chunk.pieces.items) chunk.end };
 }
 
 impl Chunk {
@@ -34,27 +37,35 @@ impl Chunk {
         ensures { result ≡ trace [] end }
     {
         Chunk {
-            items: Vec::new(alloc),
+            pieces: Vec::new(alloc),
             end,
         }
     }
 
-    /// Puts an item after the others, in amortized constant time.
+    /// Adds an item after the others, in amortized constant time.
     ///
-    /// A refusal leaves the chunk as it was.
+    /// If the allocation fails, the chunk stays as it was.
     pub fn push(&mut self, item: Item) -> Result<(), NoMemory>
         requires { self.old.ending ≡ End.Done }
         ensures ok { OnOk result (self.new ≡ trace (self.old.items ++ item ∷ []) End.Done) }
         ensures err { OnErr result (self.new ≡ self.old) }
     {
-        self.items.push(item)?;
+        match self.pieces.last_mut() {
+            Some(piece) => piece.push(item)?,
+            None => {
+                let mut piece = Vec::new(*self.pieces.allocator());
+                piece.push(item)?;
+                self.pieces.push(piece)?;
+            }
+        }
         Ok(())
     }
 
-    /// Goes on with another chunk: its items, moved once, and its end.
+    /// Goes on with another chunk: its items, and then its end. It moves the pieces of `right` and
+    /// no item.
     ///
-    /// A chunk that ends in a fault stays, and `right` is dropped. Where the room for its items is
-    /// refused, `right` comes back and nothing has changed.
+    /// A chunk that ends in a fault stays as it is, and `right` is dropped. If the allocation fails,
+    /// `right` comes back and the chunk stays as it was.
     pub fn append(&mut self, mut right: Chunk) -> Result<(), Chunk>
         ensures ok { OnOk result (self.new ≡ append self.old right) }
         ensures err { OnErr result (self.new ≡ self.old) }
@@ -64,39 +75,29 @@ impl Chunk {
         if let End::Fault(_) = self.end {
             return Ok(());
         }
-        if self.items.append(&mut right.items).is_err() {
+        if self.pieces.append(&mut right.pieces).is_err() {
             return Err(right);
         }
         self.end = right.end;
         Ok(())
     }
 
-    /// Ends a chunk that isn't ended yet. The first fault stays. It takes no memory.
-    pub fn end_with(&mut self, end: End)
-        ensures joined { self.new ≡ append self.old (trace [] end) }
-        ensures items { self.new.items ≡ self.old.items }
+    /// The pieces: the items of the first, then those of the second, and so on.
+    pub fn pieces(&self) -> &[Vec<Item>]
+        ensures { flat_map (λ piece. piece.items) result.now ≡ self.now.items }
     {
-        if let End::Done = self.end {
-            self.end = end;
-        }
+        self.pieces.as_slice()
     }
 
-    /// The items, in turn.
-    pub fn items(&self) -> &[Item]
-        ensures { result.now ≡ self.now.items }
-    {
-        self.items.as_slice()
-    }
-
-    /// The values of a walk that is done, in turn, each copied once.
+    /// The values of a walk that is done, in encounter order, each copied once.
     ///
-    /// Where the room for them is refused, the chunk comes back.
+    /// If the allocation fails, the chunk comes back.
     pub fn into_values(self, alloc: Global) -> Result<Vec<i64>, Chunk>
         requires { self.ending ≡ End.Done }
         ensures ok { IfOk result (λ values. values.items ≡ map (λ x. x.value) self.items) }
         ensures err { IfErr result (λ chunk. chunk ≡ self) }
     {
-        match self.items.iter().map(|item| item.value).collect(alloc) {
+        match values_in(alloc, &self.pieces) {
             Ok(values) => Ok(values),
             Err(_) => Err(self),
         }
@@ -108,6 +109,19 @@ impl Chunk {
     {
         self.end
     }
+}
+
+/// The values of the items in these pieces.
+fn values_in(alloc: Global, pieces: &[Vec<Item>]) -> Result<Vec<i64>, NoMemory>
+    ensures { IfOk result (λ values. values.items ≡ map (λ x. x.value) (flat_map (λ piece. piece.items) pieces.now)) }
+{
+    let mut values = Vec::new(alloc);
+    for piece in pieces {
+        for item in piece {
+            values.push(item.value)?;
+        }
+    }
+    Ok(values)
 }
 
 impl LongSink for Chunk {

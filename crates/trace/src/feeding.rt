@@ -1,4 +1,4 @@
-// One item's way through the stages, into a sink.
+//! One item through the stages and into a sink, and the items of a source one by one.
 
 ghost use Rattle.std.specs.Prelude.{◌≡◌, ◌+◌, ◌<◌, ◌^◌, List, [], ◌∷◌, length, OnErr};
 ghost use Rattle.trace.specs.Trace.{trace};
@@ -7,29 +7,29 @@ ghost use Rattle.trace.specs.Sinks.{IsFed, flow_after};
 ghost use Rattle.trace.specs.declared.item.Item.{Item};
 ghost use Rattle.trace.specs.declared.item.End.TheVariants as end;
 
-use super::NoMemory;
-use super::item::{Fault, Item};
-use super::sink::{Flow, LongSink};
-use super::stage::Stage;
+use crate::NoMemory;
+use crate::item::{Fault, Item};
+use crate::sink::{Flow, LongSink};
+use crate::source::SourceItems;
+use crate::stage::Stage;
 use lambda_expr::{Env, FaultKind};
 
-/// How the way of an item through the stages ended.
+/// What became of the items that were taken through the stages.
 #[derive(Clone, Copy, Debug, PartialEq, Eq)]
 pub enum Fed {
-    /// The sink wants more.
+    /// All of them went through, and the sink wants more.
     More,
     /// The sink has enough.
     Enough,
-    /// A stage had no value for it.
+    /// A lambda of a stage has no value at one of them.
     Fault(Fault),
 }
 
 /// Takes one item through all stages, depth first, and gives the sink what comes out.
 ///
-/// The stages count from `first_stage` on. A sink that has enough ends the walk at once, and so does
-/// a fault: no later stage is evaluated. One call for each stage; nothing is copied but the item, and
-/// no memory is taken beyond what the sink takes. `NoMemory` is the sink's own refusal; the sink
-/// then keeps what it has accepted before.
+/// The stages are numbered from `first_stage` on. The walk stops at once when the sink has enough or
+/// a stage faults: no later stage is evaluated. It makes one call per stage and allocates nothing
+/// itself. `NoMemory` comes from the sink, which then keeps what it has accepted before.
 pub fn feed<S: LongSink>(
     stages: &[Stage],
     first_stage: u32,
@@ -69,25 +69,25 @@ pub fn feed<S: LongSink>(
     }
 }
 
-/// Takes items one after the other through all stages, as `feed` does each.
+/// Takes the items of a source one after the other through all stages, each as `feed` does.
 ///
-/// It ends at the first fault, and where the sink has enough: no later item is looked at.
-pub fn feed_all<S: LongSink>(
+/// It stops at the first fault, and when the sink has enough: no later item is read.
+pub fn feed_all<I: SourceItems, S: LongSink>(
     stages: &[Stage],
     first_stage: u32,
     env: &Env,
-    items: &[Item],
+    source: &I,
     sink: &mut S,
 ) -> Result<Fed, NoMemory>
     requires numbered { first_stage + length stages.now < 2 ^ 32 }
     requires wants { S.flow sink.old ≡ Flow.More }
     ensures fed { (xs : List Item) → S.has_taken sink.old xs → IsFed S.has_taken xs
-        (pipe first_stage (stages_of stages.now) env.now (trace items.now end.Done)) result sink.new }
+        (pipe first_stage (stages_of stages.now) env.now (trace (I.items source.now) end.Done)) result sink.new }
     ensures flow { S.flow sink.new ≡ flow_after result }
     ensures refused { OnErr result S.takes_memory }
 {
-    for item in items {
-        match feed(stages, first_stage, env, *item, sink)? {
+    for position in 0..source.count() {
+        match feed(stages, first_stage, env, source.item_at(position), sink)? {
             Fed::More => {}
             ended => return Ok(ended),
         }

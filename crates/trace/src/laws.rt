@@ -1,6 +1,7 @@
-// Laws of joined walks and of stages. Each stands on a function that does nothing.
+//! Laws of joined walks and of stages. Each is the contract of a function that does nothing.
 
-ghost use Rattle.std.specs.Prelude.{◌≡◌, ℕ, ℤ, List, [], ◌∷◌};
+ghost use Rattle.lambda_expr.specs.Earlier.{Numbers};
+ghost use Rattle.std.specs.Prelude.{◌≡◌, ℕ, List, [], ◌∷◌};
 ghost use Rattle.trace.specs.Trace.{Trace, trace, nothing, append, each};
 ghost use Rattle.trace.specs.Stages.{StageTerm, pipe};
 ghost use Rattle.trace.specs.declared.item.Item.{Item};
@@ -21,22 +22,25 @@ pub fn nothing_is_the_unit()
     ensures right { (a : Trace) → append a nothing ≡ a }
 {}
 
-/// What the stages make of joined pieces is joined of what they make of each. So a walk can be cut
-/// anywhere, and a fault in a piece ends the whole.
+/// Stages that look at one item at a time give for joined pieces what they give for each piece,
+/// joined. So a walk through them may be cut anywhere, and a fault in a piece ends the whole.
+///
+/// A stage that looks at the whole walk, such as `limit`, has no such law.
 #[tactic(auto, using(crate::proofs::Joining::each_append, crate::proofs::Joining::pipe_append, crate::proofs::Joining::pipe_faulted))]
 pub fn stages_keep_joining()
     ensures one_stage { (f : Item → Trace) (a b : Trace) → each f (append a b).items (append a b).ending
         ≡ append (each f a.items a.ending) (each f b.items b.ending) }
-    ensures all_stages { (n : ℕ) (gs : List StageTerm) (env : List ℤ) (a b : Trace)
+    ensures all_stages { (n : ℕ) (gs : List StageTerm) (env : Numbers) (a b : Trace)
         → pipe n gs env (append a b) ≡ append (pipe n gs env a) (pipe n gs env b) }
-    ensures fault { (n : ℕ) (gs : List StageTerm) (env : List ℤ) (a b : Trace) (f : Fault)
+    ensures fault { (n : ℕ) (gs : List StageTerm) (env : Numbers) (a b : Trace) (f : Fault)
         → (pipe n gs env a).ending ≡ end.Fault f → pipe n gs env (append a b) ≡ pipe n gs env a }
 {}
 
-/// A walk that takes each item through all stages before it takes the next one gives what the stages
-/// give one after the other, each over all items: the same items and the same fault.
+/// A walk that takes each item through all stages before the next item gives the same items and the
+/// same fault as the stages one after the other, each over all items. This too holds of stages that
+/// look at one item at a time.
 #[tactic(auto, using(crate::proofs::Joining::pipe_each))]
 pub fn stages_go_item_by_item()
-    ensures { (n : ℕ) (gs : List StageTerm) (env : List ℤ) (xs : List Item) (e : End)
+    ensures { (n : ℕ) (gs : List StageTerm) (env : Numbers) (xs : List Item) (e : End)
         → pipe n gs env (trace xs e) ≡ each (λ x. pipe n gs env (trace (x ∷ []) end.Done)) xs e }
 {}

@@ -15,6 +15,7 @@ mod feeding;
 mod item;
 mod laws;
 mod sink;
+mod source;
 mod stage;
 
 pub use chunk::Chunk;
@@ -24,5 +25,6 @@ pub use laws::{
     joining_is_associative, nothing_is_the_unit, stages_go_item_by_item, stages_keep_joining,
 };
 pub use sink::{Flow, LongSink};
+pub use source::{LONGEST_SOURCE, RangeItems, SourceItems, ValueItems};
 pub use stage::Stage;
 pub use std::alloc::AllocError as NoMemory;

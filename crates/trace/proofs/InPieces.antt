@@ -1,0 +1,31 @@
+-- Items that stand in pieces: what changes with a piece, and how they are read one by one.
+use Rattle.std.proofs.Common.{◌≡◌, ◌≢◌, ℕ, zero, suc, ◌+◌, ◌<◌, List, [], ◌∷◌, ◌++◌, All, length, take, get_or, map, set, refl, sym, ap, ◌∙◌, append_assoc, arith}
+use Rattle.std.specs.List.{flat_map}
+use Rattle.std.proofs.lemmas.List.{append-nil, map-append, take_more}
+use Rattle.std.proofs.lemmas.List.Elements.{All-head}
+
+-- the last piece grows
+pub last_grows : {X A : Type 0} (f : X → List A) (xs : List X) (i : ℕ) (x y : X) (more : List A) → suc i ≡ length xs → f y ≡ f (get_or xs i x) ++ more → flat_map f (set xs i y) ≡ flat_map f xs ++ more
+last_grows f [] i x y more last is = absurd (omega (arith, last))
+last_grows f (z ∷ []) zero x y more last is = append-nil (f y) ∙ is ∙ ap (λ front. front ++ more) (sym (append-nil (f z)))
+last_grows f (z ∷ []) (suc i) x y more last is = absurd (omega (arith, last))
+last_grows f (z ∷ w ∷ xs) zero x y more last is = absurd (omega (arith, last))
+last_grows f (z ∷ w ∷ xs) (suc i) x y more last is =
+    ap (λ rest. f z ++ rest) (last_grows f (w ∷ xs) i x y more (omega (arith, last)) is) ∙ sym (append_assoc (f z) (flat_map f (w ∷ xs)) more)
+
+-- pieces of which none is empty have an item
+pub some_item : {X A : Type 0} (f : X → List A) (xs : List X) → All (λ x. f x ≢ []) xs → 0 < length xs → flat_map f xs ≡ [] → ⊥
+some_item f [] full some_piece e = absurd (omega (arith, some_piece))
+some_item f (x ∷ xs) full some_piece e = All-head (λ y. f y ≢ []) x xs full (front_empty (f x) (flat_map f xs) e)
+  where
+    front_empty : {A : Type 0} (front bs : List A) → front ++ bs ≡ [] → front ≡ []
+    front_empty [] bs e = refl
+    front_empty (a ∷ front) bs e = cc
+
+-- one item more
+pub map_more : {A B : Type 0} (f : A → B) (xs ys : List A) (i : ℕ) (d : A) → i < length ys → map f (xs ++ take (i + 1) ys) ≡ map f (xs ++ take i ys) ++ f (get_or ys i d) ∷ []
+map_more f xs ys i d within =
+    ap (λ zs. map f (xs ++ zs)) (take_more ys i d within) ∙ ap (map f) (sym (append_assoc xs (take i ys) (get_or ys i d ∷ []))) ∙ map-append f (xs ++ take i ys) (get_or ys i d ∷ [])
+
+pub pushed_is : {B : Type 0} (new old vs : List B) (written v : B) → new ≡ old ++ written ∷ [] → old ≡ vs → written ≡ v → new ≡ vs ++ v ∷ []
+pushed_is new old vs written v is same at_v = is ∙ ap (λ us. us ++ written ∷ []) same ∙ ap (λ w. vs ++ w ∷ []) at_v

@@ -1,0 +1,38 @@
+-- The values of a range in 64 bits.
+use Rattle.std.proofs.Common.{◌≡◌, ℕ, ◌<◌, ◌≤◌, ◌^◌, ℤ, pos, ◌+ℤ◌, FitsSigned, to_z, of_z, w64, refl, ap, subst, ◌∙◌, arith, zero-add, Some, List, length, get_or}
+use Rattle.std.specs.List.{slice_get}
+use Rattle.std.proofs.Math.IntN.{+ℤ_idr}
+use Rattle.std.proofs.lemmas.Int.{to_z-of_z, to_z_pos}
+use Rattle.std.proofs.lemmas.Option.{slice_get-get_or}
+use Rattle.trace.specs.declared.item.Item.{Item}
+use Rattle.trace.specs.Cover.{counted, placed}
+use Rattle.trace.proofs.Sources.{counted_at, placed_at, length-placed, length-counted}
+
+pub small : (n c : ℕ) → n < c → c ≤ 2 ^ 62 → FitsSigned w64 (pos n)
+small n c below few = record { sfits = omega (arith, below, few) }
+
+first_fits : (a : ℤ) (n c : ℕ) → ((i : ℕ) → i < c → FitsSigned w64 (a +ℤ pos i)) → n < c → FitsSigned w64 a
+first_fits a n c all below = subst (FitsSigned w64) (+ℤ_idr a) (all 0 (omega (arith, below)))
+
+pub sum_is : (a : ℤ) (n c : ℕ) → ((i : ℕ) → i < c → FitsSigned w64 (a +ℤ pos i)) → n < c → c ≤ 2 ^ 62 → to_z w64 (of_z w64 a) +ℤ to_z w64 n ≡ a +ℤ pos n
+sum_is a n c all below few =
+    let low : n < 2 ^ 63 = omega (arith, below, few) in
+    rw (to_z-of_z w64 a (first_fits a n c all below), to_z_pos w64 n low) refl
+
+-- the value at a position, computed in 64 bits
+pub sum_fits : (a : ℤ) (n c : ℕ) → ((i : ℕ) → i < c → FitsSigned w64 (a +ℤ pos i)) → n < c → c ≤ 2 ^ 62 → to_z w64 (of_z w64 (to_z w64 (of_z w64 a) +ℤ to_z w64 n)) ≡ a +ℤ pos n
+sum_fits a n c all below few =
+    ap (λ (z : ℤ). to_z w64 (of_z w64 z)) (sum_is a n c all below few) ∙ to_z-of_z w64 (a +ℤ pos n) (all n below)
+
+-- the item at a position of a source
+pub placed_get : (vs : List ℤ) (n : ℕ) (z v : ℤ) → n < length vs → get_or vs n z ≡ v → slice_get (placed 0 vs) n ≡ Some (record { origin = n; value = v })
+placed_get vs n z v within is =
+    let x : Item = record { origin = n; value = v } in
+    let at_place : get_or (placed 0 vs) n x ≡ record { origin = n; value = get_or vs n z } = placed_at 0 vs n x z within ∙ ap (λ (j : ℕ). let y : Item = record { origin = j; value = get_or vs n z } in y) (zero-add n) in
+    slice_get-get_or (placed 0 vs) n x (rw (length-placed 0 vs) within) ∙ ap (λ (y : Item). Some y) at_place ∙ ap (λ (u : ℤ). let y : Item = record { origin = n; value = u } in Some y) is
+
+-- the item at a position of a range
+pub counted_get : (a : ℤ) (c n : ℕ) → n < c → slice_get (placed 0 (counted a c)) n ≡ Some (record { origin = n; value = a +ℤ pos n })
+counted_get a c n within =
+    let v : ℤ = a +ℤ pos n in
+    placed_get (counted a c) n v v (rw (length-counted a c) within) (counted_at a c n v within)

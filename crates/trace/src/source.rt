@@ -1,0 +1,110 @@
+//! Items that are read by their positions, and the sources that have them.
+
+ghost use Rattle.std.specs.Prelude.{◌≡◌, ◌<◌, ◌≤◌, ◌^◌, ℕ, pos, ◌+ℤ◌, List, length, FitsSigned, IfNone, IfSome, Some, slice_get};
+ghost use Rattle.std.specs.Int.{w64};
+ghost use Rattle.trace.specs.Cover.{counted, cover, placed, range, too_long, values as listed};
+ghost use Rattle.trace.specs.Trace.{trace};
+ghost use Rattle.trace.specs.declared.item.End.TheVariants as end;
+ghost use Rattle.trace.specs.declared.item.Item.{Item};
+
+use crate::item::Item;
+
+/// The largest number of values that a source may have: 2^62.
+pub const LONGEST_SOURCE: u64 = 1 << 62;
+
+/// Items in encounter order that can be read by position.
+pub trait SourceItems {
+    // The items, in encounter order.
+    ghost items: { Self → List Item };
+
+    /// The number of items.
+    fn count(&self) -> u64
+        ensures { result ≡ length (items self.now) };
+
+    /// The item at a position, from 0 on.
+    fn item_at(&self, position: u64) -> Item
+        requires { position < length (items self.now) }
+        ensures { slice_get (items self.now) position ≡ Some result };
+}
+
+/// The items of `LongStream.range`: integers counted up by 1, at the places 0, 1, 2 and so on.
+#[derive(Drop)]
+pub struct RangeItems {
+    pub first: i64,
+    pub count: u64,
+    ghost few: { count ≤ 2 ^ 62 },
+    ghost in_range: { (i : ℕ) → i < count → FitsSigned w64 (first +ℤ pos i) },
+}
+
+impl RangeItems {
+    /// The integers from `from` up to, not with, `to`; `None` if there are more than 2^62.
+    pub fn between(from: i64, to: i64) -> Option<RangeItems>
+        ensures some { IfSome result (λ source. cover (range from to) ≡ trace (placed 0 (counted source.first source.count)) end.Done) }
+        ensures none { IfNone result (cover (range from to) ≡ too_long) }
+    {
+        let count = if from < to { to.abs_diff(from) } else { 0 };
+        if count > LONGEST_SOURCE {
+            return None;
+        }
+        Some(RangeItems { first: from, count })
+    }
+}
+
+impl SourceItems for RangeItems {
+    ghost items = { λ source. placed 0 (counted source.first source.count) };
+
+    fn count(&self) -> u64 {
+        self.count
+    }
+
+    fn item_at(&self, position: u64) -> Item {
+        Item {
+            origin: position,
+            value: self.first + position as i64,
+        }
+    }
+}
+
+/// The items of values in a slice, at the places 0, 1, 2 and so on.
+#[derive(Clone, Copy)]
+pub struct ValueItems<'a> {
+    pub values: &'a [i64],
+}
+
+impl<'a> ValueItems<'a> {
+    /// The items of these values; `None` if there are more than 2^62.
+    pub fn of(values: &'a [i64]) -> Option<ValueItems<'a>>
+        ensures some { IfSome result (λ source. (source.values.now ≡ values.now) × (cover (listed values.now) ≡ trace (placed 0 values.now) end.Done)) }
+        ensures none { IfNone result (cover (listed values.now) ≡ too_long) }
+    {
+        (values.len() as u64 <= LONGEST_SOURCE).then_some(ValueItems { values })
+    }
+}
+
+impl SourceItems for ValueItems<'_> {
+    ghost items = { λ source. placed 0 source.values.now };
+
+    fn count(&self) -> u64 {
+        self.values.len() as u64
+    }
+
+    fn item_at(&self, position: u64) -> Item {
+        Item {
+            origin: position,
+            value: self.values[position as usize],
+        }
+    }
+}
+
+/// Items that already have their places, as a stage that looks at the whole walk leaves them.
+impl SourceItems for Vec<Item> {
+    ghost items = { λ source. source.items };
+
+    fn count(&self) -> u64 {
+        self.len() as u64
+    }
+
+    fn item_at(&self, position: u64) -> Item {
+        self[position as usize]
+    }
+}
