@@ -1,4 +1,4 @@
-use Rattle.std.proofs.Common.{◌≡◌, ◌<◌, ◌≤◌, ◌^◌, rules, sym, ap, ◌∙◌, to_z, of_z, w64, ℤ, arith}
+use Rattle.std.proofs.Common.{◌≡◌, ◌<◌, ◌≤◌, ◌^◌, rules, sym, ap, ◌∙◌, w64, ℤ, arith}
 use Rattle.std.proofs.lemmas.Int.{to_z-of_z}
 use Rattle.trace.specs.Cover.{counted, distance, placed}
 use Rattle.trace.specs.Trace.{trace}
