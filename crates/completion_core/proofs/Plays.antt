@@ -1,5 +1,5 @@
 -- A list of actions is played one after the other.
-use Rattle.std.proofs.Common.{◌≡◌, ℕ, zero, suc, ◌+◌, ◌<◌, ◌≤◌, List, [], ◌∷◌, ◌++◌, length, get_or, take, Some, sym, ap, ◌∙◌, subst, arith}
+use Rattle.std.proofs.Common.{◌≡◌, ℕ, zero, suc, ◌+◌, ◌<◌, ◌≤◌, List, [], ◌∷◌, ◌++◌, length, get_or, take, Some, sym, ap, ◌∙◌, subst, arith, ◌⊎◌, inl, inr}
 use Rattle.std.specs.List.{slice_get}
 use Rattle.std.proofs.lemmas.List.{take_more}
 use Rattle.std.proofs.Math.Seq.{take-length}
@@ -7,12 +7,12 @@ use Rattle.completion_core.specs.declared.action.Action.{Action}
 use Rattle.completion_core.specs.declared.action.Illegal.{Illegal}
 use Rattle.completion_core.specs.Graph.{Graph}
 use Rattle.completion_core.specs.Legal.{Legal, after}
-use Rattle.completion_core.specs.Refusals.{IsRefusal, IsFirstRefused, rank}
+use Rattle.completion_core.specs.Refusals.{IsRefusal, IsFirstRefused, LacksLog, rank}
 use Rattle.completion_core.specs.Runs.{LegalAll, after_all, log}
 use Rattle.completion_core.specs.Laws.{RunsOnce}
 use Rattle.completion_core.specs.Book.{Book, StandsFor}
 use Rattle.completion_core.specs.Played.{PlayedUpTo}
-use Rattle.completion_core.proofs.Demands.{not_legal}
+use Rattle.completion_core.proofs.Demands.{not_legal, lacks_last}
 use Rattle.completion_core.proofs.Histories.{after_all-append, legal_all-append, legal_at, log-append, runs_once}
 
 pub get_there : (xs : List Action) (i : ℕ) (x : Action) → i < length xs → x ≡ get_or xs i x → slice_get xs i ≡ Some x
@@ -31,7 +31,7 @@ module _ (actions : List Action) (g : Graph) (i : ℕ) (b : Book) (runs : List �
         logged = logged ∙ ap (λ l. l ++ log (x ∷ [])) p.logged ∙ sym (log-append (take i actions) (x ∷ [])) ∙ ap log (sym more);
       }
 
-  pub first_refused : (x : Action) (reason : Illegal) → i < length actions → x ≡ get_or actions i x → IsRefusal reason x (after_all (take i actions) g) → IsFirstRefused i reason actions g
+  pub first_refused : (x : Action) (reason : Illegal) → i < length actions → x ≡ get_or actions i x → IsRefusal reason x (after_all (take i actions) g) ⊎ LacksLog reason x (after_all (take i actions) g) → IsFirstRefused i reason actions g
   first_refused x reason h is refusal = (x, get_there actions i x h is, p.legal, refusal)
 
   all_taken : length actions ≤ i → i ≤ length actions → take i actions ≡ actions
@@ -44,4 +44,8 @@ module _ (actions : List Action) (g : Graph) (i : ℕ) (b : Book) (runs : List �
   played_once = subst RunsOnce (sym p.logged) (runs_once (take i actions) g p.legal)
 
 pub illegal_list : (i : ℕ) (reason : Illegal) (actions : List Action) (g : Graph) → IsFirstRefused i reason actions g → rank reason < 7 → LegalAll actions g → ⊥
-illegal_list i reason actions g r lt l = not_legal reason r.0 (after_all (take i actions) g) lt r.3 (legal_at actions i r.0 g r.1 l)
+illegal_list i reason actions g r lt l = refused r.3
+  where
+    refused : IsRefusal reason r.0 (after_all (take i actions) g) ⊎ LacksLog reason r.0 (after_all (take i actions) g) → ⊥
+    refused (inl refusal) = not_legal reason r.0 (after_all (take i actions) g) lt refusal (legal_at actions i r.0 g r.1 l)
+    refused (inr lacks) = lacks_last reason r.0 (after_all (take i actions) g) lacks lt

@@ -79,7 +79,7 @@ impl Graph {
 
     fn give(&mut self, from: Actor, to: Actor, node: Node, k: u64) -> Result<Reply, AllocError>
         requires { IsAllowed (Give from to node k) self.old }
-        ensures { MatchResult result (λ answer. IsTaken (Give from to node k) self.old self.new answer) (λ _. self.new ≡ self.old) }
+        ensures { MatchResult result (λ answer. IsTaken (Give from to node k) self.old self.new answer) (λ _. (self.new ≡ self.old) × MayWant (Give from to node k) self.old) }
     {
         if from != to && k != 0 {
             self.holdings.reserve(1)?;
@@ -99,7 +99,7 @@ impl Graph {
 
     fn run(&mut self, actor: Actor, node: Node) -> Result<Reply, AllocError>
         requires { IsAllowed (Run actor node) self.old }
-        ensures { MatchResult result (λ answer. IsTaken (Run actor node) self.old self.new answer) (λ _. self.new ≡ self.old) }
+        ensures { MatchResult result (λ answer. IsTaken (Run actor node) self.old self.new answer) (λ _. (self.new ≡ self.old) × MayWant (Run actor node) self.old) }
     {
         let entries = self.states[node as usize].kept.len();
         self.holdings.reserve(entries)?;

@@ -35,6 +35,7 @@ impl Holdings {
         ensures held { (a i : ℕ) → held self.new a i ≡ held self.old a i }
         ensures room { OnOk result (additional ≤ room self.new) }
         ensures err { OnErr result (self.new.entries.entries ≡ self.old.entries.entries) }
+        ensures short { OnErr result (room self.old < additional) }
     {
         self.entries.reserve(additional)
     }

@@ -12,7 +12,7 @@ const MOST_OWED: u64 = 1 << 62;
 
 impl Graph {
     /// Why an action would be refused, memory aside.
-    pub(crate) fn check(&self, action: &Action) -> Result<(), Illegal>
+    pub(crate) fn refusal_of(&self, action: &Action) -> Result<(), Illegal>
         ensures { IsChecked action.now self.now result }
     {
         match action {
@@ -22,16 +22,16 @@ impl Graph {
                 node,
                 pending,
                 onward,
-            } => self.check_arm(*actor, *node, *pending, onward),
-            Action::Add { actor, node, d } => self.check_add(*actor, *node, *d),
-            Action::Give { from, to, node, k } => self.check_give(*from, *to, *node, *k),
-            Action::Arrive { actor, node } => self.check_arrive(*actor, *node),
-            Action::Run { actor, node } => self.check_run(*actor, *node),
-            Action::Settle { actor } => self.check_settle(*actor),
+            } => self.refusal_of_arm(*actor, *node, *pending, onward),
+            Action::Add { actor, node, d } => self.refusal_of_add(*actor, *node, *d),
+            Action::Give { from, to, node, k } => self.refusal_of_give(*from, *to, *node, *k),
+            Action::Arrive { actor, node } => self.refusal_of_arrive(*actor, *node),
+            Action::Run { actor, node } => self.refusal_of_run(*actor, *node),
+            Action::Settle { actor } => self.refusal_of_settle(*actor),
         }
     }
 
-    fn check_arm(
+    fn refusal_of_arm(
         &self,
         actor: Actor,
         node: Node,
@@ -58,7 +58,7 @@ impl Graph {
         Ok(())
     }
 
-    fn check_add(&self, actor: Actor, node: Node, d: u64) -> Result<(), Illegal>
+    fn refusal_of_add(&self, actor: Actor, node: Node, d: u64) -> Result<(), Illegal>
         ensures { IsChecked (Add actor node d) self.now result }
     {
         let Some(state) = self.drawn(node) else {
@@ -73,7 +73,7 @@ impl Graph {
         Ok(())
     }
 
-    fn check_give(&self, from: Actor, to: Actor, node: Node, k: u64) -> Result<(), Illegal>
+    fn refusal_of_give(&self, from: Actor, to: Actor, node: Node, k: u64) -> Result<(), Illegal>
         ensures { IsChecked (Give from to node k) self.now result }
     {
         if node != END && self.drawn(node).is_none() {
@@ -85,7 +85,7 @@ impl Graph {
         Ok(())
     }
 
-    fn check_arrive(&self, actor: Actor, node: Node) -> Result<(), Illegal>
+    fn refusal_of_arrive(&self, actor: Actor, node: Node) -> Result<(), Illegal>
         ensures { IsChecked (Arrive actor node) self.now result }
     {
         if self.drawn(node).is_none() {
@@ -97,7 +97,7 @@ impl Graph {
         }
     }
 
-    fn check_run(&self, actor: Actor, node: Node) -> Result<(), Illegal>
+    fn refusal_of_run(&self, actor: Actor, node: Node) -> Result<(), Illegal>
         ensures { IsChecked (Run actor node) self.now result }
     {
         let Some(state) = self.drawn(node) else {
@@ -109,7 +109,7 @@ impl Graph {
         Ok(())
     }
 
-    fn check_settle(&self, actor: Actor) -> Result<(), Illegal>
+    fn refusal_of_settle(&self, actor: Actor) -> Result<(), Illegal>
         ensures { IsChecked (Settle actor) self.now result }
     {
         if self.held(actor, END) == 0 {

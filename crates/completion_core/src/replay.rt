@@ -3,7 +3,7 @@ ghost use Rattle.std.specs.Prelude.{◌≡◌, ◌<◌, ◌++◌, ◌∷◌, [],
 ghost use Rattle.completion_core.specs.declared.action.Illegal.TheVariants.{NoMemory};
 ghost use Rattle.completion_core.specs.Graph.{Graph as PureGraph, start};
 ghost use Rattle.completion_core.specs.Legal.{Legal, after};
-ghost use Rattle.completion_core.specs.Refusals.{IsRefusal, IsFirstRefused, rank};
+ghost use Rattle.completion_core.specs.Refusals.{IsRefusal, IsFirstRefused, LacksLog, rank};
 ghost use Rattle.completion_core.specs.Runs.{LegalAll, after_all, log};
 ghost use Rattle.completion_core.specs.Laws.{RunsOnce, RunsAfterAll, MadeOnce};
 ghost use Rattle.completion_core.specs.Book.{StandsFor};
@@ -50,9 +50,9 @@ pub fn play(
 fn replay(graph: &mut Graph, runs: &mut Vec<Node>, action: &Action) -> Result<(), Illegal>
     ensures taken { IfOk result (λ _. (g : PureGraph) → StandsFor graph.old g → Legal action.now g × StandsFor graph.new (after action.now g)) }
     ensures logged { OnOk result (runs.new.items ≡ runs.old.items ++ log (action.now ∷ [])) }
-    ensures refused { IfErr result (λ reason. (g : PureGraph) → StandsFor graph.old g → IsRefusal reason action.now g) }
+    ensures refused { IfErr result (λ reason. (g : PureGraph) → StandsFor graph.old g → IsRefusal reason action.now g ⊎ LacksLog reason action.now g) }
 {
-    graph.check(action)?;
+    graph.refusal_of(action)?;
     graph.take(action.clone()?)?;
     if let Action::Run { node, .. } = action {
         runs.push(*node)?;

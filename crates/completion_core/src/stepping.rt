@@ -22,6 +22,6 @@ pub fn step(graph: &mut Graph, action: Action) -> Result<Reply, Illegal>
     ensures illegal { IfErr result (λ reason. rank reason < 7 → (g : PureGraph) → StandsFor graph.old g → ¬ Legal action g) }
     ensures unchanged { OnErr result (graph.new ≡ graph.old) }
 {
-    graph.check(&action)?;
+    graph.refusal_of(&action)?;
     Ok(graph.take(action)?)
 }

@@ -1,6 +1,6 @@
 use Rattle.std.proofs.Common.{refl, sym, true≢false}
 use Rattle.completion_core.proofs.Checks.{not_earlier, may_arm}
-use Rattle.completion_core.proofs.graph.Graph.check_arm.Goals as goal
+use Rattle.completion_core.proofs.graph.Graph.refusal_of_arm.Goals as goal
 
 pub returns-then-not-all_below : goal.returns-then-not-all_below
 returns-then-not-all_below c g r =

@@ -1,4 +1,4 @@
-use Rattle.std.proofs.Common.{◌≡◌, ℕ, ◌+◌, sym, subst, refl, ap, ◌∙◌, arith}
+use Rattle.std.proofs.Common.{rules, length, ◌≡◌, ℕ, ◌+◌, sym, subst, refl, ap, ◌∙◌, arith}
 use Rattle.completion_core.specs.declared.node_state.NodeState.{NodeState}
 use Rattle.completion_core.specs.declared.action.Action.TheVariants.{Run}
 use Rattle.completion_core.specs.Graph.{Graph}
@@ -10,6 +10,9 @@ use Rattle.std.proofs.Common.{[], true, set}
 use Rattle.completion_core.specs.Legal.{count}
 use Rattle.completion_core.specs.Holdings.{held, each_place}
 use Rattle.completion_core.proofs.Totals.{held_kept_left}
+use Rattle.std.proofs.lemmas.Result.{err_from_is_err_and}
+use Rattle.completion_core.specs.Book.{state_of}
+use Rattle.completion_core.proofs.Demands.{some_kept}
 use Rattle.completion_core.proofs.graph.Graph.run.Goals as goal
 
 pub put_all-requires-clause-fits : goal.put_all-requires-clause-fits
@@ -52,3 +55,19 @@ returns c g given =
     let r : StandsFor b g = subst (λ b. StandsFor b g) (sym c.self.view_is) given in
     let may = c.requires g given in
     (refl, subst (λ k. StandsFor (record { nodes = b.nodes; states = set b.states c.args.node (record (m c) { ran = true; kept = k }); holdings = c.put_all.new.self.entries.entries }) (after (Run c.args.actor c.args.node) g)) (emptied c) (freed_written b g r c.args.node may.0.0.1 c.index_mut-state.result.now c.index_mut-state.ensures.value c.put_all.new.self.entries.entries c.args.actor may.0 (numbers c)))
+
+pub returns-in_err-reserve : goal.returns-in_err-reserve
+returns-in_err-reserve c =
+    let p = err_from_is_err_and c.from_residual.result c.from_residual.ensures.1 in
+    rw p.1 (
+      search rules,
+      λ g given nothing.
+          let b : Book = record { nodes = c.self.inside.nodes; states = c.self.inside.states.items; holdings = c.self.inside.holdings.entries.entries } in
+          let r : StandsFor b g = subst (λ b. StandsFor b g) (sym c.self.view_is) given in
+          let may = c.requires g given in
+          let is = read_is b.states c.args.node c.index.result.now (in_range b g r c.args.node may.0.0.1) c.index.ensures in
+          let same = ap (λ (m : NodeState). length m.kept) is in
+          let entries = c.len-entries.ensures in
+          let short = c.in_err-reserve.ensures.short in
+          some_kept (state_of b.states c.args.node).kept (omega arith) (λ i. sym (r.kept c.args.node i) ∙ nothing i),
+    )
