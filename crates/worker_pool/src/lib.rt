@@ -10,6 +10,7 @@
 #![tactic(auto)]
 
 mod gate;
+mod pause;
 mod pool;
 mod queues;
 mod work;

@@ -8,6 +8,7 @@ use crate::worker::{begin, work_on};
 use deques::Inbox;
 use std::alloc::Global;
 use std::sync::Wait;
+use std::sync::atomic::AtomicU64;
 use std::thread;
 use std::thread::Threads;
 use std::vec::IntoIter;
@@ -26,6 +27,8 @@ fn run_workers<R: Threads + Wait + Sync, W: Work, G: Gate + Sync, F: Finder<W::T
     ensures over { W.is_over work.now result }
     ensures mine { IfSome (slice_get idle.items 0) (λ i. W.owner_of result ≡ W.owner_of i) }
 {
+    let ended = AtomicU64::new(0);
+    let ended = &ended;
     thread::scope(
         thread::scope_env(),
         rt,
@@ -40,11 +43,11 @@ fn run_workers<R: Threads + Wait + Sync, W: Work, G: Gate + Sync, F: Finder<W::T
             };
             for (worker, (idle, finder)) in (1..).zip(idle.zip(others)) {
                 let _ = scope.spawn(move || {
-                    work_on(rt, gate, work, worker, idle, finder);
+                    work_on(rt, gate, work, ended, worker, idle, finder);
                 });
             }
             let my_idle = begin(rt, gate, work, my_idle, first, &mut mine);
-            work_on(rt, gate, work, 0, my_idle, mine)
+            work_on(rt, gate, work, ended, 0, my_idle, mine)
         },
     )
 }

@@ -2,16 +2,18 @@
 ghost use Rattle.std.specs.Prelude.{◌≡◌};
 
 use crate::gate::Gate;
+use crate::pause::Pause;
 use crate::queues::Finder;
 use crate::work::Work;
-use crossbeam_utils::Backoff;
 use std::sync::Wait;
+use std::sync::atomic::AtomicU64;
 
-/// Runs the tasks that it finds, until nothing is left.
+/// Runs the tasks that it finds, until nothing is left. `ended` is 0 until a worker of the pool ends.
 pub fn work_on<R: Wait, W: Work, G: Gate, F: Finder<W::Task> + Drop>(
     rt: &R,
     gate: &G,
     work: &W,
+    ended: &AtomicU64,
     worker: usize,
     mut idle: W::Idle,
     mut finder: F,
@@ -19,7 +21,7 @@ pub fn work_on<R: Wait, W: Work, G: Gate, F: Finder<W::Task> + Drop>(
     ensures over { W.is_over work.now result }
     ensures same { W.owner_of result ≡ W.owner_of idle }
 {
-    let pause = Backoff::new();
+    let mut pause = Pause::new(ended);
     for _ in rt.forever() {
         if let Some(task) = finder.find(rt) {
             idle = work.run(rt, worker, gate, idle, task, &mut finder);
@@ -27,10 +29,11 @@ pub fn work_on<R: Wait, W: Work, G: Gate, F: Finder<W::Task> + Drop>(
         } else {
             let (asked, left) = work.left(rt, idle);
             if left == 0 {
+                pause.end();
                 return asked;
             }
             idle = asked;
-            pause.snooze();
+            pause.wait(rt);
         }
     }
     unreachable!()
