@@ -1,15 +1,15 @@
 -- Each step keeps the rule, and its pass learns what its clause says.
-use Rattle.std.proofs.Common.{◌≡◌, ◌≢◌, ℕ, zero, suc, ◌+◌, ◌<◌, ◌≤◌, Bool, true, false, cond, eqb, List, [], ◌∷◌, ◌++◌, length, map, set, sym, refl, ap, ◌∙◌, subst, ⊎_elim, arith, eq-eqb, ne_eqb, Option, Some, None, ◌⊎◌, inl, inr, length-set, length-append}
+use Rattle.std.proofs.Common.{◌≡◌, ◌≢◌, ℕ, zero, suc, ◌+◌, ◌<◌, ◌≤◌, min, Bool, true, false, cond, eqb, List, [], ◌∷◌, ◌++◌, length, map, set, sym, refl, ap, ◌∙◌, subst, ⊎_elim, arith, eq-eqb, ne_eqb, Option, Some, None, ◌⊎◌, inl, inr, length-set, length-append}
 use mathlib.Core.Option.{some, some-ne-none}
 use mathlib.Core.List.{map-append}
 use lib.ListN.{get_elem?}
-use Rattle.crossbeam_deque.specs.Tasks.{Pushes, Takes, Pops, Finds, Admits}
+use Rattle.crossbeam_deque.specs.Tasks.{Pushes, Takes, Pops, Finds, FindsFew, Admits}
 use Rattle.crossbeam_deque.proofs.Lists.{at_set, at_snoc, at_longer, at_last}
 use Rattle.deques.specs.declared.calls.Call.{Call}
 use Rattle.deques.specs.declared.calls.Call.TheVariants.{Added, Newest, Oldest}
 use Rattle.deques.specs.declared.calls.Calls.{Calls}
 use Rattle.deques.specs.Tasks.{Entry, Step, Does, Leads, calls_of, calls_by, number_out, NotOut, IsStep}
-use Rattle.deques.specs.Rule.{calls, none_yet, IsIn, AllIn, Lacks, Apart, Kept, Adds, Hands, FoundEmpty}
+use Rattle.deques.specs.Rule.{calls, none_yet, IsIn, AllIn, Lacks, Apart, Kept, Adds, Hands, FoundEmpty, FoundNearlyEmpty}
 
 there : {A : Type 0} (l : List A) (i : ℕ) (a : A) → get_elem? l i ≡ some a → i < length l
 there [] i a e = absurd (some-ne-none a (sym e))
@@ -258,6 +258,23 @@ module _ {T : Type 0} where
     legal = subst (λ l. Leads 0 [] (calls_of r.log) l) (none_held r.held r.holds) r.legal;
     own = r.own port v at;
   }
+
+  length-entries : (es : List (Entry T)) → length (map task es) ≡ length es
+  length-entries [] = refl
+  length-entries (e ∷ es) = let h = length-entries es in omega arith
+
+  pub finds_few : (flavor port : ℕ) (v : Calls T) → FindsFew Kept (min flavor 1) port v (FoundNearlyEmpty v)
+  finds_few flavor port v items views few r at =
+      let n = length-entries r.held in
+      let m : length (map task r.held) ≡ length items = ap length r.holds in
+      record {
+        by = port;
+        before = r.log;
+        held = r.held;
+        legal = r.legal;
+        few = omega arith;
+        own = r.own port v at;
+      }
 
   pub opens : Kept {T = T} [] (none_yet ∷ [])
   opens = record {

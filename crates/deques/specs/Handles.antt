@@ -1,6 +1,6 @@
 -- Meaning: the calls that an owner, a thief and a pass have made, and which deque a handle is of.
-use Rattle.std.specs.Prelude.{◌≡◌, List}
-use Rattle.crossbeam_deque.specs.Handles.{worker_deque, stealer_deque, worker_view, view}
+use Rattle.std.specs.Prelude.{◌≡◌, ℕ, List}
+use Rattle.crossbeam_deque.specs.Handles.{taken, worker_deque, stealer_deque, worker_view, view}
 use Rattle.crossbeam_deque.specs.Injected.{injector_view, IsInjectorPassOf}
 use Rattle.deques.specs.declared.calls.Call.{Call}
 use Rattle.deques.specs.declared.handles.Owner.{Owner}
@@ -15,6 +15,10 @@ module _ {T : Type 0} where
 
   abbrev pub thief_calls : Thief T → List (Call T)
   thief_calls t = (view t.pass).list
+
+  -- how many tasks the thief has seen leave its deque as the oldest
+  abbrev pub thief_seen : Thief T → ℕ
+  thief_seen t = taken t.pass
 
   abbrev pub pass_calls : Pass T → List (Call T)
   pass_calls p = (injector_view p.pass).list

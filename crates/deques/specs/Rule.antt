@@ -5,7 +5,7 @@ use lib.ListN.{get_elem?}
 use Rattle.deques.specs.declared.calls.Call.{Call}
 use Rattle.deques.specs.declared.calls.Call.TheVariants.{Added}
 use Rattle.deques.specs.declared.calls.Calls.{Calls}
-use Rattle.deques.specs.Tasks.{Entry, Step, Leads, calls_of, calls_by, NotOut, IsAdded, IsOut, WasEmpty}
+use Rattle.deques.specs.Tasks.{Entry, Step, Leads, calls_of, calls_by, NotOut, IsAdded, IsOut, WasEmpty, WasNearlyEmpty}
 
 module _ {T : Type 0} where
   -- the view of a pass that has made these calls
@@ -56,6 +56,10 @@ module _ {T : Type 0} where
   Hands how v [] w = Unit {0}
   Hands how v (x ∷ xs) w = IsOut how v.list w.list x
 
-  -- what a `pop` that finds nothing says about the view
+  -- what a `pop` or a `take` that finds nothing says about the view
   abbrev pub FoundEmpty : Calls T → Type 0
   FoundEmpty v = WasEmpty v.list
+
+  -- what a `steal` that finds nothing says about the view
+  abbrev pub FoundNearlyEmpty : Calls T → Type 0
+  FoundNearlyEmpty v = WasNearlyEmpty v.list

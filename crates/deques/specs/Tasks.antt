@@ -1,5 +1,5 @@
 -- Meaning: the calls of a deque as one history, and what each of them does to the tasks that are held.
-use Rattle.std.specs.Prelude.{◌≡◌, ◌≢◌, ℕ, suc, ◌==◌, List, [], ◌∷◌, ◌++◌, length, map, Option, Some, None, if◌then◌else◌}
+use Rattle.std.specs.Prelude.{◌≡◌, ◌≢◌, ℕ, suc, ◌≤◌, ◌==◌, List, [], ◌∷◌, ◌++◌, length, map, Option, Some, None, if◌then◌else◌}
 use mathlib.Core.Option.{some}
 use lib.ListN.{get_elem?}
 use Rattle.deques.specs.declared.calls.Call.{Call}
@@ -81,4 +81,13 @@ module _ {T : Type 0} where
     pub by : ℕ
     pub before : List (Step T)
     pub legal : Leads 0 [] (calls_of before) []
+    pub own : calls_by by before ≡ mine
+
+  -- a pass whose calls were `mine` met a moment at which one task was held at most
+  pub record WasNearlyEmpty (mine : List (Call T)) : Type 0 where
+    pub by : ℕ
+    pub before : List (Step T)
+    pub held : List (Entry T)
+    pub legal : Leads 0 [] (calls_of before) held
+    pub few : length held ≤ 1
     pub own : calls_by by before ≡ mine

@@ -1,6 +1,6 @@
 //! The calls of threads that share an inbox.
 ghost use Rattle.std.specs.Prelude.{◌≡◌, [], IfOk, MatchOption, MatchResult};
-ghost use Rattle.deques.specs.Tasks.{IsAdded, IsOldestOut};
+ghost use Rattle.deques.specs.Tasks.{IsAdded, IsOldestOut, WasEmpty};
 ghost use Rattle.deques.specs.Handles.{pass_calls, IsOf};
 
 use crate::handles::{Inbox, Pass};
@@ -43,20 +43,21 @@ impl<T: Drop> Inbox<T> {
         (Pass { pass }, put)
     }
 
-    /// The oldest task. `None` also if another thread took one during the call. Waits only while a `put` of another
-    /// thread is between its two steps.
-    #[tactic(auto, using(crate::proofs::Keeps::takes))]
+    /// The oldest task. `None` only if the inbox was empty at one moment of the call. Waits only while other threads are
+    /// inside a `put` or a `take`.
     pub fn take<R: Wait>(&self, rt: &R, pass: Pass<T>) -> (Pass<T>, Option<T>)
         requires { IsOf self.now pass }
         ensures same { IsOf self.now result.0 }
-        ensures taken { MatchOption result.1 (pass_calls result.0 ≡ pass_calls pass) (λ task. IsOldestOut (pass_calls pass) (pass_calls result.0) task) }
+        ensures taken { MatchOption result.1 ((pass_calls result.0 ≡ pass_calls pass) × WasEmpty (pass_calls pass)) (λ task. IsOldestOut (pass_calls pass) (pass_calls result.0) task) }
     {
         let Pass { mut pass } = pass;
-        let taken = match self.injector.steal_as::<Take, R>(rt, &mut pass) {
-            Steal::Success(task) => Some(task),
-            Steal::Empty => None,
-            Steal::Retry => None,
-        };
-        (Pass { pass }, taken)
+        for _ in rt.forever() {
+            match self.injector.steal_as::<Take, R>(rt, &mut pass) {
+                Steal::Success(task) => return (Pass { pass }, Some(task)),
+                Steal::Empty => return (Pass { pass }, None),
+                Steal::Retry => {}
+            }
+        }
+        unreachable!()
     }
 }

@@ -1,5 +1,5 @@
 //! The rule that holds between any two steps, and what a thread learns from each kind of step.
-ghost use Rattle.deques.specs.Rule.{Kept, none_yet, Adds, Hands, FoundEmpty};
+ghost use Rattle.deques.specs.Rule.{Kept, none_yet, Adds, Hands, FoundEmpty, FoundNearlyEmpty};
 ghost use Rattle.deques.specs.declared.calls.Call.TheVariants.{Newest, Oldest};
 
 use crate::calls::Calls;
@@ -32,9 +32,20 @@ impl<T> Outcome<T, Calls<T>> for Pop {
     ghost empty = { FoundEmpty };
 }
 
-/// The oldest task was handed out.
+/// The oldest task was handed out, or one task was held at most at one moment.
+pub struct Theft;
+
+impl<T> Outcome<T, Calls<T>> for Theft {
+    ghost then = { Hands Oldest };
+
+    ghost empty = { FoundNearlyEmpty };
+}
+
+/// The oldest task was handed out, or none was held at one moment.
 pub struct Take;
 
 impl<T> Outcome<T, Calls<T>> for Take {
     ghost then = { Hands Oldest };
+
+    ghost empty = { FoundEmpty };
 }

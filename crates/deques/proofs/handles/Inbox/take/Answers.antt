@@ -1,5 +1,5 @@
-use Rattle.std.proofs.Common.{rules}
+use Rattle.deques.proofs.Keeps.{takes, finds}
 use Rattle.deques.proofs.handles.Inbox.take.Goals as goal
 
-pub returns-clause-taken : goal.returns-clause-taken
-returns-clause-taken g c = search rules
+pub steal_as-requires-clause-rule : goal.steal_as-requires-clause-rule
+steal_as-requires-clause-rule g c = (takes _ _, finds _ _)

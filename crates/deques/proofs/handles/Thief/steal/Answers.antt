@@ -1,5 +1,5 @@
-use Rattle.std.proofs.Common.{rules}
+use Rattle.deques.proofs.Keeps.{finds_few}
 use Rattle.deques.proofs.handles.Thief.steal.Goals as goal
 
-pub returns-in-Success-clause-stolen : goal.returns-in-Success-clause-stolen
-returns-in-Success-clause-stolen g c = search rules
+pub steal_as-requires-clause-empty : goal.steal_as-requires-clause-empty
+steal_as-requires-clause-empty g c = finds_few _ _ _
