@@ -1,6 +1,5 @@
 pub mod CellLemmas
 pub mod FileLemmas
-pub mod GivenBytes
 pub mod RecordLemmas
 pub mod RowLemmas
 pub mod SpelledNumbers

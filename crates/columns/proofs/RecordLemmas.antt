@@ -4,10 +4,10 @@ use Rattle.std.proofs.lemmas.Bool.{cases_Bool}
 use Rattle.std.proofs.lemmas.Option.{same_Some}
 use Rattle.csv.specs.Machine.{Read, ends_at_end, is_end, next_record, step}
 use Rattle.std.specs.Borrow.{Bor}
-use Rattle.csv.specs.Reading.{AreRecords, Reached, ReadRecord, default_config, records_from, records_next, took_first}
+use Rattle.csv.specs.Reading.{AreRecords, Reached, ReadRecord, default_config, is_flexible, records_from, records_next, took_first}
 use Rattle.csv.specs.declared.reader.Reader.{Reader}
 use Rattle.csv.proofs.ReadFacts.{rows-end, rows-more}
-use Rattle.columns.specs.Records.{GaveNext, IsReading}
+use Rattle.columns.specs.Records.{GaveNext, IsReading, IsSetUp}
 use Rattle.csv.specs.declared.parser.Config.{Config}
 use Rattle.csv.specs.declared.parser.State.{State}
 use Rattle.csv.specs.declared.parser.State.TheVariants as st
@@ -65,18 +65,28 @@ Reached-at : (p : Read) (t : State) (z : List ℕ) (rows : List (List (List ℕ)
     → Reached default_config p.1 p.2 rows s2 ys → Reached default_config t z rows s2 ys
 Reached-at p t z rows s2 ys a b h = rw (sym a, sym b) h
 
+-- a read of a record leaves the reader set up
+pub IsSetUp-read : (a b : Reader (Bor (List ℕ))) (found : Bool) (fields : List (List ℕ)) → IsSetUp a
+    → ReadRecord (λ bytes. Some bytes.now) a b found fields → took_first b ≡ true → is_flexible b ≡ is_flexible a → IsSetUp b
+IsSetUp-read a b found fields s read first same = record {
+  untrimmed = read.3 ∙ s.untrimmed;
+  config = read.2 ∙ s.config;
+  flexible = same ∙ s.flexible;
+  ready = inl first;
+}
+
 -- what a read of a record does to a reader that has these rows left
 pub GaveNext-read : (a b : Reader (Bor (List ℕ))) (found : Bool) (fields : List (List ℕ)) (rows : List (List (List ℕ)))
-    → IsReading a rows → ReadRecord (λ bytes. Some bytes.now) a b found fields → took_first b ≡ true → GaveNext rows found fields b
+    → IsReading a rows → ReadRecord (λ bytes. Some bytes.now) a b found fields → IsSetUp b → GaveNext rows found fields b
 unfolding Reached
-GaveNext-read a b true fields [] r read first =
-    let (z, at_z, took) = rows-more (λ bytes. Some bytes.now) a b fields default_config a.state r.left r.left [] r.config r.source (refl, refl) read in
+GaveNext-read a b true fields [] r read after =
+    let (z, at_z, took) = rows-more (λ bytes. Some bytes.now) a b fields default_config a.state r.left r.left [] r.set_up.config r.source (refl, refl) read in
     let (p, found, same, end) = took in
     let (s2, ys, reached, none) = r.records in
     let nothing : next_record default_config a.state [] [] r.left ≡ None = rw (reached.0, reached.1) none in
     cc (sym nothing ∙ found)
-GaveNext-read a b true fields (row ∷ rows) r read first =
-    let (z, at_z, took) = rows-more (λ bytes. Some bytes.now) a b fields default_config a.state r.left r.left [] r.config r.source (refl, refl) read in
+GaveNext-read a b true fields (row ∷ rows) r read after =
+    let (z, at_z, took) = rows-more (λ bytes. Some bytes.now) a b fields default_config a.state r.left r.left [] r.set_up.config r.source (refl, refl) read in
     let (p, found, same, end) = took in
     let (s2, ys, reached, none) = r.records in
     let (q, first_is, row_is, others) = reached in
@@ -86,17 +96,15 @@ GaveNext-read a b true fields (row ∷ rows) r read first =
       rows,
       ap (λ f. f ∷ rows) left,
       record {
-        untrimmed = read.3 ∙ r.untrimmed;
-        config = read.2 ∙ r.config;
-        ready = inl first;
+        set_up = after;
         left = z;
         source = at_z;
         records = (s2, ys, here, none);
       },
     )
-GaveNext-read a b false fields [] r read first = refl
-GaveNext-read a b false fields (row ∷ rows) r read first =
-    let nothing = rows-end (λ bytes. Some bytes.now) a b fields default_config r.left r.config r.source read in
+GaveNext-read a b false fields [] r read after = refl
+GaveNext-read a b false fields (row ∷ rows) r read after =
+    let nothing = rows-end (λ bytes. Some bytes.now) a b fields default_config r.left r.set_up.config r.source read in
     let (s2, ys, reached, none) = r.records in
     let (q, first_is, row_is, others) = reached in
     cc (sym nothing ∙ first_is)

@@ -5,7 +5,7 @@ use Rattle.columns.specs.declared.fault.ColumnFault.{ColumnFault}
 use Rattle.columns.specs.declared.fault.ColumnFault.TheVariants.{Read, NoMemory}
 use Rattle.columns.specs.Table.{NamedColumn, table_of}
 
--- the records of the bytes, as `csv` defines them with its defaults, one byte order mark at the start passed over
+-- the records of the bytes, as `csv` defines them with its defaults, one byte order mark at the start skipped
 abbrev pub records_of : List ℕ → List (List (List ℕ))
 records_of bytes = records default_config (strip_bom bytes)
 

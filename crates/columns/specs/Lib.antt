@@ -1,7 +1,6 @@
 -- Condition: the files of this crate's definitions; of each the first line says what it is.
 pub mod Cell
 pub mod Cells
-pub mod CountedRead
 pub mod Number
 pub mod Records
 pub mod Refusals

@@ -4,22 +4,22 @@ use Rattle.std.specs.List.{list_all}
 use Rattle.std.specs.Char.{is_ascii_digit}
 use Rattle.columns.specs.Cell.{digits_value, is_blank}
 
--- a text without the blanks at its start
+-- helper: a text without the blanks at its start
 abbrev pub drop_blanks : List ℕ → List ℕ
 drop_blanks [] = []
 drop_blanks (b ∷ bs) = if is_blank b then drop_blanks bs else b ∷ bs
 
--- a number, where it lies between -2^63 and 2^63 - 1
+-- helper: a number, if it lies between -2^63 and 2^63 - 1
 abbrev pub in_range : ℤ → Option ℤ
 in_range (pos m) = if nat_lt m (2 ^ 63) then Some (pos m) else None
 in_range (negsuc m) = if nat_lt m (2 ^ 63) then Some (negsuc m) else None
 
--- the number that one digit or more spell behind a sign
+-- helper: the number that one digit or more spell after a sign
 abbrev pub signed_digits : (ℕ → ℤ) → List ℕ → Option ℤ
 signed_digits sign digits =
     if nat_lt 0 (length digits) && list_all is_ascii_digit digits then in_range (sign (digits_value digits)) else None
 
--- the number that a text without blanks around it spells
+-- helper: the number that a text without blanks around it spells: 45 is `-`, 43 is `+`
 abbrev pub signed_number : List ℕ → Option ℤ
 signed_number [] = None
 signed_number (b ∷ rest) =

@@ -13,7 +13,7 @@ pub record NamedColumn : Type 0 where
   pub name : List ℕ
   pub cells : List ℤ
 
--- the number that the first cell of a row spells
+-- helper: the number that the first cell of a row spells; it is asked for only if there is one
 abbrev pub first_number : List (List ℕ) → ℤ
 first_number [] = pos 0
 first_number (cell ∷ cells) = unwrap_or (number_of cell) (pos 0)
@@ -24,7 +24,7 @@ columns_under [] rows = []
 columns_under (name ∷ names) rows =
     record { name = name; cells = map first_number rows } ∷ columns_under names (map (drop 1) rows)
 
--- these columns, unless there is a fault
+-- helper: these columns, unless there is a fault
 abbrev pub unless : Option ColumnFault → List NamedColumn → Result (List NamedColumn) ColumnFault
 unless None columns = Ok columns
 unless (Some fault) columns = Err fault

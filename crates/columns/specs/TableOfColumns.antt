@@ -8,7 +8,7 @@ use Rattle.columns.specs.Table.{NamedColumn, first_number}
 abbrev pub named : Column → NamedColumn
 named c = record { name = c.name.items; cells = c.cells.items }
 
--- the columns that there are, where there may be none
+-- the columns, of which there may be none
 abbrev pub columns_in : {A : Type 0} → Option (Vec Column A) → List Column
 columns_in None = []
 columns_in (Some columns) = columns.items

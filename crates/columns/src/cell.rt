@@ -72,7 +72,7 @@ fn negative(digits: &[u8]) -> Option<i64>
     i64::try_from(-i128::from(magnitude(digits)?)).ok()
 }
 
-/// A number of 19 digits: a digit behind it makes it larger than every `i64`.
+/// A number of 19 digits: with one more digit it is larger than every `i64`.
 const TOO_LARGE_FOR_MORE: u64 = 1_000_000_000_000_000_000;
 
 /// What one digit or more are worth, where it is below 10^19.

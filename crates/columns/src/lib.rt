@@ -1,20 +1,19 @@
-//! Column files: text files of whole-number columns, read into their columns or refused.
+//! Column files: text files of integer columns, read into their columns or refused.
 //!
-//! Stands on `csv`, whose own definition of the records of a text is cited here, and on
-//! `thiserror`. It is for the job reader, which takes a job's cells from `Columns::get`, and for the
+//! Stands on `csv`, whose own definition of the records of a text is cited here, on `counted_io`, whose
+//! names it gives out, and on `thiserror`. It is for the job reader, which takes a job's cells from `Columns::get`, and for the
 //! program. What it promises to them: `read_columns`, clause `cells`: the columns that the bytes
 //! give, names and cells in order, or the first fault with its row and column; clause `read`: a
-//! failed read is told only where one was counted.
+//! failed read is reported only if one was counted.
 //!
 //! Begin with `specs/Cells.antt` (bytes to columns), then `specs/Table.antt`, `specs/Refusals.antt`
 //! and `specs/Cell.antt` (the grammar of one number); of the code with `reading.rt`. `records.rt`
-//! alone opens a `csv` reader, and `counted_read.rt` needs nothing else of the crate.
+//! alone opens a `csv` reader.
 //!
 //! Not promised: anything of the bytes that a file or a pipe holds, and that there is memory.
 #![tactic(auto)]
 
 mod cell;
-pub mod counted_read;
 mod fault;
 mod reading;
 mod records;
@@ -22,7 +21,7 @@ mod rows;
 mod table;
 
 pub use cell::read_cell;
-pub use counted_read::{Counted, CountedRead, ReadAllFault, read_all_of};
+pub use counted_io::{Counted, CountedRead, ReadAllFault, read_all_of};
 pub use fault::ColumnFault;
 pub use reading::read_columns;
 pub use table::Columns;

@@ -1,22 +1,24 @@
 //! Column files, read whole.
 ghost use Rattle.std.specs.Prelude.{◌≡◌, ◌≢◌, ◌≤◌, ℕ, List, Ok, IfErr, IfOk, IfSome, OnOk};
 ghost use Rattle.std.specs.Io.KnownBytes.{IsAtEnd};
-ghost use Rattle.columns.specs.Cells.{Tells, cells_of};
-ghost use Rattle.columns.specs.CountedRead.{GaveSome, HasRisen};
+ghost use Rattle.counted_io.specs.CountedRead.{GaveSome};
+ghost use Rattle.counted_io.specs.FailureCounts.{HasRisen};
+ghost use Rattle.columns.specs.Cells.{Tells, cells_of, records_of};
+ghost use Rattle.columns.specs.Records.{IsReading};
 
-use crate::counted_read::{CountedRead, ReadAllFault, read_all_of};
 use crate::fault::ColumnFault;
 use crate::records::{next_record, reader_of};
 use crate::rows::{columns_of_header, read_rows};
 use crate::table::Columns;
-use csv::ByteRecord;
+use counted_io::{CountedRead, ReadAllFault, read_all_of};
+use csv::{ByteRecord, Reader};
 use std::alloc::Global;
 
-/// The columns of a file of comma-separated whole numbers.
+/// The columns of a file of comma-separated integers.
 ///
 /// The bytes are read whole first, then their records: the first one is the header, whose fields are
 /// the names as they stand, and each one after it is a row of numbers, counted from 1. One byte
-/// order mark at the start is passed over, fields may be quoted, a record ends with LF, CR or CR LF,
+/// order mark at the start is skipped, fields may be quoted, a record ends with LF, CR or CR LF,
 /// and empty lines are no records. The whole file is held while it is read, and beside it 8 bytes
 /// for each cell. A read that fails otherwise than by an interruption is `Read`.
 pub fn read_columns<R: CountedRead>(alloc: Global, reader: &mut R) -> Result<Columns, ColumnFault>
@@ -38,25 +40,40 @@ pub fn read_columns<R: CountedRead>(alloc: Global, reader: &mut R) -> Result<Col
     }
 }
 
+/// The columns of some bytes.
 fn columns_in(alloc: Global, bytes: &[u8]) -> Result<Columns, ColumnFault>
     ensures tells { Tells bytes.now result }
     ensures unread { IfErr result (λ fault. fault ≢ ColumnFault.Read) }
 {
     let mut reader = reader_of(alloc, bytes);
     let mut row = ByteRecord::new(alloc);
-    if !next_record(&mut reader, &mut row)? {
+    columns_from(alloc, bytes, &mut reader, &mut row)
+}
+
+/// The columns of some bytes, by a reader of their records.
+fn columns_from(
+    alloc: Global,
+    bytes: &[u8],
+    reader: &mut Reader<&[u8]>,
+    row: &mut ByteRecord,
+) -> Result<Columns, ColumnFault>
+    requires { IsReading reader.old (records_of bytes.now) }
+    ensures tells { Tells bytes.now result }
+    ensures unread { IfErr result (λ fault. fault ≢ ColumnFault.Read) }
+{
+    if !next_record(reader, row)? {
         return Err(ColumnFault::NoHeader);
     }
     let rows = rows_to_expect(bytes, row.len());
-    let mut columns = columns_of_header(alloc, &row, rows)?;
-    read_rows(&mut reader, &mut row, columns.as_mut_slice())?;
+    let mut columns = columns_of_header(alloc, row, rows)?;
+    read_rows(reader, row, columns.as_mut_slice())?;
     Ok(Columns::of(columns))
 }
 
-/// How many bytes at the start of a file tell how long its lines are.
+/// How many bytes at the start of a file its row count is estimated from.
 const SAMPLE: usize = 64 * 1024;
 
-/// How many rows to expect: as many as there were if the first lines told the length of all, and no
+/// How many rows to expect: as many as there are if all lines are as long as the first ones, and no
 /// more than a file of numbers can have, whose rows take two bytes or more for each cell.
 fn rows_to_expect(bytes: &[u8], columns: usize) -> usize {
     let sample = &bytes[..bytes.len().min(SAMPLE)];

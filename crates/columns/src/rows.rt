@@ -4,7 +4,7 @@ ghost use Rattle.std.specs.List.{list_any};
 ghost use Rattle.std.specs.Str.{bytes_eq};
 ghost use Rattle.csv.specs.Records.{fields_of};
 ghost use Rattle.columns.specs.Number.{number_of};
-ghost use Rattle.columns.specs.Records.{IsReading};
+ghost use Rattle.columns.specs.Records.{IsReading, IsSetUp};
 ghost use Rattle.columns.specs.Refusals.{has_twice, header_fault, row_fault, rows_fault};
 ghost use Rattle.columns.specs.Table.{columns_under};
 ghost use Rattle.columns.specs.TableOfColumns.{named, with_row, with_rows};
@@ -17,9 +17,9 @@ use csv::{ByteRecord, Reader};
 use std::alloc::{AllocError, Global};
 
 /// How many columns a file may have.
-const MOST_COLUMNS: usize = 256;
+const MAX_COLUMNS: usize = 256;
 
-/// The columns under a header, with no cells yet and room for so many rows.
+/// The columns under a header, with no cells yet and room for this many rows.
 pub(crate) fn columns_of_header(
     alloc: Global,
     header: &ByteRecord,
@@ -32,7 +32,7 @@ pub(crate) fn columns_of_header(
         → header_fault (fields_of header.now) ≡ Some fault) }
     ensures unread { IfErr result (λ fault. fault ≢ ColumnFault.Read) }
 {
-    if header.len() > MOST_COLUMNS {
+    if header.len() > MAX_COLUMNS {
         return Err(ColumnFault::TooManyColumns);
     }
     let columns = columns_named(alloc, header, rows)?;
@@ -114,6 +114,7 @@ pub(crate) fn read_rows(
     row: &mut ByteRecord,
     columns: &mut [Column],
 ) -> Result<(), ColumnFault>
+    requires { IsSetUp reader.old }
     ensures rows { (rows : List (List (List ℕ))) → IsReading reader.old rows → MatchResult result
         (λ _. (rows_fault (length columns.old) 1 rows ≡ None)
         × (map named columns.new ≡ with_rows (map named columns.old) rows))
@@ -127,6 +128,6 @@ pub(crate) fn read_rows(
         }
         read_row(columns, row, number)?;
     }
-    // Nobody has the memory for that many rows.
+    // No memory holds that many rows.
     Err(ColumnFault::NoMemory)
 }

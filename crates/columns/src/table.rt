@@ -13,7 +13,7 @@ pub(crate) struct Column {
     pub(crate) cells: Vec<i64>,
 }
 
-/// The columns of a file, in its order, all of one length and each under a name of its own.
+/// The columns of a file, in its order. Those of `read_columns` have one length and different names.
 #[derive(Debug, Drop)]
 pub struct Columns {
     // `None` is no column: an empty vector would want an allocator.
@@ -33,7 +33,7 @@ impl Model for Columns {
 impl Columns {
     ghost use Rattle.columns.specs.TableOfColumns.{named};
 
-    /// No columns: what stands in for a file where there is none. Takes no memory.
+    /// No columns, for a run without a column file. Takes no memory.
     pub fn none() -> Columns
         ensures { result ≡ [] }
     {

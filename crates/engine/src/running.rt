@@ -1,11 +1,10 @@
 //! A run: from the bytes of the job file to the bytes of the report.
 
-ghost use Rattle.columns.specs.CountedRead.{HasRisen as ReadHasRisen};
+ghost use Rattle.counted_io.specs.FailureCounts.{HasRisen};
 ghost use Rattle.engine.specs.Jobs.{jobs_of};
 ghost use Rattle.engine.specs.Refused.{IsEarly};
 ghost use Rattle.engine.specs.Run.{Faulted, Input, IsReport, Reported};
 ghost use Rattle.job_plan.specs.Meaning.{meaning_of, names_of};
-ghost use Rattle.report.specs.CountedWrite.{HasRisen};
 ghost use Rattle.report.specs.Text.{report_text};
 ghost use Rattle.std.specs.Io.KnownBytes.{Keeps};
 ghost use Rattle.std.specs.Prelude.{◌≡◌, ◌≢◌, ◌≤◌, ℕ, All, length, IfErr, IfOk, IfSome, OnOk};
@@ -67,7 +66,7 @@ pub fn run<J: CountedRead, W: CountedWrite>(
     ensures untouched { IfErr result (λ fault. ((n : ℕ) → fault ≢ EngineFault.Write n) →
         W.failures writer.new ≡ W.failures writer.old) }
     ensures read_failed { IfErr result (λ fault. fault ≡ EngineFault.JobsRead →
-        ReadHasRisen (J.failures jobs.old) (J.failures jobs.new)) }
+        HasRisen (J.failures jobs.old) (J.failures jobs.new)) }
     ensures write_failed { IfErr result (λ fault. (n : ℕ) → fault ≡ EngineFault.Write n →
         HasRisen (W.failures writer.old) (W.failures writer.new)) }
 {

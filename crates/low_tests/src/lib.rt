@@ -4,7 +4,7 @@
 //! those crates are then proved once. Each test shows what no clause says: that a definition gives the values
 //! that Java 17 gives or that were worked out by hand, and that a call succeeds if there is memory.
 //!
-//! One file for each crate: `tokens.rt` for `stream_tokens`, `lambdas.rt` and `operators.rt` for `lambda_expr`, `walks.rt` for
+//! One file for each crate, two for `lambda_expr`: `tokens.rt`, `lambdas.rt` and `operators.rt`, `walks.rt` for
 //! `trace` and `values.rt` for `job_plan`. A table is one text and one list: that costs the least to check.
 //!
 //! Nothing stands on this crate, and it promises nothing.

@@ -163,7 +163,7 @@ fn a_line_ends_with_a_line_feed_and_may_have_a_return_before_it(rt: HostRuntime)
 }
 
 #[test]
-fn lines_are_skipped_joined_or_begin_a_job(rt: HostRuntime) {
+fn lines_are_skipped_or_joined_or_begin_a_job(rt: HostRuntime) {
     let files: [&[u8]; 7] = [
         b"\n \t\n\r\n a \n\nb",
         b"\xef\xbb\xbfa\n",
@@ -178,10 +178,7 @@ fn lines_are_skipped_joined_or_begin_a_job(rt: HostRuntime) {
     for (file, jobs) in files.into_iter().zip(jobs.split('~')) {
         assert!(rt; are_jobs(rt.alloc(), file, jobs), "{file:?}");
     }
-}
-
-#[test]
-fn a_line_that_continues_no_job_is_a_fault_there(rt: HostRuntime) {
+    // A line that continues no job is a fault there.
     let files: [&[u8]; 3] = [b".a", b"\xef\xbb\xbf\n#\n \t.a\nb", b"\n\n\n."];
     for (file, line) in files.into_iter().zip([1, 3, 4]) {
         let found = jobs_of(rt.alloc(), file).err();

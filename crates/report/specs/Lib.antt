@@ -1,5 +1,4 @@
 -- Condition: the files of this crate's definitions; the first line of each says what it is.
-pub mod CountedWrite
 pub mod Named
 pub mod Text
 pub mod Worked

@@ -1,21 +1,19 @@
-//! The report of the answers, and writing it out so that each byte written is known.
+//! The report of the answers.
 //!
-//! Stands on `job_plan`, whose answers it prints, on `stream_tokens` for the bytes of a name, and on
-//! `itoa` for digits. Used by `engine`. What it promises to it: `text` gives exactly the bytes that
-//! `specs/Text.antt` defines, and `write_all_of` says which of them went out, clauses `ok` and `err`.
-//! Begin with `specs/Text.antt`, then `as_text.rt`; for writing with `specs/CountedWrite.antt`, then
-//! `counted_write.rt`.
+//! Stands on `job_plan`, whose answers it prints, on `stream_tokens` for the bytes of a name, on
+//! `counted_io`, whose writers it gives out, and on `itoa` for digits. Used by `engine`. What it
+//! promises to it: `text` gives exactly the bytes that `specs/Text.antt` defines.
+//! Begin with `specs/Text.antt`, then `as_text.rt`.
 //! Not promised: what a file or a terminal holds afterwards; that is known of writers over memory.
 #![tactic(auto)]
 
 mod as_text;
-mod counted_write;
 mod kind;
 mod printable;
 mod worked;
 
 pub use as_text::text;
-pub use counted_write::{CountedOut, CountedWrite, WriteFault, write_all_of};
+pub use counted_io::{CountedOut, CountedWrite, WriteFault, write_all_of};
 pub use kind::kind_name;
 pub use printable::a_meaning_has_a_report;
 pub use std::alloc::AllocError as NoMemory;

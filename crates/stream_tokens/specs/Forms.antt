@@ -26,7 +26,7 @@ IsNumber w = (digits mark : List ℕ) × (w ≡ digits ++ mark) × (0 < length d
 abbrev pub IsString : List ℕ → Type 0
 IsString w = (inside : List ℕ) × (w ≡ 34 ∷ inside ++ 34 ∷ []) × (list_all (λ b. not (ends_text b)) inside ≡ true)
 
--- `$`, and a name right behind it (no form of Java)
+-- `$`, and a name right after it (no form of Java)
 abbrev pub IsReference : List ℕ → Type 0
 IsReference w = (name : List ℕ) × (w ≡ 36 ∷ name) × IsName name
 

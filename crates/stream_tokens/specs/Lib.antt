@@ -1,4 +1,4 @@
--- Meaning: the files of this crate's definitions; the first line of each says what it is.
+-- Condition: the files of this crate's definitions; the first line of each says what it is.
 pub mod Bytes
 pub mod Symbols
 pub mod Forms

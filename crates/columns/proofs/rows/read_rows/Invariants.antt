@@ -1,10 +1,13 @@
 use Rattle.std.proofs.Common.{ℕ, List, length, map}
-use Rattle.columns.specs.Records.{IsReading}
+use Rattle.columns.specs.Records.{IsReading, IsSetUp}
 use Rattle.columns.specs.TableOfColumns.{named}
 use Rattle.columns.proofs.RowLemmas.{RowsLeft}
 use Rattle.columns.proofs.rows.read_rows.Given as goal
 
 -- the rows so far have no fault and stand in the columns
 abbrev pub invariant-loop-number : goal.invariant-loop-number
-invariant-loop-number l = (rows : List (List (List ℕ))) → IsReading l.initial.reader rows
-    → RowsLeft (length l.initial.columns) l.reader l.number (map named l.columns) (map named l.initial.columns) rows
+invariant-loop-number l = record {
+  set_up : IsSetUp l.reader;
+  so_far : (rows : List (List (List ℕ))) → IsReading l.initial.reader rows
+      → RowsLeft (length l.initial.columns) l.reader l.number (map named l.columns) (map named l.initial.columns) rows;
+}

@@ -1,0 +1,2 @@
+pub mod GivenBytes
+pub mod SentBytes

@@ -1,0 +1,200 @@
+//! Readers that count their failed reads, and the whole of what one gives.
+ghost use Rattle.std.specs.Prelude.{◌≡◌, ◌≢◌, ◌+◌, ◌<◌, ◌≤◌, ℕ, List, length, take, drop, vec_len, IfOk, IfErr, IfSome, OnOk, OnErr, Option};
+ghost use Rattle.std.specs.Io.{ReadsAtMost};
+ghost use Rattle.std.specs.Io.KnownBytes.{Consumes, IsAtEnd, Keeps, ReadConsumes};
+ghost use Rattle.counted_io.specs.CountedRead.{GaveSome, counted_reader, failed_reads, failures_after};
+ghost use Rattle.counted_io.specs.FailureCounts.{HasRisen};
+
+use crate::failure_count::FailureCount;
+use std::alloc::Global;
+use std::io;
+use std::io::{ErrorKind, Read};
+use thiserror::Error;
+
+/// A reader that counts the reads which answered an error.
+///
+/// Two counts, one taken before a call and one after it, show whether a read failed in between.
+/// The count saturates at `u64::MAX`, and a saturated count is taken as increased.
+pub trait CountedRead {
+    // The bytes that reads will give from here on, where they are known.
+    ghost remaining: { Self → Option (List ℕ) };
+
+    // How many reads answered an error.
+    ghost failures: { Self → ℕ };
+
+    /// Reads some bytes into the front of `buf` and answers how many: 0 at the end of the input, or
+    /// if `buf` is empty. After an error, `ErrorKind::Interrupted` included, no byte is lost.
+    fn read_some(&mut self, buf: &mut [u8]) -> io::Result<usize>
+        ensures bound { ReadsAtMost result buf.new }
+        ensures bytes { ReadConsumes (remaining self.old) (remaining self.new) result buf.new }
+        ensures count { failures self.new ≡ failures_after (failures self.old) result };
+
+    /// How many reads answered an error so far.
+    fn failures(&self) -> u64
+        ensures { result ≡ failures self.now };
+}
+
+/// Any reader, with a count of its failed reads.
+#[derive(Drop)]
+pub struct Counted<R> {
+    reader: R,
+    failures: FailureCount,
+}
+
+impl<R> Counted<R> {
+    /// Counts from 0 on.
+    pub fn new(reader: R) -> Counted<R>
+        ensures reader { counted_reader result ≡ reader }
+        ensures failures { failed_reads result ≡ 0 }
+    {
+        Counted {
+            reader,
+            failures: FailureCount::none(),
+        }
+    }
+
+    /// The reader below. The count is dropped.
+    pub fn into_inner(self) -> R
+        ensures { result ≡ counted_reader self }
+    {
+        self.reader
+    }
+}
+
+impl<R: Read> CountedRead for Counted<R> {
+    ghost remaining = { λ c. R.remaining (counted_reader c) };
+
+    ghost failures = { λ c. failed_reads c };
+
+    fn read_some(&mut self, buf: &mut [u8]) -> io::Result<usize> {
+        let answer = self.reader.read(buf);
+        if answer.is_err() {
+            self.failures.rise();
+        }
+        answer
+    }
+
+    fn failures(&self) -> u64 {
+        self.failures.get()
+    }
+}
+
+/// Why not all of a reader's bytes were read.
+#[derive(Clone, Copy, Debug, PartialEq, Eq, Error)]
+pub enum ReadAllFault {
+    /// A read answered an error other than `ErrorKind::Interrupted`.
+    #[error("read failed")]
+    Failed,
+    /// An allocation failed.
+    #[error("out of memory")]
+    NoMemory,
+}
+
+/// How many bytes are reserved before the first read.
+const FIRST_ROOM: usize = 64 * 1024;
+
+/// How many bytes one read asks for at most: few enough to be still in a cache when it fills them.
+const LONGEST_READ: usize = 256 * 1024;
+
+/// All bytes that the reader has left.
+///
+/// An interrupted read is tried again, as std's readers do it, and its failure stays counted.
+/// The bytes are held once, in a vector that grows by doubling.
+pub fn read_all_of<R: CountedRead>(alloc: Global, reader: &mut R) -> Result<Vec<u8>, ReadAllFault>
+    ensures bytes { IfOk result (λ all. IfSome (R.remaining reader.old) (λ left. all.items ≡ left)) }
+    ensures end { OnOk result (IsAtEnd (R.remaining reader.new)) }
+    ensures failed { IfErr result (λ fault. fault ≡ ReadAllFault.Failed
+        → HasRisen (R.failures reader.old) (R.failures reader.new)) }
+    ensures counts { R.failures reader.old ≤ R.failures reader.new }
+    ensures gave { GaveSome (R.remaining reader.old) (R.remaining reader.new) }
+{
+    let mut bytes = Vec::new(alloc);
+    let mut filled = 0;
+    loop {
+        let count = read_more(reader, &mut bytes, filled)?;
+        if count == 0 {
+            break;
+        }
+        filled += count;
+    }
+    bytes.truncate(filled);
+    Ok(bytes)
+}
+
+/// Makes `bytes` longer by zeros, for one read. A full vector is reserved as much again.
+fn make_room(bytes: &mut Vec<u8>) -> Result<(), ReadAllFault>
+    ensures room { OnOk result (vec_len bytes.old < vec_len bytes.new) }
+    ensures front { OnOk result (take (vec_len bytes.old) bytes.new.items ≡ bytes.old.items) }
+    ensures err { IfErr result (λ fault. fault ≡ ReadAllFault.NoMemory) }
+{
+    let filled = bytes.len();
+    if filled == bytes.capacity() && bytes.reserve(filled.max(FIRST_ROOM)).is_err() {
+        return Err(ReadAllFault::NoMemory);
+    }
+    let room = (bytes.capacity() - filled).min(LONGEST_READ);
+    if bytes.resize(filled + room, 0).is_err() {
+        return Err(ReadAllFault::NoMemory);
+    }
+    Ok(())
+}
+
+/// One read into `bytes` from place `filled` on; a filled vector is made longer first.
+fn read_more<R: CountedRead>(
+    reader: &mut R,
+    bytes: &mut Vec<u8>,
+    filled: usize,
+) -> Result<usize, ReadAllFault>
+    requires { filled ≤ vec_len bytes.old }
+    ensures front { OnOk result (take filled bytes.new.items ≡ take filled bytes.old.items) }
+    ensures fits { IfOk result (λ n. filled + n ≤ vec_len bytes.new) }
+    ensures ok { IfOk result (λ n. Consumes (R.remaining reader.old) (R.remaining reader.new)
+        (take n (drop filled bytes.new.items))) }
+    ensures end { IfOk result (λ n. n ≡ 0 → IsAtEnd (R.remaining reader.new)) }
+    ensures err { OnErr result (Keeps (R.remaining reader.old) (R.remaining reader.new)) }
+    ensures failed { IfErr result (λ fault. fault ≡ ReadAllFault.Failed
+        → HasRisen (R.failures reader.old) (R.failures reader.new)) }
+    ensures counts { R.failures reader.old ≤ R.failures reader.new }
+{
+    if filled == bytes.len() {
+        make_room(bytes)?;
+    }
+    read_at(reader, bytes.as_mut_slice(), filled)
+}
+
+/// One read into `buf` from place `at` on.
+fn read_at<R: CountedRead>(reader: &mut R, buf: &mut [u8], at: usize) -> Result<usize, ReadAllFault>
+    requires { at < length buf.old }
+    ensures front { take at buf.new ≡ take at buf.old }
+    ensures fits { IfOk result (λ n. at + n ≤ length buf.new) }
+    ensures ok { IfOk result (λ n. Consumes (R.remaining reader.old) (R.remaining reader.new)
+        (take n (drop at buf.new))) }
+    ensures end { IfOk result (λ n. n ≡ 0 → IsAtEnd (R.remaining reader.new)) }
+    ensures err { OnErr result (Keeps (R.remaining reader.old) (R.remaining reader.new)) }
+    ensures failed { OnErr result (HasRisen (R.failures reader.old) (R.failures reader.new)) }
+    ensures counts { R.failures reader.old ≤ R.failures reader.new }
+{
+    read_retrying(reader, &mut buf[at..])
+}
+
+/// One read, tried again if it was interrupted.
+fn read_retrying<R: CountedRead>(reader: &mut R, buf: &mut [u8]) -> Result<usize, ReadAllFault>
+    ensures bound { ReadsAtMost result buf.new }
+    ensures ok { IfOk result (λ n. Consumes (R.remaining reader.old) (R.remaining reader.new)
+        (take n buf.new)) }
+    ensures end { IfOk result (λ n. n ≡ 0 → 0 < length buf.old → IsAtEnd (R.remaining reader.new)) }
+    ensures err { OnErr result (Keeps (R.remaining reader.old) (R.remaining reader.new)) }
+    ensures failed { OnErr result (HasRisen (R.failures reader.old) (R.failures reader.new)) }
+    ensures counts { R.failures reader.old ≤ R.failures reader.new }
+{
+    for _ in 0..u64::MAX {
+        match reader.read_some(buf) {
+            Ok(count) => return Ok(count),
+            Err(fault) => {
+                if fault.kind() != ErrorKind::Interrupted {
+                    return Err(ReadAllFault::Failed);
+                }
+            }
+        }
+    }
+    Err(ReadAllFault::Failed)
+}

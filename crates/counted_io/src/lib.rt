@@ -1,0 +1,20 @@
+//! Readers and writers that count what failed, the whole of a reader's bytes, and writing all of some bytes.
+//!
+//! Stands on std and on `thiserror`. `columns` and `report` stand on it and give out its names; the run reads a
+//! job file and writes a report by it.
+//!
+//! A contract can't say when a file fails, but it can compare two counts: `read_all_of`, clause `failed`, and
+//! `write_all_of`, clause `failed`, report a fault of the reader or the writer only if the count rose. Of a
+//! reader or a writer over memory they also say which bytes were read (`bytes`) and which went out (`ok`, `err`).
+//!
+//! Begin with `specs/FailureCounts.antt`, then `counted_read.rt` and `counted_write.rt`.
+//!
+//! Not promised: what a file gives, and that an interrupted call is tried again; the tests show that it is.
+#![tactic(auto)]
+
+mod counted_read;
+mod counted_write;
+mod failure_count;
+
+pub use counted_read::{Counted, CountedRead, ReadAllFault, read_all_of};
+pub use counted_write::{CountedOut, CountedWrite, WriteFault, write_all_of};
