@@ -1,0 +1,221 @@
+-- What the reader of pieces answers at a place.
+use Rattle.std.proofs.Common.{◌≡◌, ℕ, zero, suc, ◌+◌, ◌-◌, ◌<◌, ◌≤◌, Bool, true, false, List, [], ◌∷◌, ◌++◌, length, drop, get_or, Some, None, refl, sym, ap, subst, ◌∙◌, arith, length-drop, length-take, length-append}
+use Rattle.std.specs.Prelude.{codes, slice_range, nat_eq, if◌then◌else◌}
+use Rattle.std.specs.Cmp.Lexicographic.{pointwise, same_text}
+use Rattle.std.proofs.lemmas.List.{drop_more, drop-drop}
+use Rattle.stream_tokens.specs.declared.symbol.Symbol.{Symbol}
+use Rattle.stream_tokens.specs.declared.symbol.Symbol.TheVariants as symbol
+use Rattle.lambda_expr.specs.Words.{Word, named, sign, bad, numeral, quoted, referred}
+use Rattle.job_language.specs.declared.operation.Operation.{Operation}
+use Rattle.job_language.specs.declared.operation.Operation.TheVariants as op
+use Rattle.job_language.specs.declared.operation.Role.TheVariants as role
+use Rattle.job_language.specs.declared.piece.Mark.{Mark}
+use Rattle.job_language.specs.declared.piece.Mark.TheVariants as mark
+use Rattle.job_language.specs.Table.{name_of, operation_of, operations, row_of, role_of}
+use Rattle.job_language.specs.Calls.{call_words, parts_words}
+use Rattle.job_language.specs.Splitting.{pieces, AreEnds, Completes, call_at, IsReadAs, IsNoCallOf}
+use Rattle.job_language.specs.Grammar.{Piece, call, begin_concat, owner, comma, close, dot, semicolon}
+use Rattle.job_language.specs.Shapes.{width, sign_piece, mark_of_symbol, is_open, operation_in, IsNoPiece, Begins, IsMarkOf}
+use Rattle.job_language.proofs.Names.{named_back, one_name}
+use Rattle.job_language.proofs.Piecing.{first_word, later_words, words_of_piece, not_owner, name_is, call_tail, completes}
+
+pub front : (ws : List Word) (at : ℕ) → at < length ws → drop at ws ≡ get_or ws at bad ∷ drop (at + 1) ws
+front ws at lt = drop_more ws at bad lt
+
+pub front_two : (ws : List Word) (at : ℕ) → at + 1 < length ws → drop at ws ≡ get_or ws at bad ∷ get_or ws (at + 1) bad ∷ drop (at + 2) ws
+front_two ws at lt =
+    let e : at + 1 + 1 ≡ at + 2 = omega arith in
+    front ws at (omega arith) ∙ ap (λ v. get_or ws at bad ∷ v) (front ws (at + 1) lt) ∙ ap (λ n. get_or ws at bad ∷ get_or ws (at + 1) bad ∷ drop n ws) e
+
+pub open_sign : (w : Word) → is_open w ≡ true → w ≡ sign symbol.Open
+open_sign (sign symbol.Open) h = refl
+open_sign w h = absurd cc
+
+pub open_within : (ws : List Word) (i : ℕ) → is_open (get_or ws i bad) ≡ true → i < length ws
+open_within [] i h = absurd cc
+open_within (w ∷ ws) zero h = omega arith
+open_within (w ∷ ws) (suc i) h = let k = open_within ws i h in omega arith
+
+-- the operation of a name has that name
+named_by : (os : List Operation) (p : Operation) (w : List ℕ) (o : Operation) (b : Bool) → pointwise nat_eq w (name_of p) ≡ b → (row_of os w ≡ Some o → w ≡ name_of o) → (if b then Some p else row_of os w) ≡ Some o → w ≡ name_of o
+named_by os p w o true h further k = let e : p ≡ o = cc in same_text w (name_of p) (sym h) ∙ ap name_of e
+named_by os p w o false h further k = further k
+
+named_row : (os : List Operation) (w : List ℕ) (o : Operation) → row_of os w ≡ Some o → w ≡ name_of o
+named_row [] w o h = absurd cc
+named_row (p ∷ os) w o h = named_by os p w o (pointwise nat_eq w (name_of p)) refl (named_row os w o) h
+
+pub names : (w : Word) (o : Operation) → operation_in w ≡ Some o → w ≡ named (name_of o)
+names (named n) o h = ap named (named_row operations n o h)
+names (numeral n) o h = absurd cc
+names (quoted n) o h = absurd cc
+names (referred n) o h = absurd cc
+names (sign s) o h = absurd cc
+names bad o h = absurd cc
+
+is_concat : (o : Operation) → role_of o ≡ role.Concatenation → o ≡ op.Concat
+is_concat op.Concat h = refl
+is_concat o h = absurd cc
+
+pub begins_concat : (ws : List Word) (at : ℕ) (o : Operation) → role_of o ≡ role.Concatenation → at + 1 < length ws → get_or ws at bad ≡ named (name_of o) → get_or ws (at + 1) bad ≡ sign symbol.Open → Begins ws at begin_concat (at + 2)
+begins_concat ws at o r lt name open_ = record {
+  piece = tt;
+  spelled =
+      front_two ws at lt
+      ∙ ap (λ w. w ∷ get_or ws (at + 1) bad ∷ drop (at + 2) ws) (name ∙ ap (λ o. named (name_of o)) (is_concat o r))
+      ∙ ap (λ w. named (name_of op.Concat) ∷ w ∷ drop (at + 2) ws) open_;
+  further = omega arith;
+  within = omega arith;
+}
+
+length_slice : (ws : List Word) (a e : ℕ) → e < length ws → length (slice_range ws a e) ≡ e - a
+length_slice ws a e lt = let k = length-take (e - a) (drop a ws) in let l = length-drop a ws in omega arith
+
+width_from : (ws : List Word) (a e : ℕ) (es : List ℕ) → AreEnds a (e ∷ es) (length ws) → length (parts_words (pieces ws a (e ∷ es))) + a + 1 ≡ width (e ∷ es)
+width_from ws a e [] h = let k = length_slice ws a e h.1 in let low = h.0 in omega arith
+width_from ws a e (d ∷ es) h =
+    let k = length_slice ws a e h.1 in
+    let low = h.0 in
+    let l = width_from ws (e + 1) d es h.2 in
+    let m = length-append (slice_range ws a e) (sign symbol.Comma ∷ parts_words (pieces ws (e + 1) (d ∷ es))) in
+    omega arith
+
+pub width_is : (ws : List Word) (es : List ℕ) → AreEnds 0 es (length ws) → length (parts_words (pieces ws 0 es)) + 1 ≡ width es
+width_is ws [] h = refl
+width_is ws (e ∷ es) h = let k = width_from ws 0 e es h in omega arith
+
+past : (a : List Word) (w : Word) (rest : List Word) → drop (length a + 1) (a ++ w ∷ rest) ≡ rest
+past [] w rest = refl
+past (v ∷ a) w rest = let e : suc (length a) + 1 ≡ suc (length a + 1) = omega arith in ap (λ n. drop n (v ∷ a ++ w ∷ rest)) e ∙ past a w rest
+
+-- a call in words, and what is left after it
+pub call_ends : (o : Operation) (ws : List Word) (es : List ℕ) → IsReadAs o ws es → (parts_words (pieces ws 0 es) ++ sign symbol.Close ∷ drop (width es) ws ≡ ws) × (width es ≤ length ws)
+call_ends o ws es h =
+    let parts = parts_words (pieces ws 0 es) in
+    let wide = width_is ws es h.ends in
+    let rest : drop (width es) ws ≡ h.rest = ap (λ n. drop n ws) (sym wide) ∙ ap (drop (length parts + 1)) (sym h.completes.spelled) ∙ past parts (sign symbol.Close) h.rest in
+    let long : length ws ≡ length parts + suc (length h.rest) = ap length (sym h.completes.spelled) ∙ length-append parts (sign symbol.Close ∷ h.rest) in
+    (ap (λ v. parts ++ sign symbol.Close ∷ v) rest ∙ h.completes.spelled, omega arith)
+
+pub begins_call : (ws : List Word) (at : ℕ) (o : Operation) (es : List ℕ) → at + 1 < length ws → get_or ws at bad ≡ named (name_of o) → get_or ws (at + 1) bad ≡ sign symbol.Open → IsReadAs o (drop (at + 2) ws) es → Begins ws at (call (call_at o (drop (at + 1 + 1) ws) es)) (at + 2 + width es)
+begins_call ws at o es lt name open_ h =
+    let vs = drop (at + 2) ws in
+    let two_ : at + 1 + 1 ≡ at + 2 = omega arith in
+    let k = call_ends o vs es h in
+    let far = k.1 in
+    let left = length-drop (at + 2) ws in
+    let rest : drop (width es) vs ≡ drop (at + 2 + width es) ws = drop-drop (width es) (at + 2) ws in
+    let c = call_at o vs es in
+    let here : drop at ws ≡ call_words c ++ drop (at + 2 + width es) ws =
+    front_two ws at lt
+    ∙ ap (λ w. w ∷ get_or ws (at + 1) bad ∷ vs) name
+    ∙ ap (λ w. named (name_of o) ∷ w ∷ vs) open_
+    ∙ ap (λ v. named (name_of o) ∷ sign symbol.Open ∷ v) (sym k.0 ∙ ap (λ v. parts_words (pieces vs 0 es) ++ sign symbol.Close ∷ v) rest)
+    ∙ sym (call_tail c (drop (at + 2 + width es) ws)) in
+    subst (λ n. Begins ws at (call (call_at o (drop n ws) es)) (at + 2 + width es)) (sym two_) (record {
+      piece = h.completes.call;
+      spelled = here;
+      further = omega arith;
+      within = omega arith;
+    })
+
+-- a name and a parenthesis that begin no call
+no_call_for : (o : Operation) (vs : List Word) → IsNoCallOf o vs → (role_of o ≡ role.Concatenation → ⊥) → IsNoPiece (named (name_of o) ∷ sign symbol.Open ∷ vs)
+no_call_for o vs none_ n (call c) rest k e =
+    let same = one_name c.operation o (name_is (name_of c.operation) (name_of o) _ _ e) in
+    let here : Completes c rest vs = completes c rest vs k (e ∙ ap (λ p. named (name_of p) ∷ sign symbol.Open ∷ vs) (sym same)) in
+    none_ c.parts rest (subst (λ p. Completes (record { operation = p; parts = c.parts }) rest vs) same here)
+no_call_for o vs none_ n begin_concat rest k e = n (ap role_of (sym (one_name op.Concat o (name_is _ _ _ _ e))))
+no_call_for o vs none_ n owner rest k e = not_owner o (sym (name_is _ _ _ _ e))
+no_call_for o vs none_ n p rest k e = absurd cc
+
+pub begins_no_call : (ws : List Word) (at : ℕ) (o : Operation) → at + 1 < length ws → get_or ws at bad ≡ named (name_of o) → get_or ws (at + 1) bad ≡ sign symbol.Open → IsNoCallOf o (drop (at + 2) ws) → (role_of o ≡ role.Concatenation → ⊥) → IsNoPiece (drop at ws)
+begins_no_call ws at o lt name open_ none_ n =
+    subst IsNoPiece (sym (front_two ws at lt ∙ ap (λ w. w ∷ get_or ws (at + 1) bad ∷ drop (at + 2) ws) name ∙ ap (λ w. named (name_of o) ∷ w ∷ drop (at + 2) ws) open_)) (no_call_for o (drop (at + 2) ws) none_ n)
+
+-- a name of an operation without a parenthesis after it
+no_open_for : (o : Operation) (vs : List Word) → is_open (get_or vs 0 bad) ≡ false → IsNoPiece (named (name_of o) ∷ vs)
+no_open_for o vs h (call c) rest k e =
+    let f : sign symbol.Open ∷ (parts_words c.parts ++ sign symbol.Close ∷ rest) ≡ vs = let g : named (name_of c.operation) ∷ sign symbol.Open ∷ (parts_words c.parts ++ sign symbol.Close ∷ rest) ≡ named (name_of o) ∷ vs = sym (call_tail c rest) ∙ e in cc in
+    let b : true ≡ false = ap (λ v. is_open (get_or v 0 bad)) f ∙ h in
+    absurd cc
+no_open_for o vs h begin_concat rest k e =
+    let f : sign symbol.Open ∷ rest ≡ vs = cc in
+    let b : true ≡ false = ap (λ v. is_open (get_or v 0 bad)) f ∙ h in
+    absurd cc
+no_open_for o vs h owner rest k e = not_owner o (sym (name_is _ _ _ _ e))
+no_open_for o vs h p rest k e = absurd cc
+
+first_of : (vs : List Word) (at : ℕ) → get_or (drop at vs) 0 bad ≡ get_or vs at bad
+first_of vs zero = refl
+first_of [] (suc at) = refl
+first_of (v ∷ vs) (suc at) = first_of vs at
+
+pub begins_no_open : (ws : List Word) (at : ℕ) (o : Operation) → at < length ws → operation_in (get_or ws at bad) ≡ Some o → is_open (get_or ws (at + 1) bad) ≡ false → IsNoPiece (drop at ws)
+begins_no_open ws at o lt name h =
+    subst IsNoPiece (sym (front ws at lt ∙ ap (λ w. w ∷ drop (at + 1) ws) (names (get_or ws at bad) o name))) (no_open_for o (drop (at + 1) ws) (ap is_open (first_of ws (at + 1)) ∙ h))
+
+-- a word by itself
+pub symbol_mark : (s : Symbol) (m : Mark) → mark_of_symbol s ≡ Some m → IsMarkOf (sign s) m
+symbol_mark symbol.Comma m h = let e : mark.Comma ≡ m = cc in subst (IsMarkOf (sign symbol.Comma)) e (record { spelled = refl; mark = refl; piece = tt })
+symbol_mark symbol.Close m h = let e : mark.Close ≡ m = cc in subst (IsMarkOf (sign symbol.Close)) e (record { spelled = refl; mark = refl; piece = tt })
+symbol_mark symbol.Dot m h = let e : mark.Dot ≡ m = cc in subst (IsMarkOf (sign symbol.Dot)) e (record { spelled = refl; mark = refl; piece = tt })
+symbol_mark symbol.Semicolon m h = let e : mark.Semicolon ≡ m = cc in subst (IsMarkOf (sign symbol.Semicolon)) e (record { spelled = refl; mark = refl; piece = tt })
+symbol_mark s m h = absurd cc
+
+sign_is : (s t : Symbol) (ws vs : List Word) → sign s ∷ ws ≡ sign t ∷ vs → s ≡ t
+sign_is s t ws vs h = cc
+
+pub no_symbol : (s : Symbol) (ws : List Word) → mark_of_symbol s ≡ None → IsNoPiece (sign s ∷ ws)
+no_symbol s ws h comma rest k e = let f : Some mark.Comma ≡ None = ap mark_of_symbol (sign_is symbol.Comma s _ _ e) ∙ h in absurd cc
+no_symbol s ws h close rest k e = let f : Some mark.Close ≡ None = ap mark_of_symbol (sign_is symbol.Close s _ _ e) ∙ h in absurd cc
+no_symbol s ws h dot rest k e = let f : Some mark.Dot ≡ None = ap mark_of_symbol (sign_is symbol.Dot s _ _ e) ∙ h in absurd cc
+no_symbol s ws h semicolon rest k e = let f : Some mark.Semicolon ≡ None = ap mark_of_symbol (sign_is symbol.Semicolon s _ _ e) ∙ h in absurd cc
+no_symbol s ws h p rest k e = absurd cc
+
+pub owner_mark : (w : List ℕ) → w ≡ codes "LongStream" → IsMarkOf (named w) mark.Owner
+owner_mark w h = record { spelled = ap (λ v. named v ∷ []) (sym h); mark = refl; piece = tt }
+
+pub no_name_piece : (w : List ℕ) (ws : List Word) → operation_of w ≡ None → (w ≡ codes "LongStream" → ⊥) → IsNoPiece (named w ∷ ws)
+no_name_piece w ws h n (call c) rest k e = let f : Some c.operation ≡ None = sym (named_back c.operation) ∙ ap operation_of (name_is (name_of c.operation) w _ _ e) ∙ h in absurd cc
+no_name_piece w ws h n begin_concat rest k e = let f : Some op.Concat ≡ None = ap operation_of (name_is (name_of op.Concat) w _ _ e) ∙ h in absurd cc
+no_name_piece w ws h n owner rest k e = n (sym (name_is (codes "LongStream") w _ _ e))
+no_name_piece w ws h n p rest k e = absurd cc
+
+-- no other word begins a piece
+abbrev pub IsOther : Word → Type 0
+IsOther (named w) = ⊥
+IsOther (sign s) = ⊥
+IsOther w = Unit {0}
+
+first_not : (p : Piece) (w : Word) → IsOther w → first_word p ≡ w → ⊥
+first_not (call c) w o h = subst IsOther (sym h) o
+first_not begin_concat w o h = subst IsOther (sym h) o
+first_not owner w o h = subst IsOther (sym h) o
+first_not comma w o h = subst IsOther (sym h) o
+first_not close w o h = subst IsOther (sym h) o
+first_not dot w o h = subst IsOther (sym h) o
+first_not semicolon w o h = subst IsOther (sym h) o
+
+pub no_other : (w : Word) (ws : List Word) → IsOther w → IsNoPiece (w ∷ ws)
+no_other w ws o p rest k e =
+    let f : first_word p ∷ (later_words p ++ rest) ≡ w ∷ ws = ap (λ u. u ++ rest) (sym (words_of_piece p)) ∙ e in
+    first_not p w o cc
+
+pub width_last : (es : List ℕ) → 0 < length es → get_or es (length es - 1) 0 + 1 ≡ width es
+width_last [] h = absurd (omega arith)
+width_last (e ∷ []) h = refl
+width_last (e ∷ d ∷ es) h = let n : suc (suc (length es)) - 1 ≡ suc (suc (length es) - 1) = omega arith in ap (λ n. get_or (e ∷ d ∷ es) n 0 + 1) n ∙ width_last (d ∷ es) (omega arith)
+
+pub not_open_past : (ws : List Word) (i : ℕ) → length ws ≤ i → is_open (get_or ws i bad) ≡ false
+not_open_past [] i h = refl
+not_open_past (w ∷ ws) zero h = absurd (omega arith)
+not_open_past (w ∷ ws) (suc i) h = not_open_past ws i (omega arith)
+
+pub begins_word : (ws : List Word) (at : ℕ) (m : Mark) → at < length ws → IsMarkOf (get_or ws at bad) m → Begins ws at (sign_piece m) (at + 1)
+begins_word ws at m lt h = record {
+  piece = h.piece;
+  spelled = front ws at lt ∙ ap (λ v. v ++ drop (at + 1) ws) (sym h.spelled);
+  further = omega arith;
+  within = omega arith;
+}

@@ -1,0 +1,20 @@
+use Rattle.std.proofs.Common.{length, rules, arith, Fits, w64}
+use Rattle.job_language.specs.Splitting.{words_in}
+use Rattle.job_language.proofs.WordLists.{length_words}
+use Rattle.job_language.proofs.Ends.{next_end}
+use Rattle.job_language.proofs.call.fit.Goals as goal
+
+pub part-requires-clause-in_range : goal.part-requires-clause-in_range
+part-requires-clause-in_range c =
+    let same = length_words c.args.words.now in
+    let end = next_end c.loop-at.from c.args.ends.now c.loop-at.at (length (words_in c.args.words.now)) c.loop-at-test.true c.loop-at.invariant.ends in
+    let low = end.1 in
+    omega arith
+
+pub overflow_add-from : goal.overflow_add-from
+overflow_add-from c =
+    let same = length_words c.args.words.now in
+    let end = next_end c.loop-at.from c.args.ends.now c.loop-at.at (length (words_in c.args.words.now)) c.loop-at-test.true c.loop-at.invariant.ends in
+    let low = end.1 in
+    let fits : Fits w64 (length c.args.words.now) = search rules in
+    omega arith

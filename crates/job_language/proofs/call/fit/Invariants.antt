@@ -1,0 +1,6 @@
+use Rattle.job_language.specs.Splitting.{words_in}
+use Rattle.job_language.proofs.Ends.{IsFitting}
+use Rattle.job_language.proofs.call.fit.Given as goal
+
+abbrev pub invariant-loop-at : goal.invariant-loop-at
+invariant-loop-at l = IsFitting l.operation (words_in l.words) l.ends l.at l.from

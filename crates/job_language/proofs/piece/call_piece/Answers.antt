@@ -1,0 +1,52 @@
+use Rattle.std.proofs.Common.{◌≡◌, ◌+◌, ◌<◌, ◌≤◌, length, drop, sym, ap, subst, ◌∙◌, rules, arith, Fits, w64}
+use Rattle.std.specs.Prelude.{MatchOption}
+use Rattle.job_language.specs.declared.operation.Role.TheVariants as role
+use Rattle.job_language.specs.declared.piece.Mark.TheVariants as mark
+use Rattle.job_language.specs.Grammar.{call}
+use Rattle.job_language.specs.Splitting.{words_in, call_at, IsReadAs, IsNoCallOf}
+use Rattle.job_language.specs.Shapes.{width, Begins}
+use Rattle.job_language.proofs.WordLists.{length_words}
+use Rattle.job_language.proofs.PieceReads.{begins_call, begins_no_call, call_ends}
+use Rattle.job_language.proofs.piece.call_piece.Goals as goal
+
+pub returns-in_default : goal.returns-in_default
+returns-in_default c =
+    let ws = words_in c.args.words.now in
+    let o = c.args.operation in
+    let lt = subst (λ n. c.args.at + 1 < n) (sym (length_words c.args.words.now)) c.requires.in_range in
+    let other : c.role_of-role.result ≡ role.Concatenation → ⊥ = search rules in
+    let read = subst (λ f. MatchOption f (IsNoCallOf o (words_in c.after.result.now)) (λ ends. IsReadAs o (words_in c.after.result.now) ends.items)) c.in_default.is c.in_ok-ends.ensures in
+    begins_no_call ws c.args.at o lt c.requires.name c.requires.open (subst (IsNoCallOf o) c.after.ensures.value read) (λ h. other (c.role_of-role.ensures ∙ h))
+
+pub width-requires : goal.width-requires
+width-requires c =
+    let o = c.args.operation in
+    let read = subst (λ f. MatchOption f (IsNoCallOf o (words_in c.after.result.now)) (λ ends. IsReadAs o (words_in c.after.result.now) ends.items)) c.in-Some.is c.in_ok-ends.ensures in
+    let far = (call_ends o (words_in c.after.result.now) c.in-Some.ends.items read).1 in
+    let same = length_words c.after.result.now in
+    let len = c.after.ensures.len in
+    subst (λ es. width es ≤ length c.args.words.now) (sym c.deref.ensures.value) (omega arith)
+
+pub overflow_add-to-2 : goal.overflow_add-to-2
+overflow_add-to-2 c =
+    let o = c.args.operation in
+    let read = subst (λ f. MatchOption f (IsNoCallOf o (words_in c.after.result.now)) (λ ends. IsReadAs o (words_in c.after.result.now) ends.items)) c.in-Some.is c.in_ok-ends.ensures in
+    let far = (call_ends o (words_in c.after.result.now) c.in-Some.ends.items read).1 in
+    let same = length_words c.after.result.now in
+    let len = c.after.ensures.len in
+    let is : c.width.result ≡ width c.in-Some.ends.items = c.width.ensures ∙ ap width c.deref.ensures.value in
+    let fits : Fits w64 (length c.args.words.now) = search rules in
+    omega arith
+
+pub returns : goal.returns
+returns c =
+    let ws = words_in c.args.words.now in
+    let o = c.args.operation in
+    let lt = subst (λ n. c.args.at + 1 < n) (sym (length_words c.args.words.now)) c.requires.in_range in
+    let read = subst (λ f. MatchOption f (IsNoCallOf o (words_in c.after.result.now)) (λ ends. IsReadAs o (words_in c.after.result.now) ends.items)) c.in-Some.is c.in_ok-ends.ensures in
+    let here = subst (λ v. IsReadAs o v c.in-Some.ends.items) c.after.ensures.value read in
+    let is : c.width.result ≡ width c.in-Some.ends.items = c.width.ensures ∙ ap width c.deref.ensures.value in
+    record {
+      begins = subst (λ n. Begins ws c.args.at (call (call_at o (drop (c.args.at + 1 + 1) ws) c.in-Some.ends.items)) (c.args.at + 2 + n)) (sym is) (begins_call ws c.args.at o c.in-Some.ends.items lt c.requires.name c.requires.open here);
+      mark = ap mark.Call (sym c.role_of-role.ensures);
+    }

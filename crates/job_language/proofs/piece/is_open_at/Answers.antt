@@ -1,0 +1,17 @@
+use Rattle.std.proofs.Common.{ap, sym, ◌∙◌, arith}
+use Rattle.job_language.specs.Splitting.{words_in}
+use Rattle.job_language.specs.Shapes.{is_open}
+use Rattle.job_language.proofs.WordLists.{word_at, length_words}
+use Rattle.job_language.proofs.PieceReads.{not_open_past}
+use Rattle.job_language.proofs.piece.is_open_at.Goals as goal
+
+pub returns-then-place-words : goal.returns-then-place-words
+returns-then-place-words c =
+    let same = length_words c.args.words.now in
+    let far = c.if-place-words.true in
+    sym (not_open_past (words_in c.args.words.now) c.args.place (omega arith))
+
+pub returns : goal.returns
+returns c =
+    let near = c.if-place-words.false in
+    c.is_open.ensures ∙ ap is_open (sym (word_at c.args.words.now c.args.place _ (omega arith)))

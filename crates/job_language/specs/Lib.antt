@@ -1,0 +1,7 @@
+-- The definitions of the crate.
+pub mod Table
+pub mod Calls
+pub mod Splitting
+pub mod Grammar
+pub mod Reading
+pub mod Shapes

@@ -1,0 +1,83 @@
+//! Calls: an operation, and the parts between its parentheses.
+ghost use Rattle.std.specs.Prelude.{◌≡◌, ◌≤◌, ◌<◌, ◌↔◌, IsTrue, ℕ, List, length, IfOk, MatchOption};
+ghost use Rattle.lambda_expr.specs.Words.{Word as meant};
+ghost use Rattle.job_language.specs.declared.operation.Operation.{Operation as operation};
+ghost use Rattle.job_language.specs.Calls.{Call as call};
+ghost use Rattle.job_language.specs.Splitting.{words_in, reads, start, pieces, fits_from, IsSplit, IsReadAs, IsNoCallOf, AreEnds, IsOpen, Completes};
+
+use crate::operation::{Operation, allows, param_of};
+use crate::word::{Bracket, Word, bracket_at, fits, nest, part};
+use std::alloc::{AllocError, Global};
+
+/// The places where the parts of a call end, in the words after its opening parenthesis; the last ends
+/// at the closing one. One walk, whatever the operation is. `None` if the call isn't closed.
+fn split(alloc: Global, words: &[Word]) -> Result<Option<Vec<usize>>, AllocError>
+    ensures { IfOk result (λ found. MatchOption found (IsOpen (reads start (words_in words.now)))
+        (λ ends. IsSplit (words_in words.now) ends.items)) }
+{
+    let mut ends = Vec::new(alloc);
+    let mut depth = 0;
+    for at in 0..words.len() {
+        let bracket = bracket_at(words, at);
+        match nest(depth, bracket) {
+            Some(after) => depth = after,
+            None => {
+                if bracket == Bracket::Close {
+                    if at == 0 {
+                        return Ok(Some(ends));
+                    }
+                    ends.push(at)?;
+                    return Ok(Some(ends));
+                }
+                ends.push(at)?;
+            }
+        }
+    }
+    Ok(None)
+}
+
+/// Whether each of the parts that end there is what the row says.
+fn fit(operation: Operation, words: &[Word], ends: &[usize]) -> bool
+    requires { AreEnds 0 ends.now (length (words_in words.now)) }
+    ensures { result ≡ fits_from operation (length ends.now) 0 (pieces (words_in words.now) 0 ends.now) }
+{
+    let mut from = 0;
+    for at in 0..ends.len() {
+        let to = ends[at];
+        if !fits(param_of(operation, ends.len(), at), part(words, from, to)) {
+            return false;
+        }
+        from = to + 1;
+    }
+    true
+}
+
+/// The places where the parts of a call end, in the words after its opening parenthesis. `None` if
+/// they don't complete a call of this operation.
+pub fn read_call(
+    alloc: Global,
+    operation: Operation,
+    words: &[Word],
+) -> Result<Option<Vec<usize>>, AllocError>
+    ensures { IfOk result (λ found. MatchOption found (IsNoCallOf operation (words_in words.now))
+        (λ ends. IsReadAs operation (words_in words.now) ends.items)) }
+{
+    match split(alloc, words)? {
+        None => Ok(None),
+        Some(ends) => {
+            if !allows(operation, ends.len()) {
+                return Ok(None);
+            }
+            if !fit(operation, words, &ends) {
+                return Ok(None);
+            }
+            Ok(Some(ends))
+        }
+    }
+}
+
+/// A call is completed in one way.
+pub fn one_call()
+    ensures { (c d : call) (r s ws : List meant) → c.operation ≡ d.operation
+        → Completes c r ws → Completes d s ws → (c ≡ d) × (r ≡ s) }
+{}

@@ -1,0 +1,30 @@
+//! The language of job files: the grammar of a job, and the table of its operations.
+//!
+//! A job is `NAME = SOURCE`, stages and a terminal, each after a dot, and at most one `;`. Each source, stage
+//! and terminal is a call of an operation, and each operation is one row of a table (`operation.rt`,
+//! `specs/Table.antt`): its name, where it stands, how many parts stand between its parentheses, and what each
+//! is. The grammar, the reader and what a job means share that table.
+//!
+//! Stands on `stream_tokens`, which cuts the text of a job once (`CutText`), and on the words and numbers of
+//! `lambda_expr`. `parse_job` gives the calls of a job in order of writing exactly when the text is a job, and
+//! `None` exactly when it is none; `one_job` says that words are one job at most.
+//!
+//! Begin with `specs/Grammar.antt`, then `shape.rt`.
+//!
+//! Not promised: that a lambda or an operator between parentheses is one, or that a number fits 64 bits.
+#![tactic(auto)]
+
+mod call;
+mod mode;
+mod operation;
+mod piece;
+mod shape;
+mod sound;
+mod word;
+
+pub use call::one_call;
+pub use operation::{
+    Operation, Param, Role, allows, name_of, one_operation, operation_of, param_of, role_of,
+};
+pub use piece::WrittenCall;
+pub use shape::{one_job, parse_job};

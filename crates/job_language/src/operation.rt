@@ -1,0 +1,255 @@
+//! The operations of jobs: the table that the grammar, the reader and the refusals share.
+ghost use Rattle.std.specs.Prelude.{◌≡◌, ◌<◌};
+ghost use Rattle.job_language.specs.declared.operation.Operation.{Operation as operation};
+ghost use Rattle.job_language.specs.Table.{name_of, role_of, operation_of, allows, param_of};
+
+/// An operation of a job.
+#[derive(Clone, Copy, PartialEq, Eq)]
+pub enum Operation {
+    /// `range(NUM, NUM)`.
+    Range,
+    /// `rangeClosed(NUM, NUM)`.
+    RangeClosed,
+    /// `of(NUM, ..)`.
+    Of,
+    /// `empty()`.
+    Empty,
+    /// `column("name")`.
+    Column,
+    /// `result(NAME)`.
+    Result,
+    /// `concat(SOURCE, SOURCE, ..)`.
+    Concat,
+    /// `map(LAMBDA)`.
+    Map,
+    /// `filter(LAMBDA)`.
+    Filter,
+    /// `flatMap(LAMBDA)`.
+    FlatMap,
+    /// `limit(NUM)`.
+    Limit,
+    /// `skip(NUM)`.
+    Skip,
+    /// `takeWhile(LAMBDA)`.
+    TakeWhile,
+    /// `dropWhile(LAMBDA)`.
+    DropWhile,
+    /// `prefix(OPERATOR)` or `prefix(NUM, NUM, OPERATOR)`.
+    Prefix,
+    /// `sum()`.
+    Sum,
+    /// `count()`.
+    Count,
+    /// `min()`.
+    Min,
+    /// `max()`.
+    Max,
+    /// `findFirst()`.
+    FindFirst,
+    /// `toArray()`.
+    ToArray,
+    /// `reduce(OPERATOR)` or `reduce(NUM, OPERATOR)`.
+    Reduce,
+    /// `anyMatch(LAMBDA)`.
+    AnyMatch,
+    /// `allMatch(LAMBDA)`.
+    AllMatch,
+    /// `noneMatch(LAMBDA)`.
+    NoneMatch,
+}
+
+/// Where an operation stands in a job.
+#[derive(Clone, Copy, PartialEq, Eq)]
+pub enum Role {
+    /// As the source, or a part of a `concat`.
+    Source,
+    /// As a source whose parts are sources.
+    Concatenation,
+    /// After the source.
+    Stage,
+    /// At the end.
+    Terminal,
+}
+
+/// What a part between the parentheses of a call is.
+#[derive(Clone, Copy, PartialEq, Eq)]
+pub enum Param {
+    Number,
+    /// A string.
+    Text,
+    /// The name of a job.
+    Name,
+    /// A lambda from a number to a number.
+    Long,
+    /// A lambda from a number to a boolean.
+    Bool,
+    /// A lambda from a number to a stream.
+    Stream,
+    /// An operator of two numbers.
+    Operator,
+}
+
+/// All operations.
+const OPERATIONS: [Operation; 25] = [
+    Operation::Range,
+    Operation::RangeClosed,
+    Operation::Of,
+    Operation::Empty,
+    Operation::Column,
+    Operation::Result,
+    Operation::Concat,
+    Operation::Map,
+    Operation::Filter,
+    Operation::FlatMap,
+    Operation::Limit,
+    Operation::Skip,
+    Operation::TakeWhile,
+    Operation::DropWhile,
+    Operation::Prefix,
+    Operation::Sum,
+    Operation::Count,
+    Operation::Min,
+    Operation::Max,
+    Operation::FindFirst,
+    Operation::ToArray,
+    Operation::Reduce,
+    Operation::AnyMatch,
+    Operation::AllMatch,
+    Operation::NoneMatch,
+];
+
+/// How an operation is written.
+pub fn name_of(operation: Operation) -> &'static str
+    ensures { result.now ≡ name_of operation }
+{
+    match operation {
+        Operation::Range => "range",
+        Operation::RangeClosed => "rangeClosed",
+        Operation::Of => "of",
+        Operation::Empty => "empty",
+        Operation::Column => "column",
+        Operation::Result => "result",
+        Operation::Concat => "concat",
+        Operation::Map => "map",
+        Operation::Filter => "filter",
+        Operation::FlatMap => "flatMap",
+        Operation::Limit => "limit",
+        Operation::Skip => "skip",
+        Operation::TakeWhile => "takeWhile",
+        Operation::DropWhile => "dropWhile",
+        Operation::Prefix => "prefix",
+        Operation::Sum => "sum",
+        Operation::Count => "count",
+        Operation::Min => "min",
+        Operation::Max => "max",
+        Operation::FindFirst => "findFirst",
+        Operation::ToArray => "toArray",
+        Operation::Reduce => "reduce",
+        Operation::AnyMatch => "anyMatch",
+        Operation::AllMatch => "allMatch",
+        Operation::NoneMatch => "noneMatch",
+    }
+}
+
+/// The operation with this name.
+pub fn operation_of(name: &[u8]) -> Option<Operation>
+    ensures { result ≡ operation_of name.now }
+{
+    for operation in OPERATIONS {
+        if name == name_of(operation).as_bytes() {
+            return Some(operation);
+        }
+    }
+    None
+}
+
+/// Where an operation stands in a job.
+pub fn role_of(operation: Operation) -> Role
+    ensures { result ≡ role_of operation }
+{
+    match operation {
+        Operation::Range
+        | Operation::RangeClosed
+        | Operation::Of
+        | Operation::Empty
+        | Operation::Column
+        | Operation::Result => Role::Source,
+        Operation::Concat => Role::Concatenation,
+        Operation::Map
+        | Operation::Filter
+        | Operation::FlatMap
+        | Operation::Limit
+        | Operation::Skip
+        | Operation::TakeWhile
+        | Operation::DropWhile
+        | Operation::Prefix => Role::Stage,
+        Operation::Sum
+        | Operation::Count
+        | Operation::Min
+        | Operation::Max
+        | Operation::FindFirst
+        | Operation::ToArray
+        | Operation::Reduce
+        | Operation::AnyMatch
+        | Operation::AllMatch
+        | Operation::NoneMatch => Role::Terminal,
+    }
+}
+
+/// Whether a call may have this number of parts.
+pub fn allows(operation: Operation, count: usize) -> bool
+    ensures { result ≡ allows operation count }
+{
+    match operation {
+        Operation::Range | Operation::RangeClosed => count == 2,
+        Operation::Of => true,
+        Operation::Concat => false,
+        Operation::Empty
+        | Operation::Sum
+        | Operation::Count
+        | Operation::Min
+        | Operation::Max
+        | Operation::FindFirst
+        | Operation::ToArray => count == 0,
+        Operation::Column
+        | Operation::Result
+        | Operation::Map
+        | Operation::Filter
+        | Operation::FlatMap
+        | Operation::Limit
+        | Operation::Skip
+        | Operation::TakeWhile
+        | Operation::DropWhile
+        | Operation::AnyMatch
+        | Operation::AllMatch
+        | Operation::NoneMatch => count == 1,
+        Operation::Prefix => count == 1 || count == 3,
+        Operation::Reduce => count == 1 || count == 2,
+    }
+}
+
+/// What part `place` of a call of `count` parts is.
+pub fn param_of(operation: Operation, count: usize, place: usize) -> Param
+    requires { place < count }
+    ensures { result ≡ param_of operation count place }
+{
+    match operation {
+        Operation::Column => Param::Text,
+        Operation::Result => Param::Name,
+        Operation::Map => Param::Long,
+        Operation::FlatMap => Param::Stream,
+        Operation::Filter
+        | Operation::TakeWhile
+        | Operation::DropWhile
+        | Operation::AnyMatch
+        | Operation::AllMatch
+        | Operation::NoneMatch => Param::Bool,
+        Operation::Prefix | Operation::Reduce if place + 1 == count => Param::Operator,
+        _ => Param::Number,
+    }
+}
+
+/// A name is that of one operation at most.
+pub fn one_operation()
+    ensures { (a b : operation) → name_of a ≡ name_of b → a ≡ b }
+{}

@@ -1,0 +1,72 @@
+//! The words of a text, if each of them may stand in a grammar.
+ghost use Rattle.std.specs.Prelude.{◌≡◌, ◌<◌, IfOk, MatchOption, length, get_or, true, false};
+ghost use Rattle.std.specs.List.{list_all};
+ghost use Rattle.lambda_expr.specs.Words.{words_of, bad};
+ghost use Rattle.lambda_expr.specs.Numerals.{is_numeral};
+ghost use Rattle.job_language.specs.Splitting.{word_of, words_in};
+ghost use Rattle.job_language.specs.Grammar.{is_sound};
+
+use crate::word::Word;
+use std::alloc::{AllocError, Global};
+use stream_tokens::{CutText, Symbol, TokenKind};
+
+/// Whether digits may stand as a number: not two or more that begin with 0.
+fn is_numeral(word: &[u8]) -> bool
+    ensures { result ≡ is_numeral word.now }
+{
+    match word {
+        [] => false,
+        [_] => true,
+        [first, second, ..] => !(*first == b'0' && second.is_ascii_digit()),
+    }
+}
+
+/// Whether a word may stand in a grammar.
+fn is_sound(word: Word) -> bool
+    ensures { result ≡ is_sound (word_of word.entry) }
+{
+    match word {
+        Word::Number(digits) => is_numeral(digits),
+        Word::Sign(Symbol::PlusPlus) => false,
+        Word::Sign(Symbol::MinusMinus) => false,
+        Word::Bad => false,
+        _ => true,
+    }
+}
+
+/// The word at a place.
+fn word_at<'a>(text: &CutText<'a>, place: usize) -> Word<'a>
+    requires { place < length text.now.tokens }
+    ensures { word_of result ≡ get_or (words_of text.now.bytes text.now.tokens) place bad }
+{
+    let bytes = text.word(place);
+    match text.kind(place) {
+        TokenKind::Name => Word::Name(bytes),
+        TokenKind::Number => Word::Number(bytes),
+        TokenKind::Text => Word::Text(bytes),
+        TokenKind::Reference => Word::Reference(bytes),
+        TokenKind::Symbol(symbol) => Word::Sign(symbol),
+        TokenKind::Bad => Word::Bad,
+    }
+}
+
+/// The words of a text, or `None` if one of them stands in no grammar: a bad byte, `++`, `--`, or a
+/// number of two or more digits that begins with 0.
+pub fn sound_words<'a>(
+    alloc: Global,
+    text: &CutText<'a>,
+) -> Result<Option<Vec<Word<'a>>>, AllocError>
+    ensures { let ws = words_of text.now.bytes text.now.tokens in
+        IfOk result (λ found. MatchOption found (list_all is_sound ws ≡ false)
+        (λ words. (words_in words.items ≡ ws) × (list_all is_sound ws ≡ true))) }
+{
+    let mut words = Vec::new(alloc);
+    for place in 0..text.len() {
+        let word = word_at(text, place);
+        if !is_sound(word) {
+            return Ok(None);
+        }
+        words.push(word)?;
+    }
+    Ok(Some(words))
+}

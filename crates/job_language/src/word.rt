@@ -1,0 +1,179 @@
+//! The words of a job: what its tokens are to the grammar.
+ghost use Rattle.std.specs.Prelude.{◌≡◌, ◌≤◌, ◌<◌, ◌+◌, ℕ, length, get_or, drop, slice_range, IfSome, IfOk, IfSome, MatchOption, true, false, ◌&&◌};
+ghost use Rattle.lambda_expr.specs.Words.{bad};
+ghost use Rattle.job_language.specs.Table.{fits, is_digits, is_minus, is_dot, is_owner, is_limit, is_number, is_text, is_name, is_some};
+ghost use Rattle.job_language.specs.Calls.{bracket_of, nest};
+ghost use Rattle.job_language.specs.Splitting.{word_of, words_in};
+
+use crate::operation::Param;
+use stream_tokens::Symbol;
+
+/// A token with its bytes, or its symbol.
+#[derive(Clone, Copy)]
+pub enum Word<'a> {
+    Name(&'a [u8]),
+    Number(&'a [u8]),
+    Text(&'a [u8]),
+    Reference(&'a [u8]),
+    Sign(Symbol),
+    Bad,
+}
+
+/// What a word is to the nesting of parentheses.
+#[derive(Clone, Copy, PartialEq, Eq)]
+pub enum Bracket {
+    Open,
+    Close,
+    Comma,
+    Plain,
+}
+
+fn bracket_of(word: Word) -> Bracket
+    ensures { result ≡ bracket_of (word_of word.entry) }
+{
+    match word {
+        Word::Sign(Symbol::Open) => Bracket::Open,
+        Word::Sign(Symbol::Close) => Bracket::Close,
+        Word::Sign(Symbol::Comma) => Bracket::Comma,
+        _ => Bracket::Plain,
+    }
+}
+
+/// What the word at a place is to the nesting of parentheses.
+pub fn bracket_at(words: &[Word], place: usize) -> Bracket
+    requires { place < length words.now }
+    ensures { result ≡ bracket_of (get_or (words_in words.now) place bad) }
+{
+    bracket_of(words[place])
+}
+
+/// How many parentheses are open after a word; `None` if it closes one that isn't open, or is a comma
+/// outside them.
+pub fn nest(depth: usize, bracket: Bracket) -> Option<usize>
+    requires { depth < usize.MAX }
+    ensures value { result ≡ nest depth bracket }
+    ensures bound { IfSome result (λ after. after ≤ depth + 1) }
+{
+    match bracket {
+        Bracket::Open => Some(depth + 1),
+        Bracket::Close => depth.checked_sub(1),
+        Bracket::Comma => (depth > 0).then_some(depth),
+        Bracket::Plain => Some(depth),
+    }
+}
+
+/// The words from a place on.
+pub fn after<'a, 'b>(words: &'b [Word<'a>], place: usize) -> &'b [Word<'a>]
+    requires { place ≤ length words.now }
+    ensures value { words_in result.now ≡ drop place (words_in words.now) }
+    ensures len { length result.now + place ≡ length words.now }
+{
+    &words[place..]
+}
+
+/// The words from one place up to, not with, another.
+pub fn part<'a, 'b>(words: &'b [Word<'a>], from: usize, to: usize) -> &'b [Word<'a>]
+    requires in_order { from ≤ to }
+    requires in_range { to ≤ length words.now }
+    ensures { words_in result.now ≡ slice_range (words_in words.now) from to }
+{
+    &words[from..to]
+}
+
+fn is_digits(word: Word) -> bool
+    ensures { result ≡ is_digits (word_of word.entry) }
+{
+    matches!(word, Word::Number(_))
+}
+
+fn is_minus(word: Word) -> bool
+    ensures { result ≡ is_minus (word_of word.entry) }
+{
+    matches!(word, Word::Sign(Symbol::Minus))
+}
+
+fn is_dot(word: Word) -> bool
+    ensures { result ≡ is_dot (word_of word.entry) }
+{
+    matches!(word, Word::Sign(Symbol::Dot))
+}
+
+fn is_owner(word: Word) -> bool
+    ensures { result ≡ is_owner (word_of word.entry) }
+{
+    match word {
+        Word::Name(name) => name == b"Long".as_slice(),
+        _ => false,
+    }
+}
+
+fn is_limit(word: Word) -> bool
+    ensures { result ≡ is_limit (word_of word.entry) }
+{
+    match word {
+        Word::Name(name) => name == b"MAX_VALUE".as_slice() || name == b"MIN_VALUE".as_slice(),
+        _ => false,
+    }
+}
+
+fn is_negative(minus: Word, digits: Word) -> bool
+    ensures { result ≡ is_minus (word_of minus.entry) && is_digits (word_of digits.entry) }
+{
+    is_minus(minus) && is_digits(digits)
+}
+
+fn is_constant(owner: Word, dot: Word, limit: Word) -> bool
+    ensures { result ≡ is_owner (word_of owner.entry) && is_dot (word_of dot.entry) && is_limit (word_of limit.entry) }
+{
+    is_owner(owner) && is_dot(dot) && is_limit(limit)
+}
+
+fn is_number(words: &[Word]) -> bool
+    ensures { result ≡ is_number (words_in words.now) }
+{
+    match words {
+        [digits] => is_digits(*digits),
+        [minus, digits] => is_negative(*minus, *digits),
+        [owner, dot, limit] => is_constant(*owner, *dot, *limit),
+        _ => false,
+    }
+}
+
+fn is_text(words: &[Word]) -> bool
+    ensures { result ≡ is_text (words_in words.now) }
+{
+    match words {
+        [word] => matches!(word, Word::Text(_)),
+        _ => false,
+    }
+}
+
+fn is_name(words: &[Word]) -> bool
+    ensures { result ≡ is_name (words_in words.now) }
+{
+    match words {
+        [word] => matches!(word, Word::Name(_)),
+        _ => false,
+    }
+}
+
+fn is_some(words: &[Word]) -> bool
+    ensures { result ≡ is_some (words_in words.now) }
+{
+    match words {
+        [] => false,
+        _ => true,
+    }
+}
+
+/// Whether words may stand as a part of a call.
+pub fn fits(param: Param, words: &[Word]) -> bool
+    ensures { result ≡ fits param (words_in words.now) }
+{
+    match param {
+        Param::Number => is_number(words),
+        Param::Text => is_text(words),
+        Param::Name => is_name(words),
+        Param::Long | Param::Bool | Param::Stream | Param::Operator => is_some(words),
+    }
+}
