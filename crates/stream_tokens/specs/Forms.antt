@@ -12,7 +12,7 @@ abbrev pub IsName : List ℕ → Type 0
 IsName [] = ⊥
 IsName (b ∷ bs) = (is_name_start b ≡ true) × (list_all is_name_byte bs ≡ true)
 
--- nothing, or one `L` or `l`
+-- helper: nothing, or one `L` or `l`
 abbrev pub IsMark : List ℕ → Type 0
 IsMark [] = Unit {0}
 IsMark (b ∷ []) = is_long_mark b ≡ true

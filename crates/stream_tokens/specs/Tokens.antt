@@ -25,11 +25,11 @@ pub record IsBadByte (text : List ℕ) (kind : TokenKind) (n : ℕ) : Type 0 whe
 abbrev pub IsFirstToken : List ℕ → TokenKind → ℕ → Type 0
 IsFirstToken text kind n = IsLongest text kind n ⊎ IsBadByte text kind n
 
--- the bytes from a up to, not with, b are spaces and tabs
+-- helper: the bytes from a up to but not including b are spaces and tabs
 abbrev pub AreBlank : List ℕ → ℕ → ℕ → Type 0
 AreBlank text a b = list_all is_blank (slice_range text a b) ≡ true
 
--- the tokens cut the text from place a up to place b, one after the other, with nothing but blanks around them
+-- helper: the tokens cut the text from place a up to place b, one after the other, with nothing but blanks around them
 abbrev pub CutBetween : List ℕ → ℕ → List Token → ℕ → Type 0
 CutBetween text a [] b = (a ≤ b) × AreBlank text a b
 CutBetween text a (t ∷ ts) b =
