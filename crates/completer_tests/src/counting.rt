@@ -264,16 +264,11 @@ fn each_step_answers_as_the_machine(rt: HostRuntime) -> Result<(), Fail> {
 }
 
 #[test]
-fn a_claim_is_refused_once_the_nodes_are_drawn(rt: HostRuntime) -> Result<(), Fail> {
+fn a_claim_needs_a_node_and_credit(rt: HostRuntime) -> Result<(), Fail> {
     let (counts, seat) = Plain::new(rt.alloc(), 1, 0)?;
     let (seat, first) = counts.claim(seat);
     let (_seat, second) = counts.claim(seat);
     assert!(rt; (first, second) == (Some(1), None));
-    Ok(())
-}
-
-#[test]
-fn a_seat_without_credit_draws_and_adds_nothing(rt: HostRuntime) -> Result<(), Fail> {
     let (counts, seat) = Plain::new(rt.alloc(), 2, 0)?;
     assert!(rt; without_credit(&counts, seat) == Some((None, 61)));
     Ok(())

@@ -4,6 +4,8 @@
 #[cfg(test)]
 mod counting;
 #[cfg(test)]
+mod machine;
+#[cfg(test)]
 mod paths;
 #[cfg(test)]
 mod random_tree;

@@ -157,12 +157,16 @@ fn range_of(place: &Place<Cut>) -> (usize, usize)
     }
 }
 
-// A number between two others, which leaves at least one on each side.
-fn between(from: usize, to: usize) -> usize
+// A cut of a part that leaves at least one number on each side.
+fn cut_of(from: usize, to: usize) -> Cut
     requires { from + 1 < to }
-    ensures { (from < result) × (result < to) }
+    ensures { (result.from ≡ from) × (from < result.middle) × (result.middle < to) × (result.to ≡ to) }
 {
-    from + 1 + from.wrapping_mul(7919).wrapping_add(to) % (to - from - 1)
+    Cut {
+        from,
+        middle: from + 1 + from.wrapping_mul(7919).wrapping_add(to) % (to - from - 1),
+        to,
+    }
 }
 
 // Walks one side of a node: in one piece, or in two where it is long enough and a node is left, on 2^`levels` threads.
@@ -186,13 +190,8 @@ fn walk<P: Planned + Send + Sync, R: Threads + Sync>(
             .try_complete(seat, Some(place), walked(alloc, numbers, from, to))
             .1;
     }
-    let cut = Cut {
-        from,
-        middle: between(from, to),
-        to,
-    };
     let run = Append {
-        cut,
+        cut: cut_of(from, to),
         parent: Some((place.tag, is_left(&place))),
         of: PhantomData,
     };

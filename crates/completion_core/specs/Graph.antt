@@ -14,12 +14,12 @@ abbrev pub total : {A : Type 0} → (A → ℕ) → List A → ℕ
 total f [] = 0
 total f (x ∷ xs) = f x + total f xs
 
--- n times x
+-- helper: n times x
 abbrev pub copies : {A : Type 0} → ℕ → A → List A
 copies zero x = []
 copies (suc n) x = x ∷ copies n x
 
--- whether two arrivals are in the same hands
+-- helper: whether two arrivals are in the same hands
 abbrev pub same : Arrival → Arrival → Bool
 same Made Made = true
 same Made (Held b) = false
@@ -31,11 +31,11 @@ same (Kept i) Made = false
 same (Kept i) (Held b) = false
 same (Kept i) (Kept j) = i == j
 
--- 1 for an arrival in these hands, and 0 for any other
+-- helper: 1 for an arrival in these hands, and 0 for any other
 abbrev pub one_same : Arrival → Arrival → ℕ
 one_same z x = if same z x then 1 else 0
 
--- 1 for an arrival that isn't made, and 0 for one that is
+-- helper: 1 for an arrival that isn't made, and 0 for one that is
 abbrev pub not_made : Arrival → ℕ
 not_made Made = 0
 not_made (Held a) = 1
@@ -72,6 +72,6 @@ start nodes ends = record {
   last = λ i. None;
 }
 
--- a node that was drawn, which END never is
+-- helper: a node that was drawn, which END never is
 abbrev pub IsDrawn : Graph → ℕ → Type 0
 IsDrawn g node = (0 < node) × (node ≤ g.drawn)

@@ -6,14 +6,14 @@ use Rattle.completion_core.specs.Graph.{Arrival, Made, Held, Graph}
 use Rattle.completion_core.specs.Legal.{after}
 use Rattle.completion_core.specs.Runs.{after_all}
 
--- an action that names, adds or makes arrivals at the node
+-- helper: an action that names, adds or makes arrivals at the node
 abbrev pub IsAt : ℕ → Action → Type 0
 IsAt i (Arm a node pending onward) = node ≡ i
 IsAt i (Add a node d) = node ≡ i
 IsAt i (Arrive a node) = node ≡ i
 IsAt i action = ⊥
 
--- an action that makes an arrival which the actor holds at the node
+-- helper: an action that makes an arrival which the actor holds at the node
 abbrev pub MakesAt : ℕ → ℕ → Action → Type 0
 MakesAt a i (Arrive b node) = (b ≡ a) × (node ≡ i)
 MakesAt a i (Settle b) = (b ≡ a) × (0 ≡ i)
@@ -29,7 +29,7 @@ RunsAfterAll actions g =
     (before later : List Action) (a node : ℕ) → actions ≡ before ++ Run a node ∷ later
     → (0 < node) × All (λ arrival. arrival ≡ Made) ((after_all before g).arrivals node) × All (λ action. ¬ IsAt node action) later
 
--- the arrival of this name: its node, and its place there
+-- helper: the arrival of this name: its node, and its place there
 abbrev pub arrival_at : Graph → ℕ → ℕ → Option Arrival
 arrival_at g i place = slice_get (g.arrivals i) place
 

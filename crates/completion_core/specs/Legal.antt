@@ -9,29 +9,29 @@ use Rattle.completion_core.specs.declared.action.Reply.{Reply}
 use Rattle.completion_core.specs.declared.action.Reply.TheVariants.{Node, NoNode, Pending, Last, Done}
 use Rattle.completion_core.specs.Graph.{Arrival, Made, Held, Kept, total, copies, same, amount, left, Graph, IsDrawn}
 
--- the first k of the arrivals that are x become y
+-- helper: the first k of the arrivals that are x become y
 abbrev pub rename : ℕ → Arrival → Arrival → List Arrival → List Arrival
 rename zero x y arrivals = arrivals
 rename (suc k) x y [] = []
 rename (suc k) x y (z ∷ arrivals) = if same x z then y ∷ rename k x y arrivals else z ∷ rename (suc k) x y arrivals
 
--- at each node i, the first `number i` of the arrivals that are x become y
+-- helper: at each node i, the first `number i` of the arrivals that are x become y
 abbrev pub renamed : Arrival → Arrival → (ℕ → ℕ) → (ℕ → List Arrival) → ℕ → List Arrival
 renamed x y number arrivals i = rename (number i) x y (arrivals i)
 
--- at the node, n more arrivals that are x, named after those that were there
+-- helper: at the node, n more arrivals that are x, named after those that were there
 abbrev pub with_fresh : ℕ → ℕ → Arrival → (ℕ → List Arrival) → ℕ → List Arrival
 with_fresh node n x arrivals i = arrivals i ++ (if i == node then copies n x else [])
 
--- k at this node and none at others
+-- helper: k at this node and none at others
 abbrev pub only_at : ℕ → ℕ → ℕ → ℕ
 only_at node k i = if i == node then k else 0
 
--- how often i stands in a list of nodes
+-- helper: how often i stands in a list of nodes
 abbrev pub count : ℕ → List ℕ → ℕ
 count i nodes = total (only_at i 1) nodes
 
--- the function with another value at one place
+-- helper: the function with another value at one place
 abbrev pub upd : {A : Type 0} → (ℕ → A) → ℕ → A → ℕ → A
 upd f i x j = if j == i then x else f j
 
@@ -81,12 +81,12 @@ after (Run a node) g =
     }
 after (Settle a) g = record g { arrivals = renamed (Held a) Made (only_at 0 1) g.arrivals }
 
--- what an arrival answers, by how many are left after it: the pending count is one less
+-- helper: what an arrival answers, by how many are left after it: the pending count is one less
 abbrev pub reply_of_arrival : ℕ → Reply
 reply_of_arrival zero = Last
 reply_of_arrival (suc pending) = Pending pending
 
--- the answer to the action: a claim tells the node that it drew, and an arrival how many may come before the last
+-- the answer to the action: a claim answers the node that it drew, and an arrival how many may come before the last
 abbrev pub reply : Action → Graph → Reply
 reply (Claim a) g = if nat_lt g.drawn g.nodes then Node (g.drawn + 1) else NoNode
 reply (Arm a node pending onward) g = Done

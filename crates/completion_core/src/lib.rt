@@ -29,6 +29,3 @@ pub use nodes::Nodes;
 pub use replay::play;
 pub use std::alloc::AllocError as NoMemory;
 pub use stepping::step;
-
-#[cfg(test)]
-mod tests;
