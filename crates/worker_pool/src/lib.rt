@@ -9,6 +9,7 @@
 //! Java SE 17: `ForkJoinPool`, whose caller helps.
 #![tactic(auto)]
 
+mod door;
 mod gate;
 mod pause;
 mod pool;

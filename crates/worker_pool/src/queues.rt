@@ -1,9 +1,10 @@
 //! The queues that one worker uses: its own deque, thieves of the other deques, and the inbox.
-ghost use Rattle.std.specs.Prelude.{◌≡◌, IfErr};
-ghost use Rattle.deques.specs.Handles.{IsOf};
+ghost use Rattle.std.specs.Prelude.{◌≡◌, IfErr, IfOk};
+ghost use Rattle.worker_pool.specs.Queues.{IsPushed, IsPut};
 
+use crate::door::Door;
 use crate::work::Spawn;
-use deques::{Inbox, Owner, Pass, Thief};
+use deques::{Inbox, Owner, Thief};
 use std::alloc::Global;
 use std::sync::Wait;
 
@@ -13,34 +14,8 @@ pub trait Finder<T>: Spawn<T> {
     fn find<R: Wait>(&mut self, rt: &R) -> Option<T>;
 
     /// Puts a task where every worker finds it.
-    fn put<R: Wait>(&mut self, rt: &R, task: T) -> Result<(), T>;
-}
-
-// The inbox with the right to use it.
-#[derive(Drop)]
-struct Door<'a, T> {
-    inbox: &'a Inbox<T>,
-    pass: Pass<T>,
-    ghost of: { IsOf inbox.now pass },
-}
-
-impl<'a, T: Drop> Door<'a, T> {
-    fn of(inbox: &'a Inbox<T>) -> Door<'a, T> {
-        let pass = inbox.pass();
-        Door { inbox, pass }
-    }
-
-    fn put<R: Wait>(self, rt: &R, task: T) -> (Door<'a, T>, Result<(), T>) {
-        let Door { inbox, pass } = self;
-        let (pass, put) = inbox.put(rt, pass, task);
-        (Door { inbox, pass }, put)
-    }
-
-    fn take<R: Wait>(self, rt: &R) -> (Door<'a, T>, Option<T>) {
-        let Door { inbox, pass } = self;
-        let (pass, task) = inbox.take(rt, pass);
-        (Door { inbox, pass }, task)
-    }
+    fn put<R: Wait>(&mut self, rt: &R, task: T) -> Result<(), T>
+        ensures refused { IfErr result (λ back. back ≡ task) };
 }
 
 /// The queues of one worker, each as far as it could be made.
@@ -85,7 +60,10 @@ impl<'a, T: Drop> Queues<'a, T> {
 }
 
 impl<'a, T: Drop> Spawn<T> for Queues<'a, T> {
-    fn push(&mut self, task: T) -> Result<(), T> {
+    fn push(&mut self, task: T) -> Result<(), T>
+        ensures refused { IfErr result (λ back. back ≡ task) }
+        ensures pushed { IfOk result (λ _. IsPushed self.old self.new task) }
+    {
         match &mut self.own {
             Some(own) => own.push(task),
             None => Err(task),
@@ -105,7 +83,10 @@ impl<'a, T: Drop> Finder<T> for Queues<'a, T> {
         self.take(rt)
     }
 
-    fn put<R: Wait>(&mut self, rt: &R, task: T) -> Result<(), T> {
+    fn put<R: Wait>(&mut self, rt: &R, task: T) -> Result<(), T>
+        ensures refused { IfErr result (λ back. back ≡ task) }
+        ensures put { IfOk result (λ _. IsPut self.old self.new task) }
+    {
         let Some(door) = self.door.take() else {
             return Err(task);
         };
