@@ -7,7 +7,7 @@ use Rattle.lambda_expr.specs.declared.inner.InnerExpr.{InnerExpr}
 use Rattle.lambda_expr.specs.declared.inner.InnerExpr.TheVariants as inner_expr
 use Rattle.lambda_expr.specs.declared.inner.Inner.{Inner as Values}
 use Rattle.lambda_expr.specs.declared.inner.Inner.TheVariants as given
-use Rattle.lambda_expr.specs.declared.inner.Run.{Run}
+use Rattle.lambda_expr.specs.declared.run.Run.{Run}
 use Rattle.lambda_expr.specs.Earlier.{Numbers}
 use Rattle.lambda_expr.specs.Operators.{on}
 use Rattle.lambda_expr.specs.Term.{Long, long_of}

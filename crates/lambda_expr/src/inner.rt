@@ -8,6 +8,7 @@ use super::env::Env;
 use super::expr::LongExpr;
 use super::fault::FaultKind;
 use super::operands::Operands;
+use super::run::Run;
 use arrayvec::ArrayVec;
 
 /// How many values an inner stream may have.
@@ -30,13 +31,6 @@ pub enum Inner {
     /// Integers in a row; at most 2^62.
     Range(Run),
     Values(ArrayVec<i64, 64>),
-}
-
-/// Integers that count up by one.
-#[derive(Clone, Copy)]
-pub struct Run {
-    pub first: i64,
-    pub count: u64,
 }
 
 // The integers from the first up to, not with, the second one.

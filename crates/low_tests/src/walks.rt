@@ -3,7 +3,7 @@ ghost use Rattle.std.specs.Prelude.{◌≡◌, ◌+◌, ◌<◌, ◌^◌, ⊤, L
 ghost use Rattle.trace.specs.declared.item.Item.{Item};
 ghost use Rattle.trace.specs.declared.sink.Flow.TheVariants as flow;
 
-use lambda_expr::{Body, Env, FaultKind, ReadFault, Want, read_lambda};
+use lambda_expr::{Body, Env, FaultKind, InnerExpr, LongExpr, ReadFault, Want, read_lambda};
 use std::alloc::{AllocError, Global};
 use std::test::Fail;
 use trace::{Chunk, End, Fault, Fed, Flow, Item, LongSink, NoMemory, Stage, feed, feed_all};
@@ -158,6 +158,32 @@ fn the_values_of_a_chunk_come_in_turn(rt: HostRuntime) -> Result<(), Fail> {
     Ok(())
 }
 
+/// `flatMap(x -> range(from, x))`.
+fn range_up_to_the_item(from: i64) -> Stage {
+    Stage::FlatMap(InnerExpr::Range(LongExpr::Number(from), LongExpr::Parameter(0)))
+}
+
+#[test]
+fn inner_values_have_the_place_of_the_outer_item(rt: HostRuntime) -> Result<(), Fail> {
+    let alloc = rt.alloc();
+    let stages = [
+        range_up_to_the_item(0),
+        stage(alloc, "x -> 6 / (2 - x)", Want::Long)?,
+    ];
+    let chunk = walked(alloc, &stages, &[1, -5, 2])?;
+    assert!(rt; is_chunk(&chunk, &[0, 2, 2], &[3, 3, 6], End::Done));
+    let chunk = walked(alloc, &stages, &[1, 3, 9])?;
+    assert!(rt; is_chunk(&chunk, &[0, 1, 1], &[3, 3, 6], division_by_zero(2, 1)));
+    let too_long = End::Fault(Fault {
+        kind: FaultKind::SourceTooLong,
+        stage: 1,
+        origin: Some(1),
+    });
+    let chunk = walked(alloc, &stages, &[0, i64::MAX])?;
+    assert!(rt; is_chunk(&chunk, &[], &[], too_long));
+    Ok(())
+}
+
 /// A sink that wants `all` items, and has room for `room` of them.
 #[derive(Drop)]
 struct Few {
@@ -214,5 +240,20 @@ fn a_sink_that_has_enough_or_no_room_ends_the_walk(rt: HostRuntime) -> Result<()
         let found = feed_all(&stages, 1, &env, &items, &mut sink);
         assert!(rt; found == answer && sink.left == left, "{all}, {room}");
     }
+    Ok(())
+}
+
+#[test]
+fn a_sink_that_has_enough_ends_an_inner_stream(rt: HostRuntime) -> Result<(), Fail> {
+    let alloc = rt.alloc();
+    let stages = [range_up_to_the_item(0)];
+    let items = items_of(alloc, &[1 << 62])?;
+    let mut sink = Few {
+        all: 3,
+        left: 3,
+        room: 9,
+    };
+    let found = feed_all(&stages, 1, &Env::empty(alloc), &items, &mut sink);
+    assert!(rt; found == Ok(Fed::Enough) && sink.left == 0);
     Ok(())
 }

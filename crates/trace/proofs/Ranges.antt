@@ -1,11 +1,12 @@
 -- The values of a range in 64 bits.
-use Rattle.std.proofs.Common.{◌≡◌, ℕ, ◌<◌, ◌≤◌, ◌^◌, ℤ, pos, ◌+ℤ◌, FitsSigned, to_z, of_z, w64, refl, ap, subst, ◌∙◌, arith, zero-add, Some, List, length, get_or}
+use Rattle.std.proofs.Common.{◌≡◌, ℕ, zero, suc, [], ◌∷◌, ◌<◌, ◌≤◌, ◌^◌, ℤ, pos, ◌+ℤ◌, FitsSigned, to_z, of_z, w64, refl, ap, subst, ◌∙◌, arith, zero-add, Some, List, length, get_or}
 use Rattle.std.specs.List.{slice_get}
 use Rattle.std.proofs.Math.IntN.{+ℤ_idr}
 use Rattle.std.proofs.lemmas.Int.{to_z-of_z, to_z_pos}
 use Rattle.std.proofs.lemmas.Option.{slice_get-get_or}
 use Rattle.trace.specs.declared.item.Item.{Item}
 use Rattle.trace.specs.Cover.{counted, placed}
+use Rattle.trace.specs.Stages.{at_place}
 use Rattle.trace.proofs.Sources.{counted_at, placed_at, length-placed, length-counted}
 
 pub small : (n c : ℕ) → n < c → c ≤ 2 ^ 62 → FitsSigned w64 (pos n)
@@ -36,3 +37,13 @@ pub counted_get : (a : ℤ) (c n : ℕ) → n < c → slice_get (placed 0 (count
 counted_get a c n within =
     let v : ℤ = a +ℤ pos n in
     placed_get (counted a c) n v v (rw (length-counted a c) within) (counted_at a c n v within)
+
+pub length-at_place : (i : ℕ) (vs : List ℤ) → length (at_place i vs) ≡ length vs
+length-at_place i [] = refl
+length-at_place i (v ∷ vs) = ap suc (length-at_place i vs)
+
+-- the item at a position of an inner stream
+pub at_place_get : (i : ℕ) (vs : List ℤ) (n : ℕ) (z v : ℤ) → n < length vs → get_or vs n z ≡ v → slice_get (at_place i vs) n ≡ Some (record { origin = i; value = v })
+at_place_get i [] n z v within is = absurd (omega (arith, within))
+at_place_get i (u ∷ vs) zero z v within is = ap (λ (w : ℤ). let y : Item = record { origin = i; value = w } in Some y) is
+at_place_get i (u ∷ vs) (suc n) z v within is = at_place_get i vs n z v (omega (arith, within)) is

@@ -2,6 +2,7 @@
 use Rattle.std.specs.Prelude.{ℕ, suc, ℤ, Bool, true, false, List, [], ◌∷◌, Some, Result, Ok, Err}
 use Rattle.lambda_expr.specs.declared.fault.FaultKind.{FaultKind}
 use Rattle.lambda_expr.specs.Earlier.{Numbers}
+use Rattle.lambda_expr.specs.Streams.{Inner, inner_of, inner_value}
 use Rattle.lambda_expr.specs.Term.{Long, Truth, long_of, truth_of}
 use Rattle.lambda_expr.specs.Value.{long_value, truth_value}
 use Rattle.trace.specs.declared.item.Item.{Item}
@@ -14,6 +15,7 @@ use Rattle.trace.specs.Trace.{Trace, trace, each}
 pub data StageTerm : Type 0 where
   map : Long → StageTerm
   filter : Truth → StageTerm
+  flat_map : Inner → StageTerm
 
 -- the walk ends at this item, with a fault of this kind in this stage
 abbrev pub faulted : FaultKind → ℕ → Item → Trace
@@ -30,10 +32,21 @@ passed n x (Ok true) = trace (x ∷ []) end.Done
 passed n x (Ok false) = trace [] end.Done
 passed n x (Err k) = faulted k n x
 
+-- values at one place
+abbrev pub at_place : ℕ → List ℤ → List Item
+at_place i [] = []
+at_place i (v ∷ vs) = record { origin = i; value = v } ∷ at_place i vs
+
+-- the values of an inner stream, all at the place of the item (`LongStream.flatMap`)
+abbrev pub flattened : ℕ → Item → Result (List ℤ) FaultKind → Trace
+flattened n x (Ok vs) = trace (at_place x.origin vs) end.Done
+flattened n x (Err k) = faulted k n x
+
 -- what stage number n makes of one item
 abbrev pub of_item : ℕ → StageTerm → Numbers → Item → Trace
 of_item n (map e) env x = image n x (long_value e x.value env)
 of_item n (filter p) env x = passed n x (truth_value p x.value env)
+of_item n (flat_map g) env x = flattened n x (inner_value g x.value env)
 
 -- what stage number n makes of a trace: what it makes of each item, one after the other
 abbrev pub through : ℕ → StageTerm → Numbers → Trace → Trace
@@ -48,6 +61,7 @@ pipe n (g ∷ gs) env t = pipe (suc n) gs env (through n g env t)
 abbrev pub stage_of : Stage → StageTerm
 stage_of (stage.Map e) = map (long_of e)
 stage_of (stage.Filter p) = filter (truth_of p)
+stage_of (stage.FlatMap g) = flat_map (inner_of g)
 
 abbrev pub stages_of : List Stage → List StageTerm
 stages_of [] = []

@@ -2,7 +2,8 @@
 
 ghost use Rattle.std.specs.Prelude.{◌≡◌, ◌+◌, ◌<◌, ◌^◌, List, [], ◌∷◌, length, OnErr};
 ghost use Rattle.trace.specs.Trace.{trace};
-ghost use Rattle.trace.specs.Stages.{pipe, stages_of};
+ghost use Rattle.lambda_expr.specs.Streams.{inner_values};
+ghost use Rattle.trace.specs.Stages.{at_place, pipe, stages_of};
 ghost use Rattle.trace.specs.Sinks.{IsFed, flow_after};
 ghost use Rattle.trace.specs.declared.item.Item.{Item};
 ghost use Rattle.trace.specs.declared.item.End.TheVariants as end;
@@ -10,7 +11,7 @@ ghost use Rattle.trace.specs.declared.item.End.TheVariants as end;
 use crate::NoMemory;
 use crate::item::{Fault, Item};
 use crate::sink::{Flow, LongSink};
-use crate::source::SourceItems;
+use crate::source::{InnerItems, SourceItems};
 use crate::stage::Stage;
 use lambda_expr::{Env, FaultKind};
 
@@ -30,6 +31,7 @@ pub enum Fed {
 /// The stages are numbered from `first_stage` on. The walk stops at once when the sink has enough or
 /// a stage faults: no later stage is evaluated. It makes one call per stage and allocates nothing
 /// itself. `NoMemory` comes from the sink, which then keeps what it has accepted before.
+#[cycle(feed)]
 pub fn feed<S: LongSink>(
     stages: &[Stage],
     first_stage: u32,
@@ -66,6 +68,16 @@ pub fn feed<S: LongSink>(
             Ok(false) => Ok(Fed::More),
             Err(kind) => Ok(Fed::Fault(fault_at(first_stage, item, kind))),
         },
+        Stage::FlatMap(inner) => match inner.eval(item.value, env) {
+            Ok(values) => {
+                let values = InnerItems {
+                    origin: item.origin,
+                    values,
+                };
+                feed_inner(later, first_stage + 1, env, &values, sink)
+            }
+            Err(kind) => Ok(Fed::Fault(fault_at(first_stage, item, kind))),
+        },
     }
 }
 
@@ -88,6 +100,31 @@ pub fn feed_all<I: SourceItems, S: LongSink>(
 {
     for position in 0..source.count() {
         match feed(stages, first_stage, env, source.item_at(position), sink)? {
+            Fed::More => {}
+            ended => return Ok(ended),
+        }
+    }
+    Ok(Fed::More)
+}
+
+/// Takes the values of an inner stream one after the other through the later stages.
+#[cycle(feed)]
+fn feed_inner<S: LongSink>(
+    stages: &[Stage],
+    first_stage: u32,
+    env: &Env,
+    values: &InnerItems,
+    sink: &mut S,
+) -> Result<Fed, NoMemory>
+    requires numbered { first_stage + length stages.now < 2 ^ 32 }
+    requires wants { S.flow sink.old ≡ Flow.More }
+    ensures fed { (xs : List Item) → S.has_taken sink.old xs → IsFed S.has_taken xs
+        (pipe first_stage (stages_of stages.now) env.now (trace (at_place values.now.origin (inner_values values.now.values)) end.Done)) result sink.new }
+    ensures flow { S.flow sink.new ≡ flow_after result }
+    ensures refused { OnErr result S.takes_memory }
+{
+    for position in 0..values.count() {
+        match feed(stages, first_stage, env, values.item_at(position), sink)? {
             Fed::More => {}
             ended => return Ok(ended),
         }

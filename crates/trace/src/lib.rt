@@ -7,7 +7,7 @@
 //! Begin with `specs/Trace.antt` and `specs/Stages.antt`, then `chunk.rt`, `specs/Sinks.antt` and
 //! `feeding.rt`; `laws.rt` says why a walk may be cut anywhere. `specs/Cover.antt` has the items of sources.
 //! Not promised: that memory for an item is there.
-//! The stages are `map` and `filter` of `LongStream` (Java SE 17, `java.util.stream`).
+//! The stages are `map`, `filter` and `flatMap` of `LongStream` (Java SE 17, `java.util.stream`).
 #![tactic(auto)]
 
 mod chunk;

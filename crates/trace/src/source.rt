@@ -3,11 +3,14 @@
 ghost use Rattle.std.specs.Prelude.{◌≡◌, ◌<◌, ◌≤◌, ◌^◌, ℕ, pos, ◌+ℤ◌, List, length, FitsSigned, IfNone, IfSome, Some, slice_get};
 ghost use Rattle.std.specs.Int.{w64};
 ghost use Rattle.trace.specs.Cover.{counted, cover, placed, range, too_long, values as listed};
+ghost use Rattle.lambda_expr.specs.Streams.{inner_values};
+ghost use Rattle.trace.specs.Stages.{at_place};
 ghost use Rattle.trace.specs.Trace.{trace};
 ghost use Rattle.trace.specs.declared.item.End.TheVariants as end;
 ghost use Rattle.trace.specs.declared.item.Item.{Item};
 
 use crate::item::Item;
+use lambda_expr::Inner;
 
 /// The largest number of values that a source may have: 2^62.
 pub const LONGEST_SOURCE: u64 = 1 << 62;
@@ -92,6 +95,34 @@ impl SourceItems for ValueItems<'_> {
         Item {
             origin: position,
             value: self.values[position as usize],
+        }
+    }
+}
+
+/// The values of an inner stream, all at the place of the outer item.
+#[derive(Drop)]
+pub(crate) struct InnerItems {
+    pub(crate) origin: u64,
+    pub(crate) values: Inner,
+}
+
+impl SourceItems for InnerItems {
+    ghost items = { λ source. at_place source.origin (inner_values source.values) };
+
+    fn count(&self) -> u64 {
+        match &self.values {
+            Inner::Range(run) => run.count,
+            Inner::Values(values) => values.len() as u64,
+        }
+    }
+
+    fn item_at(&self, position: u64) -> Item {
+        Item {
+            origin: self.origin,
+            value: match &self.values {
+                Inner::Range(run) => run.first + position as i64,
+                Inner::Values(values) => values[position as usize],
+            },
         }
     }
 }

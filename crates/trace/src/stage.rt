@@ -1,12 +1,14 @@
-// The stages of a pipeline that take one item at a time.
+//! The stages of a pipeline that look at one item at a time.
 
-use lambda_expr::{BoolExpr, LongExpr};
+use lambda_expr::{BoolExpr, InnerExpr, LongExpr};
 
-/// A stage that takes one item at a time.
+/// A stage that looks at one item at a time.
 #[derive(Drop)]
 pub enum Stage {
-    /// `map` of `LongStream`: each item's image, at the same place.
+    /// `map` of `LongStream`: the image of each item, at the same place.
     Map(LongExpr),
     /// `filter` of `LongStream`: the items at which the test is true.
     Filter(BoolExpr),
+    /// `flatMap` of `LongStream`: for each item the values of an inner stream, all at its place.
+    FlatMap(InnerExpr),
 }

@@ -1,12 +1,50 @@
-use Rattle.std.proofs.Common.{rules}
+use Rattle.std.proofs.Common.{◌+◌, ◌≤◌, length, Ok, Err, arith, rules}
+use Rattle.std.proofs.lemmas.Result.{err_from_is_err_and}
+use Rattle.lambda_expr.specs.Streams.{inner_values}
+use Rattle.trace.specs.declared.item.End.TheVariants as end
+use Rattle.trace.specs.declared.feeding.Fed.TheVariants as fed
+use Rattle.trace.specs.Stages.{at_place, stages_of}
 use Rattle.trace.proofs.Joining.{pipe_ended}
+use Rattle.trace.proofs.Walking.{IsFed_none, IsFed_next, IsFed_whole, IsFed_all}
 use Rattle.trace.proofs.feeding.+feed.Goals as goal
 
-pub returns-in-Err : goal.returns-in-Err
-returns-in-Err g t c = search (rules, pipe_ended)
+pub feed-returns-in-Err-clause-fed : goal.feed-returns-in-Err-clause-fed
+feed-returns-in-Err-clause-fed g t c = search (rules, pipe_ended)
 
-pub returns-in-Ok-false : goal.returns-in-Ok-false
-returns-in-Ok-false g t c = search (rules, pipe_ended)
+pub feed-returns-in-Ok-false-clause-fed : goal.feed-returns-in-Ok-false-clause-fed
+feed-returns-in-Ok-false-clause-fed g t c = search (rules, pipe_ended)
 
-pub returns-in-Err-eval : goal.returns-in-Err-eval
-returns-in-Err-eval g t c = search (rules, pipe_ended)
+pub feed-returns-in-Err-eval-clause-fed : goal.feed-returns-in-Err-eval-clause-fed
+feed-returns-in-Err-eval-clause-fed g t c = search (rules, pipe_ended)
+
+pub feed-returns-in-Err-eval-2-clause-fed : goal.feed-returns-in-Err-eval-2-clause-fed
+feed-returns-in-Err-eval-2-clause-fed g t c = search (rules, pipe_ended)
+
+pub feed_inner-loop-position-init : goal.feed_inner-loop-position-init
+feed_inner-loop-position-init g t c =
+    (c.requires.wants, λ xs took. IsFed_none g.S.LongSink.has_taken c.args.first_stage (stages_of c.args.stages.now) c.args.env.now xs c.args.sink.now took)
+
+pub feed_inner-loop-position-preserved : goal.feed_inner-loop-position-preserved
+feed_inner-loop-position-preserved g t c =
+    let items = at_place c.args.values.now.origin (inner_values c.args.values.now.values) in
+    let more = rw c.in-More.is at c.in_ok-ended.ensures.fed in
+    (rw c.in-More.is at c.in_ok-ended.ensures.flow, λ xs took. IsFed_next g.S.LongSink.has_taken c.args.first_stage (stages_of c.args.stages.now) c.args.env.now xs items c.loop-position.position c.item_at.result (Ok fed.More) c.loop-position.sink c.feed.new.sink c.item_at.ensures (c.loop-position.invariant.1 xs took) more)
+
+pub feed_inner-returns-in_default-clause-fed : goal.feed_inner-returns-in_default-clause-fed
+feed_inner-returns-in_default-clause-fed g t c = λ xs took.
+    let items = at_place c.args.values.now.origin (inner_values c.args.values.now.values) in
+    let fed_here = IsFed_next g.S.LongSink.has_taken c.args.first_stage (stages_of c.args.stages.now) c.args.env.now xs items c.loop-position.position c.item_at.result (Ok c.in_ok-ended.ended) c.loop-position.sink c.feed.new.sink c.item_at.ensures (c.loop-position.invariant.1 xs took) c.in_ok-ended.ensures.fed in
+    IsFed_whole g.S.LongSink.has_taken c.args.first_stage (stages_of c.args.stages.now) c.args.env.now xs items (c.loop-position.position + 1) end.Done (Ok c.in_ok-ended.ended) c.feed.new.sink (λ e. c.in_default.not-More cc) fed_here
+
+pub feed_inner-returns-in_err-ended-clause-fed : goal.feed_inner-returns-in_err-ended-clause-fed
+feed_inner-returns-in_err-ended-clause-fed g t c = λ xs took.
+    let items = at_place c.args.values.now.origin (inner_values c.args.values.now.values) in
+    let p = err_from_is_err_and c.from_residual.result c.from_residual.ensures.1 in
+    let fed_here = IsFed_next g.S.LongSink.has_taken c.args.first_stage (stages_of c.args.stages.now) c.args.env.now xs items c.loop-position.position c.item_at.result (Err c.in_err-ended.field-0.0) c.loop-position.sink c.feed.new.sink c.item_at.ensures (c.loop-position.invariant.1 xs took) c.in_err-ended.ensures.fed in
+    rw p.1 (IsFed_whole g.S.LongSink.has_taken c.args.first_stage (stages_of c.args.stages.now) c.args.env.now xs items (c.loop-position.position + 1) end.Done (Err c.in_err-ended.field-0.0) c.feed.new.sink (λ e. cc) fed_here)
+
+pub feed_inner-returns-clause-fed : goal.feed_inner-returns-clause-fed
+feed_inner-returns-clause-fed g t c = λ xs took.
+    let items = at_place c.args.values.now.origin (inner_values c.args.values.now.values) in
+    let past : length items ≤ c.loop-position.position = omega (arith, c.loop-position-test.false, c.count-position-end.ensures) in
+    IsFed_all g.S.LongSink.has_taken c.args.first_stage (stages_of c.args.stages.now) c.args.env.now xs items c.loop-position.position (Ok fed.More) c.loop-position.sink past (c.loop-position.invariant.1 xs took)
