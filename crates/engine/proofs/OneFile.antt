@@ -41,10 +41,14 @@ apart text w a f h k n = let e = one_outcome text w (Ok a) (Err f) (judged h) (o
 one_reading : (g : StageShape) (s t : StageTerm) → IsReadAs g s → IsReadAs g t → s ≡ t
 one_reading (map a) (stage.map e) (stage.map f) h k = let same = one_judgement a want.Long (lambda.long e) (lambda.long f) h k in let inside : e ≡ f = cc in ap stage.map inside
 one_reading (map a) (stage.map e) (stage.filter q) h k = absurd k
+one_reading (map a) (stage.map e) (stage.flat_map i) h k = absurd k
 one_reading (map a) (stage.filter p) t h k = absurd h
+one_reading (map a) (stage.flat_map i) t h k = absurd h
 one_reading (filter a) (stage.filter p) (stage.filter q) h k = let same = one_judgement a want.Bool (lambda.truth p) (lambda.truth q) h k in let inside : p ≡ q = cc in ap stage.filter inside
 one_reading (filter a) (stage.filter p) (stage.map f) h k = absurd k
+one_reading (filter a) (stage.filter p) (stage.flat_map i) h k = absurd k
 one_reading (filter a) (stage.map e) t h k = absurd h
+one_reading (filter a) (stage.flat_map i) t h k = absurd h
 
 one_refusal : (g : StageShape) (c d : Cause) → IsNotRead g c → IsNotRead g d → c ≡ d
 one_refusal g (Expr f) (Expr e) h k = ap Expr (same_refusal (text_of g) (want_of g) f e h.0 k.0 h.1 k.1)
@@ -62,6 +66,8 @@ read_or_not (map a) (stage.map e) (Expr f) h k = apart a want.Long (lambda.long 
 read_or_not (filter a) (stage.filter p) (Expr f) h k = apart a want.Bool (lambda.truth p) f h k.0 k.1
 read_or_not (map a) (stage.filter p) c h k = h
 read_or_not (filter a) (stage.map e) c h k = h
+read_or_not (map a) (stage.flat_map i) c h k = h
+read_or_not (filter a) (stage.flat_map i) c h k = h
 read_or_not g s Syntax h k = k
 read_or_not g s SameName h k = k
 read_or_not g s TooLong h k = k
