@@ -14,6 +14,6 @@ abbrev pub cells_of : List ℕ → Result (List NamedColumn) ColumnFault
 cells_of bytes = table_of (records_of bytes)
 
 -- an answer is that of the bytes, or says that a read failed or that memory was refused
-abbrev pub Tells : List ℕ → Result (List NamedColumn) ColumnFault → Type 0
-Tells bytes answer =
+abbrev pub IsAnswerTo : List ℕ → Result (List NamedColumn) ColumnFault → Type 0
+IsAnswerTo bytes answer =
     MatchResult answer (λ columns. cells_of bytes ≡ Ok columns) (λ fault. fault ≢ Read → fault ≢ NoMemory → cells_of bytes ≡ Err fault)

@@ -3,7 +3,7 @@ ghost use Rattle.std.specs.Prelude.{◌≡◌, ◌≢◌, ◌≤◌, ℕ, List, 
 ghost use Rattle.std.specs.Io.KnownBytes.{IsAtEnd};
 ghost use Rattle.counted_io.specs.CountedRead.{GaveSome};
 ghost use Rattle.counted_io.specs.FailureCounts.{HasRisen};
-ghost use Rattle.columns.specs.Cells.{Tells, cells_of, records_of};
+ghost use Rattle.columns.specs.Cells.{IsAnswerTo, cells_of, records_of};
 ghost use Rattle.columns.specs.Records.{IsReading};
 
 use crate::fault::ColumnFault;
@@ -23,7 +23,7 @@ use std::alloc::Global;
 /// for each cell. A read that fails otherwise than by an interruption is `Read`.
 pub fn read_columns<R: CountedRead>(alloc: Global, reader: &mut R) -> Result<Columns, ColumnFault>
     // Of a reader whose bytes are known.
-    ensures cells { IfSome (R.remaining reader.old) (λ bytes. Tells bytes result) }
+    ensures cells { IfSome (R.remaining reader.old) (λ bytes. IsAnswerTo bytes result) }
     ensures end { OnOk result (IsAtEnd (R.remaining reader.new)) }
     ensures gave { GaveSome (R.remaining reader.old) (R.remaining reader.new) }
 
@@ -42,7 +42,7 @@ pub fn read_columns<R: CountedRead>(alloc: Global, reader: &mut R) -> Result<Col
 
 /// The columns of some bytes.
 fn columns_in(alloc: Global, bytes: &[u8]) -> Result<Columns, ColumnFault>
-    ensures tells { Tells bytes.now result }
+    ensures tells { IsAnswerTo bytes.now result }
     ensures unread { IfErr result (λ fault. fault ≢ ColumnFault.Read) }
 {
     let mut reader = reader_of(alloc, bytes);
@@ -58,7 +58,7 @@ fn columns_from(
     row: &mut ByteRecord,
 ) -> Result<Columns, ColumnFault>
     requires { IsReading reader.old (records_of bytes.now) }
-    ensures tells { Tells bytes.now result }
+    ensures tells { IsAnswerTo bytes.now result }
     ensures unread { IfErr result (λ fault. fault ≢ ColumnFault.Read) }
 {
     if !next_record(reader, row)? {
