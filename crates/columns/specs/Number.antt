@@ -19,14 +19,26 @@ abbrev pub signed_digits : (ℕ → ℤ) → List ℕ → Option ℤ
 signed_digits sign digits =
     if nat_lt 0 (length digits) && list_all is_ascii_digit digits then in_range (sign (digits_value digits)) else None
 
--- helper: the number that a text without blanks around it spells: 45 is `-`, 43 is `+`
+-- helper: `-` in ASCII
+abbrev pub minus_sign : ℕ
+minus_sign = 45
+
+-- helper: `+` in ASCII
+abbrev pub plus_sign : ℕ
+plus_sign = 43
+
+-- helper: the number that a text without blanks around it spells: a sign or none, and digits
 abbrev pub signed_number : List ℕ → Option ℤ
 signed_number [] = None
 signed_number (b ∷ rest) =
-    if b == 45 then signed_digits (λ m. neg_ℤ (pos m)) rest
-    else if b == 43 then signed_digits pos rest
+    if b == minus_sign then signed_digits (λ m. neg_ℤ (pos m)) rest
+    else if b == plus_sign then signed_digits pos rest
     else signed_digits pos (b ∷ rest)
+
+-- helper: a text without the blanks at its start and at its end
+abbrev pub trimmed : List ℕ → List ℕ
+trimmed text = reverse (drop_blanks (reverse (drop_blanks text)))
 
 -- the number that a cell spells, or none
 unfoldable pub number_of : List ℕ → Option ℤ
-number_of cell = signed_number (reverse (drop_blanks (reverse (drop_blanks cell))))
+number_of cell = signed_number (trimmed cell)
