@@ -1,18 +1,21 @@
-//! The text of each answer, as Java prints it (`Long`, `Boolean`, `Arrays` and `OptionalLong`).
-ghost use Rattle.std.specs.Prelude.{ℕ, List};
-ghost use Rattle.report.specs.Named.{IsNamed};
+//! The text of each answer, as Java prints it (`Long`, `Boolean`, `Arrays` and `OptionalLong`), and its
+//! object in JSON.
+ghost use Rattle.std.specs.Prelude.{ℕ, List, IfOk};
+ghost use Rattle.report.specs.Named.{IsNamed, IsText};
 
 use crate::fixture::is_line;
 use job_plan::{Answer, Values};
 use lambda_expr::FaultKind;
-use report::text;
+use report::{json, text};
 use std::alloc::{AllocError, Global};
 use std::test::Fail;
 use stream_tokens::Bytes;
 use trace::Fault;
 
 /// A name of these bytes.
-fn name(alloc: Global, text: &str) -> Result<Bytes, AllocError> {
+fn name(alloc: Global, text: &str) -> Result<Bytes, AllocError>
+    ensures { IfOk result (λ name. IsText name) }
+{
     Ok(Bytes::from(text.as_bytes().to_vec(alloc)?))
 }
 
@@ -26,8 +29,20 @@ fn has_text(alloc: Global, answer: Answer, want: &str) -> Result<bool, AllocErro
     Ok(is_line(&text(alloc, &names, &answers)?, line.as_str()))
 }
 
+/// Whether the JSON report of one job `q` with this answer is this object, in an array.
+fn has_json(alloc: Global, answer: Answer, want: &str) -> Result<bool, AllocError>
+    requires { (names : List (List ℕ)) → IsNamed names answer }
+{
+    let names = vec![in alloc; name(alloc, "q")?]?;
+    let answers = vec![in alloc; answer]?;
+    let line = format!(in alloc; "[{want}]")?;
+    Ok(is_line(&json(alloc, &names, &answers)?, line.as_str()))
+}
+
 #[test]
-fn a_number_a_boolean_and_an_optional_are_printed_as_in_java(rt: HostRuntime) -> Result<(), Fail> {
+fn numbers_arrays_booleans_and_optionals_are_printed_as_in_java(
+    rt: HostRuntime,
+) -> Result<(), Fail> {
     let alloc = rt.alloc();
     let numbers = [0, -2, 42949672982, i64::MAX, i64::MIN];
     let texts = "0 -2 42949672982 9223372036854775807 -9223372036854775808";
@@ -39,24 +54,16 @@ fn a_number_a_boolean_and_an_optional_are_printed_as_in_java(rt: HostRuntime) ->
     for (value, want) in optionals.into_iter().zip(texts.split_whitespace()) {
         assert!(rt; has_text(alloc, Answer::Optional(value), want)?, "{want}");
     }
-    assert!(rt; has_text(alloc, Answer::Truth(true), "true")?, "true");
-    assert!(rt; has_text(alloc, Answer::Truth(false), "false")?, "false");
-    Ok(())
-}
-
-#[test]
-fn an_array_has_a_comma_and_a_blank_between_its_values(rt: HostRuntime) -> Result<(), Fail> {
     let arrays = [[].as_slice(), &[7], &[1, 2], &[-1, -1, -2, -10]];
     for (values, want) in arrays
         .into_iter()
         .zip("[]|[7]|[1, 2]|[-1, -1, -2, -10]".split('|'))
     {
-        let values = Values::from_vec(values.to_vec(rt.alloc())?);
-        assert!(rt;
-            has_text(rt.alloc(), Answer::Array(values), want)?,
-            "{want}"
-        );
+        let values = Values::from_vec(values.to_vec(alloc)?);
+        assert!(rt; has_text(alloc, Answer::Array(values), want)?, "{want}");
     }
+    assert!(rt; has_text(alloc, Answer::Truth(true), "true")?, "true");
+    assert!(rt; has_text(alloc, Answer::Truth(false), "false")?, "false");
     Ok(())
 }
 
@@ -98,16 +105,74 @@ fn a_fault_has_its_stage_and_its_item_or_a_dash(rt: HostRuntime) -> Result<(), F
 }
 
 #[test]
+fn each_answer_has_its_object(rt: HostRuntime) -> Result<(), Fail> {
+    let alloc = rt.alloc();
+    let zero = Fault {
+        kind: FaultKind::DivideByZero,
+        stage: 1,
+        origin: Some(7),
+    };
+    let array = Values::from_vec([1, -2].to_vec(alloc)?);
+    assert!(rt;
+        has_json(
+            alloc,
+            Answer::Number(i64::MIN),
+            "{\"name\":\"q\",\"number\":-9223372036854775808}"
+        )?
+    );
+    assert!(rt;
+        has_json(
+            alloc,
+            Answer::Truth(true),
+            "{\"name\":\"q\",\"truth\":true}"
+        )?
+    );
+    assert!(rt;
+        has_json(
+            alloc,
+            Answer::Optional(Some(5)),
+            "{\"name\":\"q\",\"optional\":5}"
+        )?
+    );
+    assert!(rt;
+        has_json(
+            alloc,
+            Answer::Optional(None),
+            "{\"name\":\"q\",\"optional\":null}"
+        )?
+    );
+    assert!(rt;
+        has_json(
+            alloc,
+            Answer::Array(array),
+            "{\"array\":[1,-2],\"name\":\"q\"}"
+        )?
+    );
+    let object = "{\"fault\":\"divide-by-zero\",\"item\":7,\"name\":\"q\",\"stage\":1}";
+    assert!(rt; has_json(alloc, Answer::Fault(zero), object)?);
+    Ok(())
+}
+
+#[test]
 fn a_report_names_the_job_that_makes_another_unusable(rt: HostRuntime) -> Result<(), Fail> {
     let alloc = rt.alloc();
-    let names = vec![in alloc; name(alloc, "s")?, name(alloc, "z")?, name(alloc, "y_2")?]?;
-    let answers = vec![in alloc;
-        Answer::Number(-2),
-        Answer::Truth(true),
-        Answer::Unusable(1),
-    ]?;
+    let names = vec![in alloc; name(alloc, "z")?, name(alloc, "y_2")?]?;
+    let too_long = Fault {
+        kind: FaultKind::SourceTooLong,
+        stage: 0,
+        origin: None,
+    };
+    let answers = vec![in alloc; Answer::Fault(too_long), Answer::Unusable(0)]?;
     let report = text(alloc, &names, &answers)?;
-    assert!(rt; is_line(&report, "s = -2\nz = true\ny_2 = unusable z"));
-    assert!(rt; text(alloc, &[], &[])?.is_empty(), "no jobs");
+    assert!(rt;
+        is_line(
+            &report,
+            "z = fault source-too-long stage 0 item -\ny_2 = unusable z"
+        )
+    );
+    let object = "{\"fault\":\"source-too-long\",\"item\":null,\"name\":\"z\",\"stage\":0}";
+    let line = format!(in alloc; "[{object},{{\"name\":\"y_2\",\"unusable\":\"z\"}}]")?;
+    assert!(rt; is_line(&json(alloc, &names, &answers)?, line.as_str()));
+    assert!(rt; text(alloc, &[], &[])?.is_empty() && is_line(&json(alloc, &[], &[])?, "[]"));
     Ok(())
 }

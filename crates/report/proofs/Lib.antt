@@ -1,2 +1,3 @@
 pub mod EachNamed
+mod NoFloats
 mod Written
