@@ -6,7 +6,7 @@ use Rattle.stream_tokens.specs.declared.token.Token.{Token}
 use Rattle.stream_tokens.specs.declared.job_text.JobText.{JobText}
 use Rattle.stream_tokens.specs.declared.job_text.TextFault.{TextFault}
 use Rattle.stream_tokens.specs.declared.job_text.TextFault.TheVariants as text
-use Rattle.stream_tokens.specs.TextsLeft.{Texts}
+use Rattle.stream_tokens.specs.TextsLeft.{Texts, HasText}
 use Rattle.stream_tokens.specs.Tokens.{AreTokensOf}
 use Rattle.stream_tokens.proofs.Cutting.{same_tokens}
 use Rattle.job_plan.specs.Meaning.{JobTerm, names_of}
@@ -88,9 +88,10 @@ jobs_push (k ∷ jobs) j = ap (λ (js : List JobTerm). job_of k ∷ js) (jobs_pu
 -- these jobs were read, and with the texts that are left they are the file
 pub record FileSoFar (all left : Texts) (jobs : List JobTerm) : Type 0 where
   pub goes : (r : Result (List JobTerm) JobFault) → LeftRead jobs left r → LeftRead [] all r
+  pub here : HasText left → HasText all
 
 pub file_none : (all left : Texts) (jobs : List JobTerm) → left ≡ all → jobs ≡ [] → FileSoFar all left jobs
-file_none all left jobs same none_yet = record { goes = λ r h. rw (none_yet, same) at h }
+file_none all left jobs same none_yet = record { goes = λ r h. rw (none_yet, same) at h; here = λ h. rw same at h }
 
 pub file_more : (all left next : Texts) (more : List JobText) (jobs js : List JobTerm) (t : JobText) → left ≡ Ok (t ∷ more) → next ≡ Ok more
     → FileSoFar all left jobs → IsNextJob jobs t js → FileSoFar all next js
@@ -99,6 +100,7 @@ file_more all left next more jobs js t before after h step = record {
       let there : TextsRead js more r = rw after at k in
       let here : TextsRead jobs (t ∷ more) r = inr (step.job, step.read, rw step.put at there) in
       h.goes r (rw before here);
+  here = λ _. h.here (t, more, before);
 }
 
 pub file_refused : (all left : Texts) (more : List JobText) (jobs : List JobTerm) (t : JobText) (fault : JobFault) → left ≡ Ok (t ∷ more)

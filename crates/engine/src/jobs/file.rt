@@ -4,6 +4,8 @@ ghost use Rattle.job_plan.specs.Meaning.{names_of};
 ghost use Rattle.engine.specs.FileReading.{IsNextJob, IsNextFault};
 ghost use Rattle.engine.specs.JobRefusals.{is_too_long, TextRead, Spells, IsRefused};
 ghost use Rattle.engine.specs.Jobs.{job_of, jobs_of};
+ghost use Rattle.stream_tokens.specs.JobTexts.{job_texts_of};
+ghost use Rattle.stream_tokens.specs.TextsLeft.{HasText};
 
 use super::checks::read_parts;
 use super::fault::{Cause, JobFault};
@@ -65,6 +67,8 @@ pub fn read_jobs(alloc: Global, bytes: &[u8]) -> Result<Vec<Job>, JobFault>
     ensures refused { IfErr result
         (λ fault. fault.cause ≢ Cause.NoMemory → IsRefused bytes.now fault) }
     ensures memory { IfErr result (λ fault. fault.cause ≡ Cause.NoMemory → fault.line ≡ 0) }
+    ensures texts { IfErr result
+        (λ fault. fault.cause ≡ Cause.NoMemory → HasText (job_texts_of bytes.now)) }
 {
     let mut texts = JobTexts::of(bytes);
     let mut jobs = Vec::new(alloc);

@@ -23,3 +23,9 @@ loop-jobs-preserved c =
     let given = rw c.in-Some.is at c.in_ok-text.ensures.gives in
     file_more (job_texts_of c.args.bytes.now) c.loop-jobs.texts c.next_text.new.self given.0 (jobs_of c.loop-jobs.jobs.items) (jobs_of c.read_next.new.jobs.items)
     c.in-Some.text given.1 given.2 c.loop-jobs.invariant c.in_ok-read_next.ensures.ok
+
+pub returns-in_err-read_next-clause-texts : goal.returns-in_err-read_next-clause-texts
+returns-in_err-read_next-clause-texts c =
+    let p = err_from_is_err_and c.from_residual-in_err-read_next.result c.from_residual-in_err-read_next.ensures.1 in
+    let given = rw c.in-Some.is at c.in_ok-text.ensures.gives in
+    rw p.1 (λ memory. c.loop-jobs.invariant.here (c.in-Some.text, given.0, given.1))
