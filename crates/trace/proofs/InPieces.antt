@@ -5,13 +5,21 @@ use Rattle.std.proofs.lemmas.List.{append-nil, map-append, take_more}
 use Rattle.std.proofs.lemmas.List.Elements.{All-head}
 
 -- the last piece grows
-pub last_grows : {X A : Type 0} (f : X → List A) (xs : List X) (i : ℕ) (x y : X) (more : List A) → suc i ≡ length xs → f y ≡ f (get_or xs i x) ++ more → flat_map f (set xs i y) ≡ flat_map f xs ++ more
+last_grows : {X A : Type 0} (f : X → List A) (xs : List X) (i : ℕ) (x y : X) (more : List A) → suc i ≡ length xs → f y ≡ f (get_or xs i x) ++ more → flat_map f (set xs i y) ≡ flat_map f xs ++ more
 last_grows f [] i x y more last is = absurd (omega (arith, last))
 last_grows f (z ∷ []) zero x y more last is = append-nil (f y) ∙ is ∙ ap (λ front. front ++ more) (sym (append-nil (f z)))
 last_grows f (z ∷ []) (suc i) x y more last is = absurd (omega (arith, last))
 last_grows f (z ∷ w ∷ xs) zero x y more last is = absurd (omega (arith, last))
 last_grows f (z ∷ w ∷ xs) (suc i) x y more last is =
     ap (λ rest. f z ++ rest) (last_grows f (w ∷ xs) i x y more (omega (arith, last)) is) ∙ sym (append_assoc (f z) (flat_map f (w ∷ xs)) more)
+
+-- the same of a piece that was read at the end
+pub read_grows : {X A : Type 0} (f : X → List A) (xs : List X) (i : ℕ) (x y : X) (more : List A) → suc i ≡ length xs → x ≡ get_or xs i x → f y ≡ f x ++ more → flat_map f (set xs i y) ≡ flat_map f xs ++ more
+read_grows f xs i x y more last here is = last_grows f xs i x y more last (is ∙ ap (λ z. f z ++ more) here)
+
+-- and of one that stays as it is
+pub read_stays : {X A : Type 0} (f : X → List A) (xs : List X) (i : ℕ) (x y : X) → suc i ≡ length xs → x ≡ get_or xs i x → f y ≡ f x → flat_map f (set xs i y) ≡ flat_map f xs
+read_stays f xs i x y last here is = read_grows f xs i x y [] last here (is ∙ sym (append-nil (f x))) ∙ append-nil (flat_map f xs)
 
 -- pieces of which none is empty have an item
 pub some_item : {X A : Type 0} (f : X → List A) (xs : List X) → All (λ x. f x ≢ []) xs → 0 < length xs → flat_map f xs ≡ [] → ⊥

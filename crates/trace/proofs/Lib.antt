@@ -1,3 +1,4 @@
+-- The lemmas of this crate; the first line of each file says what they are about.
 pub mod Covering
 pub mod InPieces
 pub mod Joining

@@ -1,6 +1,7 @@
 -- Meaning: the items of a source, in encounter order.
-use Rattle.std.specs.Prelude.{ℕ, zero, suc, ◌^◌, ℤ, pos, ◌+ℤ◌, ◌-ℤ◌, int_lt, unsigned_abs, nat_lt, if◌then◌else◌, List, [], ◌∷◌, ◌++◌, length, None}
+use Rattle.std.specs.Prelude.{ℕ, suc, ◌^◌, ℤ, nat_lt, if◌then◌else◌, List, [], ◌∷◌, ◌++◌, length, None}
 use Rattle.lambda_expr.specs.declared.fault.FaultKind.TheVariants.{SourceTooLong}
+pub use Rattle.lambda_expr.specs.Streams.{counted, distance}
 use Rattle.trace.specs.declared.item.Item.{Item}
 use Rattle.trace.specs.declared.item.End.TheVariants as end
 use Rattle.trace.specs.Trace.{Trace, trace}
@@ -10,15 +11,6 @@ pub data SourceTerm : Type 0 where
   range : ℤ → ℤ → SourceTerm
   values : List ℤ → SourceTerm
   concat : SourceTerm → SourceTerm → SourceTerm
-
--- n integers, counted up from the first
-abbrev pub counted : ℤ → ℕ → List ℤ
-counted a zero = []
-counted a (suc n) = a ∷ counted (a +ℤ pos 1) n
-
--- how many integers there are from a up to, not with, b
-abbrev pub distance : ℤ → ℤ → ℕ
-distance a b = if int_lt a b then unsigned_abs (b -ℤ a) else 0
 
 -- the values of a source (`LongStream.range`, `of`, `concat`)
 abbrev pub values_of : SourceTerm → List ℤ

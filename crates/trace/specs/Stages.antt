@@ -57,12 +57,13 @@ abbrev pub pipe : ℕ → List StageTerm → Numbers → Trace → Trace
 pipe n [] env t = t
 pipe n (g ∷ gs) env t = pipe (suc n) gs env (through n g env t)
 
--- the abstract stage of a stage of the program
+-- helper: the abstract stage of a stage of the program
 abbrev pub stage_of : Stage → StageTerm
 stage_of (stage.Map e) = map (long_of e)
 stage_of (stage.Filter p) = filter (truth_of p)
 stage_of (stage.FlatMap g) = flat_map (inner_of g)
 
+-- helper: those of several stages
 abbrev pub stages_of : List Stage → List StageTerm
 stages_of [] = []
 stages_of (g ∷ gs) = stage_of g ∷ stages_of gs

@@ -16,7 +16,7 @@ trace xs e = record { items = xs; ending = e }
 abbrev pub nothing : Trace
 nothing = trace [] end.Done
 
--- these items, and then what comes after them; after a fault nothing comes
+-- helper: these items, and then what comes after them; after a fault nothing comes
 abbrev pub then_on : List Item → End → Trace → Trace
 then_on xs end.Done b = trace (xs ++ b.items) b.ending
 then_on xs (end.Fault f) b = trace xs (end.Fault f)

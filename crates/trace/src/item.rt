@@ -1,4 +1,4 @@
-// Items of a stream, and how a walk over them ends.
+//! Items of a stream, and how a walk over them ends.
 
 use lambda_expr::FaultKind;
 

@@ -1,11 +1,12 @@
-//! Walks over items, their joining, and the stages that take one item at a time.
+//! Walks over items, how they join, and the stages that look at one item at a time.
 //!
-//! Stands on `lambda_expr`, which gives a lambda's value at an item. Used by whatever walks a source, or
-//! joins what pieces of a walk gave. What it promises to them: `feed`, clause `fed`, leaves in any sink
-//! what `specs/Stages.antt` says that the stages make of that item, and `Chunk::append`, clause `ok`, is
-//! `append` of `specs/Trace.antt`, where the first fault ends the whole.
+//! Stands on `lambda_expr`, which gives the value of a lambda at an item. Used by each crate that
+//! walks a source or joins pieces of a walk. What it promises to them: `feed_all`, clause `fed`: a
+//! sink gets what `specs/Stages.antt` says that the stages make of the source; `Chunk::append`, clause
+//! `ok`: `append` of `specs/Trace.antt`, where the first fault ends the whole.
 //! Begin with `specs/Trace.antt` and `specs/Stages.antt`, then `chunk.rt`, `specs/Sinks.antt` and
-//! `feeding.rt`; `laws.rt` says why a walk may be cut anywhere. `specs/Cover.antt` has the items of sources.
+//! `feeding.rt`; `laws.rt` says why a walk may be cut anywhere. `specs/Cover.antt` and `source.rt` have
+//! the items of sources.
 //! Not promised: that memory for an item is there.
 //! The stages are `map`, `filter` and `flatMap` of `LongStream` (Java SE 17, `java.util.stream`).
 #![tactic(auto)]
