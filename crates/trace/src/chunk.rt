@@ -5,9 +5,13 @@ ghost use Rattle.trace.specs.Trace.{trace, append};
 ghost use Rattle.trace.specs.Sinks.{flow_at};
 ghost use Rattle.trace.specs.declared.item.End.TheVariants as end;
 
+mod searching;
+mod shortening;
+
 use crate::NoMemory;
 use crate::item::{End, Item};
 use crate::sink::{Flow, LongSink};
+pub use searching::Stop;
 use std::alloc::Global;
 use std::marker::Model;
 

@@ -1,0 +1,7 @@
+use Rattle.std.proofs.Common.{Vec, Global}
+use Rattle.trace.specs.declared.item.Item.{Item}
+use Rattle.trace.proofs.Stopping.{StopsLater}
+use Rattle.trace.proofs.chunk.searching.first_stop.Given as goal
+
+abbrev pub invariant-loop-whole : goal.invariant-loop-whole
+invariant-loop-whole g l = StopsLater (g.S.Stop.stops l.stop) (λ (piece : Vec Item Global). piece.items) l.pieces l.whole

@@ -1,0 +1,7 @@
+use Rattle.std.proofs.Common.{Vec, Global}
+use Rattle.trace.specs.declared.item.Item.{Item}
+use Rattle.trace.proofs.Cutting.{Passed}
+use Rattle.trace.proofs.chunk.shortening.cut_at.Given as goal
+
+abbrev pub invariant-loop-whole : goal.invariant-loop-whole
+invariant-loop-whole l = Passed (λ (piece : Vec Item Global). piece.items) l.pieces l.n l.whole l.left
