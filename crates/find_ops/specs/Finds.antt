@@ -41,6 +41,7 @@ abbrev pub if_true : Found → Bool → Option (Result Found Fault)
 if_true a true = Some (Ok a)
 if_true a false = None
 
+-- helper: the same, if it came out false
 abbrev pub if_false : Found → Bool → Option (Result Found Fault)
 if_false a true = None
 if_false a false = Some (Ok a)
