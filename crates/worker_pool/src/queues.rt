@@ -125,6 +125,27 @@ fn thieves<T: Drop>(alloc: Global, owners: &[Owner<T>], worker: usize) -> Vec<Th
     thieves
 }
 
+// The queues of as many workers as there is memory for, without deques of their own.
+fn shared_queues<'a, T: Drop>(
+    alloc: Global,
+    owners: &[Owner<T>],
+    workers: usize,
+    inbox: Option<&'a Inbox<T>>,
+) -> Vec<Queues<'a, T>> {
+    let mut all = Vec::new(alloc);
+    for worker in 0..workers {
+        let queues = Queues {
+            own: None,
+            others: thieves(alloc, owners, worker),
+            door: inbox.map(Door::of),
+        };
+        if all.push(queues).is_err() {
+            break;
+        }
+    }
+    all
+}
+
 /// The queues of as many workers as there is memory for.
 pub fn queues_of<T: Drop>(
     alloc: Global,
@@ -132,17 +153,7 @@ pub fn queues_of<T: Drop>(
     inbox: Option<&Inbox<T>>,
 ) -> Vec<Queues<T>> {
     let owners = owners(alloc, workers);
-    let mut all = Vec::new(alloc);
-    for worker in 0..workers {
-        let queues = Queues {
-            own: None,
-            others: thieves(alloc, owners.as_slice(), worker),
-            door: inbox.map(Door::of),
-        };
-        if all.push(queues).is_err() {
-            break;
-        }
-    }
+    let mut all = shared_queues(alloc, owners.as_slice(), workers, inbox);
     for (queues, owner) in all.iter_mut().zip(owners) {
         queues.own = Some(owner);
     }
