@@ -9,3 +9,5 @@ pub mod Piecing
 pub mod PieceReads
 pub mod Shaping
 pub mod Sounding
+pub mod NumberReads
+pub mod Causing

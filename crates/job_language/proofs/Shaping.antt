@@ -15,7 +15,7 @@ use Rattle.job_language.specs.Splitting.{word_of, words_in}
 use Rattle.job_language.specs.Calls.{Call}
 use Rattle.job_language.specs.Grammar.{Source, Sources, plain, concat, two, more, Job, Piece, call, comma, close, dot, piece_words, pieces_words, source_pieces, sources_pieces, steps_pieces, ending, job_pieces, IsSource, AreSources, AreStages, IsSpelled, IsNoJob, is_sound, calls_of, plain_sources}
 use Rattle.job_language.specs.Reading.{Place, State, wants, owns, bare, has, asks, staged, ended, finished, stuck, read, reads, begins, coded, moves, moved, mark_of, ArePieces}
-use Rattle.job_language.specs.Shapes.{begins_job, IsNotSpelled, AreCallsOf, AreCallsIn, IsNoPiece, Begins, is_last, call_in, calls_in, sign_piece, IsReading}
+use Rattle.job_language.specs.Shapes.{begins_job, IsNotSpelled, AreCallsOf, AreCallsIn, IsNoPiece, Begins, is_last, call_in, calls_in, sign_piece, IsReading, StandIn, StandsIn}
 use Rattle.job_language.proofs.Standing.{Stands, keeps, reads_append, reads_job, stuck_stays, follows, last_state}
 use Rattle.job_language.proofs.Piecing.{pieces_append, calls_append, are_append, next_piece, no_pieces}
 
@@ -149,8 +149,8 @@ no_end ws r h far n j k =
     let g : false ≡ true = sym n ∙ ap is_last f ∙ last.3 in
     absurd cc
 
-pub reading_on : (ws : List Word) (r s : code.Reader) (p : Piece) → (h : IsReading ws r) → Begins ws r.at p s.at → moved r.mode (reverse r.commas.items) (mark_of p) ≡ Some (s.mode, reverse s.commas.items) → calls_in ws s.calls.items ≡ calls_in ws r.calls.items ++ calls_of (p ∷ []) → IsReading ws s
-reading_on ws r s p h b m c =
+pub reading_on : (ws : List Word) (r s : code.Reader) (p : Piece) → (h : IsReading ws r) → Begins ws r.at p s.at → moved r.mode (reverse r.commas.items) (mark_of p) ≡ Some (s.mode, reverse s.commas.items) → calls_in ws s.calls.items ≡ calls_in ws r.calls.items ++ calls_of (p ∷ []) → StandIn ws s.calls.items → IsReading ws s
+reading_on ws r s p h b m c k =
     let st = reads begins h.done in
     record {
       done = h.done ++ p ∷ [];
@@ -161,6 +161,7 @@ reading_on ws r s p h b m c =
           ∙ ap (λ v. pieces_words h.done ++ v) (sym b.spelled)
           ∙ h.spelled;
       place = ap coded (reads_append begins h.done (p ∷ [])) ∙ follows st p b.piece ∙ ap (λ q. moves q (mark_of p)) h.place ∙ m;
+      stand = k;
       calls = c ∙ ap (λ v. v ++ calls_of (p ∷ [])) h.calls ∙ sym (calls_append h.done (p ∷ []));
       within = b.within;
     }
@@ -209,6 +210,7 @@ begun ws r start m c k a = record {
   spelled = ap (λ n. drop n ws) a;
   place = sym (ap (λ v. at_mode v (reverse r.commas.items)) m ∙ ap (λ v. at_mode mode.Source (reverse v)) c);
   calls = ap (calls_in ws) k;
+  stand = subst (StandIn ws) (sym k) tt;
   within = let two_ = long_enough ws start in omega arith;
 }
   where
@@ -272,3 +274,7 @@ no_unspelled_job ws h j k = h j k.spelled
 
 pub sound_calls : (ws : List Word) (cs : List Call) → list_all is_sound ws ≡ true → AreCallsOf ws cs → AreCallsIn ws cs
 sound_calls ws cs h a = record { job = a.job; is = record { sound = h; spelled = a.spelled }; calls = a.calls }
+
+pub stand_more : (ws : List Word) (cs : List written.WrittenCall) (c : written.WrittenCall) → StandIn ws cs → StandsIn ws c → StandIn ws (cs ++ c ∷ [])
+stand_more ws [] c h k = (k, tt)
+stand_more ws (d ∷ cs) c h k = (h.0, stand_more ws cs c h.1 k)

@@ -1,5 +1,5 @@
 -- Condition: what the program keeps of a job that it has read.
-use Rattle.std.specs.Prelude.{◌≡◌, ℕ, ◌+◌, ◌<◌, ◌≤◌, Bool, true, false, List, [], ◌∷◌, ◌++◌, length, drop, reverse, Option, Some, None}
+use Rattle.std.specs.Prelude.{◌≡◌, ℕ, ◌+◌, ◌<◌, ◌≤◌, Bool, true, false, List, [], ◌∷◌, ◌++◌, length, drop, reverse, Option, Some, None, zero, suc, get_or}
 use Rattle.stream_tokens.specs.declared.symbol.Symbol.{Symbol}
 use Rattle.stream_tokens.specs.declared.symbol.Symbol.TheVariants as symbol
 use Rattle.lambda_expr.specs.Words.{Word, named, sign}
@@ -13,7 +13,7 @@ use Rattle.job_language.specs.declared.mode.Mode.TheVariants as mode
 use Rattle.job_language.specs.declared.shape.Reader as shape
 use Rattle.job_language.specs.Table.{operation_of}
 use Rattle.job_language.specs.Calls.{Call}
-use Rattle.job_language.specs.Splitting.{call_at}
+use Rattle.job_language.specs.Splitting.{call_at, AreEnds}
 use Rattle.job_language.specs.Grammar.{Piece, call, begin_concat, owner, comma, close, dot, semicolon, piece_words, pieces_words, calls_of, job_calls, Job, IsSpelled, IsJob}
 use Rattle.job_language.specs.Reading.{mark_of, IsPiece, ArePieces, coded, reads, begins}
 
@@ -24,6 +24,19 @@ call_in ws c = call_at c.operation (drop (c.opened + 1) ws) c.ends.items
 abbrev pub calls_in : List Word → List code.WrittenCall → List Call
 calls_in ws [] = []
 calls_in ws (c ∷ cs) = call_in ws c ∷ calls_in ws cs
+
+-- the parenthesis and the ends of a call stand in the words
+pub record StandsIn (ws : List Word) (c : code.WrittenCall) : Type 0 where
+  pub opened : c.opened < length ws
+  pub ends : AreEnds 0 c.ends.items (length (drop (c.opened + 1) ws))
+
+abbrev pub StandIn : List Word → List code.WrittenCall → Type 0
+StandIn ws [] = Unit {0}
+StandIn ws (c ∷ cs) = StandsIn ws c × StandIn ws cs
+
+abbrev pub MayStandIn : List Word → Option code.WrittenCall → Type 0
+MayStandIn ws None = Unit {0}
+MayStandIn ws (Some c) = StandsIn ws c
 
 -- how many words a call has with these ends, after its opening parenthesis
 abbrev pub width : List ℕ → ℕ
@@ -70,6 +83,7 @@ piece_of ws r = piece_from ws r.mark r.call
 pub record IsPieceRead (ws : List Word) (at : ℕ) (r : piece.ReadPiece) : Type 0 where
   pub begins : Begins ws at (piece_of ws r) r.to
   pub mark : mark_of (piece_of ws r) ≡ r.mark
+  pub stands : MayStandIn ws r.call
 
 abbrev pub is_open : Word → Bool
 is_open (sign symbol.Open) = true
@@ -113,6 +127,7 @@ pub record IsReading (ws : List Word) (r : shape.Reader) : Type 0 where
   pub spelled : pieces_words done ++ drop r.at ws ≡ drop 2 ws
   pub place : coded (reads begins done) ≡ Some (r.mode, reverse r.commas.items)
   pub calls : calls_in ws r.calls.items ≡ calls_of done
+  pub stand : StandIn ws r.calls.items
   pub within : r.at ≤ length ws
 
 -- one piece more is read, or no job has these words
@@ -125,3 +140,8 @@ pub record AreCallsIn (ws : List Word) (cs : List Call) : Type 0 where
   pub job : Job
   pub is : IsJob ws job
   pub calls : cs ≡ job_calls job
+
+-- where part i begins: at a, or after the end of the part before it
+abbrev pub start_before : ℕ → List ℕ → ℕ → ℕ
+start_before a es zero = a
+start_before a es (suc i) = get_or es i 0 + 1

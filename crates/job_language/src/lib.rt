@@ -6,25 +6,35 @@
 //! is. The grammar, the reader and what a job means share that table.
 //!
 //! Stands on `stream_tokens`, which cuts the text of a job once (`CutText`), and on the words and numbers of
-//! `lambda_expr`. `parse_job` gives the calls of a job in order of writing exactly when the text is a job, and
-//! `None` exactly when it is none; `one_job` says that words are one job at most.
+//! `lambda_expr`, and on `columns` for their names. `parse_job` gives the calls of a job in order of writing
+//! exactly when the text is a job, and `None` exactly when it is none; `one_job` says that words are one job at
+//! most. `name_cause` and `call_cause` are the first cause for which a name or a call is refused (`Scope`: the
+//! earlier jobs and the columns).
 //!
-//! Begin with `specs/Grammar.antt`, then `shape.rt`.
+//! Begin with `specs/Grammar.antt`, then `shape.rt`; for refusals with `specs/Causes.antt`, then `causes.rt`.
 //!
-//! Not promised: that a lambda or an operator between parentheses is one, or that a number fits 64 bits.
+//! Not promised: that a lambda or an operator between parentheses is one.
 #![tactic(auto)]
 
 mod call;
+mod causes;
+mod fault;
 mod mode;
+mod number;
 mod operation;
 mod piece;
+mod scope;
 mod shape;
 mod sound;
 mod word;
 
 pub use call::one_call;
+pub use causes::{call_cause, name_cause};
+pub use fault::{Cause, JobFault};
 pub use operation::{
     Operation, Param, Role, allows, name_of, one_operation, operation_of, param_of, role_of,
 };
 pub use piece::WrittenCall;
-pub use shape::{one_job, parse_job};
+pub use scope::{EarlierJob, Gives, Scope, gives_of};
+pub use shape::{ParsedJob, one_job, parse_job};
+pub use word::Word;

@@ -4,7 +4,7 @@ ghost use Rattle.lambda_expr.specs.Words.{Word as meant, words_of};
 ghost use Rattle.job_language.specs.declared.piece.Mark.{Mark as meant_mark};
 ghost use Rattle.job_language.specs.Splitting.{words_in};
 ghost use Rattle.job_language.specs.Grammar.{Job as job, calls_of, IsSpelled, IsNoJob};
-ghost use Rattle.job_language.specs.Shapes.{begins_job, calls_in, piece_from, is_last, IsNotSpelled, AreCallsOf, AreCallsIn, IsReading, Advances};
+ghost use Rattle.job_language.specs.Shapes.{begins_job, calls_in, piece_from, is_last, IsNotSpelled, AreCallsOf, AreCallsIn, IsReading, Advances, StandIn, MayStandIn};
 
 use crate::mode::{Mode, moved};
 use crate::piece::{ReadPiece, WrittenCall, piece_at};
@@ -25,7 +25,9 @@ pub struct Reader {
 
 /// Puts the call of a piece, if it is one, after the others.
 fn add_call(calls: &mut Vec<WrittenCall>, call: Option<WrittenCall>) -> Result<(), AllocError>
-    ensures { IfOk result (λ _. (ws : List meant) (m : meant_mark)
+    ensures stand { IfOk result (λ _. (ws : List meant) → StandIn ws calls.old.items
+        → MayStandIn ws call → StandIn ws calls.new.items) }
+    ensures calls { IfOk result (λ _. (ws : List meant) (m : meant_mark)
         → calls_in ws calls.new.items ≡ calls_in ws calls.old.items ++ calls_of (piece_from ws m call ∷ [])) }
 {
     if let Some(call) = call {
@@ -76,7 +78,8 @@ fn is_last(mode: Mode) -> bool
 /// The calls of the job that has these words, or `None` if no job has them.
 pub fn read_calls(alloc: Global, words: &[Word]) -> Result<Option<Vec<WrittenCall>>, AllocError>
     ensures { IfOk result (λ found. MatchOption found (IsNotSpelled (words_in words.now))
-        (λ calls. AreCallsOf (words_in words.now) (calls_in (words_in words.now) calls.items))) }
+        (λ calls. AreCallsOf (words_in words.now) (calls_in (words_in words.now) calls.items)
+        × StandIn (words_in words.now) calls.items)) }
 {
     if !begins_job(words) {
         return Ok(None);
@@ -100,17 +103,38 @@ pub fn read_calls(alloc: Global, words: &[Word]) -> Result<Option<Vec<WrittenCal
     }
 }
 
-/// The calls of the job that a text is, in order of writing, or `None` if the text is no job.
+/// A job in words and calls.
+#[derive(Drop)]
+pub struct ParsedJob<'a> {
+    pub words: Vec<Word<'a>>,
+    /// In order of writing: the plain sources, the stages, the terminal.
+    pub calls: Vec<WrittenCall>,
+}
+
+fn with_words<'a>(alloc: Global, words: Vec<Word<'a>>) -> Result<Option<ParsedJob<'a>>, AllocError>
+    ensures { let ws = words_in words.entry.items in
+        IfOk result (λ found. MatchOption found (IsNotSpelled ws)
+        (λ job. (words_in job.words.items ≡ ws) × AreCallsOf ws (calls_in ws job.calls.items)
+        × StandIn ws job.calls.items)) }
+{
+    match read_calls(alloc, &words)? {
+        Some(calls) => Ok(Some(ParsedJob { words, calls })),
+        None => Ok(None),
+    }
+}
+
+/// The words and calls of the job that a text is, or `None` if the text is no job.
 ///
 /// Takes memory for a word for each token and for the places of each call's parts, and time in
 /// proportion to the tokens.
-pub fn parse_job(alloc: Global, text: &CutText) -> Result<Option<Vec<WrittenCall>>, AllocError>
+pub fn parse_job<'a>(alloc: Global, text: &CutText<'a>) -> Result<Option<ParsedJob<'a>>, AllocError>
     ensures { let ws = words_of text.now.bytes text.now.tokens in
         IfOk result (λ found. MatchOption found (IsNoJob ws)
-        (λ calls. AreCallsIn ws (calls_in ws calls.items))) }
+        (λ job. (words_in job.words.items ≡ ws) × AreCallsIn ws (calls_in ws job.calls.items)
+        × StandIn ws job.calls.items)) }
 {
     match sound_words(alloc, text)? {
-        Some(words) => read_calls(alloc, &words),
+        Some(words) => with_words(alloc, words),
         None => Ok(None),
     }
 }

@@ -3,7 +3,7 @@ use Rattle.std.specs.Prelude.{MatchOption}
 use Rattle.job_language.specs.declared.operation.Role.TheVariants as role
 use Rattle.job_language.specs.declared.piece.Mark.TheVariants as mark
 use Rattle.job_language.specs.Grammar.{call}
-use Rattle.job_language.specs.Splitting.{words_in, call_at, IsReadAs, IsNoCallOf}
+use Rattle.job_language.specs.Splitting.{AreEnds, words_in, call_at, IsReadAs, IsNoCallOf}
 use Rattle.job_language.specs.Shapes.{width, Begins}
 use Rattle.job_language.proofs.WordLists.{length_words}
 use Rattle.job_language.proofs.PieceReads.{begins_call, begins_no_call, call_ends}
@@ -46,7 +46,10 @@ returns c =
     let read = subst (λ f. MatchOption f (IsNoCallOf o (words_in c.after.result.now)) (λ ends. IsReadAs o (words_in c.after.result.now) ends.items)) c.in-Some.is c.in_ok-ends.ensures in
     let here = subst (λ v. IsReadAs o v c.in-Some.ends.items) c.after.ensures.value read in
     let is : c.width.result ≡ width c.in-Some.ends.items = c.width.ensures ∙ ap width c.deref.ensures.value in
+    let two_ : c.args.at + 2 ≡ c.args.at + 1 + 1 = omega arith in
+    let there : drop (c.args.at + 2) ws ≡ drop (c.args.at + 1 + 1) ws = ap (λ n. drop n ws) two_ in
     record {
       begins = subst (λ n. Begins ws c.args.at (call (call_at o (drop (c.args.at + 1 + 1) ws) c.in-Some.ends.items)) (c.args.at + 2 + n)) (sym is) (begins_call ws c.args.at o c.in-Some.ends.items lt c.requires.name c.requires.open here);
       mark = ap mark.Call (sym c.role_of-role.ensures);
+      stands = record { opened = lt; ends = subst (λ v. AreEnds 0 c.in-Some.ends.items (length v)) there here.ends };
     }

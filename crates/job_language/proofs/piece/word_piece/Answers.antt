@@ -16,6 +16,7 @@ returns-in-Some c =
     record {
       begins = begins_word ws c.args.at c.in-Some.mark lt here;
       mark = here.mark;
+      stands = tt;
     }
 
 pub returns-in-None : goal.returns-in-None

@@ -10,7 +10,7 @@ returns-then-is_last c =
     let ws = words_in c.args.words.now in
     let start : begins_job ws ≡ true = search rules in
     let far : length ws ≤ c.loop-reader.reader.at = subst (λ n. n ≤ c.loop-reader.reader.at) (sym (length_words c.args.words.now)) c.loop-reader-test.false in
-    reads_all ws c.loop-reader.reader start c.loop-reader.invariant far (sym c.is_last.ensures ∙ c.if-is_last.true)
+    (reads_all ws c.loop-reader.reader start c.loop-reader.invariant far (sym c.is_last.ensures ∙ c.if-is_last.true), c.loop-reader.invariant.stand)
 
 pub returns : goal.returns
 returns c =

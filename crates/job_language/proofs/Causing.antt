@@ -1,0 +1,127 @@
+-- Causes, part by part.
+use Rattle.std.proofs.Common.{◌≡◌, ℕ, zero, suc, ◌+◌, ◌-◌, ◌<◌, ◌≤◌, true, false, List, [], ◌∷◌, ◌++◌, length, drop, get_or, Option, Some, None, refl, ap, ◌∙◌, arith}
+use Rattle.std.specs.Prelude.{slice_range, nat_eq, if◌then◌else◌}
+use Rattle.std.specs.Cmp.Lexicographic.{pointwise}
+use Rattle.std.proofs.lemmas.List.{drop_more}
+use Rattle.lambda_expr.specs.Words.{Word, named, quoted}
+use Rattle.job_language.specs.declared.word.Word as code
+use Rattle.job_language.specs.declared.operation.Operation.{Operation}
+use Rattle.job_language.specs.declared.operation.Operation.TheVariants as op
+use Rattle.job_language.specs.declared.fault.Cause.{Cause}
+use Rattle.job_language.specs.declared.scope.EarlierJob as job
+use Rattle.job_language.specs.Table.{param_of}
+use Rattle.job_language.specs.Splitting.{word_of, words_in, pieces, AreEnds}
+use Rattle.job_language.specs.Shapes.{start_before}
+use Rattle.job_language.specs.Causes.{Scope, given, first_cause, number_cause, number_causes, column_cause, result_cause, row_cause}
+use Rattle.job_language.specs.Scopes.{jobs_of}
+
+-- the causes of two lists, one after the other
+pub first_append : (cs ds : List (Option Cause)) → first_cause cs ≡ None → first_cause (cs ++ ds) ≡ first_cause ds
+first_append [] ds h = refl
+first_append (None ∷ cs) ds h = first_append cs ds h
+first_append (Some c ∷ cs) ds h = absurd cc
+
+pub first_stays : (cs ds : List (Option Cause)) (c : Cause) → first_cause cs ≡ Some c → first_cause (cs ++ ds) ≡ Some c
+first_stays [] ds c h = absurd cc
+first_stays (None ∷ cs) ds c h = first_stays cs ds c h
+first_stays (Some d ∷ cs) ds c h = h
+
+pub jobs_drop : (n : ℕ) (js : List job.EarlierJob) → jobs_of (drop n js) ≡ drop n (jobs_of js)
+jobs_drop zero js = refl
+jobs_drop (suc n) [] = refl
+jobs_drop (suc n) (j ∷ js) = jobs_drop n js
+
+pub piece_at : (ws : List Word) (a : ℕ) (es : List ℕ) (i : ℕ) → i < length es → get_or (pieces ws a es) i [] ≡ slice_range ws (start_before a es i) (get_or es i 0)
+piece_at ws a [] i lt = absurd (omega arith)
+piece_at ws a (e ∷ es) zero lt = refl
+piece_at ws a (e ∷ es) (suc zero) lt = piece_at ws (e + 1) es zero (omega arith)
+piece_at ws a (e ∷ es) (suc (suc i)) lt = piece_at ws (e + 1) es (suc i) (omega arith)
+
+pub ends_at : (a : ℕ) (es : List ℕ) (n i : ℕ) → i < length es → AreEnds a es n → (start_before a es i ≤ get_or es i 0) × (get_or es i 0 < n)
+ends_at a [] n i lt h = absurd (omega arith)
+ends_at a (e ∷ es) n zero lt h = (h.0, h.1)
+ends_at a (e ∷ es) n (suc zero) lt h = ends_at (e + 1) es n zero (omega arith) h.2
+ends_at a (e ∷ es) n (suc (suc i)) lt h = ends_at (e + 1) es n (suc i) (omega arith) h.2
+
+pub start_is : (es : List ℕ) (i : ℕ) → 0 < i → start_before 0 es i ≡ get_or es (i - 1) 0 + 1
+start_is es zero h = absurd (omega arith)
+start_is es (suc i) h = let e : i ≡ suc i - 1 = omega arith in ap (λ n. get_or es n 0 + 1) e
+
+-- the jobs from a place on decide, if no job before it has the name
+pub given_more : (js : List job.EarlierJob) (i : ℕ) (w : List ℕ) (d : job.EarlierJob) → i < length js → pointwise nat_eq w (get_or js i d).name.now ≡ false → given (jobs_of (drop i js)) w ≡ given (jobs_of (drop (i + 1) js)) w
+given_more js i w d lt other = ap (λ v. given (jobs_of v) w) (drop_more js i d lt) ∙ ap (λ b. if b then Some (get_or js i d).gives else given (jobs_of (drop (i + 1) js)) w) other
+
+pub given_here : (js : List job.EarlierJob) (i : ℕ) (w : List ℕ) (d : job.EarlierJob) → i < length js → pointwise nat_eq w (get_or js i d).name.now ≡ true → given (jobs_of (drop i js)) w ≡ Some (get_or js i d).gives
+given_here js i w d lt this = ap (λ v. given (jobs_of v) w) (drop_more js i d lt) ∙ ap (λ b. if b then Some (get_or js i d).gives else given (jobs_of (drop (i + 1) js)) w) this
+
+-- the numbers of a call, from a part on
+pub numbers_more : (o : Operation) (n i : ℕ) (xs : List (List Word)) → i < length xs → number_cause (param_of o n i) (get_or xs i []) ≡ None → first_cause (number_causes o n i (drop i xs)) ≡ first_cause (number_causes o n (i + 1) (drop (i + 1) xs))
+numbers_more o n i xs lt none =
+    let e : suc i ≡ i + 1 = omega arith in
+    ap (λ v. first_cause (number_causes o n i v)) (drop_more xs i [] lt)
+    ∙ ap (λ c. first_cause (c ∷ number_causes o n (suc i) (drop (i + 1) xs))) none
+    ∙ ap (λ k. first_cause (number_causes o n k (drop (i + 1) xs))) e
+
+pub numbers_here : (o : Operation) (n i : ℕ) (xs : List (List Word)) (c : Cause) → i < length xs → number_cause (param_of o n i) (get_or xs i []) ≡ Some c → first_cause (number_causes o n i (drop i xs)) ≡ Some c
+numbers_here o n i xs c lt some =
+    ap (λ v. first_cause (number_causes o n i v)) (drop_more xs i [] lt)
+    ∙ ap (λ d. first_cause (d ∷ number_causes o n (suc i) (drop (i + 1) xs))) some
+
+-- words too many for a name or a string
+no_column_for : (s : Scope) (a b : Word) (ws : List Word) → first_cause [] ≡ column_cause s (a ∷ b ∷ ws)
+no_column_for s (quoted w) b ws = refl
+no_column_for s a b ws = refl
+
+pub no_column : (s : Scope) (ws : List code.Word) → 2 ≤ length ws → first_cause [] ≡ column_cause s (words_in ws)
+no_column s [] h = refl
+no_column s (a ∷ []) h = absurd (omega arith)
+no_column s (a ∷ b ∷ ws) h = no_column_for s (word_of a) (word_of b) (words_in ws)
+
+no_result_for : (s : Scope) (a b : Word) (ws : List Word) → first_cause [] ≡ result_cause s (a ∷ b ∷ ws)
+no_result_for s (named w) b ws = refl
+no_result_for s a b ws = refl
+
+pub no_result : (s : Scope) (ws : List code.Word) → 2 ≤ length ws → first_cause [] ≡ result_cause s (words_in ws)
+no_result s [] h = refl
+no_result s (a ∷ []) h = absurd (omega arith)
+no_result s (a ∷ b ∷ ws) h = no_result_for s (word_of a) (word_of b) (words_in ws)
+
+pub length_parts : (ws : List Word) (a : ℕ) (es : List ℕ) → length (pieces ws a es) ≡ length es
+length_parts ws a [] = refl
+length_parts ws a (e ∷ es) = ap suc (length_parts ws (e + 1) es)
+
+pub one_part : (xs : List (List Word)) → length xs ≡ 1 → xs ≡ get_or xs 0 [] ∷ []
+one_part [] h = absurd (omega arith)
+one_part (a ∷ []) h = refl
+one_part (a ∷ b ∷ xs) h = absurd (omega arith)
+
+pub three_parts : (xs : List (List Word)) → length xs ≡ 3 → xs ≡ get_or xs 0 [] ∷ get_or xs 1 [] ∷ get_or xs 2 [] ∷ []
+three_parts [] h = absurd (omega arith)
+three_parts (a ∷ []) h = absurd (omega arith)
+three_parts (a ∷ b ∷ []) h = absurd (omega arith)
+three_parts (a ∷ b ∷ c ∷ []) h = refl
+three_parts (a ∷ b ∷ c ∷ d ∷ xs) h = absurd (omega arith)
+
+pub other_parts : (s : Scope) (o : Operation) (xs : List (List Word)) → (length xs ≡ 1 → ⊥) → (length xs ≡ 3 → ⊥) → first_cause [] ≡ row_cause s o xs
+other_parts s op.Column [] h k = refl
+other_parts s o [] h k = refl
+other_parts s o (a ∷ []) h k = absurd (h refl)
+other_parts s op.Column (a ∷ b ∷ []) h k = refl
+other_parts s o (a ∷ b ∷ []) h k = refl
+other_parts s o (a ∷ b ∷ c ∷ []) h k = absurd (k refl)
+other_parts s op.Column (a ∷ b ∷ c ∷ d ∷ xs) h k = refl
+other_parts s o (a ∷ b ∷ c ∷ d ∷ xs) h k = refl
+
+-- the first of three groups of causes
+pub by_count : (c d : Option Cause) (ns : List (Option Cause)) (e : Cause) → c ≡ Some e → first_cause (c ∷ (ns ++ d ∷ [])) ≡ Some e
+by_count c d ns e h = ap (λ v. first_cause (v ∷ (ns ++ d ∷ []))) h
+
+pub by_numbers : (c d : Option Cause) (ns : List (Option Cause)) (e : Cause) → c ≡ None → first_cause ns ≡ Some e → first_cause (c ∷ (ns ++ d ∷ [])) ≡ Some e
+by_numbers c d ns e h k = ap (λ v. first_cause (v ∷ (ns ++ d ∷ []))) h ∙ first_stays ns (d ∷ []) e k
+
+single : (d : Option Cause) → first_cause (d ∷ []) ≡ d
+single None = refl
+single (Some e) = refl
+
+pub by_row : (c d : Option Cause) (ns : List (Option Cause)) → c ≡ None → first_cause ns ≡ None → first_cause (c ∷ (ns ++ d ∷ [])) ≡ d
+by_row c d ns h k = ap (λ v. first_cause (v ∷ (ns ++ d ∷ []))) h ∙ first_append ns (d ∷ []) k ∙ single d

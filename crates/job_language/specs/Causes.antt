@@ -1,0 +1,112 @@
+-- Meaning: what a part of a job is refused for: the causes in order of writing, and the first that there is.
+use Rattle.std.specs.Prelude.{ℕ, suc, ℤ, pos, int_lt, Bool, true, false, not, ◌||◌, nat_eq, nat_lt, if◌then◌else◌, List, [], ◌∷◌, ◌++◌, length, take, drop, ◌-◌, Option, Some, None}
+use Rattle.std.specs.Option.{is_some}
+use Rattle.std.specs.Cmp.Lexicographic.{pointwise}
+use Rattle.lambda_expr.specs.Words.{Word, named, quoted}
+use Rattle.lambda_expr.specs.declared.fault.ReadFault.TheVariants.{LiteralTooLarge}
+use Rattle.columns.specs.Table.{NamedColumn, cells_named}
+use Rattle.job_language.specs.declared.operation.Operation.{Operation}
+use Rattle.job_language.specs.declared.operation.Operation.TheVariants as op
+use Rattle.job_language.specs.declared.operation.Param.{Param}
+use Rattle.job_language.specs.declared.operation.Param.TheVariants as param
+use Rattle.job_language.specs.declared.scope.Gives.{Gives}
+use Rattle.job_language.specs.declared.scope.Gives.TheVariants as gives
+use Rattle.job_language.specs.declared.fault.Cause.{Cause}
+use Rattle.job_language.specs.declared.fault.Cause.TheVariants as cause
+use Rattle.job_language.specs.Table.{param_of}
+use Rattle.job_language.specs.Calls.{Call}
+use Rattle.job_language.specs.Numbers.{literal_fits, number_read}
+
+-- an earlier job: its name, and what its terminal gives
+pub record Earlier : Type 0 where
+  pub name : List ℕ
+  pub gives : Gives
+
+-- what the names of a job may stand for
+pub record Scope : Type 0 where
+  pub jobs : List Earlier
+  pub columns : List NamedColumn
+
+-- what a terminal gives
+abbrev pub gives_of : Operation → Gives
+gives_of op.ToArray = gives.Array
+gives_of op.AnyMatch = gives.Boolean
+gives_of op.AllMatch = gives.Boolean
+gives_of op.NoneMatch = gives.Boolean
+gives_of o = gives.Number
+
+-- what the earlier job with this name gives
+abbrev pub given : List Earlier → List ℕ → Option Gives
+given [] w = None
+given (j ∷ js) w = if pointwise nat_eq w j.name then Some j.gives else given js w
+
+abbrev pub first_cause : List (Option Cause) → Option Cause
+first_cause [] = None
+first_cause (None ∷ cs) = first_cause cs
+first_cause (Some c ∷ cs) = Some c
+
+abbrev pub when : Bool → Cause → Option Cause
+when true c = Some c
+when false c = None
+
+-- a name of at most 64 bytes, which no earlier job has
+abbrev pub name_causes : Scope → List ℕ → List (Option Cause)
+name_causes scope w = when (nat_lt 64 (length w)) cause.TooLong ∷ when (is_some (given scope.jobs w)) cause.SameName ∷ []
+
+-- `of` has at most 1,024 values
+abbrev pub count_of : Operation → ℕ → Option Cause
+count_of op.Of n = when (nat_lt 1024 n) cause.TooLong
+count_of o n = None
+
+-- each number has 64 bits
+abbrev pub number_cause : Param → List Word → Option Cause
+number_cause param.Number ws = when (not (literal_fits ws)) (cause.Expr LiteralTooLarge)
+number_cause p ws = None
+
+abbrev pub number_causes : Operation → ℕ → ℕ → List (List Word) → List (Option Cause)
+number_causes o n i [] = []
+number_causes o n i (a ∷ xs) = number_cause (param_of o n i) a ∷ number_causes o n (suc i) xs
+
+abbrev pub is_negative : ℤ → Bool
+is_negative z = int_lt z (pos 0)
+
+-- the bytes between the quotes of a string
+abbrev pub inside_quotes : List ℕ → List ℕ
+inside_quotes w = take (length w - 2) (drop 1 w)
+
+abbrev pub column_cause : Scope → List Word → Option Cause
+column_cause scope (quoted w ∷ []) = when (not (is_some (cells_named (inside_quotes w) scope.columns))) cause.UnknownColumn
+column_cause scope ws = None
+
+-- `result` names an earlier job that gives an array
+abbrev pub array_cause : Option Gives → Option Cause
+array_cause None = Some cause.UnknownJob
+array_cause (Some gives.Array) = None
+array_cause (Some g) = Some cause.NotAnArray
+
+abbrev pub result_cause : Scope → List Word → Option Cause
+result_cause scope (named w ∷ []) = array_cause (given scope.jobs w)
+result_cause scope ws = None
+
+-- a count below 0; a number outside 64 bits has its own cause before
+abbrev pub below_zero : Option ℤ → Option Cause
+below_zero None = None
+below_zero (Some z) = when (is_negative z) cause.NegativeCount
+
+-- a range that begins below 0, or ends before it begins
+abbrev pub bad_range : Option ℤ → Option ℤ → Option Cause
+bad_range (Some a) (Some b) = when (is_negative a || int_lt b a) cause.BadRange
+bad_range a b = None
+
+-- the cause of a call's own, after its numbers
+abbrev pub row_cause : Scope → Operation → List (List Word) → Option Cause
+row_cause scope op.Column (a ∷ []) = column_cause scope a
+row_cause scope op.Result (a ∷ []) = result_cause scope a
+row_cause scope op.Limit (a ∷ []) = below_zero (number_read a)
+row_cause scope op.Skip (a ∷ []) = below_zero (number_read a)
+row_cause scope op.Prefix (a ∷ b ∷ c ∷ []) = bad_range (number_read a) (number_read b)
+row_cause scope o xs = None
+
+-- the causes of a call before those of its lambda or operator
+abbrev pub call_causes : Scope → Call → List (Option Cause)
+call_causes scope c = count_of c.operation (length c.parts) ∷ (number_causes c.operation (length c.parts) 0 c.parts ++ row_cause scope c.operation c.parts ∷ [])

@@ -1,0 +1,96 @@
+//! The value of a number.
+ghost use Rattle.std.specs.Prelude.{◌≡◌, ◌≤◌, ◌^◌, pos, neg_ℤ, nat_lt, nat_le, min, if◌then◌else◌, Some, None, ◌∷◌, []};
+ghost use Rattle.lambda_expr.specs.Numerals.{numeral_value};
+ghost use Rattle.job_language.specs.Splitting.{word_of, words_in};
+ghost use Rattle.job_language.specs.Numbers.{constant_value, number_read};
+
+use crate::word::Word;
+use stream_tokens::Symbol;
+
+/// The value of digits, or the greatest `u64` if it is above that. A mark after the digits is skipped.
+fn digits_value(digits: &[u8]) -> u64
+    ensures { result ≡ min (numeral_value digits.now) u64.MAX }
+{
+    let mut value: u64 = 0;
+    for byte in digits {
+        if !byte.is_ascii_digit() {
+            return value;
+        }
+        value = value
+            .saturating_mul(10)
+            .saturating_add(u64::from(*byte - b'0'));
+    }
+    value
+}
+
+fn positive(digits: &[u8]) -> Option<i64>
+    ensures { let n = numeral_value digits.now in
+        result ≡ (if nat_lt n (2 ^ 63) then Some (pos n) else None) }
+{
+    let value = digits_value(digits);
+    if value < 9_223_372_036_854_775_808 {
+        Some(value as i64)
+    } else {
+        None
+    }
+}
+
+fn negative(digits: &[u8]) -> Option<i64>
+    ensures { let n = numeral_value digits.now in
+        result ≡ (if nat_le n (2 ^ 63) then Some (neg_ℤ (pos n)) else None) }
+{
+    0i64.checked_sub_unsigned(digits_value(digits))
+}
+
+fn constant(name: &[u8]) -> i64
+    ensures { result ≡ constant_value name.now }
+{
+    if name == b"MAX_VALUE".as_slice() {
+        i64::MAX
+    } else {
+        i64::MIN
+    }
+}
+
+fn digits_number(word: Word) -> Option<i64>
+    ensures { result ≡ number_read (word_of word.entry ∷ []) }
+{
+    match word {
+        Word::Number(digits) => positive(digits),
+        _ => Some(0),
+    }
+}
+
+fn minus_number(minus: Word, word: Word) -> Option<i64>
+    ensures { result ≡ number_read (word_of minus.entry ∷ word_of word.entry ∷ []) }
+{
+    match minus {
+        Word::Sign(Symbol::Minus) => match word {
+            Word::Number(digits) => negative(digits),
+            _ => Some(0),
+        },
+        _ => Some(0),
+    }
+}
+
+fn constant_number(owner: Word, dot: Word, word: Word) -> Option<i64>
+    ensures { result
+        ≡ number_read (word_of owner.entry ∷ word_of dot.entry ∷ word_of word.entry ∷ []) }
+{
+    match word {
+        Word::Name(name) => Some(constant(name)),
+        _ => Some(0),
+    }
+}
+
+/// The value of a number, or `None` if it is outside 64 bits.
+pub fn number_in(words: &[Word]) -> Option<i64>
+    ensures { result ≡ number_read (words_in words.now) }
+{
+    match words {
+        [digits] => digits_number(*digits),
+        [minus, digits] => minus_number(*minus, *digits),
+        [owner, dot, limit] => constant_number(*owner, *dot, *limit),
+        _ => Some(0),
+    }
+}
