@@ -126,7 +126,7 @@ fn feed_inner<S: LongSink>(
     for position in 0..values.count() {
         match feed(stages, first_stage, env, values.item_at(position), sink)? {
             Fed::More => {}
-            ended => return Ok(ended),
+            stopped => return Ok(stopped),
         }
     }
     Ok(Fed::More)

@@ -27,21 +27,21 @@ feed_inner-loop-position-init g t c =
 pub feed_inner-loop-position-preserved : goal.feed_inner-loop-position-preserved
 feed_inner-loop-position-preserved g t c =
     let items = at_place c.args.values.now.origin (inner_values c.args.values.now.values) in
-    let more = rw c.in-More.is at c.in_ok-ended.ensures.fed in
-    (rw c.in-More.is at c.in_ok-ended.ensures.flow, λ xs took. IsFed_next g.S.LongSink.has_taken c.args.first_stage (stages_of c.args.stages.now) c.args.env.now xs items c.loop-position.position c.item_at.result (Ok fed.More) c.loop-position.sink c.feed.new.sink c.item_at.ensures (c.loop-position.invariant.1 xs took) more)
+    let more = rw c.in-More.is at c.in_ok-stopped.ensures.fed in
+    (rw c.in-More.is at c.in_ok-stopped.ensures.flow, λ xs took. IsFed_next g.S.LongSink.has_taken c.args.first_stage (stages_of c.args.stages.now) c.args.env.now xs items c.loop-position.position c.item_at.result (Ok fed.More) c.loop-position.sink c.feed.new.sink c.item_at.ensures (c.loop-position.invariant.1 xs took) more)
 
 pub feed_inner-returns-in_default-clause-fed : goal.feed_inner-returns-in_default-clause-fed
 feed_inner-returns-in_default-clause-fed g t c = λ xs took.
     let items = at_place c.args.values.now.origin (inner_values c.args.values.now.values) in
-    let fed_here = IsFed_next g.S.LongSink.has_taken c.args.first_stage (stages_of c.args.stages.now) c.args.env.now xs items c.loop-position.position c.item_at.result (Ok c.in_ok-ended.ended) c.loop-position.sink c.feed.new.sink c.item_at.ensures (c.loop-position.invariant.1 xs took) c.in_ok-ended.ensures.fed in
-    IsFed_whole g.S.LongSink.has_taken c.args.first_stage (stages_of c.args.stages.now) c.args.env.now xs items (c.loop-position.position + 1) end.Done (Ok c.in_ok-ended.ended) c.feed.new.sink (λ e. c.in_default.not-More cc) fed_here
+    let fed_here = IsFed_next g.S.LongSink.has_taken c.args.first_stage (stages_of c.args.stages.now) c.args.env.now xs items c.loop-position.position c.item_at.result (Ok c.in_ok-stopped.stopped) c.loop-position.sink c.feed.new.sink c.item_at.ensures (c.loop-position.invariant.1 xs took) c.in_ok-stopped.ensures.fed in
+    IsFed_whole g.S.LongSink.has_taken c.args.first_stage (stages_of c.args.stages.now) c.args.env.now xs items (c.loop-position.position + 1) end.Done (Ok c.in_ok-stopped.stopped) c.feed.new.sink (λ e. c.in_default.not-More cc) fed_here
 
-pub feed_inner-returns-in_err-ended-clause-fed : goal.feed_inner-returns-in_err-ended-clause-fed
-feed_inner-returns-in_err-ended-clause-fed g t c = λ xs took.
+pub feed_inner-returns-in_err-stopped-clause-fed : goal.feed_inner-returns-in_err-stopped-clause-fed
+feed_inner-returns-in_err-stopped-clause-fed g t c = λ xs took.
     let items = at_place c.args.values.now.origin (inner_values c.args.values.now.values) in
     let p = err_from_is_err_and c.from_residual.result c.from_residual.ensures.1 in
-    let fed_here = IsFed_next g.S.LongSink.has_taken c.args.first_stage (stages_of c.args.stages.now) c.args.env.now xs items c.loop-position.position c.item_at.result (Err c.in_err-ended.field-0.0) c.loop-position.sink c.feed.new.sink c.item_at.ensures (c.loop-position.invariant.1 xs took) c.in_err-ended.ensures.fed in
-    rw p.1 (IsFed_whole g.S.LongSink.has_taken c.args.first_stage (stages_of c.args.stages.now) c.args.env.now xs items (c.loop-position.position + 1) end.Done (Err c.in_err-ended.field-0.0) c.feed.new.sink (λ e. cc) fed_here)
+    let fed_here = IsFed_next g.S.LongSink.has_taken c.args.first_stage (stages_of c.args.stages.now) c.args.env.now xs items c.loop-position.position c.item_at.result (Err c.in_err-stopped.field-0.0) c.loop-position.sink c.feed.new.sink c.item_at.ensures (c.loop-position.invariant.1 xs took) c.in_err-stopped.ensures.fed in
+    rw p.1 (IsFed_whole g.S.LongSink.has_taken c.args.first_stage (stages_of c.args.stages.now) c.args.env.now xs items (c.loop-position.position + 1) end.Done (Err c.in_err-stopped.field-0.0) c.feed.new.sink (λ e. cc) fed_here)
 
 pub feed_inner-returns-clause-fed : goal.feed_inner-returns-clause-fed
 feed_inner-returns-clause-fed g t c = λ xs took.
