@@ -1,16 +1,16 @@
 -- A node that was armed above a path.
-use Rattle.std.proofs.Common.{◌≡◌, ◌≢◌, ℕ, zero, ◌+◌, ◌<◌, ◌≤◌, cond, List, [], ◌∷◌, ◌++◌, sym, ap, ◌∙◌, subst, arith, ne_eqb, Some, refl, take}
+use Rattle.std.proofs.Common.{◌≡◌, ℕ, ◌+◌, ◌<◌, List, [], ◌∷◌, ◌++◌, sym, ap, ◌∙◌, arith, Some, refl, take}
 use mathlib.Core.Logic.{dite}
 use native.Mathlib.Decide.{ℕ_discrete}
 use Rattle.completion_core.specs.Graph.{copies}
 use Rattle.completion_core.specs.Legal.{count}
 use Rattle.pending_count.specs.declared.view.View.{View}
-use Rattle.pending_count.specs.Views.{left_slot, right_slot, note_of, minus, sides_of, IsPlainAt}
+use Rattle.pending_count.specs.Views.{left_slot, right_slot, note_of, minus, IsPlainAt}
 use Rattle.pending_count.specs.Steps.{IsClaimed, IsArmed, drawn_node}
-use Rattle.pending_count.proofs.Sums.{one_at, total-append, at_here, at_else, here}
+use Rattle.pending_count.proofs.Sums.{one_at, total-append, at_here, at_else}
 use Rattle.pending_count.proofs.Records.{fresh-count, fresh_here}
-use Rattle.pending_count.proofs.Callers.{drawn_is, claim_held, claim_noted, claim_sides, claim_side_notes, claim_larger, arm_sides, arm_note, arm_note_else, arm_side_note, arm_side_note_else, no_sides_of}
-use Rattle.completer_tree.specs.Paths.{Keeps, KeepsNext, ArePlain, IsPath}
+use Rattle.pending_count.proofs.Callers.{drawn_is, claim_noted, claim_sides, claim_side_notes, claim_larger, arm_sides, arm_note, arm_note_else, arm_side_note, arm_side_note_else}
+use Rattle.completer_tree.specs.Paths.{KeepsNext, IsPath}
 
 module _ {S T : Type 0} {nodes k1 k2 : ℕ} (v0 v1 v2 : View T) (n node pending : ℕ) (onward : List ℕ) (claim : IsClaimed S nodes k1 v0 n v1) (drew : drawn_node nodes n ≡ Some node) (armed : IsArmed S nodes k2 node pending onward v1 v2)
     (plain : (k : ℕ) → count k v0.sides ≡ 0) where

@@ -1,18 +1,16 @@
 -- Walks of parts side by side.
-use Rattle.std.proofs.Common.{◌≡◌, ℕ, ℤ, zero, suc, ◌+◌, ◌-◌, ◌<◌, ◌≤◌, List, [], ◌∷◌, ◌++◌, take, drop, length, ap, sym, ◌∙◌, subst, refl, arith, Bool, true, false, Option, Some, None, inl, inr, ◌⊎◌}
+use Rattle.std.proofs.Common.{◌≡◌, ℕ, ℤ, zero, suc, ◌+◌, ◌-◌, ◌<◌, ◌≤◌, List, [], ◌∷◌, ◌++◌, take, drop, ap, sym, ◌∙◌, subst, refl, arith, Bool, false, Option, Some, None, inl, inr, ◌⊎◌}
 use Rattle.std.specs.Prelude.{Result, Ok, Err, int_lt, slice_index_or, pos}
 use Rattle.std.proofs.lemmas.Bool.{cases_lt}
 use Rattle.pending_count.specs.Pairs.{side_of}
-use Rattle.pending_count.specs.declared.place.Side.{Side}
-use Rattle.pending_count.specs.declared.place.Side.TheVariants.{Left, Right, Whole}
 use Rattle.completer_tree.specs.declared.part.Failure.{Failure}
 use Rattle.completer_tree.specs.declared.part.Failure.TheVariants as failed
 use Rattle.pending_count.specs.declared.place.Place.{Place}
-use Rattle.completer_tree.specs.Places.{Goes, leftmost, IsLeftmost, place_by}
+use Rattle.completer_tree.specs.Places.{Goes, leftmost, place_by}
 use Rattle.completer_tests.specs.declared.walks.Cut.{Cut}
 use Rattle.pending_count.proofs.Sums.{some_is}
 use Rattle.completer_tests.specs.WalkLaws.{walked_as}
-use Rattle.completer_tests.specs.Walks.{slice, begins, ends_at, IsClean, IsFirstNegative, Walked}
+use Rattle.completer_tests.specs.Walks.{slice, begins, ends_at, IsClean, Walked}
 
 abbrev nil : List ℤ
 nil = []

@@ -1,5 +1,5 @@
 -- Condition: what a walk has to have of a side of a node.
-use Rattle.std.specs.Prelude.{◌≡◌, ℕ, ℤ, ◌-◌, ◌≤◌, List, length}
+use Rattle.std.specs.Prelude.{ℕ, ℤ, ◌-◌, ◌≤◌, List, length}
 use Rattle.pending_count.specs.declared.place.Place.{Place}
 use Rattle.pending_count.specs.declared.place.Fits.{Ghosts}
 use Rattle.pending_count.specs.declared.counts.Counts.{Counts}

@@ -7,7 +7,7 @@ ghost use Rattle.pending_count.specs.declared.place.Side.TheVariants.{Whole};
 ghost use Rattle.completer_tree.specs.Trees.{table_id_of, CanFork};
 ghost use Rattle.completer_tree.specs.Roots.{Rooted};
 ghost use Rattle.completer_tests.specs.Halves.{CanWalk};
-ghost use Rattle.completer_tests.specs.Walks.{begins, ends_at, slice, IsClean, IsFirstNegative, Walked};
+ghost use Rattle.completer_tests.specs.Walks.{begins, ends_at, IsClean, IsFirstNegative, Walked};
 ghost use Rattle.completer_tests.specs.WalkLaws.{walked_as};
 
 use completer_tree::{

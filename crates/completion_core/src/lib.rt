@@ -9,7 +9,7 @@
 //! clauses `once`, `after_all` and `made_once` say that each node runs once, after all its arrivals.
 //!
 //! Begin with `specs/Graph.antt`, then `specs/Legal.antt`, `specs/Refusals.antt` and `stepping.rt`; what is stored, and which
-//! graphs it stands for, is in `graph.rt` and `specs/Book.antt`.
+//! graphs it stands for, is in `graph.rt` and `specs/Book.antt`. Tests are in the crate `completer_tests`.
 //! Not promised: that a last arrival ever comes.
 #![tactic(auto)]
 
