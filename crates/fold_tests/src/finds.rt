@@ -19,9 +19,9 @@ const OF_JAVA: [(&[i64], Option<i64>, [bool; 3]); 8] = [
     (&[2, 20, 3, 40], Some(2), [true, false, false]),
 ];
 
-const THE_TERMINAL: u32 = 1;
+pub const THE_STAGE: u32 = 1;
 
-const fn division_by_zero(stage: u32, origin: u64) -> Fault {
+pub const fn division_by_zero(stage: u32, origin: u64) -> Fault {
     Fault {
         kind: FaultKind::DivideByZero,
         stage,
@@ -30,7 +30,7 @@ const fn division_by_zero(stage: u32, origin: u64) -> Fault {
 }
 
 /// A test of a match.
-fn test(alloc: Global, text: &str) -> Result<BoolExpr, NoMemory> {
+pub fn test(alloc: Global, text: &str) -> Result<BoolExpr, NoMemory> {
     match read_lambda(alloc, text.as_bytes(), Want::Bool) {
         Ok(lambda) => match lambda.body {
             Body::Bool(test) => Ok(test),
@@ -51,7 +51,7 @@ fn terminals(alloc: Global, text: &str) -> Result<[FindTerminal; 4], NoMemory> {
 }
 
 /// The values at the places 0, 1, 2 and so on.
-fn items_of(alloc: Global, values: &[i64]) -> Result<Vec<Item>, NoMemory> {
+pub fn items_of(alloc: Global, values: &[i64]) -> Result<Vec<Item>, NoMemory> {
     (0..)
         .zip(values)
         .map(|(origin, value)| Item {
@@ -62,7 +62,7 @@ fn items_of(alloc: Global, values: &[i64]) -> Result<Vec<Item>, NoMemory> {
 }
 
 /// These items, and this end.
-fn chunk_of(alloc: Global, items: &[Item], end: End) -> Result<Chunk, NoMemory> {
+pub fn chunk_of(alloc: Global, items: &[Item], end: End) -> Result<Chunk, NoMemory> {
     let mut chunk = Chunk::ending(alloc, End::Done);
     for item in items {
         chunk.push(*item)?;
@@ -82,15 +82,15 @@ fn is_found(
 ) -> Result<bool, NoMemory> {
     let env = Env::empty(alloc);
     let items = items_of(alloc, values)?;
-    let mut finder = Finder::new(terminal, THE_TERMINAL, &env);
-    let mut same = feed_all(&[], THE_TERMINAL, &env, &items, &mut finder).is_ok();
+    let mut finder = Finder::new(terminal, THE_STAGE, &env);
+    let mut same = feed_all(&[], THE_STAGE, &env, &items, &mut finder).is_ok();
     same &= finder.part().finish() == expected;
     for cut in 0..items.len() + 1 {
         let (left, right) = items.as_slice().split_at(cut);
         let left = chunk_of(alloc, left, End::Done)?;
         let right = chunk_of(alloc, right, End::Done)?;
-        let left = FindPart::of(terminal, THE_TERMINAL, &left, &env);
-        let right = FindPart::of(terminal, THE_TERMINAL, &right, &env);
+        let left = FindPart::of(terminal, THE_STAGE, &left, &env);
+        let right = FindPart::of(terminal, THE_STAGE, &right, &env);
         same &= left.merge(right).finish() == expected;
     }
     Ok(same)
@@ -121,7 +121,7 @@ fn finds_and_matches_give_the_answers_of_java(rt: HostRuntime) -> Result<(), Fai
 fn the_first_item_that_decides_or_faults_gives_the_answer(rt: HostRuntime) -> Result<(), Fail> {
     let alloc = rt.alloc();
     let any = FindTerminal::AnyMatch(test(alloc, "x -> 10 / x > 1")?);
-    let fault = Err(division_by_zero(THE_TERMINAL, 0));
+    let fault = Err(division_by_zero(THE_STAGE, 0));
     assert!(rt; is_found(alloc, &any, &[5, 0], Ok(Found::Truth(true)))?);
     assert!(rt; is_found(alloc, &any, &[0, 5], fault)?);
     Ok(())
@@ -148,7 +148,7 @@ fn a_fault_of_the_walk_comes_after_its_items(rt: HostRuntime) -> Result<(), Fail
         Err(fault),
     ];
     for (terminal, answer) in terminals.iter().zip(answers) {
-        let part = FindPart::of(terminal, THE_TERMINAL, &chunk, &env);
+        let part = FindPart::of(terminal, THE_STAGE, &chunk, &env);
         assert!(rt; part.finish() == answer);
         let ended = FindPart::none(terminal, End::Fault(fault));
         assert!(rt; ended.merge(part).finish() == Err(fault));
