@@ -1,23 +1,21 @@
 -- What the reader of pieces answers at a place.
-use Rattle.std.proofs.Common.{◌≡◌, ℕ, zero, suc, ◌+◌, ◌-◌, ◌<◌, ◌≤◌, Bool, true, false, List, [], ◌∷◌, ◌++◌, length, drop, get_or, Some, None, refl, sym, ap, subst, ◌∙◌, arith, length-drop, length-take, length-append}
-use Rattle.std.specs.Prelude.{codes, slice_range, nat_eq, if◌then◌else◌}
+use Rattle.std.proofs.Common.{◌≡◌, ℕ, zero, suc, ◌+◌, ◌-◌, ◌<◌, ◌≤◌, Bool, true, false, List, [], ◌∷◌, ◌++◌, length, drop, get_or, Some, refl, sym, ap, subst, ◌∙◌, arith, length-drop, length-take, length-append}
+use Rattle.std.specs.Prelude.{slice_range, nat_eq, if◌then◌else◌}
 use Rattle.std.specs.Cmp.Lexicographic.{pointwise, same_text}
 use Rattle.std.proofs.lemmas.List.{drop_more, drop-drop}
-use Rattle.stream_tokens.specs.declared.symbol.Symbol.{Symbol}
 use Rattle.stream_tokens.specs.declared.symbol.Symbol.TheVariants as symbol
 use Rattle.lambda_expr.specs.Words.{Word, named, sign, bad, numeral, quoted, referred}
 use Rattle.job_language.specs.declared.operation.Operation.{Operation}
 use Rattle.job_language.specs.declared.operation.Operation.TheVariants as op
 use Rattle.job_language.specs.declared.operation.Role.TheVariants as role
 use Rattle.job_language.specs.declared.piece.Mark.{Mark}
-use Rattle.job_language.specs.declared.piece.Mark.TheVariants as mark
-use Rattle.job_language.specs.Table.{name_of, operation_of, operations, row_of, role_of}
+use Rattle.job_language.specs.Table.{name_of, operations, row_of, role_of}
 use Rattle.job_language.specs.Calls.{call_words, parts_words}
 use Rattle.job_language.specs.Splitting.{pieces, AreEnds, Completes, call_at, IsReadAs, IsNoCallOf}
-use Rattle.job_language.specs.Grammar.{Piece, call, begin_concat, owner, comma, close, dot, semicolon}
-use Rattle.job_language.specs.Shapes.{width, sign_piece, mark_of_symbol, is_open, operation_in, IsNoPiece, Begins, IsMarkOf}
-use Rattle.job_language.proofs.Names.{named_back, one_name}
-use Rattle.job_language.proofs.Piecing.{first_word, later_words, words_of_piece, not_owner, name_is, call_tail, completes}
+use Rattle.job_language.specs.Grammar.{call, begin_concat, owner}
+use Rattle.job_language.specs.Shapes.{width, sign_piece, is_open, operation_in, IsNoPiece, Begins, IsMarkOf}
+use Rattle.job_language.proofs.Names.{one_name}
+use Rattle.job_language.proofs.Piecing.{not_owner, name_is, call_tail, completes}
 
 pub front : (ws : List Word) (at : ℕ) → at < length ws → drop at ws ≡ get_or ws at bad ∷ drop (at + 1) ws
 front ws at lt = drop_more ws at bad lt
@@ -132,75 +130,6 @@ no_call_for o vs none_ n p rest k e = absurd cc
 pub begins_no_call : (ws : List Word) (at : ℕ) (o : Operation) → at + 1 < length ws → get_or ws at bad ≡ named (name_of o) → get_or ws (at + 1) bad ≡ sign symbol.Open → IsNoCallOf o (drop (at + 2) ws) → (role_of o ≡ role.Concatenation → ⊥) → IsNoPiece (drop at ws)
 begins_no_call ws at o lt name open_ none_ n =
     subst IsNoPiece (sym (front_two ws at lt ∙ ap (λ w. w ∷ get_or ws (at + 1) bad ∷ drop (at + 2) ws) name ∙ ap (λ w. named (name_of o) ∷ w ∷ drop (at + 2) ws) open_)) (no_call_for o (drop (at + 2) ws) none_ n)
-
--- a name of an operation without a parenthesis after it
-no_open_for : (o : Operation) (vs : List Word) → is_open (get_or vs 0 bad) ≡ false → IsNoPiece (named (name_of o) ∷ vs)
-no_open_for o vs h (call c) rest k e =
-    let f : sign symbol.Open ∷ (parts_words c.parts ++ sign symbol.Close ∷ rest) ≡ vs = let g : named (name_of c.operation) ∷ sign symbol.Open ∷ (parts_words c.parts ++ sign symbol.Close ∷ rest) ≡ named (name_of o) ∷ vs = sym (call_tail c rest) ∙ e in cc in
-    let b : true ≡ false = ap (λ v. is_open (get_or v 0 bad)) f ∙ h in
-    absurd cc
-no_open_for o vs h begin_concat rest k e =
-    let f : sign symbol.Open ∷ rest ≡ vs = cc in
-    let b : true ≡ false = ap (λ v. is_open (get_or v 0 bad)) f ∙ h in
-    absurd cc
-no_open_for o vs h owner rest k e = not_owner o (sym (name_is _ _ _ _ e))
-no_open_for o vs h p rest k e = absurd cc
-
-first_of : (vs : List Word) (at : ℕ) → get_or (drop at vs) 0 bad ≡ get_or vs at bad
-first_of vs zero = refl
-first_of [] (suc at) = refl
-first_of (v ∷ vs) (suc at) = first_of vs at
-
-pub begins_no_open : (ws : List Word) (at : ℕ) (o : Operation) → at < length ws → operation_in (get_or ws at bad) ≡ Some o → is_open (get_or ws (at + 1) bad) ≡ false → IsNoPiece (drop at ws)
-begins_no_open ws at o lt name h =
-    subst IsNoPiece (sym (front ws at lt ∙ ap (λ w. w ∷ drop (at + 1) ws) (names (get_or ws at bad) o name))) (no_open_for o (drop (at + 1) ws) (ap is_open (first_of ws (at + 1)) ∙ h))
-
--- a word by itself
-pub symbol_mark : (s : Symbol) (m : Mark) → mark_of_symbol s ≡ Some m → IsMarkOf (sign s) m
-symbol_mark symbol.Comma m h = let e : mark.Comma ≡ m = cc in subst (IsMarkOf (sign symbol.Comma)) e (record { spelled = refl; mark = refl; piece = tt })
-symbol_mark symbol.Close m h = let e : mark.Close ≡ m = cc in subst (IsMarkOf (sign symbol.Close)) e (record { spelled = refl; mark = refl; piece = tt })
-symbol_mark symbol.Dot m h = let e : mark.Dot ≡ m = cc in subst (IsMarkOf (sign symbol.Dot)) e (record { spelled = refl; mark = refl; piece = tt })
-symbol_mark symbol.Semicolon m h = let e : mark.Semicolon ≡ m = cc in subst (IsMarkOf (sign symbol.Semicolon)) e (record { spelled = refl; mark = refl; piece = tt })
-symbol_mark s m h = absurd cc
-
-sign_is : (s t : Symbol) (ws vs : List Word) → sign s ∷ ws ≡ sign t ∷ vs → s ≡ t
-sign_is s t ws vs h = cc
-
-pub no_symbol : (s : Symbol) (ws : List Word) → mark_of_symbol s ≡ None → IsNoPiece (sign s ∷ ws)
-no_symbol s ws h comma rest k e = let f : Some mark.Comma ≡ None = ap mark_of_symbol (sign_is symbol.Comma s _ _ e) ∙ h in absurd cc
-no_symbol s ws h close rest k e = let f : Some mark.Close ≡ None = ap mark_of_symbol (sign_is symbol.Close s _ _ e) ∙ h in absurd cc
-no_symbol s ws h dot rest k e = let f : Some mark.Dot ≡ None = ap mark_of_symbol (sign_is symbol.Dot s _ _ e) ∙ h in absurd cc
-no_symbol s ws h semicolon rest k e = let f : Some mark.Semicolon ≡ None = ap mark_of_symbol (sign_is symbol.Semicolon s _ _ e) ∙ h in absurd cc
-no_symbol s ws h p rest k e = absurd cc
-
-pub owner_mark : (w : List ℕ) → w ≡ codes "LongStream" → IsMarkOf (named w) mark.Owner
-owner_mark w h = record { spelled = ap (λ v. named v ∷ []) (sym h); mark = refl; piece = tt }
-
-pub no_name_piece : (w : List ℕ) (ws : List Word) → operation_of w ≡ None → (w ≡ codes "LongStream" → ⊥) → IsNoPiece (named w ∷ ws)
-no_name_piece w ws h n (call c) rest k e = let f : Some c.operation ≡ None = sym (named_back c.operation) ∙ ap operation_of (name_is (name_of c.operation) w _ _ e) ∙ h in absurd cc
-no_name_piece w ws h n begin_concat rest k e = let f : Some op.Concat ≡ None = ap operation_of (name_is (name_of op.Concat) w _ _ e) ∙ h in absurd cc
-no_name_piece w ws h n owner rest k e = n (sym (name_is (codes "LongStream") w _ _ e))
-no_name_piece w ws h n p rest k e = absurd cc
-
--- no other word begins a piece
-abbrev pub IsOther : Word → Type 0
-IsOther (named w) = ⊥
-IsOther (sign s) = ⊥
-IsOther w = Unit {0}
-
-first_not : (p : Piece) (w : Word) → IsOther w → first_word p ≡ w → ⊥
-first_not (call c) w o h = subst IsOther (sym h) o
-first_not begin_concat w o h = subst IsOther (sym h) o
-first_not owner w o h = subst IsOther (sym h) o
-first_not comma w o h = subst IsOther (sym h) o
-first_not close w o h = subst IsOther (sym h) o
-first_not dot w o h = subst IsOther (sym h) o
-first_not semicolon w o h = subst IsOther (sym h) o
-
-pub no_other : (w : Word) (ws : List Word) → IsOther w → IsNoPiece (w ∷ ws)
-no_other w ws o p rest k e =
-    let f : first_word p ∷ (later_words p ++ rest) ≡ w ∷ ws = ap (λ u. u ++ rest) (sym (words_of_piece p)) ∙ e in
-    first_not p w o cc
 
 pub width_last : (es : List ℕ) → 0 < length es → get_or es (length es - 1) 0 + 1 ≡ width es
 width_last [] h = absurd (omega arith)
