@@ -17,12 +17,14 @@ struct Part {
     to: u64,
 }
 
-/// Adds up numbers in pieces of at most ten, and counts how often each number was added.
+/// Adds up numbers in pieces of at most ten. Counts how often each number was added, and the tasks that another worker's
+/// `Idle` came with.
 #[derive(Drop)]
 struct Sum {
     total: AtomicU64,
     left: AtomicU64,
     times: Vec<AtomicU64>,
+    strays: AtomicU64,
 }
 
 impl Sum {
@@ -35,6 +37,7 @@ impl Sum {
             total: AtomicU64::new(0),
             left: AtomicU64::new(numbers),
             times,
+            strays: AtomicU64::new(0),
         })
     }
 
@@ -73,12 +76,15 @@ impl Work for Sum {
     fn run<R: Wait, G: Gate, S: Spawn<Part>>(
         &self,
         _rt: &R,
-        _worker: usize,
+        worker: usize,
         gate: &G,
         idle: Asked,
         task: Part,
         spawn: &mut S,
     ) -> Asked {
+        if worker != idle.worker {
+            self.strays.fetch_add(1, SeqCst);
+        }
         let Part { from, mut to } = task;
         for _ in 0..64 {
             let half = to.saturating_sub(from) / 2;
@@ -97,8 +103,8 @@ impl Work for Sum {
     }
 }
 
-// The sum of the numbers below 1,000 by this many workers: the sum, and whether each number was added once and worker 0
-// was the one that ended last.
+// The sum of the numbers below 1,000 by this many workers, and whether each number was added once, each worker kept its
+// own `Idle`, and that of worker 0 came back.
 fn sum_by<R: Threads + Wait + Sync>(
     rt: &R,
     alloc: Global,
@@ -117,7 +123,8 @@ fn sum_by<R: Threads + Wait + Sync>(
         return Ok((0, false));
     }
     let mine = run_pool(rt, alloc, &Open, &work, first, idle);
-    let once = work.added_each_once() && mine.worker == 0 && mine.last == 0;
+    let own = mine.worker == 0 && mine.last == 0 && work.strays.load(SeqCst) == 0;
+    let once = work.added_each_once() && own;
     Ok((work.total.load(SeqCst), once))
 }
 
