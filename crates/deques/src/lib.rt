@@ -6,7 +6,7 @@
 //! a take the oldest, and no task is handed out twice.
 //! Used by `worker_pool`, which cites `Owner::push`, clause `pushed`: a refused task comes back.
 //! Begin with `specs/Tasks.antt`, then `src/owner.rt`; docs/workers.md says what a worker does with them.
-//! Not promised: that a push succeeds, though the first 64 of an owner do, nor which of two threads gets a task.
+//! Not promised: that a push succeeds, though each among the first 64 calls of an owner does; who gets a task.
 //! Java SE 17: the work queues of `ForkJoinPool`.
 #![tactic(auto)]
 
