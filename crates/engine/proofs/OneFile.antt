@@ -44,7 +44,7 @@ one_reading (map a) (stage.map e) (stage.filter q) h k = absurd k
 one_reading (map a) (stage.map e) (stage.flat_map i) h k = absurd k
 one_reading (map a) (stage.filter p) t h k = absurd h
 one_reading (map a) (stage.flat_map i) t h k = absurd h
-one_reading (filter a) (stage.filter p) (stage.filter q) h k = let same = one_judgement a want.Bool (lambda.truth p) (lambda.truth q) h k in let inside : p ≡ q = cc in ap stage.filter inside
+one_reading (filter a) (stage.filter p) (stage.filter q) h k = let same = one_judgement a want.Bool (lambda.boolean p) (lambda.boolean q) h k in let inside : p ≡ q = cc in ap stage.filter inside
 one_reading (filter a) (stage.filter p) (stage.map f) h k = absurd k
 one_reading (filter a) (stage.filter p) (stage.flat_map i) h k = absurd k
 one_reading (filter a) (stage.map e) t h k = absurd h
@@ -63,7 +63,7 @@ one_refusal g NoMemory d h k = absurd h
 
 read_or_not : (g : StageShape) (s : StageTerm) (c : Cause) → IsReadAs g s → IsNotRead g c → ⊥
 read_or_not (map a) (stage.map e) (Expr f) h k = apart a want.Long (lambda.long e) f h k.0 k.1
-read_or_not (filter a) (stage.filter p) (Expr f) h k = apart a want.Bool (lambda.truth p) f h k.0 k.1
+read_or_not (filter a) (stage.filter p) (Expr f) h k = apart a want.Bool (lambda.boolean p) f h k.0 k.1
 read_or_not (map a) (stage.filter p) c h k = h
 read_or_not (filter a) (stage.map e) c h k = h
 read_or_not (map a) (stage.flat_map i) c h k = h

@@ -66,7 +66,7 @@ want_of (filter a) = want.Bool
 -- the stage whose argument is this expression
 abbrev pub IsReadAs : StageShape → StageTerm → Type 0
 IsReadAs (map a) (stage.map e) = lambda.Judged a want.Long (Ok (lambda.long e))
-IsReadAs (filter a) (stage.filter p) = lambda.Judged a want.Bool (Ok (lambda.truth p))
+IsReadAs (filter a) (stage.filter p) = lambda.Judged a want.Bool (Ok (lambda.boolean p))
 IsReadAs g s = ⊥
 
 -- the argument of the stage is no lambda of its want

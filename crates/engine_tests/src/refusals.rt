@@ -69,8 +69,8 @@ s = of(1).map(x -> 9223372036854775808).sum() => literal too large
 s = of(1).map(x -> x +).sum() => expression syntax at column 9
 s = of(1).map(x -> x + ).sum() => expression syntax at column 10
 s = of(1).map( x - 1).sum() => expression syntax at column 4
-s = of(1).map((x) -> x).sum() => expression syntax at column 1
-s = of(1).map(x -> x & 1).sum() => expression syntax at column 8
+s = of(1).map((x, y) -> x).sum() => expression syntax at column 3
+s = of(1).map(x -> x & & 1).sum() => expression syntax at column 10
 s = of(1).map(x -> x < 1).sum() => wrong type
 s = of(1).filter(x -> x).sum() => wrong type
 s = of(1).filter(x -> x).map(x -> y).sum() => wrong type

@@ -3,10 +3,12 @@ use Rattle.std.proofs.Common.{◌≡◌, ℕ, ◌+◌, ◌<◌, ◌≤◌, Bool,
 use Rattle.stream_tokens.specs.declared.symbol.Symbol.TheVariants as symbol
 use Rattle.lambda_expr.specs.Words.{Word, numeral, sign, bad}
 use Rattle.lambda_expr.specs.Numerals.{is_numeral}
-use Rattle.lambda_expr.specs.Grammar.{Begins, StopsAt}
+use Rattle.lambda_expr.specs.Stops.{Begins, StopsAt}
 use Rattle.lambda_expr.specs.Numbers.{Number, plain, negative, IsNumber, ANumber}
 use Rattle.lambda_expr.specs.NumberReading.{number_of, HasSign, HasNumeral, IsNoNumeral}
-use Rattle.lambda_expr.proofs.Turning.{zero_word}
+
+abbrev zero_word : List ℕ
+zero_word = 48 ∷ []
 
 abbrev minus : Word
 minus = sign symbol.Minus

@@ -7,11 +7,12 @@ use Rattle.lambda_expr.specs.declared.fault.ReadFault.{ReadFault}
 use Rattle.lambda_expr.specs.declared.fault.ReadFault.TheVariants as fault
 use Rattle.lambda_expr.specs.declared.lambda.Want.{Want}
 use Rattle.lambda_expr.specs.declared.lambda.Lambda.{Lambda}
-use Rattle.lambda_expr.specs.Words.{words_of}
-use Rattle.lambda_expr.specs.Grammar.{IsLambda, ALambda, StopsAt}
+use Rattle.lambda_expr.specs.Lexemes.{lexemes_of}
+use Rattle.lambda_expr.specs.Stops.{StopsAt}
+use Rattle.lambda_expr.specs.Heads.{ALambda, IsLambda, parameter_of}
 use Rattle.lambda_expr.specs.Refusals.{Typed, verdict, Judged, IsNoLambda, HasTooManyTokens, column, body_of, Spells, IsRefused}
 use Rattle.lambda_expr.proofs.Only.{one_place}
-use Rattle.lambda_expr.proofs.Unique.{one_lambda}
+use Rattle.lambda_expr.proofs.Lambdas.{one_lambda}
 
 -- what a text gives, memory aside
 pub data Outcome (text : List ℕ) (want : Want) (r : Result Typed ReadFault) : Type 0 where
@@ -31,22 +32,22 @@ few_or_many text ts cut few m =
 in_or_out : (text : List ℕ) (want : Want) (r : Result Typed ReadFault) (at : ℕ) → Judged text want r → IsNoLambda text at → ⊥
 in_or_out text want r at j n =
     let ts = j.2.tokens in
-    let out = subst (λ us. ALambda (words_of text us) → ⊥) (one_cut text n.tokens ts n.cut j.2.cut) n.stops.outside in
+    let out = subst (λ us. ALambda (lexemes_of text us) → ⊥) (one_cut text n.tokens ts n.cut j.2.cut) n.stops.outside in
     out (j.0, j.1, j.2.lambda)
 
 one_column : (text : List ℕ) (a b : ℕ) → IsNoLambda text a → IsNoLambda text b → a ≡ b
 one_column text a b m n =
     let same : n.tokens ≡ m.tokens = one_cut text n.tokens m.tokens n.cut m.cut in
-    let there = subst (λ us. StopsAt ALambda (words_of text us) n.place) same n.stops in
-    let place : m.place ≡ n.place = one_place ALambda (words_of text m.tokens) m.place n.place m.stops there in
+    let there = subst (λ us. StopsAt ALambda (lexemes_of text us) n.place) same n.stops in
+    let place : m.place ≡ n.place = one_place ALambda (lexemes_of text m.tokens) m.place n.place m.stops there in
     m.here ∙ ap (column text m.tokens) place ∙ ap (λ us. column text us n.place) (sym same) ∙ sym n.here
 
 one_judgement : (text : List ℕ) (want : Want) (r s : Result Typed ReadFault) → Judged text want r → Judged text want s → r ≡ s
 one_judgement text want r s j k =
     let same : k.2.tokens ≡ j.2.tokens = one_cut text k.2.tokens j.2.tokens k.2.cut j.2.cut in
-    let there = subst (λ us. IsLambda (words_of text us) k.0 k.1) same k.2.lambda in
-    let one = one_lambda (words_of text j.2.tokens) j.0 k.0 j.1 k.1 j.2.lambda there in
-    sym j.3 ∙ ap (λ p. verdict want p j.1) one.0 ∙ ap (verdict want k.0) one.1 ∙ k.3
+    let there = subst (λ us. IsLambda (lexemes_of text us) k.0 k.1) same k.2.lambda in
+    let one = one_lambda (lexemes_of text j.2.tokens) j.0 k.0 j.1 k.1 j.2.lambda there in
+    sym j.3 ∙ ap (λ p. verdict want (parameter_of p) j.1) one.0 ∙ ap (verdict want (parameter_of k.0)) one.1 ∙ k.3
 
 pub one_outcome : (text : List ℕ) (want : Want) (r s : Result Typed ReadFault) → Outcome text want r → Outcome text want s → r ≡ s
 one_outcome text want r s (many m e) (many n f) = e ∙ sym f
@@ -59,7 +60,7 @@ one_outcome text want r s (judged j) (many m f) = absurd (few_or_many text j.2.t
 one_outcome text want r s (judged j) (outside at n f) = absurd (in_or_out text want r at j n)
 one_outcome text want r s (judged j) (judged k) = one_judgement text want r s j k
 
--- a refusal is an outcome, want of memory apart
+-- a refusal is an outcome, being out of memory apart
 outcome_of : (text : List ℕ) (want : Want) (f : ReadFault) → IsRefused text want f → f ≢ fault.NoMemory → Outcome text want (Err f)
 outcome_of text want (fault.Syntax at) h n = outside at h refl
 outcome_of text want fault.TooDeep (inl m) n = many m refl
@@ -82,7 +83,7 @@ same_refusal text want f g h k n m =
 apart : (text : List ℕ) (want : Want) (l : Lambda) (f : ReadFault) → Spells text want l → Outcome text want (Err f) → ⊥
 apart text want l f h o = let e = one_outcome text want (Ok (body_of l.body)) (Err f) (judged h) o in cc
 
--- what spells a lambda is refused for want of memory alone
+-- what spells a lambda is refused for being out of memory alone
 pub only_memory : (text : List ℕ) (want : Want) (l : Lambda) (f : ReadFault) → Spells text want l → IsRefused text want f → f ≡ fault.NoMemory
 only_memory text want l (fault.Syntax at) h k = absurd (apart text want l (fault.Syntax at) h (outcome_of text want (fault.Syntax at) k (λ e. cc)))
 only_memory text want l fault.TooDeep h k = absurd (apart text want l fault.TooDeep h (outcome_of text want fault.TooDeep k (λ e. cc)))

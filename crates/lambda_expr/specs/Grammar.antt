@@ -1,90 +1,112 @@
--- Meaning: the grammar of lambdas, apart from any reader.
-use Rattle.std.specs.Prelude.{◌≡◌, ℕ, suc, ◌+◌, ◌<◌, ◌≤◌, Bool, true, false, ◌||◌, nat_eq, List, [], ◌∷◌, ◌++◌, length, take, codes}
-use Rattle.std.specs.Cmp.Lexicographic.{pointwise}
-use Rattle.stream_tokens.specs.declared.symbol.Symbol.{Symbol}
-use Rattle.stream_tokens.specs.declared.symbol.Symbol.TheVariants as symbol
-use Rattle.lambda_expr.specs.declared.operator.Infix.{Infix}
-use Rattle.lambda_expr.specs.declared.operator.Infix.TheVariants as infix_operator
-use Rattle.lambda_expr.specs.Words.{Word, named, numeral, sign}
-use Rattle.lambda_expr.specs.Numerals.{is_numeral}
+-- Meaning: the grammar of expressions, apart from any reader.
+use Rattle.std.specs.Prelude.{◌≡◌, ℕ, suc, ◌≤◌, Bool, true, false, List, [], ◌∷◌, ◌++◌}
+use Rattle.lambda_expr.specs.declared.sign.Sign.{Sign}
+use Rattle.lambda_expr.specs.declared.sign.Sign.TheVariants as sign
+use Rattle.lambda_expr.specs.declared.lexeme.Owner.TheVariants.{Long}
+use Rattle.lambda_expr.specs.declared.step.Opening.{Opening}
+use Rattle.lambda_expr.specs.declared.step.Opening.TheVariants.{Paren, Call}
+use Rattle.lambda_expr.specs.declared.lexeme.Lexeme.{Lexeme}
+use Rattle.lambda_expr.specs.declared.lexeme.Lexeme.TheVariants as word
+use Rattle.lambda_expr.specs.declared.lexeme.Name.{Name}
+use Rattle.lambda_expr.specs.declared.lexeme.PlainName.{PlainName}
+use Rattle.lambda_expr.specs.declared.lexeme.Name.TheVariants.{Plain, Owner, Truth}
+use Rattle.lambda_expr.specs.declared.step.Step.{Step}
+use Rattle.lambda_expr.specs.declared.step.Step.TheVariants as step
 
--- an expression as it is written, parentheses and all
+-- an expression as it is written; operands of a call hang together by commas
 pub data Shape : Type 0 where
-  name : List ℕ → Shape
-  number : List ℕ → Shape
-  group : Shape → Shape
-  negate : Shape → Shape
-  between : Infix → Shape → Shape → Shape
+  name : PlainName → Shape
+  number : ℕ → Shape
+  truth : Bool → Shape
+  constant : Name → Shape
+  prefix : Sign → Shape → Shape
+  binary : Sign → Shape → Shape → Shape
+  ternary : Shape → Shape → Shape → Shape
+  enclosed : Opening → Shape → Shape
 
--- how tightly an operator binds, as in JLS 17, 15.17 to 15.21
-abbrev pub level : Infix → ℕ
-level infix_operator.Equal = 7
-level infix_operator.NotEqual = 7
-level infix_operator.Less = 8
-level infix_operator.AtMost = 8
-level infix_operator.More = 8
-level infix_operator.AtLeast = 8
-level infix_operator.Add = 10
-level infix_operator.Subtract = 10
-level infix_operator.Multiply = 11
-level infix_operator.Divide = 11
-level infix_operator.Remainder = 11
+-- how tightly a sign binds; level 0 is the comma's, level 1 that of `? :`
+abbrev pub level : Sign → ℕ
+level sign.Comma = 0
+level sign.Or = 2
+level sign.And = 3
+level sign.BitOr = 4
+level sign.BitXor = 5
+level sign.BitAnd = 6
+level sign.Equal = 7
+level sign.NotEqual = 7
+level sign.Less = 8
+level sign.AtMost = 8
+level sign.More = 8
+level sign.AtLeast = 8
+level sign.ShiftLeft = 9
+level sign.ShiftRight = 9
+level sign.ShiftRightUnsigned = 9
+level sign.Add = 10
+level sign.Subtract = 10
+level sign.Multiply = 11
+level sign.Divide = 11
+level sign.Remainder = 11
+level sign.Complement = 2
+level sign.Not = 2
 
--- how an operator is written (JLS 17, 3.12)
-abbrev pub symbol_of : Infix → Symbol
-symbol_of infix_operator.Equal = symbol.Equal
-symbol_of infix_operator.NotEqual = symbol.NotEqual
-symbol_of infix_operator.Less = symbol.Less
-symbol_of infix_operator.AtMost = symbol.AtMost
-symbol_of infix_operator.More = symbol.More
-symbol_of infix_operator.AtLeast = symbol.AtLeast
-symbol_of infix_operator.Add = symbol.Plus
-symbol_of infix_operator.Subtract = symbol.Minus
-symbol_of infix_operator.Multiply = symbol.Star
-symbol_of infix_operator.Divide = symbol.Slash
-symbol_of infix_operator.Remainder = symbol.Percent
+abbrev pub is_infix : Sign → Bool
+is_infix sign.Complement = false
+is_infix sign.Not = false
+is_infix s = true
 
--- a word that no parameter is named by
-abbrev pub is_reserved : List ℕ → Bool
-is_reserved w =
-    pointwise nat_eq w (codes "Math") || pointwise nat_eq w (codes "Long") || pointwise nat_eq w (codes "LongStream")
-    || pointwise nat_eq w (codes "long") || pointwise nat_eq w (codes "true") || pointwise nat_eq w (codes "false")
+abbrev pub is_prefix : Sign → Bool
+is_prefix sign.Subtract = true
+is_prefix sign.Add = true
+is_prefix sign.Complement = true
+is_prefix sign.Not = true
+is_prefix s = false
+
+-- the words of an opening, and the level of what stands in it: commas stand in calls alone
+abbrev pub opening : Opening → List Lexeme
+opening Paren = word.Open ∷ []
+opening (Call o i) = word.Name (Owner o) ∷ word.Dot ∷ word.Name i ∷ word.Open ∷ []
+
+abbrev pub inside : Opening → ℕ
+inside Paren = 1
+inside (Call o i) = 0
 
 -- the words of an expression, from left to right
-abbrev pub spells : Shape → List Word
-spells (name w) = named w ∷ []
-spells (number w) = numeral w ∷ []
-spells (group a) = sign symbol.Open ∷ (spells a ++ sign symbol.Close ∷ [])
-spells (negate a) = sign symbol.Minus ∷ spells a
-spells (between o a b) = spells a ++ sign (symbol_of o) ∷ spells b
+abbrev pub spells : Shape → List Lexeme
+spells (name i) = word.Name (Plain i) ∷ []
+spells (number i) = word.Number i ∷ []
+spells (truth i) = word.Name (Truth i) ∷ []
+spells (constant i) = word.Name (Owner Long) ∷ word.Dot ∷ word.Name i ∷ []
+spells (prefix s a) = word.Sign s ∷ spells a
+spells (binary s a b) = spells a ++ word.Sign s ∷ spells b
+spells (ternary c p q) = spells c ++ word.Question ∷ (spells p ++ word.Colon ∷ spells q)
+spells (enclosed o a) = opening o ++ (spells a ++ word.Close ∷ [])
 
--- the expression may stand where one of this level is wanted: operators group to the left, and what binds more
--- weakly stands in parentheses
+-- the expression may stand where one of this level is wanted: signs group to the left, `? :` to the right
 abbrev pub Binds : ℕ → Shape → Type 0
-Binds n (name w) = is_reserved w ≡ false
-Binds n (number w) = is_numeral w ≡ true
-Binds n (group a) = Binds 1 a
-Binds n (negate a) = (n ≤ 12) × Binds 12 a
-Binds n (between o a b) = (n ≤ level o) × Binds (level o) a × Binds (suc (level o)) b
+Binds n (name i) = Unit {0}
+Binds n (number i) = Unit {0}
+Binds n (truth i) = Unit {0}
+Binds n (constant i) = Unit {0}
+Binds n (prefix s a) = (n ≤ 12) × (is_prefix s ≡ true) × Binds 12 a
+Binds n (binary s a b) = (n ≤ level s) × (is_infix s ≡ true) × Binds (level s) a × Binds (suc (level s)) b
+Binds n (ternary c p q) = (n ≤ 1) × Binds 2 c × Binds 1 p × Binds 1 q
+Binds n (enclosed o a) = Binds (inside o) a
 
--- the words are this lambda: its parameter, an arrow and its body (JLS 17, 15.27)
-pub record IsLambda (ws : List Word) (parameter : List ℕ) (body : Shape) : Type 0 where
-  pub free : is_reserved parameter ≡ false
-  pub binds : Binds 1 body
-  pub spelled : named parameter ∷ sign symbol.Arrow ∷ spells body ≡ ws
+-- the words are this expression
+pub record IsExpression (ws : List Lexeme) (e : Shape) : Type 0 where
+  pub binds : Binds 1 e
+  pub spelled : spells e ≡ ws
 
--- the words are a lambda
-abbrev pub ALambda : List Word → Type 0
-ALambda ws = (parameter : List ℕ) × (body : Shape) × IsLambda ws parameter body
+abbrev pub Expression : List Lexeme → Type 0
+Expression ws = (e : Shape) × IsExpression ws e
 
--- some text of a grammar begins with these words
-abbrev pub Begins : (List Word → Type 0) → List Word → Type 0
-Begins G ws = (more : List Word) × G (ws ++ more)
-
--- the words are no text of a grammar, and n is the place of the first word such that no text of the grammar
--- begins with the words up to and with it; where there is no such word, n is how many words there are
-pub record StopsAt (G : List Word → Type 0) (ws : List Word) (n : ℕ) : Type 0 where
-  pub within : n ≤ length ws
-  pub outside : G ws → ⊥
-  pub begins : Begins G (take n ws)
-  pub stops : n < length ws → Begins G (take (n + 1) ws) → ⊥
+-- the steps of an expression, each operand before what it is an operand of
+abbrev pub postfix : Shape → List Step
+postfix (name i) = step.Name i ∷ []
+postfix (number i) = step.Number i ∷ []
+postfix (truth i) = step.Truth i ∷ []
+postfix (constant i) = step.Constant i ∷ []
+postfix (prefix s a) = postfix a ++ step.Prefix s ∷ []
+postfix (binary s a b) = postfix a ++ (postfix b ++ step.Binary s ∷ [])
+postfix (ternary c p q) = postfix c ++ (postfix p ++ (postfix q ++ step.Ternary ∷ []))
+postfix (enclosed o a) = postfix a ++ step.Enclose o ∷ []

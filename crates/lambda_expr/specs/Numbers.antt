@@ -7,7 +7,7 @@ use Rattle.lambda_expr.specs.declared.fault.ReadFault.{ReadFault}
 use Rattle.lambda_expr.specs.declared.fault.ReadFault.TheVariants as fault
 use Rattle.lambda_expr.specs.Words.{Word, numeral, sign, words_of}
 use Rattle.lambda_expr.specs.Numerals.{numeral_value, is_numeral}
-use Rattle.lambda_expr.specs.Grammar.{StopsAt}
+use Rattle.lambda_expr.specs.Stops.{StopsAt}
 use Rattle.lambda_expr.specs.Refusals.{column}
 
 -- a number as it is written: a numeral, or a minus and a numeral

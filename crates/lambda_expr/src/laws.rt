@@ -4,22 +4,25 @@
 ghost use Rattle.lambda_expr.specs.declared.fault.ReadFault.{ReadFault};
 ghost use Rattle.lambda_expr.specs.declared.lambda.Lambda.{Lambda};
 ghost use Rattle.lambda_expr.specs.declared.lambda.Want.{Want};
-ghost use Rattle.lambda_expr.specs.Grammar.{ALambda, IsLambda, Shape, StopsAt};
+ghost use Rattle.lambda_expr.specs.declared.head.Head.{Head as head};
+ghost use Rattle.lambda_expr.specs.declared.lexeme.Lexeme.{Lexeme as word};
+ghost use Rattle.lambda_expr.specs.Grammar.{Shape};
+ghost use Rattle.lambda_expr.specs.Heads.{ALambda, IsLambda};
+ghost use Rattle.lambda_expr.specs.Stops.{StopsAt};
 ghost use Rattle.lambda_expr.specs.Numbers.{IsNumberRefused, SpellsNumber};
 ghost use Rattle.lambda_expr.specs.Refusals.{IsRefused, Spells, body_of};
-ghost use Rattle.lambda_expr.specs.Words.{Word};
 ghost use Rattle.std.specs.Prelude.{◌≡◌, ◌≢◌, ℕ, ℤ, List};
 ghost use Rattle.stream_tokens.specs.declared.token.Token.{Token};
 
 /// Words are one lambda at most.
 pub fn one_reading()
-    ensures { (ws : List Word) (p q : List ℕ) (e f : Shape) →
+    ensures { (ws : List word) (p q : head) (e f : Shape) →
         IsLambda ws p e → IsLambda ws q f → (p ≡ q) × (e ≡ f) }
 {}
 
 /// Words stop being the beginning of a lambda at one place at most.
 pub fn one_stop()
-    ensures { (ws : List Word) (m n : ℕ) → StopsAt ALambda ws m → StopsAt ALambda ws n → m ≡ n }
+    ensures { (ws : List word) (m n : ℕ) → StopsAt ALambda ws m → StopsAt ALambda ws n → m ≡ n }
 {}
 
 /// A text spells one lambda at most, is refused for one thing at most, and not both, want of memory

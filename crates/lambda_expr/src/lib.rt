@@ -1,34 +1,40 @@
 //! Lambdas over numbers of 64 bits: reading them from texts, and the value of each at an item.
 //!
 //! It stands on `stream_tokens`, which cuts a text into tokens. Its users:
-//! - the reader of job files reads lambdas and numbers by `read_lambda` and `read_number`, clauses
+//! - the readers of job files read lambdas and numbers by `read_lambda` and `read_number`, clauses
 //!   `ok` and `refused`: a text gives the lambda that it spells, or the first refusal that applies, a
 //!   syntax fault with its column. `one_answer` and `one_number` say that there is no other answer;
-//! - `trace` evaluates by `LongExpr::eval` and `BoolExpr::eval`: the value over whole numbers without
-//!   bound, cut to 64 bits where Java does it (JLS 17, chapter 15), or the first fault from left to
-//!   right.
+//! - `trace` evaluates by `LongExpr::eval`, `BoolExpr::eval` and `InnerExpr::eval`: the value over
+//!   unbounded integers, cut to 64 bits where Java does it (JLS 17, chapter 15), or the first fault
+//!   from left to right.
 //!
 //! Begin with `specs/Grammar.antt` and `specs/Refusals.antt`, then `read.rt` and `parse.rt`; for
-//! values with `specs/Value.antt`, then `expr.rt`.
+//! values with `specs/Operators.antt` and `specs/Value.antt`, then `expr.rt`.
 //!
-//! Not promised: that memory is there, that an expression nested without limit fits the stack (what
-//! `read_lambda` gives is at most 64 deep), and how fast an expression is evaluated.
+//! Not promised: that memory is there, that an expression that is nested without limit fits the stack
+//! (what `read_lambda` gives is at most 64 deep; reading recurses nowhere), and how fast an expression
+//! is evaluated.
 #![tactic(auto)]
 
+mod check;
+mod elaborate;
 mod env;
 mod expr;
 mod fault;
+mod head;
 mod inner;
-mod judge;
 mod lambda;
 mod laws;
+mod lexeme;
 mod number;
 mod operands;
 mod operator;
 mod parse;
 mod read;
 mod run;
-mod tree;
+mod sign;
+mod step;
+mod table;
 mod wrapping;
 
 pub use env::{Env, NamedNumber};

@@ -2,9 +2,9 @@
 
 ghost use Rattle.lambda_expr.specs.Numbers.{ANumber, IsNumber, IsNumberRefused, SpellsNumber, number_value};
 ghost use Rattle.lambda_expr.specs.NumberReading.{HasNumeral, HasSign, IsNoNumeral, number_of};
-ghost use Rattle.lambda_expr.specs.Grammar.{StopsAt};
-ghost use Rattle.lambda_expr.specs.Numerals.{numeral_value};
-ghost use Rattle.lambda_expr.specs.Reading.{StandIn};
+ghost use Rattle.lambda_expr.specs.Stops.{StopsAt};
+ghost use Rattle.lambda_expr.specs.Numerals.{is_numeral, numeral_value};
+ghost use Rattle.lambda_expr.specs.Tokens.{StandIn};
 ghost use Rattle.lambda_expr.specs.Words.{words_of};
 ghost use Rattle.std.specs.Option.{SomeIff};
 ghost use Rattle.std.specs.Prelude.{◌≡◌, ◌≤◌, FitsSigned, IfErr, IfOk, MatchOption, length, min};
@@ -13,8 +13,18 @@ ghost use Rattle.stream_tokens.specs.Tokens.{StandInOrder};
 
 use super::fault::ReadFault;
 use super::read::column_of;
-use super::tree::may_stand;
 use stream_tokens::{Symbol, Token, TokenKind};
+
+/// Whether a number of these bytes may stand in a grammar: two or more digits don't begin with 0.
+pub(crate) fn may_stand(number: &[u8]) -> bool
+    ensures { result ≡ is_numeral number.now }
+{
+    match number {
+        [] => false,
+        [b'0', second, ..] => !second.is_ascii_digit(),
+        _ => true,
+    }
+}
 
 /// A number as it is written.
 #[derive(Clone, Copy)]

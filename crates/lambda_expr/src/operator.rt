@@ -1,6 +1,5 @@
 //! The operators of expressions, grouped by their operands and by the type of their result.
 
-ghost use Rattle.lambda_expr.specs.Operation.{operation_of};
 ghost use Rattle.lambda_expr.specs.Operators.{binary_value, comparison_value, exact, floor_quotient, quotient, remainder, unary_value};
 ghost use Rattle.lambda_expr.specs.Operators.{floor_remainder, is_opposite, low_six_bits, rounded_down, shifted_left, shifted_right, shifted_right_unsigned};
 ghost use Rattle.lambda_expr.specs.Wrap.{wrap};
@@ -231,46 +230,21 @@ impl Comparison {
     }
 }
 
-/// An operator between two operands, as it is written.
-#[derive(Clone, Copy, PartialEq, Eq)]
-pub enum Infix {
-    Equal,
-    NotEqual,
-    Less,
-    AtMost,
-    More,
-    AtLeast,
-    Add,
-    Subtract,
-    Multiply,
-    Divide,
-    Remainder,
-}
-
-/// What an operator between two operands does.
-#[derive(Clone, Copy, PartialEq, Eq)]
+/// What a sign between two operands does.
+#[derive(Clone, Copy)]
 pub(crate) enum Operation {
     Compute(BinaryOperator),
     Compare(Comparison),
+    Connect(Connective),
+    /// A comma separates two operands.
+    Separate,
+    /// Nothing: the sign stands before an operand only.
+    Nothing,
 }
 
-impl Infix {
-    /// What the operator does.
-    pub(crate) fn operation(self) -> Operation
-        ensures { result ≡ operation_of self }
-    {
-        match self {
-            Infix::Equal => Operation::Compare(Comparison::Equal),
-            Infix::NotEqual => Operation::Compare(Comparison::NotEqual),
-            Infix::Less => Operation::Compare(Comparison::Less),
-            Infix::AtMost => Operation::Compare(Comparison::AtMost),
-            Infix::More => Operation::Compare(Comparison::More),
-            Infix::AtLeast => Operation::Compare(Comparison::AtLeast),
-            Infix::Add => Operation::Compute(BinaryOperator::Add),
-            Infix::Subtract => Operation::Compute(BinaryOperator::Subtract),
-            Infix::Multiply => Operation::Compute(BinaryOperator::Multiply),
-            Infix::Divide => Operation::Compute(BinaryOperator::Divide),
-            Infix::Remainder => Operation::Compute(BinaryOperator::Remainder),
-        }
-    }
+/// A method of `Math` or `Long`.
+#[derive(Clone, Copy)]
+pub(crate) enum Function {
+    Unary(UnaryOperator),
+    Binary(BinaryOperator),
 }

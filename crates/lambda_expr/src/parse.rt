@@ -1,29 +1,50 @@
-// The reader of lambdas: one turn for each token, with a stack of what waits for its right operand.
+//! The reader of expressions: one turn for each lexeme, with a stack of what waits for its right operand.
 
-ghost use Rattle.std.specs.Prelude.{◌≡◌, ◌≢◌, ℕ, ◌≤◌, ◌<◌, ◌^◌, List, [], ◌∷◌, take, length, OnOk, IfOk, IfErr, true, false, All};
-ghost use Rattle.lambda_expr.specs.Grammar.{Binds, ALambda};
-ghost use Rattle.stream_tokens.specs.declared.symbol.Symbol.TheVariants as symbol;
-ghost use Rattle.lambda_expr.specs.Reading.{Joins, Ordered, Stands, StandIn, Starts, Follows, Turns, Answers, HasHead, IsStop, LambdaAnswers, shape_of, frames_of, held_of, wanted_level, paren};
-ghost use Rattle.lambda_expr.specs.Words.{words_of, word_of, word_for, sign};
+ghost use Rattle.std.specs.Prelude.{◌≡◌, ◌<◌, ◌≤◌, ℕ, List, [], ◌∷◌, IfOk, IfErr};
+ghost use Rattle.lambda_expr.specs.declared.step.Step.{Step as step};
+ghost use Rattle.lambda_expr.specs.declared.parse.Pending.{Pending as pending};
+ghost use Rattle.lambda_expr.specs.Grammar.{Expression, level};
+ghost use Rattle.lambda_expr.specs.Reader.{read, joins, takes, operates, asks, answers, shuts, follows, starts, called};
+ghost use Rattle.lambda_expr.specs.Codes.{reduced, state_of, top_of, IsAt, IsCoded, IsSettled, Turns, frames_of, run, ArePostfix, IsStop};
 ghost use Rattle.lambda_expr.specs.declared.parse.Stop.TheVariants.{NoMemory};
 
-use super::operator::Infix;
-use super::tree::{Pending, Tree, Written, is_reserved_name, may_stand};
+use super::lexeme::{Lexeme, Name, Owner};
+use super::sign::Sign;
+use super::step::{Opening, Step};
 use std::alloc::{AllocError, AllocFailed, Global};
 use std::collections::LinkedList;
-use stream_tokens::{Symbol, Token, TokenKind};
 
-/// Why tokens were not read.
-#[derive(Clone, Copy, Debug, PartialEq, Eq)]
+/// What waits for the operand to its right. Its other operands were written already.
+#[derive(Clone, Copy)]
+pub(crate) enum Pending {
+    Opened(Opening),
+    Signed(Sign),
+    Left(Sign),
+    Question,
+    Colon,
+}
+
+/// What stands after what waits.
+#[derive(Clone, Copy)]
+pub(crate) enum Held {
+    Nothing,
+    Whole,
+    Owner(Owner),
+    OwnerDot(Owner),
+    Callee(Owner, Name),
+}
+
+/// Why words were not read.
+#[derive(Clone, Copy)]
 pub(crate) enum Stop {
-    /// They stop being the beginning of a text of the grammar at this token.
+    /// They stop being the beginning of a text of the grammar at this place.
     At(usize),
-    /// A growth was refused.
+    /// An allocation failed.
     NoMemory,
 }
 
 impl From<AllocError> for Stop {
-    ghost from_gives = { λ _ stop. stop ≡ NoMemory };
+    ghost from_gives = { λ _ e. e ≡ NoMemory };
 
     fn from(_error: AllocError) -> Stop {
         Stop::NoMemory
@@ -31,244 +52,278 @@ impl From<AllocError> for Stop {
 }
 
 impl<T: Drop> From<AllocFailed<T>> for Stop {
-    ghost from_gives = { λ _ stop. stop ≡ NoMemory };
+    ghost from_gives = { λ _ e. e ≡ NoMemory };
 
     fn from(_error: AllocFailed<T>) -> Stop {
         Stop::NoMemory
     }
 }
 
-// Joins what stands on top to an expression, as far as it binds as tightly as `least`.
-fn join<'a>(
-    alloc: Global,
-    stack: &mut LinkedList<Pending<'a>>,
-    tree: Tree<'a>,
-    least: u32,
-) -> Result<Tree<'a>, AllocError>
-    requires least { least ≤ 12 }
-    requires ordered { Ordered (frames_of stack.old) }
-    requires tight { Binds 13 (shape_of tree) }
-    ensures joins { let old = frames_of stack.old in
-        let new = frames_of stack.new in
-        IfOk result (λ t. Joins least old (shape_of tree.entry) new (shape_of t)) }
-    ensures stops { 1 ≤ least → IfOk result (λ _. wanted_level (frames_of stack.new) ≤ least) }
+// The step that what waits becomes before a sign of this level, if it binds as tightly.
+fn reduced(least: u32, top: Pending) -> Option<Step>
+    ensures { result ≡ reduced least top }
 {
-    let mut tree = tree;
-    while let Some(top) = stack.pop_front() {
-        match top {
-            Pending::Open => {
-                stack.push_front(Pending::Open)?;
-                return Ok(tree);
-            }
-            Pending::Negate => tree = Tree::Negate(Box::new(alloc, tree)?),
-            Pending::Left(left, operator) => {
-                if operator.level() < least {
-                    stack.push_front(Pending::Left(left, operator))?;
-                    return Ok(tree);
-                }
-                tree = Tree::Between(operator, Box::new(alloc, left)?, Box::new(alloc, tree)?);
+    match top {
+        Pending::Opened(_) | Pending::Question => None,
+        Pending::Signed(sign) => Some(Step::Prefix(sign)),
+        Pending::Left(sign) => {
+            if sign.level() < least {
+                None
+            } else {
+                Some(Step::Binary(sign))
             }
         }
-    }
-    Ok(tree)
-}
-
-// Takes the parenthesis from the top, if there is anything.
-fn pop_open(stack: &mut LinkedList<Pending<'_>>) -> bool
-    requires { wanted_level (frames_of stack.old) ≤ 1 }
-    ensures open { result ≡ true → frames_of stack.old ≡ paren ∷ frames_of stack.new }
-    ensures none { result ≡ false → (frames_of stack.old ≡ []) × (frames_of stack.new ≡ []) }
-{
-    stack.pop_front().is_some()
-}
-
-// One more token, where an operand is wanted.
-fn begin<'a>(
-    stack: &mut LinkedList<Pending<'a>>,
-    text: &'a [u8],
-    token: Token,
-    at: usize,
-) -> Result<Option<Tree<'a>>, Stop>
-    requires in_order { token.from ≤ token.to }
-    requires in_range { token.to ≤ length text.now }
-    ensures { let old = frames_of stack.old in
-        let new = frames_of stack.new in
-        Starts (word_of text.now token) at old new result }
-{
-    match token.kind {
-        TokenKind::Name => {
-            let name = token.text(text);
-            if is_reserved_name(name) {
-                return Err(Stop::At(at));
-            }
-            Ok(Some(Tree::Name(name)))
-        }
-        TokenKind::Number => {
-            let number = token.text(text);
-            if may_stand(number) {
-                return Ok(Some(Tree::Number(number)));
-            }
-            Err(Stop::At(at))
-        }
-        TokenKind::Symbol(symbol) => match symbol {
-            Symbol::Open => {
-                stack.push_front(Pending::Open)?;
-                Ok(None)
-            }
-            Symbol::Minus => {
-                stack.push_front(Pending::Negate)?;
-                Ok(None)
-            }
-            _ => Err(Stop::At(at)),
-        },
-        _ => Err(Stop::At(at)),
+        Pending::Colon => { if least > 1 { None } else { Some(Step::Ternary) } }
     }
 }
 
-// Closes the parenthesis on top, if there is one.
-fn close<'a>(
-    alloc: Global,
-    stack: &mut LinkedList<Pending<'a>>,
-    tree: Tree<'a>,
-    at: usize,
-) -> Result<Option<Tree<'a>>, Stop>
-    requires ordered { Ordered (frames_of stack.old) }
-    requires tight { Binds 13 (shape_of tree) }
-    ensures { let old = frames_of stack.old in
-        let new = frames_of stack.new in
-        Follows (sign symbol.Close) at old (shape_of tree.entry) new result }
+// What is on top becomes a step, as far as it binds as tightly as `least`.
+fn join(stack: &mut LinkedList<Pending>, steps: &mut Vec<Step>, least: u32) -> Result<(), Stop>
+    requires { IsCoded stack.old steps.old.items Held.Whole }
+    ensures joins { IfOk result (λ _. joins least (top_of stack.old steps.old.items) ≡ top_of stack.new steps.new.items) }
+    ensures coded { IfOk result (λ _. IsCoded stack.new steps.new.items Held.Whole) }
+    ensures refused { IfErr result (λ stop. stop ≡ Stop.NoMemory) }
 {
-    let inner = join(alloc, stack, tree, 1)?;
-    if pop_open(stack) {
-        return Ok(Some(Tree::Group(Box::new(alloc, inner)?)));
+    while let Some(top) = stack.front() {
+        match reduced(least, *top) {
+            Some(step) => {
+                stack.pop_front();
+                steps.push(step)?;
+            }
+            None => return Ok(()),
+        }
+    }
+    Ok(())
+}
+
+// Whether a sign may follow an operand here: a comma only where a call is innermost.
+fn takes(sign: Sign, stack: &LinkedList<Pending>) -> bool
+    ensures { (ss : List step) → result ≡ takes sign (top_of stack.now ss).frames }
+{
+    match sign {
+        Sign::Comma => matches!(stack.front(), Some(Pending::Opened(Opening::Call(_, _)))),
+        _ => sign.is_infix(),
+    }
+}
+
+// A sign behind an operand.
+fn operate(
+    stack: &mut LinkedList<Pending>,
+    steps: &mut Vec<Step>,
+    sign: Sign,
+    at: usize,
+) -> Result<Held, Stop>
+    requires { IsCoded stack.old steps.old.items Held.Whole }
+    ensures { Turns (operates sign (joins (level sign) (top_of stack.old steps.old.items))) at stack.new steps.new.items result }
+{
+    join(stack, steps, sign.level())?;
+    if takes(sign, stack) {
+        stack.push_front(Pending::Left(sign))?;
+        return Ok(Held::Nothing);
     }
     Err(Stop::At(at))
 }
 
-// One more token, where an operator is wanted.
-fn go_on<'a>(
-    alloc: Global,
-    stack: &mut LinkedList<Pending<'a>>,
-    tree: Tree<'a>,
-    kind: TokenKind,
-    at: usize,
-) -> Result<Option<Tree<'a>>, Stop>
-    requires ordered { Ordered (frames_of stack.old) }
-    requires tight { Binds 13 (shape_of tree) }
-    ensures { let old = frames_of stack.old in
-        let new = frames_of stack.new in
-        (bytes : List ℕ) → Follows (word_for kind bytes) at old (shape_of tree.entry) new result }
+// A question mark behind an operand.
+fn ask(stack: &mut LinkedList<Pending>, steps: &mut Vec<Step>, at: usize) -> Result<Held, Stop>
+    requires { IsCoded stack.old steps.old.items Held.Whole }
+    ensures { Turns (asks (joins 2 (top_of stack.old steps.old.items))) at stack.new steps.new.items result }
 {
-    match kind {
-        TokenKind::Symbol(symbol) => match symbol {
-            Symbol::Close => close(alloc, stack, tree, at),
-            _ => match Infix::of(symbol) {
-                Some(operator) => {
-                    let left = join(alloc, stack, tree, operator.level())?;
-                    stack.push_front(Pending::Left(left, operator))?;
-                    Ok(None)
-                }
-                None => Err(Stop::At(at)),
-            },
-        },
+    join(stack, steps, 2)?;
+    stack.push_front(Pending::Question)?;
+    Ok(Held::Nothing)
+}
+
+// A colon behind an operand.
+fn answer(stack: &mut LinkedList<Pending>, steps: &mut Vec<Step>, at: usize) -> Result<Held, Stop>
+    requires { IsCoded stack.old steps.old.items Held.Whole }
+    ensures { Turns (answers (joins 0 (top_of stack.old steps.old.items))) at stack.new steps.new.items result }
+{
+    join(stack, steps, 0)?;
+    match stack.pop_front() {
+        Some(Pending::Question) => {
+            stack.push_front(Pending::Colon)?;
+            Ok(Held::Nothing)
+        }
         _ => Err(Stop::At(at)),
     }
 }
 
-// One more token.
-fn turn<'a>(
-    alloc: Global,
-    stack: &mut LinkedList<Pending<'a>>,
-    held: Option<Tree<'a>>,
-    text: &'a [u8],
-    tokens: &[Token],
-    at: usize,
-) -> Result<Option<Tree<'a>>, Stop>
-    requires in_range { at < length tokens.now }
-    requires within { StandIn text.now tokens.now }
-    requires stands { let read = take at (words_of text.now tokens.now) in
-        Stands read (frames_of stack.old) (held_of held) }
-    ensures { Turns (words_of text.now tokens.now) at (frames_of stack.new) result }
+// A parenthesis that closes, behind an operand.
+fn close(stack: &mut LinkedList<Pending>, steps: &mut Vec<Step>, at: usize) -> Result<Held, Stop>
+    requires { IsCoded stack.old steps.old.items Held.Whole }
+    ensures { Turns (shuts (joins 0 (top_of stack.old steps.old.items))) at stack.new steps.new.items result }
 {
-    let token = tokens[at];
-    match held {
-        None => begin(stack, text, token, at),
-        Some(tree) => go_on(alloc, stack, tree, token.kind, at),
+    join(stack, steps, 0)?;
+    match stack.pop_front() {
+        Some(Pending::Opened(opening)) => {
+            steps.push(Step::Enclose(opening))?;
+            Ok(Held::Whole)
+        }
+        _ => Err(Stop::At(at)),
     }
 }
 
-// Reads an expression, or says where its tokens stop.
-fn parse_body<'a>(alloc: Global, text: &'a [u8], tokens: &[Token]) -> Result<Tree<'a>, Stop>
-    requires { StandIn text.now tokens.now }
-    ensures { Answers (words_of text.now tokens.now) result }
+// One more word behind an operand.
+fn follow(
+    stack: &mut LinkedList<Pending>,
+    steps: &mut Vec<Step>,
+    word: Lexeme,
+    at: usize,
+) -> Result<Held, Stop>
+    requires { IsCoded stack.old steps.old.items Held.Whole }
+    ensures { Turns (follows (top_of stack.old steps.old.items) word) at stack.new steps.new.items result }
+{
+    match word {
+        Lexeme::Sign(sign) => operate(stack, steps, sign, at),
+        Lexeme::Question => ask(stack, steps, at),
+        Lexeme::Colon => answer(stack, steps, at),
+        Lexeme::Close => close(stack, steps, at),
+        _ => Err(Stop::At(at)),
+    }
+}
+
+// A name where an operand is wanted.
+fn start_name(steps: &mut Vec<Step>, name: Name, at: usize) -> Result<Held, Stop>
+    ensures { (ps : List pending) → IsCoded ps steps.old.items Held.Nothing
+        → Turns (starts (frames_of ps (run [] steps.old.items)) (Lexeme.Name name)) at ps steps.new.items result }
+{
+    match name {
+        Name::Plain(place) => {
+            steps.push(Step::Name(place))?;
+            Ok(Held::Whole)
+        }
+        Name::Truth(value) => {
+            steps.push(Step::Truth(value))?;
+            Ok(Held::Whole)
+        }
+        Name::Owner(owner) => Ok(Held::Owner(owner)),
+        Name::LowerLong | Name::LongStream => Err(Stop::At(at)),
+    }
+}
+
+// One more word where an operand is wanted.
+fn start(
+    stack: &mut LinkedList<Pending>,
+    steps: &mut Vec<Step>,
+    word: Lexeme,
+    at: usize,
+) -> Result<Held, Stop>
+    requires { IsCoded stack.old steps.old.items Held.Nothing }
+    ensures { Turns (starts (frames_of stack.old (run [] steps.old.items)) word) at stack.new steps.new.items result }
+{
+    match word {
+        Lexeme::Name(name) => start_name(steps, name, at),
+        Lexeme::Number(number) => {
+            steps.push(Step::Number(number))?;
+            Ok(Held::Whole)
+        }
+        Lexeme::Sign(sign) => {
+            if sign.is_prefix() {
+                stack.push_front(Pending::Signed(sign))?;
+                return Ok(Held::Nothing);
+            }
+            Err(Stop::At(at))
+        }
+        Lexeme::Open => {
+            stack.push_front(Pending::Opened(Opening::Paren))?;
+            Ok(Held::Nothing)
+        }
+        _ => Err(Stop::At(at)),
+    }
+}
+
+// One more word behind the name of a call or of a constant.
+fn call(
+    stack: &mut LinkedList<Pending>,
+    steps: &mut Vec<Step>,
+    owner: Owner,
+    name: Name,
+    word: Lexeme,
+    at: usize,
+) -> Result<Held, Stop>
+    requires { IsCoded stack.old steps.old.items (Held.Callee owner name) }
+    ensures { Turns (called (frames_of stack.old (run [] steps.old.items)) owner name word) at stack.new steps.new.items result }
+{
+    match word {
+        Lexeme::Open => {
+            stack.push_front(Pending::Opened(Opening::Call(owner, name)))?;
+            Ok(Held::Nothing)
+        }
+        _ => match owner {
+            Owner::Math => Err(Stop::At(at)),
+            Owner::Long => {
+                steps.push(Step::Constant(name))?;
+                follow(stack, steps, word, at)
+            }
+        },
+    }
+}
+
+// One more word.
+fn turn(
+    stack: &mut LinkedList<Pending>,
+    steps: &mut Vec<Step>,
+    held: Held,
+    word: Lexeme,
+    at: usize,
+) -> Result<Held, Stop>
+    requires { IsCoded stack.old steps.old.items held }
+    ensures { Turns (read (state_of stack.old steps.old.items held) word) at stack.new steps.new.items result }
+{
+    match held {
+        Held::Nothing => start(stack, steps, word, at),
+        Held::Whole => follow(stack, steps, word, at),
+        Held::Owner(owner) => match word {
+            Lexeme::Dot => Ok(Held::OwnerDot(owner)),
+            _ => Err(Stop::At(at)),
+        },
+        Held::OwnerDot(owner) => match word {
+            Lexeme::Name(name) => Ok(Held::Callee(owner, name)),
+            _ => Err(Stop::At(at)),
+        },
+        Held::Callee(owner, name) => call(stack, steps, owner, name, word, at),
+    }
+}
+
+// What is behind the last word, a constant made an operand.
+fn settle(stack: &LinkedList<Pending>, steps: &mut Vec<Step>, held: Held) -> Result<bool, Stop>
+    requires { IsCoded stack.now steps.old.items held }
+    ensures { IsSettled (state_of stack.now steps.old.items held) stack.now steps.new.items result }
+{
+    match held {
+        Held::Whole => Ok(true),
+        Held::Callee(owner, name) => match owner {
+            Owner::Math => Ok(false),
+            Owner::Long => {
+                steps.push(Step::Constant(name))?;
+                Ok(true)
+            }
+        },
+        _ => Ok(false),
+    }
+}
+
+/// Reads an expression: its steps in postfix order, or where its words stop.
+pub(crate) fn parse(alloc: Global, words: &[Lexeme]) -> Result<Vec<Step>, Stop>
+    ensures ok { IfOk result (λ steps. ArePostfix words.now steps.items) }
+    ensures stops { IfErr result (λ stop. IsStop Expression words.now stop) }
 {
     let mut stack = LinkedList::new(alloc);
-    let mut held = None;
-    for at in 0..tokens.len() {
-        held = turn(alloc, &mut stack, held, text, tokens, at)?;
-    }
-    match held {
-        None => Err(Stop::At(tokens.len())),
-        Some(tree) => {
-            let whole = join(alloc, &mut stack, tree, 1)?;
-            if pop_open(&mut stack) {
-                Err(Stop::At(tokens.len()))
-            } else {
-                Ok(whole)
-            }
+    let mut steps = Vec::new(alloc);
+    let mut held = Held::Nothing;
+    for at in 0..words.len() {
+        match turn(&mut stack, &mut steps, held, words[at], at) {
+            Ok(next) => held = next,
+            Err(stop) => return Err(stop),
         }
     }
-}
-
-// Whether a token is the arrow of a lambda.
-fn is_arrow(kind: TokenKind) -> bool
-    ensures yes { result ≡ true → kind ≡ TokenKind.Symbol Symbol.Arrow }
-    ensures no { result ≡ false → kind ≢ TokenKind.Symbol Symbol.Arrow }
-{
-    kind == TokenKind::Symbol(Symbol::Arrow)
-}
-
-// Reads the parameter and the arrow, or says where the tokens stop.
-fn parse_head<'a>(text: &'a [u8], tokens: &[Token]) -> Result<&'a [u8], Stop>
-    requires { StandIn text.now tokens.now }
-    ensures long_enough { OnOk result (2 ≤ length tokens.now) }
-    ensures head { IfOk result (λ parameter. HasHead (words_of text.now tokens.now) parameter.now) }
-    ensures stops { IfErr result (λ stop. IsStop ALambda (words_of text.now tokens.now) stop) }
-{
-    if tokens.is_empty() {
-        return Err(Stop::At(0));
+    if !settle(&stack, &mut steps, held)? {
+        return Err(Stop::At(words.len()));
     }
-    let head = tokens[0];
-    let TokenKind::Name = head.kind else {
-        return Err(Stop::At(0));
-    };
-    let parameter = head.text(text);
-    if is_reserved_name(parameter) {
-        return Err(Stop::At(0));
-    }
-    if tokens.len() < 2 {
-        return Err(Stop::At(1));
-    }
-    if is_arrow(tokens[1].kind) {
-        return Ok(parameter);
-    }
-    Err(Stop::At(1))
-}
-
-/// Reads a lambda, or says where its tokens stop. The tokens are those of the text.
-pub(crate) fn parse_lambda<'a>(
-    alloc: Global,
-    text: &'a [u8],
-    tokens: &[Token],
-) -> Result<Written<'a>, Stop>
-    requires within { StandIn text.now tokens.now }
-    requires few { length tokens.now < 2 ^ 32 }
-    ensures { LambdaAnswers (words_of text.now tokens.now) result }
-{
-    let parameter = parse_head(text, tokens)?;
-    match parse_body(alloc, text, &tokens[2..]) {
-        Ok(body) => Ok(Written { parameter, body }),
-        Err(Stop::At(at)) => Err(Stop::At(at + 2)),
-        Err(Stop::NoMemory) => Err(Stop::NoMemory),
+    join(&mut stack, &mut steps, 0)?;
+    match stack.pop_front() {
+        None => Ok(steps),
+        Some(_) => Err(Stop::At(words.len())),
     }
 }

@@ -75,20 +75,20 @@ x ->
 x - > x
 -> x
 7 -> 7
-(x) -> x
+(x, y) -> x
 long -> 1
 Math -> 1
 true -> 1
 x -> x +
 x -> x + 
-x -> x & 1
+x -> x & & 1
 x -> x ++ 1
 x -> x y
 x -> 1 2
 x -> x -> x
 x -> 007
-x -> true
-x -> !x
+x -> Math
+x -> Math.PI
 x -> < 3
 x -> $a
 x -> "a"
@@ -99,7 +99,8 @@ x -> (x))
 x -> (x
 x -> 9223372036854775808 + y +"#;
     let columns = [
-        1, 4, 2, 5, 3, 1, 1, 1, 1, 1, 1, 9, 10, 8, 8, 8, 8, 8, 6, 6, 6, 6, 6, 6, 6, 7, 7, 9, 8, 31,
+        1, 4, 2, 5, 3, 1, 1, 3, 1, 1, 1, 9, 10, 10, 8, 8, 8, 8, 6, 10, 13, 6, 6, 6, 6, 7, 7, 9, 8,
+        31,
     ];
     for (text, column) in texts.lines().zip(columns) {
         let found = refusal(rt.alloc(), text.as_bytes(), Want::Long);
@@ -112,8 +113,10 @@ fn the_first_refusal_that_applies_is_reported(rt: HostRuntime) {
     let too_large = "\
 x -> 9223372036854775808|x -> -(9223372036854775808)|x -> 5 -9223372036854775808|\
 x -> -9223372036854775809|x -> 18446744073709551616|x -> 9223372036854775808 < y";
-    let unknown_names = "x -> y|x -> xx + x|x -> y < 1";
-    let wrong_types = "x -> x < 3|x -> (x < 3) + 1|x -> 1 - (x < 3)";
+    let unknown_names =
+        "x -> y|x -> xx + x|x -> y < 1|x -> Math.true(x)|x -> Long.PI|x -> Long.sum";
+    let wrong_types =
+        "x -> x < 3|x -> (x < 3) + 1|x -> 1 - (x < 3)|x -> true|x -> !x|x -> Math.abs(1, 2)";
     let wrong_booleans = "x -> x|x -> -(x < 3)|x -> 1 < 2 < 3|x -> (x < 1) == (x < 2)";
     for (texts, want, fault) in [
         (too_large, Want::Long, ReadFault::LiteralTooLarge),
@@ -151,7 +154,7 @@ fn depth_ends_at_64_and_tokens_at_4096(rt: HostRuntime) {
         ("x -> x", 63, " + x", None),
         ("x -> x", 64, " + x", too_deep),
         ("x -> x", 4093, "- x", too_deep),
-        ("", 4096, "(", Some(ReadFault::Syntax { column: 1 })),
+        ("", 4096, "(", Some(ReadFault::Syntax { column: 2 })),
         ("", 4097, "(", too_deep),
     ] {
         assert!(rt;
@@ -239,5 +242,18 @@ fn a_number_is_digits_or_a_minus_and_digits(rt: HostRuntime) {
     for (text, column) in texts.split('|').zip([1, 3, 1, 3, 1, 1, 1, 3, 3, 5]) {
         let found = written_number(rt.alloc(), text);
         assert!(rt; found == Err(ReadFault::Syntax { column }), "{text}");
+    }
+}
+
+#[test]
+fn every_level_of_operators_is_read(rt: HostRuntime) {
+    // The values at 5 are those of Java 17.
+    let texts =
+        "x -> x > 9 ? 1 : x > 4 ? 2 : 3|x -> Math.max(x, 2) + Long.MAX_VALUE|(x) -> x & 6 ^ 3|\
+(long x) -> ~x << 65 >>> 60|x -> x != 5 && 1 / 0 > 0 ? 0 : Math.floorMod(-x, 3)";
+    let values = [2, -9223372036854775804, 7, 15, 1];
+    for (text, value) in texts.split('|').zip(values) {
+        let found = number_at(rt.alloc(), text, 5);
+        assert!(rt; found == Ok(Ok(value)), "{text}");
     }
 }

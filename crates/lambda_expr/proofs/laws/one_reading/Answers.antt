@@ -1,4 +1,4 @@
-use Rattle.lambda_expr.proofs.Unique.{one_lambda}
+use Rattle.lambda_expr.proofs.Lambdas.{one_lambda}
 use Rattle.lambda_expr.proofs.laws.one_reading.Goals as goal
 
 pub returns : goal.returns

@@ -1,4 +1,4 @@
-use Rattle.lambda_expr.specs.Grammar.{ALambda}
+use Rattle.lambda_expr.specs.Heads.{ALambda}
 use Rattle.lambda_expr.proofs.Only.{one_place}
 use Rattle.lambda_expr.proofs.laws.one_stop.Goals as goal
 

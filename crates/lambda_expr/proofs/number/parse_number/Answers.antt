@@ -1,6 +1,6 @@
 use Rattle.std.proofs.Common.{◌≡◌, ◌+◌, Bool, true, false, refl, sym, subst, ◌∙◌, arith}
 use Rattle.std.specs.Int.{from_bool}
-use Rattle.lambda_expr.specs.Grammar.{StopsAt}
+use Rattle.lambda_expr.specs.Stops.{StopsAt}
 use Rattle.lambda_expr.specs.Numbers.{ANumber}
 use Rattle.lambda_expr.specs.NumberReading.{HasNumeral, IsNoNumeral}
 use Rattle.lambda_expr.specs.Words.{words_of}

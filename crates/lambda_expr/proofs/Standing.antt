@@ -1,0 +1,242 @@
+-- What the reader keeps from word to word, and where words stop.
+use Rattle.std.proofs.Common.{◌≡◌, ◌≢◌, ℕ, ◌+◌, ◌<◌, ◌≤◌, Bool, true, false, List, [], ◌∷◌, ◌++◌, length, take, drop, Some, None, refl, sym, ap, subst, ◌∙◌, append_assoc, append-nil, arith}
+use Rattle.std.proofs.lemmas.List.{take_all, take-append-drop}
+use Rattle.lambda_expr.specs.declared.lexeme.Owner.{Owner as Class}
+use Rattle.lambda_expr.specs.declared.lexeme.Owner.TheVariants.{Math, Long}
+use Rattle.lambda_expr.specs.declared.step.Opening.TheVariants.{Call}
+use Rattle.lambda_expr.specs.declared.lexeme.Lexeme.{Lexeme}
+use Rattle.lambda_expr.specs.declared.lexeme.Lexeme.TheVariants as word
+use Rattle.lambda_expr.specs.declared.lexeme.Name.{Name}
+use Rattle.lambda_expr.specs.declared.lexeme.Name.TheVariants.{Plain, Owner, Truth, LowerLong, LongStream}
+use Rattle.lambda_expr.specs.Grammar.{Shape, number, constant, enclosed, level, is_prefix, opening, spells, Binds, IsExpression, Expression}
+use Rattle.lambda_expr.specs.Stops.{Begins, StopsAt}
+use Rattle.lambda_expr.specs.Reader.{Frame, opened, signed, left, question, colon, joined, takes, State, wants, has, owns, dots, calls, stuck, when, answers_at, shuts_at, follows, called, read, reads, settled, only, result_of, result_at}
+use Rattle.lambda_expr.proofs.Frames.{before, wanted, Ordered, after, filled, spells_filled, binds_filled, wanted_high, binds_lower, level_high, Keeps, join_keeps, join_stops, not_two, taken}
+use Rattle.lambda_expr.proofs.Leads.{at_top, reads_back, stuck_begins_none}
+
+-- what stands for these words
+abbrev pub Stands : List Lexeme → State → Type 0
+Stands ws (wants fs) = (before fs ≡ ws) × Ordered fs
+Stands ws (has fs e) = (before fs ++ spells e ≡ ws) × Ordered fs × Binds 13 e
+Stands ws (owns fs o) = (before fs ++ word.Name (Owner o) ∷ [] ≡ ws) × Ordered fs
+Stands ws (dots fs o) = (before fs ++ word.Name (Owner o) ∷ word.Dot ∷ [] ≡ ws) × Ordered fs
+Stands ws (calls fs o i) = (before fs ++ word.Name (Owner o) ∷ word.Dot ∷ word.Name i ∷ [] ≡ ws) × Ordered fs
+Stands ws stuck = Unit {0}
+
+-- what stands can be completed
+completes : (ws : List Lexeme) (fs : List Frame) (e : Shape) (front rest : List Lexeme) → before fs ++ front ≡ ws → spells e ≡ front ++ rest → Ordered fs → Binds (wanted fs) e → Begins Expression ws
+completes ws fs e front rest h s o b = (
+  rest ++ after fs,
+  (
+    filled fs e,
+    record {
+      binds = binds_filled fs e o b;
+      spelled =
+          spells_filled fs e ∙ ap (λ v. before fs ++ (v ++ after fs)) s
+          ∙ (let flat : before fs ++ ((front ++ rest) ++ after fs) ≡ (before fs ++ front) ++ (rest ++ after fs) = simp append_assoc in flat)
+          ∙ ap (λ v. v ++ (rest ++ after fs)) h;
+    },
+  ),
+)
+
+abbrev some_call : Class → Name → Shape
+some_call o i = enclosed (Call o i) (number 0)
+
+pub begins_of : (ws : List Lexeme) (s : State) → s ≢ stuck → Stands ws s → Begins Expression ws
+begins_of ws (wants fs) n s = completes ws fs (number 0) [] (word.Number 0 ∷ []) (append-nil (before fs) ∙ s.0) refl s.1 tt
+begins_of ws (has fs e) n s = completes ws fs e (spells e) [] s.0 (sym (append-nil (spells e))) s.1 (let h = wanted_high fs in let k : wanted fs ≤ 13 = omega arith in binds_lower e 13 (wanted fs) k s.2)
+begins_of ws (owns fs o) n s = completes ws fs (some_call o LowerLong) (word.Name (Owner o) ∷ []) (word.Dot ∷ word.Name LowerLong ∷ word.Open ∷ word.Number 0 ∷ word.Close ∷ []) s.0 refl s.1 tt
+begins_of ws (dots fs o) n s = completes ws fs (some_call o LowerLong) (word.Name (Owner o) ∷ word.Dot ∷ []) (word.Name LowerLong ∷ word.Open ∷ word.Number 0 ∷ word.Close ∷ []) s.0 refl s.1 tt
+begins_of ws (calls fs o i) n s = completes ws fs (some_call o i) (word.Name (Owner o) ∷ word.Dot ∷ word.Name i ∷ []) (word.Open ∷ word.Number 0 ∷ word.Close ∷ []) s.0 refl s.1 tt
+begins_of ws stuck n s = absurd (n refl)
+
+when_stands : (ws : List Lexeme) (b : Bool) (s : State) → (b ≡ true → Stands ws s) → Stands ws (when b s)
+when_stands ws true s h = h refl
+when_stands ws false s h = tt
+
+abbrev put : List Lexeme → Lexeme → List Lexeme
+put ws w = ws ++ w ∷ []
+
+more : (ws front : List Lexeme) (w : Lexeme) (fs : List Frame) → before fs ++ front ≡ ws → before fs ++ (front ++ w ∷ []) ≡ put ws w
+more ws front w fs h = sym (append_assoc (before fs) front (w ∷ [])) ∙ ap (λ v. v ++ w ∷ []) h
+
+answered : (ws : List Lexeme) (fs : List Frame) (e : Shape) → before fs ++ spells e ≡ ws → Ordered fs → Binds (wanted fs) e → Stands (put ws word.Colon) (answers_at fs e)
+answered ws [] e h o b = tt
+answered ws (opened p ∷ fs) e h o b = tt
+answered ws (signed s ∷ fs) e h o b = tt
+answered ws (left a s ∷ fs) e h o b = tt
+answered ws (question c ∷ fs) e h o b =
+    let flat : ((before fs ++ (spells c ++ word.Question ∷ [])) ++ spells e) ++ word.Colon ∷ [] ≡ ws ++ word.Colon ∷ [] = ap (λ v. v ++ word.Colon ∷ []) h in
+    let words : before fs ++ (spells c ++ word.Question ∷ (spells e ++ word.Colon ∷ [])) ≡ ws ++ word.Colon ∷ [] = simp append_assoc at flat in
+    (words, (o.0, o.1, b, o.2))
+answered ws (colon c p ∷ fs) e h o b = tt
+
+shut : (ws : List Lexeme) (fs : List Frame) (e : Shape) → before fs ++ spells e ≡ ws → Ordered fs → Binds (wanted fs) e → Stands (put ws word.Close) (shuts_at fs e)
+shut ws [] e h o b = tt
+shut ws (opened p ∷ fs) e h o b =
+    let flat : ((before fs ++ opening p) ++ spells e) ++ word.Close ∷ [] ≡ ws ++ word.Close ∷ [] = ap (λ v. v ++ word.Close ∷ []) h in
+    let words : before fs ++ (opening p ++ (spells e ++ word.Close ∷ [])) ≡ ws ++ word.Close ∷ [] = simp append_assoc at flat in
+    (words, o, b)
+shut ws (signed s ∷ fs) e h o b = tt
+shut ws (left a s ∷ fs) e h o b = tt
+shut ws (question c ∷ fs) e h o b = tt
+shut ws (colon c p ∷ fs) e h o b = tt
+
+joins_all : (n : ℕ) (fs : List Frame) (e : Shape) → n ≤ 12 → Ordered fs → Binds 13 e → Keeps n fs e (joined n fs e)
+joins_all n fs e h o b =
+    let high = wanted_high fs in
+    let low : wanted fs ≤ 13 = omega arith in
+    let small : n ≤ 13 = omega arith in
+    join_keeps n fs e h o (binds_lower e 13 (wanted fs) low b) (binds_lower e 13 n small b)
+
+followed : (ws : List Lexeme) (fs : List Frame) (e : Shape) (w : Lexeme) → Stands ws (has fs e) → Stands (put ws w) (follows (at_top fs e) w)
+followed ws fs e (word.Sign x) s =
+    let high = level_high x in
+    let j = joins_all (level x) fs e (omega arith) s.1 s.2 in
+    let t = joined (level x) fs e in
+    when_stands (put ws (word.Sign x)) (takes x t.frames) (wants (left t.shape x ∷ t.frames)) (λ y.
+    let k = taken x fs e y in
+    (more ws (spells t.shape) (word.Sign x) t.frames (j.words ∙ s.0), (k.low, k.between, j.binds, j.ordered)))
+followed ws fs e word.Question s =
+    let j = joins_all 2 fs e (omega arith) s.1 s.2 in
+    let t = joined 2 fs e in
+    (more ws (spells t.shape) word.Question t.frames (j.words ∙ s.0), (not_two t.frames (join_stops 2 fs e (omega arith)), j.binds, j.ordered))
+followed ws fs e word.Colon s =
+    let j = joins_all 0 fs e (omega arith) s.1 s.2 in
+    answered ws (joined 0 fs e).frames (joined 0 fs e).shape (j.words ∙ s.0) j.ordered j.tight
+followed ws fs e word.Close s =
+    let j = joins_all 0 fs e (omega arith) s.1 s.2 in
+    shut ws (joined 0 fs e).frames (joined 0 fs e).shape (j.words ∙ s.0) j.ordered j.tight
+followed ws fs e (word.Name i) s = tt
+followed ws fs e (word.Number i) s = tt
+followed ws fs e word.Open s = tt
+followed ws fs e word.Dot s = tt
+followed ws fs e word.Arrow s = tt
+followed ws fs e word.Other s = tt
+
+started : (ws : List Lexeme) (fs : List Frame) (w : Lexeme) → Stands ws (wants fs) → Stands (put ws w) (read (wants fs) w)
+started ws fs (word.Name (Plain i)) s = (ap (λ v. v ++ word.Name (Plain i) ∷ []) s.0, s.1, tt)
+started ws fs (word.Name (Owner o)) s = (ap (λ v. v ++ word.Name (Owner o) ∷ []) s.0, s.1)
+started ws fs (word.Name (Truth b)) s = (ap (λ v. v ++ word.Name (Truth b) ∷ []) s.0, s.1, tt)
+started ws fs (word.Name LowerLong) s = tt
+started ws fs (word.Name LongStream) s = tt
+started ws fs (word.Number i) s = (ap (λ v. v ++ word.Number i ∷ []) s.0, s.1, tt)
+started ws fs (word.Sign x) s = when_stands (put ws (word.Sign x)) (is_prefix x) (wants (signed x ∷ fs)) (λ y. (ap (λ v. v ++ word.Sign x ∷ []) s.0, (y, s.1)))
+started ws fs word.Open s = (ap (λ v. v ++ word.Open ∷ []) s.0, s.1)
+started ws fs word.Close s = tt
+started ws fs word.Dot s = tt
+started ws fs word.Arrow s = tt
+started ws fs word.Question s = tt
+started ws fs word.Colon s = tt
+started ws fs word.Other s = tt
+
+owned_on : (ws : List Lexeme) (fs : List Frame) (o : Class) (w : Lexeme) → Stands ws (owns fs o) → Stands (put ws w) (read (owns fs o) w)
+owned_on ws fs o word.Dot s = (more ws (word.Name (Owner o) ∷ []) word.Dot fs s.0, s.1)
+owned_on ws fs o (word.Name i) s = tt
+owned_on ws fs o (word.Number i) s = tt
+owned_on ws fs o (word.Sign x) s = tt
+owned_on ws fs o word.Open s = tt
+owned_on ws fs o word.Close s = tt
+owned_on ws fs o word.Arrow s = tt
+owned_on ws fs o word.Question s = tt
+owned_on ws fs o word.Colon s = tt
+owned_on ws fs o word.Other s = tt
+
+dotted_on : (ws : List Lexeme) (fs : List Frame) (o : Class) (w : Lexeme) → Stands ws (dots fs o) → Stands (put ws w) (read (dots fs o) w)
+dotted_on ws fs o (word.Name i) s = (more ws (word.Name (Owner o) ∷ word.Dot ∷ []) (word.Name i) fs s.0, s.1)
+dotted_on ws fs o (word.Number i) s = tt
+dotted_on ws fs o (word.Sign x) s = tt
+dotted_on ws fs o word.Open s = tt
+dotted_on ws fs o word.Close s = tt
+dotted_on ws fs o word.Dot s = tt
+dotted_on ws fs o word.Arrow s = tt
+dotted_on ws fs o word.Question s = tt
+dotted_on ws fs o word.Colon s = tt
+dotted_on ws fs o word.Other s = tt
+
+called_on : (ws : List Lexeme) (fs : List Frame) (o : Class) (i : Name) (w : Lexeme) → Stands ws (calls fs o i) → Stands (put ws w) (called fs o i w)
+called_on ws fs o i word.Open s = (more ws (word.Name (Owner o) ∷ word.Dot ∷ word.Name i ∷ []) word.Open fs s.0, s.1)
+called_on ws fs Long i (word.Name j) s = tt
+called_on ws fs Long i (word.Number j) s = tt
+called_on ws fs Long i (word.Sign x) s = followed ws fs (constant i) (word.Sign x) (s.0, s.1, tt)
+called_on ws fs Long i word.Close s = followed ws fs (constant i) word.Close (s.0, s.1, tt)
+called_on ws fs Long i word.Dot s = tt
+called_on ws fs Long i word.Arrow s = tt
+called_on ws fs Long i word.Question s = followed ws fs (constant i) word.Question (s.0, s.1, tt)
+called_on ws fs Long i word.Colon s = followed ws fs (constant i) word.Colon (s.0, s.1, tt)
+called_on ws fs Long i word.Other s = tt
+called_on ws fs Math i (word.Name j) s = tt
+called_on ws fs Math i (word.Number j) s = tt
+called_on ws fs Math i (word.Sign x) s = tt
+called_on ws fs Math i word.Close s = tt
+called_on ws fs Math i word.Dot s = tt
+called_on ws fs Math i word.Arrow s = tt
+called_on ws fs Math i word.Question s = tt
+called_on ws fs Math i word.Colon s = tt
+called_on ws fs Math i word.Other s = tt
+
+-- one more word keeps what stands
+keeps : (ws : List Lexeme) (s : State) (w : Lexeme) → Stands ws s → Stands (put ws w) (read s w)
+keeps ws (wants fs) w s = started ws fs w s
+keeps ws (has fs e) w s = followed ws fs e w s
+keeps ws (owns fs o) w s = owned_on ws fs o w s
+keeps ws (dots fs o) w s = dotted_on ws fs o w s
+keeps ws (calls fs o i) w s = called_on ws fs o i w s
+keeps ws stuck w s = tt
+
+stands_from : (ws vs : List Lexeme) (s : State) → Stands ws s → Stands (ws ++ vs) (reads s vs)
+stands_from ws [] s h = subst (λ v. Stands v s) (sym (append-nil ws)) h
+stands_from ws (w ∷ vs) s h = subst (λ v. Stands v (reads (read s w) vs)) (append_assoc ws (w ∷ []) vs) (stands_from (put ws w) vs (read s w) (keeps ws s w h))
+
+-- whatever the words are, what stands after them stands for them
+pub stands : (ws : List Lexeme) → Stands ws (reads (wants []) ws)
+stands ws = stands_from [] ws (wants []) (refl, tt)
+
+-- the first word that is stuck is where the words stop
+pub stops_at : (ws : List Lexeme) (n : ℕ) → n < length ws → reads (wants []) (take n ws) ≢ stuck → reads (wants []) (take (n + 1) ws) ≡ stuck → StopsAt Expression ws n
+stops_at ws n lt on off =
+    let none_begins = stuck_begins_none (take (n + 1) ws) off in
+    record {
+      within = omega arith;
+      outside = λ x. none_begins (drop (n + 1) ws, subst Expression (sym (take-append-drop (n + 1) ws)) x);
+      begins = begins_of (take n ws) (reads (wants []) (take n ws)) on (stands (take n ws));
+      stops = λ _ b. none_begins b;
+    }
+
+-- where no word is stuck but they are no expression, they stop at their end
+pub stops_end : (ws : List Lexeme) → reads (wants []) ws ≢ stuck → result_of (reads (wants []) ws) ≡ None → StopsAt Expression ws (length ws)
+stops_end ws on none_read =
+    let all : take (length ws) ws ≡ ws = take_all (length ws) ws (omega arith) in
+    record {
+      within = omega arith;
+      outside = λ x. let e : result_of (reads (wants []) (spells x.0)) ≡ None = ap (λ v. result_of (reads (wants []) v)) x.1.spelled ∙ none_read in let f = reads_back x.0 x.1.binds in cc;
+      begins = subst (Begins Expression) (sym all) (begins_of ws (reads (wants []) ws) on (stands ws));
+      stops = λ lt b. absurd (omega arith);
+    }
+
+whole_at : (ws : List Lexeme) (fs : List Frame) (e f : Shape) → before fs ++ spells e ≡ ws → Binds (wanted fs) e → only fs e ≡ Some f → IsExpression ws f
+whole_at ws [] e f h b is = let same : e ≡ f = cc in subst (IsExpression ws) same (record { binds = b; spelled = h })
+whole_at ws (p ∷ fs) e f h b is = absurd cc
+
+result_is : (ws : List Lexeme) (s : State) (f : Shape) → Stands ws s → result_at s ≡ Some f → IsExpression ws f
+result_is ws (has fs e) f s is =
+    let j = joins_all 0 fs e (omega arith) s.1 s.2 in
+    whole_at ws (joined 0 fs e).frames (joined 0 fs e).shape f (j.words ∙ s.0) j.tight is
+result_is ws (wants fs) f s is = absurd cc
+result_is ws (owns fs o) f s is = absurd cc
+result_is ws (dots fs o) f s is = absurd cc
+result_is ws (calls fs o i) f s is = absurd cc
+result_is ws stuck f s is = absurd cc
+
+settled_stands : (ws : List Lexeme) (s : State) → Stands ws s → Stands ws (settled s)
+settled_stands ws (wants fs) s = s
+settled_stands ws (has fs e) s = s
+settled_stands ws (owns fs o) s = s
+settled_stands ws (dots fs o) s = s
+settled_stands ws (calls fs Long i) s = (s.0, s.1, tt)
+settled_stands ws (calls fs Math i) s = s
+settled_stands ws stuck s = s
+
+-- what is read at the end is the expression that the words are
+pub reads_expression : (ws : List Lexeme) (f : Shape) → result_of (reads (wants []) ws) ≡ Some f → IsExpression ws f
+reads_expression ws f is = result_is ws (settled (reads (wants []) ws)) f (settled_stands ws (reads (wants []) ws) (stands ws)) is

@@ -1,0 +1,11 @@
+use Rattle.std.proofs.Common.{[], refl, sym, subst}
+use Rattle.lambda_expr.specs.declared.parse.Held.TheVariants.{Whole}
+use Rattle.lambda_expr.specs.declared.step.Step.TheVariants as step
+use Rattle.lambda_expr.specs.Grammar.{number}
+use Rattle.lambda_expr.specs.Reader.{starts}
+use Rattle.lambda_expr.specs.Codes.{IsAt, frames_of, run}
+use Rattle.lambda_expr.proofs.Joining.{leaf_at}
+use Rattle.lambda_expr.proofs.parse.start.Goals as goal
+
+pub returns-in_ok-push-in-Number : goal.returns-in_ok-push-in-Number
+returns-in_ok-push-in-Number c = subst (λ w. IsAt c.args.stack.now c.push.new.self.items Whole (starts (frames_of c.args.stack.now (run [] c.args.steps.now.items)) w)) (sym c.in-Number.is) (leaf_at c.args.stack.now c.args.steps.now.items c.push.new.self.items (step.Number c.in-Number.number) (number c.in-Number.number) c.in_ok-push-in-Number.ensures.items refl refl c.requires)

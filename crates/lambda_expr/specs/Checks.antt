@@ -1,0 +1,64 @@
+-- Meaning: what an expression in the grammar is refused for, types aside.
+use Rattle.std.specs.Prelude.{ℕ, suc, ◌^◌, max, Bool, true, false, ◌&&◌, nat_lt, nat_le, if◌then◌else◌}
+use Rattle.std.specs.Option.{is_some}
+use Rattle.lambda_expr.specs.declared.check.Literals.{Literals}
+use Rattle.lambda_expr.specs.declared.check.Literals.TheVariants.{Number, Fit}
+use Rattle.lambda_expr.specs.declared.lexeme.PlainName.{PlainName}
+use Rattle.lambda_expr.specs.declared.sign.Sign.{Sign}
+use Rattle.lambda_expr.specs.declared.sign.Sign.TheVariants as sign
+use Rattle.lambda_expr.specs.declared.step.Opening.{Opening}
+use Rattle.lambda_expr.specs.declared.step.Opening.TheVariants.{Paren, Call}
+use Rattle.lambda_expr.specs.Grammar.{Shape, name, number, truth, constant, prefix, binary, ternary, enclosed}
+use Rattle.lambda_expr.specs.Typing.{constant_of, function_of, is_same}
+
+-- whether the numbers of an expression fit; a number by itself is at most 2^63 - 1
+abbrev pub fit : Literals → Bool
+fit (Number n) = nat_lt n (2 ^ 63)
+fit (Fit b) = b
+
+-- 2^63 may stand directly after a minus (JLS 17, 3.10.1)
+abbrev pub signed : Sign → Literals → Literals
+signed sign.Subtract (Number n) = Fit (nat_le n (2 ^ 63))
+signed s l = Fit (fit l)
+
+-- the number that an expression is, or whether its numbers fit
+abbrev pub literals : Shape → Literals
+literals (name i) = Fit true
+literals (number n) = Number n
+literals (truth b) = Fit true
+literals (constant n) = Fit true
+literals (prefix s a) = signed s (literals a)
+literals (binary s a b) = Fit (fit (literals a) && fit (literals b))
+literals (ternary c p q) = Fit (fit (literals c) && (fit (literals p) && fit (literals q)))
+literals (enclosed o a) = Fit (fit (literals a))
+
+abbrev pub is_comma : Sign → Bool
+is_comma sign.Comma = true
+is_comma s = false
+
+-- an operator, a call and a pair of parentheses are one deeper than their deepest operand; a comma adds nothing
+abbrev pub depth : Shape → ℕ
+depth (name i) = 1
+depth (number n) = 1
+depth (truth b) = 1
+depth (constant n) = 1
+depth (prefix s a) = suc (depth a)
+depth (binary s a b) = if is_comma s then max (depth a) (depth b) else suc (max (depth a) (depth b))
+depth (ternary c p q) = suc (max (depth c) (max (depth p) (depth q)))
+depth (enclosed o a) = suc (depth a)
+
+-- a call is of a method that there is
+abbrev pub is_known : Opening → Bool
+is_known Paren = true
+is_known (Call o n) = is_some (function_of o n)
+
+-- each name is the parameter, a method or a constant
+abbrev pub names_known : PlainName → Shape → Bool
+names_known p (name i) = is_same p i
+names_known p (number n) = true
+names_known p (truth b) = true
+names_known p (constant n) = is_some (constant_of n)
+names_known p (prefix s a) = names_known p a
+names_known p (binary s a b) = names_known p a && names_known p b
+names_known p (ternary c q r) = names_known p c && (names_known p q && names_known p r)
+names_known p (enclosed o a) = is_known o && names_known p a

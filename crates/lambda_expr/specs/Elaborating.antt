@@ -1,0 +1,43 @@
+-- Condition: the term of an expression from its steps, with a stack of the terms of operands.
+use Rattle.std.specs.Prelude.{List, [], ◌∷◌, pos}
+use Rattle.lambda_expr.specs.declared.lexeme.PlainName.{PlainName}
+use Rattle.lambda_expr.specs.declared.step.Step.{Step}
+use Rattle.lambda_expr.specs.declared.step.Step.TheVariants as step
+use Rattle.lambda_expr.specs.declared.step.Opening.TheVariants.{Paren, Call}
+use Rattle.lambda_expr.specs.declared.elaborate.Operand.{Operand}
+use Rattle.lambda_expr.specs.declared.elaborate.Operand.TheVariants as operand
+use Rattle.lambda_expr.specs.Stacks.{below, top_or}
+use Rattle.lambda_expr.specs.Term as term
+use Rattle.lambda_expr.specs.Term.{long_of, truth_of}
+use Rattle.lambda_expr.specs.Typing.{Typed, long, boolean, longs, untyped, called_with, constant_of, constant_typed, function_of, operated, operation_of, prefixed, selected}
+use Rattle.lambda_expr.specs.Wrap.{wrap}
+
+-- what an operand of the program stands for
+abbrev pub typed_of : Operand → Typed
+typed_of (operand.Long e) = long (long_of e)
+typed_of (operand.Truth e) = boolean (truth_of e)
+typed_of (operand.Longs a b) = longs (long_of a) (long_of b)
+typed_of operand.Untyped = untyped
+
+abbrev pub operands_of : List Operand → List Typed
+operands_of [] = []
+operands_of (o ∷ os) = typed_of o ∷ operands_of os
+
+abbrev pub top_typed : List Typed → Typed
+top_typed ts = top_or untyped ts
+
+-- one step over the terms of operands
+abbrev pub typed_step : PlainName → Step → List Typed → List Typed
+typed_step h (step.Name i) ts = long (term.parameter 0) ∷ ts
+typed_step h (step.Number n) ts = long (term.number (wrap (pos n))) ∷ ts
+typed_step h (step.Truth b) ts = boolean (term.literal b) ∷ ts
+typed_step h (step.Constant n) ts = constant_typed (constant_of n) ∷ ts
+typed_step h (step.Prefix s) ts = prefixed s (top_typed ts) ∷ below ts
+typed_step h (step.Binary s) ts = operated (top_typed (below ts)) (top_typed ts) (operation_of s) ∷ below (below ts)
+typed_step h step.Ternary ts = selected (top_typed (below (below ts))) (top_typed (below ts)) (top_typed ts) ∷ below (below (below ts))
+typed_step h (step.Enclose Paren) ts = top_typed ts ∷ below ts
+typed_step h (step.Enclose (Call o n)) ts = called_with (function_of o n) (top_typed ts) ∷ below ts
+
+abbrev pub typed_steps : PlainName → List Typed → List Step → List Typed
+typed_steps h ts [] = ts
+typed_steps h ts (s ∷ ss) = typed_steps h (typed_step h s ts) ss

@@ -1,0 +1,134 @@
+-- Meaning: the term that an expression stands for, by the types of its operands.
+use Rattle.std.specs.Prelude.{pos, negsuc, ◌-◌, ◌^◌, ℤ, Bool, nat_eq, Option, Some, None}
+use Rattle.lambda_expr.specs.declared.sign.Sign.{Sign}
+use Rattle.lambda_expr.specs.declared.sign.Sign.TheVariants as sign
+use Rattle.lambda_expr.specs.declared.lexeme.Owner.{Owner as Class}
+use Rattle.lambda_expr.specs.declared.lexeme.Owner.TheVariants.{Math, Long as LongClass}
+use Rattle.lambda_expr.specs.declared.lexeme.Member.{Member}
+use Rattle.lambda_expr.specs.declared.lexeme.Member.TheVariants as member
+use Rattle.lambda_expr.specs.declared.lexeme.Name.{Name}
+use Rattle.lambda_expr.specs.declared.lexeme.Name.TheVariants.{Plain}
+use Rattle.lambda_expr.specs.declared.lexeme.PlainName.{PlainName}
+use Rattle.lambda_expr.specs.declared.operator.UnaryOperator.TheVariants as unary_operator
+use Rattle.lambda_expr.specs.declared.operator.BinaryOperator.TheVariants as binary_operator
+use Rattle.lambda_expr.specs.declared.operator.Comparison.TheVariants as comparison
+use Rattle.lambda_expr.specs.declared.operator.Connective.TheVariants as connective
+use Rattle.lambda_expr.specs.declared.operator.Operation.{Operation}
+use Rattle.lambda_expr.specs.declared.operator.Operation.TheVariants.{Compute, Compare, Connect, Separate, Nothing}
+use Rattle.lambda_expr.specs.declared.operator.Function.{Function}
+use Rattle.lambda_expr.specs.declared.operator.Function.TheVariants.{Unary, Binary}
+use Rattle.lambda_expr.specs.declared.step.Opening.TheVariants.{Paren, Call}
+use Rattle.lambda_expr.specs.Grammar.{Shape, name, number, truth, constant, prefix, binary, ternary, enclosed}
+use Rattle.lambda_expr.specs.Term as term
+use Rattle.lambda_expr.specs.Term.{Long, Truth}
+use Rattle.lambda_expr.specs.Wrap.{wrap}
+
+-- what a sign does between two operands (JLS 17, 15.17 to 15.24)
+abbrev pub operation_of : Sign → Operation
+operation_of sign.Comma = Separate
+operation_of sign.Or = Connect connective.Or
+operation_of sign.And = Connect connective.And
+operation_of sign.BitOr = Compute binary_operator.Or
+operation_of sign.BitXor = Compute binary_operator.Xor
+operation_of sign.BitAnd = Compute binary_operator.And
+operation_of sign.Equal = Compare comparison.Equal
+operation_of sign.NotEqual = Compare comparison.NotEqual
+operation_of sign.Less = Compare comparison.Less
+operation_of sign.AtMost = Compare comparison.AtMost
+operation_of sign.More = Compare comparison.More
+operation_of sign.AtLeast = Compare comparison.AtLeast
+operation_of sign.ShiftLeft = Compute binary_operator.ShiftLeft
+operation_of sign.ShiftRight = Compute binary_operator.ShiftRight
+operation_of sign.ShiftRightUnsigned = Compute binary_operator.ShiftRightUnsigned
+operation_of sign.Add = Compute binary_operator.Add
+operation_of sign.Subtract = Compute binary_operator.Subtract
+operation_of sign.Multiply = Compute binary_operator.Multiply
+operation_of sign.Divide = Compute binary_operator.Divide
+operation_of sign.Remainder = Compute binary_operator.Remainder
+operation_of sign.Complement = Nothing
+operation_of sign.Not = Nothing
+
+-- the methods of Math and Long that a lambda may call
+abbrev pub method_of : Class → Member → Option Function
+method_of Math member.Abs = Some (Unary unary_operator.Absolute)
+method_of Math member.NegateExact = Some (Unary unary_operator.NegateExact)
+method_of Math member.Min = Some (Binary binary_operator.Min)
+method_of Math member.Max = Some (Binary binary_operator.Max)
+method_of LongClass member.Min = Some (Binary binary_operator.Min)
+method_of LongClass member.Max = Some (Binary binary_operator.Max)
+method_of LongClass member.Sum = Some (Binary binary_operator.Add)
+method_of Math member.FloorDiv = Some (Binary binary_operator.FloorDivide)
+method_of Math member.FloorMod = Some (Binary binary_operator.FloorRemainder)
+method_of Math member.AddExact = Some (Binary binary_operator.AddExact)
+method_of Math member.SubtractExact = Some (Binary binary_operator.SubtractExact)
+method_of Math member.MultiplyExact = Some (Binary binary_operator.MultiplyExact)
+method_of o m = None
+
+abbrev pub function_of : Class → Name → Option Function
+function_of o (Plain i) = method_of o i.member
+function_of o n = None
+
+-- the constants of Long
+abbrev pub member_value : Member → Option ℤ
+member_value member.MaxValue = Some (pos (2 ^ 63 - 1))
+member_value member.MinValue = Some (negsuc (2 ^ 63 - 1))
+member_value m = None
+
+abbrev pub constant_of : Name → Option ℤ
+constant_of (Plain i) = member_value i.member
+constant_of n = None
+
+-- whether two names of one text are the same, if one of them is that of the parameter
+abbrev pub is_same : PlainName → PlainName → Bool
+is_same i j = nat_eq i.number j.number
+
+-- what an expression is: a number, a boolean, two numbers that a call takes, or of no type
+pub data Typed : Type 0 where
+  long : Long → Typed
+  boolean : Truth → Typed
+  longs : Long → Long → Typed
+  untyped : Typed
+
+-- JLS 17, 15.15.3 to 15.15.6
+abbrev pub prefixed : Sign → Typed → Typed
+prefixed sign.Subtract (long a) = long (term.unary unary_operator.Negate a)
+prefixed sign.Add (long a) = long a
+prefixed sign.Complement (long a) = long (term.unary unary_operator.Complement a)
+prefixed sign.Not (boolean a) = boolean (term.opposite a)
+prefixed s t = untyped
+
+-- JLS 17, 15.17 to 15.24
+abbrev pub operated : Typed → Typed → Operation → Typed
+operated (long a) (long b) (Compute o) = long (term.binary o a b)
+operated (long a) (long b) (Compare o) = boolean (term.compare o a b)
+operated (long a) (long b) Separate = longs a b
+operated (boolean a) (boolean b) (Connect o) = boolean (term.connect o a b)
+operated t u o = untyped
+
+-- JLS 17, 15.25
+abbrev pub selected : Typed → Typed → Typed → Typed
+selected (boolean c) (long a) (long b) = long (term.choose c a b)
+selected (boolean c) (boolean a) (boolean b) = boolean (term.choose_truth c a b)
+selected t u v = untyped
+
+-- JLS 17, 15.12
+abbrev pub called_with : Option Function → Typed → Typed
+called_with (Some (Unary o)) (long a) = long (term.unary o a)
+called_with (Some (Binary o)) (longs a b) = long (term.binary o a b)
+called_with f t = untyped
+
+abbrev pub constant_typed : Option ℤ → Typed
+constant_typed (Some z) = long (term.number z)
+constant_typed None = untyped
+
+-- the expression of a lambda with this parameter
+abbrev pub typed : PlainName → Shape → Typed
+typed h (name i) = long (term.parameter 0)
+typed h (number n) = long (term.number (wrap (pos n)))
+typed h (truth b) = boolean (term.literal b)
+typed h (constant n) = constant_typed (constant_of n)
+typed h (prefix s a) = prefixed s (typed h a)
+typed h (binary s a b) = operated (typed h a) (typed h b) (operation_of s)
+typed h (ternary c p q) = selected (typed h c) (typed h p) (typed h q)
+typed h (enclosed Paren a) = typed h a
+typed h (enclosed (Call o n) a) = called_with (function_of o n) (typed h a)

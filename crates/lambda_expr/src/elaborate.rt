@@ -1,0 +1,332 @@
+//! The expression of a lambda, built from its steps.
+
+ghost use Rattle.lambda_expr.specs.Elaborating.{operands_of, top_typed, typed_of, typed_step, typed_steps};
+ghost use Rattle.lambda_expr.specs.Stacks.{below, stacked};
+ghost use Rattle.lambda_expr.specs.Typing.{Typed as shape_type, called_with, constant_of, constant_typed, operated, prefixed, selected};
+ghost use Rattle.lambda_expr.specs.Term as term;
+ghost use Rattle.lambda_expr.specs.Term.{long_of, truth_of};
+ghost use Rattle.lambda_expr.specs.Typing.{long, boolean};
+ghost use Rattle.lambda_expr.specs.Wrap.{wrap};
+ghost use Rattle.std.specs.Prelude.{◌≡◌, IfOk, List, [], ◌∷◌, ◌++◌, pos};
+
+use super::expr::{BoolExpr, LongExpr};
+use super::lexeme::{Name, PlainName};
+use super::operator::{BinaryOperator, Comparison, Connective, Function, Operation, UnaryOperator};
+use super::sign::Sign;
+use super::step::{Opening, Step};
+use super::table::{constant_of, function_of};
+use std::alloc::{AllocError, Global};
+
+/// What the steps so far have made of an operand.
+#[derive(Drop)]
+pub(crate) enum Operand {
+    Long(LongExpr),
+    Truth(BoolExpr),
+    /// Two operands that a comma separates.
+    Longs(LongExpr, LongExpr),
+    /// An operand was of the wrong type.
+    Untyped,
+}
+
+// The operand on top, or none of any type.
+fn pop(stack: &mut Vec<Operand>) -> Operand
+    ensures { (ts : List shape_type) → operands_of stack.old.items ≡ stacked ts
+        → (typed_of result ≡ top_typed ts) × (operands_of stack.new.items ≡ stacked (below ts)) }
+{
+    match stack.pop() {
+        Some(operand) => operand,
+        None => Operand::Untyped,
+    }
+}
+
+fn unary(alloc: Global, operator: UnaryOperator, operand: LongExpr) -> Result<Operand, AllocError>
+    ensures { IfOk result (λ o. typed_of o ≡ long (term.unary operator (long_of operand))) }
+{
+    Ok(Operand::Long(LongExpr::Unary(operator, Box::new(alloc, operand)?)))
+}
+
+fn binary(
+    alloc: Global,
+    operator: BinaryOperator,
+    left: LongExpr,
+    right: LongExpr,
+) -> Result<Operand, AllocError>
+    ensures { IfOk result (λ o. typed_of o ≡ long (term.binary operator (long_of left) (long_of right))) }
+{
+    let left = Box::new(alloc, left)?;
+    let right = Box::new(alloc, right)?;
+    Ok(Operand::Long(LongExpr::Binary(operator, left, right)))
+}
+
+fn compare(
+    alloc: Global,
+    comparison: Comparison,
+    left: LongExpr,
+    right: LongExpr,
+) -> Result<Operand, AllocError>
+    ensures { IfOk result (λ o. typed_of o ≡ boolean (term.compare comparison (long_of left) (long_of right))) }
+{
+    let left = Box::new(alloc, left)?;
+    let right = Box::new(alloc, right)?;
+    Ok(Operand::Truth(BoolExpr::Compare(comparison, left, right)))
+}
+
+fn connect(
+    alloc: Global,
+    connective: Connective,
+    left: BoolExpr,
+    right: BoolExpr,
+) -> Result<Operand, AllocError>
+    ensures { IfOk result (λ o. typed_of o ≡ boolean (term.connect connective (truth_of left) (truth_of right))) }
+{
+    let left = Box::new(alloc, left)?;
+    let right = Box::new(alloc, right)?;
+    Ok(Operand::Truth(BoolExpr::Connect(connective, left, right)))
+}
+
+// A sign before an operand.
+fn prefix(alloc: Global, sign: Sign, operand: Operand) -> Result<Operand, AllocError>
+    ensures { IfOk result (λ o. typed_of o ≡ prefixed sign (typed_of operand)) }
+{
+    match operand {
+        Operand::Long(operand) => match sign {
+            Sign::Subtract => unary(alloc, UnaryOperator::Negate, operand),
+            Sign::Add => Ok(Operand::Long(operand)),
+            Sign::Complement => unary(alloc, UnaryOperator::Complement, operand),
+            _ => Ok(Operand::Untyped),
+        },
+        Operand::Truth(operand) => match sign {
+            Sign::Not => Ok(Operand::Truth(BoolExpr::Not(Box::new(alloc, operand)?))),
+            _ => Ok(Operand::Untyped),
+        },
+        _ => Ok(Operand::Untyped),
+    }
+}
+
+// Two numbers, and what stands between them.
+fn operate_on_longs(
+    alloc: Global,
+    operation: Operation,
+    left: LongExpr,
+    right: LongExpr,
+) -> Result<Operand, AllocError>
+    ensures { IfOk result (λ o. typed_of o ≡ operated (long (long_of left)) (long (long_of right)) operation) }
+{
+    match operation {
+        Operation::Compute(operator) => binary(alloc, operator, left, right),
+        Operation::Compare(comparison) => compare(alloc, comparison, left, right),
+        Operation::Separate => Ok(Operand::Longs(left, right)),
+        _ => Ok(Operand::Untyped),
+    }
+}
+
+// A number, what follows it, and another operand.
+fn operate_on_long(
+    alloc: Global,
+    operation: Operation,
+    left: LongExpr,
+    right: Operand,
+) -> Result<Operand, AllocError>
+    ensures { IfOk result (λ o. typed_of o ≡ operated (long (long_of left)) (typed_of right) operation) }
+{
+    match right {
+        Operand::Long(right) => operate_on_longs(alloc, operation, left, right),
+        _ => Ok(Operand::Untyped),
+    }
+}
+
+// A boolean, what follows it, and another operand.
+fn operate_on_truth(
+    alloc: Global,
+    operation: Operation,
+    left: BoolExpr,
+    right: Operand,
+) -> Result<Operand, AllocError>
+    ensures { IfOk result (λ o. typed_of o ≡ operated (boolean (truth_of left)) (typed_of right) operation) }
+{
+    match right {
+        Operand::Truth(right) => match operation {
+            Operation::Connect(connective) => connect(alloc, connective, left, right),
+            _ => Ok(Operand::Untyped),
+        },
+        _ => Ok(Operand::Untyped),
+    }
+}
+
+// Two operands, and what stands between them.
+fn operate(
+    alloc: Global,
+    operation: Operation,
+    left: Operand,
+    right: Operand,
+) -> Result<Operand, AllocError>
+    ensures { IfOk result (λ o. typed_of o ≡ operated (typed_of left) (typed_of right) operation) }
+{
+    match left {
+        Operand::Long(left) => operate_on_long(alloc, operation, left, right),
+        Operand::Truth(left) => operate_on_truth(alloc, operation, left, right),
+        _ => Ok(Operand::Untyped),
+    }
+}
+
+// `c ? p : q` for a number `p`.
+fn select_long(
+    alloc: Global,
+    condition: BoolExpr,
+    chosen: LongExpr,
+    other: Operand,
+) -> Result<Operand, AllocError>
+    ensures { IfOk result (λ o. typed_of o ≡ selected (boolean (truth_of condition)) (long (long_of chosen)) (typed_of other)) }
+{
+    match other {
+        Operand::Long(other) => choose_long(alloc, condition, chosen, other),
+        _ => Ok(Operand::Untyped),
+    }
+}
+
+// `c ? p : q` for a boolean `p`.
+fn select_truth(
+    alloc: Global,
+    condition: BoolExpr,
+    chosen: BoolExpr,
+    other: Operand,
+) -> Result<Operand, AllocError>
+    ensures { IfOk result (λ o. typed_of o ≡ selected (boolean (truth_of condition)) (boolean (truth_of chosen)) (typed_of other)) }
+{
+    match other {
+        Operand::Truth(other) => choose_truth(alloc, condition, chosen, other),
+        _ => Ok(Operand::Untyped),
+    }
+}
+
+// `c ? p : q`.
+fn select(
+    alloc: Global,
+    condition: Operand,
+    chosen: Operand,
+    other: Operand,
+) -> Result<Operand, AllocError>
+    ensures { IfOk result (λ o. typed_of o ≡ selected (typed_of condition) (typed_of chosen) (typed_of other)) }
+{
+    let Operand::Truth(condition) = condition else {
+        return Ok(Operand::Untyped);
+    };
+    match chosen {
+        Operand::Long(chosen) => select_long(alloc, condition, chosen, other),
+        Operand::Truth(chosen) => select_truth(alloc, condition, chosen, other),
+        _ => Ok(Operand::Untyped),
+    }
+}
+
+fn choose_long(
+    alloc: Global,
+    condition: BoolExpr,
+    chosen: LongExpr,
+    other: LongExpr,
+) -> Result<Operand, AllocError>
+    ensures { IfOk result (λ o. typed_of o ≡ long (term.choose (truth_of condition) (long_of chosen) (long_of other))) }
+{
+    let condition = Box::new(alloc, condition)?;
+    let chosen = Box::new(alloc, chosen)?;
+    let other = Box::new(alloc, other)?;
+    Ok(Operand::Long(LongExpr::Choose(condition, chosen, other)))
+}
+
+fn choose_truth(
+    alloc: Global,
+    condition: BoolExpr,
+    chosen: BoolExpr,
+    other: BoolExpr,
+) -> Result<Operand, AllocError>
+    ensures { IfOk result (λ o. typed_of o ≡ boolean (term.choose_truth (truth_of condition) (truth_of chosen) (truth_of other))) }
+{
+    let condition = Box::new(alloc, condition)?;
+    let chosen = Box::new(alloc, chosen)?;
+    let other = Box::new(alloc, other)?;
+    Ok(Operand::Truth(BoolExpr::Choose(condition, chosen, other)))
+}
+
+// A method and its operands.
+fn call(alloc: Global, function: Option<Function>, operand: Operand) -> Result<Operand, AllocError>
+    ensures { IfOk result (λ o. typed_of o ≡ called_with function (typed_of operand)) }
+{
+    match (function, operand) {
+        (Some(Function::Unary(operator)), Operand::Long(operand)) => unary(
+            alloc, operator, operand,
+        ),
+        (Some(Function::Binary(operator)), Operand::Longs(left, right)) => binary(
+            alloc, operator, left, right,
+        ),
+        _ => Ok(Operand::Untyped),
+    }
+}
+
+// A number that fits, or 2^63, which is its own negative in 64 bits.
+fn number(value: u64) -> Operand
+    ensures { typed_of result ≡ long (term.number (wrap (pos value))) }
+{
+    Operand::Long(LongExpr::Number(value.cast_signed()))
+}
+
+fn constant(name: Name) -> Operand
+    ensures { typed_of result ≡ constant_typed (constant_of name) }
+{
+    match constant_of(name) {
+        Some(value) => Operand::Long(LongExpr::Number(value)),
+        None => Operand::Untyped,
+    }
+}
+
+// What a step makes of the operands on top.
+fn follow(
+    alloc: Global,
+    stack: &mut Vec<Operand>,
+    parameter: PlainName,
+    step: Step,
+) -> Result<Operand, AllocError>
+    ensures { (ts : List shape_type) → operands_of stack.old.items ≡ stacked ts
+        → IfOk result (λ o. operands_of stack.new.items ++ typed_of o ∷ [] ≡ stacked (typed_step parameter step ts)) }
+{
+    match step {
+        Step::Name(_) => Ok(Operand::Long(LongExpr::Parameter(0))),
+        Step::Number(value) => Ok(number(value)),
+        Step::Truth(value) => Ok(Operand::Truth(BoolExpr::Literal(value))),
+        Step::Constant(name) => Ok(constant(name)),
+        Step::Prefix(sign) => {
+            let operand = pop(stack);
+            prefix(alloc, sign, operand)
+        }
+        Step::Binary(sign) => {
+            let right = pop(stack);
+            let left = pop(stack);
+            operate(alloc, sign.operation(), left, right)
+        }
+        Step::Ternary => {
+            let other = pop(stack);
+            let chosen = pop(stack);
+            let condition = pop(stack);
+            select(alloc, condition, chosen, other)
+        }
+        Step::Enclose(Opening::Paren) => Ok(pop(stack)),
+        Step::Enclose(Opening::Call(owner, name)) => {
+            let operand = pop(stack);
+            call(alloc, function_of(owner, name), operand)
+        }
+    }
+}
+
+/// The expression that steps in postfix order give.
+pub(crate) fn elaborate(
+    alloc: Global,
+    parameter: PlainName,
+    steps: &[Step],
+) -> Result<Operand, AllocError>
+    ensures { IfOk result (λ o. typed_of o ≡ top_typed (typed_steps parameter [] steps.now)) }
+{
+    let mut stack = Vec::new(alloc);
+    for step in steps {
+        let operand = follow(alloc, &mut stack, parameter, *step)?;
+        stack.push(operand)?;
+    }
+    Ok(pop(&mut stack))
+}

@@ -1,0 +1,109 @@
+//! The operators of expressions as they are written.
+
+ghost use Rattle.lambda_expr.specs.Checks.{is_comma};
+ghost use Rattle.lambda_expr.specs.Grammar.{is_infix, is_prefix, level};
+ghost use Rattle.lambda_expr.specs.Typing.{operation_of};
+ghost use Rattle.std.specs.Prelude.{◌≡◌};
+
+use super::operator::{BinaryOperator, Comparison, Connective, Operation};
+
+/// A sign before an operand or between two. The comma separates the operands of a call.
+#[derive(Clone, Copy)]
+pub(crate) enum Sign {
+    Comma,
+    Or,
+    And,
+    BitOr,
+    BitXor,
+    BitAnd,
+    Equal,
+    NotEqual,
+    Less,
+    AtMost,
+    More,
+    AtLeast,
+    ShiftLeft,
+    ShiftRight,
+    ShiftRightUnsigned,
+    Add,
+    Subtract,
+    Multiply,
+    Divide,
+    Remainder,
+    Complement,
+    Not,
+}
+
+impl Sign {
+    /// How tightly the sign binds between two operands; the comma binds least.
+    pub(crate) fn level(self) -> u32
+        ensures { result ≡ level self }
+    {
+        match self {
+            Sign::Comma => 0,
+            Sign::Or | Sign::Complement | Sign::Not => 2,
+            Sign::And => 3,
+            Sign::BitOr => 4,
+            Sign::BitXor => 5,
+            Sign::BitAnd => 6,
+            Sign::Equal | Sign::NotEqual => 7,
+            Sign::Less | Sign::AtMost | Sign::More | Sign::AtLeast => 8,
+            Sign::ShiftLeft | Sign::ShiftRight | Sign::ShiftRightUnsigned => 9,
+            Sign::Add | Sign::Subtract => 10,
+            Sign::Multiply | Sign::Divide | Sign::Remainder => 11,
+        }
+    }
+
+    /// Whether the sign may stand between two operands.
+    pub(crate) fn is_infix(self) -> bool
+        ensures { result ≡ is_infix self }
+    {
+        !matches!(self, Sign::Complement | Sign::Not)
+    }
+
+    /// Whether the sign may stand before an operand.
+    pub(crate) fn is_prefix(self) -> bool
+        ensures { result ≡ is_prefix self }
+    {
+        matches!(
+            self,
+            Sign::Subtract | Sign::Add | Sign::Complement | Sign::Not
+        )
+    }
+
+    /// What the sign does between two operands.
+    pub(crate) fn operation(self) -> Operation
+        ensures { result ≡ operation_of self }
+    {
+        match self {
+            Sign::Comma => Operation::Separate,
+            Sign::Or => Operation::Connect(Connective::Or),
+            Sign::And => Operation::Connect(Connective::And),
+            Sign::BitOr => Operation::Compute(BinaryOperator::Or),
+            Sign::BitXor => Operation::Compute(BinaryOperator::Xor),
+            Sign::BitAnd => Operation::Compute(BinaryOperator::And),
+            Sign::Equal => Operation::Compare(Comparison::Equal),
+            Sign::NotEqual => Operation::Compare(Comparison::NotEqual),
+            Sign::Less => Operation::Compare(Comparison::Less),
+            Sign::AtMost => Operation::Compare(Comparison::AtMost),
+            Sign::More => Operation::Compare(Comparison::More),
+            Sign::AtLeast => Operation::Compare(Comparison::AtLeast),
+            Sign::ShiftLeft => Operation::Compute(BinaryOperator::ShiftLeft),
+            Sign::ShiftRight => Operation::Compute(BinaryOperator::ShiftRight),
+            Sign::ShiftRightUnsigned => Operation::Compute(BinaryOperator::ShiftRightUnsigned),
+            Sign::Add => Operation::Compute(BinaryOperator::Add),
+            Sign::Subtract => Operation::Compute(BinaryOperator::Subtract),
+            Sign::Multiply => Operation::Compute(BinaryOperator::Multiply),
+            Sign::Divide => Operation::Compute(BinaryOperator::Divide),
+            Sign::Remainder => Operation::Compute(BinaryOperator::Remainder),
+            Sign::Complement | Sign::Not => Operation::Nothing,
+        }
+    }
+
+    /// Whether the sign is a comma.
+    pub(crate) fn is_comma(self) -> bool
+        ensures { result ≡ is_comma self }
+    {
+        matches!(self, Sign::Comma)
+    }
+}

@@ -1,0 +1,24 @@
+//! Expressions in postfix order.
+
+use super::lexeme::{Name, Owner, PlainName};
+use super::sign::Sign;
+
+/// What a closing parenthesis ends.
+#[derive(Clone, Copy)]
+pub(crate) enum Opening {
+    Paren,
+    Call(Owner, Name),
+}
+
+/// One step of an expression in postfix order: each operand before what it is an operand of.
+#[derive(Clone, Copy)]
+pub(crate) enum Step {
+    Ternary,
+    Name(PlainName),
+    Number(u64),
+    Truth(bool),
+    Constant(Name),
+    Prefix(Sign),
+    Binary(Sign),
+    Enclose(Opening),
+}
