@@ -25,7 +25,7 @@ abbrev pub IsNumber : List Word → Number → Type 0
 IsNumber ws (plain w) = (is_numeral w ≡ true) × (numeral w ∷ [] ≡ ws)
 IsNumber ws (negative w) = (is_numeral w ≡ true) × (sign symbol.Minus ∷ numeral w ∷ [] ≡ ws)
 
--- the words are a number
+-- helper: the words are a number
 abbrev pub ANumber : List Word → Type 0
 ANumber ws = (n : Number) × IsNumber ws n
 

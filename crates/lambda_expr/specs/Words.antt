@@ -15,7 +15,7 @@ pub data Word : Type 0 where
   sign : Symbol → Word
   bad : Word
 
--- the word of a token of this kind with these bytes
+-- helper: the word of a token of this kind with these bytes
 abbrev pub word_for : TokenKind → List ℕ → Word
 word_for kind.Name bytes = named bytes
 word_for kind.Number bytes = numeral bytes

@@ -7,7 +7,7 @@ use std::alloc::{AllocError, AllocFailed};
 
 /// Why an expression has no value at an item, or a source no items.
 ///
-/// A report tells each kind by its name; a program that keeps numbers has 1 to 4, in this order.
+/// A report names each kind; a program that keeps numbers has 1 to 4, in this order.
 #[derive(Clone, Copy, Debug, PartialEq, Eq)]
 pub enum FaultKind {
     /// A quotient or a remainder whose divisor is 0.
@@ -34,7 +34,7 @@ pub enum ReadFault {
     TooDeep,
     /// A number above 2^63 - 1; 2^63 may stand directly after a unary minus.
     LiteralTooLarge,
-    /// A growth was refused.
+    /// An allocation failed.
     NoMemory,
 }
 

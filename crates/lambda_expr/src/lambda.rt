@@ -7,7 +7,7 @@ use super::expr::{BoolExpr, LongExpr};
 pub enum Want {
     /// From a number to a number, as `map` takes it.
     Long,
-    /// From a number to a truth value, as `filter` takes it.
+    /// From a number to a boolean, as `filter` takes it.
     Bool,
 }
 

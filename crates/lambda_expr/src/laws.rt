@@ -25,9 +25,9 @@ pub fn one_stop()
     ensures { (ws : List word) (m n : ℕ) → StopsAt ALambda ws m → StopsAt ALambda ws n → m ≡ n }
 {}
 
-/// A text spells one lambda at most, is refused for one thing at most, and not both, want of memory
-/// apart. So `read_lambda` answers `Ok` for every text that spells a lambda, unless a growth was
-/// refused.
+/// A text spells one lambda at most, is refused for one thing at most, and not both, out of memory
+/// apart. So `read_lambda` answers `Ok` for every text that spells a lambda, unless an allocation
+/// failed.
 pub fn one_answer()
     ensures lambda { (text : List ℕ) (want : Want) (l m : Lambda) →
         Spells text want l → Spells text want m → body_of l.body ≡ body_of m.body }

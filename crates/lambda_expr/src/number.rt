@@ -49,8 +49,8 @@ impl Numeral<'_> {
     }
 }
 
-/// The value of a number's digits, or the greatest `u64` where it is above that. A mark behind the
-/// digits is passed over.
+/// The value of a number's digits, or the greatest `u64` if it is above that. A mark after the
+/// digits is skipped.
 pub(crate) fn value_of(number: &[u8]) -> u64
     ensures { result ≡ min (numeral_value number.now) u64.MAX }
 {
