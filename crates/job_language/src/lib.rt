@@ -12,6 +12,7 @@
 //! earlier jobs and the columns).
 //!
 //! Begin with `specs/Grammar.antt`, then `shape.rt`; for refusals with `specs/Causes.antt`, then `causes.rt`.
+//! Tests are in the crate `job_tests`.
 //!
 //! Not promised: that a lambda or an operator between parentheses is one.
 #![tactic(auto)]
