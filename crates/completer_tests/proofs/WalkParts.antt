@@ -7,7 +7,7 @@ use Rattle.completer_tree.specs.declared.part.Failure.{Failure}
 use Rattle.completer_tree.specs.declared.part.Failure.TheVariants as failed
 use Rattle.pending_count.specs.declared.place.Place.{Place}
 use Rattle.completer_tree.specs.Places.{Goes, leftmost, place_by}
-use Rattle.completer_tests.specs.declared.walks.Cut.{Cut}
+use Rattle.completer_tests.specs.declared.cut.Cut.{Cut}
 use Rattle.pending_count.proofs.Sums.{some_is}
 use Rattle.completer_tests.specs.WalkLaws.{walked_as}
 use Rattle.completer_tests.specs.Walks.{slice, begins, ends_at, IsClean, Walked}

@@ -5,7 +5,7 @@ use Rattle.pending_count.specs.declared.place.Fits.{Ghosts}
 use Rattle.pending_count.specs.declared.counts.Counts.{Counts}
 use Rattle.completer_tree.specs.declared.tree.Half.{Half}
 use Rattle.completer_tree.specs.Trees.{table_id_of, CanFork}
-use Rattle.completer_tests.specs.declared.walks.Cut.{Cut}
+use Rattle.completer_tests.specs.declared.cut.Cut.{Cut}
 use Rattle.completer_tests.specs.Walks.{begins, ends_at}
 
 -- how many numbers a side has

@@ -4,7 +4,7 @@ use Rattle.pending_count.specs.declared.place.Side.{Side}
 use Rattle.pending_count.specs.declared.place.Side.TheVariants.{Left, Right, Whole}
 use Rattle.completer_tree.specs.declared.part.Failure.{Failure}
 use Rattle.completer_tree.specs.declared.part.Failure.TheVariants as failed
-use Rattle.completer_tests.specs.declared.walks.Cut.{Cut}
+use Rattle.completer_tests.specs.declared.cut.Cut.{Cut}
 
 -- the numbers from one place up to, not with, another
 abbrev pub slice : List ℤ → ℕ → ℕ → List ℤ

@@ -3,6 +3,7 @@
 
 #[cfg(test)]
 mod counting;
+pub mod cut;
 #[cfg(test)]
 mod machine;
 #[cfg(test)]

@@ -10,6 +10,7 @@ ghost use Rattle.completer_tests.specs.Halves.{CanWalk};
 ghost use Rattle.completer_tests.specs.Walks.{begins, ends_at, IsClean, IsFirstNegative, Walked};
 ghost use Rattle.completer_tests.specs.WalkLaws.{walked_as};
 
+use crate::cut::Cut;
 use completer_tree::{
     Completer, CompleterTree, Continuation, Failure, First, Forked, Half, Handed, Next, Part, Tree,
     TreeCounts, TreeSeat,
@@ -36,14 +37,6 @@ impl Planned for Brand {
 pub(crate) struct Items<P: Planned> {
     pub(crate) items: Vec<i64>,
     of: PhantomData<P>,
-}
-
-/// The numbers of a node: those of its left side are the ones before `middle`.
-#[derive(Clone, Copy)]
-pub(crate) struct Cut {
-    from: usize,
-    middle: usize,
-    to: usize,
 }
 
 impl<P: Planned> Part for Items<P> {
@@ -157,18 +150,6 @@ fn range_of(place: &Place<Cut>) -> (usize, usize)
     }
 }
 
-// A cut of a part that leaves at least one number on each side.
-fn cut_of(from: usize, to: usize) -> Cut
-    requires { from + 1 < to }
-    ensures { (result.from ≡ from) × (from < result.middle) × (result.middle < to) × (result.to ≡ to) }
-{
-    Cut {
-        from,
-        middle: from + 1 + from.wrapping_mul(7919).wrapping_add(to) % (to - from - 1),
-        to,
-    }
-}
-
 // Walks one side of a node: in one piece, or in two where it is long enough and a node is left, on 2^`levels` threads.
 #[cycle(walk)]
 fn walk<P: Planned + Send + Sync, R: Threads + Sync>(
@@ -191,7 +172,7 @@ fn walk<P: Planned + Send + Sync, R: Threads + Sync>(
             .1;
     }
     let run = Append {
-        cut: cut_of(from, to),
+        cut: Cut::within(from, to),
         parent: Some((place.tag, is_left(&place))),
         of: PhantomData,
     };
