@@ -11,3 +11,4 @@ pub mod Shaping
 pub mod Sounding
 pub mod NumberReads
 pub mod Causing
+pub mod JobCausing

@@ -1,5 +1,5 @@
 -- Meaning: what a part of a job is refused for: the causes in order of writing, and the first that there is.
-use Rattle.std.specs.Prelude.{ℕ, suc, ℤ, pos, int_lt, Bool, true, false, not, ◌||◌, nat_eq, nat_lt, if◌then◌else◌, List, [], ◌∷◌, ◌++◌, length, take, drop, ◌-◌, Option, Some, None}
+use Rattle.std.specs.Prelude.{ℕ, suc, ℤ, pos, int_lt, Bool, true, false, not, ◌||◌, nat_eq, nat_lt, nat_le, if◌then◌else◌, List, [], ◌∷◌, ◌++◌, length, take, drop, ◌-◌, Option, Some, None}
 use Rattle.std.specs.Option.{is_some}
 use Rattle.std.specs.Cmp.Lexicographic.{pointwise}
 use Rattle.lambda_expr.specs.Words.{Word, named, quoted}
@@ -9,12 +9,15 @@ use Rattle.job_language.specs.declared.operation.Operation.{Operation}
 use Rattle.job_language.specs.declared.operation.Operation.TheVariants as op
 use Rattle.job_language.specs.declared.operation.Param.{Param}
 use Rattle.job_language.specs.declared.operation.Param.TheVariants as param
+use Rattle.job_language.specs.declared.operation.Role.{Role}
+use Rattle.job_language.specs.declared.operation.Role.TheVariants as role
 use Rattle.job_language.specs.declared.scope.Gives.{Gives}
 use Rattle.job_language.specs.declared.scope.Gives.TheVariants as gives
 use Rattle.job_language.specs.declared.fault.Cause.{Cause}
 use Rattle.job_language.specs.declared.fault.Cause.TheVariants as cause
-use Rattle.job_language.specs.Table.{param_of}
+use Rattle.job_language.specs.Table.{param_of, role_of}
 use Rattle.job_language.specs.Calls.{Call}
+use Rattle.job_language.specs.Grammar.{Job, plain_sources, job_calls}
 use Rattle.job_language.specs.Numbers.{literal_fits, number_read}
 
 -- an earlier job: its name, and what its terminal gives
@@ -110,3 +113,25 @@ row_cause scope o xs = None
 -- the causes of a call before those of its lambda or operator
 abbrev pub call_causes : Scope → Call → List (Option Cause)
 call_causes scope c = count_of c.operation (length c.parts) ∷ (number_causes c.operation (length c.parts) 0 c.parts ++ row_cause scope c.operation c.parts ∷ [])
+
+-- a stage after 32 others
+abbrev pub stage_cause : ℕ → Role → Option Cause
+stage_cause n role.Stage = when (nat_le 32 n) cause.TooLong
+stage_cause n r = None
+
+abbrev pub stages_after : ℕ → Role → ℕ
+stages_after n role.Stage = suc n
+stages_after n r = n
+
+-- the causes of calls in order of writing, after n stages
+abbrev pub calls_causes : Scope → ℕ → List Call → List (Option Cause)
+calls_causes scope n [] = []
+calls_causes scope n (c ∷ cs) = stage_cause n (role_of c.operation) ∷ (call_causes scope c ++ calls_causes scope (stages_after n (role_of c.operation)) cs)
+
+-- at most 8 plain sources, those of each `concat` counted
+abbrev pub sources_cause : Job → Option Cause
+sources_cause j = when (nat_lt 8 (length (plain_sources j.source))) cause.TooLong
+
+-- the causes of a job before those of its lambdas and operators
+abbrev pub job_causes : Scope → Job → List (Option Cause)
+job_causes scope j = name_causes scope j.name ++ sources_cause j ∷ calls_causes scope 0 (job_calls j)

@@ -4,6 +4,8 @@ use Rattle.stream_tokens.specs.declared.symbol.Symbol.{Symbol}
 use Rattle.stream_tokens.specs.declared.symbol.Symbol.TheVariants as symbol
 use Rattle.lambda_expr.specs.Words.{Word, named, sign}
 use Rattle.job_language.specs.declared.operation.Operation.{Operation}
+use Rattle.job_language.specs.declared.operation.Role.{Role}
+use Rattle.job_language.specs.declared.operation.Role.TheVariants as role
 use Rattle.job_language.specs.declared.piece.Mark.{Mark}
 use Rattle.job_language.specs.declared.piece.Mark.TheVariants as mark
 use Rattle.job_language.specs.declared.piece.WrittenCall as code
@@ -11,7 +13,7 @@ use Rattle.job_language.specs.declared.piece.ReadPiece as piece
 use Rattle.job_language.specs.declared.mode.Mode.{Mode}
 use Rattle.job_language.specs.declared.mode.Mode.TheVariants as mode
 use Rattle.job_language.specs.declared.shape.Reader as shape
-use Rattle.job_language.specs.Table.{operation_of}
+use Rattle.job_language.specs.Table.{operation_of, role_of}
 use Rattle.job_language.specs.Calls.{Call}
 use Rattle.job_language.specs.Splitting.{call_at, AreEnds}
 use Rattle.job_language.specs.Grammar.{Piece, call, begin_concat, owner, comma, close, dot, semicolon, piece_words, pieces_words, calls_of, job_calls, Job, IsSpelled, IsJob}
@@ -145,3 +147,17 @@ pub record AreCallsIn (ws : List Word) (cs : List Call) : Type 0 where
 abbrev pub start_before : ℕ → List ℕ → ℕ → ℕ
 start_before a es zero = a
 start_before a es (suc i) = get_or es i 0 + 1
+
+-- how many of the calls are sources
+abbrev pub one_if_source : Role → ℕ
+one_if_source role.Source = 1
+one_if_source r = 0
+
+abbrev pub sources_in : List Call → ℕ
+sources_in [] = 0
+sources_in (c ∷ cs) = one_if_source (role_of c.operation) + sources_in cs
+
+-- the name that the words begin with
+abbrev pub first_name : List Word → List ℕ
+first_name (named w ∷ ws) = w
+first_name ws = []

@@ -8,11 +8,11 @@
 //! Stands on `stream_tokens`, which cuts the text of a job once (`CutText`), and on the words and numbers of
 //! `lambda_expr`, and on `columns` for their names. `parse_job` gives the calls of a job in order of writing
 //! exactly when the text is a job, and `None` exactly when it is none; `one_job` says that words are one job at
-//! most. `name_cause` and `call_cause` are the first cause for which a name or a call is refused (`Scope`: the
-//! earlier jobs and the columns).
+//! most. `job_cause` is the first cause for which a job is refused (`Scope`: the earlier jobs and the columns);
+//! `name_cause` and `call_cause` are that of a name and of a call.
 //!
-//! Begin with `specs/Grammar.antt`, then `shape.rt`; for refusals with `specs/Causes.antt`, then `causes.rt`.
-//! Tests are in the crate `job_tests`.
+//! Begin with `specs/Grammar.antt`, then `shape.rt`; for refusals with `specs/Causes.antt`, then `causes.rt` and
+//! `job_causes.rt`. Tests are in the crate `job_tests`.
 //!
 //! Not promised: that a lambda or an operator between parentheses is one.
 #![tactic(auto)]
@@ -20,6 +20,7 @@
 mod call;
 mod causes;
 mod fault;
+mod job_causes;
 mod mode;
 mod number;
 mod operation;
@@ -32,6 +33,7 @@ mod word;
 pub use call::one_call;
 pub use causes::{call_cause, name_cause};
 pub use fault::{Cause, JobFault};
+pub use job_causes::job_cause;
 pub use operation::{
     Operation, Param, Role, allows, name_of, one_operation, operation_of, param_of, role_of,
 };

@@ -1,31 +1,18 @@
-//! Why names and calls are refused. The causes are worked out by hand.
+//! Why jobs are refused. The causes are worked out by hand.
 use columns::{Columns, Counted, read_columns};
-use job_language::{
-    Cause, EarlierJob, Gives, ParsedJob, Scope, Word, call_cause, name_cause, parse_job,
-};
+use job_language::{Cause, EarlierJob, Gives, Scope, job_cause, parse_job};
 use lambda_expr::ReadFault;
 use std::alloc::{AllocError, Global};
 use std::test::Fail;
 use stream_tokens::{CutText, cut};
 
-/// The first cause of the name and the calls of a job: a source, a stage and a terminal.
+/// The first cause of a job, but for its lambdas and operators.
 fn cause_of(alloc: Global, scope: Scope, text: &[u8]) -> Result<Option<Cause>, AllocError> {
     let tokens = cut(alloc, text)?;
     let text = CutText::of(text, &tokens);
-    let Some(ParsedJob { words, calls }) = parse_job(alloc, &text)? else {
-        return Ok(Some(Cause::Syntax));
-    };
-    let name = match words.as_slice() {
-        [Word::Name(name), ..] => name_cause(scope, name),
-        _ => Some(Cause::Syntax),
-    };
-    match calls.as_slice() {
-        [source, stage, terminal] => Ok(
-            name.or(call_cause(scope, &words, source))
-                .or(call_cause(scope, &words, stage))
-                .or(call_cause(scope, &words, terminal)),
-        ),
-        _ => Ok(Some(Cause::Syntax)),
+    match parse_job(alloc, &text)? {
+        Some(job) => Ok(job_cause(scope, &job)),
+        None => Ok(Some(Cause::Syntax)),
     }
 }
 
@@ -105,6 +92,47 @@ fn names_end_at_64_bytes_and_values_of_a_call_at_1024(rt: HostRuntime) -> Result
         text.extend_from_slice(b").limit(1).sum()")?;
         let found = cause_in(rt.alloc(), &Columns::none(), &text);
         assert!(rt; found == cause, "{bytes} {values}");
+    }
+    Ok(())
+}
+
+#[test]
+fn plain_sources_of_a_job_end_at_8(rt: HostRuntime) {
+    let eight =
+        r#"s = concat(column("z"), of(), concat(of(), of(), of(), of(), of(), of())).sum()"#;
+    let nine =
+        r#"s = concat(column("z"), of(), LongStream.concat(of(), of(), of(), concat(of(), of()), of(), of())).sum()"#;
+    let name = r#"list = concat(of(), of(), of(), of(), of(), of(), of(), of(), of()).sum()"#;
+    for (text, cause) in [
+        (eight, Cause::UnknownColumn),
+        (nine, Cause::TooLong),
+        (name, Cause::SameName),
+    ] {
+        let found = cause_in(rt.alloc(), &Columns::none(), text.as_bytes());
+        assert!(rt; found == Some(cause), "{text}");
+    }
+}
+
+#[test]
+fn stages_of_a_job_end_at_32(rt: HostRuntime) -> Result<(), Fail> {
+    for (stages, rest, cause) in [
+        (32, ".sum()", None),
+        (31, ".limit(-1).skip(-1).sum()", Some(Cause::NegativeCount)),
+        (32, ".prefix(3, 2, sum).sum()", Some(Cause::TooLong)),
+        (
+            32,
+            ".reduce(9223372036854775808, sum)",
+            Some(Cause::Expr(ReadFault::LiteralTooLarge)),
+        ),
+    ] {
+        let mut text = Vec::new(rt.alloc());
+        text.extend_from_slice(b"s = of(1, 2)")?;
+        for _ in 0..stages {
+            text.extend_from_slice(b".map(x -> x)")?;
+        }
+        text.extend_from_slice(rest.as_bytes())?;
+        let found = cause_in(rt.alloc(), &Columns::none(), &text);
+        assert!(rt; found == cause, "{stages} {rest}");
     }
     Ok(())
 }

@@ -4,7 +4,7 @@
 //! clause says: that the definitions accept and refuse the texts that they should, worked out by hand, and that a
 //! call succeeds if there is memory.
 //!
-//! `grammar.rt` tests which texts are jobs, `causes.rt` why a name or a call is refused. A table is one text: that
+//! `grammar.rt` tests which texts are jobs, `causes.rt` why a job is refused. A table is one text: that
 //! costs the least to check.
 //!
 //! Nothing stands on this crate, and it promises nothing.

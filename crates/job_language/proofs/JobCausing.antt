@@ -1,0 +1,123 @@
+-- Causes of a whole job, call by call.
+use Rattle.std.proofs.Common.{◌≡◌, ℕ, zero, suc, ◌+◌, ◌<◌, ◌≤◌, true, false, List, [], ◌∷◌, ◌++◌, length, drop, get_or, Some, None, refl, ap, sym, subst, ◌∙◌, arith}
+use Rattle.std.proofs.lemmas.List.{drop_more, length-append}
+use Rattle.lambda_expr.specs.Words.{Word}
+use Rattle.job_language.specs.declared.piece.WrittenCall as written
+use Rattle.job_language.specs.declared.fault.Cause.{Cause}
+use Rattle.job_language.specs.declared.fault.Cause.TheVariants.{TooLong}
+use Rattle.job_language.specs.Table.{role_of}
+use Rattle.job_language.specs.Calls.{Call}
+use Rattle.job_language.specs.Grammar.{Source, Sources, plain, concat, two, more, Job, Piece, close, comma, calls_of, source_pieces, sources_pieces, plain_sources, job_calls, IsSource, AreSources, AreStages, IsSpelled, IsJob}
+use Rattle.job_language.specs.Shapes.{call_in, calls_in, StandsIn, StandIn, AreCallsIn, one_if_source, sources_in, first_name}
+use Rattle.job_language.specs.Causes.{Scope, first_cause, stage_cause, stages_after, when, call_causes, calls_causes, name_causes, sources_cause, job_causes}
+use Rattle.job_language.proofs.Piecing.{calls_append}
+use Rattle.job_language.proofs.Causing.{first_append, first_stays}
+use Rattle.job_language.proofs.Shaping.{one_spelled}
+use Rattle.std.specs.Prelude.{nat_lt}
+use Rattle.std.proofs.lemmas.Grind.{common_steps}
+
+stands_at : (ws : List Word) (cs : List written.WrittenCall) (i : ℕ) (d : written.WrittenCall) → i < length cs → StandIn ws cs → StandsIn ws (get_or cs i d)
+stands_at ws [] i d lt h = absurd (omega arith)
+stands_at ws (c ∷ cs) zero d lt h = h.0
+stands_at ws (c ∷ cs) (suc i) d lt h = stands_at ws cs i d (omega arith) h.1
+
+-- the call at a place has a cause, or those after it decide
+call_here : (s : Scope) (ws : List Word) (cs : List written.WrittenCall) (i n : ℕ) (d : written.WrittenCall) (e : Cause) → i < length cs → first_cause (stage_cause n (role_of (get_or cs i d).operation) ∷ call_causes s (call_in ws (get_or cs i d))) ≡ Some e → first_cause (calls_causes s n (calls_in ws (drop i cs))) ≡ Some e
+call_here s ws cs i n d e lt h =
+    let c = get_or cs i d in
+    let r = role_of c.operation in
+    ap (λ v. first_cause (calls_causes s n (calls_in ws v))) (drop_more cs i d lt)
+    ∙ first_stays (stage_cause n r ∷ call_causes s (call_in ws c)) (calls_causes s (stages_after n r) (calls_in ws (drop (i + 1) cs))) e h
+
+call_more : (s : Scope) (ws : List Word) (cs : List written.WrittenCall) (i n : ℕ) (d : written.WrittenCall) → i < length cs → first_cause (stage_cause n (role_of (get_or cs i d).operation) ∷ call_causes s (call_in ws (get_or cs i d))) ≡ None → first_cause (calls_causes s n (calls_in ws (drop i cs))) ≡ first_cause (calls_causes s (stages_after n (role_of (get_or cs i d).operation)) (calls_in ws (drop (i + 1) cs)))
+call_more s ws cs i n d lt h =
+    let c = get_or cs i d in
+    let r = role_of c.operation in
+    ap (λ v. first_cause (calls_causes s n (calls_in ws v))) (drop_more cs i d lt)
+    ∙ first_append (stage_cause n r ∷ call_causes s (call_in ws c)) (calls_causes s (stages_after n r) (calls_in ws (drop (i + 1) cs))) h
+
+-- the same of an item of a loop
+pub item_stands : (ws : List Word) (cs : List written.WrittenCall) (i : ℕ) (x : written.WrittenCall) → i < length cs → x ≡ get_or cs i x → StandIn ws cs → StandsIn ws x
+item_stands ws cs i x lt is h = subst (StandsIn ws) (sym is) (stands_at ws cs i x lt h)
+
+pub item_here : (s : Scope) (ws : List Word) (cs : List written.WrittenCall) (i n : ℕ) (x : written.WrittenCall) (e : Cause) → i < length cs → x ≡ get_or cs i x → first_cause (stage_cause n (role_of x.operation) ∷ call_causes s (call_in ws x)) ≡ Some e → first_cause (calls_causes s n (calls_in ws (drop i cs))) ≡ Some e
+item_here s ws cs i n x e lt is h = call_here s ws cs i n x e lt (ap (λ y. first_cause (stage_cause n (role_of y.operation) ∷ call_causes s (call_in ws y))) (sym is) ∙ h)
+
+pub item_more : (s : Scope) (ws : List Word) (cs : List written.WrittenCall) (i n : ℕ) (x : written.WrittenCall) → i < length cs → x ≡ get_or cs i x → first_cause (stage_cause n (role_of x.operation) ∷ call_causes s (call_in ws x)) ≡ None → first_cause (calls_causes s n (calls_in ws (drop i cs))) ≡ first_cause (calls_causes s (stages_after n (role_of x.operation)) (calls_in ws (drop (i + 1) cs)))
+item_more s ws cs i n x lt is h =
+    call_more s ws cs i n x lt (ap (λ y. first_cause (stage_cause n (role_of y.operation) ∷ call_causes s (call_in ws y))) (sym is) ∙ h)
+    ∙ ap (λ y. first_cause (calls_causes s (stages_after n (role_of y.operation)) (calls_in ws (drop (i + 1) cs)))) (sym is)
+
+pub source_more : (ws : List Word) (cs : List written.WrittenCall) (i : ℕ) (d : written.WrittenCall) → i < length cs → sources_in (calls_in ws (drop i cs)) ≡ one_if_source (role_of (get_or cs i d).operation) + sources_in (calls_in ws (drop (i + 1) cs))
+source_more ws cs i d lt = ap (λ v. sources_in (calls_in ws v)) (drop_more cs i d lt)
+
+-- the sources among the calls of a job are its plain sources
+both_count : (xs ys : List Call) → sources_in (xs ++ ys) ≡ sources_in xs + sources_in ys
+both_count [] ys = let same : sources_in ([] ++ ys) ≡ sources_in ys = refl in let none : sources_in [] ≡ 0 = refl in omega arith
+both_count (x ∷ xs) ys = let rest = both_count xs ys in omega arith
+
+all_both : (xs ys : List Call) → sources_in xs ≡ length xs → sources_in ys ≡ length ys → sources_in (xs ++ ys) ≡ length (xs ++ ys)
+all_both xs ys h k = let a = both_count xs ys in let b = length-append xs ys in omega arith
+
+closed_counts : (cs : List Piece) → sources_in (calls_of cs) ≡ length (calls_of cs) → sources_in (calls_of (cs ++ close ∷ [])) ≡ length (calls_of (cs ++ close ∷ []))
+closed_counts cs h = subst (λ v. sources_in v ≡ length v) (sym (calls_append cs (close ∷ []))) (all_both (calls_of cs) [] h refl)
+
+mutual
+  source_counts : (s : Source) → IsSource s → sources_in (plain_sources s) ≡ length (plain_sources s)
+  source_counts (plain true c) h = ap (λ r. one_if_source r + 0) h.role
+  source_counts (plain false c) h = ap (λ r. one_if_source r + 0) h.role
+  source_counts (concat true ss) h = closed_counts (sources_pieces ss) (sources_count ss h)
+  source_counts (concat false ss) h = closed_counts (sources_pieces ss) (sources_count ss h)
+
+  sources_count : (ss : Sources) → AreSources ss → sources_in (calls_of (sources_pieces ss)) ≡ length (calls_of (sources_pieces ss))
+  sources_count (two a b) h = subst (λ v. sources_in v ≡ length v) (sym (calls_append (source_pieces a) (comma ∷ source_pieces b))) (all_both (plain_sources a) (plain_sources b) (source_counts a h.0) (source_counts b h.1))
+  sources_count (more ss s) h = subst (λ v. sources_in v ≡ length v) (sym (calls_append (sources_pieces ss) (comma ∷ source_pieces s))) (all_both (calls_of (sources_pieces ss)) (plain_sources s) (sources_count ss h.0) (source_counts s h.1))
+
+stages_count : (cs : List Call) → AreStages cs → sources_in cs ≡ 0
+stages_count [] h = refl
+stages_count (c ∷ cs) h = let none : one_if_source (role_of c.operation) ≡ 0 = ap one_if_source h.0.role in let rest = stages_count cs h.1 in omega arith
+
+pub sources_of_job : (ws : List Word) (j : Job) → IsSpelled ws j → sources_in (job_calls j) ≡ length (plain_sources j.source)
+sources_of_job ws j h =
+    let a = both_count (plain_sources j.source) (j.stages ++ j.terminal ∷ []) in
+    let b = both_count j.stages (j.terminal ∷ []) in
+    let c = source_counts j.source h.source in
+    let d = stages_count j.stages h.stages in
+    let e : sources_in (j.terminal ∷ []) ≡ 0 = ap (λ r. one_if_source r + 0) h.terminal.role in
+    omega arith
+
+name_of_job : (ws : List Word) (j : Job) → IsJob ws j → j.name ≡ first_name ws
+name_of_job ws j h = ap first_name h.spelled.spelled
+
+calls_of_job : (ws : List Word) (cs : List Call) (j : Job) → AreCallsIn ws cs → IsJob ws j → cs ≡ job_calls j
+calls_of_job ws cs j a h = a.calls ∙ ap job_calls (one_spelled ws a.job j a.is.spelled h.spelled)
+
+sources_are : (ws : List Word) (cs : List Call) (j : Job) → AreCallsIn ws cs → IsJob ws j → sources_in cs ≡ length (plain_sources j.source)
+sources_are ws cs j a h = ap sources_in (calls_of_job ws cs j a h) ∙ sources_of_job ws j h.spelled
+
+few : (n : ℕ) → n ≤ 8 → when (nat_lt 8 n) TooLong ≡ None
+few n h = grind (arith, common_steps)
+
+many : (n : ℕ) → 8 < n → when (nat_lt 8 n) TooLong ≡ Some TooLong
+many n h = grind (arith, common_steps)
+
+-- the groups of causes of a job, in turn
+pub by_name : (s : Scope) (ws : List Word) (j : Job) (e : Cause) → IsJob ws j → first_cause (name_causes s (first_name ws)) ≡ Some e → first_cause (job_causes s j) ≡ Some e
+by_name s ws j e h k = first_stays (name_causes s j.name) (sources_cause j ∷ calls_causes s 0 (job_calls j)) e (ap (λ w. first_cause (name_causes s w)) (name_of_job ws j h) ∙ k)
+
+after_name : (s : Scope) (ws : List Word) (j : Job) → IsJob ws j → first_cause (name_causes s (first_name ws)) ≡ None → first_cause (job_causes s j) ≡ first_cause (sources_cause j ∷ calls_causes s 0 (job_calls j))
+after_name s ws j h k = first_append (name_causes s j.name) (sources_cause j ∷ calls_causes s 0 (job_calls j)) (ap (λ w. first_cause (name_causes s w)) (name_of_job ws j h) ∙ k)
+
+pub by_sources : (s : Scope) (ws : List Word) (cs : List Call) (j : Job) → AreCallsIn ws cs → IsJob ws j → first_cause (name_causes s (first_name ws)) ≡ None → 8 < sources_in cs → first_cause (job_causes s j) ≡ Some TooLong
+by_sources s ws cs j a h k over =
+    let same = sources_are ws cs j a h in
+    let n = length (plain_sources j.source) in
+    after_name s ws j h k ∙ ap (λ d. first_cause (d ∷ calls_causes s 0 (job_calls j))) (many n (omega arith))
+
+pub by_calls : (s : Scope) (ws : List Word) (cs : List Call) (j : Job) → AreCallsIn ws cs → IsJob ws j → first_cause (name_causes s (first_name ws)) ≡ None → sources_in cs ≤ 8 → first_cause (job_causes s j) ≡ first_cause (calls_causes s 0 cs)
+by_calls s ws cs j a h k within =
+    let same = sources_are ws cs j a h in
+    let n = length (plain_sources j.source) in
+    after_name s ws j h k
+    ∙ ap (λ d. first_cause (d ∷ calls_causes s 0 (job_calls j))) (few n (omega arith))
+    ∙ ap (λ v. first_cause (calls_causes s 0 v)) (sym (calls_of_job ws cs j a h))
