@@ -28,7 +28,7 @@ stages_few n (g ∷ gs) ss room (inr (lt, inl p)) = absurd (let e = p.2 in cc)
 stages_few n (g ∷ gs) ss room (inr (lt, inr p)) = one_more n ss p.0 p.2 (λ qs e. stages_few (n + 1) gs qs (omega (arith, lt)) (subst (StagesRead (n + 1) gs) e p.3)) p.4
 
 -- what is told of an answer that was no refusal
-then_ok : {A B : Type 0} (q : Result A Cause) (K : A → Result B Cause → Type 0) (b : B) → Then q K (Ok b) → (a : A) × K a (Ok b)
+pub then_ok : {A B : Type 0} (q : Result A Cause) (K : A → Result B Cause → Type 0) (b : B) → Then q K (Ok b) → (a : A) × K a (Ok b)
 then_ok (Ok a) K b told = (a, told)
 then_ok (Err c) K b told = absurd (let e = told in cc)
 

@@ -1,6 +1,7 @@
 mod Covering
 mod FewStages
 mod JobLists
+mod NamedTexts
 mod RunLemmas
 pub mod Arguing
 pub mod Calling

@@ -2,27 +2,37 @@
 --   bytes of the job file → texts of jobs      stream_tokens/specs/JobTexts, Tokens
 --   texts of jobs         → jobs               JobGrammar, JobRefusals; their lambdas: lambda_expr/specs/Grammar, Refusals
 --   jobs                  → answers            job_plan/specs/Meaning; their walks: trace/specs/Cover, Stages, Trace
---   answers               → bytes of the report     report/specs/Text
+--   answers               → bytes of the report     report/specs/Text, Json
 -- Reports of small files, worked out: report/specs/Worked.
 use Rattle.std.specs.Prelude.{◌≡◌, ◌≢◌, ℕ, ◌<◌, List, length, take, Option}
 use Rattle.std.specs.Io.KnownBytes.{Appends, Keeps}
+use Rattle.job_plan.specs.declared.answer.Answer.{Answer}
+use Rattle.job_plan.specs.declared.settings.Form.{Form}
+use Rattle.job_plan.specs.declared.settings.Form.TheVariants as form
 use Rattle.job_plan.specs.Meaning.{JobTerm, meaning_of, names_of}
+use Rattle.report.specs.Json.{report_json}
 use Rattle.report.specs.Text.{report_text}
 use Rattle.engine.specs.declared.running.EngineFault.{EngineFault}
 use Rattle.engine.specs.declared.running.EngineFault.TheVariants.{Jobs, JobsRead, NoMemory, Write}
 use Rattle.engine.specs.declared.jobs.fault.Cause.TheVariants as cause
 use Rattle.engine.specs.JobRefusals.{Spells, IsRefused}
 
--- what a run is given: the bytes of the job file
+-- what a run is given: the bytes of the job file, and the form of the report
 pub record Input : Type 0 where
   pub jobs : List ℕ
+  pub form : Form
+
+-- the report of answers in each form, given the names of their jobs
+abbrev pub report_in : Form → List (List ℕ) → List Answer → List ℕ
+report_in form.Text names answers = report_text names answers
+report_in form.Json names answers = report_json names answers
 
 -- the report of the jobs that the input spells: what one thread writes that takes the jobs in file order and each
 -- source in encounter order, with the first fault that it meets in place of the job's answer
 pub record IsReport (input : Input) (report : List ℕ) : Type 0 where
   pub jobs : List JobTerm
   pub spelled : Spells input.jobs jobs
-  pub written : report ≡ report_text (names_of jobs) (meaning_of jobs)
+  pub written : report ≡ report_in input.form (names_of jobs) (meaning_of jobs)
 
 -- a writer that held these bytes before and those after took the report and nothing else
 abbrev pub Reported : Input → Option (List ℕ) → Option (List ℕ) → Type 0

@@ -3,19 +3,19 @@
 ghost use Rattle.counted_io.specs.FailureCounts.{HasRisen};
 ghost use Rattle.engine.specs.Jobs.{jobs_of};
 ghost use Rattle.engine.specs.Refused.{IsEarly};
-ghost use Rattle.engine.specs.Run.{Faulted, Input, IsReport, Reported};
+ghost use Rattle.engine.specs.Run.{Faulted, IsReport, Reported, report_in};
 ghost use Rattle.job_plan.specs.Meaning.{meaning_of, names_of};
-ghost use Rattle.report.specs.Text.{report_text};
+ghost use Rattle.report.specs.Named.{IsNamed, IsText};
 ghost use Rattle.std.specs.Io.KnownBytes.{Keeps};
-ghost use Rattle.std.specs.Prelude.{◌≡◌, ◌≢◌, ◌≤◌, ℕ, All, length, IfErr, IfOk, IfSome, OnOk};
+ghost use Rattle.std.specs.Prelude.{◌≡◌, ◌≢◌, ◌≤◌, ℕ, All, List, length, IfErr, IfOk, IfSome, OnOk};
 
 use crate::jobs::fault::JobFault;
 use crate::jobs::file::read_jobs;
 use crate::jobs::job::Job;
 use crate::walk::answer_of;
 use columns::{CountedRead, ReadAllFault, read_all_of};
-use job_plan::Answer;
-use report::{CountedWrite, WriteFault, text, write_all_of};
+use job_plan::{Answer, Form, Settings};
+use report::{CountedWrite, WriteFault, json, text, write_all_of};
 use std::alloc::Global;
 use stream_tokens::{Bytes, NoMemory};
 use thiserror::Error;
@@ -42,24 +42,25 @@ pub enum EngineFault {
 
 /// Reads the job file whole, checks it, runs its jobs, builds the report whole and writes it.
 ///
-/// It uses one thread and walks each source once, with at most one call of each stage per item. The
+/// Of the settings only the form of the report is used yet: it uses one thread and walks each source once, with at most one call of each stage per item. The
 /// job file and the report are each held in memory once.
 pub fn run<J: CountedRead, W: CountedWrite>(
     alloc: Global,
     jobs: &mut J,
     writer: &mut W,
+    settings: &Settings,
 ) -> Result<(), EngineFault>
     // The headline: the writer holds what it held before, and then the report of the jobs that the bytes spell.
     ensures report { OnOk result (IfSome (J.remaining jobs.old) (λ bytes.
-        Reported (record { jobs = bytes }) (W.contents writer.old) (W.contents writer.new))) }
+        Reported (record { jobs = bytes; form = settings.now.form }) (W.contents writer.old) (W.contents writer.new))) }
     ensures fault { IfErr result (λ fault. IfSome (J.remaining jobs.old) (λ bytes.
-        Faulted (record { jobs = bytes }) (W.contents writer.old) (W.contents writer.new) fault)) }
+        Faulted (record { jobs = bytes; form = settings.now.form }) (W.contents writer.old) (W.contents writer.new) fault)) }
 
     // The same of some bytes, if those of the reader aren't known.
-    ensures of_some_bytes { OnOk result ((input : Input)
-        × Reported input (W.contents writer.old) (W.contents writer.new)) }
-    ensures fault_of_some_bytes { IfErr result (λ fault. (input : Input)
-        × Faulted input (W.contents writer.old) (W.contents writer.new) fault) }
+    ensures of_some_bytes { OnOk result ((bytes : List ℕ)
+        × Reported (record { jobs = bytes; form = settings.now.form }) (W.contents writer.old) (W.contents writer.new)) }
+    ensures fault_of_some_bytes { IfErr result (λ fault. (bytes : List ℕ)
+        × Faulted (record { jobs = bytes; form = settings.now.form }) (W.contents writer.old) (W.contents writer.new) fault) }
 
     ensures unwritten { IfErr result (λ fault. ((n : ℕ) → fault ≢ EngineFault.Write n) →
         Keeps (W.contents writer.old) (W.contents writer.new)) }
@@ -75,7 +76,7 @@ pub fn run<J: CountedRead, W: CountedWrite>(
         Err(ReadAllFault::Failed) => return Err(EngineFault::JobsRead),
         Err(ReadAllFault::NoMemory) => return Err(EngineFault::NoMemory),
     };
-    let report = match report_of(alloc, &bytes) {
+    let report = match report_of(alloc, &bytes, settings.form) {
         Ok(report) => report,
         Err(fault) => return Err(fault),
     };
@@ -85,29 +86,49 @@ pub fn run<J: CountedRead, W: CountedWrite>(
     }
 }
 
-/// The report of the jobs that these bytes spell.
-pub fn report_of(alloc: Global, bytes: &[u8]) -> Result<Vec<u8>, EngineFault>
-    ensures ok { IfOk result (λ report. IsReport (record { jobs = bytes.now }) report.items) }
-    ensures err { IfErr result (λ fault. IsEarly (record { jobs = bytes.now }) fault) }
+/// The report of the jobs that these bytes spell, in this form.
+pub fn report_of(alloc: Global, bytes: &[u8], form: Form) -> Result<Vec<u8>, EngineFault>
+    ensures ok { IfOk result (λ report. IsReport (record { jobs = bytes.now; form = form }) report.items) }
+    ensures err { IfErr result (λ fault. IsEarly (record { jobs = bytes.now; form = form }) fault) }
 {
     let jobs = match read_jobs(alloc, bytes) {
         Ok(jobs) => jobs,
         Err(fault) => return Err(EngineFault::Jobs(fault)),
     };
-    match written(alloc, jobs) {
+    match written(alloc, jobs, form) {
         Ok(report) => Ok(report),
         Err(_) => Err(EngineFault::NoMemory),
     }
 }
 
 /// The report of these jobs.
-fn written(alloc: Global, jobs: Vec<Job>) -> Result<Vec<u8>, NoMemory>
+fn written(alloc: Global, jobs: Vec<Job>, form: Form) -> Result<Vec<u8>, NoMemory>
     requires few { All (λ job. length job.stages.items ≤ 32) jobs.items }
-    ensures { IfOk result (λ report. report.items ≡ report_text (names_of (jobs_of jobs.items)) (meaning_of (jobs_of jobs.items))) }
+    requires text { All IsText (names_of (jobs_of jobs.items)) }
+    ensures { IfOk result (λ report. report.items
+        ≡ report_in form (names_of (jobs_of jobs.items)) (meaning_of (jobs_of jobs.items))) }
 {
     let answers = answers_of(alloc, &jobs)?;
     let names = names_in(alloc, jobs)?;
-    text(alloc, &names, &answers)
+    printed(alloc, &names, &answers, form)
+}
+
+/// The report of answers in a form.
+fn printed(
+    alloc: Global,
+    names: &[Bytes],
+    answers: &[Answer],
+    form: Form,
+) -> Result<Vec<u8>, NoMemory>
+    requires paired { length names.now ≡ length answers.now }
+    requires named { All (IsNamed names.now) answers.now }
+    requires text { All IsText names.now }
+    ensures { IfOk result (λ report. report.items ≡ report_in form names.now answers.now) }
+{
+    match form {
+        Form::Text => text(alloc, names, answers),
+        Form::Json => json(alloc, names, answers),
+    }
 }
 
 /// The answers of jobs, in their order.

@@ -2,6 +2,7 @@
 
 use columns::Counted;
 use engine::{EngineFault, run, tell};
+use job_plan::{Form, Settings};
 use report::CountedOut;
 use std::alloc::Global;
 
@@ -12,11 +13,26 @@ pub struct Outcome {
     pub written: Vec<u8>,
 }
 
-/// Runs a job file of these bytes.
+/// The settings of the program, with a report in this form.
+pub fn settings_for(form: Form) -> Settings {
+    Settings {
+        workers: 4,
+        threshold: 1_024,
+        nodes: 4_096,
+        form,
+    }
+}
+
+/// Runs a job file of these bytes, with a report as text.
 pub fn run_over(alloc: Global, jobs: &[u8]) -> Outcome {
+    run_with(alloc, jobs, &settings_for(Form::Text))
+}
+
+/// Runs a job file of these bytes with these settings.
+pub fn run_with(alloc: Global, jobs: &[u8], settings: &Settings) -> Outcome {
     let mut reader = Counted::new(jobs);
     let mut writer = CountedOut::new(Vec::new(alloc));
-    let answer = run(alloc, &mut reader, &mut writer);
+    let answer = run(alloc, &mut reader, &mut writer, settings);
     Outcome {
         answer,
         written: writer.into_inner(),

@@ -1,6 +1,7 @@
 //! Whole runs over memory: the bytes of the report, worked out by hand and by Java 17.
 
-use crate::fixture::{halves, reports, run_over};
+use crate::fixture::{halves, is_line, reports, run_over, run_with, settings_for};
+use job_plan::{Form, Settings};
 
 const FIRST_FAULTS: &str = "\
 q = range(0, 10).map(x -> 10 / (x - 7)).toArray() => q = fault divide-by-zero stage 1 item 7
@@ -66,5 +67,43 @@ fn every_beginning_of_a_file_is_run_or_refused(rt: HostRuntime) {
             None => outcome.answer.is_err() && outcome.written.is_empty(),
         };
         assert!(rt; expected, "the first {end} bytes");
+    }
+}
+
+const JSON: &str = "\
+s = of(1, 2).toArray() => [{\"array\":[1,2],\"name\":\"s\"}]
+s = of(3, 0, -5).sum() => [{\"name\":\"s\",\"number\":-2}]
+q = range(0, 10).map(x -> 10 / (x - 7)).toArray() => [{\"fault\":\"divide-by-zero\",\"item\":7,\"name\":\"q\",\"stage\":1}]
+n = range(-9223372036854775808, 9223372036854775807).sum() => [{\"fault\":\"source-too-long\",\"item\":null,\"name\":\"n\",\"stage\":0}]
+ => []";
+
+#[test]
+fn a_report_as_json_is_one_array_on_one_line(rt: HostRuntime) {
+    for row in JSON.lines() {
+        let (jobs, report) = halves(row);
+        let outcome = run_with(rt.alloc(), jobs.as_bytes(), &settings_for(Form::Json));
+        assert!(rt;
+            outcome.answer.is_ok() && is_line(&outcome.written, report),
+            "{row}"
+        );
+    }
+}
+
+#[test]
+fn settings_are_taken_exactly_within_their_limits(rt: HostRuntime) {
+    for (workers, threshold, nodes, taken) in [
+        (1, 1, 0, true),
+        (64, 1_048_576, 1_048_576, true),
+        (0, 1, 0, false),
+        (65, 1, 0, false),
+        (1, 0, 0, false),
+        (1, 1_048_577, 0, false),
+        (1, 1, 1_048_577, false),
+    ] {
+        let settings = Settings::of(workers, threshold, nodes, Form::Text);
+        assert!(rt;
+            settings.is_some() == taken,
+            "{workers} {threshold} {nodes}"
+        );
     }
 }

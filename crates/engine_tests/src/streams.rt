@@ -1,7 +1,9 @@
 //! Readers and writers that give or take little, or fail.
 
+use crate::fixture::settings_for;
 use columns::Counted;
 use engine::{EngineFault, run};
+use job_plan::Form;
 use report::CountedOut;
 use std::alloc::Global;
 use std::io;
@@ -62,7 +64,7 @@ fn run_from(alloc: Global, fails_in: usize) -> (Result<(), EngineFault>, Vec<u8>
         fails_in,
     });
     let mut writer = CountedOut::new(Vec::new(alloc));
-    let answer = run(alloc, &mut reader, &mut writer);
+    let answer = run(alloc, &mut reader, &mut writer, &settings_for(Form::Text));
     (answer, writer.into_inner())
 }
 
@@ -72,7 +74,12 @@ fn run_into(alloc: Global, jobs: &[u8], room: usize) -> (Result<(), EngineFault>
         held: Vec::new(alloc),
         room,
     });
-    let answer = run(alloc, &mut Counted::new(jobs), &mut writer);
+    let answer = run(
+        alloc,
+        &mut Counted::new(jobs),
+        &mut writer,
+        &settings_for(Form::Text),
+    );
     (answer, writer.into_inner().held)
 }
 

@@ -11,8 +11,10 @@
 
 mod answer;
 mod laws;
+mod settings;
 mod values;
 
 pub use answer::Answer;
 pub use laws::{answers_join, answers_of_one_more, sum_of_one_more, sums_join, values_join};
+pub use settings::{Form, Settings};
 pub use values::Values;

@@ -1,27 +1,81 @@
 //! The command line.
 
-use clap::{Arg, ArgAction, Command, Error};
-use std::alloc::Global;
+use clap::{Arg, ArgAction, ArgMatches, Command, Error, value_parser};
+use job_plan::{Form, Settings};
+use std::alloc::{AllocError, Global};
 
 /// What the command line asks for.
 #[derive(Drop)]
 pub struct Arguments<'a> {
     /// The path of the job file.
     pub jobs: &'a str,
+    /// The settings of the run; none only if a number is outside its limits.
+    pub settings: Option<Settings>,
 }
 
 /// Reads the words of a command line, the program's name first. A request for help is an `Err` too,
 /// with an `exit_code` of 0.
 pub fn read_arguments<'a>(alloc: Global, words: &'a [&'a str]) -> Result<Arguments<'a>, Error> {
+    let command = with_settings(alloc, command_of(alloc)?)?;
+    let matches = command.try_get_matches_from(words)?;
+    Ok(Arguments {
+        jobs: matches.get_str("JOBS").unwrap_or(""),
+        settings: settings_of(&matches),
+    })
+}
+
+/// The command with its files.
+fn command_of<'a>(alloc: Global) -> Result<Command<'a>, AllocError> {
     let jobs = Arg::new(alloc, "JOBS")
         .help("The file of jobs to run")
         .required(true)
         .action(ArgAction::Set);
-    let command = Command::new(alloc, "streamrun")
+    Command::new(alloc, "streamrun")
         .about("Runs pipelines over 64-bit integers and writes a report with one answer per job")
-        .arg(jobs)?;
-    let matches = command.try_get_matches_from(words)?;
-    Ok(Arguments {
-        jobs: matches.get_str("JOBS").unwrap_or(""),
-    })
+        .arg(jobs)
+}
+
+/// The command with an option for each setting.
+fn with_settings<'a>(alloc: Global, command: Command<'a>) -> Result<Command<'a>, AllocError> {
+    let workers = Arg::new(alloc, "workers")
+        .long("workers")
+        .value_name("N")
+        .help("Threads, 1 to 64")
+        .default_value("4")
+        .action(ArgAction::Set)
+        .value_parser(value_parser!(u64).range(1..=64));
+    let threshold = Arg::new(alloc, "threshold")
+        .long("threshold")
+        .value_name("N")
+        .help("Items of a piece, 1 to 1048576")
+        .default_value("1024")
+        .action(ArgAction::Set)
+        .value_parser(value_parser!(u64).range(1..=1_048_576));
+    let nodes = Arg::new(alloc, "nodes")
+        .long("nodes")
+        .value_name("N")
+        .help("Nodes for splits, 0 to 1048576")
+        .default_value("4096")
+        .action(ArgAction::Set)
+        .value_parser(value_parser!(u64).range(0..=1_048_576));
+    let json = Arg::new(alloc, "json")
+        .long("json")
+        .help("Write the report as JSON")
+        .action(ArgAction::SetTrue);
+    command.arg(workers)?.arg(threshold)?.arg(nodes)?.arg(json)
+}
+
+/// The settings that were matched.
+fn settings_of(matches: &ArgMatches<'_>) -> Option<Settings> {
+    let form = if matches.get_flag("json") {
+        Form::Json
+    } else {
+        Form::Text
+    };
+    Settings::of(
+        matches.get_one::<u64>("workers")?,
+        matches.get_one::<u64>("threshold")?,
+        matches.get_one::<u64>("nodes")?,
+        form,
+    )
 }

@@ -1,4 +1,4 @@
-//! `streamrun JOBS`: runs the jobs of a file over 64-bit integers, and writes a report with one answer
+//! `streamrun [OPTIONS] JOBS`: runs the jobs of a file over 64-bit integers, and writes a report with one answer
 //! per job.
 //!
 //! Stands on `engine`, whose `run` is the whole work, on `columns` and `report` for readers and
@@ -16,6 +16,7 @@ use clap::error::ErrorKind as ArgumentErrorKind;
 use columns::Counted;
 use command_line::{Arguments, read_arguments};
 use engine::{EngineFault, run, tell};
+use job_plan::Settings;
 use report::CountedOut;
 use std::alloc::AllocError;
 use std::io::{ErrorKind, Read, Write};
@@ -46,8 +47,17 @@ fn status_of(rt: &HostRuntime) -> Result<u8, AllocError> {
         }
     };
     let words: Vec<&str> = given.iter().map(|word| word.as_str()).collect(rt.alloc())?;
-    let path = match read_arguments(rt.alloc(), words.as_slice()) {
-        Ok(Arguments { jobs }) => jobs,
+    let (path, settings) = match read_arguments(rt.alloc(), words.as_slice()) {
+        Ok(
+            Arguments {
+                jobs,
+                settings: Some(settings),
+            },
+        ) => (jobs, settings),
+        Ok(Arguments { settings: None, .. }) => {
+            let _ = writeln!(rt.stderr(), "streamrun: a setting is outside its limits");
+            return Ok(REFUSED);
+        }
         Err(error) if error.kind() == ArgumentErrorKind::OutOfMemory => return Err(AllocError),
         Err(refused) => {
             let _ = refused.print(rt);
@@ -55,7 +65,7 @@ fn status_of(rt: &HostRuntime) -> Result<u8, AllocError> {
         }
     };
     match fs::open(rt, path) {
-        Ok(file) => Ok(report_of_file(rt, file)),
+        Ok(file) => Ok(report_of_file(rt, file, &settings)),
         Err(error) if error.kind() == ErrorKind::OutOfMemory => Err(AllocError),
         Err(_) => {
             let _ = writeln!(rt.stderr(), "streamrun: cannot open jobs");
@@ -65,10 +75,10 @@ fn status_of(rt: &HostRuntime) -> Result<u8, AllocError> {
 }
 
 /// Runs the jobs of an open file, and answers the exit status.
-fn report_of_file<F: Read + Drop>(rt: &HostRuntime, file: F) -> u8 {
+fn report_of_file<F: Read + Drop>(rt: &HostRuntime, file: F, settings: &Settings) -> u8 {
     let mut jobs = Counted::new(file);
     let mut writer = CountedOut::new(rt.stdout());
-    match run(rt.alloc(), &mut jobs, &mut writer) {
+    match run(rt.alloc(), &mut jobs, &mut writer, settings) {
         Ok(()) => 0,
         Err(fault) => tell(&fault, &mut rt.stderr()),
     }

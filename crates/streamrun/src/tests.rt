@@ -1,6 +1,7 @@
 //! The command line: a missing argument or one too many is a mistake, a request for help is none.
 
 use crate::command_line::read_arguments;
+use job_plan::Form;
 
 #[test]
 fn one_job_file_is_asked_for(rt: HostRuntime) {
@@ -17,6 +18,14 @@ fn a_request_for_help_is_no_mistake(rt: HostRuntime) {
         (["streamrun"].as_slice(), 2),
         (["streamrun", "a.jobs", "b.jobs"].as_slice(), 2),
         (["streamrun", "--workers", "a.jobs"].as_slice(), 2),
+        (["streamrun", "--workers", "0", "a.jobs"].as_slice(), 2),
+        (["streamrun", "--workers", "65", "a.jobs"].as_slice(), 2),
+        (["streamrun", "--threshold", "0", "a.jobs"].as_slice(), 2),
+        (
+            ["streamrun", "--threshold", "1048577", "a.jobs"].as_slice(),
+            2,
+        ),
+        (["streamrun", "--nodes", "1048577", "a.jobs"].as_slice(), 2),
         (["streamrun", "--help"].as_slice(), 0),
         (["streamrun", "-h"].as_slice(), 0),
     ] {
@@ -24,5 +33,47 @@ fn a_request_for_help_is_no_mistake(rt: HostRuntime) {
             Ok(_) => assert!(rt; false, "{words:?}"),
             Err(error) => assert!(rt; error.exit_code() == status, "{words:?}"),
         }
+    }
+}
+
+#[test]
+fn settings_are_the_defaults_unless_options_change_them(rt: HostRuntime) {
+    for (words, expected) in [
+        (
+            ["streamrun", "a.jobs"].as_slice(),
+            (4, 1_024, 4_096, Form::Text),
+        ),
+        (
+            ["streamrun", "--json", "a.jobs"].as_slice(),
+            (4, 1_024, 4_096, Form::Json),
+        ),
+        (
+            [
+                "streamrun",
+                "--workers",
+                "64",
+                "--threshold",
+                "1",
+                "--nodes",
+                "0",
+                "a.jobs",
+            ]
+            .as_slice(),
+            (64, 1, 0, Form::Text),
+        ),
+    ] {
+        let given = match read_arguments(rt.alloc(), words) {
+            Ok(arguments) => arguments.settings,
+            Err(_) => None,
+        };
+        let taken = given.is_some_and(|settings| {
+            (
+                settings.workers,
+                settings.threshold,
+                settings.nodes,
+                settings.form,
+            ) == expected
+        });
+        assert!(rt; taken, "{words:?}");
     }
 }
