@@ -8,7 +8,7 @@ use crate::graph::{END, Graph};
 use crate::nodes::Nodes;
 
 /// The most arrivals that may ever be owed to a node, made ones counted in.
-const MOST_OWED: u64 = 1 << 62;
+const MAX_OWED: u64 = 1 << 62;
 
 impl Graph {
     /// Why an action would be refused, memory aside.
@@ -67,7 +67,7 @@ impl Graph {
         if self.held(actor, node) == 0 {
             return Err(Illegal::NotHeld);
         }
-        if MOST_OWED - state.owed < d {
+        if MAX_OWED - state.owed < d {
             return Err(Illegal::TooMany);
         }
         Ok(())

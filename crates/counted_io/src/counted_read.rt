@@ -94,7 +94,7 @@ pub enum ReadAllFault {
 const FIRST_ROOM: usize = 64 * 1024;
 
 /// How many bytes one read asks for at most: few enough to be still in a cache when it fills them.
-const LONGEST_READ: usize = 256 * 1024;
+const MAX_READ: usize = 256 * 1024;
 
 /// All bytes that the reader has left.
 ///
@@ -131,7 +131,7 @@ fn make_room(bytes: &mut Vec<u8>) -> Result<(), ReadAllFault>
     if filled == bytes.capacity() && bytes.reserve(filled.max(FIRST_ROOM)).is_err() {
         return Err(ReadAllFault::NoMemory);
     }
-    let room = (bytes.capacity() - filled).min(LONGEST_READ);
+    let room = (bytes.capacity() - filled).min(MAX_READ);
     if bytes.resize(filled + room, 0).is_err() {
         return Err(ReadAllFault::NoMemory);
     }

@@ -7,7 +7,7 @@ ghost use Rattle.lambda_expr.specs.Elaborating.{typed_of};
 ghost use Rattle.lambda_expr.specs.Refusals.{IsRefused, Spells, body_of, column, verdict};
 ghost use Rattle.lambda_expr.specs.Refusals.{wanted as specs_wanted};
 ghost use Rattle.lambda_expr.specs.Tokens.{StandIn};
-ghost use Rattle.std.specs.Prelude.{◌≡◌, Err, IfErr, IfOk, Ok};
+ghost use Rattle.std.specs.Prelude.{◌≡◌, ◌≢◌, [], Err, IfErr, IfOk, Ok};
 
 use super::check::summarize;
 use super::elaborate::{Operand, elaborate};
@@ -98,11 +98,15 @@ fn judge(alloc: Global, written: &Written, want: Want) -> Result<Lambda, ReadFau
 ///
 /// Refusals, the first that applies: `TooDeep` for more than 4,096 tokens, `Syntax`,
 /// `LiteralTooLarge`, `TooDeep` for a body deeper than 64, `UnknownName`, `WrongType`. `NoMemory`
-/// may stand in place of any answer if an allocation failed.
+/// may stand in place of any answer if an allocation failed; the empty text takes no memory.
 pub fn read_lambda(alloc: Global, text: &[u8], want: Want) -> Result<Lambda, ReadFault>
     ensures ok { IfOk result (λ lambda. Spells text.now want lambda) }
     ensures refused { IfErr result (λ fault. IsRefused text.now want fault) }
+    ensures memory { IfErr result (λ fault. fault ≡ ReadFault.NoMemory → text.now ≢ []) }
 {
+    if text.is_empty() {
+        return Err(ReadFault::Syntax { column: 1 });
+    }
     let tokens = cut(alloc, text)?;
     if tokens.len() > MAX_TOKENS {
         return Err(ReadFault::TooDeep);

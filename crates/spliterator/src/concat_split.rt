@@ -6,7 +6,7 @@ ghost use Rattle.spliterator.specs.Parts.{plain_values, all_values};
 
 use super::array_split::ArraySplit;
 use super::characteristics::{IMMUTABLE, NONNULL, ORDERED, SIZED, SUBSIZED};
-use super::long_spliterator::{LONGEST_SOURCE, LongSpliterator};
+use super::long_spliterator::{LongSpliterator, MAX_SOURCE_SIZE};
 use super::plain_split::PlainSplit;
 use trace::Item;
 
@@ -151,7 +151,7 @@ fn total_size(parts: &[PlainSplit]) -> Option<u64>
     let mut total = 0;
     for part in parts {
         let size = part.exact_size();
-        if size > LONGEST_SOURCE - total {
+        if size > MAX_SOURCE_SIZE - total {
             return None;
         }
         total += size;

@@ -20,6 +20,6 @@ pub use characteristics::{
     CONCURRENT, DISTINCT, IMMUTABLE, NONNULL, ORDERED, SIZED, SORTED, SUBSIZED,
 };
 pub use concat_split::ConcatSplit;
-pub use long_spliterator::{LONGEST_SOURCE, LongSpliterator};
+pub use long_spliterator::{LongSpliterator, MAX_SOURCE_SIZE};
 pub use plain_split::PlainSplit;
 pub use range_split::RangeSplit;

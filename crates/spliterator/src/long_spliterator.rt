@@ -7,7 +7,7 @@ ghost use Rattle.spliterator.specs.Splits.{IsSplit};
 use trace::Item;
 
 /// The largest number of values of a source: 2^62.
-pub const LONGEST_SOURCE: u64 = 1 << 62;
+pub const MAX_SOURCE_SIZE: u64 = 1 << 62;
 
 /// A source of items in encounter order that can be split (`java.util.Spliterator.OfLong`).
 ///

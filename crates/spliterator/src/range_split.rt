@@ -6,7 +6,7 @@ ghost use Rattle.trace.specs.Cover.{counted, placed, distance};
 ghost use Rattle.spliterator.specs.Splits.{IsSplit, split_items};
 
 use super::characteristics::{DISTINCT, IMMUTABLE, NONNULL, ORDERED, SIZED, SORTED, SUBSIZED};
-use super::long_spliterator::{LONGEST_SOURCE, LongSpliterator};
+use super::long_spliterator::{LongSpliterator, MAX_SOURCE_SIZE};
 use trace::Item;
 
 /// The items of `LongStream.range` and `rangeClosed`, or a piece of them.
@@ -30,7 +30,7 @@ impl RangeSplit {
         ensures none { IfNone result (2 ^ 62 < distance from to) }
     {
         let count = if from < to { to.abs_diff(from) } else { 0 };
-        if count > LONGEST_SOURCE {
+        if count > MAX_SOURCE_SIZE {
             return None;
         }
         Some(RangeSplit {
@@ -49,7 +49,7 @@ impl RangeSplit {
             return RangeSplit::range(from, from);
         }
         let last = to.abs_diff(from);
-        if last >= LONGEST_SOURCE {
+        if last >= MAX_SOURCE_SIZE {
             return None;
         }
         Some(RangeSplit {

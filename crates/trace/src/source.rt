@@ -13,7 +13,7 @@ use crate::item::Item;
 use lambda_expr::Inner;
 
 /// The largest number of values that a source may have: 2^62.
-pub const LONGEST_SOURCE: u64 = 1 << 62;
+pub const MAX_SOURCE_SIZE: u64 = 1 << 62;
 
 /// Items in encounter order that can be read by position.
 pub trait SourceItems {
@@ -46,7 +46,7 @@ impl RangeItems {
         ensures none { IfNone result (cover (range from to) ≡ too_long) }
     {
         let count = if from < to { to.abs_diff(from) } else { 0 };
-        if count > LONGEST_SOURCE {
+        if count > MAX_SOURCE_SIZE {
             return None;
         }
         Some(RangeItems { first: from, count })
@@ -80,7 +80,7 @@ impl<'a> ValueItems<'a> {
         ensures some { IfSome result (λ source. (source.values.now ≡ values.now) × (cover (listed values.now) ≡ trace (placed 0 values.now) end.Done)) }
         ensures none { IfNone result (cover (listed values.now) ≡ too_long) }
     {
-        (values.len() as u64 <= LONGEST_SOURCE).then_some(ValueItems { values })
+        (values.len() as u64 <= MAX_SOURCE_SIZE).then_some(ValueItems { values })
     }
 }
 
