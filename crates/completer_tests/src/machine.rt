@@ -1,6 +1,6 @@
 //! The machine of `completion_core`, on scripts of actions with the replies that they have to give.
 use completion_core::{Action, Actor, Graph, Illegal, Node, Nodes, Reply, play, step};
-use std::alloc::Global;
+use std::alloc::{AllocError, Global};
 use std::str::SplitWhitespace;
 use std::test::Fail;
 
@@ -236,10 +236,10 @@ fn the_first_reason_that_applies_is_given(rt: HostRuntime) -> Result<(), Fail> {
 }
 
 // Takes an action, and once more if an allocation failed: the graph is as it was then.
-fn persists(graph: &mut Graph, action: &Action) -> Option<Reply> {
-    match step(graph, action.clone().ok()?) {
-        Err(Illegal::NoMemory) => step(graph, action.clone().ok()?).ok(),
-        answer => answer.ok(),
+fn persists(graph: &mut Graph, action: &Action) -> Result<Option<Reply>, AllocError> {
+    match step(graph, action.clone()?) {
+        Err(Illegal::NoMemory) => Ok(step(graph, action.clone()?).ok()),
+        answer => Ok(answer.ok()),
     }
 }
 
@@ -251,7 +251,7 @@ fn an_action_refused_for_memory_can_be_taken_again(rt: HostRuntime) -> Result<()
     let actions = actions(rt.alloc(), script).expect(&rt, "a script of actions");
     let mut graph = Graph::new(rt.alloc(), 2, 1)?;
     for (action, want) in actions.iter().zip(replies.split(';')) {
-        assert!(rt; persists(&mut graph, action) == reply(want), "{action:?}");
+        assert!(rt; persists(&mut graph, action)? == reply(want), "{action:?}");
     }
     Ok(())
 }
