@@ -9,3 +9,4 @@ pub mod Numbers
 pub mod FaultCauses
 pub mod Causes
 pub mod Scopes
+pub mod Jobs

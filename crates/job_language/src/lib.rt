@@ -20,6 +20,7 @@
 mod call;
 mod causes;
 mod fault;
+mod job;
 mod job_causes;
 mod mode;
 mod number;
@@ -33,6 +34,7 @@ mod word;
 pub use call::one_call;
 pub use causes::{call_cause, name_cause};
 pub use fault::{Cause, JobFault};
+pub use job::{Job, JobStage, PlainSource, Terminal};
 pub use job_causes::job_cause;
 pub use operation::{
     Operation, Param, Role, allows, name_of, one_operation, operation_of, param_of, role_of,

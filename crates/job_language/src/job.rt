@@ -1,0 +1,71 @@
+//! Jobs as they are kept once they are read.
+
+ghost use Rattle.std.specs.Prelude.{◌≤◌, length};
+
+use find_ops::FindTerminal;
+use reduce_ops::Op;
+use slice_ops::Slice;
+use stream_tokens::Bytes;
+use trace::Stage;
+
+/// A source that is no `concat`.
+#[derive(Drop)]
+pub enum PlainSource<'c> {
+    /// `range(from, to)`: from `from` up to, not with, `to`; empty if `to` is not above it.
+    Range { from: i64, to: i64 },
+    /// `rangeClosed(from, to)`: from `from` up to and with `to`; empty if `to` is below it.
+    RangeClosed { from: i64, to: i64 },
+    /// `of(..)` and `empty()`: these values.
+    Values(Vec<i64>),
+    /// `column("name")`: the cells of the column, borrowed.
+    Column(&'c [i64]),
+    /// `result(NAME)`: the array of the earlier job with this name.
+    Result(Bytes),
+}
+
+/// A stage of a job.
+#[derive(Drop)]
+pub enum JobStage {
+    /// `map`, `filter`, `flatMap`: a stage that looks at one item at a time.
+    Item(Stage),
+    /// `limit`, `skip`, `takeWhile`, `dropWhile`: a stage that looks at the whole walk.
+    Slice(Slice),
+    /// `prefix(OPERATOR)`.
+    Prefix(Op),
+    /// `prefix(from, to, OPERATOR)`: of the positions from `from` up to, not with, `to`.
+    PrefixRange { from: u64, to: u64, op: Op },
+}
+
+/// What is asked of the items of a job.
+#[derive(Drop)]
+pub enum Terminal {
+    /// `sum()`, wrapping to 64 bits.
+    Sum,
+    /// `count()`.
+    Count,
+    /// `min()`.
+    Min,
+    /// `max()`.
+    Max,
+    /// `toArray()`.
+    ToArray,
+    /// `reduce(OPERATOR)`.
+    Reduce(Op),
+    /// `reduce(identity, OPERATOR)`; the number is the operator's identity.
+    ReduceFrom { identity: i64, op: Op },
+    /// `findFirst()` and the three matches.
+    Find(FindTerminal),
+}
+
+/// A job: its name, where its items come from, what they pass through, and what is asked of them.
+#[derive(Drop)]
+pub struct Job<'c> {
+    pub name: Bytes,
+    /// The plain sources in order of writing, 1 to 8; more than one if the source is a `concat`. Those of a
+    /// `concat` in a `concat` stand in its place.
+    pub sources: Vec<PlainSource<'c>>,
+    /// In order of writing; at most 32.
+    pub stages: Vec<JobStage>,
+    pub terminal: Terminal,
+    ghost few: { length stages.items ≤ 32 },
+}
