@@ -18,7 +18,7 @@ use Rattle.job_language.specs.declared.fault.Cause.TheVariants as cause
 use Rattle.job_language.specs.Table.{param_of, role_of}
 use Rattle.job_language.specs.Calls.{Call}
 use Rattle.job_language.specs.Grammar.{Job, plain_sources, job_calls}
-use Rattle.job_language.specs.Numbers.{literal_fits, number_read}
+use Rattle.job_language.specs.Numbers.{literal_fits, number_of, number_read}
 
 -- an earlier job: its name, and what its terminal gives
 pub record Earlier : Type 0 where
@@ -135,3 +135,25 @@ sources_cause j = when (nat_lt 8 (length (plain_sources j.source))) cause.TooLon
 -- the causes of a job before those of its lambdas and operators
 abbrev pub job_causes : Scope → Job → List (Option Cause)
 job_causes scope j = name_causes scope j.name ++ sources_cause j ∷ calls_causes scope 0 (job_calls j)
+
+-- the numbers of a call, from part i on
+abbrev pub number_in : Param → List Word → List ℤ
+number_in param.Number ws = number_of ws ∷ []
+number_in p ws = []
+
+abbrev pub numbers_of : Operation → ℕ → ℕ → List (List Word) → List ℤ
+numbers_of o n i [] = []
+numbers_of o n i (a ∷ xs) = number_in (param_of o n i) a ++ numbers_of o n (suc i) xs
+
+-- a count below 0; a range that begins below 0, or ends before it begins
+abbrev pub values_cause : Operation → List ℤ → Option Cause
+values_cause op.Limit (k ∷ []) = when (is_negative k) cause.NegativeCount
+values_cause op.Skip (k ∷ []) = when (is_negative k) cause.NegativeCount
+values_cause op.Prefix (a ∷ b ∷ []) = when (is_negative a || int_lt b a) cause.BadRange
+values_cause o ks = None
+
+-- the causes of a call before that of its last part
+abbrev pub early_causes : Call → List (Option Cause)
+early_causes c =
+    let n = length c.parts in
+    count_of c.operation n ∷ (number_causes c.operation n 0 c.parts ++ values_cause c.operation (numbers_of c.operation n 0 c.parts) ∷ [])

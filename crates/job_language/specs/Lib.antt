@@ -10,3 +10,6 @@ pub mod FaultCauses
 pub mod Causes
 pub mod Scopes
 pub mod Jobs
+pub mod Operators
+pub mod Arguments
+pub mod Verdicts

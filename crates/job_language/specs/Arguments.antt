@@ -1,0 +1,133 @@
+-- Meaning: what the last part of a call is read as, if it is no number.
+use Rattle.std.specs.Prelude.{◌≡◌, ℕ, suc, ◌+◌, ◌-◌, ℤ, Bool, true, false, if◌then◌else◌, List, [], ◌∷◌, length, get_or, Option, Some, None, Result, Ok, Err}
+use Rattle.stream_tokens.specs.declared.symbol.Symbol.TheVariants as symbol
+use Rattle.stream_tokens.specs.declared.token.Token.{Token}
+use Rattle.stream_tokens.specs.declared.token.TokenKind.TheVariants.{Bad}
+use Rattle.stream_tokens.specs.CutTexts.{TokenizedText, between}
+use Rattle.lambda_expr.specs.Words.{Word, named, quoted, sign}
+use Rattle.lambda_expr.specs.Term.{Long, Truth}
+use Rattle.lambda_expr.specs.Streams.{Inner}
+use Rattle.lambda_expr.specs.Refusals.{Typed, long, boolean, Judged, IsRefused}
+use Rattle.lambda_expr.specs.declared.fault.ReadFault.{ReadFault}
+use Rattle.lambda_expr.specs.declared.fault.ReadFault.TheVariants as fault
+use Rattle.lambda_expr.specs.declared.lambda.Want.{Want}
+use Rattle.lambda_expr.specs.declared.lambda.Want.TheVariants as want
+use Rattle.columns.specs.Table.{cells_named}
+use Rattle.reduce_ops.specs.declared.op.Op.{Op}
+use Rattle.job_language.specs.declared.fault.Cause.{Cause}
+use Rattle.job_language.specs.declared.fault.Cause.TheVariants as cause
+use Rattle.job_language.specs.declared.operation.Operation.{Operation}
+use Rattle.job_language.specs.declared.operation.Param.{Param}
+use Rattle.job_language.specs.declared.operation.Param.TheVariants as param
+use Rattle.job_language.specs.declared.scope.Gives.{Gives}
+use Rattle.job_language.specs.declared.scope.Gives.TheVariants as gives
+use Rattle.job_language.specs.Table.{param_of}
+use Rattle.job_language.specs.Calls.{Call, parts_words}
+use Rattle.job_language.specs.Causes.{Scope, given, first_cause, inside_quotes}
+use Rattle.job_language.specs.Operators.{op_named, op_method, op_of_body, has_plus_sign}
+
+-- what a part is: the cells of a column, the name of an earlier job, the expression of a lambda, an operator;
+-- nothing if the last part is a number, or there is none
+pub data Argument : Type 0 where
+  nothing : Argument
+  column : List ℤ → Argument
+  job : List ℕ → Argument
+  number : Long → Argument
+  test : Truth → Argument
+  stream : Inner → Argument
+  operator : Op → Argument
+
+-- a call of a job, and the place of its opening parenthesis among the words
+pub record PlacedCall : Type 0 where
+  pub opened : ℕ
+  pub call : Call
+
+-- the last part of a call
+abbrev pub last_part : List (List Word) → List Word
+last_part [] = []
+last_part (a ∷ []) = a
+last_part (a ∷ b ∷ xs) = last_part (b ∷ xs)
+
+-- how many words stand before it, commas and all
+abbrev pub before_last : List (List Word) → ℕ
+before_last [] = 0
+before_last (a ∷ []) = 0
+before_last (a ∷ b ∷ xs) = suc (length a) + before_last (b ∷ xs)
+
+-- what the row says of it; a call without parts has none
+abbrev pub last_param : Operation → List (List Word) → Param
+last_param o [] = param.Number
+last_param o (a ∷ xs) = param_of o (suc (length xs)) (length xs)
+
+-- helper: a token for a place that has none
+abbrev pub no_token : Token
+no_token = record { kind = Bad; from = 0; to = 0 }
+
+-- the text of the last part: from the end of the `(` or `,` before it to the `)` after it
+abbrev pub argument_text : TokenizedText → PlacedCall → TokenizedText
+argument_text t c =
+    let i = c.opened + before_last c.call.parts in
+    let j = i + suc (length (last_part c.call.parts)) in
+    between t (get_or t.tokens i no_token) (get_or t.tokens j no_token) i j
+
+-- a column is its cells
+abbrev pub column_answer : Option (List ℤ) → Result Argument Cause
+column_answer None = Err cause.UnknownColumn
+column_answer (Some cells) = Ok (column cells)
+
+abbrev pub text_answer : Scope → List Word → Result Argument Cause
+text_answer scope (quoted w ∷ []) = column_answer (cells_named (inside_quotes w) scope.columns)
+text_answer scope ws = Ok nothing
+
+-- `result` names an earlier job that gives an array
+abbrev pub result_answer : List ℕ → Option Gives → Result Argument Cause
+result_answer w None = Err cause.UnknownJob
+result_answer w (Some gives.Array) = Ok (job w)
+result_answer w (Some g) = Err cause.NotAnArray
+
+abbrev pub name_answer : Scope → List Word → Result Argument Cause
+name_answer scope (named w ∷ []) = result_answer w (given scope.jobs w)
+name_answer scope ws = Ok nothing
+
+-- the lambda that a text is, or what it is refused for
+abbrev pub IsOutcome : List ℕ → Want → Result Typed ReadFault → Type 0
+IsOutcome text w (Ok t) = Judged text w (Ok t)
+IsOutcome text w (Err fault.NoMemory) = ⊥
+IsOutcome text w (Err f) = IsRefused text w f
+
+abbrev pub argument_of : Typed → Argument
+argument_of (long e) = number e
+argument_of (boolean p) = test p
+argument_of t = nothing
+
+abbrev pub lambda_answer : Scope → Result Typed ReadFault → Result Argument Cause
+lambda_answer scope (Err f) = Err (cause.Expr f)
+lambda_answer scope (Ok t) = Ok (argument_of t)
+
+abbrev pub IsLambdaRead : Scope → List ℕ → Want → Result Argument Cause → Type 0
+IsLambdaRead scope text w r = (o : Result Typed ReadFault) × IsOutcome text w o × (lambda_answer scope o ≡ r)
+
+-- an operator has to be in the table
+abbrev pub listed : Option Op → Result Argument Cause
+listed None = Err cause.OperatorNotListed
+listed (Some f) = Ok (operator f)
+
+-- an operator is a name, a method, or a lambda of two parameters; the lambdas are not read yet
+abbrev pub IsOperatorRead : List Word → List ℕ → Result Argument Cause → Type 0
+IsOperatorRead (named w ∷ []) text r = listed (op_named w) ≡ r
+IsOperatorRead (named o ∷ sign symbol.DoubleColon ∷ named w ∷ []) text r = listed (op_method o w) ≡ r
+IsOperatorRead ws text r = Err cause.OperatorNotListed ≡ r
+
+-- what words and a text are read as, by what the row says of the part; lambdas to a stream are not read yet
+abbrev pub IsReadBy : Param → Scope → List Word → List ℕ → Result Argument Cause → Type 0
+IsReadBy param.Number scope ws text r = Ok nothing ≡ r
+IsReadBy param.Text scope ws text r = text_answer scope ws ≡ r
+IsReadBy param.Name scope ws text r = name_answer scope ws ≡ r
+IsReadBy param.Long scope ws text r = IsLambdaRead scope text want.Long r
+IsReadBy param.Bool scope ws text r = IsLambdaRead scope text want.Bool r
+IsReadBy param.Stream scope ws text r = Err cause.Syntax ≡ r
+IsReadBy param.Operator scope ws text r = IsOperatorRead ws text r
+
+-- what the last part of a call of a job is read as
+abbrev pub IsArgumentRead : Scope → TokenizedText → PlacedCall → Result Argument Cause → Type 0
+IsArgumentRead scope t c r = IsReadBy (last_param c.call.operation c.call.parts) scope (last_part c.call.parts) (argument_text t c).bytes r
