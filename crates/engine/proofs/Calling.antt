@@ -23,7 +23,7 @@ nest_same k a b None = refl
 nest_same (kind.Symbol s) a b (Some d) = refl
 nest_same kind.Name a b (Some d) = refl
 nest_same kind.Number a b (Some d) = refl
-nest_same kind.Text a b (Some d) = refl
+nest_same kind.String a b (Some d) = refl
 nest_same kind.Reference a b (Some d) = refl
 nest_same kind.Bad a b (Some d) = refl
 
@@ -83,7 +83,7 @@ pub kind_of_name : (k : TokenKind) (bytes name : List ℕ) → word_for k bytes 
 kind_of_name kind.Name bytes name h = (refl, cc)
 kind_of_name (kind.Symbol s) bytes name h = absurd cc
 kind_of_name kind.Number bytes name h = absurd cc
-kind_of_name kind.Text bytes name h = absurd cc
+kind_of_name kind.String bytes name h = absurd cc
 kind_of_name kind.Reference bytes name h = absurd cc
 kind_of_name kind.Bad bytes name h = absurd cc
 

@@ -54,7 +54,7 @@ word_is_name : (k : TokenKind) (text : List ℕ) (n : ℕ) (w : List ℕ) → Is
 word_is_name kind.Name text n w (inl longest) is = let e : take n text ≡ w = cc in subst IsName e longest.form
 word_is_name kind.Name text n w (inr bad) is = absurd (let e = bad.bad in cc)
 word_is_name kind.Number text n w first is = absurd (let e = is in cc)
-word_is_name kind.Text text n w first is = absurd (let e = is in cc)
+word_is_name kind.String text n w first is = absurd (let e = is in cc)
 word_is_name kind.Reference text n w first is = absurd (let e = is in cc)
 word_is_name (kind.Symbol s) text n w first is = absurd (let e = is in cc)
 word_is_name kind.Bad text n w first is = absurd (let e = is in cc)

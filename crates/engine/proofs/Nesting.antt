@@ -37,7 +37,7 @@ other_kind : (k : TokenKind) (bytes : List ℕ) (d : ℕ) → (k ≡ kind.Symbol
 other_kind (kind.Symbol s) bytes d n m = other_symbol s d (λ e. n (ap kind.Symbol e)) (λ e. m (ap kind.Symbol e))
 other_kind kind.Name bytes d n m = refl
 other_kind kind.Number bytes d n m = refl
-other_kind kind.Text bytes d n m = refl
+other_kind kind.String bytes d n m = refl
 other_kind kind.Reference bytes d n m = refl
 other_kind kind.Bad bytes d n m = refl
 

@@ -21,7 +21,7 @@ pub kind_of_sign : (k : TokenKind) (bytes : List ℕ) (s : Symbol) → word_for 
 kind_of_sign (kind.Symbol r) bytes s h = let e : r ≡ s = cc in ap kind.Symbol e
 kind_of_sign kind.Name bytes s h = absurd cc
 kind_of_sign kind.Number bytes s h = absurd cc
-kind_of_sign kind.Text bytes s h = absurd cc
+kind_of_sign kind.String bytes s h = absurd cc
 kind_of_sign kind.Reference bytes s h = absurd cc
 kind_of_sign kind.Bad bytes s h = absurd cc
 

@@ -43,7 +43,7 @@ fn word_at<'a>(text: &CutText<'a>, place: usize) -> Word<'a>
     match text.kind(place) {
         TokenKind::Name => Word::Name(bytes),
         TokenKind::Number => Word::Number(bytes),
-        TokenKind::Text => Word::Text(bytes),
+        TokenKind::String => Word::Text(bytes),
         TokenKind::Reference => Word::Reference(bytes),
         TokenKind::Symbol(symbol) => Word::Sign(symbol),
         TokenKind::Bad => Word::Bad,

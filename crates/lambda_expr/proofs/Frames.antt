@@ -159,9 +159,9 @@ not_two (left a sign.BitAnd ∷ fs) h = absurd (omega arith)
 not_two (left a sign.Equal ∷ fs) h = absurd (omega arith)
 not_two (left a sign.NotEqual ∷ fs) h = absurd (omega arith)
 not_two (left a sign.Less ∷ fs) h = absurd (omega arith)
-not_two (left a sign.AtMost ∷ fs) h = absurd (omega arith)
-not_two (left a sign.More ∷ fs) h = absurd (omega arith)
-not_two (left a sign.AtLeast ∷ fs) h = absurd (omega arith)
+not_two (left a sign.LessOrEqual ∷ fs) h = absurd (omega arith)
+not_two (left a sign.Greater ∷ fs) h = absurd (omega arith)
+not_two (left a sign.GreaterOrEqual ∷ fs) h = absurd (omega arith)
 not_two (left a sign.ShiftLeft ∷ fs) h = absurd (omega arith)
 not_two (left a sign.ShiftRight ∷ fs) h = absurd (omega arith)
 not_two (left a sign.ShiftRightUnsigned ∷ fs) h = absurd (omega arith)
@@ -202,9 +202,9 @@ stays_at sign.BitAnd fs e i h = stays 6 fs e h (omega arith) (omega arith)
 stays_at sign.Equal fs e i h = stays 7 fs e h (omega arith) (omega arith)
 stays_at sign.NotEqual fs e i h = stays 7 fs e h (omega arith) (omega arith)
 stays_at sign.Less fs e i h = stays 8 fs e h (omega arith) (omega arith)
-stays_at sign.AtMost fs e i h = stays 8 fs e h (omega arith) (omega arith)
-stays_at sign.More fs e i h = stays 8 fs e h (omega arith) (omega arith)
-stays_at sign.AtLeast fs e i h = stays 8 fs e h (omega arith) (omega arith)
+stays_at sign.LessOrEqual fs e i h = stays 8 fs e h (omega arith) (omega arith)
+stays_at sign.Greater fs e i h = stays 8 fs e h (omega arith) (omega arith)
+stays_at sign.GreaterOrEqual fs e i h = stays 8 fs e h (omega arith) (omega arith)
 stays_at sign.ShiftLeft fs e i h = stays 9 fs e h (omega arith) (omega arith)
 stays_at sign.ShiftRight fs e i h = stays 9 fs e h (omega arith) (omega arith)
 stays_at sign.ShiftRightUnsigned fs e i h = stays 9 fs e h (omega arith) (omega arith)
@@ -236,9 +236,9 @@ takes_at sign.BitAnd fs i h = refl
 takes_at sign.Equal fs i h = refl
 takes_at sign.NotEqual fs i h = refl
 takes_at sign.Less fs i h = refl
-takes_at sign.AtMost fs i h = refl
-takes_at sign.More fs i h = refl
-takes_at sign.AtLeast fs i h = refl
+takes_at sign.LessOrEqual fs i h = refl
+takes_at sign.Greater fs i h = refl
+takes_at sign.GreaterOrEqual fs i h = refl
 takes_at sign.ShiftLeft fs i h = refl
 takes_at sign.ShiftRight fs i h = refl
 takes_at sign.ShiftRightUnsigned fs i h = refl
@@ -274,9 +274,9 @@ taken sign.BitAnd fs e h = record { between = refl; low = join_stops 6 fs e (ome
 taken sign.Equal fs e h = record { between = refl; low = join_stops 7 fs e (omega arith) }
 taken sign.NotEqual fs e h = record { between = refl; low = join_stops 7 fs e (omega arith) }
 taken sign.Less fs e h = record { between = refl; low = join_stops 8 fs e (omega arith) }
-taken sign.AtMost fs e h = record { between = refl; low = join_stops 8 fs e (omega arith) }
-taken sign.More fs e h = record { between = refl; low = join_stops 8 fs e (omega arith) }
-taken sign.AtLeast fs e h = record { between = refl; low = join_stops 8 fs e (omega arith) }
+taken sign.LessOrEqual fs e h = record { between = refl; low = join_stops 8 fs e (omega arith) }
+taken sign.Greater fs e h = record { between = refl; low = join_stops 8 fs e (omega arith) }
+taken sign.GreaterOrEqual fs e h = record { between = refl; low = join_stops 8 fs e (omega arith) }
 taken sign.ShiftLeft fs e h = record { between = refl; low = join_stops 9 fs e (omega arith) }
 taken sign.ShiftRight fs e h = record { between = refl; low = join_stops 9 fs e (omega arith) }
 taken sign.ShiftRightUnsigned fs e h = record { between = refl; low = join_stops 9 fs e (omega arith) }

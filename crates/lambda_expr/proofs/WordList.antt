@@ -25,7 +25,7 @@ drop-words_of text (suc n) (t ∷ ts) = drop-words_of text n ts
 pub named_kind : (k : TokenKind) (bytes p : List ℕ) → word_for k bytes ≡ named p → k ≡ kind.Name
 named_kind kind.Name bytes p h = refl
 named_kind kind.Number bytes p h = cc
-named_kind kind.Text bytes p h = cc
+named_kind kind.String bytes p h = cc
 named_kind kind.Reference bytes p h = cc
 named_kind (kind.Symbol s) bytes p h = cc
 named_kind kind.Bad bytes p h = cc
@@ -33,7 +33,7 @@ named_kind kind.Bad bytes p h = cc
 pub named_bytes : (k : TokenKind) (bytes p : List ℕ) → word_for k bytes ≡ named p → bytes ≡ p
 named_bytes kind.Name bytes p h = cc
 named_bytes kind.Number bytes p h = cc
-named_bytes kind.Text bytes p h = cc
+named_bytes kind.String bytes p h = cc
 named_bytes kind.Reference bytes p h = cc
 named_bytes (kind.Symbol s) bytes p h = cc
 named_bytes kind.Bad bytes p h = cc
@@ -41,7 +41,7 @@ named_bytes kind.Bad bytes p h = cc
 pub sign_kind : (k : TokenKind) (bytes : List ℕ) (s : Symbol) → word_for k bytes ≡ sign s → k ≡ kind.Symbol s
 sign_kind kind.Name bytes s h = cc
 sign_kind kind.Number bytes s h = cc
-sign_kind kind.Text bytes s h = cc
+sign_kind kind.String bytes s h = cc
 sign_kind kind.Reference bytes s h = cc
 sign_kind (kind.Symbol r) bytes s h = let same : r ≡ s = cc in ap kind.Symbol same
 sign_kind kind.Bad bytes s h = cc
@@ -49,7 +49,7 @@ sign_kind kind.Bad bytes s h = cc
 pub numeral_kind : (k : TokenKind) (bytes w : List ℕ) → word_for k bytes ≡ numeral w → k ≡ kind.Number
 numeral_kind kind.Name bytes w h = cc
 numeral_kind kind.Number bytes w h = refl
-numeral_kind kind.Text bytes w h = cc
+numeral_kind kind.String bytes w h = cc
 numeral_kind kind.Reference bytes w h = cc
 numeral_kind (kind.Symbol s) bytes w h = cc
 numeral_kind kind.Bad bytes w h = cc
@@ -57,7 +57,7 @@ numeral_kind kind.Bad bytes w h = cc
 pub numeral_bytes : (k : TokenKind) (bytes w : List ℕ) → word_for k bytes ≡ numeral w → bytes ≡ w
 numeral_bytes kind.Name bytes w h = cc
 numeral_bytes kind.Number bytes w h = cc
-numeral_bytes kind.Text bytes w h = cc
+numeral_bytes kind.String bytes w h = cc
 numeral_bytes kind.Reference bytes w h = cc
 numeral_bytes (kind.Symbol s) bytes w h = cc
 numeral_bytes kind.Bad bytes w h = cc

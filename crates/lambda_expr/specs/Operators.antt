@@ -111,6 +111,6 @@ abbrev pub comparison_value : Comparison → ℤ → ℤ → Bool
 comparison_value comparison.Equal x y = int_eq x y
 comparison_value comparison.NotEqual x y = not (int_eq x y)
 comparison_value comparison.Less x y = int_lt x y
-comparison_value comparison.AtMost x y = not (int_lt y x)
-comparison_value comparison.More x y = int_lt y x
-comparison_value comparison.AtLeast x y = not (int_lt x y)
+comparison_value comparison.LessOrEqual x y = not (int_lt y x)
+comparison_value comparison.Greater x y = int_lt y x
+comparison_value comparison.GreaterOrEqual x y = not (int_lt x y)

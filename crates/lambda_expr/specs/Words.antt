@@ -19,7 +19,7 @@ pub data Word : Type 0 where
 abbrev pub word_for : TokenKind → List ℕ → Word
 word_for kind.Name bytes = named bytes
 word_for kind.Number bytes = numeral bytes
-word_for kind.Text bytes = quoted bytes
+word_for kind.String bytes = quoted bytes
 word_for kind.Reference bytes = referred bytes
 word_for (kind.Symbol s) bytes = sign s
 word_for kind.Bad bytes = bad

@@ -69,9 +69,9 @@ pub enum Comparison {
     Equal,
     NotEqual,
     Less,
-    AtMost,
-    More,
-    AtLeast,
+    LessOrEqual,
+    Greater,
+    GreaterOrEqual,
 }
 
 /// An operation on two booleans that evaluates the right one only if it has to.
@@ -223,9 +223,9 @@ impl Comparison {
             Comparison::Equal => x == y,
             Comparison::NotEqual => x != y,
             Comparison::Less => x < y,
-            Comparison::AtMost => x <= y,
-            Comparison::More => x > y,
-            Comparison::AtLeast => x >= y,
+            Comparison::LessOrEqual => x <= y,
+            Comparison::Greater => x > y,
+            Comparison::GreaterOrEqual => x >= y,
         }
     }
 }

@@ -4,7 +4,7 @@ use Rattle.std.specs.List.{prefix_len}
 use Rattle.std.specs.Char.{is_ascii_digit}
 use Rattle.std.proofs.lemmas.Bool.{eqb-true}
 use Rattle.std.proofs.lemmas.List.{take_rest}
-use Rattle.stream_tokens.specs.declared.token.TokenKind.TheVariants.{Number, Text, Reference, Bad}
+use Rattle.stream_tokens.specs.declared.token.TokenKind.TheVariants.{Number, String, Reference, Bad}
 use Rattle.stream_tokens.specs.Bytes.{is_name_start, is_name_byte, is_long_mark}
 use Rattle.stream_tokens.specs.Tokens.{IsLongest, IsFirstToken}
 use Rattle.stream_tokens.proofs.Longest.{longest_marked, longest_plain, stays_inside, longest_string, open_string, longest_reference, lone_dollar}
@@ -16,13 +16,13 @@ behind a rest = take_rest (a ∷ rest) 1
 one_on : (a : ℕ) (rest : List ℕ) (i : ℕ) → slice_index (a ∷ rest) (i + 1) ≡ slice_index rest i
 one_on a rest i = ap (slice_index (a ∷ rest)) (add-one i)
 
-pub string_read : (text : List ℕ) (i : ℕ) → 0 < length text → slice_index text 0 ≡ 34 → i ≡ prefix_len stays_inside (take (length text - 1) (drop 1 text)) → i + 1 < length text → slice_index text (i + 1) ≡ 34 → IsFirstToken text Text (i + 2)
+pub string_read : (text : List ℕ) (i : ℕ) → 0 < length text → slice_index text 0 ≡ 34 → i ≡ prefix_len stays_inside (take (length text - 1) (drop 1 text)) → i + 1 < length text → slice_index text (i + 1) ≡ 34 → IsFirstToken text String (i + 2)
 string_read [] i some quote is less closed = absurd (omega arith)
 string_read (a ∷ rest) i some quote is less closed =
     let at : i ≡ prefix_len stays_inside rest = is ∙ ap (prefix_len stays_inside) (behind a rest) in
     let close : slice_index rest (prefix_len stays_inside rest) ≡ 34 = ap (slice_index rest) (sym at) ∙ sym (one_on a rest i) ∙ closed in
-    let first : IsFirstToken (34 ∷ rest) Text (prefix_len stays_inside rest + 2) = inl (longest_string rest (omega arith) close) in
-    subst (λ k. IsFirstToken (a ∷ rest) Text (k + 2)) (sym at) (subst (λ b. IsFirstToken (b ∷ rest) Text (prefix_len stays_inside rest + 2)) (sym quote) first)
+    let first : IsFirstToken (34 ∷ rest) String (prefix_len stays_inside rest + 2) = inl (longest_string rest (omega arith) close) in
+    subst (λ k. IsFirstToken (a ∷ rest) String (k + 2)) (sym at) (subst (λ b. IsFirstToken (b ∷ rest) String (prefix_len stays_inside rest + 2)) (sym quote) first)
 
 pub string_open : (text : List ℕ) (i : ℕ) → 0 < length text → slice_index text 0 ≡ 34 → i ≡ prefix_len stays_inside (take (length text - 1) (drop 1 text)) → (i + 1 < length text → slice_index text (i + 1) ≡ 34 → ⊥) → IsFirstToken text Bad 1
 string_open [] i some quote is unclosed = absurd (omega arith)

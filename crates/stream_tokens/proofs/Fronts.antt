@@ -6,7 +6,7 @@ use Rattle.std.proofs.lemmas.Grind.{common_steps}
 use Rattle.stream_tokens.specs.declared.symbol.Symbol.{Symbol as SymbolType}
 use Rattle.stream_tokens.specs.declared.symbol.Symbol.TheVariants as symbol
 use Rattle.stream_tokens.specs.declared.token.TokenKind.{TokenKind}
-use Rattle.stream_tokens.specs.declared.token.TokenKind.TheVariants.{Name, Number, Text, Reference, Symbol, Bad}
+use Rattle.stream_tokens.specs.declared.token.TokenKind.TheVariants.{Name, Number, String, Reference, Symbol, Bad}
 use Rattle.stream_tokens.specs.Bytes.{is_name_start}
 use Rattle.stream_tokens.specs.Symbols.{spelling_of}
 use Rattle.stream_tokens.specs.Scanning.{symbol_at}
@@ -20,7 +20,7 @@ kind_of_symbol (Some s) = Symbol s
 -- the kind of a text that is one token, by its front
 abbrev pub kind_at : List ℕ → TokenKind
 kind_at [] = Bad
-kind_at (a ∷ w) = cond (is_name_start a) Name (cond (is_ascii_digit a) Number (cond (a == 34) Text (cond (a == 36) Reference (kind_of_symbol (symbol_at (a ∷ w))))))
+kind_at (a ∷ w) = cond (is_name_start a) Name (cond (is_ascii_digit a) Number (cond (a == 34) String (cond (a == 36) Reference (kind_of_symbol (symbol_at (a ∷ w))))))
 
 -- each symbol is read back from its bytes
 symbol_reads : (s : SymbolType) → kind_at (spelling_of s) ≡ Symbol s
@@ -29,8 +29,8 @@ symbol_reads symbol.DoubleColon = refl
 symbol_reads symbol.ShiftLeft = refl
 symbol_reads symbol.ShiftRight = refl
 symbol_reads symbol.ShiftRightUnsigned = refl
-symbol_reads symbol.AtMost = refl
-symbol_reads symbol.AtLeast = refl
+symbol_reads symbol.LessOrEqual = refl
+symbol_reads symbol.GreaterOrEqual = refl
 symbol_reads symbol.Equal = refl
 symbol_reads symbol.NotEqual = refl
 symbol_reads symbol.AndAnd = refl
@@ -44,7 +44,7 @@ symbol_reads symbol.Dot = refl
 symbol_reads symbol.Semicolon = refl
 symbol_reads symbol.Assign = refl
 symbol_reads symbol.Less = refl
-symbol_reads symbol.More = refl
+symbol_reads symbol.Greater = refl
 symbol_reads symbol.Plus = refl
 symbol_reads symbol.Minus = refl
 symbol_reads symbol.Star = refl
@@ -66,15 +66,15 @@ kind_of_number : (digits mark w : List ℕ) → w ≡ digits ++ mark → 0 < len
 kind_of_number [] mark w is some all = absurd (omega arith)
 kind_of_number (d ∷ ds) mark w is some all =
     let digit : is_ascii_digit d ≡ true = and_left (is_ascii_digit d) _ all in
-    let later : TokenKind = cond (d == 34) Text (cond (d == 36) Reference (kind_of_symbol (symbol_at (d ∷ (ds ++ mark))))) in
+    let later : TokenKind = cond (d == 34) String (cond (d == 36) Reference (kind_of_symbol (symbol_at (d ∷ (ds ++ mark))))) in
     ap kind_at is ∙ ap (λ b. cond b Name (cond (is_ascii_digit d) Number later)) (digit_starts_no_name d digit) ∙ ap (λ b. cond b Number later) digit
 
 -- what has a form has the kind that its front tells
 pub kind_is : (k : TokenKind) (w : List ℕ) → HasForm k w → kind_at w ≡ k
 kind_is Name [] h = absurd h
-kind_is Name (a ∷ w) h = ap (λ b. cond b Name (cond (is_ascii_digit a) Number (cond (a == 34) Text (cond (a == 36) Reference (kind_of_symbol (symbol_at (a ∷ w))))))) h.0
+kind_is Name (a ∷ w) h = ap (λ b. cond b Name (cond (is_ascii_digit a) Number (cond (a == 34) String (cond (a == 36) Reference (kind_of_symbol (symbol_at (a ∷ w))))))) h.0
 kind_is Number w h = kind_of_number h.0 h.1 w h.2 h.3 h.4
-kind_is Text w h = ap kind_at h.1
+kind_is String w h = ap kind_at h.1
 kind_is Reference w h = ap kind_at h.1
 kind_is (Symbol s) w h = ap kind_at h ∙ symbol_reads s
 kind_is Bad w h = absurd h

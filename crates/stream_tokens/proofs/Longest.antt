@@ -9,7 +9,7 @@ use Rattle.std.proofs.lemmas.List.Sums.{prefix_len-le-length, prefix_len_passes}
 use Rattle.std.proofs.lemmas.List.Folds.{length-prefix_len}
 use Rattle.stream_tokens.specs.declared.symbol.Symbol.{Symbol as SymbolType}
 use Rattle.stream_tokens.specs.declared.token.TokenKind.{TokenKind}
-use Rattle.stream_tokens.specs.declared.token.TokenKind.TheVariants.{Name, Number, Text, Reference, Symbol, Bad}
+use Rattle.stream_tokens.specs.declared.token.TokenKind.TheVariants.{Name, Number, String, Reference, Symbol, Bad}
 use Rattle.stream_tokens.specs.Bytes.{is_blank, is_name_start, is_name_byte, is_long_mark, ends_text}
 use Rattle.stream_tokens.specs.Symbols.{spelling_of}
 use Rattle.stream_tokens.specs.Scanning.{symbol_at}
@@ -24,18 +24,18 @@ same_form : (k other : TokenKind) (w : List ℕ) → kind_at w ≡ k → HasForm
 same_form k other w e h = subst (λ j. HasForm j w) (sym (kind_is other w h) ∙ e) h
 
 name_front : (a : ℕ) (w : List ℕ) → is_name_start a ≡ true → kind_at (a ∷ w) ≡ Name
-name_front a w h = ap (λ b. cond b Name (cond (is_ascii_digit a) Number (cond (a == 34) Text (cond (a == 36) Reference (kind_of_symbol (symbol_at (a ∷ w))))))) h
+name_front a w h = ap (λ b. cond b Name (cond (is_ascii_digit a) Number (cond (a == 34) String (cond (a == 36) Reference (kind_of_symbol (symbol_at (a ∷ w))))))) h
 
 number_front : (a : ℕ) (w : List ℕ) → is_name_start a ≡ false → is_ascii_digit a ≡ true → kind_at (a ∷ w) ≡ Number
 number_front a w h d =
-    ap (λ b. cond b Name (cond (is_ascii_digit a) Number (cond (a == 34) Text (cond (a == 36) Reference (kind_of_symbol (symbol_at (a ∷ w))))))) h
-    ∙ ap (λ b. cond b Number (cond (a == 34) Text (cond (a == 36) Reference (kind_of_symbol (symbol_at (a ∷ w)))))) d
+    ap (λ b. cond b Name (cond (is_ascii_digit a) Number (cond (a == 34) String (cond (a == 36) Reference (kind_of_symbol (symbol_at (a ∷ w))))))) h
+    ∙ ap (λ b. cond b Number (cond (a == 34) String (cond (a == 36) Reference (kind_of_symbol (symbol_at (a ∷ w)))))) d
 
 symbol_front : (a : ℕ) (w : List ℕ) → is_name_start a ≡ false → is_ascii_digit a ≡ false → (a == 34) ≡ false → (a == 36) ≡ false → kind_at (a ∷ w) ≡ kind_of_symbol (symbol_at (a ∷ w))
 symbol_front a w h d q r =
-    ap (λ b. cond b Name (cond (is_ascii_digit a) Number (cond (a == 34) Text (cond (a == 36) Reference (kind_of_symbol (symbol_at (a ∷ w))))))) h
-    ∙ ap (λ b. cond b Number (cond (a == 34) Text (cond (a == 36) Reference (kind_of_symbol (symbol_at (a ∷ w)))))) d
-    ∙ ap (λ b. cond b Text (cond (a == 36) Reference (kind_of_symbol (symbol_at (a ∷ w))))) q
+    ap (λ b. cond b Name (cond (is_ascii_digit a) Number (cond (a == 34) String (cond (a == 36) Reference (kind_of_symbol (symbol_at (a ∷ w))))))) h
+    ∙ ap (λ b. cond b Number (cond (a == 34) String (cond (a == 36) Reference (kind_of_symbol (symbol_at (a ∷ w)))))) d
+    ∙ ap (λ b. cond b String (cond (a == 36) Reference (kind_of_symbol (symbol_at (a ∷ w))))) q
     ∙ ap (λ b. cond b Reference (kind_of_symbol (symbol_at (a ∷ w)))) r
 
 starts_is_byte : (b : ℕ) → is_name_start b ≡ true → is_name_byte b ≡ true
@@ -164,7 +164,7 @@ record StringAt (rest : List ℕ) (m : ℕ) : Type 0 where
 string_at : (rest : List ℕ) (other : TokenKind) (m : ℕ) → m ≤ suc (length rest) → HasForm other (take m (34 ∷ rest)) → 0 < m → StringAt rest m
 string_at rest other zero fits form some = absurd (omega arith)
 string_at rest other (suc j) fits form some =
-    let f = same_form Text other (34 ∷ take j rest) refl form in
+    let f = same_form String other (34 ∷ take j rest) refl form in
     let behind : take j rest ≡ f.0 ++ 34 ∷ [] = ap (drop 1) f.1 in
     let size : j ≡ length f.0 + 1 = sym (length-take-le j rest (omega arith)) ∙ ap length behind ∙ length-append f.0 (34 ∷ []) in
     let front : take (length f.0) rest ≡ f.0 = sym (take-take (length f.0) j rest (omega arith)) ∙ ap (take (length f.0)) behind ∙ take_at f.0 (34 ∷ []) (length f.0) refl in
@@ -176,7 +176,7 @@ string_at rest other (suc j) fits form some =
       closed = sym (get_or-take j rest (length f.0) 0 (omega arith)) ∙ ap (λ w. slice_index w (length f.0)) behind ∙ get_or_at f.0 34 [] 0 (length f.0) refl;
     }
 
-pub longest_string : (rest : List ℕ) → prefix_len stays_inside rest < length rest → slice_index rest (prefix_len stays_inside rest) ≡ 34 → IsLongest (34 ∷ rest) Text (prefix_len stays_inside rest + 2)
+pub longest_string : (rest : List ℕ) → prefix_len stays_inside rest < length rest → slice_index rest (prefix_len stays_inside rest) ≡ 34 → IsLongest (34 ∷ rest) String (prefix_len stays_inside rest + 2)
 longest_string rest less quote =
     let i : ℕ = prefix_len stays_inside rest in
     let two : i + 2 ≡ suc (i + 1) = omega arith in

@@ -48,7 +48,7 @@ single_begins a rest =
     (choose (a ∷ rest) (a == 59) (Some symbol.Semicolon) _ (one_byte 59 a rest)
     (choose (a ∷ rest) (a == 61) (Some symbol.Assign) _ (one_byte 61 a rest)
     (choose (a ∷ rest) (a == 60) (Some symbol.Less) _ (one_byte 60 a rest)
-    (choose (a ∷ rest) (a == 62) (Some symbol.More) _ (one_byte 62 a rest)
+    (choose (a ∷ rest) (a == 62) (Some symbol.Greater) _ (one_byte 62 a rest)
     (choose (a ∷ rest) (a == 43) (Some symbol.Plus) _ (one_byte 43 a rest)
     (choose (a ∷ rest) (a == 45) (Some symbol.Minus) _ (one_byte 45 a rest)
     (choose (a ∷ rest) (a == 42) (Some symbol.Star) _ (one_byte 42 a rest)
@@ -69,8 +69,8 @@ pair_begins a b rest =
     (choose (a ∷ b ∷ rest) ((a == 58) && (b == 58)) (Some symbol.DoubleColon) _ (two_bytes 58 58 a b rest)
     (choose (a ∷ b ∷ rest) ((a == 60) && (b == 60)) (Some symbol.ShiftLeft) _ (two_bytes 60 60 a b rest)
     (choose (a ∷ b ∷ rest) ((a == 62) && (b == 62)) (Some symbol.ShiftRight) _ (two_bytes 62 62 a b rest)
-    (choose (a ∷ b ∷ rest) ((a == 60) && (b == 61)) (Some symbol.AtMost) _ (two_bytes 60 61 a b rest)
-    (choose (a ∷ b ∷ rest) ((a == 62) && (b == 61)) (Some symbol.AtLeast) _ (two_bytes 62 61 a b rest)
+    (choose (a ∷ b ∷ rest) ((a == 60) && (b == 61)) (Some symbol.LessOrEqual) _ (two_bytes 60 61 a b rest)
+    (choose (a ∷ b ∷ rest) ((a == 62) && (b == 61)) (Some symbol.GreaterOrEqual) _ (two_bytes 62 61 a b rest)
     (choose (a ∷ b ∷ rest) ((a == 61) && (b == 61)) (Some symbol.Equal) _ (two_bytes 61 61 a b rest)
     (choose (a ∷ b ∷ rest) ((a == 33) && (b == 61)) (Some symbol.NotEqual) _ (two_bytes 33 61 a b rest)
     (choose (a ∷ b ∷ rest) ((a == 38) && (b == 38)) (Some symbol.AndAnd) _ (two_bytes 38 38 a b rest)
@@ -98,8 +98,8 @@ has_bytes symbol.DoubleColon = lit≤ tt
 has_bytes symbol.ShiftLeft = lit≤ tt
 has_bytes symbol.ShiftRight = lit≤ tt
 has_bytes symbol.ShiftRightUnsigned = lit≤ tt
-has_bytes symbol.AtMost = lit≤ tt
-has_bytes symbol.AtLeast = lit≤ tt
+has_bytes symbol.LessOrEqual = lit≤ tt
+has_bytes symbol.GreaterOrEqual = lit≤ tt
 has_bytes symbol.Equal = lit≤ tt
 has_bytes symbol.NotEqual = lit≤ tt
 has_bytes symbol.AndAnd = lit≤ tt
@@ -113,7 +113,7 @@ has_bytes symbol.Dot = lit≤ tt
 has_bytes symbol.Semicolon = lit≤ tt
 has_bytes symbol.Assign = lit≤ tt
 has_bytes symbol.Less = lit≤ tt
-has_bytes symbol.More = lit≤ tt
+has_bytes symbol.Greater = lit≤ tt
 has_bytes symbol.Plus = lit≤ tt
 has_bytes symbol.Minus = lit≤ tt
 has_bytes symbol.Star = lit≤ tt
@@ -142,8 +142,8 @@ symbol_longest symbol.DoubleColon rest = (symbol.DoubleColon, refl, lit≤ tt)
 symbol_longest symbol.ShiftLeft rest = (symbol.ShiftLeft, refl, lit≤ tt)
 symbol_longest symbol.ShiftRight rest = or_three (starts_with nat_eq (codes ">>" ++ rest) (codes ">>>")) 2 (Some symbol.ShiftRight) (lit≤ tt) (symbol.ShiftRight, refl, lit≤ tt)
 symbol_longest symbol.ShiftRightUnsigned rest = (symbol.ShiftRightUnsigned, refl, lit≤ tt)
-symbol_longest symbol.AtMost rest = (symbol.AtMost, refl, lit≤ tt)
-symbol_longest symbol.AtLeast rest = (symbol.AtLeast, refl, lit≤ tt)
+symbol_longest symbol.LessOrEqual rest = (symbol.LessOrEqual, refl, lit≤ tt)
+symbol_longest symbol.GreaterOrEqual rest = (symbol.GreaterOrEqual, refl, lit≤ tt)
 symbol_longest symbol.Equal rest = (symbol.Equal, refl, lit≤ tt)
 symbol_longest symbol.NotEqual rest = (symbol.NotEqual, refl, lit≤ tt)
 symbol_longest symbol.AndAnd rest = (symbol.AndAnd, refl, lit≤ tt)
@@ -157,7 +157,7 @@ symbol_longest symbol.Dot rest = or_single (pair_with 46 (slice_get rest 0)) sym
 symbol_longest symbol.Semicolon rest = or_single (pair_with 59 (slice_get rest 0)) symbol.Semicolon
 symbol_longest symbol.Assign rest = or_single (pair_with 61 (slice_get rest 0)) symbol.Assign
 symbol_longest symbol.Less rest = or_single (pair_with 60 (slice_get rest 0)) symbol.Less
-symbol_longest symbol.More rest = or_three (starts_with nat_eq (codes ">" ++ rest) (codes ">>>")) 1 (either (pair_with 62 (slice_get rest 0)) (Some symbol.More)) (lit≤ tt) (or_single (pair_with 62 (slice_get rest 0)) symbol.More)
+symbol_longest symbol.Greater rest = or_three (starts_with nat_eq (codes ">" ++ rest) (codes ">>>")) 1 (either (pair_with 62 (slice_get rest 0)) (Some symbol.Greater)) (lit≤ tt) (or_single (pair_with 62 (slice_get rest 0)) symbol.Greater)
 symbol_longest symbol.Plus rest = or_single (pair_with 43 (slice_get rest 0)) symbol.Plus
 symbol_longest symbol.Minus rest = or_single (pair_with 45 (slice_get rest 0)) symbol.Minus
 symbol_longest symbol.Star rest = or_single (pair_with 42 (slice_get rest 0)) symbol.Star

@@ -3,7 +3,7 @@ use Rattle.std.specs.Prelude.{◌≡◌, ℕ, ◌<◌, true, not, List, [], ◌�
 use Rattle.std.specs.List.{list_all}
 use Rattle.std.specs.Char.{is_ascii_digit}
 use Rattle.stream_tokens.specs.declared.token.TokenKind.{TokenKind}
-use Rattle.stream_tokens.specs.declared.token.TokenKind.TheVariants.{Name, Number, Text, Reference, Symbol, Bad}
+use Rattle.stream_tokens.specs.declared.token.TokenKind.TheVariants.{Name, Number, String, Reference, Symbol, Bad}
 use Rattle.stream_tokens.specs.Bytes.{is_name_start, is_name_byte, is_long_mark, ends_text}
 use Rattle.stream_tokens.specs.Symbols.{spelling_of}
 
@@ -34,7 +34,7 @@ IsReference w = (name : List ℕ) × (w ≡ 36 ∷ name) × IsName name
 abbrev pub HasForm : TokenKind → List ℕ → Type 0
 HasForm Name w = IsName w
 HasForm Number w = IsNumber w
-HasForm Text w = IsString w
+HasForm String w = IsString w
 HasForm Reference w = IsReference w
 HasForm (Symbol s) w = w ≡ spelling_of s
 HasForm Bad w = ⊥

@@ -11,8 +11,8 @@ pair_of a b =
     else (if (a == 58) && (b == 58) then Some symbol.DoubleColon
     else (if (a == 60) && (b == 60) then Some symbol.ShiftLeft
     else (if (a == 62) && (b == 62) then Some symbol.ShiftRight
-    else (if (a == 60) && (b == 61) then Some symbol.AtMost
-    else (if (a == 62) && (b == 61) then Some symbol.AtLeast
+    else (if (a == 60) && (b == 61) then Some symbol.LessOrEqual
+    else (if (a == 62) && (b == 61) then Some symbol.GreaterOrEqual
     else (if (a == 61) && (b == 61) then Some symbol.Equal
     else (if (a == 33) && (b == 61) then Some symbol.NotEqual
     else (if (a == 38) && (b == 38) then Some symbol.AndAnd
@@ -31,7 +31,7 @@ single_of a =
     else (if a == 59 then Some symbol.Semicolon
     else (if a == 61 then Some symbol.Assign
     else (if a == 60 then Some symbol.Less
-    else (if a == 62 then Some symbol.More
+    else (if a == 62 then Some symbol.Greater
     else (if a == 43 then Some symbol.Plus
     else (if a == 45 then Some symbol.Minus
     else (if a == 42 then Some symbol.Star

@@ -102,7 +102,7 @@ fn string_front(text: &[u8]) -> Front
     let inside = inside_bytes(&text[1..]);
     if inside + 1 < text.len() && text[inside + 1] == b'"' {
         Front {
-            kind: TokenKind::Text,
+            kind: TokenKind::String,
             len: inside + 2,
         }
     } else {

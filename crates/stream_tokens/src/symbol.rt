@@ -17,9 +17,9 @@ pub enum Symbol {
     /// `>>>`
     ShiftRightUnsigned,
     /// `<=`
-    AtMost,
+    LessOrEqual,
     /// `>=`
-    AtLeast,
+    GreaterOrEqual,
     /// `==`
     Equal,
     /// `!=`
@@ -47,7 +47,7 @@ pub enum Symbol {
     /// `<`
     Less,
     /// `>`
-    More,
+    Greater,
     /// `+`
     Plus,
     /// `-`
@@ -85,8 +85,8 @@ impl Symbol {
             Symbol::ShiftLeft => "<<",
             Symbol::ShiftRight => ">>",
             Symbol::ShiftRightUnsigned => ">>>",
-            Symbol::AtMost => "<=",
-            Symbol::AtLeast => ">=",
+            Symbol::LessOrEqual => "<=",
+            Symbol::GreaterOrEqual => ">=",
             Symbol::Equal => "==",
             Symbol::NotEqual => "!=",
             Symbol::AndAnd => "&&",
@@ -100,7 +100,7 @@ impl Symbol {
             Symbol::Semicolon => ";",
             Symbol::Assign => "=",
             Symbol::Less => "<",
-            Symbol::More => ">",
+            Symbol::Greater => ">",
             Symbol::Plus => "+",
             Symbol::Minus => "-",
             Symbol::Star => "*",
@@ -126,8 +126,8 @@ fn pair(first: u8, second: u8) -> Option<Symbol>
         (b':', b':') => Some(Symbol::DoubleColon),
         (b'<', b'<') => Some(Symbol::ShiftLeft),
         (b'>', b'>') => Some(Symbol::ShiftRight),
-        (b'<', b'=') => Some(Symbol::AtMost),
-        (b'>', b'=') => Some(Symbol::AtLeast),
+        (b'<', b'=') => Some(Symbol::LessOrEqual),
+        (b'>', b'=') => Some(Symbol::GreaterOrEqual),
         (b'=', b'=') => Some(Symbol::Equal),
         (b'!', b'=') => Some(Symbol::NotEqual),
         (b'&', b'&') => Some(Symbol::AndAnd),
@@ -150,7 +150,7 @@ fn single(first: u8) -> Option<Symbol>
         b';' => Some(Symbol::Semicolon),
         b'=' => Some(Symbol::Assign),
         b'<' => Some(Symbol::Less),
-        b'>' => Some(Symbol::More),
+        b'>' => Some(Symbol::Greater),
         b'+' => Some(Symbol::Plus),
         b'-' => Some(Symbol::Minus),
         b'*' => Some(Symbol::Star),

@@ -12,7 +12,7 @@ pub enum TokenKind {
     /// Digits, and at most one `L` or `l` after them.
     Number,
     /// A string: a quote, any bytes but a quote, a backslash, CR and LF, and a quote.
-    Text,
+    String,
     /// `$` directly followed by a name.
     Reference,
     /// One of the symbols.

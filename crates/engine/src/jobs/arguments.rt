@@ -49,7 +49,7 @@ fn piece_of(text: &[u8], token: Token) -> Piece
     ensures { result ≡ piece_of (word_of text.now token) }
 {
     match token.kind {
-        TokenKind::Name | TokenKind::Text | TokenKind::Reference => Piece::Sound,
+        TokenKind::Name | TokenKind::String | TokenKind::Reference => Piece::Sound,
         TokenKind::Number => {
             if is_numeral(token.text(text)) {
                 Piece::Sound

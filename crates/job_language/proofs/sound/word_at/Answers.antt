@@ -20,11 +20,11 @@ returns-in-Number c =
     let token = get_or t.tokens c.args.place any in
     sym (ap (λ k. word_for k c.word-bytes.result.now) c.in-Number.is) ∙ ap (λ k. word_for k c.word-bytes.result.now) (c.kind.ensures any) ∙ ap (word_for token.kind) (c.word-bytes.ensures any) ∙ sym (word_there t.bytes t.tokens c.args.place any c.requires)
 
-pub returns-in-Text : goal.returns-in-Text
-returns-in-Text c =
+pub returns-in-String : goal.returns-in-String
+returns-in-String c =
     let t = c.args.text.now in
     let token = get_or t.tokens c.args.place any in
-    sym (ap (λ k. word_for k c.word-bytes.result.now) c.in-Text.is) ∙ ap (λ k. word_for k c.word-bytes.result.now) (c.kind.ensures any) ∙ ap (word_for token.kind) (c.word-bytes.ensures any) ∙ sym (word_there t.bytes t.tokens c.args.place any c.requires)
+    sym (ap (λ k. word_for k c.word-bytes.result.now) c.in-String.is) ∙ ap (λ k. word_for k c.word-bytes.result.now) (c.kind.ensures any) ∙ ap (word_for token.kind) (c.word-bytes.ensures any) ∙ sym (word_there t.bytes t.tokens c.args.place any c.requires)
 
 pub returns-in-Reference : goal.returns-in-Reference
 returns-in-Reference c =
