@@ -47,7 +47,7 @@ meant : (w : Word) → Meant (piece_of w) w
 meant (named w) = (refl, λ e. cc)
 meant (numeral w) = meant_numeral w (is_numeral w) refl
 meant (quoted w) = (refl, λ e. cc)
-meant (referred w) = (refl, λ e. cc)
+meant (referred w) = refl
 meant (sign s) = meant_symbol s
 meant bad = refl
 
@@ -66,7 +66,7 @@ inside : (w : Word) → is_sound w ≡ true → (d : ℕ) → after_piece (suc d
 inside (named w) h d = refl
 inside (numeral w) h d = ap (λ (b : Bool). after_piece (suc d) (cond b piece.Sound piece.Unsound)) h
 inside (quoted w) h d = refl
-inside (referred w) h d = refl
+inside (referred w) h d = absurd cc
 inside (sign s) h d = inside_symbol s h d
 inside bad h d = absurd cc
 
@@ -82,7 +82,7 @@ outside : (w : Word) → is_sound w ≡ true → w ≢ sign symbol.Comma → aft
 outside (named w) h n = refl
 outside (numeral w) h n = ap (λ (b : Bool). after_piece 0 (cond b piece.Sound piece.Unsound)) h
 outside (quoted w) h n = refl
-outside (referred w) h n = refl
+outside (referred w) h n = absurd cc
 outside (sign s) h n = outside_symbol s h n
 outside bad h n = absurd cc
 

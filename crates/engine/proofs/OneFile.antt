@@ -9,7 +9,7 @@ use Rattle.lambda_expr.specs.declared.fault.ReadFault.TheVariants as fault
 use Rattle.lambda_expr.specs.declared.lambda.Want.{Want}
 use Rattle.lambda_expr.specs.declared.lambda.Want.TheVariants as want
 use Rattle.lambda_expr.specs.Refusals as lambda
-use Rattle.lambda_expr.specs.Refusals.{Typed}
+use Rattle.lambda_expr.specs.Refusals.{LambdaTerm}
 use Rattle.lambda_expr.proofs.OneAnswer.{Outcome, many, outside, judged, one_outcome, same_refusal}
 use Rattle.trace.specs.Stages as stage
 use Rattle.trace.specs.Stages.{StageTerm}
@@ -32,10 +32,10 @@ outcome_of text w fault.UnknownName j n = judged j
 outcome_of text w fault.WrongType j n = judged j
 outcome_of text w fault.NoMemory h n = absurd (n refl)
 
-one_judgement : (text : List ℕ) (w : Want) (a b : Typed) → lambda.Judged text w (Ok a) → lambda.Judged text w (Ok b) → a ≡ b
+one_judgement : (text : List ℕ) (w : Want) (a b : LambdaTerm) → lambda.Judged text w (Ok a) → lambda.Judged text w (Ok b) → a ≡ b
 one_judgement text w a b h k = let e = one_outcome text w (Ok a) (Ok b) (judged h) (judged k) in cc
 
-apart : (text : List ℕ) (w : Want) (a : Typed) (f : ReadFault) → lambda.Judged text w (Ok a) → lambda.IsRefused text w f → f ≢ fault.NoMemory → ⊥
+apart : (text : List ℕ) (w : Want) (a : LambdaTerm) (f : ReadFault) → lambda.Judged text w (Ok a) → lambda.IsRefused text w f → f ≢ fault.NoMemory → ⊥
 apart text w a f h k n = let e = one_outcome text w (Ok a) (Err f) (judged h) (outcome_of text w f k n) in cc
 
 one_reading : (g : StageShape) (s t : StageTerm) → IsReadAs g s → IsReadAs g t → s ≡ t

@@ -20,7 +20,7 @@ abbrev pub piece_of : Word → Piece
 piece_of (named w) = piece.Sound
 piece_of (numeral w) = if is_numeral w then piece.Sound else piece.Unsound
 piece_of (quoted w) = piece.Sound
-piece_of (referred w) = piece.Sound
+piece_of (referred w) = piece.Unsound
 piece_of (sign s) = symbol_piece s
 piece_of bad = piece.Unsound
 

@@ -40,7 +40,7 @@ abbrev pub is_sound : Word → Bool
 is_sound (named w) = true
 is_sound (numeral w) = is_numeral w
 is_sound (quoted w) = true
-is_sound (referred w) = true
+is_sound (referred w) = false
 is_sound (sign s) = is_sound_symbol s
 is_sound bad = false
 

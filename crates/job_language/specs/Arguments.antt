@@ -7,7 +7,7 @@ use Rattle.stream_tokens.specs.CutTexts.{TokenizedText, between}
 use Rattle.lambda_expr.specs.Words.{Word, named, quoted, sign}
 use Rattle.lambda_expr.specs.Term.{Long, Truth}
 use Rattle.lambda_expr.specs.Streams.{Inner}
-use Rattle.lambda_expr.specs.Refusals.{Typed, long, boolean, Judged, IsRefused}
+use Rattle.lambda_expr.specs.Refusals.{LambdaTerm, long, boolean, Judged, IsRefused}
 use Rattle.lambda_expr.specs.declared.fault.ReadFault.{ReadFault}
 use Rattle.lambda_expr.specs.declared.fault.ReadFault.TheVariants as fault
 use Rattle.lambda_expr.specs.declared.lambda.Want.{Want}
@@ -90,22 +90,22 @@ name_answer scope (named w ∷ []) = result_answer w (given scope.jobs w)
 name_answer scope ws = Ok nothing
 
 -- the lambda that a text is, or what it is refused for
-abbrev pub IsOutcome : List ℕ → Want → Result Typed ReadFault → Type 0
+abbrev pub IsOutcome : List ℕ → Want → Result LambdaTerm ReadFault → Type 0
 IsOutcome text w (Ok t) = Judged text w (Ok t)
 IsOutcome text w (Err fault.NoMemory) = ⊥
 IsOutcome text w (Err f) = IsRefused text w f
 
-abbrev pub argument_of : Typed → Argument
+abbrev pub argument_of : LambdaTerm → Argument
 argument_of (long e) = number e
 argument_of (boolean p) = test p
 argument_of t = nothing
 
-abbrev pub lambda_answer : Scope → Result Typed ReadFault → Result Argument Cause
+abbrev pub lambda_answer : Scope → Result LambdaTerm ReadFault → Result Argument Cause
 lambda_answer scope (Err f) = Err (cause.Expr f)
 lambda_answer scope (Ok t) = Ok (argument_of t)
 
 abbrev pub IsLambdaRead : Scope → List ℕ → Want → Result Argument Cause → Type 0
-IsLambdaRead scope text w r = (o : Result Typed ReadFault) × IsOutcome text w o × (lambda_answer scope o ≡ r)
+IsLambdaRead scope text w r = (o : Result LambdaTerm ReadFault) × IsOutcome text w o × (lambda_answer scope o ≡ r)
 
 -- an operator has to be in the table
 abbrev pub listed : Option Op → Result Argument Cause

@@ -1,12 +1,12 @@
 -- The terms of operands on a stack, and the term of an expression from its steps.
 use Rattle.std.proofs.Common.{◌≡◌, List, [], ◌∷◌, ◌++◌, refl, sym, ap, ◌∙◌, append_assoc}
 use Rattle.lambda_expr.specs.declared.elaborate.Operand.{Operand}
-use Rattle.lambda_expr.specs.declared.lexeme.PlainName.{PlainName}
 use Rattle.lambda_expr.specs.declared.step.Step.{Step}
 use Rattle.lambda_expr.specs.declared.step.Step.TheVariants as step
 use Rattle.lambda_expr.specs.declared.step.Opening.TheVariants.{Paren, Call}
 use Rattle.lambda_expr.specs.Elaborating.{operands_of, typed_of, typed_step, typed_steps, top_typed}
-use Rattle.lambda_expr.specs.Grammar.{Shape, name, number, truth, constant, prefix, binary, ternary, enclosed, postfix}
+use Rattle.lambda_expr.specs.Grammar.{Shape, name, number, truth, reference, constant, prefix, binary, ternary, enclosed, postfix}
+use Rattle.lambda_expr.specs.Lexemes.{Names}
 use Rattle.lambda_expr.specs.Stacks.{below, stacked}
 use Rattle.lambda_expr.specs.Typing.{Typed, typed, untyped}
 use Rattle.lambda_expr.proofs.StackLemmas.{none_left, popped_rest, popped_top}
@@ -25,14 +25,15 @@ popped_none old ts is h =
     let empty : ts ≡ [] = none_left ts (ap operands_of (sym is) ∙ h) in
     (ap top_typed (sym empty), ap (λ ts. stacked (below ts)) (sym empty))
 
-pub typed_append : (h : PlainName) (ts : List Typed) (ss : List Step) (s : Step) → typed_steps h ts (ss ++ s ∷ []) ≡ typed_step h s (typed_steps h ts ss)
+pub typed_append : (h : Names) (ts : List Typed) (ss : List Step) (s : Step) → typed_steps h ts (ss ++ s ∷ []) ≡ typed_step h s (typed_steps h ts ss)
 typed_append h ts [] s = refl
 typed_append h ts (x ∷ ss) s = typed_append h (typed_step h x ts) ss s
 
-pub by_steps : (h : PlainName) (e : Shape) (ts : List Typed) (ss : List Step) → typed_steps h ts (postfix e ++ ss) ≡ typed_steps h (typed h e ∷ ts) ss
+pub by_steps : (h : Names) (e : Shape) (ts : List Typed) (ss : List Step) → typed_steps h ts (postfix e ++ ss) ≡ typed_steps h (typed h e ∷ ts) ss
 by_steps h (name i) ts ss = refl
 by_steps h (number i) ts ss = refl
 by_steps h (truth i) ts ss = refl
+by_steps h (reference i) ts ss = refl
 by_steps h (constant i) ts ss = refl
 by_steps h (prefix s a) ts ss = ap (typed_steps h ts) (append_assoc (postfix a) (step.Prefix s ∷ []) ss) ∙ by_steps h a ts (step.Prefix s ∷ ss)
 by_steps h (binary s a b) ts ss =

@@ -8,7 +8,7 @@ use Rattle.lambda_expr.specs.declared.step.Opening.{Opening}
 use Rattle.lambda_expr.specs.declared.step.Opening.TheVariants.{Paren, Call}
 use Rattle.lambda_expr.specs.declared.lexeme.Lexeme.{Lexeme}
 use Rattle.lambda_expr.specs.declared.lexeme.Lexeme.TheVariants as word
-use Rattle.lambda_expr.specs.Grammar.{Shape, name, number, truth, constant, prefix, binary, ternary, enclosed, level, is_infix, is_prefix, opening, inside, spells, Binds}
+use Rattle.lambda_expr.specs.Grammar.{Shape, name, number, truth, reference, constant, prefix, binary, ternary, enclosed, level, is_infix, is_prefix, opening, inside, spells, Binds}
 use Rattle.lambda_expr.specs.Reader.{Frame, opened, signed, left, question, colon, Top, joined, in_call, takes}
 
 -- the words so far
@@ -81,6 +81,7 @@ pub binds_lower : (e : Shape) (m n : ℕ) → n ≤ m → Binds m e → Binds n 
 binds_lower (name i) m n h b = tt
 binds_lower (number i) m n h b = tt
 binds_lower (truth i) m n h b = tt
+binds_lower (reference i) m n h b = tt
 binds_lower (constant i) m n h b = tt
 binds_lower (prefix s a) m n h b = (omega (arith, b.0), b.1, b.2)
 binds_lower (binary s a c) m n h b = (omega (arith, b.0), b.1, b.2, b.3)

@@ -73,6 +73,7 @@ closes_at t ps qs ss new o is code front n =
 pub called_next : (fs : List Frame) (o : Class) (i : Name) (w : Lexeme) → (w ≡ word.Open → ⊥) → called fs o i w ≡ alone fs o i w
 called_next fs o i (word.Name j) n = refl
 called_next fs o i (word.Number j) n = refl
+called_next fs o i (word.Reference j) n = refl
 called_next fs o i (word.Sign s) n = refl
 called_next fs o i word.Open n = absurd (n refl)
 called_next fs o i word.Close n = refl

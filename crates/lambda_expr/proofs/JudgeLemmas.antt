@@ -4,21 +4,24 @@ use Rattle.std.proofs.lemmas.Grind.{common_steps}
 use Rattle.lambda_expr.specs.declared.check.Summary.{Summary}
 use Rattle.lambda_expr.specs.declared.fault.ReadFault.TheVariants as fault
 use Rattle.lambda_expr.specs.declared.lambda.Want.{Want}
-use Rattle.lambda_expr.specs.declared.lexeme.PlainName.{PlainName}
+use Rattle.lambda_expr.specs.declared.lambda.PairForm.{PairForm}
 use Rattle.lambda_expr.specs.declared.step.Step.{Step}
 use Rattle.lambda_expr.specs.Checks.{depth, fit, literals, names_known}
 use Rattle.lambda_expr.specs.Elaborating.{top_typed, typed_steps}
 use Rattle.lambda_expr.specs.Grammar.{Shape, postfix}
+use Rattle.lambda_expr.specs.Heads.{parameters}
+use Rattle.lambda_expr.specs.Lexemes.{Names}
+use Rattle.lambda_expr.specs.PairForms.{form, whole_form}
 use Rattle.lambda_expr.specs.Refusals.{verdict, wanted}
 use Rattle.lambda_expr.specs.Summaries.{summary, summary_steps, top_summary}
 use Rattle.lambda_expr.specs.Typing.{Typed, typed}
 use Rattle.lambda_expr.proofs.ElaborateLemmas as elaborate
 use Rattle.lambda_expr.proofs.SummaryLemmas as check
 
-pub summary_is : (p : PlainName) (e : Shape) (steps : List Step) (s : Summary) → steps ≡ postfix e → s ≡ top_summary (summary_steps p [] steps) → s ≡ summary p e
+pub summary_is : (p : ℕ) (e : Shape) (steps : List Step) (s : Summary) → steps ≡ postfix e → s ≡ top_summary (summary_steps p [] steps) → s ≡ summary p e
 summary_is p e steps s is found = found ∙ ap (λ v. top_summary (summary_steps p [] v)) (is ∙ sym (append-nil (postfix e))) ∙ ap top_summary (check.by_steps p e [] [])
 
-pub typed_is : (p : PlainName) (e : Shape) (steps : List Step) (t : Typed) → steps ≡ postfix e → t ≡ top_typed (typed_steps p [] steps) → t ≡ typed p e
+pub typed_is : (p : Names) (e : Shape) (steps : List Step) (t : Typed) → steps ≡ postfix e → t ≡ top_typed (typed_steps p [] steps) → t ≡ typed p e
 typed_is p e steps t is found = found ∙ ap (λ v. top_typed (typed_steps p [] v)) (is ∙ sym (append-nil (postfix e))) ∙ ap top_typed (elaborate.by_steps p e [] [])
 
 deep : (n : ℕ) → 64 < min n 65 → nat_lt 64 n ≡ true
@@ -27,28 +30,29 @@ deep n h = let k : 64 < n = omega arith in grind (arith, common_steps)
 flat : (n : ℕ) → (64 < min n 65 → ⊥) → nat_lt 64 n ≡ false
 flat n h = let k : n ≤ 64 = omega arith in grind (arith, common_steps)
 
-pub too_large : (w : Want) (p : PlainName) (e : Shape) (s : Summary) → s ≡ summary p e → fit s.literals ≡ false → verdict w p e ≡ Err fault.LiteralTooLarge
+pub too_large : (w : Want) (p : Names) (e : Shape) (s : Summary) → s ≡ summary (parameters w) e → fit s.literals ≡ false → verdict w p e ≡ Err fault.LiteralTooLarge
 too_large w p e s is off = let h : fit (literals e) ≡ false = ap (λ (s : Summary). fit s.literals) (sym is) ∙ off in rw h refl
 
-pub too_deep : (w : Want) (p : PlainName) (e : Shape) (s : Summary) → s ≡ summary p e → fit s.literals ≡ true → 64 < s.depth → verdict w p e ≡ Err fault.TooDeep
+pub too_deep : (w : Want) (p : Names) (e : Shape) (s : Summary) → s ≡ summary (parameters w) e → fit s.literals ≡ true → 64 < s.depth → verdict w p e ≡ Err fault.TooDeep
 too_deep w p e s is on more =
     let h : fit (literals e) ≡ true = ap (λ (s : Summary). fit s.literals) (sym is) ∙ on in
     let same : s.depth ≡ min (depth e) 65 = ap (λ (s : Summary). s.depth) is in
     let k : nat_lt 64 (depth e) ≡ true = deep (depth e) (omega arith) in
     rw (h, k) refl
 
-pub unknown : (w : Want) (p : PlainName) (e : Shape) (s : Summary) → s ≡ summary p e → fit s.literals ≡ true → (64 < s.depth → ⊥) → s.known ≡ false → verdict w p e ≡ Err fault.UnknownName
+pub unknown : (w : Want) (p : Names) (e : Shape) (s : Summary) → s ≡ summary (parameters w) e → fit s.literals ≡ true → (64 < s.depth → ⊥) → s.known ≡ false → verdict w p e ≡ Err fault.UnknownName
 unknown w p e s is on less off =
     let h : fit (literals e) ≡ true = ap (λ (s : Summary). fit s.literals) (sym is) ∙ on in
     let same : s.depth ≡ min (depth e) 65 = ap (λ (s : Summary). s.depth) is in
     let k : nat_lt 64 (depth e) ≡ false = flat (depth e) (λ more. less (omega arith)) in
-    let n : names_known p e ≡ false = ap (λ (s : Summary). s.known) (sym is) ∙ off in
+    let n : names_known (parameters w) e ≡ false = ap (λ (s : Summary). s.known) (sym is) ∙ off in
     rw (h, k, n) refl
 
-pub by_type : (w : Want) (p : PlainName) (e : Shape) (s : Summary) (t : Typed) → s ≡ summary p e → fit s.literals ≡ true → (64 < s.depth → ⊥) → s.known ≡ true → t ≡ typed p e → verdict w p e ≡ wanted w t
-by_type w p e s t is on less known type =
+pub by_type : (w : Want) (p : Names) (e : Shape) (s : Summary) (t : Typed) (f : PairForm) → s ≡ summary (parameters w) e → fit s.literals ≡ true → (64 < s.depth → ⊥) → s.known ≡ true → t ≡ typed p e → f ≡ whole_form s.form → verdict w p e ≡ wanted w t f
+by_type w p e s t f is on less known type same_form =
     let h : fit (literals e) ≡ true = ap (λ (s : Summary). fit s.literals) (sym is) ∙ on in
     let same : s.depth ≡ min (depth e) 65 = ap (λ (s : Summary). s.depth) is in
     let k : nat_lt 64 (depth e) ≡ false = flat (depth e) (λ more. less (omega arith)) in
-    let n : names_known p e ≡ true = ap (λ (s : Summary). s.known) (sym is) ∙ known in
-    rw (h, k, n) (ap (wanted w) (sym type))
+    let n : names_known (parameters w) e ≡ true = ap (λ (s : Summary). s.known) (sym is) ∙ known in
+    let g : f ≡ whole_form (form e) = same_form ∙ ap (λ (s : Summary). whole_form s.form) is in
+    rw (h, k, n) (ap (λ t. wanted w t (whole_form (form e))) (sym type) ∙ ap (wanted w t) (sym g))

@@ -1,8 +1,11 @@
+pub mod Answering
 pub mod ElaborateLemmas
+pub mod EachText
 pub mod Exact
 pub mod Existence
 pub mod Frames
 pub mod HeadLemmas
+pub mod Heads
 pub mod Joining
 pub mod JudgeLemmas
 pub mod Lambdas
@@ -15,6 +18,7 @@ pub mod OneAnswer
 pub mod Only
 pub mod Parsing
 pub mod Quotients
+pub mod References
 pub mod Shifts
 pub mod StackLemmas
 pub mod Standing

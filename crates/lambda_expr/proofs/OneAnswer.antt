@@ -7,17 +7,17 @@ use Rattle.lambda_expr.specs.declared.fault.ReadFault.{ReadFault}
 use Rattle.lambda_expr.specs.declared.fault.ReadFault.TheVariants as fault
 use Rattle.lambda_expr.specs.declared.lambda.Want.{Want}
 use Rattle.lambda_expr.specs.declared.lambda.Lambda.{Lambda}
-use Rattle.lambda_expr.specs.Lexemes.{lexemes_of}
+use Rattle.lambda_expr.specs.Lexemes.{lexemes_of, names_in}
 use Rattle.lambda_expr.specs.Stops.{StopsAt}
-use Rattle.lambda_expr.specs.Heads.{ALambda, IsLambda, parameter_of}
-use Rattle.lambda_expr.specs.Refusals.{Typed, verdict, Judged, IsNoLambda, HasTooManyTokens, column, body_of, Spells, IsRefused}
+use Rattle.lambda_expr.specs.Heads.{ALambda, IsLambda}
+use Rattle.lambda_expr.specs.Refusals.{LambdaTerm, verdict, Judged, IsNoLambda, HasTooManyTokens, column, body_of, Spells, IsRefused}
 use Rattle.lambda_expr.proofs.Only.{one_place}
 use Rattle.lambda_expr.proofs.Lambdas.{one_lambda}
 
 -- what a text gives, memory aside
-pub data Outcome (text : List ℕ) (want : Want) (r : Result Typed ReadFault) : Type 0 where
+pub data Outcome (text : List ℕ) (want : Want) (r : Result LambdaTerm ReadFault) : Type 0 where
   many : HasTooManyTokens text → r ≡ Err fault.TooDeep → Outcome text want r
-  outside : (at : ℕ) → IsNoLambda text at → r ≡ Err (fault.Syntax at) → Outcome text want r
+  outside : (at : ℕ) → IsNoLambda text want at → r ≡ Err (fault.Syntax at) → Outcome text want r
   judged : Judged text want r → Outcome text want r
 
 one_cut : (text : List ℕ) (ts us : List Token) → AreTokensOf ts text → AreTokensOf us text → ts ≡ us
@@ -29,34 +29,34 @@ few_or_many text ts cut few m =
     let many = m.many in
     omega arith
 
-in_or_out : (text : List ℕ) (want : Want) (r : Result Typed ReadFault) (at : ℕ) → Judged text want r → IsNoLambda text at → ⊥
+in_or_out : (text : List ℕ) (want : Want) (r : Result LambdaTerm ReadFault) (at : ℕ) → Judged text want r → IsNoLambda text want at → ⊥
 in_or_out text want r at j n =
-    let ts = j.2.tokens in
-    let out = subst (λ us. ALambda (lexemes_of text us) → ⊥) (one_cut text n.tokens ts n.cut j.2.cut) n.stops.outside in
-    out (j.0, j.1, j.2.lambda)
+    let ts = j.spelled.tokens in
+    let out = subst (λ us. ALambda want (lexemes_of text us) → ⊥) (one_cut text n.tokens ts n.cut j.spelled.cut) n.stops.outside in
+    out (j.body, j.spelled.lambda)
 
-one_column : (text : List ℕ) (a b : ℕ) → IsNoLambda text a → IsNoLambda text b → a ≡ b
-one_column text a b m n =
+one_column : (text : List ℕ) (want : Want) (a b : ℕ) → IsNoLambda text want a → IsNoLambda text want b → a ≡ b
+one_column text want a b m n =
     let same : n.tokens ≡ m.tokens = one_cut text n.tokens m.tokens n.cut m.cut in
-    let there = subst (λ us. StopsAt ALambda (lexemes_of text us) n.place) same n.stops in
-    let place : m.place ≡ n.place = one_place ALambda (lexemes_of text m.tokens) m.place n.place m.stops there in
+    let there = subst (λ us. StopsAt (ALambda want) (lexemes_of text us) n.place) same n.stops in
+    let place : m.place ≡ n.place = one_place (ALambda want) (lexemes_of text m.tokens) m.place n.place m.stops there in
     m.here ∙ ap (column text m.tokens) place ∙ ap (λ us. column text us n.place) (sym same) ∙ sym n.here
 
-one_judgement : (text : List ℕ) (want : Want) (r s : Result Typed ReadFault) → Judged text want r → Judged text want s → r ≡ s
+one_judgement : (text : List ℕ) (want : Want) (r s : Result LambdaTerm ReadFault) → Judged text want r → Judged text want s → r ≡ s
 one_judgement text want r s j k =
-    let same : k.2.tokens ≡ j.2.tokens = one_cut text k.2.tokens j.2.tokens k.2.cut j.2.cut in
-    let there = subst (λ us. IsLambda (lexemes_of text us) k.0 k.1) same k.2.lambda in
-    let one = one_lambda (lexemes_of text j.2.tokens) j.0 k.0 j.1 k.1 j.2.lambda there in
-    sym j.3 ∙ ap (λ p. verdict want (parameter_of p) j.1) one.0 ∙ ap (verdict want (parameter_of k.0)) one.1 ∙ k.3
+    let same : k.spelled.tokens ≡ j.spelled.tokens = one_cut text k.spelled.tokens j.spelled.tokens k.spelled.cut j.spelled.cut in
+    let there = subst (λ us. IsLambda want (lexemes_of text us) k.body) same k.spelled.lambda in
+    let one = one_lambda (lexemes_of text j.spelled.tokens) want j.body k.body j.spelled.lambda there in
+    sym j.gives ∙ ap (λ us. verdict want (names_in text us) j.body) (sym same) ∙ ap (verdict want (names_in text k.spelled.tokens)) one ∙ k.gives
 
-pub one_outcome : (text : List ℕ) (want : Want) (r s : Result Typed ReadFault) → Outcome text want r → Outcome text want s → r ≡ s
+pub one_outcome : (text : List ℕ) (want : Want) (r s : Result LambdaTerm ReadFault) → Outcome text want r → Outcome text want s → r ≡ s
 one_outcome text want r s (many m e) (many n f) = e ∙ sym f
 one_outcome text want r s (many m e) (outside at n f) = absurd (few_or_many text n.tokens n.cut n.few m)
-one_outcome text want r s (many m e) (judged j) = absurd (few_or_many text j.2.tokens j.2.cut j.2.few m)
+one_outcome text want r s (many m e) (judged j) = absurd (few_or_many text j.spelled.tokens j.spelled.cut j.spelled.few m)
 one_outcome text want r s (outside at n e) (many m f) = absurd (few_or_many text n.tokens n.cut n.few m)
-one_outcome text want r s (outside at n e) (outside to m f) = e ∙ ap (λ k. Err (fault.Syntax k)) (one_column text at to n m) ∙ sym f
+one_outcome text want r s (outside at n e) (outside to m f) = e ∙ ap (λ k. Err (fault.Syntax k)) (one_column text want at to n m) ∙ sym f
 one_outcome text want r s (outside at n e) (judged j) = absurd (in_or_out text want s at j n)
-one_outcome text want r s (judged j) (many m f) = absurd (few_or_many text j.2.tokens j.2.cut j.2.few m)
+one_outcome text want r s (judged j) (many m f) = absurd (few_or_many text j.spelled.tokens j.spelled.cut j.spelled.few m)
 one_outcome text want r s (judged j) (outside at n f) = absurd (in_or_out text want r at j n)
 one_outcome text want r s (judged j) (judged k) = one_judgement text want r s j k
 

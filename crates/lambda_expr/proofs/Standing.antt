@@ -109,6 +109,7 @@ followed ws fs e word.Close s =
     shut ws (joined 0 fs e).frames (joined 0 fs e).shape (j.words ∙ s.0) j.ordered j.tight
 followed ws fs e (word.Name i) s = tt
 followed ws fs e (word.Number i) s = tt
+followed ws fs e (word.Reference i) s = tt
 followed ws fs e word.Open s = tt
 followed ws fs e word.Dot s = tt
 followed ws fs e word.Arrow s = tt
@@ -121,6 +122,7 @@ started ws fs (word.Name (Truth b)) s = (ap (λ v. v ++ word.Name (Truth b) ∷ 
 started ws fs (word.Name LowerLong) s = tt
 started ws fs (word.Name LongStream) s = tt
 started ws fs (word.Number i) s = (ap (λ v. v ++ word.Number i ∷ []) s.0, s.1, tt)
+started ws fs (word.Reference i) s = (ap (λ v. v ++ word.Reference i ∷ []) s.0, s.1, tt)
 started ws fs (word.Sign x) s = when_stands (put ws (word.Sign x)) (is_prefix x) (wants (signed x ∷ fs)) (λ y. (ap (λ v. v ++ word.Sign x ∷ []) s.0, (y, s.1)))
 started ws fs word.Open s = (ap (λ v. v ++ word.Open ∷ []) s.0, s.1)
 started ws fs word.Close s = tt
@@ -134,6 +136,7 @@ owned_on : (ws : List Lexeme) (fs : List Frame) (o : Class) (w : Lexeme) → Sta
 owned_on ws fs o word.Dot s = (more ws (word.Name (Owner o) ∷ []) word.Dot fs s.0, s.1)
 owned_on ws fs o (word.Name i) s = tt
 owned_on ws fs o (word.Number i) s = tt
+owned_on ws fs o (word.Reference i) s = tt
 owned_on ws fs o (word.Sign x) s = tt
 owned_on ws fs o word.Open s = tt
 owned_on ws fs o word.Close s = tt
@@ -145,6 +148,7 @@ owned_on ws fs o word.Other s = tt
 dotted_on : (ws : List Lexeme) (fs : List Frame) (o : Class) (w : Lexeme) → Stands ws (dots fs o) → Stands (put ws w) (read (dots fs o) w)
 dotted_on ws fs o (word.Name i) s = (more ws (word.Name (Owner o) ∷ word.Dot ∷ []) (word.Name i) fs s.0, s.1)
 dotted_on ws fs o (word.Number i) s = tt
+dotted_on ws fs o (word.Reference i) s = tt
 dotted_on ws fs o (word.Sign x) s = tt
 dotted_on ws fs o word.Open s = tt
 dotted_on ws fs o word.Close s = tt
@@ -158,6 +162,7 @@ called_on : (ws : List Lexeme) (fs : List Frame) (o : Class) (i : Name) (w : Lex
 called_on ws fs o i word.Open s = (more ws (word.Name (Owner o) ∷ word.Dot ∷ word.Name i ∷ []) word.Open fs s.0, s.1)
 called_on ws fs Long i (word.Name j) s = tt
 called_on ws fs Long i (word.Number j) s = tt
+called_on ws fs Long i (word.Reference j) s = tt
 called_on ws fs Long i (word.Sign x) s = followed ws fs (constant i) (word.Sign x) (s.0, s.1, tt)
 called_on ws fs Long i word.Close s = followed ws fs (constant i) word.Close (s.0, s.1, tt)
 called_on ws fs Long i word.Dot s = tt
@@ -167,6 +172,7 @@ called_on ws fs Long i word.Colon s = followed ws fs (constant i) word.Colon (s.
 called_on ws fs Long i word.Other s = tt
 called_on ws fs Math i (word.Name j) s = tt
 called_on ws fs Math i (word.Number j) s = tt
+called_on ws fs Math i (word.Reference j) s = tt
 called_on ws fs Math i (word.Sign x) s = tt
 called_on ws fs Math i word.Close s = tt
 called_on ws fs Math i word.Dot s = tt

@@ -1,9 +1,11 @@
 -- The words of a list of tokens, place by place.
-use Rattle.std.proofs.Common.{◌≡◌, ℕ, zero, suc, ◌<◌, ◌≤◌, List, [], ◌∷◌, length, drop, get_or, refl, ap, arith}
+use Rattle.std.proofs.Common.{◌≡◌, ℕ, zero, suc, ◌<◌, ◌≤◌, List, [], ◌∷◌, length, drop, get_or, refl, sym, ap, ◌∙◌, arith}
 use Rattle.stream_tokens.specs.declared.token.Token.{Token}
 use Rattle.stream_tokens.specs.declared.token.TokenKind.{TokenKind}
 use Rattle.stream_tokens.specs.declared.token.TokenKind.TheVariants as kind
 use Rattle.stream_tokens.specs.declared.symbol.Symbol.{Symbol}
+use Rattle.stream_tokens.specs.Tokens.{token_text}
+use Rattle.lambda_expr.specs.Lexemes.{reference_name}
 use Rattle.lambda_expr.specs.Words.{named, numeral, sign, bad, word_of, words_of, word_for}
 use Rattle.lambda_expr.specs.Refusals.{column}
 
@@ -72,3 +74,23 @@ pub column-past : (text : List ℕ) (ts : List Token) (i : ℕ) → length ts �
 column-past text [] i h = refl
 column-past text (t ∷ ts) zero h = absurd (omega arith)
 column-past text (t ∷ ts) (suc i) h = let k : length ts ≤ i = omega arith in column-past text ts i k
+
+-- the word at a place, from its kind and its bytes
+pub word_at_place : (text : List ℕ) (ts : List Token) (i : ℕ) (d : Token) → i < length ts → get_or (words_of text ts) i bad ≡ word_for (get_or ts i d).kind (token_text text (get_or ts i d))
+word_at_place text ts i d lt = get_or-words_of text ts i d lt
+
+pub word_there : (text : List ℕ) (ts : List Token) (i : ℕ) (d : Token) (k : TokenKind) (bytes : List ℕ) → i < length ts → k ≡ (get_or ts i d).kind → bytes ≡ token_text text (get_or ts i d) → get_or (words_of text ts) i bad ≡ word_for k bytes
+word_there text ts i d k bytes lt same is = get_or-words_of text ts i d lt ∙ sym (ap (λ k. word_for k bytes) same ∙ ap (word_for (get_or ts i d).kind) is)
+
+pub past_words : (text : List ℕ) (ts : List Token) (i : ℕ) → length ts ≤ i → get_or (words_of text ts) i bad ≡ bad
+past_words text [] i h = refl
+past_words text (t ∷ ts) zero h = absurd (omega arith)
+past_words text (t ∷ ts) (suc i) h = let k : length ts ≤ i = omega arith in past_words text ts i k
+
+pub no_reference : (k : TokenKind) (bytes : List ℕ) → (k ≡ kind.Reference → ⊥) → reference_name (word_for k bytes) ≡ []
+no_reference kind.Name bytes n = refl
+no_reference kind.Number bytes n = refl
+no_reference kind.String bytes n = refl
+no_reference kind.Reference bytes n = absurd (n refl)
+no_reference (kind.Symbol s) bytes n = refl
+no_reference kind.Bad bytes n = refl

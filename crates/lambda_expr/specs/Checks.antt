@@ -3,13 +3,12 @@ use Rattle.std.specs.Prelude.{ℕ, suc, ◌^◌, max, Bool, true, false, ◌&&�
 use Rattle.std.specs.Option.{is_some}
 use Rattle.lambda_expr.specs.declared.check.Literals.{Literals}
 use Rattle.lambda_expr.specs.declared.check.Literals.TheVariants.{Number, Fit}
-use Rattle.lambda_expr.specs.declared.lexeme.PlainName.{PlainName}
 use Rattle.lambda_expr.specs.declared.sign.Sign.{Sign}
 use Rattle.lambda_expr.specs.declared.sign.Sign.TheVariants as sign
 use Rattle.lambda_expr.specs.declared.step.Opening.{Opening}
 use Rattle.lambda_expr.specs.declared.step.Opening.TheVariants.{Paren, Call}
-use Rattle.lambda_expr.specs.Grammar.{Shape, name, number, truth, constant, prefix, binary, ternary, enclosed}
-use Rattle.lambda_expr.specs.Typing.{constant_of, function_of, is_same}
+use Rattle.lambda_expr.specs.Grammar.{Shape, name, number, truth, reference, constant, prefix, binary, ternary, enclosed}
+use Rattle.lambda_expr.specs.Typing.{constant_of, function_of}
 
 -- whether the numbers of an expression fit; a number by itself is at most 2^63 - 1
 abbrev pub fit : Literals → Bool
@@ -26,6 +25,7 @@ abbrev pub literals : Shape → Literals
 literals (name i) = Fit true
 literals (number n) = Number n
 literals (truth b) = Fit true
+literals (reference i) = Fit true
 literals (constant n) = Fit true
 literals (prefix s a) = signed s (literals a)
 literals (binary s a b) = Fit (fit (literals a) && fit (literals b))
@@ -41,6 +41,7 @@ abbrev pub depth : Shape → ℕ
 depth (name i) = 1
 depth (number n) = 1
 depth (truth b) = 1
+depth (reference i) = 1
 depth (constant n) = 1
 depth (prefix s a) = suc (depth a)
 depth (binary s a b) = if is_comma s then max (depth a) (depth b) else suc (max (depth a) (depth b))
@@ -52,13 +53,14 @@ abbrev pub is_known : Opening → Bool
 is_known Paren = true
 is_known (Call o n) = is_some (function_of o n)
 
--- each name is the parameter, a method or a constant
-abbrev pub names_known : PlainName → Shape → Bool
-names_known p (name i) = is_same p i
-names_known p (number n) = true
-names_known p (truth b) = true
-names_known p (constant n) = is_some (constant_of n)
-names_known p (prefix s a) = names_known p a
-names_known p (binary s a b) = names_known p a && names_known p b
-names_known p (ternary c q r) = names_known p c && (names_known p q && names_known p r)
-names_known p (enclosed o a) = is_known o && names_known p a
+-- each name is one of n parameters, a method or a constant
+abbrev pub names_known : ℕ → Shape → Bool
+names_known n (name i) = nat_lt i.number n
+names_known n (number k) = true
+names_known n (truth b) = true
+names_known n (reference i) = true
+names_known n (constant c) = is_some (constant_of c)
+names_known n (prefix s a) = names_known n a
+names_known n (binary s a b) = names_known n a && names_known n b
+names_known n (ternary c q r) = names_known n c && (names_known n q && names_known n r)
+names_known n (enclosed o a) = is_known o && names_known n a

@@ -9,7 +9,7 @@ use Rattle.lambda_expr.specs.declared.parse.Held.{Held}
 use Rattle.lambda_expr.specs.declared.parse.Held.TheVariants as held
 use Rattle.lambda_expr.specs.declared.parse.Stop.{Stop}
 use Rattle.lambda_expr.specs.declared.parse.Stop.TheVariants.{At, NoMemory}
-use Rattle.lambda_expr.specs.Grammar.{Shape, name, number, truth, constant, prefix, binary, ternary, enclosed, level, postfix, IsExpression}
+use Rattle.lambda_expr.specs.Grammar.{Shape, name, number, truth, reference, constant, prefix, binary, ternary, enclosed, level, postfix, IsExpression}
 use Rattle.lambda_expr.specs.Stops.{StopsAt}
 use Rattle.lambda_expr.specs.Reader.{Frame, opened, signed, left, question, colon, Top, State, wants, has, owns, dots, calls, stuck, settled, result_of}
 
@@ -34,6 +34,7 @@ abbrev pub apply : Step → List Shape → List Shape
 apply (step.Name i) vs = name i ∷ vs
 apply (step.Number i) vs = number i ∷ vs
 apply (step.Truth i) vs = truth i ∷ vs
+apply (step.Reference i) vs = reference i ∷ vs
 apply (step.Constant i) vs = constant i ∷ vs
 apply (step.Prefix s) vs = prefix s (shape_on vs) ∷ rest vs
 apply (step.Binary s) vs = binary s (shape_on (rest vs)) (shape_on vs) ∷ rest (rest vs)

@@ -1,11 +1,11 @@
 -- Condition: the term of an expression from its steps, with a stack of the terms of operands.
 use Rattle.std.specs.Prelude.{List, [], ◌∷◌, pos}
-use Rattle.lambda_expr.specs.declared.lexeme.PlainName.{PlainName}
 use Rattle.lambda_expr.specs.declared.step.Step.{Step}
 use Rattle.lambda_expr.specs.declared.step.Step.TheVariants as step
 use Rattle.lambda_expr.specs.declared.step.Opening.TheVariants.{Paren, Call}
 use Rattle.lambda_expr.specs.declared.elaborate.Operand.{Operand}
 use Rattle.lambda_expr.specs.declared.elaborate.Operand.TheVariants as operand
+use Rattle.lambda_expr.specs.Lexemes.{Names}
 use Rattle.lambda_expr.specs.Stacks.{below, top_or}
 use Rattle.lambda_expr.specs.Term as term
 use Rattle.lambda_expr.specs.Term.{long_of, truth_of}
@@ -27,10 +27,11 @@ abbrev pub top_typed : List Typed → Typed
 top_typed ts = top_or untyped ts
 
 -- one step over the terms of operands
-abbrev pub typed_step : PlainName → Step → List Typed → List Typed
-typed_step h (step.Name i) ts = long (term.parameter 0) ∷ ts
+abbrev pub typed_step : Names → Step → List Typed → List Typed
+typed_step h (step.Name i) ts = long (term.parameter i.number) ∷ ts
 typed_step h (step.Number n) ts = long (term.number (wrap (pos n))) ∷ ts
 typed_step h (step.Truth b) ts = boolean (term.literal b) ∷ ts
+typed_step h (step.Reference i) ts = long (term.reference (h i)) ∷ ts
 typed_step h (step.Constant n) ts = constant_typed (constant_of n) ∷ ts
 typed_step h (step.Prefix s) ts = prefixed s (top_typed ts) ∷ below ts
 typed_step h (step.Binary s) ts = operated (top_typed (below ts)) (top_typed ts) (operation_of s) ∷ below (below ts)
@@ -38,6 +39,6 @@ typed_step h step.Ternary ts = selected (top_typed (below (below ts))) (top_type
 typed_step h (step.Enclose Paren) ts = top_typed ts ∷ below ts
 typed_step h (step.Enclose (Call o n)) ts = called_with (function_of o n) (top_typed ts) ∷ below ts
 
-abbrev pub typed_steps : PlainName → List Typed → List Step → List Typed
+abbrev pub typed_steps : Names → List Typed → List Step → List Typed
 typed_steps h ts [] = ts
 typed_steps h ts (s ∷ ss) = typed_steps h (typed_step h s ts) ss

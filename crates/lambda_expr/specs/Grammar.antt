@@ -13,11 +13,12 @@ use Rattle.lambda_expr.specs.declared.lexeme.Name.TheVariants.{Plain, Owner, Tru
 use Rattle.lambda_expr.specs.declared.step.Step.{Step}
 use Rattle.lambda_expr.specs.declared.step.Step.TheVariants as step
 
--- an expression as it is written; operands of a call hang together by commas
+-- an expression as it is written; operands of a call hang together by commas, and a reference is known by its place
 pub data Shape : Type 0 where
   name : PlainName → Shape
   number : ℕ → Shape
   truth : Bool → Shape
+  reference : ℕ → Shape
   constant : Name → Shape
   prefix : Sign → Shape → Shape
   binary : Sign → Shape → Shape → Shape
@@ -75,6 +76,7 @@ abbrev pub spells : Shape → List Lexeme
 spells (name i) = word.Name (Plain i) ∷ []
 spells (number i) = word.Number i ∷ []
 spells (truth i) = word.Name (Truth i) ∷ []
+spells (reference i) = word.Reference i ∷ []
 spells (constant i) = word.Name (Owner Long) ∷ word.Dot ∷ word.Name i ∷ []
 spells (prefix s a) = word.Sign s ∷ spells a
 spells (binary s a b) = spells a ++ word.Sign s ∷ spells b
@@ -86,6 +88,7 @@ abbrev pub Binds : ℕ → Shape → Type 0
 Binds n (name i) = Unit {0}
 Binds n (number i) = Unit {0}
 Binds n (truth i) = Unit {0}
+Binds n (reference i) = Unit {0}
 Binds n (constant i) = Unit {0}
 Binds n (prefix s a) = (n ≤ 12) × (is_prefix s ≡ true) × Binds 12 a
 Binds n (binary s a b) = (n ≤ level s) × (is_infix s ≡ true) × Binds (level s) a × Binds (suc (level s)) b
@@ -105,6 +108,7 @@ abbrev pub postfix : Shape → List Step
 postfix (name i) = step.Name i ∷ []
 postfix (number i) = step.Number i ∷ []
 postfix (truth i) = step.Truth i ∷ []
+postfix (reference i) = step.Reference i ∷ []
 postfix (constant i) = step.Constant i ∷ []
 postfix (prefix s a) = postfix a ++ step.Prefix s ∷ []
 postfix (binary s a b) = postfix a ++ (postfix b ++ step.Binary s ∷ [])

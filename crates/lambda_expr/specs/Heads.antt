@@ -1,28 +1,67 @@
 -- Meaning: heads of lambdas, and lambdas.
-use Rattle.std.specs.Prelude.{◌≡◌, List, [], ◌∷◌, ◌++◌}
-use Rattle.lambda_expr.specs.declared.head.Head.{Head}
-use Rattle.lambda_expr.specs.declared.head.Head.TheVariants.{Bare, Enclosed, WithType}
+use Rattle.std.specs.Prelude.{◌≡◌, ◌⊎◌, ℕ, List, [], ◌∷◌, ◌++◌, Option, Some, None}
+use Rattle.lambda_expr.specs.declared.head.Mark.{Mark}
+use Rattle.lambda_expr.specs.declared.head.Mark.TheVariants as mark
+use Rattle.lambda_expr.specs.declared.lambda.Want.{Want}
+use Rattle.lambda_expr.specs.declared.lambda.Want.TheVariants as want
 use Rattle.lambda_expr.specs.declared.lexeme.Lexeme.{Lexeme}
 use Rattle.lambda_expr.specs.declared.lexeme.Lexeme.TheVariants as word
 use Rattle.lambda_expr.specs.declared.lexeme.Name.TheVariants.{Plain, LowerLong}
-use Rattle.lambda_expr.specs.declared.lexeme.PlainName.{PlainName}
-use Rattle.lambda_expr.specs.Grammar.{Shape, spells, Binds}
+use Rattle.lambda_expr.specs.declared.sign.Sign.TheVariants.{Comma}
+use Rattle.lambda_expr.specs.Grammar.{Shape, IsExpression}
 
--- the words of a head with its arrow: `x ->`, `(x) ->` or `(long x) ->` (JLS 17, 15.27.1)
-abbrev pub head_words : Head → List Lexeme
-head_words (Bare i) = word.Name (Plain i) ∷ word.Arrow ∷ []
-head_words (Enclosed i) = word.Open ∷ word.Name (Plain i) ∷ word.Close ∷ word.Arrow ∷ []
-head_words (WithType i) = word.Open ∷ word.Name LowerLong ∷ word.Name (Plain i) ∷ word.Close ∷ word.Arrow ∷ []
+-- what a word is in a head: a name is a parameter by its number
+abbrev pub mark_of : Lexeme → Option Mark
+mark_of (word.Name (Plain i)) = Some (mark.Parameter i.number)
+mark_of (word.Name LowerLong) = Some mark.LowerLong
+mark_of word.Open = Some mark.Open
+mark_of (word.Sign Comma) = Some mark.Comma
+mark_of word.Close = Some mark.Close
+mark_of word.Arrow = Some mark.Arrow
+mark_of w = None
 
-abbrev pub parameter_of : Head → PlainName
-parameter_of (Bare i) = i
-parameter_of (Enclosed i) = i
-parameter_of (WithType i) = i
+-- the words are those of a pattern, one for each mark
+abbrev pub Fit : List Mark → List Lexeme → Type 0
+Fit [] [] = Unit {0}
+Fit [] (w ∷ ws) = ⊥
+Fit (m ∷ ms) [] = ⊥
+Fit (m ∷ ms) (w ∷ ws) = (mark_of w ≡ Some m) × Fit ms ws
 
--- the words are this lambda (JLS 17, 15.27)
-pub record IsLambda (ws : List Lexeme) (h : Head) (e : Shape) : Type 0 where
-  pub binds : Binds 1 e
-  pub spelled : head_words h ++ spells e ≡ ws
+abbrev pub IsOneOf : List Mark → List (List Mark) → Type 0
+IsOneOf p [] = ⊥
+IsOneOf p (q ∷ qs) = (p ≡ q) ⊎ IsOneOf p qs
 
-abbrev pub ALambda : List Lexeme → Type 0
-ALambda ws = (h : Head) × (e : Shape) × IsLambda ws h e
+-- the words are those of one of these patterns, and then a text that may stand after them
+pub record HasHead (ps : List (List Mark)) (after : List Lexeme → List Lexeme → Type 0) (ws : List Lexeme) : Type 0 where
+  pub pattern : List Mark
+  pub listed : IsOneOf pattern ps
+  pub front : List Lexeme
+  pub fit : Fit pattern front
+  pub rest : List Lexeme
+  pub spelled : front ++ rest ≡ ws
+  pub stands : after front rest
+
+-- the heads of one parameter, `x ->`, `(x) ->` and `(long x) ->`, and of two, `(a, b) ->` and `(long a, long b) ->`
+-- (JLS 17, 15.27.1)
+abbrev pub heads : Want → List (List Mark)
+heads want.Pair =
+    (mark.Open ∷ mark.Parameter 0 ∷ mark.Comma ∷ mark.Parameter 1 ∷ mark.Close ∷ mark.Arrow ∷ [])
+    ∷ (mark.Open ∷ mark.LowerLong ∷ mark.Parameter 0 ∷ mark.Comma ∷ mark.LowerLong ∷ mark.Parameter 1 ∷ mark.Close ∷ mark.Arrow ∷ [])
+    ∷ []
+heads w =
+    (mark.Parameter 0 ∷ mark.Arrow ∷ [])
+    ∷ (mark.Open ∷ mark.Parameter 0 ∷ mark.Close ∷ mark.Arrow ∷ [])
+    ∷ (mark.Open ∷ mark.LowerLong ∷ mark.Parameter 0 ∷ mark.Close ∷ mark.Arrow ∷ [])
+    ∷ []
+
+-- how many parameters a lambda has
+abbrev pub parameters : Want → ℕ
+parameters want.Pair = 2
+parameters w = 1
+
+-- the words are a lambda of this want with this body (JLS 17, 15.27)
+abbrev pub IsLambda : Want → List Lexeme → Shape → Type 0
+IsLambda w ws e = HasHead (heads w) (λ front rest. IsExpression rest e) ws
+
+abbrev pub ALambda : Want → List Lexeme → Type 0
+ALambda w ws = (e : Shape) × IsLambda w ws e

@@ -1,5 +1,5 @@
 -- Meaning: what the words of a text are to the grammar of lambdas.
-use Rattle.std.specs.Prelude.{ℕ, suc, ◌-◌, ◌^◌, min, Bool, true, false, ◌||◌, nat_eq, if◌then◌else◌, List, [], ◌∷◌, codes}
+use Rattle.std.specs.Prelude.{ℕ, suc, ◌-◌, ◌^◌, min, Bool, true, false, ◌||◌, nat_eq, if◌then◌else◌, List, [], ◌∷◌, codes, drop, slice_index_or}
 use Rattle.std.specs.Cmp.Lexicographic.{pointwise}
 use Rattle.stream_tokens.specs.declared.symbol.Symbol.{Symbol}
 use Rattle.stream_tokens.specs.declared.symbol.Symbol.TheVariants as symbol
@@ -50,11 +50,12 @@ symbol_lexeme s = lexeme.Other
 abbrev pub is_named : List ℕ → List ℕ → Bool
 is_named w name = pointwise nat_eq w name
 
--- what a name is after `Math .` or `Long .`
+-- what a name is after `Math .`, `Long .` or `LongStream .`
 abbrev pub member_of : List ℕ → Member
 member_of w =
     if is_named w (codes "abs") then member.Abs
     else (if is_named w (codes "addExact") then member.AddExact
+    else (if is_named w (codes "empty") then member.Empty
     else (if is_named w (codes "floorDiv") then member.FloorDiv
     else (if is_named w (codes "floorMod") then member.FloorMod
     else (if is_named w (codes "max") then member.Max
@@ -63,37 +64,44 @@ member_of w =
     else (if is_named w (codes "MIN_VALUE") then member.MinValue
     else (if is_named w (codes "multiplyExact") then member.MultiplyExact
     else (if is_named w (codes "negateExact") then member.NegateExact
+    else (if is_named w (codes "of") then member.Of
+    else (if is_named w (codes "range") then member.Range
+    else (if is_named w (codes "rangeClosed") then member.RangeClosed
     else (if is_named w (codes "subtractExact") then member.SubtractExact
     else (if is_named w (codes "sum") then member.Sum
-    else member.Other)))))))))))
+    else member.Other)))))))))))))))
 
--- the name at a place of a text whose first name is this: the parameter has number 0
-abbrev pub name_of : List ℕ → ℕ → List ℕ → Name
-name_of first at w =
+-- which of the names of a text this one is, if these are the first two: 0, 1, or 2 for any other
+abbrev pub order_of : List ℕ → List ℕ → List ℕ → ℕ
+order_of first second w = if is_named w first then 0 else (if is_named w second then 1 else 2)
+
+-- a name of a text, if these are the first two that a parameter may have
+abbrev pub name_of : List ℕ → List ℕ → List ℕ → Name
+name_of first second w =
     if is_named w (codes "Math") then Owner Math
     else (if is_named w (codes "Long") then Owner Long
     else (if is_named w (codes "LongStream") then LongStream
     else (if is_named w (codes "long") then LowerLong
     else (if is_named w (codes "true") then Truth true
     else (if is_named w (codes "false") then Truth false
-    else Plain (record { number = if is_named w first then 0 else at; member = member_of w }))))))
+    else Plain (record { number = order_of first second w; member = member_of w }))))))
 
 -- a numeral by its value, or 2^64 - 1 if that is less
 abbrev pub number_lexeme : List ℕ → Lexeme
 number_lexeme w = if is_numeral w then lexeme.Number (min (numeral_value w) (2 ^ 64 - 1)) else lexeme.Other
 
--- the lexeme of the word at a place; references are not in the grammar yet
-abbrev pub lexeme_of : List ℕ → ℕ → Word → Lexeme
-lexeme_of first at (named w) = lexeme.Name (name_of first at w)
-lexeme_of first at (numeral w) = number_lexeme w
-lexeme_of first at (quoted w) = lexeme.Other
-lexeme_of first at (referred w) = lexeme.Other
-lexeme_of first at (sign s) = symbol_lexeme s
-lexeme_of first at bad = lexeme.Other
+-- the lexeme of the word at a place; a reference is known by its place
+abbrev pub lexeme_of : List ℕ → List ℕ → ℕ → Word → Lexeme
+lexeme_of first second at (named w) = lexeme.Name (name_of first second w)
+lexeme_of first second at (numeral w) = number_lexeme w
+lexeme_of first second at (quoted w) = lexeme.Other
+lexeme_of first second at (referred w) = lexeme.Reference at
+lexeme_of first second at (sign s) = symbol_lexeme s
+lexeme_of first second at bad = lexeme.Other
 
-abbrev pub lexemes_from : List ℕ → ℕ → List Word → List Lexeme
-lexemes_from first at [] = []
-lexemes_from first at (w ∷ ws) = lexeme_of first at w ∷ lexemes_from first (suc at) ws
+abbrev pub lexemes_from : List ℕ → List ℕ → ℕ → List Word → List Lexeme
+lexemes_from first second at [] = []
+lexemes_from first second at (w ∷ ws) = lexeme_of first second at w ∷ lexemes_from first second (suc at) ws
 
 -- a word that no parameter is named by
 abbrev pub is_reserved : List ℕ → Bool
@@ -101,12 +109,32 @@ is_reserved w =
     is_named w (codes "Math") || is_named w (codes "Long") || is_named w (codes "LongStream")
     || is_named w (codes "long") || is_named w (codes "true") || is_named w (codes "false")
 
--- the first name that a parameter may have; no name is empty
-abbrev pub first_name : List Word → List ℕ
-first_name [] = []
-first_name (named w ∷ ws) = if is_reserved w then first_name ws else w
-first_name (w ∷ ws) = first_name ws
+-- no parameter has this name, or it is the one that is taken
+abbrev pub is_taken : List ℕ → List ℕ → Bool
+is_taken taken w = is_reserved w || is_named w taken
+
+-- the first name that a parameter may have, apart from one that is taken; no name is empty
+abbrev pub first_name : List ℕ → List Word → List ℕ
+first_name taken [] = []
+first_name taken (named w ∷ ws) = if is_taken taken w then first_name taken ws else w
+first_name taken (w ∷ ws) = first_name taken ws
+
+-- the lexemes of words, the first two different names among them known
+abbrev pub lexemes_in : List Word → List Lexeme
+lexemes_in ws = let first = first_name [] ws in lexemes_from first (first_name first ws) 0 ws
 
 -- the lexemes of a text
 abbrev pub lexemes_of : List ℕ → List Token → List Lexeme
-lexemes_of text tokens = let ws = words_of text tokens in lexemes_from (first_name ws) 0 ws
+lexemes_of text tokens = lexemes_in (words_of text tokens)
+
+-- the name that a reference stands for, without its `$`
+abbrev pub reference_name : Word → List ℕ
+reference_name (referred w) = drop 1 w
+reference_name w = []
+
+-- the names that the references of a text stand for, by their places
+abbrev pub Names : Type 0
+Names = ℕ → List ℕ
+
+abbrev pub names_in : List ℕ → List Token → Names
+names_in text tokens at = reference_name (slice_index_or (words_of text tokens) at bad)

@@ -11,7 +11,9 @@ pub mod NumberReading
 pub mod Numbers
 pub mod Numerals
 pub mod Operators
+pub mod PairForms
 pub mod Reader
+pub mod References
 pub mod Refusals
 pub mod Stacks
 pub mod Stops

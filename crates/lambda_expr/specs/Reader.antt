@@ -10,7 +10,7 @@ use Rattle.lambda_expr.specs.declared.lexeme.Lexeme.{Lexeme}
 use Rattle.lambda_expr.specs.declared.lexeme.Lexeme.TheVariants as word
 use Rattle.lambda_expr.specs.declared.lexeme.Name.{Name}
 use Rattle.lambda_expr.specs.declared.lexeme.Name.TheVariants.{Plain, Owner, Truth}
-use Rattle.lambda_expr.specs.Grammar.{Shape, name, number, truth, constant, prefix, binary, ternary, enclosed, level, is_infix, is_prefix}
+use Rattle.lambda_expr.specs.Grammar.{Shape, name, number, truth, reference, constant, prefix, binary, ternary, enclosed, level, is_infix, is_prefix}
 
 -- what waits for the operand to its right
 pub data Frame : Type 0 where
@@ -59,6 +59,7 @@ abbrev pub starts : List Frame → Lexeme → State
 starts fs (word.Name (Plain i)) = has fs (name i)
 starts fs (word.Name (Owner o)) = owns fs o
 starts fs (word.Name (Truth b)) = has fs (truth b)
+starts fs (word.Reference i) = has fs (reference i)
 starts fs (word.Number i) = has fs (number i)
 starts fs (word.Sign s) = when (is_prefix s) (wants (signed s ∷ fs))
 starts fs word.Open = wants (opened Paren ∷ fs)

@@ -1,63 +1,67 @@
 -- Meaning: which texts are lambdas, and what each other text is refused for.
-pub use Rattle.lambda_expr.specs.Typing.{Typed, long, boolean, longs, untyped}
-use Rattle.std.specs.Prelude.{◌≡◌, ℕ, zero, suc, ◌<◌, ◌≤◌, not, nat_lt, if◌then◌else◌, ◌⊎◌, List, [], ◌∷◌, length, Result, Ok, Err}
+pub use Rattle.stream_tokens.specs.CutTexts.{column}
+use Rattle.std.specs.Prelude.{◌≡◌, ℕ, ◌<◌, ◌≤◌, not, nat_lt, if◌then◌else◌, ◌⊎◌, List, length, Result, Ok, Err}
 use Rattle.stream_tokens.specs.declared.token.Token.{Token}
 use Rattle.stream_tokens.specs.Tokens.{AreTokensOf}
 use Rattle.lambda_expr.specs.declared.fault.ReadFault.{ReadFault}
 use Rattle.lambda_expr.specs.declared.fault.ReadFault.TheVariants as fault
-use Rattle.lambda_expr.specs.declared.head.Head.{Head}
 use Rattle.lambda_expr.specs.declared.lambda.Want.{Want}
 use Rattle.lambda_expr.specs.declared.lambda.Want.TheVariants as want
 use Rattle.lambda_expr.specs.declared.lambda.Lambda.{Lambda}
+use Rattle.lambda_expr.specs.declared.lambda.PairForm.{PairForm}
 use Rattle.lambda_expr.specs.declared.lambda.Body.{Body}
 use Rattle.lambda_expr.specs.declared.lambda.Body.TheVariants as body
-use Rattle.lambda_expr.specs.declared.lexeme.PlainName.{PlainName}
 use Rattle.lambda_expr.specs.Checks.{depth, fit, literals, names_known}
 use Rattle.lambda_expr.specs.Grammar.{Shape}
-use Rattle.lambda_expr.specs.Heads.{ALambda, IsLambda, parameter_of}
-use Rattle.lambda_expr.specs.Lexemes.{lexemes_of}
+use Rattle.lambda_expr.specs.Heads.{ALambda, IsLambda, parameters}
+use Rattle.lambda_expr.specs.Lexemes.{Names, lexemes_of, names_in}
 use Rattle.lambda_expr.specs.Stops.{StopsAt}
-use Rattle.lambda_expr.specs.Term.{long_of, truth_of}
-use Rattle.lambda_expr.specs.Typing.{typed}
+use Rattle.lambda_expr.specs.PairForms.{form, whole_form}
+use Rattle.lambda_expr.specs.Term.{Long, Truth, long_of, truth_of}
+use Rattle.lambda_expr.specs.Typing as typing
+use Rattle.lambda_expr.specs.Typing.{Typed, typed}
 
--- the type that a lambda's place wants
-abbrev pub wanted : Want → Typed → Result Typed ReadFault
-wanted want.Long (long a) = Ok (long a)
-wanted want.Bool (boolean a) = Ok (boolean a)
-wanted w t = Err fault.WrongType
+-- a lambda: an expression whose value is a number or a boolean, or the form of one with two parameters
+pub data LambdaTerm : Type 0 where
+  long : Long → LambdaTerm
+  boolean : Truth → LambdaTerm
+  pair : PairForm → LambdaTerm
 
--- what a lambda of this parameter and body gives: the first that applies
-abbrev pub verdict : Want → PlainName → Shape → Result Typed ReadFault
-verdict w p e =
+-- the lambda of an expression of this type and form, if it is of the type that is wanted
+abbrev pub wanted : Want → Typed → PairForm → Result LambdaTerm ReadFault
+wanted want.Long (typing.long a) f = Ok (long a)
+wanted want.Bool (typing.boolean a) f = Ok (boolean a)
+wanted want.Pair (typing.long a) f = Ok (pair f)
+wanted w t f = Err fault.WrongType
+
+-- what a lambda with this body gives, if its references stand for these names: the first that applies
+abbrev pub verdict : Want → Names → Shape → Result LambdaTerm ReadFault
+verdict w h e =
     if not (fit (literals e)) then Err fault.LiteralTooLarge
     else (if nat_lt 64 (depth e) then Err fault.TooDeep
-    else (if not (names_known p e) then Err fault.UnknownName
-    else wanted w (typed p e)))
+    else (if not (names_known (parameters w) e) then Err fault.UnknownName
+    else wanted w (typed h e) (whole_form (form e))))
 
--- the text has at most 4,096 tokens, and they are a lambda of this head and body
-pub record IsSpelled (text : List ℕ) (head : Head) (body : Shape) : Type 0 where
+-- the text has at most 4,096 tokens, and they are a lambda with this body
+pub record IsSpelled (text : List ℕ) (w : Want) (body : Shape) : Type 0 where
   pub tokens : List Token
   pub cut : AreTokensOf tokens text
   pub few : length tokens ≤ 4096
-  pub lambda : IsLambda (lexemes_of text tokens) head body
+  pub lambda : IsLambda w (lexemes_of text tokens) body
 
 -- the text is a lambda, and that is what it gives
-abbrev pub Judged : List ℕ → Want → Result Typed ReadFault → Type 0
-Judged text w r = (h : Head) × (e : Shape) × IsSpelled text h e × (verdict w (parameter_of h) e ≡ r)
-
--- where word n of a text begins, as a byte position from 1; after the last word, one past the end of the text
-abbrev pub column : List ℕ → List Token → ℕ → ℕ
-column text [] n = suc (length text)
-column text (t ∷ ts) zero = suc t.from
-column text (t ∷ ts) (suc n) = column text ts n
+pub record Judged (text : List ℕ) (w : Want) (r : Result LambdaTerm ReadFault) : Type 0 where
+  pub body : Shape
+  pub spelled : IsSpelled text w body
+  pub gives : verdict w (names_in text spelled.tokens) body ≡ r
 
 -- the text is no lambda, and stops being the beginning of one at this column
-pub record IsNoLambda (text : List ℕ) (at : ℕ) : Type 0 where
+pub record IsNoLambda (text : List ℕ) (w : Want) (at : ℕ) : Type 0 where
   pub tokens : List Token
   pub cut : AreTokensOf tokens text
   pub few : length tokens ≤ 4096
   pub place : ℕ
-  pub stops : StopsAt ALambda (lexemes_of text tokens) place
+  pub stops : StopsAt (ALambda w) (lexemes_of text tokens) place
   pub here : at ≡ column text tokens place
 
 -- the text has more than 4,096 tokens
@@ -66,10 +70,11 @@ pub record HasTooManyTokens (text : List ℕ) : Type 0 where
   pub cut : AreTokensOf tokens text
   pub many : 4096 < length tokens
 
--- what an expression of the program is
-abbrev pub body_of : Body → Typed
+-- what the body of a lambda of the program stands for
+abbrev pub body_of : Body → LambdaTerm
 body_of (body.Long e) = long (long_of e)
 body_of (body.Bool e) = boolean (truth_of e)
+body_of (body.Pair f) = pair f
 
 -- the text spells this lambda of that want
 abbrev pub Spells : List ℕ → Want → Lambda → Type 0
@@ -77,7 +82,7 @@ Spells text w l = Judged text w (Ok (body_of l.body))
 
 -- the text is refused for this; out of memory may stand in place of any answer
 abbrev pub IsRefused : List ℕ → Want → ReadFault → Type 0
-IsRefused text w (fault.Syntax at) = IsNoLambda text at
+IsRefused text w (fault.Syntax at) = IsNoLambda text w at
 IsRefused text w fault.TooDeep = HasTooManyTokens text ⊎ Judged text w (Err fault.TooDeep)
 IsRefused text w fault.LiteralTooLarge = Judged text w (Err fault.LiteralTooLarge)
 IsRefused text w fault.UnknownName = Judged text w (Err fault.UnknownName)

@@ -1,5 +1,5 @@
 -- Meaning: the term that an expression stands for, by the types of its operands.
-use Rattle.std.specs.Prelude.{pos, negsuc, ◌-◌, ◌^◌, ℤ, Bool, nat_eq, Option, Some, None}
+use Rattle.std.specs.Prelude.{pos, negsuc, ◌-◌, ◌^◌, ℤ, Option, Some, None}
 use Rattle.lambda_expr.specs.declared.sign.Sign.{Sign}
 use Rattle.lambda_expr.specs.declared.sign.Sign.TheVariants as sign
 use Rattle.lambda_expr.specs.declared.lexeme.Owner.{Owner as Class}
@@ -8,7 +8,6 @@ use Rattle.lambda_expr.specs.declared.lexeme.Member.{Member}
 use Rattle.lambda_expr.specs.declared.lexeme.Member.TheVariants as member
 use Rattle.lambda_expr.specs.declared.lexeme.Name.{Name}
 use Rattle.lambda_expr.specs.declared.lexeme.Name.TheVariants.{Plain}
-use Rattle.lambda_expr.specs.declared.lexeme.PlainName.{PlainName}
 use Rattle.lambda_expr.specs.declared.operator.UnaryOperator.TheVariants as unary_operator
 use Rattle.lambda_expr.specs.declared.operator.BinaryOperator.TheVariants as binary_operator
 use Rattle.lambda_expr.specs.declared.operator.Comparison.TheVariants as comparison
@@ -18,7 +17,8 @@ use Rattle.lambda_expr.specs.declared.operator.Operation.TheVariants.{Compute, C
 use Rattle.lambda_expr.specs.declared.operator.Function.{Function}
 use Rattle.lambda_expr.specs.declared.operator.Function.TheVariants.{Unary, Binary}
 use Rattle.lambda_expr.specs.declared.step.Opening.TheVariants.{Paren, Call}
-use Rattle.lambda_expr.specs.Grammar.{Shape, name, number, truth, constant, prefix, binary, ternary, enclosed}
+use Rattle.lambda_expr.specs.Grammar.{Shape, name, number, truth, reference, constant, prefix, binary, ternary, enclosed}
+use Rattle.lambda_expr.specs.Lexemes.{Names}
 use Rattle.lambda_expr.specs.Term as term
 use Rattle.lambda_expr.specs.Term.{Long, Truth}
 use Rattle.lambda_expr.specs.Wrap.{wrap}
@@ -78,10 +78,6 @@ abbrev pub constant_of : Name → Option ℤ
 constant_of (Plain i) = member_value i.member
 constant_of n = None
 
--- whether two names of one text are the same, if one of them is that of the parameter
-abbrev pub is_same : PlainName → PlainName → Bool
-is_same i j = nat_eq i.number j.number
-
 -- what an expression is: a number, a boolean, two numbers that a call takes, or of no type
 pub data Typed : Type 0 where
   long : Long → Typed
@@ -121,11 +117,12 @@ abbrev pub constant_typed : Option ℤ → Typed
 constant_typed (Some z) = long (term.number z)
 constant_typed None = untyped
 
--- the expression of a lambda with this parameter
-abbrev pub typed : PlainName → Shape → Typed
-typed h (name i) = long (term.parameter 0)
+-- the expression of a lambda, if its references stand for these names
+abbrev pub typed : Names → Shape → Typed
+typed h (name i) = long (term.parameter i.number)
 typed h (number n) = long (term.number (wrap (pos n)))
 typed h (truth b) = boolean (term.literal b)
+typed h (reference i) = long (term.reference (h i))
 typed h (constant n) = constant_typed (constant_of n)
 typed h (prefix s a) = prefixed s (typed h a)
 typed h (binary s a b) = operated (typed h a) (typed h b) (operation_of s)

@@ -1,12 +1,14 @@
 //! What an expression is refused for, types aside: one pass over its steps.
 
 ghost use Rattle.lambda_expr.specs.Checks.{fit, is_known, signed};
+ghost use Rattle.lambda_expr.specs.PairForms.{binary_form, enclosed_form, method_form, name_form, sign_form, whole_form};
 ghost use Rattle.lambda_expr.specs.Stacks.{below, stacked};
 ghost use Rattle.lambda_expr.specs.Summaries.{binary_summary, deeper, enclosed_summary, nothing, prefix_summary, summary_step, summary_steps, ternary_summary, top_summary};
 ghost use Rattle.lambda_expr.specs.declared.check.Summary.{Summary as found};
 ghost use Rattle.std.specs.Prelude.{◌≡◌, IfOk, List, [], ◌∷◌, ◌++◌};
 
-use super::lexeme::PlainName;
+use super::lambda::PairForm;
+use super::operator::{BinaryOperator, Function};
 use super::sign::Sign;
 use super::step::{Opening, Step};
 use super::table::{constant_of, function_of};
@@ -24,21 +26,100 @@ pub(crate) enum Literals {
     Fit(bool),
 }
 
+/// What an expression is of two parameters.
+#[derive(Clone, Copy)]
+pub(crate) enum Form {
+    /// The two of them as the operands of a call.
+    Operands,
+    Whole(PairForm),
+}
+
 /// What the checks find in an expression.
 #[derive(Clone, Copy)]
 pub(crate) struct Summary {
     pub(crate) literals: Literals,
     /// At most 65.
     pub(crate) depth: u32,
-    /// Whether each name is that of the parameter, a method or a constant.
+    /// Whether each name is that of a parameter, a method or a constant.
     pub(crate) known: bool,
+    pub(crate) form: Form,
 }
 
 const NOTHING: Summary = Summary {
     literals: Literals::Fit(true),
     depth: 1,
     known: true,
+    form: Form::Whole(PairForm::Other),
 };
+
+// A name by itself.
+fn name_form(number: usize) -> Form
+    ensures { result ≡ name_form number }
+{
+    match number {
+        0 => Form::Whole(PairForm::First),
+        1 => Form::Whole(PairForm::Second),
+        _ => Form::Whole(PairForm::Other),
+    }
+}
+
+// A sign between the two parameters.
+fn sign_form(sign: Sign) -> Form
+    ensures { result ≡ sign_form sign }
+{
+    match sign {
+        Sign::Comma => Form::Operands,
+        Sign::Add => Form::Whole(PairForm::Sum),
+        Sign::Multiply => Form::Whole(PairForm::Product),
+        Sign::BitAnd => Form::Whole(PairForm::And),
+        Sign::BitOr => Form::Whole(PairForm::Or),
+        Sign::BitXor => Form::Whole(PairForm::Xor),
+        _ => Form::Whole(PairForm::Other),
+    }
+}
+
+fn binary_form(sign: Sign, left: Form, right: Form) -> Form
+    ensures { result ≡ binary_form sign left right }
+{
+    match (left, right) {
+        (Form::Whole(PairForm::First), Form::Whole(PairForm::Second)) => sign_form(sign),
+        _ => Form::Whole(PairForm::Other),
+    }
+}
+
+// A method of the two parameters.
+fn method_form(function: Option<Function>) -> Form
+    ensures { result ≡ method_form function }
+{
+    match function {
+        Some(Function::Binary(BinaryOperator::Add)) => Form::Whole(PairForm::Sum),
+        Some(Function::Binary(BinaryOperator::Min)) => Form::Whole(PairForm::Min),
+        Some(Function::Binary(BinaryOperator::Max)) => Form::Whole(PairForm::Max),
+        _ => Form::Whole(PairForm::Other),
+    }
+}
+
+fn enclosed_form(opening: Opening, operand: Form) -> Form
+    ensures { result ≡ enclosed_form opening operand }
+{
+    match (opening, operand) {
+        (Opening::Paren, _) => operand,
+        (Opening::Call(owner, name), Form::Operands) => method_form(function_of(owner, name)),
+        (Opening::Call(_, _), Form::Whole(_)) => Form::Whole(PairForm::Other),
+    }
+}
+
+impl Form {
+    /// The form of an expression; operands alone are none.
+    pub(crate) fn whole(self) -> PairForm
+        ensures { result ≡ whole_form self }
+    {
+        match self {
+            Form::Operands => PairForm::Other,
+            Form::Whole(form) => form,
+        }
+    }
+}
 
 impl Literals {
     /// Whether the numbers fit into 64 bits.
@@ -86,6 +167,7 @@ fn prefix(sign: Sign, operand: Summary) -> Summary
         literals: operand.literals.signed(sign),
         depth: deeper(operand.depth),
         known: operand.known,
+        form: Form::Whole(PairForm::Other),
     }
 }
 
@@ -101,6 +183,7 @@ fn binary(sign: Sign, left: Summary, right: Summary) -> Summary
             deeper(depth)
         },
         known: left.known && right.known,
+        form: binary_form(sign, left.form, right.form),
     }
 }
 
@@ -113,6 +196,7 @@ fn ternary(condition: Summary, chosen: Summary, other: Summary) -> Summary
         ),
         depth: deeper(condition.depth.max(chosen.depth.max(other.depth))),
         known: condition.known && (chosen.known && other.known),
+        form: Form::Whole(PairForm::Other),
     }
 }
 
@@ -133,24 +217,26 @@ fn enclose(opening: Opening, operand: Summary) -> Summary
         literals: Literals::Fit(operand.literals.fit()),
         depth: deeper(operand.depth),
         known: is_known(opening) && operand.known,
+        form: enclosed_form(opening, operand.form),
     }
 }
 
 // What a step makes of the operands on top.
-fn follow(stack: &mut Vec<Summary>, parameter: PlainName, step: Step) -> Summary
+fn follow(stack: &mut Vec<Summary>, parameters: usize, step: Step) -> Summary
     ensures { (ss : List found) → stack.old.items ≡ stacked ss
-        → stack.new.items ++ result ∷ [] ≡ stacked (summary_step parameter step ss) }
+        → stack.new.items ++ result ∷ [] ≡ stacked (summary_step parameters step ss) }
 {
     match step {
         Step::Name(name) => Summary {
-            known: parameter.is_same(name),
+            known: name.number < parameters,
+            form: name_form(name.number),
             ..NOTHING
         },
         Step::Number(value) => Summary {
             literals: Literals::Number(value),
             ..NOTHING
         },
-        Step::Truth(_) => NOTHING,
+        Step::Truth(_) | Step::Reference(_) => NOTHING,
         Step::Constant(name) => Summary {
             known: constant_of(name).is_some(),
             ..NOTHING
@@ -174,14 +260,14 @@ fn follow(stack: &mut Vec<Summary>, parameter: PlainName, step: Step) -> Summary
 /// What the checks find in the expression that steps in postfix order give.
 pub(crate) fn summarize(
     alloc: Global,
-    parameter: PlainName,
+    parameters: usize,
     steps: &[Step],
 ) -> Result<Summary, AllocError>
-    ensures { IfOk result (λ summary. summary ≡ top_summary (summary_steps parameter [] steps.now)) }
+    ensures { IfOk result (λ summary. summary ≡ top_summary (summary_steps parameters [] steps.now)) }
 {
     let mut stack = Vec::new(alloc);
     for step in steps {
-        let summary = follow(&mut stack, parameter, *step);
+        let summary = follow(&mut stack, parameters, *step);
         stack.push(summary)?;
     }
     Ok(pop(&mut stack))

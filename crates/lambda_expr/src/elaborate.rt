@@ -1,6 +1,7 @@
 //! The expression of a lambda, built from its steps.
 
 ghost use Rattle.lambda_expr.specs.Elaborating.{operands_of, top_typed, typed_of, typed_step, typed_steps};
+ghost use Rattle.lambda_expr.specs.Lexemes.{names_in};
 ghost use Rattle.lambda_expr.specs.Stacks.{below, stacked};
 ghost use Rattle.lambda_expr.specs.Typing.{Typed as shape_type, called_with, constant_of, constant_typed, operated, prefixed, selected};
 ghost use Rattle.lambda_expr.specs.Term as term;
@@ -10,12 +11,13 @@ ghost use Rattle.lambda_expr.specs.Wrap.{wrap};
 ghost use Rattle.std.specs.Prelude.{◌≡◌, IfOk, List, [], ◌∷◌, ◌++◌, pos};
 
 use super::expr::{BoolExpr, LongExpr};
-use super::lexeme::{Name, PlainName};
+use super::lexeme::{Name, reference_name};
 use super::operator::{BinaryOperator, Comparison, Connective, Function, Operation, UnaryOperator};
 use super::sign::Sign;
 use super::step::{Opening, Step};
 use super::table::{constant_of, function_of};
 use std::alloc::{AllocError, Global};
+use stream_tokens::{Bytes, CutText};
 
 /// What the steps so far have made of an operand.
 #[derive(Drop)]
@@ -277,18 +279,27 @@ fn constant(name: Name) -> Operand
     }
 }
 
+// The reference at a place, by its name without the `$`.
+fn reference(alloc: Global, text: &CutText, place: usize) -> Result<Operand, AllocError>
+    ensures { IfOk result (λ o. typed_of o ≡ long (term.reference (names_in text.now.bytes text.now.tokens place))) }
+{
+    let name = Vec::from_slice(alloc, reference_name(text, place))?;
+    Ok(Operand::Long(LongExpr::Reference(Bytes::from(name))))
+}
+
 // What a step makes of the operands on top.
 fn follow(
     alloc: Global,
+    text: &CutText,
     stack: &mut Vec<Operand>,
-    parameter: PlainName,
     step: Step,
 ) -> Result<Operand, AllocError>
     ensures { (ts : List shape_type) → operands_of stack.old.items ≡ stacked ts
-        → IfOk result (λ o. operands_of stack.new.items ++ typed_of o ∷ [] ≡ stacked (typed_step parameter step ts)) }
+        → IfOk result (λ o. operands_of stack.new.items ++ typed_of o ∷ [] ≡ stacked (typed_step (names_in text.now.bytes text.now.tokens) step ts)) }
 {
     match step {
-        Step::Name(_) => Ok(Operand::Long(LongExpr::Parameter(0))),
+        Step::Name(name) => Ok(Operand::Long(LongExpr::Parameter(name.number))),
+        Step::Reference(place) => reference(alloc, text, place),
         Step::Number(value) => Ok(number(value)),
         Step::Truth(value) => Ok(Operand::Truth(BoolExpr::Literal(value))),
         Step::Constant(name) => Ok(constant(name)),
@@ -318,14 +329,14 @@ fn follow(
 /// The expression that steps in postfix order give.
 pub(crate) fn elaborate(
     alloc: Global,
-    parameter: PlainName,
+    text: &CutText,
     steps: &[Step],
 ) -> Result<Operand, AllocError>
-    ensures { IfOk result (λ o. typed_of o ≡ top_typed (typed_steps parameter [] steps.now)) }
+    ensures { IfOk result (λ o. typed_of o ≡ top_typed (typed_steps (names_in text.now.bytes text.now.tokens) [] steps.now)) }
 {
     let mut stack = Vec::new(alloc);
     for step in steps {
-        let operand = follow(alloc, &mut stack, parameter, *step)?;
+        let operand = follow(alloc, text, &mut stack, *step)?;
         stack.push(operand)?;
     }
     Ok(pop(&mut stack))

@@ -28,7 +28,7 @@ pub enum ReadFault {
     Syntax { column: usize },
     /// An operand of the wrong type, or a body that is not of the wanted type.
     WrongType,
-    /// A name that is not the parameter.
+    /// A name that is no parameter, and no method or constant of `Math` and `Long`.
     UnknownName,
     /// More than 4,096 tokens, or an expression deeper than 64.
     TooDeep,

@@ -9,9 +9,11 @@ pub enum Want {
     Long,
     /// From a number to a boolean, as `filter` takes it.
     Bool,
+    /// From two numbers to a number, as `reduce` takes it.
+    Pair,
 }
 
-/// A lambda over one parameter.
+/// A lambda over one parameter or two.
 #[derive(Drop)]
 pub struct Lambda {
     pub body: Body,
@@ -22,4 +24,30 @@ pub struct Lambda {
 pub enum Body {
     Long(LongExpr),
     Bool(BoolExpr),
+    Pair(PairForm),
+}
+
+/// Which of these forms the body of a lambda of two parameters `a` and `b` has, parentheses apart.
+#[derive(Clone, Copy, Debug, PartialEq, Eq)]
+pub enum PairForm {
+    /// `a`
+    First,
+    /// `b`
+    Second,
+    /// `a + b` and `Long.sum(a, b)`
+    Sum,
+    /// `a * b`
+    Product,
+    /// `Math.min(a, b)` and `Long.min(a, b)`
+    Min,
+    /// `Math.max(a, b)` and `Long.max(a, b)`
+    Max,
+    /// `a & b`
+    And,
+    /// `a | b`
+    Or,
+    /// `a ^ b`
+    Xor,
+    /// Every other body.
+    Other,
 }

@@ -4,25 +4,30 @@
 ghost use Rattle.lambda_expr.specs.declared.fault.ReadFault.{ReadFault};
 ghost use Rattle.lambda_expr.specs.declared.lambda.Lambda.{Lambda};
 ghost use Rattle.lambda_expr.specs.declared.lambda.Want.{Want};
-ghost use Rattle.lambda_expr.specs.declared.head.Head.{Head as head};
 ghost use Rattle.lambda_expr.specs.declared.lexeme.Lexeme.{Lexeme as word};
 ghost use Rattle.lambda_expr.specs.Grammar.{Shape};
 ghost use Rattle.lambda_expr.specs.Heads.{ALambda, IsLambda};
 ghost use Rattle.lambda_expr.specs.Stops.{StopsAt};
 ghost use Rattle.lambda_expr.specs.Numbers.{IsNumberRefused, SpellsNumber};
-ghost use Rattle.lambda_expr.specs.Refusals.{IsRefused, Spells, body_of};
-ghost use Rattle.std.specs.Prelude.{◌≡◌, ◌≢◌, ℕ, ℤ, List};
+ghost use Rattle.lambda_expr.specs.Earlier.{Numbers};
+ghost use Rattle.lambda_expr.specs.References.{Agree, long_names, truth_names};
+ghost use Rattle.lambda_expr.specs.Term.{Long, Truth};
+ghost use Rattle.lambda_expr.specs.Value.{long_value, truth_value};
+ghost use Rattle.lambda_expr.specs.Refusals.{IsRefused, Judged, LambdaTerm, Spells, body_of};
+ghost use Rattle.stream_tokens.specs.Tokens.{AreTokensOf};
+ghost use Rattle.std.specs.Prelude.{◌≡◌, ◌≢◌, ◌⊎◌, ℕ, ℤ, List, Ok};
 ghost use Rattle.stream_tokens.specs.declared.token.Token.{Token};
 
-/// Words are one lambda at most.
+/// Words are one lambda of a want at most.
 pub fn one_reading()
-    ensures { (ws : List word) (p q : head) (e f : Shape) →
-        IsLambda ws p e → IsLambda ws q f → (p ≡ q) × (e ≡ f) }
+    ensures { (ws : List word) (want : Want) (e f : Shape) →
+        IsLambda want ws e → IsLambda want ws f → e ≡ f }
 {}
 
-/// Words stop being the beginning of a lambda at one place at most.
+/// Words stop being the beginning of a lambda of a want at one place at most.
 pub fn one_stop()
-    ensures { (ws : List word) (m n : ℕ) → StopsAt ALambda ws m → StopsAt ALambda ws n → m ≡ n }
+    ensures { (ws : List word) (want : Want) (m n : ℕ) →
+        StopsAt (ALambda want) ws m → StopsAt (ALambda want) ws n → m ≡ n }
 {}
 
 /// A text spells one lambda at most, is refused for one thing at most, and not both, out of memory
@@ -38,6 +43,14 @@ pub fn one_answer()
         Spells text want l → IsRefused text want f → f ≡ ReadFault.NoMemory }
 {}
 
+/// A text that is cut into tokens spells a lambda or is refused, out of memory apart; by `one_answer` not
+/// both.
+pub fn each_text_has_an_answer()
+    ensures { (text : List ℕ) (tokens : List Token) (want : Want) → AreTokensOf tokens text →
+        ((t : LambdaTerm) × Judged text want (Ok t))
+        ⊎ ((f : ReadFault) × (f ≢ ReadFault.NoMemory) × IsRefused text want f) }
+{}
+
 /// Tokens spell one number at most, are refused for one thing at most, and not both.
 pub fn one_number()
     ensures number { (text : List ℕ) (ts : List Token) (y z : ℤ) →
@@ -46,4 +59,12 @@ pub fn one_number()
         IsNumberRefused text ts f → IsNumberRefused text ts g → f ≡ g }
     ensures apart { (text : List ℕ) (ts : List Token) (z : ℤ) (f : ReadFault) →
         SpellsNumber text ts z → IsNumberRefused text ts f → ⊥ }
+{}
+
+/// What an expression gives depends on the environment by the names of its references alone.
+pub fn references_decide()
+    ensures number { (e : Long) (x : ℤ) (a b : Numbers) →
+        Agree (long_names e) a b → long_value e x a ≡ long_value e x b }
+    ensures boolean { (e : Truth) (x : ℤ) (a b : Numbers) →
+        Agree (truth_names e) a b → truth_value e x a ≡ truth_value e x b }
 {}

@@ -1,14 +1,13 @@
 //! What the tokens of a text are to the grammar of lambdas.
 
-ghost use Rattle.lambda_expr.specs.Lexemes.{first_name, is_reserved, lexeme_of, lexemes_of, member_of, name_of, number_lexeme, symbol_lexeme};
+ghost use Rattle.lambda_expr.specs.Lexemes.{first_name, is_reserved, is_taken, lexeme_of, lexemes_of, member_of, name_of, names_in, number_lexeme, order_of, symbol_lexeme};
 ghost use Rattle.lambda_expr.specs.Words.{named, word_for, words_of};
-ghost use Rattle.lambda_expr.specs.Tokens.{StandIn};
-ghost use Rattle.std.specs.Prelude.{◌≡◌, ◌<◌, ◌≤◌, ◌^◌, ℕ, IfNone, IfOk, IfSome, List, false, length, true};
+ghost use Rattle.std.specs.Prelude.{◌≡◌, ◌<◌, ◌≤◌, ◌^◌, ℕ, IfNone, IfOk, IfSome, List, drop, false, length, true};
 
 use super::number::{may_stand, value_of};
 use super::sign::Sign;
 use std::alloc::{AllocError, Global};
-use stream_tokens::{Symbol, Token, TokenKind};
+use stream_tokens::{CutText, Symbol, TokenKind};
 
 /// A class whose methods and constants a lambda may name.
 #[derive(Clone, Copy)]
@@ -20,16 +19,18 @@ pub(crate) enum Owner {
 /// A name that a parameter may have.
 #[derive(Clone, Copy)]
 pub(crate) struct PlainName {
-    /// 0 for the name that the text begins with, the parameter's; else the place of its token, from 1.
+    /// 0 for the first name of the text that a parameter may have, 1 for the second one that differs,
+    /// 2 for any other.
     pub(crate) number: usize,
     pub(crate) member: Member,
 }
 
-/// What a name is after `Math .` or `Long .`.
+/// What a name is after `Math .`, `Long .` or `LongStream .`.
 #[derive(Clone, Copy)]
 pub(crate) enum Member {
     Abs,
     AddExact,
+    Empty,
     FloorDiv,
     FloorMod,
     Max,
@@ -38,6 +39,9 @@ pub(crate) enum Member {
     MinValue,
     MultiplyExact,
     NegateExact,
+    Of,
+    Range,
+    RangeClosed,
     SubtractExact,
     Sum,
     Other,
@@ -62,6 +66,8 @@ pub(crate) enum Lexeme {
     Open,
     Name(Name),
     Number(u64),
+    /// A reference, by the place of its token.
+    Reference(usize),
     Sign(Sign),
     Close,
     Dot,
@@ -71,7 +77,7 @@ pub(crate) enum Lexeme {
     Other,
 }
 
-// What a name is after `Math .` or `Long .`.
+// What a name is after `Math .`, `Long .` or `LongStream .`.
 fn member_of(name: &[u8]) -> Member
     ensures { result ≡ member_of name.now }
 {
@@ -79,6 +85,8 @@ fn member_of(name: &[u8]) -> Member
         Member::Abs
     } else if name == b"addExact".as_slice() {
         Member::AddExact
+    } else if name == b"empty".as_slice() {
+        Member::Empty
     } else if name == b"floorDiv".as_slice() {
         Member::FloorDiv
     } else if name == b"floorMod".as_slice() {
@@ -95,6 +103,12 @@ fn member_of(name: &[u8]) -> Member
         Member::MultiplyExact
     } else if name == b"negateExact".as_slice() {
         Member::NegateExact
+    } else if name == b"of".as_slice() {
+        Member::Of
+    } else if name == b"range".as_slice() {
+        Member::Range
+    } else if name == b"rangeClosed".as_slice() {
+        Member::RangeClosed
     } else if name == b"subtractExact".as_slice() {
         Member::SubtractExact
     } else if name == b"sum".as_slice() {
@@ -104,9 +118,22 @@ fn member_of(name: &[u8]) -> Member
     }
 }
 
-// The name at a place of a text whose first name is this.
-fn name_of(first: &[u8], at: usize, name: &[u8]) -> Name
-    ensures { result ≡ name_of first.now at name.now }
+// Which of the names of a text this one is, if these are the first two: 0, 1, or 2 for any other.
+fn order_of(first: &[u8], second: &[u8], name: &[u8]) -> usize
+    ensures { result ≡ order_of first.now second.now name.now }
+{
+    if name == first {
+        0
+    } else if name == second {
+        1
+    } else {
+        2
+    }
+}
+
+// A name of a text, if these are the first two that a parameter may have.
+fn name_of(first: &[u8], second: &[u8], name: &[u8]) -> Name
+    ensures { result ≡ name_of first.now second.now name.now }
 {
     if name == b"Math".as_slice() {
         Name::Owner(Owner::Math)
@@ -122,7 +149,7 @@ fn name_of(first: &[u8], at: usize, name: &[u8]) -> Name
         Name::Truth(false)
     } else {
         Name::Plain(PlainName {
-            number: if name == first { 0 } else { at },
+            number: order_of(first, second, name),
             member: member_of(name),
         })
     }
@@ -176,12 +203,13 @@ fn number_lexeme(number: &[u8]) -> Lexeme
 }
 
 // The lexeme of a token.
-fn lexeme_of(first: &[u8], at: usize, kind: TokenKind, bytes: &[u8]) -> Lexeme
-    ensures { result ≡ lexeme_of first.now at (word_for kind bytes.now) }
+fn lexeme_of(first: &[u8], second: &[u8], at: usize, kind: TokenKind, bytes: &[u8]) -> Lexeme
+    ensures { result ≡ lexeme_of first.now second.now at (word_for kind bytes.now) }
 {
     match kind {
-        TokenKind::Name => Lexeme::Name(name_of(first, at, bytes)),
+        TokenKind::Name => Lexeme::Name(name_of(first, second, bytes)),
         TokenKind::Number => number_lexeme(bytes),
+        TokenKind::Reference => Lexeme::Reference(at),
         TokenKind::Symbol(symbol) => symbol_lexeme(symbol),
         _ => Lexeme::Other,
     }
@@ -199,14 +227,21 @@ fn is_reserved(name: &[u8]) -> bool
         || name == b"false".as_slice()
 }
 
-// The name of a token, if a parameter may have it.
-fn free_name<'a>(kind: TokenKind, bytes: &'a [u8]) -> Option<&'a [u8]>
-    ensures none { IfNone result ((v : List ℕ) → word_for kind bytes.now ≡ named v → is_reserved v ≡ true) }
-    ensures some { IfSome result (λ name. (word_for kind bytes.now ≡ named name.now) × (is_reserved name.now ≡ false)) }
+// Whether no parameter has this name, or it is the one that is taken.
+fn is_taken(taken: &[u8], name: &[u8]) -> bool
+    ensures { result ≡ is_taken taken.now name.now }
+{
+    is_reserved(name) || name == taken
+}
+
+// The name of a token, if a parameter may have it and it is not the one that is taken.
+fn free_name<'a>(taken: &[u8], kind: TokenKind, bytes: &'a [u8]) -> Option<&'a [u8]>
+    ensures none { IfNone result ((v : List ℕ) → word_for kind bytes.now ≡ named v → is_taken taken.now v ≡ true) }
+    ensures some { IfSome result (λ name. (word_for kind bytes.now ≡ named name.now) × (is_taken taken.now name.now ≡ false)) }
 {
     match kind {
         TokenKind::Name => {
-            if is_reserved(bytes) {
+            if is_taken(taken, bytes) {
                 None
             } else {
                 Some(bytes)
@@ -216,34 +251,50 @@ fn free_name<'a>(kind: TokenKind, bytes: &'a [u8]) -> Option<&'a [u8]>
     }
 }
 
-// The first name of a text that a parameter may have, or no bytes.
-fn first_name<'a>(text: &'a [u8], tokens: &[Token]) -> &'a [u8]
-    requires { StandIn text.now tokens.now }
-    ensures { result.now ≡ first_name (words_of text.now tokens.now) }
+// The first name of a text that a parameter may have, apart from one that is taken, or no bytes.
+fn first_name<'a>(taken: &[u8], text: &CutText<'a>) -> &'a [u8]
+    ensures { result.now ≡ first_name taken.now (words_of text.now.bytes text.now.tokens) }
 {
-    for at in 0..tokens.len() {
-        let token = tokens[at];
-        if let Some(name) = free_name(token.kind, token.text(text)) {
+    for at in 0..text.len() {
+        if let Some(name) = free_name(taken, text.kind(at), text.word(at)) {
             return name;
         }
     }
     b"".as_slice()
 }
 
-/// The lexemes of a text that was cut into these tokens.
-pub(crate) fn lexemes(
-    alloc: Global,
-    text: &[u8],
-    tokens: &[Token],
-) -> Result<Vec<Lexeme>, AllocError>
-    requires { StandIn text.now tokens.now }
-    ensures { IfOk result (λ lexemes. lexemes.items ≡ lexemes_of text.now tokens.now) }
+/// The lexemes of a text.
+pub(crate) fn lexemes(alloc: Global, text: &CutText) -> Result<Vec<Lexeme>, AllocError>
+    ensures { IfOk result (λ lexemes. lexemes.items ≡ lexemes_of text.now.bytes text.now.tokens) }
 {
-    let first = first_name(text, tokens);
+    let first = first_name(b"".as_slice(), text);
+    let second = first_name(first, text);
     let mut lexemes = Vec::new(alloc);
-    for at in 0..tokens.len() {
-        let token = tokens[at];
-        lexemes.push(lexeme_of(first, at, token.kind, token.text(text)))?;
+    for at in 0..text.len() {
+        lexemes.push(lexeme_of(first, second, at, text.kind(at), text.word(at)))?;
     }
     Ok(lexemes)
+}
+
+// The bytes after the first one.
+fn after_first(bytes: &[u8]) -> &[u8]
+    ensures { result.now ≡ drop 1 bytes.now }
+{
+    match bytes {
+        [] => bytes,
+        [_, rest @ ..] => rest,
+    }
+}
+
+/// The name that the reference at a place stands for, without its `$`; no bytes if there is none.
+pub(crate) fn reference_name<'a>(text: &CutText<'a>, place: usize) -> &'a [u8]
+    ensures { result.now ≡ names_in text.now.bytes text.now.tokens place }
+{
+    if place >= text.len() {
+        return b"".as_slice();
+    }
+    match text.kind(place) {
+        TokenKind::Reference => after_first(text.word(place)),
+        _ => b"".as_slice(),
+    }
 }

@@ -1,9 +1,11 @@
 //! Lambdas over numbers of 64 bits: reading them from texts, and the value of each at an item.
 //!
 //! It stands on `stream_tokens`, which cuts a text into tokens. Its users:
-//! - the readers of job files read lambdas and numbers by `read_lambda` and `read_number`, clauses
-//!   `ok` and `refused`: a text gives the lambda that it spells, or the first refusal that applies, a
-//!   syntax fault with its column. `one_answer` and `one_number` say that there is no other answer;
+//! - the readers of job files read lambdas and numbers by `read_lambda`, `read_lambda_of` (a part of a
+//!   text that is cut already) and `read_number`, clauses `ok` and `refused`: a text gives the lambda
+//!   that it spells, or the first refusal that applies, a syntax fault with its column.
+//!   `each_text_has_an_answer`, `one_answer` and `one_number` say that there is one answer and no
+//!   other. `Lambda::names` lists the `$` names;
 //! - `trace` evaluates by `LongExpr::eval`, `BoolExpr::eval` and `InnerExpr::eval`: the value over
 //!   unbounded integers, cut to 64 bits where Java does it (JLS 17, chapter 15), or the first fault
 //!   from left to right.
@@ -26,6 +28,7 @@ mod inner;
 mod lambda;
 mod laws;
 mod lexeme;
+mod names;
 mod number;
 mod operands;
 mod operator;
@@ -33,6 +36,7 @@ mod parse;
 mod read;
 mod run;
 mod sign;
+mod stack;
 mod step;
 mod table;
 mod wrapping;
@@ -41,11 +45,13 @@ pub use env::{Env, NamedNumber};
 pub use expr::{BoolExpr, LongExpr};
 pub use fault::{FaultKind, ReadFault};
 pub use inner::{Inner, InnerExpr};
-pub use lambda::{Body, Lambda, Want};
-pub use laws::{one_answer, one_number, one_reading, one_stop};
+pub use lambda::{Body, Lambda, PairForm, Want};
+pub use laws::{
+    each_text_has_an_answer, one_answer, one_number, one_reading, one_stop, references_decide,
+};
 pub use number::read_number;
 pub use operands::Operands;
 pub use operator::{BinaryOperator, Comparison, Connective, UnaryOperator};
-pub use read::read_lambda;
+pub use read::{read_lambda, read_lambda_of};
 pub use run::Run;
 pub use wrapping::wrap_is_the_remainder_in_64_bits;

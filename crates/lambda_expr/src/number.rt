@@ -9,10 +9,10 @@ ghost use Rattle.lambda_expr.specs.Words.{words_of};
 ghost use Rattle.std.specs.Option.{SomeIff};
 ghost use Rattle.std.specs.Prelude.{◌≡◌, ◌≤◌, FitsSigned, IfErr, IfOk, MatchOption, length, min};
 ghost use Rattle.std.specs.Int.{w64};
+ghost use Rattle.stream_tokens.specs.CutTexts.{column};
 ghost use Rattle.stream_tokens.specs.Tokens.{StandInOrder};
 
 use super::fault::ReadFault;
-use super::read::column_of;
 use stream_tokens::{Symbol, Token, TokenKind};
 
 /// Whether a number of these bytes may stand in a grammar: two or more digits don't begin with 0.
@@ -64,6 +64,17 @@ pub(crate) fn value_of(number: &[u8]) -> u64
             .saturating_add(u64::from(*byte - b'0'));
     }
     value
+}
+
+// Where a token begins, or the end where there is none: a byte position from 1.
+fn column_of(text: &[u8], tokens: &[Token], place: usize) -> usize
+    requires { StandIn text.now tokens.now }
+    ensures { result ≡ column text.now tokens.now place }
+{
+    match tokens.get(place) {
+        Some(token) => token.from + 1,
+        None => text.len() + 1,
+    }
 }
 
 // Whether the tokens begin with a minus.

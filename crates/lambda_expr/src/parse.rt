@@ -10,9 +10,9 @@ ghost use Rattle.lambda_expr.specs.declared.parse.Stop.TheVariants.{NoMemory};
 
 use super::lexeme::{Lexeme, Name, Owner};
 use super::sign::Sign;
+use super::stack::Stack;
 use super::step::{Opening, Step};
 use std::alloc::{AllocError, AllocFailed, Global};
-use std::collections::LinkedList;
 
 /// What waits for the operand to its right. Its other operands were written already.
 #[derive(Clone, Copy)]
@@ -78,16 +78,16 @@ fn reduced(least: u32, top: Pending) -> Option<Step>
 }
 
 // What is on top becomes a step, as far as it binds as tightly as `least`.
-fn join(stack: &mut LinkedList<Pending>, steps: &mut Vec<Step>, least: u32) -> Result<(), Stop>
+fn join(stack: &mut Stack, steps: &mut Vec<Step>, least: u32) -> Result<(), Stop>
     requires { IsCoded stack.old steps.old.items Held.Whole }
     ensures joins { IfOk result (λ _. joins least (top_of stack.old steps.old.items) ≡ top_of stack.new steps.new.items) }
     ensures coded { IfOk result (λ _. IsCoded stack.new steps.new.items Held.Whole) }
     ensures refused { IfErr result (λ stop. stop ≡ Stop.NoMemory) }
 {
-    while let Some(top) = stack.front() {
-        match reduced(least, *top) {
+    while let Some(top) = stack.innermost() {
+        match reduced(least, top) {
             Some(step) => {
-                stack.pop_front();
+                stack.take();
                 steps.push(step)?;
             }
             None => return Ok(()),
@@ -97,52 +97,50 @@ fn join(stack: &mut LinkedList<Pending>, steps: &mut Vec<Step>, least: u32) -> R
 }
 
 // Whether a sign may follow an operand here: a comma only where a call is innermost.
-fn takes(sign: Sign, stack: &LinkedList<Pending>) -> bool
+fn takes(sign: Sign, stack: &Stack) -> bool
     ensures { (ss : List step) → result ≡ takes sign (top_of stack.now ss).frames }
 {
     match sign {
-        Sign::Comma => matches!(stack.front(), Some(Pending::Opened(Opening::Call(_, _)))),
+        Sign::Comma => matches!(
+            stack.innermost(),
+            Some(Pending::Opened(Opening::Call(_, _)))
+        ),
         _ => sign.is_infix(),
     }
 }
 
 // A sign behind an operand.
-fn operate(
-    stack: &mut LinkedList<Pending>,
-    steps: &mut Vec<Step>,
-    sign: Sign,
-    at: usize,
-) -> Result<Held, Stop>
+fn operate(stack: &mut Stack, steps: &mut Vec<Step>, sign: Sign, at: usize) -> Result<Held, Stop>
     requires { IsCoded stack.old steps.old.items Held.Whole }
     ensures { Turns (operates sign (joins (level sign) (top_of stack.old steps.old.items))) at stack.new steps.new.items result }
 {
     join(stack, steps, sign.level())?;
     if takes(sign, stack) {
-        stack.push_front(Pending::Left(sign))?;
+        stack.put(Pending::Left(sign))?;
         return Ok(Held::Nothing);
     }
     Err(Stop::At(at))
 }
 
 // A question mark behind an operand.
-fn ask(stack: &mut LinkedList<Pending>, steps: &mut Vec<Step>, at: usize) -> Result<Held, Stop>
+fn ask(stack: &mut Stack, steps: &mut Vec<Step>, at: usize) -> Result<Held, Stop>
     requires { IsCoded stack.old steps.old.items Held.Whole }
     ensures { Turns (asks (joins 2 (top_of stack.old steps.old.items))) at stack.new steps.new.items result }
 {
     join(stack, steps, 2)?;
-    stack.push_front(Pending::Question)?;
+    stack.put(Pending::Question)?;
     Ok(Held::Nothing)
 }
 
 // A colon behind an operand.
-fn answer(stack: &mut LinkedList<Pending>, steps: &mut Vec<Step>, at: usize) -> Result<Held, Stop>
+fn answer(stack: &mut Stack, steps: &mut Vec<Step>, at: usize) -> Result<Held, Stop>
     requires { IsCoded stack.old steps.old.items Held.Whole }
     ensures { Turns (answers (joins 0 (top_of stack.old steps.old.items))) at stack.new steps.new.items result }
 {
     join(stack, steps, 0)?;
-    match stack.pop_front() {
+    match stack.take() {
         Some(Pending::Question) => {
-            stack.push_front(Pending::Colon)?;
+            stack.put(Pending::Colon)?;
             Ok(Held::Nothing)
         }
         _ => Err(Stop::At(at)),
@@ -150,12 +148,12 @@ fn answer(stack: &mut LinkedList<Pending>, steps: &mut Vec<Step>, at: usize) -> 
 }
 
 // A parenthesis that closes, behind an operand.
-fn close(stack: &mut LinkedList<Pending>, steps: &mut Vec<Step>, at: usize) -> Result<Held, Stop>
+fn close(stack: &mut Stack, steps: &mut Vec<Step>, at: usize) -> Result<Held, Stop>
     requires { IsCoded stack.old steps.old.items Held.Whole }
     ensures { Turns (shuts (joins 0 (top_of stack.old steps.old.items))) at stack.new steps.new.items result }
 {
     join(stack, steps, 0)?;
-    match stack.pop_front() {
+    match stack.take() {
         Some(Pending::Opened(opening)) => {
             steps.push(Step::Enclose(opening))?;
             Ok(Held::Whole)
@@ -165,12 +163,7 @@ fn close(stack: &mut LinkedList<Pending>, steps: &mut Vec<Step>, at: usize) -> R
 }
 
 // One more word behind an operand.
-fn follow(
-    stack: &mut LinkedList<Pending>,
-    steps: &mut Vec<Step>,
-    word: Lexeme,
-    at: usize,
-) -> Result<Held, Stop>
+fn follow(stack: &mut Stack, steps: &mut Vec<Step>, word: Lexeme, at: usize) -> Result<Held, Stop>
     requires { IsCoded stack.old steps.old.items Held.Whole }
     ensures { Turns (follows (top_of stack.old steps.old.items) word) at stack.new steps.new.items result }
 {
@@ -203,12 +196,7 @@ fn start_name(steps: &mut Vec<Step>, name: Name, at: usize) -> Result<Held, Stop
 }
 
 // One more word where an operand is wanted.
-fn start(
-    stack: &mut LinkedList<Pending>,
-    steps: &mut Vec<Step>,
-    word: Lexeme,
-    at: usize,
-) -> Result<Held, Stop>
+fn start(stack: &mut Stack, steps: &mut Vec<Step>, word: Lexeme, at: usize) -> Result<Held, Stop>
     requires { IsCoded stack.old steps.old.items Held.Nothing }
     ensures { Turns (starts (frames_of stack.old (run [] steps.old.items)) word) at stack.new steps.new.items result }
 {
@@ -218,15 +206,19 @@ fn start(
             steps.push(Step::Number(number))?;
             Ok(Held::Whole)
         }
+        Lexeme::Reference(place) => {
+            steps.push(Step::Reference(place))?;
+            Ok(Held::Whole)
+        }
         Lexeme::Sign(sign) => {
             if sign.is_prefix() {
-                stack.push_front(Pending::Signed(sign))?;
+                stack.put(Pending::Signed(sign))?;
                 return Ok(Held::Nothing);
             }
             Err(Stop::At(at))
         }
         Lexeme::Open => {
-            stack.push_front(Pending::Opened(Opening::Paren))?;
+            stack.put(Pending::Opened(Opening::Paren))?;
             Ok(Held::Nothing)
         }
         _ => Err(Stop::At(at)),
@@ -235,7 +227,7 @@ fn start(
 
 // One more word behind the name of a call or of a constant.
 fn call(
-    stack: &mut LinkedList<Pending>,
+    stack: &mut Stack,
     steps: &mut Vec<Step>,
     owner: Owner,
     name: Name,
@@ -247,7 +239,7 @@ fn call(
 {
     match word {
         Lexeme::Open => {
-            stack.push_front(Pending::Opened(Opening::Call(owner, name)))?;
+            stack.put(Pending::Opened(Opening::Call(owner, name)))?;
             Ok(Held::Nothing)
         }
         _ => match owner {
@@ -262,7 +254,7 @@ fn call(
 
 // One more word.
 fn turn(
-    stack: &mut LinkedList<Pending>,
+    stack: &mut Stack,
     steps: &mut Vec<Step>,
     held: Held,
     word: Lexeme,
@@ -287,7 +279,7 @@ fn turn(
 }
 
 // What is behind the last word, a constant made an operand.
-fn settle(stack: &LinkedList<Pending>, steps: &mut Vec<Step>, held: Held) -> Result<bool, Stop>
+fn settle(stack: &Stack, steps: &mut Vec<Step>, held: Held) -> Result<bool, Stop>
     requires { IsCoded stack.now steps.old.items held }
     ensures { IsSettled (state_of stack.now steps.old.items held) stack.now steps.new.items result }
 {
@@ -309,7 +301,7 @@ pub(crate) fn parse(alloc: Global, words: &[Lexeme]) -> Result<Vec<Step>, Stop>
     ensures ok { IfOk result (λ steps. ArePostfix words.now steps.items) }
     ensures stops { IfErr result (λ stop. IsStop Expression words.now stop) }
 {
-    let mut stack = LinkedList::new(alloc);
+    let mut stack = Stack::new(alloc);
     let mut steps = Vec::new(alloc);
     let mut held = Held::Nothing;
     for at in 0..words.len() {
@@ -322,7 +314,7 @@ pub(crate) fn parse(alloc: Global, words: &[Lexeme]) -> Result<Vec<Step>, Stop>
         return Err(Stop::At(words.len()));
     }
     join(&mut stack, &mut steps, 0)?;
-    match stack.pop_front() {
+    match stack.take() {
         None => Ok(steps),
         Some(_) => Err(Stop::At(words.len())),
     }

@@ -1,24 +1,25 @@
 //! Lambdas, read from a text.
 
 ghost use Rattle.lambda_expr.specs.Grammar.{Shape, postfix};
-ghost use Rattle.lambda_expr.specs.Heads.{parameter_of};
-ghost use Rattle.lambda_expr.specs.Judging.{IsJudged, LambdaAnswers};
+ghost use Rattle.lambda_expr.specs.Heads.{ALambda};
+ghost use Rattle.lambda_expr.specs.Judging.{IsJudged, IsWritten};
+ghost use Rattle.lambda_expr.specs.Codes.{IsStop};
 ghost use Rattle.lambda_expr.specs.Elaborating.{typed_of};
-ghost use Rattle.lambda_expr.specs.Refusals.{IsRefused, Spells, body_of, column, verdict};
+ghost use Rattle.lambda_expr.specs.Lexemes.{names_in};
+ghost use Rattle.lambda_expr.specs.Refusals.{IsRefused, Spells, body_of, verdict};
 ghost use Rattle.lambda_expr.specs.Refusals.{wanted as specs_wanted};
-ghost use Rattle.lambda_expr.specs.Tokens.{StandIn};
 ghost use Rattle.std.specs.Prelude.{◌≡◌, ◌≢◌, [], Err, IfErr, IfOk, Ok};
 
 use super::check::summarize;
 use super::elaborate::{Operand, elaborate};
 use super::fault::ReadFault;
-use super::head::{Head, parse_head};
-use super::lambda::{Body, Lambda, Want};
+use super::head::{parameters, parse_head};
+use super::lambda::{Body, Lambda, PairForm, Want};
 use super::lexeme::{Lexeme, lexemes};
 use super::parse::{Stop, parse};
 use super::step::Step;
 use std::alloc::Global;
-use stream_tokens::{Token, cut};
+use stream_tokens::{CutText, cut};
 
 /// How many tokens a lambda may have.
 const MAX_TOKENS: usize = 4096;
@@ -26,31 +27,14 @@ const MAX_TOKENS: usize = 4096;
 /// How deep an expression may be.
 const MAX_DEPTH: u32 = 64;
 
-/// A lambda as it is written: its head, and its body in postfix order.
-#[derive(Drop)]
-pub(crate) struct Written {
-    head: Head,
-    steps: Vec<Step>,
-}
-
-// Where a token begins, or the end where there is none: a byte position from 1.
-pub(crate) fn column_of(text: &[u8], tokens: &[Token], place: usize) -> usize
-    requires { StandIn text.now tokens.now }
-    ensures { result ≡ column text.now tokens.now place }
+// Reads the words of a lambda: the steps of its body, or where the words stop.
+fn parse_lambda(alloc: Global, words: &[Lexeme], want: Want) -> Result<Vec<Step>, Stop>
+    ensures ok { IfOk result (λ steps. IsWritten want words.now steps.items) }
+    ensures stops { IfErr result (λ stop. IsStop (ALambda want) words.now stop) }
 {
-    match tokens.get(place) {
-        Some(token) => token.from + 1,
-        None => text.len() + 1,
-    }
-}
-
-// Reads a lambda, or says where its words stop.
-fn parse_lambda(alloc: Global, words: &[Lexeme]) -> Result<Written, Stop>
-    ensures { LambdaAnswers words.now result }
-{
-    match parse_head(words) {
-        Ok((head, count)) => match parse(alloc, &words[count..]) {
-            Ok(steps) => Ok(Written { head, steps }),
+    match parse_head(want, words) {
+        Ok(count) => match parse(alloc, &words[count..]) {
+            Ok(steps) => Ok(steps),
             Err(Stop::At(place)) => Err(Stop::At(count + place)),
             Err(Stop::NoMemory) => Err(Stop::NoMemory),
         },
@@ -59,28 +43,25 @@ fn parse_lambda(alloc: Global, words: &[Lexeme]) -> Result<Written, Stop>
 }
 
 // The lambda that is wanted, if the operand has its type.
-fn wanted(want: Want, operand: Operand) -> Result<Lambda, ReadFault>
-    ensures ok { IfOk result (λ lambda. specs_wanted want (typed_of operand) ≡ Ok (body_of lambda.body)) }
-    ensures refused { IfErr result (λ fault. (fault ≡ ReadFault.WrongType) × (specs_wanted want (typed_of operand) ≡ Err ReadFault.WrongType)) }
+fn wanted(want: Want, operand: Operand, form: PairForm) -> Result<Lambda, ReadFault>
+    ensures ok { IfOk result (λ lambda. specs_wanted want (typed_of operand) form ≡ Ok (body_of lambda.body)) }
+    ensures refused { IfErr result (λ fault. (fault ≡ ReadFault.WrongType) × (specs_wanted want (typed_of operand) form ≡ Err ReadFault.WrongType)) }
 {
-    match (want, operand) {
-        (Want::Long, Operand::Long(expr)) => Ok(Lambda {
-            body: Body::Long(expr),
-        }),
-        (Want::Bool, Operand::Truth(expr)) => Ok(Lambda {
-            body: Body::Bool(expr),
-        }),
-        _ => Err(ReadFault::WrongType),
-    }
+    let body = match (want, operand) {
+        (Want::Long, Operand::Long(expr)) => Body::Long(expr),
+        (Want::Bool, Operand::Truth(expr)) => Body::Bool(expr),
+        (Want::Pair, Operand::Long(_)) => Body::Pair(form),
+        _ => return Err(ReadFault::WrongType),
+    };
+    Ok(Lambda { body })
 }
 
 // The lambda, or the first refusal: of its numbers, its depth, its names, its types.
-fn judge(alloc: Global, written: &Written, want: Want) -> Result<Lambda, ReadFault>
-    ensures { (e : Shape) → written.now.steps.items ≡ postfix e
-        → IsJudged (verdict want (parameter_of written.now.head) e) result }
+fn judge(alloc: Global, text: &CutText, steps: &[Step], want: Want) -> Result<Lambda, ReadFault>
+    ensures { (e : Shape) → steps.now ≡ postfix e
+        → IsJudged (verdict want (names_in text.now.bytes text.now.tokens) e) result }
 {
-    let parameter = written.head.parameter();
-    let summary = summarize(alloc, parameter, &written.steps)?;
+    let summary = summarize(alloc, parameters(want), steps)?;
     if !summary.literals.fit() {
         return Err(ReadFault::LiteralTooLarge);
     }
@@ -90,8 +71,31 @@ fn judge(alloc: Global, written: &Written, want: Want) -> Result<Lambda, ReadFau
     if !summary.known {
         return Err(ReadFault::UnknownName);
     }
-    let operand = elaborate(alloc, parameter, &written.steps)?;
-    wanted(want, operand)
+    let operand = elaborate(alloc, text, steps)?;
+    wanted(want, operand, summary.form.whole())
+}
+
+/// Reads a lambda of the wanted kind (JLS 17, 15.27) from a text that was cut already, as a part of a
+/// job's text is. It refuses as `read_lambda` does, and columns count from the text's first byte.
+pub fn read_lambda_of(alloc: Global, text: &CutText, want: Want) -> Result<Lambda, ReadFault>
+    ensures ok { IfOk result (λ lambda. Spells text.now.bytes want lambda) }
+    ensures refused { IfErr result (λ fault. IsRefused text.now.bytes want fault) }
+    ensures memory { IfErr result (λ fault. fault ≡ ReadFault.NoMemory → text.now.bytes ≢ []) }
+{
+    if text.bytes().is_empty() {
+        return Err(ReadFault::Syntax { column: 1 });
+    }
+    if text.len() > MAX_TOKENS {
+        return Err(ReadFault::TooDeep);
+    }
+    let words = lexemes(alloc, text)?;
+    match parse_lambda(alloc, &words, want) {
+        Ok(steps) => judge(alloc, text, &steps, want),
+        Err(Stop::At(place)) => Err(ReadFault::Syntax {
+            column: text.column(place),
+        }),
+        Err(Stop::NoMemory) => Err(ReadFault::NoMemory),
+    }
 }
 
 /// Reads a lambda of the wanted kind (JLS 17, 15.27).
@@ -104,19 +108,6 @@ pub fn read_lambda(alloc: Global, text: &[u8], want: Want) -> Result<Lambda, Rea
     ensures refused { IfErr result (λ fault. IsRefused text.now want fault) }
     ensures memory { IfErr result (λ fault. fault ≡ ReadFault.NoMemory → text.now ≢ []) }
 {
-    if text.is_empty() {
-        return Err(ReadFault::Syntax { column: 1 });
-    }
     let tokens = cut(alloc, text)?;
-    if tokens.len() > MAX_TOKENS {
-        return Err(ReadFault::TooDeep);
-    }
-    let words = lexemes(alloc, text, &tokens)?;
-    match parse_lambda(alloc, &words) {
-        Ok(written) => judge(alloc, &written, want),
-        Err(Stop::At(place)) => Err(ReadFault::Syntax {
-            column: column_of(text, &tokens, place),
-        }),
-        Err(Stop::NoMemory) => Err(ReadFault::NoMemory),
-    }
+    read_lambda_of(alloc, &CutText::of(text, &tokens), want)
 }

@@ -17,6 +17,8 @@ pub(crate) enum Step {
     Name(PlainName),
     Number(u64),
     Truth(bool),
+    /// A reference, by the place of its token.
+    Reference(usize),
     Constant(Name),
     Prefix(Sign),
     Binary(Sign),

@@ -50,14 +50,14 @@ fn refusal_of_nested(alloc: Global, depth: usize, inner: &str) -> Option<ReadFau
 fn number_at(alloc: Global, text: &str, x: i64) -> Result<Result<i64, FaultKind>, ReadFault> {
     match read_lambda(alloc, text.as_bytes(), Want::Long)?.body {
         Body::Long(expr) => Ok(expr.eval(x, &Env::empty(alloc))),
-        Body::Bool(_) => Err(ReadFault::WrongType),
+        _ => Err(ReadFault::WrongType),
     }
 }
 
 fn truth_at(alloc: Global, text: &str, x: i64) -> Result<Result<bool, FaultKind>, ReadFault> {
     match read_lambda(alloc, text.as_bytes(), Want::Bool)?.body {
         Body::Bool(expr) => Ok(expr.eval(x, &Env::empty(alloc))),
-        Body::Long(_) => Err(ReadFault::WrongType),
+        _ => Err(ReadFault::WrongType),
     }
 }
 
@@ -90,7 +90,6 @@ x -> 007
 x -> Math
 x -> Math.PI
 x -> < 3
-x -> $a
 x -> "a"
 x -> # 1
 x -> ()
@@ -99,8 +98,7 @@ x -> (x))
 x -> (x
 x -> 9223372036854775808 + y +"#;
     let columns = [
-        1, 4, 2, 5, 3, 1, 1, 3, 1, 1, 1, 9, 10, 10, 8, 8, 8, 8, 6, 10, 13, 6, 6, 6, 6, 7, 7, 9, 8,
-        31,
+        1, 4, 2, 5, 3, 1, 1, 3, 1, 1, 1, 9, 10, 10, 8, 8, 8, 8, 6, 10, 13, 6, 6, 6, 7, 7, 9, 8, 31,
     ];
     for (text, column) in texts.lines().zip(columns) {
         let found = refusal(rt.alloc(), text.as_bytes(), Want::Long);
@@ -202,6 +200,15 @@ x -> -9223372036854775808 / x|x -> -9223372036854775808 % x|x -> x / 2|x -> x % 
         let found = number_at(rt.alloc(), text, 7);
         assert!(rt; found == Ok(Err(FaultKind::DivideByZero)), "{text}");
     }
+    // Every level of operators; the values at 5 are those of Java 17.
+    let texts =
+        "x -> x > 9 ? 1 : x > 4 ? 2 : 3|x -> Math.max(x, 2) + Long.MAX_VALUE|(x) -> x & 6 ^ 3|\
+(long x) -> ~x << 65 >>> 60|x -> x != 5 && 1 / 0 > 0 ? 0 : Math.floorMod(-x, 3)";
+    let values = [2, -9223372036854775804, 7, 15, 1];
+    for (text, value) in texts.split('|').zip(values) {
+        let found = number_at(rt.alloc(), text, 5);
+        assert!(rt; found == Ok(Ok(value)), "{text}");
+    }
 }
 
 #[test]
@@ -242,18 +249,5 @@ fn a_number_is_digits_or_a_minus_and_digits(rt: HostRuntime) {
     for (text, column) in texts.split('|').zip([1, 3, 1, 3, 1, 1, 1, 3, 3, 5]) {
         let found = written_number(rt.alloc(), text);
         assert!(rt; found == Err(ReadFault::Syntax { column }), "{text}");
-    }
-}
-
-#[test]
-fn every_level_of_operators_is_read(rt: HostRuntime) {
-    // The values at 5 are those of Java 17.
-    let texts =
-        "x -> x > 9 ? 1 : x > 4 ? 2 : 3|x -> Math.max(x, 2) + Long.MAX_VALUE|(x) -> x & 6 ^ 3|\
-(long x) -> ~x << 65 >>> 60|x -> x != 5 && 1 / 0 > 0 ? 0 : Math.floorMod(-x, 3)";
-    let values = [2, -9223372036854775804, 7, 15, 1];
-    for (text, value) in texts.split('|').zip(values) {
-        let found = number_at(rt.alloc(), text, 5);
-        assert!(rt; found == Ok(Ok(value)), "{text}");
     }
 }

@@ -4,8 +4,8 @@
 //! those crates are then proved once. Each test shows what no clause says: that a definition gives the values
 //! that Java 17 gives or that were worked out by hand, and that a call succeeds if there is memory.
 //!
-//! One file for each crate, two for `lambda_expr`: `tokens.rt`, `lambdas.rt` and `operators.rt`, `walks.rt` for
-//! `trace` and `values.rt` for `job_plan`. A table is one text and one list: that costs the least to check.
+//! One file for each crate, three for `lambda_expr`: `tokens.rt`, `lambdas.rt`, `operators.rt` and `pairs.rt`,
+//! `walks.rt` for `trace` and `values.rt` for `job_plan`. A table is one text and one list: that costs the least to check.
 //!
 //! Nothing stands on this crate, and it promises nothing.
 #![tactic(auto)]
@@ -14,6 +14,8 @@
 mod lambdas;
 #[cfg(test)]
 mod operators;
+#[cfg(test)]
+mod pairs;
 #[cfg(test)]
 mod tokens;
 #[cfg(test)]

@@ -38,8 +38,8 @@ fn gives_binary(operator: BinaryOperator, row: &str) -> bool {
     words.next().is_none()
 }
 
-#[test]
-fn operators_of_one_operand_give_the_values_of_java(rt: HostRuntime) {
+/// Whether each operator of one operand gives the values of Java.
+fn unary_operators_give_the_values_of_java() -> bool {
     let rows = "0 1 -9223372036854775808 -9223372036854775807 -65 7
 -1 0 9223372036854775807 -9223372036854775808 -66 6
 0 1 -9223372036854775808 9223372036854775807 65 7
@@ -51,13 +51,16 @@ fn operators_of_one_operand_give_the_values_of_java(rt: HostRuntime) {
         UnaryOperator::NegateExact,
     ];
     for (operator, row) in operators.into_iter().zip(rows.lines()) {
-        assert!(rt; gives_unary(operator, row), "{row}");
+        if !gives_unary(operator, row) {
+            return false;
+        }
     }
-    assert!(rt; rows.lines().count() == operators.len());
+    rows.lines().count() == operators.len()
 }
 
 #[test]
-fn operators_of_two_operands_give_the_values_of_java(rt: HostRuntime) {
+fn operators_give_the_values_of_java(rt: HostRuntime) {
+    assert!(rt; unary_operators_give_the_values_of_java());
     let rows =
         "0 -1 -9223372036854775808 9223372036854775807 65 -7 -1 -2 9223372036854775807 9223372036854775806 64 -8 -9223372036854775808 9223372036854775807 0 -1 -9223372036854775743 9223372036854775801 9223372036854775807 9223372036854775806 -1 -2 -9223372036854775744 9223372036854775800 65 64 -9223372036854775743 -9223372036854775744 130 58 -7 -8 9223372036854775801 9223372036854775800 58 -14
 0 1 -9223372036854775808 -9223372036854775807 -65 7 -1 0 9223372036854775807 -9223372036854775808 -66 6 -9223372036854775808 -9223372036854775807 0 1 9223372036854775743 -9223372036854775801 9223372036854775807 -9223372036854775808 -1 0 9223372036854775742 -9223372036854775802 65 66 -9223372036854775743 -9223372036854775742 0 72 -7 -6 9223372036854775801 9223372036854775802 -72 0

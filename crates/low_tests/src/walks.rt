@@ -11,10 +11,11 @@ use trace::{Chunk, End, Fault, Fed, Flow, Item, LongSink, NoMemory, Stage, feed,
 /// `map` or `filter` by a lambda.
 fn stage(alloc: Global, text: &str, want: Want) -> Result<Stage, NoMemory> {
     match read_lambda(alloc, text.as_bytes(), want) {
-        Ok(lambda) => Ok(match lambda.body {
-            Body::Long(image) => Stage::Map(image),
-            Body::Bool(condition) => Stage::Filter(condition),
-        }),
+        Ok(lambda) => match lambda.body {
+            Body::Long(image) => Ok(Stage::Map(image)),
+            Body::Bool(condition) => Ok(Stage::Filter(condition)),
+            _ => Err(AllocError),
+        },
         Err(_) => Err(AllocError),
     }
 }

@@ -49,7 +49,7 @@ fn piece_of(text: &[u8], token: Token) -> Piece
     ensures { result ≡ piece_of (word_of text.now token) }
 {
     match token.kind {
-        TokenKind::Name | TokenKind::String | TokenKind::Reference => Piece::Sound,
+        TokenKind::Name | TokenKind::String => Piece::Sound,
         TokenKind::Number => {
             if is_numeral(token.text(text)) {
                 Piece::Sound
@@ -58,7 +58,7 @@ fn piece_of(text: &[u8], token: Token) -> Piece
             }
         }
         TokenKind::Symbol(symbol) => symbol_piece(symbol),
-        TokenKind::Bad => Piece::Unsound,
+        TokenKind::Reference | TokenKind::Bad => Piece::Unsound,
     }
 }
 

@@ -84,7 +84,7 @@ fn read_map(alloc: Global, argument: &[u8]) -> Result<Stage, Cause>
     let lambda = read_lambda(alloc, argument, Want::Long)?;
     match lambda.body {
         Body::Long(expression) => Ok(Stage::Map(expression)),
-        Body::Bool(_) => unreachable!(),
+        _ => unreachable!(),
     }
 }
 
@@ -96,7 +96,7 @@ fn read_filter(alloc: Global, argument: &[u8]) -> Result<Stage, Cause>
     let lambda = read_lambda(alloc, argument, Want::Bool)?;
     match lambda.body {
         Body::Bool(test) => Ok(Stage::Filter(test)),
-        Body::Long(_) => unreachable!(),
+        _ => unreachable!(),
     }
 }
 

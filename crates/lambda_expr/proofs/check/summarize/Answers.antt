@@ -8,7 +8,7 @@ use Rattle.lambda_expr.proofs.check.summarize.Goals as goal
 
 pub loop-step-preserved : goal.loop-step-preserved
 loop-step-preserved c =
-    let p = c.args.parameter in
+    let p = c.args.parameters in
     let front = take c.loop-step.step-index c.args.steps.now in
     let next = get_or c.args.steps.now c.loop-step.step-index Ternary in
     c.in_ok-push.ensures.items

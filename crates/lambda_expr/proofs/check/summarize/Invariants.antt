@@ -5,4 +5,4 @@ use Rattle.lambda_expr.proofs.check.summarize.Given as goal
 
 -- the stack stands for the steps so far
 abbrev pub invariant-loop-step : goal.invariant-loop-step
-invariant-loop-step l = l.stack.items ≡ stacked (summary_steps l.parameter [] (take l.step-index l.steps))
+invariant-loop-step l = l.stack.items ≡ stacked (summary_steps l.parameters [] (take l.step-index l.steps))

@@ -2,13 +2,14 @@ use Rattle.std.proofs.Common.{[], ap, get_or, sym, take, ◌∙◌}
 use Rattle.std.proofs.lemmas.List.{take_more}
 use Rattle.lambda_expr.specs.declared.step.Step.TheVariants.{Ternary}
 use Rattle.lambda_expr.specs.Elaborating.{operands_of, typed_steps}
+use Rattle.lambda_expr.specs.Lexemes.{names_in}
 use Rattle.lambda_expr.specs.Stacks.{stacked}
 use Rattle.lambda_expr.proofs.ElaborateLemmas.{operands_of_append, typed_append}
 use Rattle.lambda_expr.proofs.elaborate.elaborate.Goals as goal
 
 pub loop-step-preserved : goal.loop-step-preserved
 loop-step-preserved c =
-    let h = c.args.parameter in
+    let h = names_in c.args.text.now.bytes c.args.text.now.tokens in
     let front = take c.loop-step.step-index c.args.steps.now in
     let next = get_or c.args.steps.now c.loop-step.step-index Ternary in
     ap operands_of c.in_ok-push.ensures.items

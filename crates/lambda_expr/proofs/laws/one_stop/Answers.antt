@@ -3,4 +3,4 @@ use Rattle.lambda_expr.proofs.Only.{one_place}
 use Rattle.lambda_expr.proofs.laws.one_stop.Goals as goal
 
 pub returns : goal.returns
-returns c = one_place ALambda
+returns c = λ ws want. one_place (ALambda want) ws

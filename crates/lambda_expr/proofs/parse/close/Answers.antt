@@ -5,5 +5,5 @@ use Rattle.lambda_expr.proofs.parse.close.Goals as goal
 
 pub returns-in_ok-push-in-Some-Opened : goal.returns-in_ok-push-in-Some-Opened
 returns-in_ok-push-in-Some-Opened c =
-    let front : c.join.new.stack ≡ pending.Opened c.in-Some-Opened.opening ∷ c.pop_front.new.self = search rules in
-    closes_at _ c.join.new.stack c.pop_front.new.self c.join.new.steps.items c.push.new.self.items c.in-Some-Opened.opening c.in_ok-join.ensures.joins c.in_ok-join.ensures.coded front c.in_ok-push-in-Some-Opened.ensures.items
+    let front : c.join.new.stack ≡ pending.Opened c.in-Some-Opened.opening ∷ c.take.new.self = search rules in
+    closes_at _ c.join.new.stack c.take.new.self c.join.new.steps.items c.push.new.self.items c.in-Some-Opened.opening c.in_ok-join.ensures.joins c.in_ok-join.ensures.coded front c.in_ok-push-in-Some-Opened.ensures.items

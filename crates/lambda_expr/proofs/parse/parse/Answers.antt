@@ -30,6 +30,6 @@ pub returns-clause-stops : goal.returns-clause-stops
 returns-clause-stops c =
     let is = at_end c.args.words.now c.loop-at.at c.loop-at.stack c.loop-at.steps.items c.loop-at.held c.loop-at-test.false c.loop-at.invariant in
     let on = subst (λ b. IsSettled (state_of c.loop-at.stack c.loop-at.steps.items c.loop-at.held) c.loop-at.stack c.settle.new.steps.items (Ok b)) c.if-not-branch.false c.in_ok-settle.ensures in
-    let front : c.join.new.stack ≡ c.in-Some.field-0 ∷ c.pop_front.new.self = search rules in
+    let front : c.join.new.stack ≡ c.in-Some.field-0 ∷ c.take.new.self = search rules in
     let some_left : c.join.new.stack ≢ [] = λ e. cc in
     ends_open c.args.words.now c.loop-at.stack c.loop-at.stack c.join.new.stack c.loop-at.steps.items c.settle.new.steps.items c.join.new.steps.items c.loop-at.held is on c.in_ok-join.ensures.joins some_left

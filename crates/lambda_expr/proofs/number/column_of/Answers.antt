@@ -1,7 +1,7 @@
 use Rattle.std.proofs.Common.{suc, length, sym, ap, ◌∙◌, add-one}
 use Rattle.stream_tokens.specs.declared.token.Token.{Token}
 use Rattle.lambda_expr.proofs.WordList.{column-at, column-past}
-use Rattle.lambda_expr.proofs.read.column_of.Goals as goal
+use Rattle.lambda_expr.proofs.number.column_of.Goals as goal
 
 pub returns-in-Some : goal.returns-in-Some
 returns-in-Some c =

@@ -1,0 +1,45 @@
+-- What the reader of lambdas answers.
+use Rattle.std.proofs.Common.{◌≡◌, ℕ, ◌≤◌, inr, List, length, Result, Ok, Err, subst}
+use Rattle.std.specs.Prelude.{IfErr, IfOk}
+use Rattle.stream_tokens.specs.declared.token.Token.{Token}
+use Rattle.stream_tokens.specs.Tokens.{AreTokensOf}
+use Rattle.lambda_expr.specs.declared.fault.ReadFault.{ReadFault}
+use Rattle.lambda_expr.specs.declared.fault.ReadFault.TheVariants as fault
+use Rattle.lambda_expr.specs.declared.lambda.Lambda.{Lambda}
+use Rattle.lambda_expr.specs.declared.lambda.Want.{Want}
+use Rattle.lambda_expr.specs.declared.lexeme.Lexeme.{Lexeme}
+use Rattle.lambda_expr.specs.declared.step.Step.{Step}
+use Rattle.lambda_expr.specs.Grammar.{Shape, postfix}
+use Rattle.lambda_expr.specs.Heads.{ALambda, IsLambda}
+use Rattle.lambda_expr.specs.Judging.{IsJudged, IsWritten}
+use Rattle.lambda_expr.specs.Lexemes.{lexemes_of, names_in}
+use Rattle.lambda_expr.specs.Refusals.{column, verdict, IsNoLambda, IsRefused, IsSpelled, Spells}
+use Rattle.lambda_expr.specs.Stops.{StopsAt}
+
+-- the text, with its tokens, that is read
+pub record IsRead (text : List ℕ) (ts : List Token) (ws : List Lexeme) : Type 0 where
+  pub cut : AreTokensOf ts text
+  pub few : length ts ≤ 4096
+  pub words : ws ≡ lexemes_of text ts
+
+abbrev IsVerdict : List ℕ → List Token → Want → List Step → Result Lambda ReadFault → Type 0
+IsVerdict text ts w ss r = (e : Shape) → ss ≡ postfix e → IsJudged (verdict w (names_in text ts) e) r
+
+abbrev spelled : (text : List ℕ) (ts : List Token) (ws : List Lexeme) (w : Want) (e : Shape) → IsRead text ts ws → IsLambda w ws e → IsSpelled text w e
+spelled text ts ws w e r l = record { tokens = ts; cut = r.cut; few = r.few; lambda = subst (λ ws. IsLambda w ws e) r.words l }
+
+pub judged_ok : (text : List ℕ) (ts : List Token) (ws : List Lexeme) (w : Want) (ss : List Step) (r : Result Lambda ReadFault) → IsRead text ts ws → IsWritten w ws ss → IsVerdict text ts w ss r → IfOk r (λ l. Spells text w l)
+judged_ok text ts ws w ss (Ok l) is x v = record { body = x.0; spelled = spelled text ts ws w x.0 is x.1; gives = v x.0 x.2 }
+judged_ok text ts ws w ss (Err f) is x v = tt
+
+pub judged_refused : (text : List ℕ) (ts : List Token) (ws : List Lexeme) (w : Want) (ss : List Step) (r : Result Lambda ReadFault) → IsRead text ts ws → IsWritten w ws ss → IsVerdict text ts w ss r → IfErr r (λ f. IsRefused text w f)
+judged_refused text ts ws w ss (Ok l) is x v = tt
+judged_refused text ts ws w ss (Err (fault.Syntax n)) is x v = absurd (v x.0 x.2)
+judged_refused text ts ws w ss (Err fault.WrongType) is x v = record { body = x.0; spelled = spelled text ts ws w x.0 is x.1; gives = v x.0 x.2 }
+judged_refused text ts ws w ss (Err fault.UnknownName) is x v = record { body = x.0; spelled = spelled text ts ws w x.0 is x.1; gives = v x.0 x.2 }
+judged_refused text ts ws w ss (Err fault.TooDeep) is x v = inr (record { body = x.0; spelled = spelled text ts ws w x.0 is x.1; gives = v x.0 x.2 })
+judged_refused text ts ws w ss (Err fault.LiteralTooLarge) is x v = record { body = x.0; spelled = spelled text ts ws w x.0 is x.1; gives = v x.0 x.2 }
+judged_refused text ts ws w ss (Err fault.NoMemory) is x v = tt
+
+pub stopped : (text : List ℕ) (ts : List Token) (ws : List Lexeme) (w : Want) (n at : ℕ) → IsRead text ts ws → StopsAt (ALambda w) ws n → at ≡ column text ts n → IsNoLambda text w at
+stopped text ts ws w n at is s here = record { tokens = ts; cut = is.cut; few = is.few; place = n; stops = subst (λ ws. StopsAt (ALambda w) ws n) is.words s; here = here }

@@ -1,0 +1,70 @@
+-- Each text with tokens has an answer.
+use Rattle.std.proofs.Common.{◌≢◌, ◌⊎◌, inl, inr, ℕ, ◌<◌, ◌≤◌, Bool, true, false, nat_lt, not, List, length, Result, Ok, Err, refl, ⊎_elim}
+use Rattle.std.proofs.str.Laws.{order}
+use Rattle.std.specs.Prelude.{if◌then◌else◌}
+use Rattle.stream_tokens.specs.declared.token.Token.{Token}
+use Rattle.stream_tokens.specs.Tokens.{AreTokensOf}
+use Rattle.lambda_expr.specs.declared.fault.ReadFault.{ReadFault}
+use Rattle.lambda_expr.specs.declared.fault.ReadFault.TheVariants as fault
+use Rattle.lambda_expr.specs.declared.lambda.PairForm.{PairForm}
+use Rattle.lambda_expr.specs.declared.lambda.Want.{Want}
+use Rattle.lambda_expr.specs.declared.lambda.Want.TheVariants as want
+use Rattle.lambda_expr.specs.Checks.{depth, fit, literals, names_known}
+use Rattle.lambda_expr.specs.Grammar.{Shape}
+use Rattle.lambda_expr.specs.Heads.{ALambda, parameters}
+use Rattle.lambda_expr.specs.Lexemes.{Names, lexemes_of, names_in}
+use Rattle.lambda_expr.specs.Refusals.{LambdaTerm, Judged, IsRefused, column, verdict, wanted}
+use Rattle.lambda_expr.specs.Stops.{StopsAt}
+use Rattle.lambda_expr.specs.Typing.{Typed, long, boolean, longs, untyped}
+use Rattle.lambda_expr.proofs.Heads.{each_lambda}
+
+-- what a verdict may be
+abbrev IsVerdict : Result LambdaTerm ReadFault → Type 0
+IsVerdict (Ok t) = Unit {0}
+IsVerdict (Err (fault.Syntax n)) = ⊥
+IsVerdict (Err fault.NoMemory) = ⊥
+IsVerdict (Err f) = Unit {0}
+
+wanted_verdict : (w : Want) (t : Typed) (f : PairForm) → IsVerdict (wanted w t f)
+wanted_verdict want.Long (long a) f = tt
+wanted_verdict want.Long (boolean a) f = tt
+wanted_verdict want.Long (longs a b) f = tt
+wanted_verdict want.Long untyped f = tt
+wanted_verdict want.Bool (long a) f = tt
+wanted_verdict want.Bool (boolean a) f = tt
+wanted_verdict want.Bool (longs a b) f = tt
+wanted_verdict want.Bool untyped f = tt
+wanted_verdict want.Pair (long a) f = tt
+wanted_verdict want.Pair (boolean a) f = tt
+wanted_verdict want.Pair (longs a b) f = tt
+wanted_verdict want.Pair untyped f = tt
+
+either_verdict : (b : Bool) (r s : Result LambdaTerm ReadFault) → IsVerdict r → IsVerdict s → IsVerdict (if b then r else s)
+either_verdict true r s h k = h
+either_verdict false r s h k = k
+
+is_verdict : (w : Want) (h : Names) (e : Shape) → IsVerdict (verdict w h e)
+is_verdict w h e = either_verdict (not (fit (literals e))) _ _ tt (either_verdict (nat_lt 64 (depth e)) _ _ tt (either_verdict (not (names_known (parameters w) e)) _ _ tt (wanted_verdict w _ _)))
+
+-- a lambda or a refusal
+abbrev pub HasAnswer : List ℕ → Want → Type 0
+HasAnswer text w = ((t : LambdaTerm) × Judged text w (Ok t)) ⊎ ((f : ReadFault) × (f ≢ fault.NoMemory) × IsRefused text w f)
+
+by_verdict : (text : List ℕ) (w : Want) (r : Result LambdaTerm ReadFault) → IsVerdict r → Judged text w r → HasAnswer text w
+by_verdict text w (Ok t) v j = inl (t, j)
+by_verdict text w (Err (fault.Syntax n)) v j = absurd v
+by_verdict text w (Err fault.WrongType) v j = inr (fault.WrongType, (λ e. cc), j)
+by_verdict text w (Err fault.UnknownName) v j = inr (fault.UnknownName, (λ e. cc), j)
+by_verdict text w (Err fault.TooDeep) v j = inr (fault.TooDeep, (λ e. cc), inr j)
+by_verdict text w (Err fault.LiteralTooLarge) v j = inr (fault.LiteralTooLarge, (λ e. cc), j)
+by_verdict text w (Err fault.NoMemory) v j = absurd v
+
+by_words : (text : List ℕ) (ts : List Token) (w : Want) → AreTokensOf ts text → length ts ≤ 4096 → ALambda w (lexemes_of text ts) ⊎ ((n : ℕ) × StopsAt (ALambda w) (lexemes_of text ts) n) → HasAnswer text w
+by_words text ts w cut few (inl l) = by_verdict text w (verdict w (names_in text ts) l.0) (is_verdict w (names_in text ts) l.0) (record { body = l.0; spelled = record { tokens = ts; cut = cut; few = few; lambda = l.1 }; gives = refl })
+by_words text ts w cut few (inr s) = inr (fault.Syntax (column text ts s.0), (λ e. cc), record { tokens = ts; cut = cut; few = few; place = s.0; stops = s.1; here = refl })
+
+pub each_text : (text : List ℕ) (ts : List Token) (w : Want) → AreTokensOf ts text → HasAnswer text w
+each_text text ts w cut =
+    ⊎_elim (λ (many : 4096 < length ts). inr (fault.TooDeep, (λ e. cc), inl (record { tokens = ts; cut = cut; many = many })))
+    (λ (few : length ts ≤ 4096). by_words text ts w cut few (each_lambda w (lexemes_of text ts)))
+    (order 4096 (length ts))

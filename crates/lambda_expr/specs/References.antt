@@ -1,0 +1,33 @@
+-- Meaning: the references of an expression, in order of writing.
+use Rattle.std.specs.Prelude.{◌≡◌, ℕ, List, [], ◌∷◌, ◌++◌}
+use Rattle.lambda_expr.specs.Earlier.{Numbers, number_under}
+use Rattle.lambda_expr.specs.Refusals.{LambdaTerm, long, boolean, pair}
+use Rattle.lambda_expr.specs.Term.{Long, number, parameter, reference, unary, binary, choose, Truth, literal, compare, opposite, connect, choose_truth}
+
+-- the names of the earlier jobs that an expression refers to, from left to right
+abbrev mutual
+  pub long_names : Long → List (List ℕ)
+  long_names (number z) = []
+  long_names (parameter n) = []
+  long_names (reference name) = name ∷ []
+  long_names (unary o a) = long_names a
+  long_names (binary o a b) = long_names a ++ long_names b
+  long_names (choose c a b) = truth_names c ++ (long_names a ++ long_names b)
+
+  pub truth_names : Truth → List (List ℕ)
+  truth_names (literal b) = []
+  truth_names (compare o a b) = long_names a ++ long_names b
+  truth_names (opposite a) = truth_names a
+  truth_names (connect o a b) = truth_names a ++ truth_names b
+  truth_names (choose_truth c a b) = truth_names c ++ (truth_names a ++ truth_names b)
+
+-- those of a lambda; of one with two parameters only its form is kept
+abbrev pub names_of : LambdaTerm → List (List ℕ)
+names_of (long e) = long_names e
+names_of (boolean e) = truth_names e
+names_of (pair f) = []
+
+-- two environments have the same number under each of these names, or both none
+abbrev pub Agree : List (List ℕ) → Numbers → Numbers → Type 0
+Agree [] a b = Unit {0}
+Agree (name ∷ names) a b = (number_under name a ≡ number_under name b) × Agree names a b

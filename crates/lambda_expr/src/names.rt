@@ -1,0 +1,84 @@
+//! The names of the earlier jobs that a lambda refers to.
+
+ghost use Rattle.lambda_expr.specs.References.{long_names, names_of, truth_names};
+ghost use Rattle.lambda_expr.specs.Refusals.{body_of};
+ghost use Rattle.lambda_expr.specs.Term.{long_of, truth_of};
+ghost use Rattle.std.specs.Prelude.{◌≡◌, ◌++◌, [], ◌∷◌, IfOk};
+
+use super::expr::{BoolExpr, LongExpr};
+use super::lambda::{Body, Lambda};
+use std::alloc::{AllocError, Global};
+use stream_tokens::Bytes;
+
+// A name after the others.
+fn push_name(alloc: Global, name: &Bytes, names: &mut Vec<Bytes>) -> Result<(), AllocError>
+    ensures { IfOk result (λ _. names.new.items ≡ names.old.items ++ name.now ∷ []) }
+{
+    let copy = Vec::from_slice(alloc, name.as_slice())?;
+    names.push(Bytes::from(copy))?;
+    Ok(())
+}
+
+impl LongExpr {
+    #[cycle(names)]
+    fn push_names(&self, alloc: Global, names: &mut Vec<Bytes>) -> Result<(), AllocError>
+        ensures { IfOk result (λ _. names.new.items ≡ names.old.items ++ long_names (long_of self.now)) }
+    {
+        match self {
+            LongExpr::Number(_) | LongExpr::Parameter(_) => Ok(()),
+            LongExpr::Reference(name) => push_name(alloc, name, names),
+            LongExpr::Unary(_, operand) => operand.push_names(alloc, names),
+            LongExpr::Binary(_, left, right) => {
+                left.push_names(alloc, names)?;
+                right.push_names(alloc, names)
+            }
+            LongExpr::Choose(condition, first, second) => {
+                condition.push_names(alloc, names)?;
+                first.push_names(alloc, names)?;
+                second.push_names(alloc, names)
+            }
+        }
+    }
+}
+
+impl BoolExpr {
+    #[cycle(names)]
+    fn push_names(&self, alloc: Global, names: &mut Vec<Bytes>) -> Result<(), AllocError>
+        ensures { IfOk result (λ _. names.new.items ≡ names.old.items ++ truth_names (truth_of self.now)) }
+    {
+        match self {
+            BoolExpr::Literal(_) => Ok(()),
+            BoolExpr::Compare(_, left, right) => {
+                left.push_names(alloc, names)?;
+                right.push_names(alloc, names)
+            }
+            BoolExpr::Not(operand) => operand.push_names(alloc, names),
+            BoolExpr::Connect(_, left, right) => {
+                left.push_names(alloc, names)?;
+                right.push_names(alloc, names)
+            }
+            BoolExpr::Choose(condition, chosen, other) => {
+                condition.push_names(alloc, names)?;
+                chosen.push_names(alloc, names)?;
+                other.push_names(alloc, names)
+            }
+        }
+    }
+}
+
+impl Lambda {
+    /// The names that follow the `$` of its references, in order of writing, each as often as it is
+    /// written; none for a lambda of two parameters, of which only the form is kept. The one error is
+    /// that an allocation failed.
+    pub fn names(&self, alloc: Global) -> Result<Vec<Bytes>, AllocError>
+        ensures { IfOk result (λ names. names.items ≡ names_of (body_of self.now.body)) }
+    {
+        let mut names = Vec::new(alloc);
+        match &self.body {
+            Body::Long(expr) => expr.push_names(alloc, &mut names)?,
+            Body::Bool(expr) => expr.push_names(alloc, &mut names)?,
+            Body::Pair(_) => {}
+        }
+        Ok(names)
+    }
+}
