@@ -9,10 +9,6 @@ ghost use Rattle.lambda_expr.specs.Grammar.{Shape};
 ghost use Rattle.lambda_expr.specs.Heads.{ALambda, IsLambda};
 ghost use Rattle.lambda_expr.specs.Stops.{StopsAt};
 ghost use Rattle.lambda_expr.specs.Numbers.{IsNumberRefused, SpellsNumber};
-ghost use Rattle.lambda_expr.specs.Earlier.{Numbers};
-ghost use Rattle.lambda_expr.specs.References.{Agree, long_names, truth_names};
-ghost use Rattle.lambda_expr.specs.Term.{Long, Truth};
-ghost use Rattle.lambda_expr.specs.Value.{long_value, truth_value};
 ghost use Rattle.lambda_expr.specs.Refusals.{IsRefused, Judged, LambdaTerm, Spells, body_of};
 ghost use Rattle.stream_tokens.specs.Tokens.{AreTokensOf};
 ghost use Rattle.std.specs.Prelude.{◌≡◌, ◌≢◌, ◌⊎◌, ℕ, ℤ, List, Ok};
@@ -59,12 +55,4 @@ pub fn one_number()
         IsNumberRefused text ts f → IsNumberRefused text ts g → f ≡ g }
     ensures apart { (text : List ℕ) (ts : List Token) (z : ℤ) (f : ReadFault) →
         SpellsNumber text ts z → IsNumberRefused text ts f → ⊥ }
-{}
-
-/// What an expression gives depends on the environment by the names of its references alone.
-pub fn references_decide()
-    ensures number { (e : Long) (x : ℤ) (a b : Numbers) →
-        Agree (long_names e) a b → long_value e x a ≡ long_value e x b }
-    ensures boolean { (e : Truth) (x : ℤ) (a b : Numbers) →
-        Agree (truth_names e) a b → truth_value e x a ≡ truth_value e x b }
 {}

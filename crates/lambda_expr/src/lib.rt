@@ -46,9 +46,8 @@ pub use expr::{BoolExpr, LongExpr};
 pub use fault::{FaultKind, ReadFault};
 pub use inner::{Inner, InnerExpr};
 pub use lambda::{Body, Lambda, PairForm, Want};
-pub use laws::{
-    each_text_has_an_answer, one_answer, one_number, one_reading, one_stop, references_decide,
-};
+pub use laws::{each_text_has_an_answer, one_answer, one_number, one_reading, one_stop};
+pub use names::references_decide;
 pub use number::read_number;
 pub use operands::Operands;
 pub use operator::{BinaryOperator, Comparison, Connective, UnaryOperator};

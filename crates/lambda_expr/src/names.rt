@@ -1,9 +1,11 @@
 //! The names of the earlier jobs that a lambda refers to.
 
-ghost use Rattle.lambda_expr.specs.References.{long_names, names_of, truth_names};
+ghost use Rattle.lambda_expr.specs.Earlier.{Numbers};
+ghost use Rattle.lambda_expr.specs.References.{Agree, long_names, names_of, truth_names};
 ghost use Rattle.lambda_expr.specs.Refusals.{body_of};
-ghost use Rattle.lambda_expr.specs.Term.{long_of, truth_of};
-ghost use Rattle.std.specs.Prelude.{◌≡◌, ◌++◌, [], ◌∷◌, IfOk};
+ghost use Rattle.lambda_expr.specs.Term.{Long, Truth, long_of, truth_of};
+ghost use Rattle.lambda_expr.specs.Value.{long_value, truth_value};
+ghost use Rattle.std.specs.Prelude.{◌≡◌, ◌++◌, [], ◌∷◌, IfOk, ℤ};
 
 use super::expr::{BoolExpr, LongExpr};
 use super::lambda::{Body, Lambda};
@@ -82,3 +84,11 @@ impl Lambda {
         Ok(names)
     }
 }
+
+/// What an expression gives depends on the environment by the names of its references alone.
+pub fn references_decide()
+    ensures number { (e : Long) (x : ℤ) (a b : Numbers) →
+        Agree (long_names e) a b → long_value e x a ≡ long_value e x b }
+    ensures boolean { (e : Truth) (x : ℤ) (a b : Numbers) →
+        Agree (truth_names e) a b → truth_value e x a ≡ truth_value e x b }
+{}
