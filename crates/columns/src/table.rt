@@ -40,6 +40,7 @@ impl Columns {
         Columns { columns: None }
     }
 
+    /// The table of columns that were read, in their order.
     pub(crate) fn of(columns: Vec<Column>) -> Columns
         ensures { result ≡ map named columns.items }
     {

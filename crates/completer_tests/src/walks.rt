@@ -47,7 +47,7 @@ impl<P: Planned> Part for Items<P> {
     ghost result = { λ _ v. Walked (λ x. x.items.items) P.source 0 (length P.source) v };
 }
 
-/// Puts the numbers of the right side behind those of the left one.
+/// Puts the numbers of the right side after those of the left one.
 #[derive(Drop)]
 pub(crate) struct Append<P: Planned> {
     cut: Cut,

@@ -45,7 +45,7 @@ all_but_memory action g l few NoMemory lt = absurd (omega arith)
 pub wanting : (action : Action) (g : Graph) → Legal action g → Meets TooMany action g → (Meets NoMemory action g → ⊥) → IsRefusal NoMemory action g
 wanting action g l few none = (all_but_memory action g l few, none)
 
--- an arming wants memory
+-- an arming needs memory
 pub arm_wants : (action : Action) (g : Graph) → IsArm action → Meets NoMemory action g → ⊥
 arm_wants (Arm a node pending onward) g is m = m
 arm_wants (Claim a) g is m = is

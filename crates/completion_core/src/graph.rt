@@ -63,6 +63,7 @@ impl Graph {
         self.states.get(node as usize)
     }
 
+    /// How many arrivals at the node the actor holds. One look-up in a hash map.
     pub(crate) fn held(&self, actor: Actor, node: Node) -> u64
         ensures { result ≡ held_in self.now.holdings actor node }
     {

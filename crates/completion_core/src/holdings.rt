@@ -16,6 +16,7 @@ impl Holdings {
     ghost use Rattle.completion_core.specs.Holdings.{held, room, place, each_place};
     ghost use Rattle.completion_core.specs.Legal.{count};
 
+    /// No actor holds anything. Takes no memory.
     pub fn new(alloc: Global) -> Holdings
         ensures { (a i : ℕ) → held result a i ≡ 0 }
     {
@@ -24,6 +25,7 @@ impl Holdings {
         }
     }
 
+    /// How many arrivals at the node the actor holds. One look-up in a hash map.
     pub fn get(&self, actor: Actor, node: Node) -> u64
         ensures { result ≡ held self.now actor node }
     {

@@ -58,12 +58,14 @@ impl Nodes {
         self.items.as_slice()
     }
 
+    /// How many entries there are; a node that stands twice counts twice.
     pub(crate) fn len(&self) -> usize
         ensures { result ≡ length self.now }
     {
         self.items.len()
     }
 
+    /// Whether each entry is smaller than the node. Looks at the entries in turn.
     pub(crate) fn all_below(&self, node: Node) -> bool
         ensures { IsTrue result ↔ All (λ item. item < node) self.now }
     {

@@ -33,6 +33,7 @@ impl FailureCount {
         self.count = self.count.saturating_add(1);
     }
 
+    /// How many failures were counted; it stays at `u64::MAX` once it is there.
     pub(crate) fn get(&self) -> u64
         ensures { result ≡ self.now }
     {

@@ -21,6 +21,7 @@ const OF_JAVA: [(&[i64], Option<i64>, [bool; 3]); 8] = [
 
 pub const THE_STAGE: u32 = 1;
 
+/// The fault of a division by zero in a stage, at the item of this place.
 pub const fn division_by_zero(stage: u32, origin: u64) -> Fault {
     Fault {
         kind: FaultKind::DivideByZero,

@@ -26,7 +26,7 @@ fn tokens_of(alloc: Global, text: &[u8]) -> Result<Vec<u8>, AllocError> {
     Ok(all)
 }
 
-/// Whether the tokens of a row's text are those that stand behind the arrow.
+/// Whether the tokens of a row's text are those that stand after the arrow.
 fn is_cut_so(alloc: Global, row: &str) -> Result<bool, AllocError> {
     let Some((text, tokens)) = row.split_once(" => ") else {
         return Ok(false);

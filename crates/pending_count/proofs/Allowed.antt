@@ -326,7 +326,7 @@ module _ {V K T : Type 0} (fits : T → Side → V → Type 0) (tag_of : K → T
   pub joins_told : (id other : ℕ) (v u : View T) → ((i : ℕ) → count i u.claims ≡ 0) → u.taken ≡ [] → Joins (Ruled fits tag_of place_of key) id v other u (joined_view v u) blank
   joins_told id other v u h1 h2 = subst (λ k. Joins (Ruled fits tag_of place_of k) id v other u (joined_view v u) blank) (sym told) (joins_one fits tag_of place_of nodes id other v u h1 h2)
 
--- the nodes of a view, in a table of which it is told how many words it has
+-- the nodes of a view, in a table of this many words
 module _ {T : Type 0} (words nodes : ℕ) (sized : words ≡ nodes + 2) where
   pub ranged : (w : View T) → InRange nodes w → (n : ℕ) → words ≡ n + 2 → InRange n w
   ranged w low n e = let same : n ≡ nodes = omega arith in subst (λ k. InRange k w) (sym same) low

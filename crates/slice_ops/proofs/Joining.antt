@@ -59,7 +59,7 @@ take_all_of zero (y ∷ ys) h = refl
 take_all_of (suc k) [] h = absurd (omega arith)
 take_all_of (suc k) (y ∷ ys) h = ap suc (take_all_of k ys (omega arith))
 
--- a limited right piece behind a left one
+-- a limited right piece after a left one
 module _ (k : ℕ) (xs : List Item) (b : Trace) where
   by_size : (t : Bool) → nat_lt (length b.items) k ≡ t → limited k (trace (xs ++ (limited k b).items) (limited k b).ending) ≡ limited k (trace (xs ++ b.items) b.ending)
   by_size true h = ap (λ (t : Trace). limited k (trace (xs ++ t.items) t.ending)) (limited_few k b h)

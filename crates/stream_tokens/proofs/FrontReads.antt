@@ -1,4 +1,4 @@
--- What the scanner reads behind the first byte, over the whole text.
+-- What the scanner reads after the first byte, over the whole text.
 use Rattle.std.proofs.Common.{◌≡◌, ℕ, ◌+◌, ◌-◌, ◌<◌, ◌==◌, true, false, List, [], ◌∷◌, length, take, drop, slice_index, refl, sym, ap, ◌∙◌, subst, arith, inl, inr, add-one}
 use Rattle.std.specs.List.{prefix_len}
 use Rattle.std.specs.Char.{is_ascii_digit}
@@ -9,7 +9,7 @@ use Rattle.stream_tokens.specs.Bytes.{is_name_start, is_name_byte, is_long_mark}
 use Rattle.stream_tokens.specs.Tokens.{IsLongest, IsFirstToken}
 use Rattle.stream_tokens.proofs.Longest.{longest_marked, longest_plain, stays_inside, longest_string, open_string, longest_reference, lone_dollar}
 
--- the bytes behind the first one, as the code slices them
+-- the bytes after the first one, as the code slices them
 behind : (a : ℕ) (rest : List ℕ) → take (length (a ∷ rest) - 1) (drop 1 (a ∷ rest)) ≡ rest
 behind a rest = take_rest (a ∷ rest) 1
 

@@ -1,4 +1,4 @@
--- A text has the form of one kind, which its front tells.
+-- A text has the form of one kind, which its front decides.
 use Rattle.std.proofs.Common.{◌≡◌, ℕ, ◌<◌, true, false, ◌==◌, cond, List, [], ◌∷◌, ◌++◌, length, Option, Some, None, refl, ap, ◌∙◌, arith}
 use Rattle.std.specs.List.{list_all}
 use Rattle.std.specs.Char.{is_ascii_digit}
@@ -69,7 +69,7 @@ kind_of_number (d ∷ ds) mark w is some all =
     let later : TokenKind = cond (d == 34) String (cond (d == 36) Reference (kind_of_symbol (symbol_at (d ∷ (ds ++ mark))))) in
     ap kind_at is ∙ ap (λ b. cond b Name (cond (is_ascii_digit d) Number later)) (digit_starts_no_name d digit) ∙ ap (λ b. cond b Number later) digit
 
--- what has a form has the kind that its front tells
+-- what has a form has the kind that its front decides
 pub kind_is : (k : TokenKind) (w : List ℕ) → HasForm k w → kind_at w ≡ k
 kind_is Name [] h = absurd h
 kind_is Name (a ∷ w) h = ap (λ b. cond b Name (cond (is_ascii_digit a) Number (cond (a == 34) String (cond (a == 36) Reference (kind_of_symbol (symbol_at (a ∷ w))))))) h.0

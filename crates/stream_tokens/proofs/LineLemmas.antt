@@ -1,4 +1,4 @@
--- The first line of some bytes, and the lines behind it.
+-- The first line of some bytes, and the lines after it.
 use Rattle.std.proofs.Common.{◌≡◌, ℕ, ◌+◌, ◌-◌, ◌<◌, ◌≤◌, Bool, true, false, not, ◌==◌, cond, nat_lt, List, [], ◌∷◌, length, take, drop, Some, None, refl, ap, ◌∙◌, arith, All}
 use Rattle.std.specs.List.{slice_split, position, position_or_len, before_first, after_first}
 use Rattle.std.specs.Str.Lines.{lines_of_parts, strip_carriage_return}
@@ -41,6 +41,6 @@ last_line bytes some h =
     let none_feeds : All (λ b. is_feed b ≡ false) bytes = λ k d less. not-true _ (prefix_len_passes (λ b. not (is_feed b)) bytes k d (omega arith)) in
     ap lines_of_parts (slice_split_none is_feed bytes none_feeds) ∙ ap (λ t. cond t [] (bytes ∷ [])) (ne_eqb (length bytes) 0 (λ z. omega arith))
 
--- the bytes behind the last line are none
+-- no bytes follow the last line
 pub none_behind : (bytes : List ℕ) → take (length bytes - length bytes) (drop (length bytes) bytes) ≡ []
 none_behind bytes = take_rest bytes (length bytes) ∙ drop_all (length bytes) bytes (omega arith)

@@ -19,7 +19,7 @@ use Rattle.stream_tokens.proofs.Runs.{run_passed, passes_run, longest_run}
 use Rattle.stream_tokens.proofs.Fronts.{kind_of_symbol, kind_at, kind_is}
 use Rattle.stream_tokens.proofs.SymbolFronts.{BeginsWith, symbol_begins, symbol_longest}
 
--- a text whose front tells a kind has no form but that kind's
+-- a text whose front decides a kind has no form but that kind's
 same_form : (k other : TokenKind) (w : List ℕ) → kind_at w ≡ k → HasForm other w → HasForm k w
 same_form k other w e h = subst (λ j. HasForm j w) (sym (kind_is other w h) ∙ e) h
 

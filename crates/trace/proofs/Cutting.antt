@@ -33,7 +33,7 @@ module _ {X A : Type 0} (f : X → List A) where
       let k : suc w ≡ w + 1 = omega arith in
       ap (flat_map f) (drop-cons ps w p h) ∙ (λ i. f (sym e i) ++ flat_map f (drop (k i) ps))
 
-  -- what a walk over the pieces keeps, with so many items still to pass
+  -- what a walk over the pieces keeps, with this many items still to pass
   pub record Passed (ps : List X) (n w left : ℕ) : Type 0 where
     pub front : take n (flat_map f ps) ≡ flat_map f (take w ps) ++ take left (flat_map f (drop w ps))
     pub back : drop n (flat_map f ps) ≡ drop left (flat_map f (drop w ps))

@@ -16,7 +16,7 @@ use Rattle.trace.specs.Sinks.{IsFed}
 use Rattle.trace.specs.Stages.{StageTerm, pipe}
 use Rattle.trace.proofs.Joining.{append_faulted, pipe_ended, pipe_more}
 
--- a beginning of what comes after ys, behind ys
+-- a beginning of what comes after ys, with ys before it
 behind : (xs ys zs : List Item) (k : ℕ) → (xs ++ ys) ++ take k zs ≡ xs ++ take (length ys + k) (ys ++ zs)
 behind xs ys zs k = append_assoc xs ys (take k zs) ∙ ap (λ (ws : List Item). xs ++ ws) (sym (take-append-add ys zs k))
 

@@ -15,11 +15,13 @@ pub struct Door<'a, T> {
 }
 
 impl<'a, T: Drop> Door<'a, T> {
+    /// A door with a new pass of the inbox.
     pub fn of(inbox: &'a Inbox<T>) -> Door<'a, T> {
         let pass = inbox.pass();
         Door { inbox, pass }
     }
 
+    /// Puts a task into the inbox. If there is no memory for it, it comes back.
     pub fn put<R: Wait>(self, rt: &R, task: T) -> (Door<'a, T>, Result<(), T>)
         ensures put { MatchResult result.1 (λ _. IsAdded (pass_calls self.entry.pass) (pass_calls result.0.pass) task) (λ back. back ≡ task) }
     {
@@ -28,6 +30,7 @@ impl<'a, T: Drop> Door<'a, T> {
         (Door { inbox, pass }, put)
     }
 
+    /// Takes the oldest task; `None` if the inbox was empty at one moment of the call.
     pub fn take<R: Wait>(self, rt: &R) -> (Door<'a, T>, Option<T>) {
         let Door { inbox, pass } = self;
         let (pass, task) = inbox.take(rt, pass);

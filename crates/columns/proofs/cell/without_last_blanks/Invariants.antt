@@ -2,7 +2,7 @@ use Rattle.std.proofs.Common.{◌≡◌, length, reverse}
 use Rattle.columns.specs.Number.{drop_blanks}
 use Rattle.columns.proofs.cell.without_last_blanks.Given as goal
 
--- what is passed over so far were blanks
+-- what is skipped so far were blanks
 abbrev pub invariant-loop-rest : goal.invariant-loop-rest
 invariant-loop-rest l = drop_blanks (reverse l.rest) ≡ drop_blanks (reverse l.initial.rest)
 
