@@ -1,9 +1,9 @@
 //! Column files, read whole.
-ghost use Rattle.std.specs.Prelude.{◌≡◌, ◌≢◌, ◌≤◌, ℕ, List, Ok, IfErr, IfOk, IfSome, OnOk};
+ghost use Rattle.std.specs.Prelude.{◌≡◌, ◌≢◌, ◌≤◌, ℕ, List, IfErr, IfSome, OnOk};
 ghost use Rattle.std.specs.Io.KnownBytes.{IsAtEnd};
 ghost use Rattle.counted_io.specs.CountedRead.{GaveSome};
 ghost use Rattle.counted_io.specs.FailureCounts.{HasRisen};
-ghost use Rattle.columns.specs.Cells.{IsAnswerTo, cells_of, records_of};
+ghost use Rattle.columns.specs.Cells.{IsAnswerTo, records_of};
 ghost use Rattle.columns.specs.Records.{IsReading};
 
 use crate::fault::ColumnFault;
@@ -28,7 +28,7 @@ pub fn read_columns<R: CountedRead>(alloc: Global, reader: &mut R) -> Result<Col
     ensures gave { GaveSome (R.remaining reader.old) (R.remaining reader.new) }
 
     // Of every reader.
-    ensures table { IfOk result (λ columns. (bytes : List ℕ) × (cells_of bytes ≡ Ok columns)) }
+    ensures some_bytes { (bytes : List ℕ) × IsAnswerTo bytes result }
     ensures read { IfErr result (λ fault. fault ≡ ColumnFault.Read
         → HasRisen (R.failures reader.old) (R.failures reader.new)) }
     ensures counts { R.failures reader.old ≤ R.failures reader.new }

@@ -2,6 +2,7 @@
 pub mod ArgumentReading
 pub mod Causes
 pub mod FileReading
+pub mod Given
 pub mod JobGrammar
 pub mod JobParts
 pub mod JobReading

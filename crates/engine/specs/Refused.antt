@@ -1,9 +1,10 @@
--- Condition: the faults that come after the job file was read and before anything is written.
-use Rattle.std.specs.Prelude.{◌≢◌}
+-- Condition: the faults that come after both files were read and before anything is written.
 use Rattle.engine.specs.declared.running.EngineFault.{EngineFault}
-use Rattle.engine.specs.declared.running.EngineFault.TheVariants.{JobsRead}
-use Rattle.engine.specs.Run.{Input, Says}
+use Rattle.engine.specs.declared.running.EngineFault.TheVariants.{Jobs, NoMemory}
+use Rattle.engine.specs.Run.{Input, HasColumns, IsJobFault}
 
--- a refused file, or out of memory
+-- a refused job file, or out of memory
 abbrev pub IsEarly : Input → EngineFault → Type 0
-IsEarly input fault = Says input fault × (fault ≢ JobsRead)
+IsEarly input (Jobs f) = IsJobFault input f
+IsEarly input NoMemory = HasColumns input
+IsEarly input fault = ⊥

@@ -1,11 +1,16 @@
--- Meaning: what a run writes, from the bytes of the job file to the bytes of the report. Read this first.
+-- Meaning: what a run writes, from the bytes of the column file and of the job file to the bytes of the report. Read this first.
+--   bytes of the column file → columns         columns/specs/Cells, Table, Refusals
 --   bytes of the job file → texts of jobs      stream_tokens/specs/JobTexts, Tokens
 --   texts of jobs         → jobs               JobGrammar, JobRefusals; their lambdas: lambda_expr/specs/Grammar, Refusals
 --   jobs                  → answers            job_plan/specs/Meaning; their walks: trace/specs/Cover, Stages, Trace
 --   answers               → bytes of the report     report/specs/Text, Json
 -- Reports of small files, worked out: report/specs/Worked.
-use Rattle.std.specs.Prelude.{◌≡◌, ◌≢◌, ℕ, ◌<◌, List, length, take, Option}
+use Rattle.std.specs.Prelude.{◌≡◌, ◌≢◌, ℕ, ◌<◌, List, [], length, take, Option, Some, None, Result, Ok, Err}
 use Rattle.std.specs.Io.KnownBytes.{Appends, Keeps}
+use Rattle.columns.specs.declared.fault.ColumnFault.{ColumnFault}
+use Rattle.columns.specs.declared.fault.ColumnFault.TheVariants as column
+use Rattle.columns.specs.Cells.{cells_of}
+use Rattle.columns.specs.Table.{NamedColumn}
 use Rattle.job_plan.specs.declared.answer.Answer.{Answer}
 use Rattle.job_plan.specs.declared.settings.Form.{Form}
 use Rattle.job_plan.specs.declared.settings.Form.TheVariants as form
@@ -13,14 +18,21 @@ use Rattle.job_plan.specs.Meaning.{JobTerm, meaning_of, names_of}
 use Rattle.report.specs.Json.{report_json}
 use Rattle.report.specs.Text.{report_text}
 use Rattle.engine.specs.declared.running.EngineFault.{EngineFault}
-use Rattle.engine.specs.declared.running.EngineFault.TheVariants.{Jobs, JobsRead, NoMemory, Write}
+use Rattle.engine.specs.declared.running.EngineFault.TheVariants.{Columns, Jobs, JobsRead, NoMemory, Write}
 use Rattle.engine.specs.declared.jobs.fault.Cause.TheVariants as cause
+use Rattle.engine.specs.declared.jobs.fault.JobFault.{JobFault}
 use Rattle.engine.specs.JobRefusals.{Spells, IsRefused}
 
--- what a run is given: the bytes of the job file, and the form of the report
+-- what a run is given: the bytes of the column file, if there is one, those of the job file, and the form of the report
 pub record Input : Type 0 where
+  pub columns : Option (List ℕ)
   pub jobs : List ℕ
   pub form : Form
+
+-- the columns of a file; without a file there are none
+abbrev pub columns_of : Option (List ℕ) → Result (List NamedColumn) ColumnFault
+columns_of None = Ok []
+columns_of (Some bytes) = cells_of bytes
 
 -- the report of answers in each form, given the names of their jobs
 abbrev pub report_in : Form → List (List ℕ) → List Answer → List ℕ
@@ -30,6 +42,8 @@ report_in form.Json names answers = report_json names answers
 -- the report of the jobs that the input spells: what one thread writes that takes the jobs in file order and each
 -- source in encounter order, with the first fault that it meets in place of the job's answer
 pub record IsReport (input : Input) (report : List ℕ) : Type 0 where
+  pub columns : List NamedColumn
+  pub given : columns_of input.columns ≡ Ok columns
   pub jobs : List JobTerm
   pub spelled : Spells input.jobs jobs
   pub written : report ≡ report_in input.form (names_of jobs) (meaning_of jobs)
@@ -38,11 +52,28 @@ pub record IsReport (input : Input) (report : List ℕ) : Type 0 where
 abbrev pub Reported : Input → Option (List ℕ) → Option (List ℕ) → Type 0
 Reported input before after = (report : List ℕ) × IsReport input report × Appends before after report
 
--- what a fault other than a failed write says of the input: a refused job file is refused for just this
+-- the column file is refused for just this, unless a read failed or memory ran out; without a file nothing is refused
+abbrev pub IsColumnFault : Option (List ℕ) → ColumnFault → Type 0
+IsColumnFault None f = ⊥
+IsColumnFault (Some bytes) f = f ≢ column.Read → f ≢ column.NoMemory → cells_of bytes ≡ Err f
+
+-- the column file, if there is one, is a table: a fault of the job file comes after those of the column file
+abbrev pub HasColumns : Input → Type 0
+HasColumns input = (columns : List NamedColumn) × (columns_of input.columns ≡ Ok columns)
+
+-- the job file is refused for just this, unless memory ran out
+pub record IsJobFault (input : Input) (f : JobFault) : Type 0 where
+  pub columns : List NamedColumn
+  pub given : columns_of input.columns ≡ Ok columns
+  pub refused : f.cause ≢ cause.NoMemory → IsRefused input.jobs f
+  pub memory : f.cause ≡ cause.NoMemory → f.line ≡ 0
+
+-- what a fault other than a failed write says of the input
 abbrev pub Says : Input → EngineFault → Type 0
-Says input (Jobs f) = (f.cause ≢ cause.NoMemory → IsRefused input.jobs f) × (f.cause ≡ cause.NoMemory → f.line ≡ 0)
-Says input JobsRead = Unit {0}
-Says input NoMemory = Unit {0}
+Says input (Columns f) = IsColumnFault input.columns f
+Says input (Jobs f) = IsJobFault input f
+Says input JobsRead = HasColumns input
+Says input NoMemory = HasColumns input
 Says input (Write n) = ⊥
 
 -- what a fault says of the input, and what the writer then holds: after a failed write the first bytes of the report

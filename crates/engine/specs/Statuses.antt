@@ -1,7 +1,9 @@
 -- Meaning: the exit status of the program for each fault of a run.
 use Rattle.std.specs.Prelude.{ℕ}
 use Rattle.engine.specs.declared.running.EngineFault.{EngineFault}
-use Rattle.engine.specs.declared.running.EngineFault.TheVariants.{Jobs, JobsRead, NoMemory, Write}
+use Rattle.engine.specs.declared.running.EngineFault.TheVariants.{Columns, Jobs, JobsRead, NoMemory, Write}
+use Rattle.columns.specs.declared.fault.ColumnFault.{ColumnFault}
+use Rattle.columns.specs.declared.fault.ColumnFault.TheVariants as column
 use Rattle.engine.specs.declared.jobs.fault.Cause.{Cause}
 use Rattle.engine.specs.declared.jobs.fault.Cause.TheVariants as cause
 
@@ -10,8 +12,15 @@ abbrev pub status_of_cause : Cause → ℕ
 status_of_cause cause.NoMemory = 3
 status_of_cause c = 1
 
+-- of a refused column file: 1, 3 if memory for it was refused, and 4 if a read failed
+abbrev pub status_of_columns : ColumnFault → ℕ
+status_of_columns column.NoMemory = 3
+status_of_columns column.Read = 4
+status_of_columns f = 1
+
 -- 1 for a refused file, 3 for out of memory, 4 for a file that can't be read or written
 abbrev pub status_of : EngineFault → ℕ
+status_of (Columns f) = status_of_columns f
 status_of (Jobs f) = status_of_cause f.cause
 status_of JobsRead = 4
 status_of NoMemory = 3

@@ -1,8 +1,9 @@
-//! The run: from the bytes of a job file to the bytes of the report, with the theorem on the call.
+//! The run: from the bytes of a column file and a job file to the bytes of the report, with the theorem
+//! on the call.
 //!
 //! Stands on `stream_tokens`, `lambda_expr`, `trace`, `job_plan`, `report` and `columns`: on their
 //! contracts, and on lemmas about their definitions. Used by the program `streamrun`, and by any other
-//! program that has a job file and a writer. What it promises to them is the contract of `run`: the
+//! program that has a column file or none, a job file and a writer. What it promises to them is the contract of `run`: the
 //! writer gets exactly the report that `specs/Run.antt` defines, or the fault says why not and what
 //! was written.
 //! Begin with `specs/Run.antt`, then `running.rt`; `walk.rt` takes the items of one job, `jobs/`

@@ -1,19 +1,20 @@
-//! A run: from the bytes of the job file to the bytes of the report.
+//! A run: from the bytes of the column file and of the job file to the bytes of the report.
 
 ghost use Rattle.counted_io.specs.FailureCounts.{HasRisen};
 ghost use Rattle.engine.specs.Jobs.{jobs_of};
 ghost use Rattle.engine.specs.Refused.{IsEarly};
-ghost use Rattle.engine.specs.Run.{Faulted, IsReport, Reported, report_in};
+ghost use Rattle.engine.specs.Given.{HasRisenThere, IsGiven, IsWhole};
+ghost use Rattle.engine.specs.Run.{Faulted, Input, IsReport, Reported, columns_of, report_in};
 ghost use Rattle.job_plan.specs.Meaning.{meaning_of, names_of};
 ghost use Rattle.report.specs.Named.{IsNamed, IsText};
 ghost use Rattle.std.specs.Io.KnownBytes.{Keeps};
-ghost use Rattle.std.specs.Prelude.{◌≡◌, ◌≢◌, ◌≤◌, ℕ, All, List, length, IfErr, IfOk, IfSome, OnOk};
+ghost use Rattle.std.specs.Prelude.{◌≡◌, ◌≢◌, ◌≤◌, ℕ, All, List, length, Option, Ok, IfErr, IfOk, OnOk};
 
 use crate::jobs::fault::JobFault;
 use crate::jobs::file::read_jobs;
 use crate::jobs::job::Job;
 use crate::walk::answer_of;
-use columns::{CountedRead, ReadAllFault, read_all_of};
+use columns::{ColumnFault, Columns, CountedRead, ReadAllFault, read_all_of, read_columns};
 use job_plan::{Answer, Form, Settings};
 use report::{CountedWrite, WriteFault, json, text, write_all_of};
 use std::alloc::Global;
@@ -22,10 +23,12 @@ use thiserror::Error;
 
 /// Why a run gives no report, or only a part of it. Unless it is `Write`, nothing was written.
 ///
-/// The numbers are stable; 1 is kept for a refused column file. The text is the program's line on
-/// standard error, without the program's name.
+/// The numbers are stable. The text is the program's line on standard error, without the program's name.
 #[derive(Clone, Copy, Debug, PartialEq, Eq, Error)]
 pub enum EngineFault {
+    /// 1: the column file is refused, a read of it failed, or memory for it was refused.
+    #[error("{0}")]
+    Columns(ColumnFault),
     /// 2: a job of the file is refused, or memory ran out while the file was checked.
     #[error("{0}")]
     Jobs(JobFault),
@@ -40,43 +43,48 @@ pub enum EngineFault {
     Write { written: u64 },
 }
 
-/// Reads the job file whole, checks it, runs its jobs, builds the report whole and writes it.
+/// Reads the columns, if there is a reader of them, then the job file whole; checks the jobs, runs them,
+/// builds the report whole and writes it.
 ///
-/// Of the settings only the form of the report is used yet: it uses one thread and walks each source once, with at most one call of each stage per item. The
-/// job file and the report are each held in memory once.
-pub fn run<J: CountedRead, W: CountedWrite>(
+/// Of the settings only the form of the report is used yet: it uses one thread and walks each source once,
+/// with at most one call of each stage per item. The cells of the columns, the job file and the report are
+/// each held in memory once, and the column file while its cells are read. If the column file is refused,
+/// the job file isn't read.
+pub fn run<C: CountedRead, J: CountedRead, W: CountedWrite>(
     alloc: Global,
+    columns: Option<&mut C>,
     jobs: &mut J,
     writer: &mut W,
     settings: &Settings,
 ) -> Result<(), EngineFault>
-    // The headline: the writer holds what it held before, and then the report of the jobs that the bytes spell.
-    ensures report { OnOk result (IfSome (J.remaining jobs.old) (λ bytes.
-        Reported (record { jobs = bytes; form = settings.now.form }) (W.contents writer.old) (W.contents writer.new))) }
-    ensures fault { IfErr result (λ fault. IfSome (J.remaining jobs.old) (λ bytes.
-        Faulted (record { jobs = bytes; form = settings.now.form }) (W.contents writer.old) (W.contents writer.new) fault)) }
-
-    // The same of some bytes, if those of the reader aren't known.
-    ensures of_some_bytes { OnOk result ((bytes : List ℕ)
-        × Reported (record { jobs = bytes; form = settings.now.form }) (W.contents writer.old) (W.contents writer.new)) }
-    ensures fault_of_some_bytes { IfErr result (λ fault. (bytes : List ℕ)
-        × Faulted (record { jobs = bytes; form = settings.now.form }) (W.contents writer.old) (W.contents writer.new) fault) }
+    // The headline: the writer holds what it held before, and then the report of the jobs that the bytes
+    // spell. The input is what the readers held, and some bytes for a reader of which they aren't known.
+    ensures report { OnOk result ((input : Input)
+        × IsGiven C.remaining columns.entry (J.remaining jobs.old) settings.now.form input
+        × Reported input (W.contents writer.old) (W.contents writer.new)) }
+    ensures fault { IfErr result (λ fault. (input : Input)
+        × IsGiven C.remaining columns.entry (J.remaining jobs.old) settings.now.form input
+        × Faulted input (W.contents writer.old) (W.contents writer.new) fault) }
 
     ensures unwritten { IfErr result (λ fault. ((n : ℕ) → fault ≢ EngineFault.Write n) →
         Keeps (W.contents writer.old) (W.contents writer.new)) }
     ensures untouched { IfErr result (λ fault. ((n : ℕ) → fault ≢ EngineFault.Write n) →
         W.failures writer.new ≡ W.failures writer.old) }
+    ensures columns_failed { IfErr result (λ fault. fault ≡ EngineFault.Columns ColumnFault.Read →
+        HasRisenThere C.failures columns.entry columns.exit) }
     ensures read_failed { IfErr result (λ fault. fault ≡ EngineFault.JobsRead →
         HasRisen (J.failures jobs.old) (J.failures jobs.new)) }
     ensures write_failed { IfErr result (λ fault. (n : ℕ) → fault ≡ EngineFault.Write n →
         HasRisen (W.failures writer.old) (W.failures writer.new)) }
 {
-    let bytes = match read_all_of(alloc, jobs) {
-        Ok(bytes) => bytes,
-        Err(ReadAllFault::Failed) => return Err(EngineFault::JobsRead),
-        Err(ReadAllFault::NoMemory) => return Err(EngineFault::NoMemory),
+    let table = match columns {
+        Some(reader) => match read_columns(alloc, reader) {
+            Ok(table) => table,
+            Err(fault) => return Err(EngineFault::Columns(fault)),
+        },
+        None => Columns::none(),
     };
-    let report = match report_of(alloc, &bytes, settings.form) {
+    let report = match report_from(alloc, &table, jobs, settings.form) {
         Ok(report) => report,
         Err(fault) => return Err(fault),
     };
@@ -86,11 +94,45 @@ pub fn run<J: CountedRead, W: CountedWrite>(
     }
 }
 
-/// The report of the jobs that these bytes spell, in this form.
-pub fn report_of(alloc: Global, bytes: &[u8], form: Form) -> Result<Vec<u8>, EngineFault>
-    ensures ok { IfOk result (λ report. IsReport (record { jobs = bytes.now; form = form }) report.items) }
-    ensures err { IfErr result (λ fault. IsEarly (record { jobs = bytes.now; form = form }) fault) }
+/// The report of the job file that this reader has left, with these columns.
+fn report_from<J: CountedRead>(
+    alloc: Global,
+    columns: &Columns,
+    jobs: &mut J,
+    form: Form,
+) -> Result<Vec<u8>, EngineFault>
+    ensures ok { IfOk result (λ report. (bytes : List ℕ) × IsWhole (J.remaining jobs.old) bytes
+        × ((file : Option (List ℕ)) → columns_of file ≡ Ok columns.now
+        → IsReport (record { columns = file; jobs = bytes; form = form }) report.items)) }
+    ensures err { IfErr result (λ fault. fault ≢ EngineFault.JobsRead
+        → (bytes : List ℕ) × IsWhole (J.remaining jobs.old) bytes
+        × ((file : Option (List ℕ)) → columns_of file ≡ Ok columns.now
+        → IsEarly (record { columns = file; jobs = bytes; form = form }) fault)) }
+    ensures read_failed { IfErr result (λ fault. fault ≡ EngineFault.JobsRead →
+        HasRisen (J.failures jobs.old) (J.failures jobs.new)) }
 {
+    let bytes = match read_all_of(alloc, jobs) {
+        Ok(bytes) => bytes,
+        Err(ReadAllFault::Failed) => return Err(EngineFault::JobsRead),
+        Err(ReadAllFault::NoMemory) => return Err(EngineFault::NoMemory),
+    };
+    report_of(alloc, columns, &bytes, form)
+}
+
+/// The report of the jobs that these bytes spell, with these columns, in this form.
+pub fn report_of(
+    alloc: Global,
+    columns: &Columns,
+    bytes: &[u8],
+    form: Form,
+) -> Result<Vec<u8>, EngineFault>
+    ensures ok { IfOk result (λ report. (file : Option (List ℕ)) → columns_of file ≡ Ok columns.now
+        → IsReport (record { columns = file; jobs = bytes.now; form = form }) report.items) }
+    ensures err { IfErr result (λ fault. (file : Option (List ℕ)) → columns_of file ≡ Ok columns.now
+        → IsEarly (record { columns = file; jobs = bytes.now; form = form }) fault) }
+    ensures read { IfErr result (λ fault. fault ≢ EngineFault.JobsRead) }
+{
+    let _columns = columns;
     let jobs = match read_jobs(alloc, bytes) {
         Ok(jobs) => jobs,
         Err(fault) => return Err(EngineFault::Jobs(fault)),

@@ -5,6 +5,7 @@ ghost use Rattle.std.specs.Prelude.{◌≡◌};
 
 use crate::jobs::fault::Cause;
 use crate::running::EngineFault;
+use columns::ColumnFault;
 use std::io::Write;
 
 /// Writes the fault's line and answers the program's exit status: 1 for input that is refused, 3 for
@@ -16,6 +17,9 @@ pub fn tell<W: Write>(fault: &EngineFault, writer: &mut W) -> u8
 {
     let _ = writeln!(writer, "streamrun: {fault}");
     match fault {
+        EngineFault::Columns(ColumnFault::NoMemory) => 3,
+        EngineFault::Columns(ColumnFault::Read) => 4,
+        EngineFault::Columns(_) => 1,
         EngineFault::Jobs(refused) if refused.cause == Cause::NoMemory => 3,
         EngineFault::Jobs(_) => 1,
         EngineFault::NoMemory => 3,

@@ -23,16 +23,22 @@ pub fn settings_for(form: Form) -> Settings {
     }
 }
 
-/// Runs a job file of these bytes, with a report as text.
+/// Runs a job file of these bytes without columns, with a report as text.
 pub fn run_over(alloc: Global, jobs: &[u8]) -> Outcome {
-    run_with(alloc, jobs, &settings_for(Form::Text))
+    run_with(alloc, None, jobs, &settings_for(Form::Text))
 }
 
-/// Runs a job file of these bytes with these settings.
-pub fn run_with(alloc: Global, jobs: &[u8], settings: &Settings) -> Outcome {
+/// Runs a job file of these bytes with these columns and these settings.
+pub fn run_with(
+    alloc: Global,
+    columns: Option<&[u8]>,
+    jobs: &[u8],
+    settings: &Settings,
+) -> Outcome {
+    let mut table = columns.map(|bytes| Counted::new(bytes));
     let mut reader = Counted::new(jobs);
     let mut writer = CountedOut::new(Vec::new(alloc));
-    let answer = run(alloc, &mut reader, &mut writer, settings);
+    let answer = run(alloc, table.as_mut(), &mut reader, &mut writer, settings);
     Outcome {
         answer,
         written: writer.into_inner(),
@@ -61,7 +67,13 @@ pub fn is_told(alloc: Global, fault: &EngineFault, line: &str, status: u8) -> bo
 
 /// Whether this job file is refused by this line, with status 1, and nothing is written.
 pub fn is_refused(alloc: Global, jobs: &[u8], line: &str) -> bool {
-    let outcome = run_over(alloc, jobs);
+    is_refused_with(alloc, None, jobs, line)
+}
+
+/// Whether a run of this job file with these columns is refused by this line, with status 1, and nothing is
+/// written.
+pub fn is_refused_with(alloc: Global, columns: Option<&[u8]>, jobs: &[u8], line: &str) -> bool {
+    let outcome = run_with(alloc, columns, jobs, &settings_for(Form::Text));
     match outcome.answer {
         Ok(()) => false,
         Err(fault) => outcome.written.is_empty() && is_told(alloc, &fault, line, 1),

@@ -1,6 +1,7 @@
 //! Job files that are refused: which job, why, and the line on standard error.
 
-use crate::fixture::{halves, is_refused, is_told};
+use crate::fixture::{halves, is_refused, is_refused_with, is_told};
+use columns::ColumnFault;
 use engine::{Cause, EngineFault, JobFault};
 use lambda_expr::ReadFault;
 use std::alloc::Global;
@@ -107,6 +108,36 @@ fn the_first_faulty_job_is_reported_with_its_line(rt: HostRuntime) {
     }
 }
 
+/// A header of 257 empty names: 256 commas.
+const COMMAS: &str = "\
+,,,,,,,,,,,,,,,,,,,,,,,,,,,,,,,,,,,,,,,,,,,,,,,,,,,,,,,,,,,,,,,,\
+,,,,,,,,,,,,,,,,,,,,,,,,,,,,,,,,,,,,,,,,,,,,,,,,,,,,,,,,,,,,,,,,\
+,,,,,,,,,,,,,,,,,,,,,,,,,,,,,,,,,,,,,,,,,,,,,,,,,,,,,,,,,,,,,,,,\
+,,,,,,,,,,,,,,,,,,,,,,,,,,,,,,,,,,,,,,,,,,,,,,,,,,,,,,,,,,,,,,,,";
+
+#[test]
+fn a_refused_column_file_is_reported_before_the_job_file_is_read(rt: HostRuntime) {
+    let alloc = rt.alloc();
+    for (columns, want) in [
+        ("", "no header"),
+        ("a,b,a\n", "same name"),
+        ("a,b\n3\n", "wrong length of row 1"),
+        ("a\n3.0\n", "bad number in row 1 column 1"),
+        ("a,b\n1,2\n3,4,5\nx,y\n", "wrong length of row 2"),
+        ("a,b\n1,2\n3,-\n", "bad number in row 2 column 2"),
+        (COMMAS, "more than 256 columns"),
+    ] {
+        let line = format!(in alloc; "streamrun: columns: {want}");
+        let told = line.is_ok_and(|line| is_refused_with(
+            alloc,
+            Some(columns.as_bytes()),
+            b"junk",
+            line.as_str(),
+        ));
+        assert!(rt; told, "{columns}");
+    }
+}
+
 /// Whether a job file that is refused for this cause at line 7 has this line and status 1.
 fn has_text(alloc: Global, cause: Cause, text: &str) -> bool {
     let fault = EngineFault::Jobs(JobFault { line: 7, cause });
@@ -146,6 +177,10 @@ fn each_fault_has_its_line_and_status(rt: HostRuntime) {
             4
         )
     );
+    let columns = EngineFault::Columns(ColumnFault::Read);
+    assert!(rt; is_told(alloc, &columns, "streamrun: columns: read failed", 4));
+    let columns = EngineFault::Columns(ColumnFault::NoMemory);
+    assert!(rt; is_told(alloc, &columns, "streamrun: out of memory", 3));
     let write = EngineFault::Write { written: 4 };
     assert!(rt; is_told(alloc, &write, "streamrun: write failed after 4 bytes", 4));
 }

@@ -81,7 +81,7 @@ n = range(-9223372036854775808, 9223372036854775807).sum() => [{\"fault\":\"sour
 fn a_report_as_json_is_one_array_on_one_line(rt: HostRuntime) {
     for row in JSON.lines() {
         let (jobs, report) = halves(row);
-        let outcome = run_with(rt.alloc(), jobs.as_bytes(), &settings_for(Form::Json));
+        let outcome = run_with(rt.alloc(), None, jobs.as_bytes(), &settings_for(Form::Json));
         assert!(rt;
             outcome.answer.is_ok() && is_line(&outcome.written, report),
             "{row}"

@@ -1,7 +1,7 @@
 //! Readers and writers that give or take little, or fail.
 
 use crate::fixture::settings_for;
-use columns::Counted;
+use columns::{ColumnFault, Counted};
 use engine::{EngineFault, run};
 use job_plan::Form;
 use report::CountedOut;
@@ -10,6 +10,8 @@ use std::io;
 use std::io::{ErrorKind, Read, Write};
 
 const JOBS: &[u8] = b"s = of(3, 0, -5).sum()\n";
+
+const TABLE: &[u8] = b"a\n1\n";
 
 const REPORT: &[u8] = b"s = -2\n";
 
@@ -57,14 +59,24 @@ impl Write for Tight {
     }
 }
 
-/// Runs `JOBS` from a reader that fails at this call: the answer, and whether anything was written.
-fn run_from(alloc: Global, fails_in: usize) -> (Result<(), EngineFault>, Vec<u8>) {
-    let mut reader = Counted::new(Grudging {
+/// Runs `JOBS` over `TABLE` from two readers, each of which fails at this call: the answer, and what was
+/// written.
+fn run_from(
+    alloc: Global,
+    columns_fail_in: usize,
+    jobs_fail_in: usize,
+) -> (Result<(), EngineFault>, Vec<u8>) {
+    let mut columns = Counted::new(Grudging {
+        left: TABLE,
+        fails_in: columns_fail_in,
+    });
+    let mut jobs = Counted::new(Grudging {
         left: JOBS,
-        fails_in,
+        fails_in: jobs_fail_in,
     });
     let mut writer = CountedOut::new(Vec::new(alloc));
-    let answer = run(alloc, &mut reader, &mut writer, &settings_for(Form::Text));
+    let settings = settings_for(Form::Text);
+    let answer = run(alloc, Some(&mut columns), &mut jobs, &mut writer, &settings);
     (answer, writer.into_inner())
 }
 
@@ -74,8 +86,10 @@ fn run_into(alloc: Global, jobs: &[u8], room: usize) -> (Result<(), EngineFault>
         held: Vec::new(alloc),
         room,
     });
+    let mut no_columns: Option<Counted<&[u8]>> = None;
     let answer = run(
         alloc,
+        no_columns.as_mut(),
         &mut Counted::new(jobs),
         &mut writer,
         &settings_for(Form::Text),
@@ -86,13 +100,26 @@ fn run_into(alloc: Global, jobs: &[u8], room: usize) -> (Result<(), EngineFault>
 #[test]
 fn a_reader_that_fails_at_any_read_gives_no_report(rt: HostRuntime) {
     for fails_in in 0..JOBS.len() + 2 {
-        let (answer, written) = run_from(rt.alloc(), fails_in);
+        let (answer, written) = run_from(rt.alloc(), TABLE.len() + 1, fails_in);
         let expected = if fails_in <= JOBS.len() {
             answer == Err(EngineFault::JobsRead) && written.is_empty()
         } else {
             answer == Ok(()) && written.as_slice() == REPORT
         };
         assert!(rt; expected, "the read after {fails_in} reads fails");
+    }
+}
+
+#[test]
+fn a_reader_of_columns_that_fails_at_any_read_gives_no_report(rt: HostRuntime) {
+    for fails_in in 0..TABLE.len() + 1 {
+        // The job file isn't read at all, so its reader can't fail.
+        let (answer, written) = run_from(rt.alloc(), fails_in, 0);
+        let fault = EngineFault::Columns(ColumnFault::Read);
+        assert!(rt;
+            answer == Err(fault) && written.is_empty(),
+            "the read after {fails_in} reads fails"
+        );
     }
 }
 

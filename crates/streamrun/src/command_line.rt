@@ -9,6 +9,8 @@ use std::alloc::{AllocError, Global};
 pub struct Arguments<'a> {
     /// The path of the job file.
     pub jobs: &'a str,
+    /// The path of the column file, if there is one.
+    pub columns: Option<&'a str>,
     /// The settings of the run; none only if a number is outside its limits.
     pub settings: Option<Settings>,
 }
@@ -20,6 +22,7 @@ pub fn read_arguments<'a>(alloc: Global, words: &'a [&'a str]) -> Result<Argumen
     let matches = command.try_get_matches_from(words)?;
     Ok(Arguments {
         jobs: matches.get_str("JOBS").unwrap_or(""),
+        columns: matches.get_str("columns"),
         settings: settings_of(&matches),
     })
 }
@@ -30,9 +33,15 @@ fn command_of<'a>(alloc: Global) -> Result<Command<'a>, AllocError> {
         .help("The file of jobs to run")
         .required(true)
         .action(ArgAction::Set);
+    let columns = Arg::new(alloc, "columns")
+        .long("columns")
+        .value_name("FILE")
+        .help("A CSV file of integer columns, which jobs name")
+        .action(ArgAction::Set);
     Command::new(alloc, "streamrun")
         .about("Runs pipelines over 64-bit integers and writes a report with one answer per job")
-        .arg(jobs)
+        .arg(jobs)?
+        .arg(columns)
 }
 
 /// The command with an option for each setting.

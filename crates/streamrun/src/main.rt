@@ -1,11 +1,11 @@
-//! `streamrun [OPTIONS] JOBS`: runs the jobs of a file over 64-bit integers, and writes a report with one answer
-//! per job.
+//! `streamrun [OPTIONS] JOBS`: runs the jobs of a file over 64-bit integers and over the columns of another
+//! file, and writes a report with one answer per job.
 //!
 //! Stands on `engine`, whose `run` is the whole work, on `columns` and `report` for readers and
 //! writers that count their failures, and on `clap` for the command line. It promises nothing of its
-//! own: the promise is the contract of `engine::run`, which this program calls on the job file and on
+//! own: the promise is the contract of `engine::run`, which this program calls on the two files and on
 //! standard output. Begin with `engine/specs/Run.antt`; here there is only the command line, the
-//! opening of the file and the exit status.
+//! opening of the files and the exit status.
 //! Not promised: that a file can be read or written, or that memory is there; the line on standard
 //! error says which it was.
 #![tactic(auto)]
@@ -19,7 +19,8 @@ use engine::{EngineFault, run, tell};
 use job_plan::Settings;
 use report::CountedOut;
 use std::alloc::AllocError;
-use std::io::{ErrorKind, Read, Write};
+use std::fs::File;
+use std::io::{ErrorKind, Write};
 use std::process::ExitCode;
 use std::{env, fs};
 
@@ -36,7 +37,7 @@ fn main(rt: HostRuntime) -> ExitCode {
     })
 }
 
-/// Does what the command line asks for, and answers the exit status.
+/// Reads the words of the command line, and answers the exit status.
 fn status_of(rt: &HostRuntime) -> Result<u8, AllocError> {
     let given: Vec<String> = match env::args(rt) {
         Ok(given) => given.collect(rt.alloc())?,
@@ -47,38 +48,65 @@ fn status_of(rt: &HostRuntime) -> Result<u8, AllocError> {
         }
     };
     let words: Vec<&str> = given.iter().map(|word| word.as_str()).collect(rt.alloc())?;
-    let (path, settings) = match read_arguments(rt.alloc(), words.as_slice()) {
-        Ok(
-            Arguments {
-                jobs,
-                settings: Some(settings),
-            },
-        ) => (jobs, settings),
-        Ok(Arguments { settings: None, .. }) => {
-            let _ = writeln!(rt.stderr(), "streamrun: a setting is outside its limits");
-            return Ok(REFUSED);
-        }
-        Err(error) if error.kind() == ArgumentErrorKind::OutOfMemory => return Err(AllocError),
+    match read_arguments(rt.alloc(), words.as_slice()) {
+        Ok(arguments) => status_of_arguments(rt, &arguments),
+        Err(error) if error.kind() == ArgumentErrorKind::OutOfMemory => Err(AllocError),
         Err(refused) => {
             let _ = refused.print(rt);
-            return Ok(if refused.exit_code() == 0 { 0 } else { REFUSED });
-        }
-    };
-    match fs::open(rt, path) {
-        Ok(file) => Ok(report_of_file(rt, file, &settings)),
-        Err(error) if error.kind() == ErrorKind::OutOfMemory => Err(AllocError),
-        Err(_) => {
-            let _ = writeln!(rt.stderr(), "streamrun: cannot open jobs");
-            Ok(NOT_OPENED)
+            Ok(if refused.exit_code() == 0 { 0 } else { REFUSED })
         }
     }
 }
 
-/// Runs the jobs of an open file, and answers the exit status.
-fn report_of_file<F: Read + Drop>(rt: &HostRuntime, file: F, settings: &Settings) -> u8 {
-    let mut jobs = Counted::new(file);
+/// Does what the command line asks for, and answers the exit status. Both files are opened before one is
+/// read, the columns first.
+fn status_of_arguments(rt: &HostRuntime, arguments: &Arguments<'_>) -> Result<u8, AllocError> {
+    let Some(settings) = arguments.settings else {
+        let _ = writeln!(rt.stderr(), "streamrun: a setting is outside its limits");
+        return Ok(REFUSED);
+    };
+    let columns = match arguments.columns {
+        Some(path) => match opened(rt, path, "columns")? {
+            Some(file) => Some(Counted::new(file)),
+            None => return Ok(NOT_OPENED),
+        },
+        None => None,
+    };
+    match opened(rt, arguments.jobs, "jobs")? {
+        Some(jobs) => Ok(report_of_files(rt, columns, jobs, &settings)),
+        None => Ok(NOT_OPENED),
+    }
+}
+
+/// The open file at this path, or none after a line that says which file can't be opened.
+fn opened(rt: &HostRuntime, path: &str, which: &str) -> Result<Option<File>, AllocError> {
+    match fs::open(rt, path) {
+        Ok(file) => Ok(Some(file)),
+        Err(error) if error.kind() == ErrorKind::OutOfMemory => Err(AllocError),
+        Err(_) => {
+            let _ = writeln!(rt.stderr(), "streamrun: cannot open {which}");
+            Ok(None)
+        }
+    }
+}
+
+/// Runs the jobs of an open file over the columns of another one, and answers the exit status.
+fn report_of_files(
+    rt: &HostRuntime,
+    columns: Option<Counted<File>>,
+    jobs: File,
+    settings: &Settings,
+) -> u8 {
+    let mut columns = columns;
+    let mut jobs = Counted::new(jobs);
     let mut writer = CountedOut::new(rt.stdout());
-    match run(rt.alloc(), &mut jobs, &mut writer, settings) {
+    match run(
+        rt.alloc(),
+        columns.as_mut(),
+        &mut jobs,
+        &mut writer,
+        settings,
+    ) {
         Ok(()) => 0,
         Err(fault) => tell(&fault, &mut rt.stderr()),
     }

@@ -7,8 +7,28 @@ use job_plan::Form;
 fn one_job_file_is_asked_for(rt: HostRuntime) {
     let words = ["streamrun", "report.jobs"];
     match read_arguments(rt.alloc(), &words) {
-        Ok(arguments) => assert!(rt; arguments.jobs == "report.jobs", "{}", arguments.jobs),
+        Ok(arguments) => assert!(rt;
+            arguments.jobs == "report.jobs" && arguments.columns.is_none(),
+            "{}",
+            arguments.jobs
+        ),
         Err(_) => assert!(rt; false, "refused"),
+    }
+}
+
+#[test]
+fn a_column_file_may_be_asked_for(rt: HostRuntime) {
+    for words in [
+        ["streamrun", "--columns", "table.csv", "a.jobs"].as_slice(),
+        ["streamrun", "a.jobs", "--columns=table.csv"].as_slice(),
+    ] {
+        match read_arguments(rt.alloc(), words) {
+            Ok(arguments) => assert!(rt;
+                arguments.jobs == "a.jobs" && arguments.columns == Some("table.csv"),
+                "{words:?}"
+            ),
+            Err(_) => assert!(rt; false, "refused: {words:?}"),
+        }
     }
 }
 
@@ -17,6 +37,7 @@ fn a_request_for_help_is_no_mistake(rt: HostRuntime) {
     for (words, status) in [
         (["streamrun"].as_slice(), 2),
         (["streamrun", "a.jobs", "b.jobs"].as_slice(), 2),
+        (["streamrun", "--columns", "a.csv"].as_slice(), 2),
         (["streamrun", "--workers", "a.jobs"].as_slice(), 2),
         (["streamrun", "--workers", "0", "a.jobs"].as_slice(), 2),
         (["streamrun", "--workers", "65", "a.jobs"].as_slice(), 2),

@@ -1,16 +1,59 @@
-use Rattle.std.proofs.Common.{refl, rules, []}
-use Rattle.engine.proofs.RunLemmas.{said_and_kept}
+use Rattle.std.proofs.Common.{◌≡◌, refl, rules}
+use Rattle.columns.specs.declared.fault.ColumnFault.TheVariants as column
+use Rattle.engine.proofs.RunLemmas.{HasTable, some_table, no_table, columns_refused, early_fault, early_no_columns, early_no_write, report_for}
 use Rattle.engine.proofs.running.run.Goals as goal
+use Rattle.engine.proofs.running.run.Goals.{in-Some+in-Ok, in-None}
 
-pub returns-in-Err-Failed-clause-fault_of_some_bytes : goal.returns-in-Err-Failed-clause-fault_of_some_bytes
-returns-in-Err-Failed-clause-fault_of_some_bytes g c = ([], (tt, search rules))
+pub returns-in-Err-clause-fault : goal.returns-in-Err-clause-fault
+returns-in-Err-clause-fault g c =
+    columns_refused g.C.CountedRead.remaining c.args.columns (g.J.CountedRead.remaining c.args.jobs.now) c.args.settings.now.form (g.W.CountedWrite.contents c.args.writer.now) (g.W.CountedWrite.contents c.args.writer.now) c.in-Some.reader c.read_columns.result c.in-Err.fault c.in-Some.is c.read_columns.ensures.cells c.read_columns.ensures.some_bytes c.in-Err.is (search rules)
 
-pub returns-in-Err-NoMemory-clause-fault_of_some_bytes : goal.returns-in-Err-NoMemory-clause-fault_of_some_bytes
-returns-in-Err-NoMemory-clause-fault_of_some_bytes g c = ([], (tt, search rules))
+pub returns-in-Err-clause-columns_failed : goal.returns-in-Err-clause-columns_failed
+returns-in-Err-clause-columns_failed g c is =
+    let read : c.in-Err.fault ≡ column.Read = let e = is in cc in
+    rw c.in-Some.is (c.in-Err.ensures.read read)
 
-pub returns-in-Err-clause-fault_of_some_bytes : goal.returns-in-Err-clause-fault_of_some_bytes
-returns-in-Err-clause-fault_of_some_bytes g c =
-    (c.deref.result.now, said_and_kept (record { jobs = c.deref.result.now; form = c.args.settings.now.form }) _ _ c.in-Err.fault c.in-Err.ensures.err.0 (search rules))
+pub returns-in-Err-report_from-clause-fault : goal.returns-in-Err-report_from-clause-fault
+returns-in-Err-report_from-clause-fault g c =
+    let t : HasTable g.C.CountedRead.remaining c.args.columns c.match-columns.table = elim c.match-columns.branch [
+      | in-Some+in-Ok w ↦ some_table g.C.CountedRead.remaining c.args.columns c.match-columns.table w.in-Some.reader w.read_columns.result w.in-Some.is w.read_columns.ensures.cells w.read_columns.ensures.some_bytes (search rules)
+      | in-None w ↦ no_table g.C.CountedRead.remaining c.args.columns c.match-columns.table w.in-None.is (search rules)
+    ] in
+    early_fault g.C.CountedRead.remaining c.args.columns (g.J.CountedRead.remaining c.args.jobs.now) c.args.settings.now.form (g.W.CountedWrite.contents c.args.writer.now) (g.W.CountedWrite.contents c.args.writer.now) c.match-columns.table c.in-Err-report_from.fault t c.in-Err-report_from.ensures.err (search rules)
+
+pub returns-in-Err-report_from-clause-columns_failed : goal.returns-in-Err-report_from-clause-columns_failed
+returns-in-Err-report_from-clause-columns_failed g c is =
+    let t : HasTable g.C.CountedRead.remaining c.args.columns c.match-columns.table = elim c.match-columns.branch [
+      | in-Some+in-Ok w ↦ some_table g.C.CountedRead.remaining c.args.columns c.match-columns.table w.in-Some.reader w.read_columns.result w.in-Some.is w.read_columns.ensures.cells w.read_columns.ensures.some_bytes (search rules)
+      | in-None w ↦ no_table g.C.CountedRead.remaining c.args.columns c.match-columns.table w.in-None.is (search rules)
+    ] in
+    absurd (early_no_columns g.C.CountedRead.remaining c.args.columns (g.J.CountedRead.remaining c.args.jobs.now) c.args.settings.now.form c.match-columns.table c.in-Err-report_from.fault t c.in-Err-report_from.ensures.err is)
+
+pub returns-in-Err-report_from-clause-write_failed : goal.returns-in-Err-report_from-clause-write_failed
+returns-in-Err-report_from-clause-write_failed g c n is =
+    let t : HasTable g.C.CountedRead.remaining c.args.columns c.match-columns.table = elim c.match-columns.branch [
+      | in-Some+in-Ok w ↦ some_table g.C.CountedRead.remaining c.args.columns c.match-columns.table w.in-Some.reader w.read_columns.result w.in-Some.is w.read_columns.ensures.cells w.read_columns.ensures.some_bytes (search rules)
+      | in-None w ↦ no_table g.C.CountedRead.remaining c.args.columns c.match-columns.table w.in-None.is (search rules)
+    ] in
+    absurd (early_no_write g.C.CountedRead.remaining c.args.columns (g.J.CountedRead.remaining c.args.jobs.now) c.args.settings.now.form c.match-columns.table c.in-Err-report_from.fault n t c.in-Err-report_from.ensures.err is)
+
+pub returns-in-Ok-write_all_of-clause-report : goal.returns-in-Ok-write_all_of-clause-report
+returns-in-Ok-write_all_of-clause-report g c =
+    let t : HasTable g.C.CountedRead.remaining c.args.columns c.match-columns.table = elim c.match-columns.branch [
+      | in-Some+in-Ok w ↦ some_table g.C.CountedRead.remaining c.args.columns c.match-columns.table w.in-Some.reader w.read_columns.result w.in-Some.is w.read_columns.ensures.cells w.read_columns.ensures.some_bytes (search rules)
+      | in-None w ↦ no_table g.C.CountedRead.remaining c.args.columns c.match-columns.table w.in-None.is (search rules)
+    ] in
+    let (input, given, report) = report_for g.C.CountedRead.remaining c.args.columns (g.J.CountedRead.remaining c.args.jobs.now) c.args.settings.now.form c.match-columns.table c.in-Ok-report_from.report.items t c.in-Ok-report_from.ensures.ok in
+    (input, given, (c.in-Ok-report_from.report.items, report, search rules))
+
+pub returns-clause-fault : goal.returns-clause-fault
+returns-clause-fault g c =
+    let t : HasTable g.C.CountedRead.remaining c.args.columns c.match-columns.table = elim c.match-columns.branch [
+      | in-Some+in-Ok w ↦ some_table g.C.CountedRead.remaining c.args.columns c.match-columns.table w.in-Some.reader w.read_columns.result w.in-Some.is w.read_columns.ensures.cells w.read_columns.ensures.some_bytes (search rules)
+      | in-None w ↦ no_table g.C.CountedRead.remaining c.args.columns c.match-columns.table w.in-None.is (search rules)
+    ] in
+    let (input, given, report) = report_for g.C.CountedRead.remaining c.args.columns (g.J.CountedRead.remaining c.args.jobs.now) c.args.settings.now.form c.match-columns.table c.in-Ok-report_from.report.items t c.in-Ok-report_from.ensures.ok in
+    (input, given, (c.in-Ok-report_from.report.items, report, search rules, search rules))
 
 pub returns-clause-unwritten : goal.returns-clause-unwritten
 returns-clause-unwritten g c = λ other. absurd (other c.in-Err-write_all_of.field-0.written refl)

@@ -1,0 +1,27 @@
+-- Condition: what the readers of a run hold, and whether a read of the column file failed.
+use Rattle.std.specs.Prelude.{◌≡◌, ℕ, ◌⊎◌, List, Option, Some, None, IfSome}
+use Rattle.std.specs.Borrow.{MutBor}
+use Rattle.std.proofs.Common.{inl, inr}
+use Rattle.job_plan.specs.declared.settings.Form.{Form}
+use Rattle.counted_io.specs.FailureCounts.{HasRisen}
+use Rattle.engine.specs.Run.{Input}
+
+-- these are the bytes that a reader has left, if it is known which these are
+abbrev pub IsWhole : Option (List ℕ) → List ℕ → Type 0
+IsWhole left bytes = IfSome left (λ known. bytes ≡ known)
+
+-- this is the file that an optional reader has left: without a reader there is none
+abbrev pub IsFile : {C : Type 0} → (C → Option (List ℕ)) → Option (MutBor C) → Option (List ℕ) → Type 0
+IsFile remaining None file = file ≡ None
+IsFile remaining (Some reader) file = (bytes : List ℕ) × (file ≡ Some bytes) × IsWhole (remaining reader.now) bytes
+
+-- this is what a run is given: the files of its two readers, and the form of the report
+pub record IsGiven {C : Type 0} (remaining : C → Option (List ℕ)) (columns : Option (MutBor C)) (jobs : Option (List ℕ)) (wanted : Form) (input : Input) : Type 0 where
+  pub columns_file : IsFile remaining columns input.columns
+  pub jobs_file : IsWhole jobs input.jobs
+  pub form : input.form ≡ wanted
+
+-- the count of failures of an optional reader has risen; the second is the reader as the call leaves it
+abbrev pub HasRisenThere : {C : Type 0} → (C → ℕ) → Option (MutBor C) → Unit {0} ⊎ ((MutBor C × Unit {0}) ⊎ ⊥) → Type 0
+HasRisenThere failures (Some before) (inr (inl after)) = HasRisen (failures before.now) (failures after.0.now)
+HasRisenThere failures before after = ⊥
