@@ -6,6 +6,7 @@ ghost use Rattle.engine.specs.Refused.{IsEarly};
 ghost use Rattle.engine.specs.Given.{HasRisenThere, IsGiven, IsWhole};
 ghost use Rattle.engine.specs.Run.{Faulted, Input, IsReport, Reported, columns_of, report_in};
 ghost use Rattle.job_plan.specs.Meaning.{meaning_of, names_of};
+ghost use Rattle.job_plan.specs.SettingsParts.{form_of};
 ghost use Rattle.report.specs.Named.{IsNamed, IsText};
 ghost use Rattle.std.specs.Io.KnownBytes.{Keeps};
 ghost use Rattle.std.specs.Prelude.{◌≡◌, ◌≢◌, ◌≤◌, ℕ, All, List, length, Option, Ok, IfErr, IfOk, OnOk};
@@ -60,10 +61,10 @@ pub fn run<C: CountedRead, J: CountedRead, W: CountedWrite>(
     // The headline: the writer holds what it held before, and then the report of the jobs that the bytes
     // spell. The input is what the readers held, and some bytes for a reader of which they aren't known.
     ensures report { OnOk result ((input : Input)
-        × IsGiven C.remaining columns.entry (J.remaining jobs.old) settings.now.form input
+        × IsGiven C.remaining columns.entry (J.remaining jobs.old) (form_of settings.now) input
         × Reported input (W.contents writer.old) (W.contents writer.new)) }
     ensures fault { IfErr result (λ fault. (input : Input)
-        × IsGiven C.remaining columns.entry (J.remaining jobs.old) settings.now.form input
+        × IsGiven C.remaining columns.entry (J.remaining jobs.old) (form_of settings.now) input
         × Faulted input (W.contents writer.old) (W.contents writer.new) fault) }
 
     ensures unwritten { IfErr result (λ fault. ((n : ℕ) → fault ≢ EngineFault.Write n) →
@@ -84,7 +85,7 @@ pub fn run<C: CountedRead, J: CountedRead, W: CountedWrite>(
         },
         None => Columns::none(),
     };
-    let report = match report_from(alloc, &table, jobs, settings.form) {
+    let report = match report_from(alloc, &table, jobs, settings.form()) {
         Ok(report) => report,
         Err(fault) => return Err(fault),
     };

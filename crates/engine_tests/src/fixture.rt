@@ -1,9 +1,9 @@
 //! What the tests share: a run over bytes in memory, and what it wrote.
 
-use columns::Counted;
+use columns::{Counted, CountedRead};
 use engine::{EngineFault, run, tell};
 use job_plan::{Form, Settings};
-use report::CountedOut;
+use report::{CountedOut, CountedWrite};
 use std::alloc::Global;
 
 /// What a run answers, and what it wrote.
@@ -13,32 +13,31 @@ pub struct Outcome {
     pub written: Vec<u8>,
 }
 
-/// The settings of the program, with a report in this form.
-pub fn settings_for(form: Form) -> Settings {
-    Settings {
-        workers: 4,
-        threshold: 1_024,
-        nodes: 4_096,
-        form,
+/// A run with the settings of the program and a report in this form; `NoMemory` if they are none.
+pub fn run_as<C: CountedRead, J: CountedRead, W: CountedWrite>(
+    alloc: Global,
+    columns: Option<&mut C>,
+    jobs: &mut J,
+    writer: &mut W,
+    form: Form,
+) -> Result<(), EngineFault> {
+    match Settings::of(4, 1_024, 4_096, form) {
+        Some(settings) => run(alloc, columns, jobs, writer, &settings),
+        None => Err(EngineFault::NoMemory),
     }
 }
 
 /// Runs a job file of these bytes without columns, with a report as text.
 pub fn run_over(alloc: Global, jobs: &[u8]) -> Outcome {
-    run_with(alloc, None, jobs, &settings_for(Form::Text))
+    run_with(alloc, None, jobs, Form::Text)
 }
 
-/// Runs a job file of these bytes with these columns and these settings.
-pub fn run_with(
-    alloc: Global,
-    columns: Option<&[u8]>,
-    jobs: &[u8],
-    settings: &Settings,
-) -> Outcome {
+/// Runs a job file of these bytes with these columns and a report in this form.
+pub fn run_with(alloc: Global, columns: Option<&[u8]>, jobs: &[u8], form: Form) -> Outcome {
     let mut table = columns.map(|bytes| Counted::new(bytes));
     let mut reader = Counted::new(jobs);
     let mut writer = CountedOut::new(Vec::new(alloc));
-    let answer = run(alloc, table.as_mut(), &mut reader, &mut writer, settings);
+    let answer = run_as(alloc, table.as_mut(), &mut reader, &mut writer, form);
     Outcome {
         answer,
         written: writer.into_inner(),
@@ -73,7 +72,7 @@ pub fn is_refused(alloc: Global, jobs: &[u8], line: &str) -> bool {
 /// Whether a run of this job file with these columns is refused by this line, with status 1, and nothing is
 /// written.
 pub fn is_refused_with(alloc: Global, columns: Option<&[u8]>, jobs: &[u8], line: &str) -> bool {
-    let outcome = run_with(alloc, columns, jobs, &settings_for(Form::Text));
+    let outcome = run_with(alloc, columns, jobs, Form::Text);
     match outcome.answer {
         Ok(()) => false,
         Err(fault) => outcome.written.is_empty() && is_told(alloc, &fault, line, 1),

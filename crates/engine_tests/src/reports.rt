@@ -1,6 +1,6 @@
 //! Whole runs over memory: the bytes of the report, worked out by hand and by Java 17.
 
-use crate::fixture::{halves, is_line, reports, run_over, run_with, settings_for};
+use crate::fixture::{halves, is_line, reports, run_over, run_with};
 use job_plan::{Form, Settings};
 
 const FIRST_FAULTS: &str = "\
@@ -81,7 +81,7 @@ n = range(-9223372036854775808, 9223372036854775807).sum() => [{\"fault\":\"sour
 fn a_report_as_json_is_one_array_on_one_line(rt: HostRuntime) {
     for row in JSON.lines() {
         let (jobs, report) = halves(row);
-        let outcome = run_with(rt.alloc(), None, jobs.as_bytes(), &settings_for(Form::Json));
+        let outcome = run_with(rt.alloc(), None, jobs.as_bytes(), Form::Json);
         assert!(rt;
             outcome.answer.is_ok() && is_line(&outcome.written, report),
             "{row}"

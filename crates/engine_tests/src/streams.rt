@@ -1,8 +1,8 @@
 //! Readers and writers that give or take little, or fail.
 
-use crate::fixture::settings_for;
+use crate::fixture::run_as;
 use columns::{ColumnFault, Counted};
-use engine::{EngineFault, run};
+use engine::EngineFault;
 use job_plan::Form;
 use report::CountedOut;
 use std::alloc::Global;
@@ -75,8 +75,13 @@ fn run_from(
         fails_in: jobs_fail_in,
     });
     let mut writer = CountedOut::new(Vec::new(alloc));
-    let settings = settings_for(Form::Text);
-    let answer = run(alloc, Some(&mut columns), &mut jobs, &mut writer, &settings);
+    let answer = run_as(
+        alloc,
+        Some(&mut columns),
+        &mut jobs,
+        &mut writer,
+        Form::Text,
+    );
     (answer, writer.into_inner())
 }
 
@@ -87,12 +92,12 @@ fn run_into(alloc: Global, jobs: &[u8], room: usize) -> (Result<(), EngineFault>
         room,
     });
     let mut no_columns: Option<Counted<&[u8]>> = None;
-    let answer = run(
+    let answer = run_as(
         alloc,
         no_columns.as_mut(),
         &mut Counted::new(jobs),
         &mut writer,
-        &settings_for(Form::Text),
+        Form::Text,
     );
     (answer, writer.into_inner().held)
 }

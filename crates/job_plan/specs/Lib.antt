@@ -2,3 +2,4 @@
 pub mod Answers
 pub mod Meaning
 pub mod Settings
+pub mod SettingsParts

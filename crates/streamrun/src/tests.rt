@@ -89,10 +89,10 @@ fn settings_are_the_defaults_unless_options_change_them(rt: HostRuntime) {
         };
         let taken = given.is_some_and(|settings| {
             (
-                settings.workers,
-                settings.threshold,
-                settings.nodes,
-                settings.form,
+                settings.workers(),
+                settings.threshold(),
+                settings.nodes(),
+                settings.form(),
             ) == expected
         });
         assert!(rt; taken, "{words:?}");
