@@ -1,0 +1,48 @@
+-- The items of lanes, by their position.
+use Rattle.std.proofs.Common.{◌≡◌, ℕ, zero, suc, ◌+◌, ◌<◌, ◌≤◌, List, [], ◌∷◌, ◌++◌, length, get_or, take, Option, Some, None, refl, sym, ap, ◌∙◌, append_assoc, arith, length-append, add-zero}
+use Rattle.std.proofs.lemmas.List.{append-nil, get_or_append_left, get_or_at, take_more}
+use Rattle.std.proofs.lemmas.Option.{slice_get_within, get_or_from_slice_get, slice_get-get_or}
+use Rattle.std.specs.List.{slice_get}
+use mathlib.Core.Logic.{dite}
+use native.Mathlib.Decide.{ℕ_discrete}
+use Rattle.trace.specs.declared.item.Item.{Item}
+use Rattle.trace.specs.declared.item.End.{End}
+use Rattle.trace.specs.Trace.{Trace, trace}
+use Rattle.batch_eval.specs.Batches.{lanes, CountsUp}
+
+pub length_lanes : (n : ℕ) (g : ℕ → Item) → length (lanes n g) ≡ n
+length_lanes zero g = refl
+length_lanes (suc n) g = omega (arith, length-append (lanes n g) (g n ∷ []), length_lanes n g)
+
+lane_of : (n k : ℕ) (g : ℕ → Item) (d : Item) → k < n → get_or (lanes n g) k d ≡ g k
+lane_of zero k g d below = absurd (omega arith)
+lane_of (suc n) k g d below =
+    dite (ℕ_discrete k n)
+    (λ last. get_or_at (lanes n g) (g n) [] d k (length_lanes n g ∙ sym last) ∙ ap g (sym last))
+    (λ other.
+    let inside : k < length (lanes n g) = omega (arith, length_lanes n g) in
+    get_or_append_left (lanes n g) (g n ∷ []) d k inside ∙ lane_of n k g d (omega arith))
+
+-- the item at a position
+pub lane_at : (n k : ℕ) (g : ℕ → Item) → k < n → slice_get (lanes n g) k ≡ Some (g k)
+lane_at n k g below = slice_get-get_or (lanes n g) k (g k) (omega (arith, length_lanes n g)) ∙ ap Some (lane_of n k g (g k) below)
+
+-- items from a position on
+pub lanes_taken : (items : List Item) (p n : ℕ) (g : ℕ → Item) → ((k : ℕ) → k < n → slice_get items (p + k) ≡ Some (g k)) → take (p + n) items ≡ take p items ++ lanes n g
+lanes_taken items p zero g here = ap (λ (m : ℕ). take m items) (add-zero p) ∙ sym (append-nil (take p items))
+lanes_taken items p (suc n) g here =
+    let on : p + suc n ≡ p + n + 1 = omega arith in
+    let last = here n (omega arith) in
+    let one = take_more items (p + n) (g n) (slice_get_within items (p + n) (g n) last) in
+    let before = lanes_taken items p n g (λ k below. here k (omega arith)) in
+    ap (λ (m : ℕ). take m items) on ∙ one ∙ rw (before, get_or_from_slice_get items (p + n) (g n) (g n) last) (append_assoc (take p items) (lanes n g) (g n ∷ []))
+
+-- a position of an item is a live lane
+pub lane_inside : (live k : ℕ) (g : ℕ → Item) (e : End) (t : Trace) → trace (lanes live g) e ≡ t → k < length t.items → k < live
+lane_inside live k g e t seen below =
+    let same : length (lanes live g) ≡ length t.items = ap (λ (u : Trace). length u.items) seen in
+    omega (arith, length_lanes live g, same, below)
+
+pub counts_less : (start : Option ℕ) (n m : ℕ) → n ≤ m → CountsUp start m → CountsUp start n
+counts_less None n m less counts = counts
+counts_less (Some start) n m less counts = omega (arith, less, counts)

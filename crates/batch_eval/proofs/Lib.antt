@@ -1,0 +1,7 @@
+pub mod Choosing
+pub mod Onward
+pub mod Flags
+pub mod Items
+pub mod Keeping
+pub mod Steps
+pub mod Walks

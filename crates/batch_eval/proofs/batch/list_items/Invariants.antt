@@ -1,0 +1,7 @@
+use Rattle.std.proofs.Common.{◌≡◌, ℕ, ◌+◌, ◌<◌, Some, None}
+use Rattle.std.specs.List.{slice_get}
+use Rattle.batch_eval.specs.Batches.{item_at}
+use Rattle.batch_eval.proofs.batch.list_items.Given as goal
+
+abbrev pub invariant-loop-lane : goal.invariant-loop-lane
+invariant-loop-lane g l = (k : ℕ) → k < l.lane → slice_get (g.I.SourceItems.items l.source) (l.position + k) ≡ Some (item_at None l.origins l.values k)

@@ -1,0 +1,19 @@
+use Rattle.std.proofs.Common.{◌+◌, List, take, subst}
+use Rattle.trace.specs.declared.item.Item.{Item}
+use Rattle.trace.specs.declared.item.End.{End}
+use Rattle.trace.specs.Trace.{trace}
+use Rattle.trace.specs.Sinks.{IsFed}
+use Rattle.trace.specs.Stages.{pipe, stages_of}
+use Rattle.batch_eval.proofs.Onward.{IsFed_more}
+use Rattle.batch_eval.proofs.feeding.feed_piece.Goals as goal
+
+pub returns-clause-fed : goal.returns-clause-fed
+returns-clause-fed g c = λ xs so_far.
+    let h = g.S.LongSink.has_taken in
+    let items = g.I.SourceItems.items c.args.source.now in
+    let n = c.args.first_stage in
+    let gs = stages_of c.args.stages.now in
+    let env = c.args.env.now in
+    let part = c.fill.new.self.items in
+    let here = subst (λ (e : End). (vs : List Item) → h c.args.sink.now vs → IsFed h vs (pipe n gs env (trace part e)) c.feed_batch.result c.feed_batch.new.sink) c.fill.ensures.ending c.feed_batch.ensures.fed in
+    IsFed_more h n gs env xs (take c.args.position items) part (take (c.args.position + c.args.count) items) c.feed_batch.result c.args.sink.now c.feed_batch.new.sink c.fill.ensures.items so_far here

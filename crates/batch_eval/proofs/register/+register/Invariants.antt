@@ -1,0 +1,31 @@
+use Rattle.std.proofs.Common.{ℕ, ◌+◌, ◌*◌}
+use Rattle.std.specs.Prelude.{max}
+use Rattle.lambda_expr.specs.declared.expr.LongExpr.{size-LongExpr}
+use Rattle.lambda_expr.specs.declared.expr.BoolExpr.{size-BoolExpr}
+use Rattle.batch_eval.specs.declared.register.Operand.{Operand}
+use Rattle.batch_eval.specs.declared.register.Operand.TheVariants as operand
+use Rattle.batch_eval.proofs.register.+register.Given as goal
+
+abbrev size : Operand → ℕ
+size (operand.Long e) = size-LongExpr e.now
+size (operand.Bool p) = size-BoolExpr p.now
+size (operand.Flag b) = 0
+
+-- an operator's operands are called between it and them
+abbrev pub decreases-eval_long : goal.decreases-eval_long
+decreases-eval_long l = 3 * size-LongExpr l.expr.now
+
+abbrev pub decreases-eval_bool : goal.decreases-eval_bool
+decreases-eval_bool l = 3 * size-BoolExpr l.test.now
+
+abbrev pub decreases-eval_left : goal.decreases-eval_left
+decreases-eval_left l = 3 * size-LongExpr l.expr.now + 1
+
+abbrev pub decreases-eval_operand : goal.decreases-eval_operand
+decreases-eval_operand l = 3 * size l.operand + 1
+
+abbrev pub decreases-eval_between : goal.decreases-eval_between
+decreases-eval_between l = 3 * max (size-LongExpr l.a.now) (size-LongExpr l.b.now) + 2
+
+abbrev pub decreases-eval_chosen : goal.decreases-eval_chosen
+decreases-eval_chosen l = 3 * max (size-BoolExpr l.condition.now) (max (size l.a) (size l.b)) + 2

@@ -1,0 +1,73 @@
+-- Condition: the walk that a batch of lanes stands for.
+use Rattle.std.specs.Prelude.{◌≡◌, ℕ, zero, suc, ◌+◌, ◌<◌, ◌≤◌, ◌^◌, ℤ, Bool, true, false, not, List, [], ◌∷◌, ◌++◌, length, slice_index, Option, Some, None, if◌then◌else◌}
+use Rattle.lambda_expr.specs.declared.fault.FaultKind.{FaultKind}
+use Rattle.trace.specs.declared.item.Item.{Item}
+use Rattle.trace.specs.declared.item.End.{End}
+use Rattle.trace.specs.declared.item.End.TheVariants as end
+use Rattle.trace.specs.declared.feeding.Fed.{Fed}
+use Rattle.trace.specs.declared.feeding.Fed.TheVariants as fed
+use Rattle.batch_eval.specs.Lanes.{at, is_set}
+
+-- what n lanes give, one after the other
+abbrev pub gathered : ℕ → (ℕ → List Item) → List Item
+gathered zero f = []
+gathered (suc n) f = gathered n f ++ f n
+
+-- one item of each of n lanes
+abbrev pub lanes : ℕ → (ℕ → Item) → List Item
+lanes n g = gathered n (λ k. g k ∷ [])
+
+-- the place of a lane: counted up from a start, or listed
+abbrev pub origin_at : Option ℕ → List ℕ → ℕ → ℕ
+origin_at (Some start) origins k = start + k
+origin_at None origins k = slice_index origins k
+
+-- the item of a lane
+abbrev pub item_at : Option ℕ → List ℕ → List ℤ → ℕ → Item
+item_at start origins values k = record { origin = origin_at start origins k; value = at values k }
+
+-- the first n lanes that pass, in turn
+abbrev pub picked : (ℕ → Bool) → ℕ → List ℕ
+picked p zero = []
+picked p (suc n) = picked p n ++ (if p n then n ∷ [] else [])
+
+-- how a walk goes on after a stop: the old end, or the fault of this stage at this place
+abbrev pub end_after : End → ℕ → ℕ → Option FaultKind → End
+end_after e stage origin None = e
+end_after e stage origin (Some kind) = end.Fault (record { kind = kind; stage = stage; origin = Some origin })
+
+-- what becomes of items after which the walk ends so
+abbrev pub fed_of : End → Fed
+fed_of end.Done = fed.More
+fed_of (end.Fault f) = fed.Fault f
+
+-- the places that count up stay below 2^64
+abbrev pub CountsUp : Option ℕ → ℕ → Type 0
+CountsUp (Some start) n = start + n < 2 ^ 64
+CountsUp None n = Unit {0}
+
+-- the first n lanes whose flag is set
+abbrev pub passing : List ℤ → ℕ → List ℕ
+passing flags n = picked (λ k. is_set (at flags k)) n
+
+-- whether a flag is as it is wanted
+abbrev pub wants : Bool → ℤ → Bool
+wants true z = is_set z
+wants false z = not (is_set z)
+
+-- those of the first n lanes whose flag is as it is wanted
+abbrev pub wanted : Bool → List ℤ → ℕ → List ℕ
+wanted kind flags n = picked (λ k. wants kind (at flags k)) n
+
+-- a stop that is at one of n lanes, if it is a fault's
+abbrev pub StopsInside : Option FaultKind → ℕ → ℕ → Type 0
+StopsInside None live n = Unit {0}
+StopsInside (Some kind) live n = live < n
+
+-- registers of 1,024 lanes
+pub record IsSized (live : ℕ) (start : Option ℕ) (origins : List ℕ) (values : List ℤ) (spare : List ℤ) : Type 0 where
+  pub live_lanes : live ≤ 1024
+  pub counts : CountsUp start 1024
+  pub origins_length : length origins ≡ 1024
+  pub values_length : length values ≡ 1024
+  pub spare_length : length spare ≡ 1024

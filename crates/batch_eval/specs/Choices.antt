@@ -1,0 +1,24 @@
+-- Condition: the values of operands, as the definitions of expressions combine them.
+use Rattle.std.specs.Prelude.{ℤ, Bool, Result, Ok}
+use Rattle.lambda_expr.specs.declared.fault.FaultKind.{FaultKind}
+use Rattle.lambda_expr.specs.Earlier.{Numbers}
+use Rattle.lambda_expr.specs.Operators.{on}
+use Rattle.lambda_expr.specs.Term.{long_of, truth_of}
+use Rattle.lambda_expr.specs.Value.{chosen, long_value, truth_value}
+use Rattle.batch_eval.specs.declared.register.Operand.{Operand}
+use Rattle.batch_eval.specs.declared.register.Operand.TheVariants as operand
+use Rattle.batch_eval.specs.Lanes.{flag_of, flagged}
+
+-- both operands, from left to right, and then the operator
+abbrev pub between : (ℤ → ℤ → Result ℤ FaultKind) → Result ℤ FaultKind → Result ℤ FaultKind → Result ℤ FaultKind
+between f a b = on a (λ v. on b (λ w. f v w))
+
+-- one of two operands, by a condition; the other one is not looked at
+abbrev pub chosen_value : Result Bool FaultKind → Result ℤ FaultKind → Result ℤ FaultKind → Result ℤ FaultKind
+chosen_value c a b = on c (λ t. chosen t a b)
+
+-- the value of an operand at an item
+abbrev pub operand_value : Operand → ℤ → Numbers → Result ℤ FaultKind
+operand_value (operand.Long e) x env = long_value (long_of e.now) x env
+operand_value (operand.Bool p) x env = flagged (truth_value (truth_of p.now) x env)
+operand_value (operand.Flag b) x env = Ok (flag_of b)

@@ -1,0 +1,183 @@
+//! A batch of items in registers, and the stages over it.
+
+ghost use Rattle.batch_eval.specs.Batches.{CountsUp, StopsInside, end_after, item_at, origin_at};
+ghost use Rattle.batch_eval.specs.Lanes.{at};
+ghost use Rattle.batch_eval.specs.Rooms.{Fits, FitsTest};
+ghost use Rattle.lambda_expr.specs.Term.{long_of, truth_of};
+ghost use Rattle.std.specs.Prelude.{◌≡◌, ℕ, ◌+◌, ◌<◌, ◌≤◌, ◌^◌, [], ◌++◌, IfOk, None, Some, length, slice_get, take};
+ghost use Rattle.trace.specs.Stages.{filter, of_item};
+ghost use Rattle.trace.specs.Stages.{map as map_term};
+ghost use Rattle.trace.specs.Trace.{each, trace};
+
+use crate::keep::keep_lanes;
+use crate::reached::Reached;
+use crate::register::{LANES, eval_bool, eval_long};
+use lambda_expr::{BoolExpr, Env, LongExpr};
+use std::alloc::Global;
+use std::marker::Model;
+use std::mem;
+use trace::{End, Fault, Item, NoMemory, SourceItems};
+
+/// Up to 1,024 items in registers, and how the walk ends after them.
+///
+/// Contracts see a batch as the trace of those items.
+#[derive(Drop)]
+pub(crate) struct Batch {
+    pub(crate) live: usize,
+    /// The place of the first lane, if the places count up from it; else they are listed.
+    pub(crate) start: Option<u64>,
+    pub(crate) origins: Vec<u64>,
+    pub(crate) values: Vec<i64>,
+    spare: Vec<i64>,
+    pub(crate) end: End,
+}
+
+impl Model for Batch {
+    ghost use Rattle.batch_eval.specs.Batches.{IsSized, item_at, lanes};
+    ghost use Rattle.trace.specs.Trace.{Trace, trace};
+
+    ghost Value = { Trace };
+
+    ghost view = { λ b. trace (lanes b.live (item_at b.start b.origins.items b.values.items)) b.end };
+
+    ghost invariant = { λ b. IsSized b.live b.start b.origins.items b.values.items b.spare.items };
+}
+
+/// The place of a lane.
+pub(crate) fn origin_of(start: Option<u64>, origins: &[u64], lane: usize) -> u64
+    requires counts { CountsUp start (lane + 1) }
+    requires within { lane < length origins.now }
+    ensures { result ≡ origin_at start origins.now lane }
+{
+    match start {
+        Some(start) => start + lane as u64,
+        None => origins[lane],
+    }
+}
+
+/// The value of a lane.
+fn value_of(values: &[i64], lane: usize) -> i64
+    requires { lane < length values.now }
+    ensures { result ≡ at values.now lane }
+{
+    values[lane]
+}
+
+/// How a batch ends after a stage: as before, or by the fault of the lane after those that went on.
+fn stopped(end: End, stage: u32, start: Option<u64>, origins: &[u64], reached: Reached) -> End
+    requires counts { CountsUp start (length origins.now) }
+    requires inside { StopsInside reached.fault reached.live (length origins.now) }
+    ensures { result ≡ end_after end stage (origin_at start origins.now reached.live) reached.fault }
+{
+    match reached.fault {
+        None => end,
+        Some(kind) => End::Fault(Fault {
+            kind,
+            stage,
+            origin: Some(origin_of(start, origins, reached.live)),
+        }),
+    }
+}
+
+impl Batch {
+    /// An empty batch.
+    pub(crate) fn new(alloc: Global) -> Result<Batch, NoMemory>
+        ensures { IfOk result (λ batch. batch ≡ trace [] End.Done) }
+    {
+        Ok(Batch {
+            live: 0,
+            start: None,
+            origins: vec![in alloc; 0u64; LANES]?,
+            values: vec![in alloc; 0i64; LANES]?,
+            spare: vec![in alloc; 0i64; LANES]?,
+            end: End::Done,
+        })
+    }
+
+    /// `map` of `LongStream`: each item's image, at the same place.
+    pub(crate) fn map(&mut self, image: &LongExpr, stage: u32, env: &Env, room: &mut [i64])
+        requires { Fits (long_of image.now) (length room.old) }
+        ensures { self.new ≡ each (of_item stage (map_term (long_of image.now)) env.now) self.old.items self.old.ending }
+    {
+        let reached = eval_long(image, env, &self.values, self.live, &mut self.spare, room);
+        self.end = stopped(self.end, stage, self.start, &self.origins, reached);
+        self.live = reached.live;
+        mem::swap(&mut self.values, &mut self.spare);
+    }
+
+    /// `filter` of `LongStream`: the items at which the test is true, moved to the front.
+    pub(crate) fn filter(&mut self, test: &BoolExpr, stage: u32, env: &Env, room: &mut [i64])
+        requires { FitsTest (truth_of test.now) (length room.old) }
+        ensures { self.new ≡ each (of_item stage (filter (truth_of test.now)) env.now) self.old.items self.old.ending }
+    {
+        let reached = eval_bool(test, env, &self.values, self.live, &mut self.spare, room);
+        self.end = stopped(self.end, stage, self.start, &self.origins, reached);
+        self.live = keep_lanes(
+            &self.spare,
+            reached.live,
+            self.start,
+            &mut self.values,
+            &mut self.origins,
+        );
+        self.start = None;
+    }
+
+    /// Starts again with items of a source, from a position on.
+    pub(crate) fn fill<I: SourceItems>(&mut self, source: &I, position: u64, count: u64)
+        requires within { position + count ≤ length (I.items source.now) }
+        requires bound { length (I.items source.now) < 2 ^ 64 }
+        requires lanes { count ≤ 1024 }
+        ensures items { take (position + count) (I.items source.now) ≡ take position (I.items source.now) ++ self.new.items }
+        ensures ending { self.new.ending ≡ End.Done }
+    {
+        let live = count as usize;
+        list_items(source, position, live, &mut self.origins, &mut self.values);
+        self.live = live;
+        self.start = None;
+        self.end = End::Done;
+    }
+
+    /// How the walk ends after the items.
+    pub(crate) fn end(&self) -> End
+        ensures { result ≡ self.now.ending }
+    {
+        self.end
+    }
+}
+
+impl SourceItems for Batch {
+    ghost items = { λ batch. batch.items };
+
+    fn count(&self) -> u64 {
+        self.live as u64
+    }
+
+    fn item_at(&self, position: u64) -> Item {
+        let lane = position as usize;
+        Item {
+            origin: origin_of(self.start, &self.origins, lane),
+            value: value_of(&self.values, lane),
+        }
+    }
+}
+
+/// The items of a source from a position on, lane by lane.
+fn list_items<I: SourceItems>(
+    source: &I,
+    position: u64,
+    count: usize,
+    origins: &mut [u64],
+    values: &mut [i64],
+)
+    requires within { position + count ≤ length (I.items source.now) }
+    requires bound { length (I.items source.now) < 2 ^ 64 }
+    requires origins { count ≤ length origins.old }
+    requires values { count ≤ length values.old }
+    ensures { (k : ℕ) → k < count → slice_get (I.items source.now) (position + k) ≡ Some (item_at None origins.new values.new k) }
+{
+    for lane in 0..count {
+        let item = source.item_at(position + lane as u64);
+        origins[lane] = item.origin;
+        values[lane] = item.value;
+    }
+}

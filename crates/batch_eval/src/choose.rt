@@ -1,0 +1,81 @@
+//! Lanes by their flags: those of one kind in a register of their own, and two such registers as one again.
+
+ghost use Rattle.batch_eval.specs.Batches.{wanted, wants};
+ghost use Rattle.batch_eval.specs.Lanes.{Reaches, at};
+ghost use Rattle.lambda_expr.specs.declared.fault.FaultKind.{FaultKind};
+ghost use Rattle.std.specs.Prelude.{◌≡◌, ℕ, ℤ, ◌<◌, ◌≤◌, Result, false, length, slice_index, true};
+
+use crate::flag::is_set;
+use crate::reached::{Reached, all};
+
+/// Whether a flag is as it is wanted.
+fn is_wanted(flag: i64, kind: bool) -> bool
+    ensures { result ≡ wants kind flag }
+{
+    if kind { flag != 0 } else { flag == 0 }
+}
+
+/// The numbers of the lanes whose flag is as it is wanted, one after the other, and how many they are.
+pub(crate) fn gather(flags: &[i64], kind: bool, live: usize, xs: &[i64], out: &mut [i64]) -> usize
+    requires flags { live ≤ length flags.now }
+    requires xs { live ≤ length xs.now }
+    requires out { live ≤ length out.old }
+    ensures count { result ≡ length (wanted kind flags.now live) }
+    ensures within { result ≤ live }
+    ensures values { (j : ℕ) → j < result → at out.new j ≡ at xs.now (slice_index (wanted kind flags.now live) j) }
+{
+    let mut kept = 0;
+    for i in 0..live {
+        out[kept] = xs[i];
+        if is_wanted(flags[i], kind) {
+            kept += 1;
+        }
+    }
+    kept
+}
+
+/// What was reached at the lanes whose flag is set, and what at the others, as one column, up to the
+/// first lane that has no value.
+pub(crate) fn merge(
+    flags: &[i64],
+    live: usize,
+    ones: &[i64],
+    first: Reached,
+    others: &[i64],
+    second: Reached,
+    out: &mut [i64],
+) -> Reached
+    requires flags { live ≤ length flags.now }
+    requires ones { first.live ≤ length ones.now }
+    requires others { second.live ≤ length others.now }
+    requires out { live ≤ length out.old }
+    ensures { (f : ℕ → Result ℤ FaultKind)
+        → Reaches (λ j. f (slice_index (wanted true flags.now live) j)) (at ones.now) (length (wanted true flags.now live)) first
+        → Reaches (λ j. f (slice_index (wanted false flags.now live) j)) (at others.now) (length (wanted false flags.now live)) second
+        → Reaches f (at out.new) live result }
+{
+    let mut y = 0;
+    let mut n = 0;
+    for i in 0..live {
+        if is_set(flags[i]) {
+            if y == first.live {
+                return Reached {
+                    live: i,
+                    fault: first.fault,
+                };
+            }
+            out[i] = ones[y];
+            y += 1;
+        } else {
+            if n == second.live {
+                return Reached {
+                    live: i,
+                    fault: second.fault,
+                };
+            }
+            out[i] = others[n];
+            n += 1;
+        }
+    }
+    all(live)
+}

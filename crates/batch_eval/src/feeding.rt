@@ -1,0 +1,231 @@
+//! The items of a source in batches, through the stages and into a sink.
+
+ghost use Rattle.batch_eval.specs.Batches.{fed_of};
+ghost use Rattle.batch_eval.specs.Rooms.{FitsStages};
+ghost use Rattle.std.specs.Prelude.{◌≡◌, ◌+◌, ◌<◌, ◌≤◌, ◌^◌, List, Ok, OnErr, length, take};
+ghost use Rattle.trace.specs.Sinks.{IsFed, flow_after};
+ghost use Rattle.trace.specs.Stages.{pipe, stages_of};
+ghost use Rattle.trace.specs.Trace.{trace};
+ghost use Rattle.trace.specs.declared.feeding.Fed.TheVariants as fed;
+ghost use Rattle.trace.specs.declared.item.End.TheVariants as end;
+ghost use Rattle.trace.specs.declared.item.Item.{Item};
+
+use crate::batch::Batch;
+use crate::register::LANES;
+use crate::room::stages_fit;
+use lambda_expr::Env;
+use std::alloc::Global;
+use trace::{End, Fed, Flow, LongSink, NoMemory, SourceItems, Stage, feed_all};
+
+/// How many registers an expression may take while it is evaluated.
+const ROOM: usize = 32 * LANES;
+
+/// The first batch of a walk. Each further one is four times as large, up to 1,024 items, so that a
+/// sink that soon has enough doesn't pay for a large one.
+const FIRST_BATCH: u64 = 16;
+
+/// Registers for batches of up to 1,024 items: 280 KB.
+///
+/// A worker makes them once and uses them for each walk. They keep nothing from one walk to the next.
+#[derive(Drop)]
+pub struct Registers {
+    batch: Batch,
+    room: Vec<i64>,
+}
+
+impl Registers {
+    /// Registers for one worker at a time.
+    pub fn new(alloc: Global) -> Result<Registers, NoMemory> {
+        Ok(Registers {
+            batch: Batch::new(alloc)?,
+            room: vec![in alloc; 0i64; ROOM]?,
+        })
+    }
+}
+
+/// Takes the items of a source through all stages and into a sink, a batch at a time.
+///
+/// The sink gets what `feed_all` of `trace` gives it. Each operator of a stage goes over a whole batch
+/// before the next one, so lambdas may be evaluated at up to one batch of items more than decide the
+/// result. Expressions that need more than 32 registers, and what comes after a `flatMap`, are
+/// evaluated item by item. It allocates nothing itself; `NoMemory` comes from the sink, which then
+/// keeps what it has accepted before.
+pub fn feed_batches<I: SourceItems, S: LongSink>(
+    stages: &[Stage],
+    first_stage: u32,
+    env: &Env,
+    source: &I,
+    registers: &mut Registers,
+    sink: &mut S,
+) -> Result<Fed, NoMemory>
+    requires numbered { first_stage + length stages.now < 2 ^ 32 }
+    requires wants { S.flow sink.old ≡ Flow.More }
+    ensures fed { (xs : List Item) → S.has_taken sink.old xs → IsFed S.has_taken xs
+        (pipe first_stage (stages_of stages.now) env.now (trace (I.items source.now) end.Done)) result sink.new }
+    ensures flow { S.flow sink.new ≡ flow_after result }
+    ensures refused { OnErr result S.takes_memory }
+{
+    if !stages_fit(stages, registers.room.len()) {
+        return feed_all(stages, first_stage, env, source, sink);
+    }
+    feed_pieces(
+        stages,
+        first_stage,
+        env,
+        source,
+        &mut registers.batch,
+        &mut registers.room,
+        sink,
+    )
+}
+
+/// The same of stages that the room is enough for.
+fn feed_pieces<I: SourceItems, S: LongSink>(
+    stages: &[Stage],
+    first_stage: u32,
+    env: &Env,
+    source: &I,
+    batch: &mut Batch,
+    room: &mut [i64],
+    sink: &mut S,
+) -> Result<Fed, NoMemory>
+    requires numbered { first_stage + length stages.now < 2 ^ 32 }
+    requires wants { S.flow sink.old ≡ Flow.More }
+    requires room { FitsStages (stages_of stages.now) (length room.old) }
+    ensures fed { (xs : List Item) → S.has_taken sink.old xs → IsFed S.has_taken xs
+        (pipe first_stage (stages_of stages.now) env.now (trace (I.items source.now) end.Done)) result sink.new }
+    ensures flow { S.flow sink.new ≡ flow_after result }
+    ensures refused { OnErr result S.takes_memory }
+{
+    let count = source.count();
+    let mut position = 0;
+    let mut size = FIRST_BATCH;
+    while position < count {
+        let taken = size.min(count - position);
+        match feed_piece(
+            stages,
+            first_stage,
+            env,
+            source,
+            position,
+            taken,
+            batch,
+            room,
+            sink,
+        )? {
+            Fed::More => {}
+            ended => return Ok(ended),
+        }
+        position += taken;
+        size = (size * 4).min(LANES as u64);
+    }
+    Ok(Fed::More)
+}
+
+/// Takes the items of a source from a position on, up to 1,024 of them.
+fn feed_piece<I: SourceItems, S: LongSink>(
+    stages: &[Stage],
+    first_stage: u32,
+    env: &Env,
+    source: &I,
+    position: u64,
+    count: u64,
+    batch: &mut Batch,
+    room: &mut [i64],
+    sink: &mut S,
+) -> Result<Fed, NoMemory>
+    requires numbered { first_stage + length stages.now < 2 ^ 32 }
+    requires wants { S.flow sink.old ≡ Flow.More }
+    requires room { FitsStages (stages_of stages.now) (length room.old) }
+    requires lanes { count ≤ 1024 }
+    requires within { position + count ≤ length (I.items source.now) }
+    requires bound { length (I.items source.now) < 2 ^ 64 }
+    ensures fed { (xs : List Item)
+        → IsFed S.has_taken xs (pipe first_stage (stages_of stages.now) env.now (trace (take position (I.items source.now)) end.Done)) (Ok fed.More) sink.old
+        → IsFed S.has_taken xs (pipe first_stage (stages_of stages.now) env.now (trace (take (position + count) (I.items source.now)) end.Done)) result sink.new }
+    ensures flow { S.flow sink.new ≡ flow_after result }
+    ensures refused { OnErr result S.takes_memory }
+{
+    batch.fill(source, position, count);
+    feed_batch(stages, first_stage, env, batch, room, sink)
+}
+
+/// Takes a batch through all stages, and gives the sink what comes out.
+fn feed_batch<S: LongSink>(
+    stages: &[Stage],
+    first_stage: u32,
+    env: &Env,
+    batch: &mut Batch,
+    room: &mut [i64],
+    sink: &mut S,
+) -> Result<Fed, NoMemory>
+    requires numbered { first_stage + length stages.now < 2 ^ 32 }
+    requires wants { S.flow sink.old ≡ Flow.More }
+    requires room { FitsStages (stages_of stages.now) (length room.old) }
+    ensures fed { (xs : List Item) → S.has_taken sink.old xs → IsFed S.has_taken xs
+        (pipe first_stage (stages_of stages.now) env.now batch.old) result sink.new }
+    ensures flow { S.flow sink.new ≡ flow_after result }
+    ensures refused { OnErr result S.takes_memory }
+{
+    let Some((stage, later)) = stages.split_first() else {
+        return give(batch, sink);
+    };
+    match stage {
+        Stage::Map(image) => {
+            batch.map(image, first_stage, env, room);
+            feed_batch(later, first_stage + 1, env, batch, room, sink)
+        }
+        Stage::Filter(test) => {
+            batch.filter(test, first_stage, env, room);
+            feed_batch(later, first_stage + 1, env, batch, room, sink)
+        }
+        Stage::FlatMap(_) => feed_lanes(stages, first_stage, env, batch, sink),
+    }
+}
+
+/// Takes the items of a batch through all stages one after the other.
+fn feed_lanes<S: LongSink>(
+    stages: &[Stage],
+    first_stage: u32,
+    env: &Env,
+    batch: &Batch,
+    sink: &mut S,
+) -> Result<Fed, NoMemory>
+    requires numbered { first_stage + length stages.now < 2 ^ 32 }
+    requires wants { S.flow sink.old ≡ Flow.More }
+    ensures fed { (xs : List Item) → S.has_taken sink.old xs → IsFed S.has_taken xs
+        (pipe first_stage (stages_of stages.now) env.now batch.now) result sink.new }
+    ensures flow { S.flow sink.new ≡ flow_after result }
+    ensures refused { OnErr result S.takes_memory }
+{
+    match feed_all(stages, first_stage, env, batch, sink)? {
+        Fed::More => Ok(fed_by(batch.end())),
+        stopped => Ok(stopped),
+    }
+}
+
+/// Gives the sink the items of a batch one after the other.
+fn give<S: LongSink>(batch: &Batch, sink: &mut S) -> Result<Fed, NoMemory>
+    requires wants { S.flow sink.old ≡ Flow.More }
+    ensures fed { (xs : List Item) → S.has_taken sink.old xs → IsFed S.has_taken xs batch.now result sink.new }
+    ensures flow { S.flow sink.new ≡ flow_after result }
+    ensures refused { OnErr result S.takes_memory }
+{
+    for position in 0..batch.count() {
+        match sink.accept(batch.item_at(position))? {
+            Flow::More => {}
+            Flow::Enough => return Ok(Fed::Enough),
+        }
+    }
+    Ok(fed_by(batch.end()))
+}
+
+/// What becomes of items after which the walk ends so.
+fn fed_by(end: End) -> Fed
+    ensures { result ≡ fed_of end }
+{
+    match end {
+        End::Done => Fed::More,
+        End::Fault(fault) => Fed::Fault(fault),
+    }
+}

@@ -1,0 +1,44 @@
+//! How far a step over lanes came.
+
+ghost use Rattle.batch_eval.specs.Lanes.{after};
+ghost use Rattle.std.specs.Prelude.{◌≡◌, None};
+
+use lambda_expr::FaultKind;
+
+/// How many lanes have a value, and the fault of the lane after them, if it has one.
+#[derive(Clone, Copy)]
+pub(crate) struct Reached {
+    pub(crate) live: usize,
+    pub(crate) fault: Option<FaultKind>,
+}
+
+/// Where a left operand is: in the register that the result goes to, in that of the items, or
+/// nowhere, as it is one number.
+#[derive(Clone, Copy)]
+pub(crate) enum Left {
+    Out,
+    Item,
+    Number(i64),
+}
+
+/// All lanes.
+pub(crate) fn all(live: usize) -> Reached
+    ensures { result ≡ record { live = live; fault = None } }
+{
+    Reached { live, fault: None }
+}
+
+impl Reached {
+    /// What two steps came to, of which this is the later: its fault is at an earlier lane.
+    pub(crate) fn after(self, earlier: Reached) -> Reached
+        ensures { result ≡ after self earlier }
+    {
+        Reached {
+            live: self.live,
+            fault: match self.fault {
+                Some(kind) => Some(kind),
+                None => earlier.fault,
+            },
+        }
+    }
+}

@@ -1,0 +1,72 @@
+//! Whether the room for registers is enough for an expression.
+
+ghost use Rattle.batch_eval.specs.Rooms.{Fits, FitsBoth, FitsStages, FitsTest};
+ghost use Rattle.lambda_expr.specs.Term.{long_of, truth_of};
+ghost use Rattle.std.specs.Prelude.{IsTrue};
+ghost use Rattle.trace.specs.Stages.{stages_of};
+
+use crate::register::LANES;
+use lambda_expr::{BoolExpr, LongExpr};
+use trace::Stage;
+
+/// Whether room of this length is enough for an expression.
+#[cycle(fits)]
+fn fits(expr: &LongExpr, room: usize) -> bool
+    ensures { IsTrue result → Fits (long_of expr.now) room }
+{
+    match expr {
+        LongExpr::Number(_) | LongExpr::Parameter(_) | LongExpr::Reference(_) => true,
+        LongExpr::Unary(_, operand) => fits(operand, room),
+        LongExpr::Binary(_, a, b) => both_fit(a, b, room),
+        LongExpr::Choose(condition, a, b) => {
+            room >= 4 * LANES
+                && test_fits(condition, room - LANES)
+                && fits(a, room - 4 * LANES)
+                && fits(b, room - 4 * LANES)
+        }
+    }
+}
+
+/// Whether it is enough for two operands.
+#[cycle(fits)]
+fn both_fit(a: &LongExpr, b: &LongExpr, room: usize) -> bool
+    ensures { IsTrue result → FitsBoth (long_of a.now) (long_of b.now) room }
+{
+    fits(a, room) && room >= LANES && fits(b, room - LANES)
+}
+
+/// Whether it is enough for a test.
+#[cycle(fits)]
+fn test_fits(test: &BoolExpr, room: usize) -> bool
+    ensures { IsTrue result → FitsTest (truth_of test.now) room }
+{
+    match test {
+        BoolExpr::Literal(_) => true,
+        BoolExpr::Compare(_, a, b) => both_fit(a, b, room),
+        BoolExpr::Not(operand) => test_fits(operand, room),
+        BoolExpr::Connect(_, a, b) => {
+            room >= 4 * LANES && test_fits(a, room - LANES) && test_fits(b, room - 4 * LANES)
+        }
+        BoolExpr::Choose(condition, a, b) => {
+            room >= 4 * LANES
+                && test_fits(condition, room - LANES)
+                && test_fits(a, room - 4 * LANES)
+                && test_fits(b, room - 4 * LANES)
+        }
+    }
+}
+
+/// Whether it is enough for each of these stages.
+pub(crate) fn stages_fit(stages: &[Stage], room: usize) -> bool
+    ensures { IsTrue result → FitsStages (stages_of stages.now) room }
+{
+    let Some((stage, later)) = stages.split_first() else {
+        return true;
+    };
+    let here = match stage {
+        Stage::Map(image) => fits(image, room),
+        Stage::Filter(test) => test_fits(test, room),
+        Stage::FlatMap(_) => true,
+    };
+    here && stages_fit(later, room)
+}

@@ -1,0 +1,251 @@
+//! Walks by batches against walks item by item, and with faults that were placed by hand.
+ghost use Rattle.std.specs.Prelude.{◌≡◌, ◌+◌, ◌<◌, ◌^◌, ⊤, length, if◌then◌else◌, ◌==◌};
+ghost use Rattle.trace.specs.declared.sink.Flow.TheVariants as flow;
+
+use batch_eval::{Registers, feed_batches};
+use lambda_expr::{Body, Env, FaultKind, InnerExpr, LongExpr, Want, read_lambda};
+use std::alloc::{AllocError, Global};
+use std::test::Fail;
+use trace::{Fault, Fed, Flow, Item, LongSink, NoMemory, RangeItems, Stage, feed_all};
+
+/// Images and tests, each operator at least once; divisors and exact operations that fault at some of
+/// the values from -8 to 7.
+const IMAGES: &str =
+    "x -> x + 1; x -> 3 - x; x -> x * x * 5; x -> 7 / x; x -> x % (x - 5); x -> x << 60 >> x; \
+    x -> x >>> 60; x -> (x & 6) ^ (x | 9); x -> Math.min(x, 3) - Math.max(-x, 2); x -> Math.floorDiv(7, x + 8); \
+    x -> Math.floorMod(-7, x); x -> Math.addExact(x, 9223372036854775802L); x -> Math.subtractExact(-9, x << 60); \
+    x -> Math.multiplyExact(x << 59, 3); x -> -x; x -> ~x; x -> Math.abs(x); x -> Math.negateExact(x << 60); \
+    x -> x > 2 ? 10 / (x - 4) : 10 / (x + 6); x -> x < 0 ? x : x == 3 ? 1 / (x - 3) : 8; x -> (x + 2) * (x - 1) * (x + x); x -> 4";
+
+const TESTS: &str =
+    "x -> x > -2; x -> x % 2 == 0; x -> x != 0 && 12 / x > 2; x -> x == 0 || 12 / x < 3; x -> !(x <= 1); \
+    x -> 5 / x >= 1; x -> x < 0 ? x < -4 : 6 / (x - 3) != 2; x -> true; x -> x == 1 || x > 2 && 9 / (x - 5) < 0";
+
+/// The items that came, in order.
+#[derive(Drop)]
+struct Items {
+    items: Vec<Item>,
+}
+
+impl LongSink for Items {
+    ghost has_taken = { λ sink items. sink.items.items ≡ items };
+
+    ghost flow = { λ _. flow.More };
+
+    ghost takes_memory = { ⊤ };
+
+    fn accept(&mut self, item: Item) -> Result<Flow, NoMemory> {
+        self.items.push(item)?;
+        Ok(Flow::More)
+    }
+}
+
+const fn division_by_zero(stage: u32, origin: u64) -> Fault {
+    Fault {
+        kind: FaultKind::DivideByZero,
+        stage,
+        origin: Some(origin),
+    }
+}
+
+/// The values at the places 0, 1, 2 and so on.
+fn items_of(alloc: Global, values: &[i64]) -> Result<Vec<Item>, NoMemory> {
+    (0..)
+        .zip(values)
+        .map(|(origin, value)| Item {
+            origin,
+            value: *value,
+        })
+        .collect(alloc)
+}
+
+/// `map` or `filter` by a lambda.
+fn stage(alloc: Global, text: &str, want: Want) -> Result<Stage, NoMemory> {
+    match read_lambda(alloc, text.trim().as_bytes(), want) {
+        Ok(lambda) => match lambda.body {
+            Body::Long(image) => Ok(Stage::Map(image)),
+            Body::Bool(test) => Ok(Stage::Filter(test)),
+            _ => Err(AllocError),
+        },
+        Err(_) => Err(AllocError),
+    }
+}
+
+/// The next one of a row of numbers without a pattern.
+fn next(seed: u64) -> u64 {
+    seed.wrapping_mul(6364136223846793005)
+        .wrapping_add(1442695040888963407)
+}
+
+/// One of the stages of both tables.
+fn any_stage(alloc: Global, seed: u64) -> Result<Stage, NoMemory> {
+    let pick = (seed >> 33) as usize;
+    if pick % 3 == 0 {
+        let at = pick / 3 % 9;
+        stage(alloc, TESTS.split(';').nth(at).unwrap_or(""), Want::Bool)
+    } else {
+        let at = pick / 3 % 22;
+        stage(alloc, IMAGES.split(';').nth(at).unwrap_or(""), Want::Long)
+    }
+}
+
+/// Values from -8 to 7, `count` of them.
+fn any_values(alloc: Global, seed: u64, count: u64) -> Result<Vec<i64>, NoMemory> {
+    let mut values = Vec::new(alloc);
+    let mut seed = seed;
+    for _ in 0..count {
+        seed = next(seed);
+        values.push((seed >> 60) as i64 - 8)?;
+    }
+    Ok(values)
+}
+
+/// Whether both ways give the same items and the same end.
+fn agree(
+    alloc: Global,
+    stages: &[Stage],
+    items: &Vec<Item>,
+    registers: &mut Registers,
+) -> Result<bool, NoMemory>
+    requires { 1 + length stages.now < 2 ^ 32 }
+{
+    let env = Env::empty(alloc);
+    let mut expected = Items {
+        items: Vec::new(alloc),
+    };
+    let end = feed_all(stages, 1, &env, items, &mut expected)?;
+    let mut found = Items {
+        items: Vec::new(alloc),
+    };
+    let found_end = feed_batches(stages, 1, &env, items, registers, &mut found)?;
+    Ok(found_end == end && found.items.as_slice() == expected.items.as_slice())
+}
+
+#[test]
+fn batches_give_what_a_walk_item_by_item_gives(rt: HostRuntime) -> Result<(), Fail> {
+    let alloc = rt.alloc();
+    let mut registers = Registers::new(alloc)?;
+    let mut seed = 2026;
+    for size in [0, 1, 2, 15, 16, 17, 79, 80, 81, 336, 1359, 1360, 1361, 2384] {
+        for _ in 0..30 {
+            seed = next(seed);
+            let items = items_of(alloc, &any_values(alloc, seed, size)?)?;
+            let stages = [
+                any_stage(alloc, next(seed + 1))?,
+                any_stage(alloc, next(seed + 2))?,
+                any_stage(alloc, next(seed + 3))?,
+            ];
+            assert!(rt;
+                agree(alloc, &stages, &items, &mut registers)?,
+                "{seed}, {size}"
+            );
+        }
+    }
+    Ok(())
+}
+
+/// The values 1, but for a 0 at one place.
+fn ones_and_a_zero(alloc: Global, count: u64, place: u64) -> Result<Vec<i64>, NoMemory> {
+    (0..count)
+        .map(|at| if at == place { 0 } else { 1 })
+        .collect(alloc)
+}
+
+#[test]
+fn a_fault_is_met_at_its_place_and_later_ones_never(rt: HostRuntime) -> Result<(), Fail> {
+    let alloc = rt.alloc();
+    let env = Env::empty(alloc);
+    let mut registers = Registers::new(alloc)?;
+    let stages = [
+        stage(alloc, "x -> x + 1", Want::Long)?,
+        stage(alloc, "x -> 6 / (x - 1)", Want::Long)?,
+    ];
+    for place in [
+        0, 1, 14, 15, 16, 17, 78, 79, 80, 335, 336, 1359, 1360, 1361, 1999,
+    ] {
+        let items = items_of(alloc, &ones_and_a_zero(alloc, 2000, place)?)?;
+        let mut sink = Items {
+            items: Vec::new(alloc),
+        };
+        let fed = feed_batches(&stages, 1, &env, &items, &mut registers, &mut sink)?;
+        assert!(rt; fed == Fed::Fault(division_by_zero(2, place)), "{place}");
+        assert!(rt; sink.items.len() as u64 == place, "{place}");
+    }
+    Ok(())
+}
+
+#[test]
+fn an_earlier_item_s_later_fault_comes_first(rt: HostRuntime) -> Result<(), Fail> {
+    let alloc = rt.alloc();
+    let env = Env::empty(alloc);
+    let mut registers = Registers::new(alloc)?;
+    let stages = [
+        stage(alloc, "x -> 6 / x", Want::Long)?,
+        stage(alloc, "x -> 1 / (x - 2) > 0", Want::Bool)?,
+    ];
+    let items = items_of(alloc, &[1, 2, 3, 0])?;
+    let mut sink = Items {
+        items: Vec::new(alloc),
+    };
+    let fed = feed_batches(&stages, 1, &env, &items, &mut registers, &mut sink)?;
+    assert!(rt; fed == Fed::Fault(division_by_zero(2, 2)) && sink.items.len() == 1);
+    Ok(())
+}
+
+/// A sink that takes some items and then has enough, or no memory.
+#[derive(Drop)]
+struct Few {
+    taken: u64,
+    all: u64,
+    room: u64,
+}
+
+impl LongSink for Few {
+    ghost has_taken = { λ sink items. ⊤ };
+
+    ghost flow = { λ sink. if sink.taken == sink.all then flow.Enough else flow.More };
+
+    ghost takes_memory = { ⊤ };
+
+    fn accept(&mut self, _: Item) -> Result<Flow, NoMemory> {
+        if self.taken >= self.room {
+            return Err(AllocError);
+        }
+        self.taken += 1;
+        Ok(if self.taken == self.all {
+            Flow::Enough
+        } else {
+            Flow::More
+        })
+    }
+}
+
+#[test]
+fn a_sink_that_has_enough_or_no_memory_ends_the_walk(rt: HostRuntime) -> Result<(), Fail> {
+    let alloc = rt.alloc();
+    let env = Env::empty(alloc);
+    let mut registers = Registers::new(alloc)?;
+    let stages = [
+        stage(alloc, "x -> x % 2 == 0", Want::Bool)?,
+        Stage::FlatMap(InnerExpr::Range(LongExpr::Number(0), LongExpr::Number(3))),
+    ];
+    let Some(source) = RangeItems::between(0, 1 << 62) else {
+        return Err(AllocError.into());
+    };
+    for (all, room, answer, taken) in [
+        (1, 9, Ok(Fed::Enough), 1),
+        (1000, 5000, Ok(Fed::Enough), 1000),
+        (3, 2, Err(AllocError), 2),
+        (5000, 3500, Err(AllocError), 3500),
+    ] {
+        assert!(rt; all != 0);
+        let mut sink = Few {
+            taken: 0,
+            all,
+            room,
+        };
+        let found = feed_batches(&stages, 1, &env, &source, &mut registers, &mut sink);
+        assert!(rt; found == answer && sink.taken == taken, "{all}, {room}");
+    }
+    Ok(())
+}
