@@ -1,5 +1,6 @@
 -- Lemmas of the callers in the tests.
-pub mod Uses
-pub mod TreeUses
-pub mod WalkParts
-pub mod PathsAbove
+pub mod CountingLemmas
+pub mod PairLemmas
+pub mod RandomTreeLemmas
+pub mod WalkLemmas
+pub mod PathAboveLemmas

@@ -1,5 +1,5 @@
 //! Callers of the counts, proved and run.
-ghost use Rattle.std.specs.Prelude.{◌≡◌, ◌<◌, ◌≤◌, None};
+ghost use Rattle.std.specs.Prelude.{◌≡◌, ◌<◌, ◌≤◌, None, IfSome};
 ghost use Rattle.completion_core.specs.Legal.{count};
 ghost use Rattle.pending_count.specs.Views.{IsPlainAt, first_view};
 ghost use Rattle.std.specs.Thread.{IsSync};
@@ -112,7 +112,24 @@ fn one_arrival(counts: &Plain, seat: PlainSeat, node: Node) -> Option<u64>
     }
 }
 
-// A node with three arrivals, each made by a thread of its own.
+// A node with three arrivals, each with a seat of its own.
+fn three_parts(counts: &Plain, seat: PlainSeat) -> Option<(Node, PlainSeat, PlainSeat, PlainSeat)>
+    requires table { IsSeatOf counts.now seat }
+    requires first { view_of seat ≡ first_view 0 }
+    ensures table { IfSome result (λ p. IsSeatOf counts.now p.1 × IsSeatOf counts.now p.2 × IsSeatOf counts.now p.3) }
+    ensures node { IfSome result (λ p. 0 < p.0) }
+    ensures have { IfSome result (λ p. (0 < count p.0 (view_of p.1).held) × (0 < count p.0 (view_of p.2).held) × (0 < count p.0 (view_of p.3).held)) }
+    ensures plain { IfSome result (λ p. IsPlainAt p.0 (view_of p.1) × IsPlainAt p.0 (view_of p.2) × IsPlainAt p.0 (view_of p.3)) }
+{
+    let (seat, drawn) = counts.claim(seat);
+    let node = drawn?;
+    let seat = counts.arm(seat, node, 2, &[]);
+    let (first, rest) = counts.split(seat, node, 2, 0);
+    let (second, third) = counts.split(rest, node, 1, 0);
+    Some((node, first, second, third))
+}
+
+// Its three arrivals, each made by a thread of its own.
 fn on_three_threads<R: Threads + Sync>(
     rt: &R,
     counts: &Plain,
@@ -121,11 +138,7 @@ fn on_three_threads<R: Threads + Sync>(
     requires table { IsSeatOf counts.now seat }
     requires first { view_of seat ≡ first_view 0 }
 {
-    let (seat, drawn) = counts.claim(seat);
-    let node = drawn?;
-    let seat = counts.arm(seat, node, 2, &[]);
-    let (first, rest) = counts.split(seat, node, 2, 0);
-    let (second, third) = counts.split(rest, node, 1, 0);
+    let (node, first, second, third) = three_parts(counts, seat)?;
     let (one, (two, three)) = thread::join(
         rt,
         move || -> Option<u64>
@@ -146,51 +159,6 @@ fn on_three_threads<R: Threads + Sync>(
         },
     );
     Some([one, two, three])
-}
-
-/// What the pair keeps in these tests: it has a tag, and no place.
-#[derive(Drop)]
-struct Top {
-    tag: u64,
-}
-
-impl<V> Fits<V> for Top {
-    type Tag = u64;
-
-    ghost fits = { λ _ _ _. Unit {0} };
-
-    ghost tag_of = { λ k. k.tag };
-
-    ghost place_of = { λ _. None };
-
-    fn tag(&self) -> u64 {
-        self.tag
-    }
-
-    fn place(&self) -> Option<Place<u64>> {
-        None
-    }
-}
-
-type Pairs<V> = Counts<V, Top>;
-
-type PairSeat<V> = Seat<V, Top>;
-
-// A plain node that is drawn while both sides of a pair are held, and its one arrival.
-fn beside_a_pair(counts: &Pairs<()>, seat: PairSeat<()>) -> Option<[Node; 2]>
-    requires table { IsSeatOf counts.now seat }
-    requires first { view_of seat ≡ first_view 0 }
-{
-    let (seat, drawn) = counts.claim(seat);
-    let pair = drawn?;
-    let seat = counts.arm_pair(seat, pair, &[], Top { tag: 5 });
-    let (seat, drawn) = counts.claim(seat);
-    let node = drawn?;
-    let seat = counts.arm(seat, node, 0, &[]);
-    match counts.arrive(seat, node) {
-        Arrived::Pending(_seat, _pending) => None,
-        Arrived::Last(_seat, finish) => Some([pair, finish.node()]),
-    }
 }
 
 #[test]
@@ -218,12 +186,5 @@ fn three_threads_answer_one_after_the_other(rt: HostRuntime) -> Result<(), Fail>
     for want in [Some(1), Some(0), None] {
         assert!(rt; found.iter().filter(|&&answer| answer == want).count() == 1);
     }
-    Ok(())
-}
-
-#[test]
-fn a_plain_node_is_drawn_beside_a_pair(rt: HostRuntime) -> Result<(), Fail> {
-    let (counts, seat) = Pairs::<()>::new(rt.alloc(), 2, 0)?;
-    assert!(rt; beside_a_pair(&counts, seat) == Some([1, 2]));
     Ok(())
 }

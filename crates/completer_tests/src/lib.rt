@@ -7,6 +7,8 @@ pub mod cut;
 #[cfg(test)]
 mod machine;
 #[cfg(test)]
+mod pairs;
+#[cfg(test)]
 mod paths;
 #[cfg(test)]
 mod random_tree;

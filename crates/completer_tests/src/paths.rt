@@ -5,7 +5,7 @@ ghost use Rattle.pending_count.specs.Seats.{view_of, IsSeatOf};
 ghost use Rattle.completer_tree.specs.Paths.{IsPath};
 
 use crate::counting::{Plain, PlainSeat};
-use completer_tree::propagate_completion;
+use completer_tree::Tree;
 use pending_count::Node;
 use std::test::Fail;
 
@@ -44,7 +44,8 @@ fn finished(counts: &Plain, seat: PlainSeat, pending: [u32; 3]) -> Option<usize>
     let (seat, top) = arm_above(counts, seat, &[], third)?;
     let (seat, middle) = arm_above(counts, seat, &[top], second)?;
     let (seat, leaf) = arm_above(counts, seat, &[middle, top], first)?;
-    let (_seat, finished) = propagate_completion(counts, seat, &[leaf, middle, top]);
+    let tree = Tree::new(counts, &[]);
+    let (_seat, finished) = tree.propagate_completion(seat, &[leaf, middle, top]);
     Some(finished)
 }
 
@@ -63,6 +64,6 @@ fn propagation_stops_at_a_node_that_is_still_pending(rt: HostRuntime) -> Result<
         );
     }
     let (counts, seat) = Plain::new(rt.alloc(), 0, 0)?;
-    assert!(rt; propagate_completion(&counts, seat, &[]).1 == 0);
+    assert!(rt; Tree::new(&counts, &[]).propagate_completion(seat, &[]).1 == 0);
     Ok(())
 }

@@ -1,5 +1,5 @@
 -- Lemmas of this crate.
-pub mod Forks
-pub mod Climbs
-pub mod Rooting
-pub mod PathSteps
+pub mod ForkLemmas
+pub mod ClimbLemmas
+pub mod RootLemmas
+pub mod PathLemmas

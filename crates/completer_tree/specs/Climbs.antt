@@ -1,5 +1,5 @@
 -- Condition: what an arrival at a place gives the seat, and what a finisher has to have.
-use Rattle.std.specs.Prelude.{◌≡◌, ℕ, ◌+◌, ◌<◌, [], ◌∷◌, Some, None, ⊤}
+use Rattle.std.specs.Prelude.{◌≡◌, ◌≢◌, ℕ, ◌+◌, ◌<◌, [], ◌∷◌, Some, None, ⊤}
 use Rattle.atomic_table.specs.Seated.{TableId}
 use Rattle.completion_core.specs.Legal.{count}
 use Rattle.completion_core.specs.declared.action.Reply.{Reply}
@@ -51,6 +51,20 @@ module _ {V K T : Type 0} {g : Ghosts K V T} where
   -- the arrival at this place, where n were owed and not made
   abbrev pub IsHandedAt : Counts V K T → Place T → Seat V K T g → ℕ → Seat V K T g → Type 0
   IsHandedAt counts at seat n later = IsHanded g.fits g.tag_of g.place_of (nodes_of counts) (actor_of seat) at.node (slot_of at.node at.side) (view_of seat) n (view_of later)
+
+  -- the arrival at this place was made
+  pub record WasHanded (counts : Counts V K T) (at : Place T) (seat : Seat V K T g) : Type 0 where
+    pub owed : ℕ
+    pub after : View T
+    pub handed : IsHanded g.fits g.tag_of g.place_of (nodes_of counts) (actor_of seat) at.node (slot_of at.node at.side) (view_of seat) owed after
+
+  -- An arrival of the seat's at some place was made, which wasn't the last there, and nothing after it.
+  pub record WasPending (counts : Counts V K T) (seat later : Seat V K T g) : Type 0 where
+    pub place : Place T
+    pub before : View T
+    pub owed : ℕ
+    pub others : owed ≢ 1
+    pub handed : IsHanded g.fits g.tag_of g.place_of (nodes_of counts) (actor_of seat) place.node (slot_of place.node place.side) before owed (view_of later)
 
   -- the seat that comes back, and what is answered, as the machine says it
   abbrev pub first_seat : First V K T g → Seat V K T g

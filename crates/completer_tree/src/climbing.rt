@@ -1,12 +1,12 @@
 //! Values that are handed in at places, and the climb of answers from node to node.
-ghost use Rattle.std.specs.Prelude.{◌≡◌, ◌-◌, ℕ, Some, None, IfSome, Err};
+ghost use Rattle.std.specs.Prelude.{◌≡◌, ◌-◌, ℕ, Some, None, IfSome, IfNone, Err};
 ghost use Rattle.completion_core.specs.Legal.{reply_of_arrival};
 ghost use Rattle.pending_count.specs.Seats.{view_of, IsSameSeat};
 ghost use Rattle.pending_count.specs.declared.place.Side.TheVariants.{Left, Right, Whole};
 ghost use Rattle.completer_tree.specs.Places.{Goes, place_by};
 ghost use Rattle.completer_tree.specs.Roots.{HasKept};
 ghost use Rattle.completer_tree.specs.Trees.{table_id_of, CanHand, RanBy};
-ghost use Rattle.completer_tree.specs.Climbs.{CanFinish, HasArrived, IsHandedAt, IfLast, IfHandedOn, IfNextLast, IfWhole, first_seat, first_reply, next_seat};
+ghost use Rattle.completer_tree.specs.Climbs.{CanFinish, HasArrived, IsHandedAt, WasHanded, WasPending, IfLast, IfHandedOn, IfNextLast, IfWhole, first_seat, first_reply, next_seat};
 
 use crate::completer::Completer;
 use crate::continuation::Continuation;
@@ -135,6 +135,8 @@ impl<'a, T: Part, C: Continuation<T>> Tree<'a, Handed<T>, Completer<T, C>> {
         ensures found { IfSome at (λ p. IfSome result.1 (λ v. T.result p.tag v)) }
         ensures ran { IfSome at (λ p. IfSome result.1 (λ _. RanBy self.now.counts.now seat p.root)) }
         ensures kept { IfSome at (λ p. IfSome result.1 (λ _. HasKept p (view_of seat) (view_of result.0))) }
+        ensures handed { IfSome at (λ p. WasHanded self.now.counts.now p seat) }
+        ensures pending { IfSome at (λ _. IfNone result.1 (WasPending self.now.counts.now seat result.0)) }
     {
         let Some(place) = at else {
             return (seat, Some(value));
@@ -158,6 +160,8 @@ impl<'a, T: Part, C: Continuation<T>> Tree<'a, Handed<T>, Completer<T, C>> {
         ensures found { IfSome at (λ p. IfSome result.1 (λ v. T.result p.tag v)) }
         ensures ran { IfSome at (λ p. IfSome result.1 (λ _. RanBy self.now.counts.now seat p.root)) }
         ensures kept { IfSome at (λ p. IfSome result.1 (λ _. HasKept p (view_of seat) (view_of result.0))) }
+        ensures handed { IfSome at (λ p. WasHanded self.now.counts.now p seat) }
+        ensures pending { IfSome at (λ _. IfNone result.1 (WasPending self.now.counts.now seat result.0)) }
     {
         self.try_complete(seat, at, Err(failure))
     }
@@ -176,6 +180,7 @@ fn climb<T: Part, C: Continuation<T>>(
     ensures ran { IfSome (place_by finisher.finish.kept.parent finisher.finish.kept.root (C.goes_to finisher.finish.kept.run)) (λ p. IfSome result.1 (λ _. RanBy tree.now.counts.now seat p.root)) }
     ensures kept { IfSome (place_by finisher.finish.kept.parent finisher.finish.kept.root (C.goes_to finisher.finish.kept.run)) (λ p. IfSome result.1 (λ _. HasKept p (view_of seat) (view_of result.0))) }
     ensures top { C.goes_to finisher.finish.kept.run ≡ None → result.0 ≡ seat }
+    ensures pending { IfNone result.1 (WasPending tree.now.counts.now seat result.0) }
 {
     match tree.next_complete(seat, finisher) {
         Next::Pending(seat, _pending) => (seat, None),

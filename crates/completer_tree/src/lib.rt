@@ -22,5 +22,4 @@ pub use climbing::{Finisher, First, Next};
 pub use completer::{Completer, place_at};
 pub use continuation::Continuation;
 pub use part::{Failure, Handed, Part};
-pub use path::propagate_completion;
 pub use tree::{CompleterTree, Forked, Half, Tree, TreeCounts, TreeSeat};

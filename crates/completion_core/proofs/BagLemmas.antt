@@ -7,7 +7,7 @@ use Rattle.std.specs.List.Sorted.{IsNonDecreasing}
 use Rattle.std.proofs.lemmas.List.{take_more}
 use Rattle.completion_core.specs.Legal.{only_at, count}
 use Rattle.completion_core.specs.Bags.{HoldsUpTo}
-use Rattle.completion_core.proofs.Totals.{by_bool, total-append, at_here, at_else}
+use Rattle.completion_core.proofs.TotalLemmas.{by_bool, total-append, at_here, at_else}
 
 pub count-take-more : (i : ℕ) (xs : List ℕ) (p : ℕ) → p < length xs → count i (take (p + 1) xs) ≡ count i (take p xs) + only_at i 1 (get_or xs p 0)
 count-take-more i xs p h = ap (count i) (take_more xs p 0 h) ∙ (let e = total-append (only_at i 1) (take p xs) (get_or xs p 0 ∷ []) in omega arith)

@@ -1,5 +1,5 @@
 -- Condition: the seat that an arrival at a pair gives back, and what its last answer contains.
-use Rattle.std.specs.Prelude.{◌≡◌, ℕ, List, ⊤}
+use Rattle.std.specs.Prelude.{◌≡◌, ℕ, Bool, true, false, not, List, ◌∷◌, Option, Some, ⊤}
 use Rattle.completion_core.specs.declared.action.Reply.{Reply}
 use Rattle.completion_core.specs.declared.action.Reply.TheVariants.{Pending, Last}
 use Rattle.pending_count.specs.declared.view.View.{View}
@@ -8,10 +8,25 @@ use Rattle.pending_count.specs.declared.place.Fits.{Ghosts}
 use Rattle.pending_count.specs.declared.seat.Seat.{Seat}
 use Rattle.pending_count.specs.declared.seat.ArrivedPair.{ArrivedPair}
 use Rattle.pending_count.specs.declared.seat.ArrivedPair.TheVariants as handed
-use Rattle.pending_count.specs.Views.{closed_view}
-use Rattle.pending_count.specs.Pairs.{tags_after}
+use Rattle.pending_count.specs.declared.place.Slot.{Slot}
+use Rattle.pending_count.specs.declared.place.Slot.TheVariants.{Value, Kept as KeptValue}
+use Rattle.pending_count.specs.declared.seat.FinishPair.{FinishPair}
+use Rattle.pending_count.specs.Views.{kept_slot, closed_view}
+use Rattle.pending_count.specs.Pairs.{side_slot, tags_after}
 use Rattle.pending_count.specs.PairSteps.{IsKept}
 use Rattle.pending_count.specs.Seats.{view_of}
+
+module _ {V K : Type 0} where
+  -- the slots that a token has after the last arrival: in front the kept value's, then the other side's, then its own
+  pub record HasAll (node : ℕ) (is_left : Bool) (kept : K) (theirs ours : V) (slots : List (ℕ × Option (Slot V K))) : Type 0 where
+    pub more : List (ℕ × Option (Slot V K))
+    pub is : slots ≡ (kept_slot node, Some (KeptValue kept)) ∷ (side_slot node (not is_left), Some (Value theirs)) ∷ (side_slot node is_left, Some (Value ours)) ∷ more
+
+  -- the two values, each on its side, and the kept one
+  pub record IsInOrder (is_left : Bool) (kept : K) (theirs ours : V) (finish : FinishPair V K) : Type 0 where
+    pub same : finish.kept ≡ kept
+    pub left : is_left ≡ true → (finish.left ≡ ours) × (finish.right ≡ theirs)
+    pub right : is_left ≡ false → (finish.left ≡ theirs) × (finish.right ≡ ours)
 
 module _ {V K T : Type 0} {g : Ghosts K V T} where
   -- the seat that an arrival at a pair gives back

@@ -21,16 +21,15 @@ abbrev pub IsPlaced : {K T : Type 0} → (K → Option (Place T)) → K → List
 IsPlaced {T = T} place_of kept onward v = (p : Place T) → place_of kept ≡ Some p → (onward ≡ p.node ∷ []) × HoldsSide p v × (note_of p.node v.tags ≡ Some p.tag)
 
 module _ {V K T : Type 0} (fits : T → Side → V → Type 0) (tag_of : K → T) (place_of : K → Option (Place T)) where
-  -- a node was armed as a pair, with what it keeps for the last of its two arrivals
+  -- a node, whose word was 0, was armed as a pair, with what it keeps for the last of its two arrivals
   pub record IsPaired (nodes actor node : ℕ) (onward : List ℕ) (kept : K) (v w : View T) : Type 0 where
     pub view : w ≡ paired_view node onward (tag_of kept) (noted_place (place_of kept)) v
-    pub found : ℕ
-    pub one_step : OneStep (Option (Slot V K)) nodes node found 2 actor (taken_view (kept_slot node) v) w (Arm actor node 1 onward ∷ []) Done
+    pub one_step : OneStep (Option (Slot V K)) nodes node 0 2 actor (taken_view (kept_slot node) v) w (Arm actor node 1 onward ∷ []) Done
 
   -- What the last arrival at a pair with this tag gets: the kept value has the tag, and the place that it was armed with;
   -- that place is at a smaller node and has the tag that the seat noted, and the node kept the arrival of that place alone.
   pub record IsKept (node : ℕ) (tag : T) (v : View T) (k : K) (kept kept_sides : List ℕ) : Type 0 where
-    pub tells : tag_of k ≡ tag
+    pub same_tag : tag_of k ≡ tag
     pub place : (p : Place T) → place_of k ≡ Some p → ((j : ℕ) → count j kept ≡ count j (p.node ∷ [])) × ((j : ℕ) → count j kept_sides ≡ count j (slot_of p.node p.side ∷ []))
     pub smaller : (p : Place T) → place_of k ≡ Some p → p.node < node
     pub agrees : (p : Place T) → place_of k ≡ Some p → (t : T) → note_of p.node v.tags ≡ Some t → t ≡ p.tag

@@ -11,7 +11,7 @@ use Rattle.pending_count.specs.declared.place.Slot.TheVariants.{Value, Kept as K
 use Rattle.pending_count.specs.Views.{kept_slot, note_of, taken_view, closed_view}
 use Rattle.pending_count.specs.Pairs.{side_slot, side_of, tags_after}
 use Rattle.pending_count.specs.PairSteps.{IsPaired, IsKept, IsHanded}
-use Rattle.pending_count.specs.Steps.{IsClaimed, IsArmed, IsArrived, IsAdded, IsSettled, IsLeft}
+use Rattle.pending_count.specs.Steps.{IsClaimed, IsArmed, IsArrived, IsAdded, IsSettled, IsEndSeen, IsTaken}
 
 module _ {S T : Type 0} (nodes actor : ℕ) where
   -- a step that moves no slot
@@ -31,11 +31,11 @@ module _ {S T : Type 0} (nodes actor : ℕ) where
   settled st m n m' = (m'.1 ≡ m.1) × (m'.0.taken ≡ m.0.taken) × IsSettled S nodes actor m.0 m'.0
 
   abbrev pub looked : Step S → Me S (View T) → ℕ → Me S (View T) → Type 0
-  looked st m n m' = (m'.1 ≡ m.1) × (m'.0.taken ≡ m.0.taken) × IsLeft S nodes actor m.0 n m'.0
+  looked st m n m' = (m'.1 ≡ m.1) × (m'.0.taken ≡ m.0.taken) × IsEndSeen S nodes actor m.0 n m'.0
 
 -- a slot that was empty is out
-abbrev pub took : {S T : Type 0} → ℕ → Step (Option S) → Me (Option S) (View T) → ℕ → Me (Option S) (View T) → Type 0
-took slot st m n m' = (m'.0 ≡ taken_view slot m.0) × (m'.1 ≡ (slot, None) ∷ m.1)
+abbrev pub took : {S T : Type 0} → ℕ → ℕ → ℕ → Step (Option S) → Me (Option S) (View T) → ℕ → Me (Option S) (View T) → Type 0
+took {S = S} nodes actor slot st m n m' = IsTaken (Option S) nodes actor st.word slot m.0 m'.0 × (m'.1 ≡ (slot, None) ∷ m.1)
 
 module _ {V K T : Type 0} (fits : T → Side → V → Type 0) (tag_of : K → T) (place_of : K → Option (Place T)) (nodes actor : ℕ) where
   -- the slot of the kept value went home; v is the view before the slot was taken

@@ -13,7 +13,7 @@ use Rattle.completion_core.specs.Graph.{left, Graph}
 use Rattle.completion_core.specs.Legal.{count, Legal, after, reply, reply_of_arrival}
 use Rattle.completion_core.specs.Runs.{LegalAll, after_all}
 use Rattle.pending_count.specs.declared.view.View.{View}
-use Rattle.pending_count.specs.Views.{blank, InRange, IsPlainAt, note_of, claimed_view, armed_view, arrived_view, finished_view, added_view, looked_view}
+use Rattle.pending_count.specs.Views.{blank, InRange, IsPlainAt, note_of, claimed_view, armed_view, arrived_view, finished_view, added_view, looked_view, taken_view}
 use Rattle.pending_count.specs.Shows.{Shows, IsShown}
 
 -- the first of the actions answers this
@@ -63,11 +63,10 @@ module _ {T : Type 0} where
     pub unplaced : (i : ℕ) (q : Option (ℕ × (ℕ × (ℕ × T)))) → note_of i v.places ≡ Some q → i ≤ n
     pub one_step : OneStep S nodes (nodes + 1) n (n + 1) actor v w (Claim actor ∷ []) (reply_of_claim (drawn_node nodes n))
 
-  -- a node was armed
+  -- a node was armed, whose word was 0
   pub record IsArmed (S : Type 0) (nodes actor node pending : ℕ) (onward : List ℕ) (v w : View T) : Type 0 where
     pub view : w ≡ armed_view node pending onward v
-    pub found : ℕ
-    pub one_step : OneStep S nodes node found (pending + 1) actor v w (Arm actor node pending onward ∷ []) Done
+    pub one_step : OneStep S nodes node 0 (pending + 1) actor v w (Arm actor node pending onward ∷ []) Done
 
   -- an arrival, where n were owed and not made
   pub record IsArrived (S : Type 0) (nodes actor node : ℕ) (v : View T) (n : ℕ) (w : View T) : Type 0 where
@@ -90,11 +89,17 @@ module _ {T : Type 0} where
     pub one_step : OneStep S nodes 0 found (found - 1) actor v w (Settle actor ∷ []) Done
 
   -- a look at END's word, which showed n
-  pub record IsLeft (S : Type 0) (nodes actor : ℕ) (v : View T) (n : ℕ) (w : View T) : Type 0 where
+  pub record IsEndSeen (S : Type 0) (nodes actor : ℕ) (v : View T) (n : ℕ) (w : View T) : Type 0 where
     pub view : w ≡ looked_view n v
     pub enough : count 0 v.held ≤ n
     pub one_step : OneStep S nodes 0 n n actor v w [] Done
     pub all : (g : Graph) → Shows nodes one_step.before g → left (g.arrivals 0) ≡ n
+
+  -- a look at the node's word, at which the seat takes the slot of a value that it brings; no action, and no word changes
+  pub record IsTaken (S : Type 0) (nodes actor node slot : ℕ) (v w : View T) : Type 0 where
+    pub view : w ≡ taken_view slot v
+    pub found : ℕ
+    pub one_step : OneStep S nodes node found found actor v w [] Done
 
   -- A seat is split in two, which changes no word: whatever the table shows, it is Give to the new seat.
   abbrev pub IsSplit : (S : Type 0) → ℕ → ℕ → ℕ → View T → View T → View T → Type 0

@@ -16,5 +16,5 @@ pub struct Counts<V, K: Fits<V>> {
     pub(crate) table: Words<V, K, K::Tag>,
     pub(crate) nodes: Node,
     ghost words: { (table.shared.table_id.words ≡ nodes + 2) × (table.shared.table_id.slots ≡ 3 * (nodes + 1)) },
-    ghost told: { table.shared.key.nodes ≡ nodes },
+    ghost sized: { table.shared.key.nodes ≡ nodes },
 }

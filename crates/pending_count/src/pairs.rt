@@ -1,19 +1,19 @@
 //! Pairs: nodes whose two arrivals bring values, and which keep a value for the last of the two.
 ghost use Rattle.std.specs.Prelude.{◌≡◌, ◌≢◌, ℕ, ◌+◌, ◌-◌, ◌*◌, ◌<◌, ◌≤◌, [], ◌∷◌, true, false, Some, None};
 ghost use Rattle.completion_core.specs.Legal.{count, reply_of_arrival};
-ghost use Rattle.pending_count.specs.Views.{left_slot, right_slot, kept_slot, note_of, rest_view, part_view};
-ghost use Rattle.pending_count.specs.Steps.{IsSplit};
+ghost use Rattle.pending_count.specs.Views.{left_slot, right_slot, kept_slot, note_of, rest_view, part_view, taken_view};
+ghost use Rattle.pending_count.specs.Steps.{IsSplit, IsTaken};
 ghost use Rattle.pending_count.specs.Pairs.{slot_of, side_of, side_slot};
 ghost use Rattle.pending_count.specs.PairSteps.{HoldsSide, IsPlaced, IsPaired, IsHanded};
 ghost use Rattle.pending_count.specs.Seats.{Content, view_of, actor_of, table_of, IsSameSeat, IsSeatOf, nodes_of};
-ghost use Rattle.pending_count.specs.PairSeats.{pair_seat, pair_reply, IsClosed};
+ghost use Rattle.pending_count.specs.PairSeats.{pair_seat, pair_reply, IsClosed, HasAll, IsInOrder};
 ghost use Rattle.pending_count.specs.declared.place.Slot.TheVariants.{Value, Kept};
 ghost use Rattle.pending_count.specs.declared.place.Side.TheVariants.{Whole};
 
 use crate::counts::Counts;
 use crate::place::{Fits, Place, Side, Slot};
 use crate::rule::{ArmPair, Arming, Hand, Handing, Part, Parting, TakeKept, TakeSide};
-use crate::seat::{ArrivedPair, FinishPair, Seat};
+use crate::seat::{ArrivedPair, FinishPair, Seat, Token};
 use completion_core::Node;
 use std::marker::Brand;
 
@@ -27,6 +27,7 @@ impl<V, K: Fits<V>> Counts<V, K> {
         requires one_side { (i : ℕ) → 0 < count i onward.now → count (left_slot i) (view_of seat).sides + count (right_slot i) (view_of seat).sides ≤ 1 }
         requires placed { IsPlaced K.place_of kept onward.now (view_of seat) }
         ensures seat { IsSameSeat seat result }
+        ensures took { IsTaken (Content V K) (nodes_of self.now) (actor_of seat) node (kept_slot node) (view_of seat) (taken_view (kept_slot node) (view_of seat)) }
         ensures paired { IsPaired K.fits K.tag_of K.place_of (nodes_of self.now) (actor_of seat) node onward.now kept (view_of seat) (view_of result) }
     {
         self.arm_pair_by::<Brand>(seat, node, onward, kept)
@@ -47,6 +48,7 @@ impl<V, K: Fits<V>> Counts<V, K> {
         requires placed { IsPlaced K.place_of kept onward.now (view_of seat) }
         requires picked { (A.nodes ≡ nodes_of self.now) × (A.actor ≡ actor_of seat) × (A.onward ≡ onward.now) × (A.slot ≡ kept_slot node) }
         ensures seat { IsSameSeat seat result }
+        ensures took { IsTaken (Content V K) (nodes_of self.now) (actor_of seat) node (kept_slot node) (view_of seat) (taken_view (kept_slot node) (view_of seat)) }
         ensures paired { IsPaired K.fits K.tag_of K.place_of (nodes_of self.now) (actor_of seat) node onward.now kept (view_of seat) (view_of result) }
     {
         let Seat { mut token, credit } = seat;
@@ -66,6 +68,7 @@ impl<V, K: Fits<V>> Counts<V, K> {
         requires tag { note_of place.node (view_of seat).tags ≡ Some place.tag }
         requires fits { K.fits place.tag place.side value }
         ensures seat { IsSameSeat seat (pair_seat result) }
+        ensures took { IsTaken (Content V K) (nodes_of self.now) (actor_of seat) place.node (slot_of place.node place.side) (view_of seat) (taken_view (slot_of place.node place.side) (view_of seat)) }
         ensures handed { (n : ℕ) × (pair_reply result ≡ reply_of_arrival (n - 1)) × IsHanded K.fits K.tag_of K.place_of (nodes_of self.now) (actor_of seat) place.node (slot_of place.node place.side) (view_of seat) n (view_of (pair_seat result)) }
         ensures closed { IsClosed place.node (slot_of place.node place.side) place.tag (view_of seat) result }
     {
@@ -141,6 +144,7 @@ impl<V, K: Fits<V>> Counts<V, K> {
         requires known { (tag : K.Tag) × (note_of node (view_of seat).tags ≡ Some tag) × K.fits tag (side_of is_left) value }
         requires picked { (A.nodes ≡ nodes_of self.now) × (A.actor ≡ actor_of seat) × (A.slot ≡ side_slot node is_left) × (A.left ≡ is_left) }
         ensures seat { IsSameSeat seat (pair_seat result) }
+        ensures took { IsTaken (Content V K) (nodes_of self.now) (actor_of seat) node (side_slot node is_left) (view_of seat) (taken_view (side_slot node is_left) (view_of seat)) }
         ensures handed { (n : ℕ) × (pair_reply result ≡ reply_of_arrival (n - 1)) × IsHanded K.fits K.tag_of K.place_of (nodes_of self.now) (actor_of seat) node (side_slot node is_left) (view_of seat) n (view_of (pair_seat result)) }
         ensures closed { (tag : K.Tag) → note_of node (view_of seat).tags ≡ Some tag → IsClosed node (side_slot node is_left) tag (view_of seat) result }
     {
@@ -154,20 +158,35 @@ impl<V, K: Fits<V>> Counts<V, K> {
         if found != 1 {
             return ArrivedPair::Pending(Seat { token, credit }, found - 2);
         }
-        let kept = kept_in(shared.exchange(&mut token, 3 * word + 2, None));
+        let (token, finish) = self.collect(token, node, is_left);
+        ArrivedPair::Last(Seat { token, credit }, finish)
+    }
+
+    // Empties the slots that came to the token with the last arrival: the kept value's, the other side's, and its own.
+    fn collect(
+        &self,
+        mut token: Token<V, K, K::Tag>,
+        node: Node,
+        is_left: bool,
+    ) -> (Token<V, K, K::Tag>, FinishPair<V, K>)
+        requires table { token.table_id ≡ self.now.table.shared.table_id }
+        requires slots { (kept : K) × (theirs : V) × (ours : V) × HasAll node is_left kept theirs ours token.me.1 }
+        ensures seat { (result.0.table_id ≡ token.table_id) × (result.0.id ≡ token.id) × (result.0.me.0 ≡ token.me.0) }
+        ensures values { (kept : K) (theirs ours : V) → HasAll node is_left kept theirs ours token.me.1 → IsInOrder is_left kept theirs ours result.1 }
+    {
+        let shared = &self.table.shared;
+        let kept = kept_in(shared.exchange(&mut token, 3 * node as usize + 2, None));
         token.turn();
         let theirs = value_in(shared.exchange(&mut token, slot_number(node, !is_left), None));
         token.turn();
-        let ours = value_in(shared.exchange(&mut token, own, None));
+        let ours = value_in(shared.exchange(&mut token, slot_number(node, is_left), None));
         let finish = in_order(is_left, ours, theirs, kept);
-        ArrivedPair::Last(Seat { token, credit }, finish)
+        (token, finish)
     }
 }
 
 fn in_order<V, K>(is_left: bool, ours: V, theirs: V, kept: K) -> FinishPair<V, K>
-    ensures kept { result.kept ≡ kept }
-    ensures left { is_left ≡ true → (result.left ≡ ours) × (result.right ≡ theirs) }
-    ensures right { is_left ≡ false → (result.left ≡ theirs) × (result.right ≡ ours) }
+    ensures { IsInOrder is_left kept theirs ours result }
 {
     if is_left {
         FinishPair {

@@ -158,7 +158,7 @@ pub struct TakeKept<A> {
 }
 
 impl<S, T, A: Arming> Play<Option<S>, View<T>> for TakeKept<A> {
-    ghost then = { took A.slot };
+    ghost then = { took A.nodes A.actor A.slot };
 }
 
 pub struct ArmPair<V, K, A> {
@@ -195,7 +195,7 @@ pub struct TakeSide<A> {
 }
 
 impl<S, T, A: Handing> Play<Option<S>, View<T>> for TakeSide<A> {
-    ghost then = { took A.slot };
+    ghost then = { took A.nodes A.actor A.slot };
 }
 
 pub struct Hand<V, K, A> {

@@ -2,7 +2,7 @@
 ghost use Rattle.std.specs.Prelude.{◌≡◌, ◌≢◌, None, ℕ, ◌+◌, ◌-◌, ◌*◌, ◌^◌, ◌<◌, ◌≤◌, List, [], ◌∷◌, IfOk, IfErr, IfSome, replicate};
 ghost use Rattle.completion_core.specs.Legal.{count, reply_of_arrival};
 ghost use Rattle.pending_count.specs.Views.{left_slot, right_slot, IsPlainAt, first_view, joined_view, rest_view, part_view};
-ghost use Rattle.pending_count.specs.Steps.{IsOpened, IsClaimed, IsArmed, IsArrived, IsAdded, IsSettled, IsLeft, IsSplit, IsJoined, drawn_node};
+ghost use Rattle.pending_count.specs.Steps.{IsOpened, IsClaimed, IsArmed, IsArrived, IsAdded, IsSettled, IsEndSeen, IsSplit, IsJoined, drawn_node};
 ghost use Rattle.pending_count.specs.Seats.{Content, view_of, actor_of, table_of, IsSameSeat, seat_back, reply_back, IsFinishOf, IsSeatOf, nodes_of};
 
 use crate::counts::Counts;
@@ -220,7 +220,7 @@ impl<V, K: Fits<V>> Counts<V, K> {
     pub fn left(&self, seat: Seat<V, K>) -> (Seat<V, K>, u64)
         requires table { IsSeatOf self.now seat }
         ensures seat { IsSameSeat seat result.0 }
-        ensures left { IsLeft (Content V K) (nodes_of self.now) (actor_of seat) (view_of seat) result.1 (view_of result.0) }
+        ensures left { IsEndSeen (Content V K) (nodes_of self.now) (actor_of seat) (view_of seat) result.1 (view_of result.0) }
     {
         self.left_by::<Brand>(seat)
     }
@@ -229,7 +229,7 @@ impl<V, K: Fits<V>> Counts<V, K> {
         requires table { IsSeatOf self.now seat }
         requires picked { (A.nodes ≡ nodes_of self.now) × (A.actor ≡ actor_of seat) }
         ensures seat { IsSameSeat seat result.0 }
-        ensures left { IsLeft (Content V K) (nodes_of self.now) (actor_of seat) (view_of seat) result.1 (view_of result.0) }
+        ensures left { IsEndSeen (Content V K) (nodes_of self.now) (actor_of seat) (view_of seat) result.1 (view_of result.0) }
     {
         let Seat { mut token, credit } = seat;
         let found = self.table.shared.load::<Look<A>>(&mut token, 0);

@@ -1,6 +1,6 @@
 use Rattle.std.proofs.Common.{arith, ◌∙◌, ◌/◌}
 use Rattle.pending_count.specs.Seats.{view_of}
-use Rattle.pending_count.proofs.Callers.{part_has}
+use Rattle.pending_count.proofs.CallerLemmas.{part_has}
 use Rattle.completer_tests.proofs.counting.+last_part.Goals as goal
 
 pub last_part-requires : goal.last_part-requires

@@ -1,7 +1,7 @@
 use Rattle.std.proofs.Common.{rules, sym, ◌∙◌}
 use Rattle.pending_count.specs.Seats.{view_of}
-use Rattle.pending_count.proofs.Callers.{was_pending, was_last}
-use Rattle.completer_tests.proofs.Uses.{can_claim, first_above, both_above, onward_smaller, second_plain, second_again, second_left, first_is_back, first_plain, end_is_back}
+use Rattle.pending_count.proofs.CallerLemmas.{was_pending, was_last}
+use Rattle.completer_tests.proofs.CountingLemmas.{can_claim, first_above, both_above, onward_smaller, second_plain, second_again, second_left, first_is_back, first_plain, end_is_back}
 use Rattle.completer_tests.proofs.counting.two_nodes.Goals as goal
 
 pub arm-seat-requires-2-clause-smaller : goal.arm-seat-requires-2-clause-smaller

@@ -1,6 +1,6 @@
 use Rattle.std.proofs.Common.{rules, sym, ◌∙◌}
 use Rattle.pending_count.specs.Seats.{view_of}
-use Rattle.completer_tests.proofs.PathsAbove.{path_above}
+use Rattle.completer_tests.proofs.PathAboveLemmas.{path_above}
 use Rattle.completer_tests.proofs.paths.arm_above.Goals as goal
 
 pub returns-clause-path : goal.returns-clause-path

@@ -3,7 +3,7 @@ use Rattle.std.proofs.lemmas.Result.{IfOk-weaker}
 use Rattle.completion_core.specs.Legal.{count}
 use Rattle.pending_count.specs.Seats.{view_of}
 use Rattle.completer_tests.specs.RandomTrees.{parent}
-use Rattle.completer_tests.proofs.TreeUses.{only_one_fewer, parent_low, last_knows, last_gives, parent_is_back, settled_knows, settled_fewer}
+use Rattle.completer_tests.proofs.RandomTreeLemmas.{only_one_fewer, parent_low, last_knows, last_gives, parent_is_back, settled_knows, settled_fewer}
 use Rattle.completer_tests.proofs.random_tree.+climb.Goals as goal
 
 pub returns-in-Pending-clause-held : goal.returns-in-Pending-clause-held

@@ -1,7 +1,7 @@
 use Rattle.std.proofs.Common.{◌≡◌, Some, rules, sym, ap, ◌∙◌}
 use Rattle.pending_count.specs.Seats.{view_of}
 use Rattle.pending_count.specs.Steps.{drawn_node}
-use Rattle.completer_tests.proofs.TreeUses.{grown_knows, grown_has}
+use Rattle.completer_tests.proofs.RandomTreeLemmas.{grown_knows, grown_has}
 use Rattle.completer_tests.proofs.random_tree.grow_one.Goals as goal
 
 pub returns : goal.returns

@@ -4,8 +4,8 @@ use native.Mathlib.Decide.{ℕ_discrete}
 use Rattle.completion_core.specs.Legal.{count, only_at}
 use Rattle.pending_count.specs.declared.view.View.{View}
 use Rattle.pending_count.specs.Seats.{view_of}
-use Rattle.pending_count.proofs.Records.{fresh_here, fresh_else}
-use Rattle.completer_tests.proofs.TreeUses.{rest_knows, part_knows, part_held, rest_held, joined_held, joined_knows}
+use Rattle.pending_count.proofs.RecordLemmas.{fresh_here, fresh_else}
+use Rattle.completer_tests.proofs.RandomTreeLemmas.{rest_knows, part_knows, part_held, rest_held, joined_held, joined_knows}
 use Rattle.completer_tests.proofs.random_tree.hand_over.Goals as goal
 
 pub loop-node-init : goal.loop-node-init

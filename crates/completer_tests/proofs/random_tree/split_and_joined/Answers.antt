@@ -1,6 +1,6 @@
 use Rattle.std.proofs.Common.{arith}
 use Rattle.pending_count.specs.Seats.{view_of}
-use Rattle.completer_tests.proofs.TreeUses.{joined_back}
+use Rattle.completer_tests.proofs.RandomTreeLemmas.{joined_back}
 use Rattle.completer_tests.proofs.random_tree.split_and_joined.Goals as goal
 
 pub three_made-requires-clause-have : goal.three_made-requires-clause-have

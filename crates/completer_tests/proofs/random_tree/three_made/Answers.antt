@@ -1,5 +1,5 @@
 use Rattle.std.proofs.Common.{arith}
-use Rattle.completer_tests.proofs.TreeUses.{one_fewer, still_plain}
+use Rattle.completer_tests.proofs.RandomTreeLemmas.{one_fewer, still_plain}
 use Rattle.completer_tests.proofs.random_tree.three_made.Goals as goal
 
 pub arrive-requires-2-clause-have : goal.arrive-requires-2-clause-have

@@ -1,12 +1,13 @@
 use Rattle.std.proofs.Common.{ap, sym, ◌∙◌, subst, arith}
 use Rattle.std.specs.Prelude.{IfSome}
 use Rattle.pending_count.specs.Seats.{view_of, nodes_of}
+use Rattle.pending_count.proofs.CallerLemmas.{was_pending}
 use Rattle.completer_tree.specs.Trees.{RanAt, RanBy}
 use Rattle.std.proofs.lemmas.Option.{IfSome_then}
 use Rattle.completer_tree.specs.Roots.{HasKept}
 use Rattle.completer_tree.specs.Places.{place_by}
-use Rattle.completer_tree.proofs.Climbs.{placed, unplaced, lower}
-use Rattle.completer_tree.proofs.Rooting.{climb_kept, climb_ran}
+use Rattle.completer_tree.proofs.ClimbLemmas.{placed, unplaced, lower, pending_as}
+use Rattle.completer_tree.proofs.RootLemmas.{climb_kept, climb_ran}
 use Rattle.completer_tree.proofs.climbing.+climb.Goals as goal
 
 pub returns-in-Last-clause-kept : goal.returns-in-Last-clause-kept
@@ -44,3 +45,11 @@ climb-requires g t c κs within =
     let low = lower k.parent k.root (g.C.Continuation.goes_to k.run) next.parent next.root (g.C.Continuation.goes_to next.run) l.0 l.1 (λ q e. (l.2.moved q e).smaller) in
     let d = c.decreases in
     (omega arith, (within.0, (within.1.0, (within.1.1, l.2.can))))
+
+pub returns-in-Pending-clause-pending : goal.returns-in-Pending-clause-pending
+returns-in-Pending-clause-pending g t c =
+    let m = c.in-Pending.ensures.handed in
+    record { place = m.0; before = view_of c.args.seat; owed = m.2; others = (was_pending m.2 _ m.3 m.4.some_owed).0; handed = m.4 }
+
+pub returns-in-Last-clause-pending : goal.returns-in-Last-clause-pending
+returns-in-Last-clause-pending g t c = pending_as c.climb.result.1 c.args.tree.now.counts.now c.args.seat c.in-Last.seat c.climb.result.0 c.in-Last.ensures.seat.1 c.climb.ensures.pending

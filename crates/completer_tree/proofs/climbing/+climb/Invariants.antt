@@ -1,4 +1,4 @@
-use Rattle.completer_tree.proofs.Climbs.{height}
+use Rattle.completer_tree.proofs.ClimbLemmas.{height}
 use Rattle.completer_tree.proofs.climbing.+climb.Given as goal
 
 abbrev pub decreases-climb : goal.decreases-climb

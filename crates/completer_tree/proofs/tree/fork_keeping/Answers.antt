@@ -1,8 +1,8 @@
 use Rattle.std.proofs.Common.{rules, true, false, sym, ap, ◌∙◌, arith}
 use Rattle.pending_count.specs.Seats.{view_of}
 use Rattle.completer_tree.specs.Trees.{table_id_of}
-use Rattle.completer_tree.proofs.Forks.{rest_held, rest_left, rest_right, rest_tag, part_held, part_left, part_right, part_tag, can_fork}
-use Rattle.completer_tree.proofs.Rooting.{at_some, fork_leads, fork_rooted, fork_knows, paired_as, led, unchanged_fork, few_left, few_right}
+use Rattle.completer_tree.proofs.ForkLemmas.{rest_held, rest_left, rest_right, rest_tag, part_held, part_left, part_right, part_tag, can_fork}
+use Rattle.completer_tree.proofs.RootLemmas.{at_some, fork_leads, fork_rooted, fork_knows, paired_as, led, unchanged_fork, few_left, few_right}
 use Rattle.completer_tree.specs.Trees.{IsUnchanged}
 use Rattle.std.proofs.lemmas.Option.{IfSome_then}
 use Rattle.completer_tree.proofs.tree.fork_keeping.Goals as goal

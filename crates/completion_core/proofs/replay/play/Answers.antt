@@ -1,8 +1,8 @@
 use Rattle.std.proofs.Common.{inl}
 use Rattle.completion_core.specs.Graph.{start}
-use Rattle.completion_core.proofs.Histories.{runs_after_all}
-use Rattle.completion_core.proofs.Makings.{makes_once}
-use Rattle.completion_core.proofs.Plays.{plays_on, first_refused, played_legal, played_once, illegal_list}
+use Rattle.completion_core.proofs.HistoryLemmas.{runs_after_all}
+use Rattle.completion_core.proofs.NamedArrivalLemmas.{makes_once}
+use Rattle.completion_core.proofs.PlayLemmas.{plays_on, first_refused, played_legal, played_once, illegal_list}
 use Rattle.completion_core.specs.Runs.{after_all}
 use Rattle.std.proofs.Common.{take}
 use Rattle.completion_core.proofs.replay.play.Goals as goal

@@ -3,7 +3,7 @@ use Rattle.std.proofs.lemmas.Result.{err_from_is_err_and}
 use Rattle.completion_core.specs.declared.action.Action.{Action}
 use Rattle.completion_core.specs.declared.action.Illegal.TheVariants.{NoMemory}
 use Rattle.completion_core.specs.Refusals.{Meets}
-use Rattle.completion_core.proofs.Demands.{wanting, arm_wants, run_lacks}
+use Rattle.completion_core.proofs.DemandLemmas.{wanting, arm_wants, run_lacks}
 use Rattle.completion_core.proofs.replay.replay.Goals as goal
 
 pub returns-in_err-refusal_of-clause-refused : goal.returns-in_err-refusal_of-clause-refused

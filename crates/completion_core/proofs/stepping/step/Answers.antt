@@ -1,5 +1,5 @@
 use Rattle.std.proofs.lemmas.Result.{err_from_is_err_and}
-use Rattle.completion_core.proofs.Demands.{not_legal, wanting}
+use Rattle.completion_core.proofs.DemandLemmas.{not_legal, wanting}
 use Rattle.completion_core.proofs.stepping.step.Goals as goal
 
 pub returns-in_err-refusal_of-clause-refused : goal.returns-in_err-refusal_of-clause-refused

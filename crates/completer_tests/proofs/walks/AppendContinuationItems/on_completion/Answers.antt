@@ -1,6 +1,6 @@
 use Rattle.std.proofs.Common.{◌++◌, ap, ◌∙◌}
 use Rattle.completer_tests.specs.Walks.{slice}
-use Rattle.completer_tests.proofs.WalkParts.{slices_join, clean_join, goes_of}
+use Rattle.completer_tests.proofs.WalkLemmas.{slices_join, clean_join, goes_of}
 use Rattle.completer_tests.proofs.walks.AppendContinuationItems.on_completion.Goals as goal
 
 pub returns-in-Ok : goal.returns-in-Ok

@@ -1,8 +1,8 @@
 use Rattle.std.proofs.Common.{ap, sym, ◌∙◌, subst}
-use Rattle.pending_count.proofs.Callers.{was_last}
+use Rattle.pending_count.proofs.CallerLemmas.{was_last}
 use Rattle.pending_count.specs.declared.place.Side.TheVariants.{Left, Right}
-use Rattle.completer_tree.proofs.Climbs.{placed, not_whole, on_held, on_side, on_tag, ran_last}
-use Rattle.completer_tree.proofs.Rooting.{next_leads, next_rooted, moved_there, kept_here, at_top}
+use Rattle.completer_tree.proofs.ClimbLemmas.{placed, not_whole, on_held, on_side, on_tag, ran_last}
+use Rattle.completer_tree.proofs.RootLemmas.{next_leads, next_rooted, moved_there, kept_here, at_top}
 use Rattle.completer_tree.proofs.climbing.Tree+Handed+T+Completer+T+C.first_complete.Goals as goal
 
 pub returns-in-Last-clause-last : goal.returns-in-Last-clause-last
@@ -13,8 +13,8 @@ returns-in-Last-clause-last g c =
     let can = c.requires.can in record {
       can = record {
         table = c.in-Last.ensures.seat.0 ∙ can.table;
-        left = subst (λ t. g.T.Part.fits t Left c.in-Last.finish.left) (sym l.5.tells) l.3;
-        right = subst (λ t. g.T.Part.fits t Right c.in-Last.finish.right) (sym l.5.tells) l.4;
+        left = subst (λ t. g.T.Part.fits t Left c.in-Last.finish.left) (sym l.5.same_tag) l.3;
+        right = subst (λ t. g.T.Part.fits t Right c.in-Last.finish.right) (sym l.5.same_tag) l.4;
         next = λ p e.
             let q = placed k.parent k.root (g.C.Continuation.goes_to k.run) p e in record {
               table = c.in-Last.ensures.seat.0 ∙ can.table;
@@ -25,7 +25,7 @@ returns-in-Last-clause-last g c =
               rooted = next_rooted _ _ _ c.args.at _ _ _ _ _ _ l.2 l.5 can.leads can.rooted can.held can.side.0 p e;
             };
       };
-      tag = l.5.tells;
+      tag = l.5.same_tag;
       moved = λ p e. moved_there _ _ _ c.args.at _ _ _ _ _ _ l.2 l.5 can.leads can.rooted can.held can.side.0 p e;
       kept = λ e. kept_here _ _ _ c.args.at _ _ _ _ _ _ l.2 l.5 can.leads can.rooted can.held can.side.0 e;
       ran = ran_last _ _ _ _ _ _ m.0 (was_last m.0 m.1 m.2.some_owed) m.2;

@@ -4,8 +4,8 @@ use Rattle.completion_core.specs.declared.action.Action.TheVariants.{Add}
 use Rattle.completion_core.specs.Graph.{Graph}
 use Rattle.completion_core.specs.Legal.{after}
 use Rattle.completion_core.specs.Book.{Book, StandsFor}
-use Rattle.completion_core.proofs.Totals.{held_left, left_length}
-use Rattle.completion_core.proofs.Writes.{in_range, read_is, added_written}
+use Rattle.completion_core.proofs.TotalLemmas.{held_left, left_length}
+use Rattle.completion_core.proofs.WriteLemmas.{in_range, read_is, added_written}
 use Rattle.completion_core.proofs.graph.Graph.add.Goals as goal
 
 pub put-requires-clause-fits : goal.put-requires-clause-fits

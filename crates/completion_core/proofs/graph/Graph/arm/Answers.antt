@@ -3,7 +3,7 @@ use Rattle.completion_core.specs.declared.action.Action.TheVariants.{Arm}
 use Rattle.completion_core.specs.Graph.{Graph}
 use Rattle.completion_core.specs.Legal.{after}
 use Rattle.completion_core.specs.Book.{Book, StandsFor}
-use Rattle.completion_core.proofs.Writes.{armed_written}
+use Rattle.completion_core.proofs.WriteLemmas.{armed_written}
 use Rattle.completion_core.specs.Holdings.{held, place, each_place}
 use Rattle.completion_core.proofs.graph.Graph.arm.Goals as goal
 

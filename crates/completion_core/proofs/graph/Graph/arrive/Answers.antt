@@ -3,7 +3,7 @@ use Rattle.completion_core.specs.declared.action.Action.TheVariants.{Arrive}
 use Rattle.completion_core.specs.Graph.{Graph}
 use Rattle.completion_core.specs.Legal.{after}
 use Rattle.completion_core.specs.Book.{Book, StandsFor}
-use Rattle.completion_core.proofs.Writes.{some_left, arrived_reply, arrived_written}
+use Rattle.completion_core.proofs.WriteLemmas.{some_left, arrived_reply, arrived_written}
 use Rattle.completion_core.proofs.graph.Graph.arrive.Goals as goal
 
 pub arrive-requires : goal.arrive-requires

@@ -4,7 +4,7 @@ use Rattle.completion_core.specs.Graph.{Graph}
 use Rattle.completion_core.specs.declared.action.Reply.TheVariants.{Node, NoNode}
 use Rattle.completion_core.specs.Legal.{upd}
 use Rattle.completion_core.specs.Book.{Book, StandsFor}
-use Rattle.completion_core.proofs.Effects.{drawn_after, fresh_state}
+use Rattle.completion_core.proofs.EffectLemmas.{drawn_after, fresh_state}
 use Rattle.completion_core.proofs.graph.Graph.claim.Goals as goal
 
 -- where a node is left

@@ -3,11 +3,11 @@ use Rattle.completion_core.specs.declared.action.Action.TheVariants.{Give}
 use Rattle.completion_core.specs.Graph.{Graph}
 use Rattle.completion_core.specs.Legal.{after}
 use Rattle.completion_core.specs.Book.{Book, StandsFor}
-use Rattle.completion_core.proofs.Totals.{two_held_left, left_length}
+use Rattle.completion_core.proofs.TotalLemmas.{two_held_left, left_length}
 use Rattle.completion_core.specs.Book.{held_in}
 use Rattle.completion_core.specs.Holdings.{held, place}
-use Rattle.completion_core.proofs.Effects.{given_after}
-use Rattle.completion_core.proofs.Places.{place-none}
+use Rattle.completion_core.proofs.EffectLemmas.{given_after}
+use Rattle.completion_core.proofs.HeldArrivalLemmas.{place-none}
 use Rattle.completion_core.proofs.graph.Graph.give.Goals.{else-from-to-via-then-from-to+else-k-ne0, else-from-to-via-else-from-to}
 use Rattle.completion_core.proofs.graph.Graph.give.Goals as goal
 

@@ -3,7 +3,7 @@ use Rattle.completion_core.specs.declared.node_state.NodeState.{NodeState}
 use Rattle.completion_core.specs.Graph.{start}
 use Rattle.completion_core.specs.Book.{StandsFor, held_in}
 use Rattle.completion_core.specs.Holdings.{place}
-use Rattle.completion_core.proofs.Starts.{starts, first_state}
+use Rattle.completion_core.proofs.StartLemmas.{starts, first_state}
 use Rattle.completion_core.proofs.graph.Graph.new.Goals as goal
 
 stands : (c : goal.After-put) → StandsFor (record { nodes = c.args.nodes; states = c.push.new.self.items; holdings = c.put.new.self.entries.entries }) (start c.args.nodes c.args.ends)

@@ -1,5 +1,5 @@
 use Rattle.std.proofs.Common.{refl, sym, true≢false}
-use Rattle.completion_core.proofs.Checks.{not_earlier, may_arm}
+use Rattle.completion_core.proofs.ArmCheckLemmas.{not_earlier, may_arm}
 use Rattle.completion_core.proofs.graph.Graph.refusal_of_arm.Goals as goal
 
 pub returns-then-not-all_below : goal.returns-then-not-all_below

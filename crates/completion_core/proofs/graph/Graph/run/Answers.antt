@@ -4,15 +4,15 @@ use Rattle.completion_core.specs.declared.action.Action.TheVariants.{Run}
 use Rattle.completion_core.specs.Graph.{Graph}
 use Rattle.completion_core.specs.Legal.{after}
 use Rattle.completion_core.specs.Book.{Book, StandsFor}
-use Rattle.completion_core.proofs.Totals.{left_length}
-use Rattle.completion_core.proofs.Writes.{in_range, read_is, freed_written}
+use Rattle.completion_core.proofs.TotalLemmas.{left_length}
+use Rattle.completion_core.proofs.WriteLemmas.{in_range, read_is, freed_written}
 use Rattle.std.proofs.Common.{[], true, set}
 use Rattle.completion_core.specs.Legal.{count}
 use Rattle.completion_core.specs.Holdings.{held, each_place}
-use Rattle.completion_core.proofs.Totals.{held_kept_left}
+use Rattle.completion_core.proofs.TotalLemmas.{held_kept_left}
 use Rattle.std.proofs.lemmas.Result.{err_from_is_err_and}
 use Rattle.completion_core.specs.Book.{state_of}
-use Rattle.completion_core.proofs.Demands.{some_kept}
+use Rattle.completion_core.proofs.DemandLemmas.{some_kept}
 use Rattle.completion_core.proofs.graph.Graph.run.Goals as goal
 
 pub put_all-requires-clause-fits : goal.put_all-requires-clause-fits

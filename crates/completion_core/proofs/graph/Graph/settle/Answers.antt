@@ -3,7 +3,7 @@ use Rattle.completion_core.specs.declared.action.Action.TheVariants.{Settle}
 use Rattle.completion_core.specs.Graph.{Graph}
 use Rattle.completion_core.specs.Legal.{after}
 use Rattle.completion_core.specs.Book.{Book, StandsFor}
-use Rattle.completion_core.proofs.Writes.{some_left, settled_written}
+use Rattle.completion_core.proofs.WriteLemmas.{some_left, settled_written}
 use Rattle.completion_core.proofs.graph.Graph.settle.Goals as goal
 
 pub overflow_sub-index_mut : goal.overflow_sub-index_mut

@@ -2,7 +2,7 @@ use Rattle.std.proofs.Common.{◌≡◌, ◌+◌, ℕ, refl, arith, ap, Some, un
 use mathlib.Core.Logic.{dite}
 use native.Mathlib.Decide.{ℕ_discrete}
 use Rattle.completion_core.specs.Holdings.{held}
-use Rattle.completion_core.proofs.Keys.{puts, on_ok, on_ok_else}
+use Rattle.completion_core.proofs.HoldingLemmas.{puts, on_ok, on_ok_else}
 use Rattle.completion_core.proofs.holdings.Holdings.put.Goals as goal
 
 pub returns-clause-held : goal.returns-clause-held

@@ -1,6 +1,6 @@
 use Rattle.std.proofs.Common.{◌≡◌, ◌-◌, ℕ, refl, arith, ap, ◌∙◌, Some, None, unwrap_or}
 use Rattle.completion_core.specs.Holdings.{held}
-use Rattle.completion_core.proofs.Keys.{takes, on_ok_else}
+use Rattle.completion_core.proofs.HoldingLemmas.{takes, on_ok_else}
 use Rattle.completion_core.proofs.holdings.Holdings.take.Goals as goal
 
 pub returns-then-had-k : goal.returns-then-had-k

@@ -1,6 +1,6 @@
 use Rattle.std.proofs.Common.{◌≡◌, ℕ, ◌<◌, length, get_or, take, ap, subst, arith}
 use Rattle.completion_core.specs.Holdings.{held, place}
-use Rattle.completion_core.proofs.Keys.{each_place-more, each_place-self, each_place-next}
+use Rattle.completion_core.proofs.HoldingLemmas.{each_place-more, each_place-self, each_place-next}
 use Rattle.completion_core.proofs.holdings.Holdings.take_all.Goals as goal
 
 pub take-requires : goal.take-requires

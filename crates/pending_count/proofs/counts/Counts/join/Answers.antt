@@ -4,16 +4,16 @@ use Rattle.pending_count.specs.Views.{InRange, joined_view}
 use Rattle.pending_count.specs.Steps.{IsJoined}
 use Rattle.pending_count.specs.Seats.{Content, view_of}
 use Rattle.completion_core.specs.Legal.{count}
-use Rattle.pending_count.proofs.Allowed.{joins_told}
-use Rattle.pending_count.proofs.AllowedPairs.{moves_told}
-use Rattle.pending_count.proofs.Joining.{is_joined}
-use Rattle.pending_count.proofs.Ranges.{joined_ranged}
+use Rattle.pending_count.proofs.StepLemmas.{joins_allowed}
+use Rattle.pending_count.proofs.PairStepLemmas.{moves_allowed}
+use Rattle.pending_count.proofs.JoinLemmas.{is_joined}
+use Rattle.pending_count.proofs.RangeLemmas.{joined_ranged}
 use Rattle.pending_count.proofs.counts.Counts.join.Goals as goal
 
 pub split_seat-whole-requires : goal.split_seat-whole-requires
 split_seat-whole-requires g c =
     let words = c.args.self.now.words.0 in
-    (c.requires.tables.1, omega arith, moves_told g.K.Fits.fits g.K.Fits.tag_of g.K.Fits.place_of c.args.self.now.table.shared.key.nodes c.args.self.now.nodes c.args.self.now.told _ _ c.requires.armed c.args.other.idle)
+    (c.requires.tables.1, omega arith, moves_allowed g.K.Fits.fits g.K.Fits.tag_of g.K.Fits.place_of c.args.self.now.table.shared.key.nodes c.args.self.now.nodes c.args.self.now.sized _ _ c.requires.armed c.args.other.idle)
 
 pub join_seat-requires : goal.join_seat-requires
 join_seat-requires g c =
@@ -23,7 +23,7 @@ join_seat-requires g c =
       c.split_seat-whole.ensures.3 ∙ c.requires.tables.1,
       ap (λ m. m.1) c.split_seat-whole.ensures.4,
       omega arith,
-      joins_told g.K.Fits.fits g.K.Fits.tag_of g.K.Fits.place_of c.args.self.now.table.shared.key.nodes c.args.self.now.nodes c.args.self.now.told _ _ _ _ (λ i. ap (λ (u : View g.row.K-Tag.Denot). count i u.claims) whole ∙ c.requires.armed i) (ap (λ (u : View g.row.K-Tag.Denot). u.taken) whole ∙ c.args.other.idle),
+      joins_allowed g.K.Fits.fits g.K.Fits.tag_of g.K.Fits.place_of c.args.self.now.table.shared.key.nodes c.args.self.now.nodes c.args.self.now.sized _ _ _ _ (λ i. ap (λ (u : View g.row.K-Tag.Denot). count i u.claims) whole ∙ c.requires.armed i) (ap (λ (u : View g.row.K-Tag.Denot). u.taken) whole ∙ c.args.other.idle),
     )
 
 pub invariant_of-result-clause-ranged : goal.invariant_of-result-clause-ranged

@@ -1,6 +1,6 @@
 use Rattle.std.proofs.Common.{rules}
-use Rattle.pending_count.proofs.Opening.{first_ranged, opened_as}
-use Rattle.pending_count.proofs.OpenedSides.{opens_all}
+use Rattle.pending_count.proofs.StartLemmas.{first_ranged, opened_as}
+use Rattle.pending_count.proofs.StartSideLemmas.{opens_all}
 use Rattle.pending_count.proofs.counts.Counts.new.Goals as goal
 
 pub vacant-requires : goal.vacant-requires

@@ -2,7 +2,7 @@ use Rattle.std.proofs.Common.{[], sym, subst}
 use Rattle.pending_count.specs.declared.view.View.{View}
 use Rattle.pending_count.specs.Steps.{IsSplit}
 use Rattle.pending_count.specs.Seats.{Content, view_of}
-use Rattle.pending_count.proofs.Giving.{is_split}
+use Rattle.pending_count.proofs.GiveLemmas.{is_split}
 use Rattle.pending_count.proofs.counts.Counts.split.Goals as goal
 
 pub returns-clause-split : goal.returns-clause-split
