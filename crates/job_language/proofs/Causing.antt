@@ -3,16 +3,14 @@ use Rattle.std.proofs.Common.{◌≡◌, ℕ, zero, suc, ◌+◌, ◌-◌, ◌<�
 use Rattle.std.specs.Prelude.{slice_range, nat_eq, if◌then◌else◌}
 use Rattle.std.specs.Cmp.Lexicographic.{pointwise}
 use Rattle.std.proofs.lemmas.List.{drop_more}
-use Rattle.lambda_expr.specs.Words.{Word, named, quoted}
-use Rattle.job_language.specs.declared.word.Word as code
+use Rattle.lambda_expr.specs.Words.{Word}
 use Rattle.job_language.specs.declared.operation.Operation.{Operation}
-use Rattle.job_language.specs.declared.operation.Operation.TheVariants as op
 use Rattle.job_language.specs.declared.fault.Cause.{Cause}
 use Rattle.job_language.specs.declared.scope.EarlierJob as job
 use Rattle.job_language.specs.Table.{param_of}
-use Rattle.job_language.specs.Splitting.{word_of, words_in, pieces, AreEnds}
+use Rattle.job_language.specs.Splitting.{pieces, AreEnds}
 use Rattle.job_language.specs.Shapes.{start_before}
-use Rattle.job_language.specs.Causes.{Scope, given, first_cause, number_cause, number_causes, column_cause, result_cause, row_cause}
+use Rattle.job_language.specs.Causes.{given, first_cause, number_cause, number_causes}
 use Rattle.job_language.specs.Scopes.{jobs_of}
 
 -- the causes of two lists, one after the other
@@ -67,50 +65,9 @@ numbers_here o n i xs c lt some =
     ap (λ v. first_cause (number_causes o n i v)) (drop_more xs i [] lt)
     ∙ ap (λ d. first_cause (d ∷ number_causes o n (suc i) (drop (i + 1) xs))) some
 
--- words too many for a name or a string
-no_column_for : (s : Scope) (a b : Word) (ws : List Word) → first_cause [] ≡ column_cause s (a ∷ b ∷ ws)
-no_column_for s (quoted w) b ws = refl
-no_column_for s a b ws = refl
-
-pub no_column : (s : Scope) (ws : List code.Word) → 2 ≤ length ws → first_cause [] ≡ column_cause s (words_in ws)
-no_column s [] h = refl
-no_column s (a ∷ []) h = absurd (omega arith)
-no_column s (a ∷ b ∷ ws) h = no_column_for s (word_of a) (word_of b) (words_in ws)
-
-no_result_for : (s : Scope) (a b : Word) (ws : List Word) → first_cause [] ≡ result_cause s (a ∷ b ∷ ws)
-no_result_for s (named w) b ws = refl
-no_result_for s a b ws = refl
-
-pub no_result : (s : Scope) (ws : List code.Word) → 2 ≤ length ws → first_cause [] ≡ result_cause s (words_in ws)
-no_result s [] h = refl
-no_result s (a ∷ []) h = absurd (omega arith)
-no_result s (a ∷ b ∷ ws) h = no_result_for s (word_of a) (word_of b) (words_in ws)
-
 pub length_parts : (ws : List Word) (a : ℕ) (es : List ℕ) → length (pieces ws a es) ≡ length es
 length_parts ws a [] = refl
 length_parts ws a (e ∷ es) = ap suc (length_parts ws (e + 1) es)
-
-pub one_part : (xs : List (List Word)) → length xs ≡ 1 → xs ≡ get_or xs 0 [] ∷ []
-one_part [] h = absurd (omega arith)
-one_part (a ∷ []) h = refl
-one_part (a ∷ b ∷ xs) h = absurd (omega arith)
-
-pub three_parts : (xs : List (List Word)) → length xs ≡ 3 → xs ≡ get_or xs 0 [] ∷ get_or xs 1 [] ∷ get_or xs 2 [] ∷ []
-three_parts [] h = absurd (omega arith)
-three_parts (a ∷ []) h = absurd (omega arith)
-three_parts (a ∷ b ∷ []) h = absurd (omega arith)
-three_parts (a ∷ b ∷ c ∷ []) h = refl
-three_parts (a ∷ b ∷ c ∷ d ∷ xs) h = absurd (omega arith)
-
-pub other_parts : (s : Scope) (o : Operation) (xs : List (List Word)) → (length xs ≡ 1 → ⊥) → (length xs ≡ 3 → ⊥) → first_cause [] ≡ row_cause s o xs
-other_parts s op.Column [] h k = refl
-other_parts s o [] h k = refl
-other_parts s o (a ∷ []) h k = absurd (h refl)
-other_parts s op.Column (a ∷ b ∷ []) h k = refl
-other_parts s o (a ∷ b ∷ []) h k = refl
-other_parts s o (a ∷ b ∷ c ∷ []) h k = absurd (k refl)
-other_parts s op.Column (a ∷ b ∷ c ∷ d ∷ xs) h k = refl
-other_parts s o (a ∷ b ∷ c ∷ d ∷ xs) h k = refl
 
 -- the first of three groups of causes
 pub by_count : (c d : Option Cause) (ns : List (Option Cause)) (e : Cause) → c ≡ Some e → first_cause (c ∷ (ns ++ d ∷ [])) ≡ Some e

@@ -6,13 +6,15 @@ use Rattle.job_language.specs.declared.piece.WrittenCall as written
 use Rattle.job_language.specs.declared.fault.Cause.{Cause}
 use Rattle.job_language.specs.declared.fault.Cause.TheVariants.{TooLong}
 use Rattle.job_language.specs.Table.{role_of}
-use Rattle.job_language.specs.Calls.{Call}
-use Rattle.job_language.specs.Grammar.{Source, Sources, plain, concat, two, more, Job, Piece, close, comma, calls_of, source_pieces, sources_pieces, plain_sources, job_calls, IsSource, AreSources, AreStages, IsSpelled, IsJob}
-use Rattle.job_language.specs.Shapes.{call_in, calls_in, StandsIn, StandIn, AreCallsIn, one_if_source, sources_in, first_name}
-use Rattle.job_language.specs.Causes.{Scope, first_cause, stage_cause, stages_after, when, call_causes, calls_causes, name_causes, sources_cause, job_causes}
+use Rattle.job_language.specs.Calls.{Call, call_words}
+use Rattle.job_language.specs.Arguments.{PlacedCall}
+use Rattle.job_language.specs.Verdicts.{placed}
+use Rattle.job_language.specs.Grammar.{Source, Sources, plain, concat, two, more, Job, Piece, call, begin_concat, owner, close, comma, dot, semicolon, piece_words, job_pieces, calls_of, source_pieces, sources_pieces, plain_sources, job_calls, IsSource, AreSources, AreStages, IsSpelled, IsJob}
+use Rattle.job_language.specs.Shapes.{call_in, calls_in, all_placed, StandsIn, StandIn, AreCallsIn, one_if_source, sources_in, first_name}
+use Rattle.job_language.specs.Causes.{Scope, first_cause, when, name_causes, sources_cause}
 use Rattle.job_language.proofs.Piecing.{calls_append}
 use Rattle.job_language.proofs.Causing.{first_append, first_stays}
-use Rattle.job_language.proofs.Shaping.{one_spelled}
+use Rattle.job_language.proofs.Shaping.{one_spelled, calls_job}
 use Rattle.std.specs.Prelude.{nat_lt}
 use Rattle.std.proofs.lemmas.Grind.{common_steps}
 
@@ -21,32 +23,9 @@ stands_at ws [] i d lt h = absurd (omega arith)
 stands_at ws (c ∷ cs) zero d lt h = h.0
 stands_at ws (c ∷ cs) (suc i) d lt h = stands_at ws cs i d (omega arith) h.1
 
--- the call at a place has a cause, or those after it decide
-call_here : (s : Scope) (ws : List Word) (cs : List written.WrittenCall) (i n : ℕ) (d : written.WrittenCall) (e : Cause) → i < length cs → first_cause (stage_cause n (role_of (get_or cs i d).operation) ∷ call_causes s (call_in ws (get_or cs i d))) ≡ Some e → first_cause (calls_causes s n (calls_in ws (drop i cs))) ≡ Some e
-call_here s ws cs i n d e lt h =
-    let c = get_or cs i d in
-    let r = role_of c.operation in
-    ap (λ v. first_cause (calls_causes s n (calls_in ws v))) (drop_more cs i d lt)
-    ∙ first_stays (stage_cause n r ∷ call_causes s (call_in ws c)) (calls_causes s (stages_after n r) (calls_in ws (drop (i + 1) cs))) e h
-
-call_more : (s : Scope) (ws : List Word) (cs : List written.WrittenCall) (i n : ℕ) (d : written.WrittenCall) → i < length cs → first_cause (stage_cause n (role_of (get_or cs i d).operation) ∷ call_causes s (call_in ws (get_or cs i d))) ≡ None → first_cause (calls_causes s n (calls_in ws (drop i cs))) ≡ first_cause (calls_causes s (stages_after n (role_of (get_or cs i d).operation)) (calls_in ws (drop (i + 1) cs)))
-call_more s ws cs i n d lt h =
-    let c = get_or cs i d in
-    let r = role_of c.operation in
-    ap (λ v. first_cause (calls_causes s n (calls_in ws v))) (drop_more cs i d lt)
-    ∙ first_append (stage_cause n r ∷ call_causes s (call_in ws c)) (calls_causes s (stages_after n r) (calls_in ws (drop (i + 1) cs))) h
-
 -- the same of an item of a loop
 pub item_stands : (ws : List Word) (cs : List written.WrittenCall) (i : ℕ) (x : written.WrittenCall) → i < length cs → x ≡ get_or cs i x → StandIn ws cs → StandsIn ws x
 item_stands ws cs i x lt is h = subst (StandsIn ws) (sym is) (stands_at ws cs i x lt h)
-
-pub item_here : (s : Scope) (ws : List Word) (cs : List written.WrittenCall) (i n : ℕ) (x : written.WrittenCall) (e : Cause) → i < length cs → x ≡ get_or cs i x → first_cause (stage_cause n (role_of x.operation) ∷ call_causes s (call_in ws x)) ≡ Some e → first_cause (calls_causes s n (calls_in ws (drop i cs))) ≡ Some e
-item_here s ws cs i n x e lt is h = call_here s ws cs i n x e lt (ap (λ y. first_cause (stage_cause n (role_of y.operation) ∷ call_causes s (call_in ws y))) (sym is) ∙ h)
-
-pub item_more : (s : Scope) (ws : List Word) (cs : List written.WrittenCall) (i n : ℕ) (x : written.WrittenCall) → i < length cs → x ≡ get_or cs i x → first_cause (stage_cause n (role_of x.operation) ∷ call_causes s (call_in ws x)) ≡ None → first_cause (calls_causes s n (calls_in ws (drop i cs))) ≡ first_cause (calls_causes s (stages_after n (role_of x.operation)) (calls_in ws (drop (i + 1) cs)))
-item_more s ws cs i n x lt is h =
-    call_more s ws cs i n x lt (ap (λ y. first_cause (stage_cause n (role_of y.operation) ∷ call_causes s (call_in ws y))) (sym is) ∙ h)
-    ∙ ap (λ y. first_cause (calls_causes s (stages_after n (role_of y.operation)) (calls_in ws (drop (i + 1) cs)))) (sym is)
 
 pub source_more : (ws : List Word) (cs : List written.WrittenCall) (i : ℕ) (d : written.WrittenCall) → i < length cs → sources_in (calls_in ws (drop i cs)) ≡ one_if_source (role_of (get_or cs i d).operation) + sources_in (calls_in ws (drop (i + 1) cs))
 source_more ws cs i d lt = ap (λ v. sources_in (calls_in ws v)) (drop_more cs i d lt)
@@ -86,13 +65,31 @@ sources_of_job ws j h =
     let e : sources_in (j.terminal ∷ []) ≡ 0 = ap (λ r. one_if_source r + 0) h.terminal.role in
     omega arith
 
-name_of_job : (ws : List Word) (j : Job) → IsJob ws j → j.name ≡ first_name ws
+pub name_of_job : (ws : List Word) (j : Job) → IsJob ws j → j.name ≡ first_name ws
 name_of_job ws j h = ap first_name h.spelled.spelled
 
-calls_of_job : (ws : List Word) (cs : List Call) (j : Job) → AreCallsIn ws cs → IsJob ws j → cs ≡ job_calls j
-calls_of_job ws cs j a h = a.calls ∙ ap job_calls (one_spelled ws a.job j a.is.spelled h.spelled)
+abbrev only : List PlacedCall → List Call
+only [] = []
+only (c ∷ cs) = c.call ∷ only cs
 
-sources_are : (ws : List Word) (cs : List Call) (j : Job) → AreCallsIn ws cs → IsJob ws j → sources_in cs ≡ length (plain_sources j.source)
+only_all : (ws : List Word) (cs : List written.WrittenCall) → only (all_placed ws cs) ≡ calls_in ws cs
+only_all ws [] = refl
+only_all ws (c ∷ cs) = ap (λ v. call_in ws c ∷ v) (only_all ws cs)
+
+only_placed : (n : ℕ) (ps : List Piece) → only (placed n ps) ≡ calls_of ps
+only_placed n [] = refl
+only_placed n (call c ∷ ps) = ap (λ v. c ∷ v) (only_placed (n + length (call_words c)) ps)
+only_placed n (begin_concat ∷ ps) = only_placed (n + length (piece_words begin_concat)) ps
+only_placed n (owner ∷ ps) = only_placed (n + length (piece_words owner)) ps
+only_placed n (comma ∷ ps) = only_placed (n + length (piece_words comma)) ps
+only_placed n (close ∷ ps) = only_placed (n + length (piece_words close)) ps
+only_placed n (dot ∷ ps) = only_placed (n + length (piece_words dot)) ps
+only_placed n (semicolon ∷ ps) = only_placed (n + length (piece_words semicolon)) ps
+
+calls_of_job : (ws : List Word) (cs : List written.WrittenCall) (j : Job) → AreCallsIn ws (all_placed ws cs) → IsJob ws j → calls_in ws cs ≡ job_calls j
+calls_of_job ws cs j a h = sym (only_all ws cs) ∙ ap only a.calls ∙ only_placed 2 (job_pieces a.job) ∙ calls_job a.job ∙ ap job_calls (one_spelled ws a.job j a.is.spelled h.spelled)
+
+sources_are : (ws : List Word) (cs : List written.WrittenCall) (j : Job) → AreCallsIn ws (all_placed ws cs) → IsJob ws j → sources_in (calls_in ws cs) ≡ length (plain_sources j.source)
 sources_are ws cs j a h = ap sources_in (calls_of_job ws cs j a h) ∙ sources_of_job ws j h.spelled
 
 few : (n : ℕ) → n ≤ 8 → when (nat_lt 8 n) TooLong ≡ None
@@ -101,23 +98,21 @@ few n h = grind (arith, common_steps)
 many : (n : ℕ) → 8 < n → when (nat_lt 8 n) TooLong ≡ Some TooLong
 many n h = grind (arith, common_steps)
 
--- the groups of causes of a job, in turn
-pub by_name : (s : Scope) (ws : List Word) (j : Job) (e : Cause) → IsJob ws j → first_cause (name_causes s (first_name ws)) ≡ Some e → first_cause (job_causes s j) ≡ Some e
-by_name s ws j e h k = first_stays (name_causes s j.name) (sources_cause j ∷ calls_causes s 0 (job_calls j)) e (ap (λ w. first_cause (name_causes s w)) (name_of_job ws j h) ∙ k)
+-- the causes of a job before those of its calls
+pub by_name : (s : Scope) (ws : List Word) (j : Job) (e : Cause) → IsJob ws j → first_cause (name_causes s (first_name ws)) ≡ Some e → first_cause (name_causes s j.name ++ sources_cause j ∷ []) ≡ Some e
+by_name s ws j e h k = first_stays (name_causes s j.name) (sources_cause j ∷ []) e (ap (λ w. first_cause (name_causes s w)) (name_of_job ws j h) ∙ k)
 
-after_name : (s : Scope) (ws : List Word) (j : Job) → IsJob ws j → first_cause (name_causes s (first_name ws)) ≡ None → first_cause (job_causes s j) ≡ first_cause (sources_cause j ∷ calls_causes s 0 (job_calls j))
-after_name s ws j h k = first_append (name_causes s j.name) (sources_cause j ∷ calls_causes s 0 (job_calls j)) (ap (λ w. first_cause (name_causes s w)) (name_of_job ws j h) ∙ k)
+after_name : (s : Scope) (ws : List Word) (j : Job) → IsJob ws j → first_cause (name_causes s (first_name ws)) ≡ None → first_cause (name_causes s j.name ++ sources_cause j ∷ []) ≡ first_cause (sources_cause j ∷ [])
+after_name s ws j h k = first_append (name_causes s j.name) (sources_cause j ∷ []) (ap (λ w. first_cause (name_causes s w)) (name_of_job ws j h) ∙ k)
 
-pub by_sources : (s : Scope) (ws : List Word) (cs : List Call) (j : Job) → AreCallsIn ws cs → IsJob ws j → first_cause (name_causes s (first_name ws)) ≡ None → 8 < sources_in cs → first_cause (job_causes s j) ≡ Some TooLong
+pub by_sources : (s : Scope) (ws : List Word) (cs : List written.WrittenCall) (j : Job) → AreCallsIn ws (all_placed ws cs) → IsJob ws j → first_cause (name_causes s (first_name ws)) ≡ None → 8 < sources_in (calls_in ws cs) → first_cause (name_causes s j.name ++ sources_cause j ∷ []) ≡ Some TooLong
 by_sources s ws cs j a h k over =
     let same = sources_are ws cs j a h in
     let n = length (plain_sources j.source) in
-    after_name s ws j h k ∙ ap (λ d. first_cause (d ∷ calls_causes s 0 (job_calls j))) (many n (omega arith))
+    after_name s ws j h k ∙ ap (λ d. first_cause (d ∷ [])) (many n (omega arith))
 
-pub by_calls : (s : Scope) (ws : List Word) (cs : List Call) (j : Job) → AreCallsIn ws cs → IsJob ws j → first_cause (name_causes s (first_name ws)) ≡ None → sources_in cs ≤ 8 → first_cause (job_causes s j) ≡ first_cause (calls_causes s 0 cs)
-by_calls s ws cs j a h k within =
+pub by_none : (s : Scope) (ws : List Word) (cs : List written.WrittenCall) (j : Job) → AreCallsIn ws (all_placed ws cs) → IsJob ws j → first_cause (name_causes s (first_name ws)) ≡ None → sources_in (calls_in ws cs) ≤ 8 → first_cause (name_causes s j.name ++ sources_cause j ∷ []) ≡ None
+by_none s ws cs j a h k within =
     let same = sources_are ws cs j a h in
     let n = length (plain_sources j.source) in
-    after_name s ws j h k
-    ∙ ap (λ d. first_cause (d ∷ calls_causes s 0 (job_calls j))) (few n (omega arith))
-    ∙ ap (λ v. first_cause (calls_causes s 0 v)) (sym (calls_of_job ws cs j a h))
+    after_name s ws j h k ∙ ap (λ d. first_cause (d ∷ [])) (few n (omega arith))

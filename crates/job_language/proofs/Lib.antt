@@ -11,4 +11,10 @@ pub mod Shaping
 pub mod Sounding
 pub mod NumberReads
 pub mod Causing
+pub mod Collecting
+pub mod LastParts
+pub mod Turns
 pub mod JobCausing
+pub mod Wholes
+pub mod Referring
+pub mod OneVerdict

@@ -66,7 +66,7 @@ begins_concat ws at o r lt name open_ = record {
   within = omega arith;
 }
 
-length_slice : (ws : List Word) (a e : ℕ) → e < length ws → length (slice_range ws a e) ≡ e - a
+pub length_slice : (ws : List Word) (a e : ℕ) → e < length ws → length (slice_range ws a e) ≡ e - a
 length_slice ws a e lt = let k = length-take (e - a) (drop a ws) in let l = length-drop a ws in omega arith
 
 width_from : (ws : List Word) (a e : ℕ) (es : List ℕ) → AreEnds a (e ∷ es) (length ws) → length (parts_words (pieces ws a (e ∷ es))) + a + 1 ≡ width (e ∷ es)

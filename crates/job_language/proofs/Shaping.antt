@@ -1,7 +1,7 @@
 -- The reader of a job, one piece at a time.
-use Rattle.std.proofs.Common.{◌≡◌, ℕ, ◌<◌, ◌≤◌, Bool, true, false, List, [], ◌∷◌, ◌++◌, length, drop, reverse, Option, Some, None, refl, sym, ap, subst, ◌∙◌, append_assoc, append-nil, arith, length-drop}
+use Rattle.std.proofs.Common.{◌≡◌, ℕ, suc, ◌+◌, ◌<◌, ◌≤◌, Bool, true, false, List, [], ◌∷◌, ◌++◌, length, drop, reverse, Option, Some, None, refl, sym, ap, subst, ◌∙◌, append_assoc, append-nil, arith, length-drop}
 use Rattle.std.specs.List.{list_all}
-use Rattle.std.proofs.lemmas.List.{drop_all}
+use Rattle.std.proofs.lemmas.List.{drop_all, length-append}
 use Rattle.stream_tokens.specs.declared.symbol.Symbol.TheVariants as symbol
 use Rattle.lambda_expr.specs.Words.{Word, named, sign}
 use Rattle.job_language.specs.declared.piece.Mark.{Mark}
@@ -13,9 +13,11 @@ use Rattle.job_language.specs.declared.piece.Mark.TheVariants as mark
 use Rattle.job_language.specs.declared.word.Word as coded_word
 use Rattle.job_language.specs.Splitting.{word_of, words_in}
 use Rattle.job_language.specs.Calls.{Call}
-use Rattle.job_language.specs.Grammar.{Source, Sources, plain, concat, two, more, Job, Piece, call, comma, close, dot, piece_words, pieces_words, source_pieces, sources_pieces, steps_pieces, ending, job_pieces, IsSource, AreSources, AreStages, IsSpelled, IsNoJob, is_sound, calls_of, plain_sources}
+use Rattle.job_language.specs.Grammar.{Source, Sources, plain, concat, two, more, Job, Piece, call, begin_concat, owner, comma, close, dot, semicolon, piece_words, pieces_words, source_pieces, sources_pieces, steps_pieces, ending, job_pieces, IsSource, AreSources, AreStages, IsSpelled, IsNoJob, is_sound, calls_of, plain_sources}
 use Rattle.job_language.specs.Reading.{Place, State, wants, owns, bare, has, asks, staged, ended, finished, stuck, read, reads, begins, coded, moves, moved, mark_of, ArePieces}
-use Rattle.job_language.specs.Shapes.{begins_job, IsNotSpelled, AreCallsOf, AreCallsIn, IsNoPiece, Begins, is_last, call_in, calls_in, sign_piece, IsReading, StandIn, StandsIn}
+use Rattle.job_language.specs.Shapes.{begins_job, IsNotSpelled, AreCallsOf, AreCallsIn, IsNoPiece, Begins, is_last, call_in, all_placed, placed_in, piece_from, sign_piece, IsReading, StandIn, StandsIn}
+use Rattle.job_language.specs.Arguments.{PlacedCall}
+use Rattle.job_language.specs.Verdicts.{placed}
 use Rattle.job_language.proofs.Standing.{Stands, keeps, reads_append, reads_job, stuck_stays, follows, last_state}
 use Rattle.job_language.proofs.Piecing.{pieces_append, calls_append, are_append, next_piece, no_pieces}
 
@@ -35,7 +37,7 @@ calls_ending : (b : Bool) → calls_of (ending b) ≡ []
 calls_ending true = refl
 calls_ending false = refl
 
-calls_job : (j : Job) → calls_of (job_pieces j) ≡ plain_sources j.source ++ (j.stages ++ j.terminal ∷ [])
+pub calls_job : (j : Job) → calls_of (job_pieces j) ≡ plain_sources j.source ++ (j.stages ++ j.terminal ∷ [])
 calls_job j =
     let tail = dot ∷ call j.terminal ∷ ending j.semicolon in
     calls_append (source_pieces j.source) (steps_pieces j.stages ++ tail)
@@ -149,7 +151,36 @@ no_end ws r h far n j k =
     let g : false ≡ true = sym n ∙ ap is_last f ∙ last.3 in
     absurd cc
 
-pub reading_on : (ws : List Word) (r s : code.Reader) (p : Piece) → (h : IsReading ws r) → Begins ws r.at p s.at → moved r.mode (reverse r.commas.items) (mark_of p) ≡ Some (s.mode, reverse s.commas.items) → calls_in ws s.calls.items ≡ calls_in ws r.calls.items ++ calls_of (p ∷ []) → StandIn ws s.calls.items → IsReading ws s
+after_both : (n : ℕ) (p : Piece) (ps : List Piece) → n + length (piece_words p) + length (pieces_words ps) ≡ n + length (piece_words p ++ pieces_words ps)
+after_both n p ps = let both = length-append (piece_words p) (pieces_words ps) in omega arith
+
+placed_append : (n : ℕ) (ps qs : List Piece) → placed n (ps ++ qs) ≡ placed n ps ++ placed (n + length (pieces_words ps)) qs
+placed_append n [] qs = let e : n ≡ n + 0 = omega arith in ap (λ k. placed k qs) e
+placed_append n ((call c) ∷ ps) qs = ap (λ v. record { opened = suc n; call = c } ∷ v) (placed_append (n + length (piece_words (call c))) ps qs ∙ ap (λ m. placed (n + length (piece_words (call c))) ps ++ placed m qs) (after_both n (call c) ps))
+placed_append n (begin_concat ∷ ps) qs = placed_append (n + length (piece_words begin_concat)) ps qs ∙ ap (λ m. placed (n + length (piece_words begin_concat)) ps ++ placed m qs) (after_both n begin_concat ps)
+placed_append n (owner ∷ ps) qs = placed_append (n + length (piece_words owner)) ps qs ∙ ap (λ m. placed (n + length (piece_words owner)) ps ++ placed m qs) (after_both n owner ps)
+placed_append n (comma ∷ ps) qs = placed_append (n + length (piece_words comma)) ps qs ∙ ap (λ m. placed (n + length (piece_words comma)) ps ++ placed m qs) (after_both n comma ps)
+placed_append n (close ∷ ps) qs = placed_append (n + length (piece_words close)) ps qs ∙ ap (λ m. placed (n + length (piece_words close)) ps ++ placed m qs) (after_both n close ps)
+placed_append n (dot ∷ ps) qs = placed_append (n + length (piece_words dot)) ps qs ∙ ap (λ m. placed (n + length (piece_words dot)) ps ++ placed m qs) (after_both n dot ps)
+placed_append n (semicolon ∷ ps) qs = placed_append (n + length (piece_words semicolon)) ps qs ∙ ap (λ m. placed (n + length (piece_words semicolon)) ps ++ placed m qs) (after_both n semicolon ps)
+
+ends_there : (ws : List Word) (at to : ℕ) (p : Piece) (n : ℕ) → Begins ws at p to → at ≡ n → to ≡ n + length (piece_words p)
+ends_there ws at to p n b e =
+    let whole : length (drop at ws) ≡ length (piece_words p ++ drop to ws) = ap length b.spelled in
+    let both = length-append (piece_words p) (drop to ws) in
+    let left = length-drop at ws in
+    let right = length-drop to ws in
+    let further = b.further in
+    let within = b.within in
+    omega arith
+
+longer : (ps : List Piece) (p : Piece) → 2 + length (pieces_words (ps ++ p ∷ [])) ≡ 2 + length (pieces_words ps) + length (piece_words p)
+longer ps p =
+    let all : length (pieces_words (ps ++ p ∷ [])) ≡ length (pieces_words ps ++ piece_words p) = ap length (pieces_append ps (p ∷ []) ∙ ap (λ v. pieces_words ps ++ v) (append-nil (piece_words p))) in
+    let both = length-append (pieces_words ps) (piece_words p) in
+    omega arith
+
+pub reading_on : (ws : List Word) (r s : code.Reader) (p : Piece) → (h : IsReading ws r) → Begins ws r.at p s.at → moved r.mode (reverse r.commas.items) (mark_of p) ≡ Some (s.mode, reverse s.commas.items) → all_placed ws s.calls.items ≡ all_placed ws r.calls.items ++ placed r.at (p ∷ []) → StandIn ws s.calls.items → IsReading ws s
 reading_on ws r s p h b m c k =
     let st = reads begins h.done in
     record {
@@ -162,7 +193,9 @@ reading_on ws r s p h b m c k =
           ∙ h.spelled;
       place = ap coded (reads_append begins h.done (p ∷ [])) ∙ follows st p b.piece ∙ ap (λ q. moves q (mark_of p)) h.place ∙ m;
       stand = k;
-      calls = c ∙ ap (λ v. v ++ calls_of (p ∷ [])) h.calls ∙ sym (calls_append h.done (p ∷ []));
+      calls =
+          c ∙ ap (λ v. v ++ placed r.at (p ∷ [])) h.calls ∙ ap (λ n. placed 2 h.done ++ placed n (p ∷ [])) h.far ∙ sym (placed_append 2 h.done (p ∷ []));
+      far = ends_there ws r.at s.at p (2 + length (pieces_words h.done)) b h.far ∙ sym (longer h.done p);
       within = b.within;
     }
 
@@ -170,7 +203,7 @@ reading_on ws r s p h b m c k =
 other_mode : (k l : Mode) (bs cs : List Bool) → at_mode k bs ≡ at_mode l cs → is_last k ≡ false → is_last l ≡ true → ⊥
 other_mode k l bs cs h n m = let e : k ≡ l = same_mode k l bs cs h in let f : false ≡ true = sym n ∙ ap is_last e ∙ m in absurd cc
 
-job_of : (ws : List Word) (name : List ℕ) (ps : List Piece) (s : State) (k : Mode) (bs : List Bool) → coded s ≡ Some (k, bs) → is_last k ≡ true → Stands ps s → named name ∷ sign symbol.Assign ∷ pieces_words ps ≡ ws → AreCallsOf ws (calls_of ps)
+job_of : (ws : List Word) (name : List ℕ) (ps : List Piece) (s : State) (k : Mode) (bs : List Bool) → coded s ≡ Some (k, bs) → is_last k ≡ true → Stands ps s → named name ∷ sign symbol.Assign ∷ pieces_words ps ≡ ws → AreCallsOf ws (placed 2 ps)
 job_of ws name ps (wants fs) k bs h l st e = absurd (other_mode mode.Source k _ bs h refl l)
 job_of ws name ps (owns fs) k bs h l st e = absurd (other_mode mode.Owner k _ bs h refl l)
 job_of ws name ps (bare fs) k bs h l st e = absurd (other_mode mode.Bare k _ bs h refl l)
@@ -182,14 +215,14 @@ job_of ws name ps (ended s gs c) k bs h l st e =
     record {
       job = j;
       spelled = record { source = st.1; stages = st.2; terminal = st.3; spelled = ap (λ v. named name ∷ sign symbol.Assign ∷ pieces_words v) st.0 ∙ e };
-      calls = ap calls_of (sym st.0) ∙ calls_job j;
+      calls = ap (placed 2) (sym st.0);
     }
 job_of ws name ps (finished s gs c) k bs h l st e =
     let j : Job = record { name = name; source = s; stages = gs; terminal = c; semicolon = true } in
     record {
       job = j;
       spelled = record { source = st.1; stages = st.2; terminal = st.3; spelled = ap (λ v. named name ∷ sign symbol.Assign ∷ pieces_words v) st.0 ∙ e };
-      calls = ap calls_of (sym st.0) ∙ calls_job j;
+      calls = ap (placed 2) (sym st.0);
     }
 job_of ws name ps stuck k bs h l st e = absurd cc
 
@@ -197,7 +230,7 @@ heads : (ws : List Word) → begins_job ws ≡ true → (name : List ℕ) × (na
 heads (named n ∷ sign symbol.Assign ∷ ws) h = (n, refl)
 heads ws h = absurd cc
 
-pub reads_all : (ws : List Word) (r : code.Reader) → begins_job ws ≡ true → IsReading ws r → length ws ≤ r.at → is_last r.mode ≡ true → AreCallsOf ws (calls_in ws r.calls.items)
+pub reads_all : (ws : List Word) (r : code.Reader) → begins_job ws ≡ true → IsReading ws r → length ws ≤ r.at → is_last r.mode ≡ true → AreCallsOf ws (all_placed ws r.calls.items)
 reads_all ws r start h far last =
     let head = heads ws start in
     let all : pieces_words h.done ≡ drop 2 ws = sym (append-nil (pieces_words h.done)) ∙ ap (λ v. pieces_words h.done ++ v) (sym (drop_all r.at ws far)) ∙ h.spelled in
@@ -209,7 +242,8 @@ begun ws r start m c k a = record {
   pieces = tt;
   spelled = ap (λ n. drop n ws) a;
   place = sym (ap (λ v. at_mode v (reverse r.commas.items)) m ∙ ap (λ v. at_mode mode.Source (reverse v)) c);
-  calls = ap (calls_in ws) k;
+  calls = ap (all_placed ws) k;
+  far = a;
   stand = subst (StandIn ws) (sym k) tt;
   within = let two_ = long_enough ws start in omega arith;
 }
@@ -218,17 +252,20 @@ begun ws r start m c k a = record {
     long_enough (named n ∷ sign symbol.Assign ∷ ws) h = omega arith
     long_enough ws h = absurd cc
 
-pub calls_more : (ws : List Word) (cs ds : List written.WrittenCall) → calls_in ws (cs ++ ds) ≡ calls_in ws cs ++ calls_in ws ds
+pub calls_more : (ws : List Word) (cs ds : List written.WrittenCall) → all_placed ws (cs ++ ds) ≡ all_placed ws cs ++ all_placed ws ds
 calls_more ws [] ds = refl
-calls_more ws (c ∷ cs) ds = ap (λ v. call_in ws c ∷ v) (calls_more ws cs ds)
+calls_more ws (c ∷ cs) ds = ap (λ v. placed_in ws c ∷ v) (calls_more ws cs ds)
 
-pub sign_calls : (m : Mark) → calls_of (sign_piece m ∷ []) ≡ []
-sign_calls (mark.Call r) = refl
-sign_calls mark.Owner = refl
-sign_calls mark.Comma = refl
-sign_calls mark.Close = refl
-sign_calls mark.Dot = refl
-sign_calls mark.Semicolon = refl
+pub one_placed : (ws : List Word) (n : ℕ) (m : Mark) (c : written.WrittenCall) → c.opened ≡ suc n → placed_in ws c ∷ [] ≡ placed n (piece_from ws m (Some c) ∷ [])
+one_placed ws n m c h = ap (λ k. record { opened = k; call = call_in ws c } ∷ []) h
+
+pub sign_calls : (n : ℕ) (m : Mark) → placed n (sign_piece m ∷ []) ≡ []
+sign_calls n (mark.Call r) = refl
+sign_calls n mark.Owner = refl
+sign_calls n mark.Comma = refl
+sign_calls n mark.Close = refl
+sign_calls n mark.Dot = refl
+sign_calls n mark.Semicolon = refl
 
 pub no_job_in : (ws : List coded_word.Word) → length ws < 2 → false ≡ begins_job (words_in ws)
 no_job_in [] h = refl
@@ -272,7 +309,7 @@ no_unsound_job ws h j k = let e : true ≡ false = sym k.sound ∙ h in absurd c
 pub no_unspelled_job : (ws : List Word) → IsNotSpelled ws → IsNoJob ws
 no_unspelled_job ws h j k = h j k.spelled
 
-pub sound_calls : (ws : List Word) (cs : List Call) → list_all is_sound ws ≡ true → AreCallsOf ws cs → AreCallsIn ws cs
+pub sound_calls : (ws : List Word) (cs : List PlacedCall) → list_all is_sound ws ≡ true → AreCallsOf ws cs → AreCallsIn ws cs
 sound_calls ws cs h a = record { job = a.job; is = record { sound = h; spelled = a.spelled }; calls = a.calls }
 
 pub stand_more : (ws : List Word) (cs : List written.WrittenCall) (c : written.WrittenCall) → StandIn ws cs → StandsIn ws c → StandIn ws (cs ++ c ∷ [])

@@ -1,13 +1,13 @@
 -- Meaning: what the last part of a call is read as, if it is no number.
-use Rattle.std.specs.Prelude.{◌≡◌, ℕ, suc, ◌+◌, ◌-◌, ℤ, Bool, true, false, if◌then◌else◌, List, [], ◌∷◌, length, get_or, Option, Some, None, Result, Ok, Err}
-use Rattle.stream_tokens.specs.declared.symbol.Symbol.TheVariants as symbol
+use Rattle.std.specs.Prelude.{◌≡◌, ℕ, suc, ◌+◌, ℤ, List, [], ◌∷◌, length, get_or, Option, Some, None, Result, Ok, Err}
 use Rattle.stream_tokens.specs.declared.token.Token.{Token}
 use Rattle.stream_tokens.specs.declared.token.TokenKind.TheVariants.{Bad}
 use Rattle.stream_tokens.specs.CutTexts.{TokenizedText, between}
-use Rattle.lambda_expr.specs.Words.{Word, named, quoted, sign}
+use Rattle.lambda_expr.specs.Words.{Word, named, quoted}
 use Rattle.lambda_expr.specs.Term.{Long, Truth}
 use Rattle.lambda_expr.specs.Streams.{Inner}
-use Rattle.lambda_expr.specs.Refusals.{LambdaTerm, long, boolean, Judged, IsRefused}
+use Rattle.lambda_expr.specs.Refusals.{LambdaTerm, long, boolean, pair, Judged, IsRefused}
+use Rattle.lambda_expr.specs.References.{names_of}
 use Rattle.lambda_expr.specs.declared.fault.ReadFault.{ReadFault}
 use Rattle.lambda_expr.specs.declared.fault.ReadFault.TheVariants as fault
 use Rattle.lambda_expr.specs.declared.lambda.Want.{Want}
@@ -22,9 +22,9 @@ use Rattle.job_language.specs.declared.operation.Param.TheVariants as param
 use Rattle.job_language.specs.declared.scope.Gives.{Gives}
 use Rattle.job_language.specs.declared.scope.Gives.TheVariants as gives
 use Rattle.job_language.specs.Table.{param_of}
-use Rattle.job_language.specs.Calls.{Call, parts_words}
+use Rattle.job_language.specs.Calls.{Call}
 use Rattle.job_language.specs.Causes.{Scope, given, first_cause, inside_quotes}
-use Rattle.job_language.specs.Operators.{op_named, op_method, op_of_body, has_plus_sign}
+use Rattle.job_language.specs.Operators.{spelled_op, op_of_form}
 
 -- what a part is: the cells of a column, the name of an earlier job, the expression of a lambda, an operator;
 -- nothing if the last part is a number, or there is none
@@ -75,9 +75,13 @@ abbrev pub column_answer : Option (List ℤ) → Result Argument Cause
 column_answer None = Err cause.UnknownColumn
 column_answer (Some cells) = Ok (column cells)
 
-abbrev pub text_answer : Scope → List Word → Result Argument Cause
-text_answer scope (quoted w ∷ []) = column_answer (cells_named (inside_quotes w) scope.columns)
-text_answer scope ws = Ok nothing
+abbrev pub string_in : List Word → Option (List ℕ)
+string_in (quoted w ∷ []) = Some w
+string_in ws = None
+
+abbrev pub text_answer : Scope → Option (List ℕ) → Result Argument Cause
+text_answer scope (Some w) = column_answer (cells_named (inside_quotes w) scope.columns)
+text_answer scope None = Ok nothing
 
 -- `result` names an earlier job that gives an array
 abbrev pub result_answer : List ℕ → Option Gives → Result Argument Cause
@@ -85,48 +89,66 @@ result_answer w None = Err cause.UnknownJob
 result_answer w (Some gives.Array) = Ok (job w)
 result_answer w (Some g) = Err cause.NotAnArray
 
-abbrev pub name_answer : Scope → List Word → Result Argument Cause
-name_answer scope (named w ∷ []) = result_answer w (given scope.jobs w)
-name_answer scope ws = Ok nothing
+abbrev pub name_in : List Word → Option (List ℕ)
+name_in (named w ∷ []) = Some w
+name_in ws = None
+
+abbrev pub name_answer : Scope → Option (List ℕ) → Result Argument Cause
+name_answer scope (Some w) = result_answer w (given scope.jobs w)
+name_answer scope None = Ok nothing
 
 -- the lambda that a text is, or what it is refused for
 abbrev pub IsOutcome : List ℕ → Want → Result LambdaTerm ReadFault → Type 0
-IsOutcome text w (Ok t) = Judged text w (Ok t)
+IsOutcome text w (Ok l) = Judged text w (Ok l)
 IsOutcome text w (Err fault.NoMemory) = ⊥
 IsOutcome text w (Err f) = IsRefused text w f
 
-abbrev pub argument_of : LambdaTerm → Argument
-argument_of (long e) = number e
-argument_of (boolean p) = test p
-argument_of t = nothing
+-- a reference names an earlier job that gives a number
+abbrev pub reference_cause : Option Gives → Option Cause
+reference_cause None = Some cause.UnknownJob
+reference_cause (Some gives.Number) = None
+reference_cause (Some g) = Some cause.NotANumber
 
-abbrev pub lambda_answer : Scope → Result LambdaTerm ReadFault → Result Argument Cause
-lambda_answer scope (Err f) = Err (cause.Expr f)
-lambda_answer scope (Ok t) = Ok (argument_of t)
-
-abbrev pub IsLambdaRead : Scope → List ℕ → Want → Result Argument Cause → Type 0
-IsLambdaRead scope text w r = (o : Result LambdaTerm ReadFault) × IsOutcome text w o × (lambda_answer scope o ≡ r)
+abbrev pub reference_causes : Scope → List (List ℕ) → List (Option Cause)
+reference_causes scope [] = []
+reference_causes scope (w ∷ ws) = reference_cause (given scope.jobs w) ∷ reference_causes scope ws
 
 -- an operator has to be in the table
 abbrev pub listed : Option Op → Result Argument Cause
 listed None = Err cause.OperatorNotListed
 listed (Some f) = Ok (operator f)
 
--- an operator is a name, a method, or a lambda of two parameters; the lambdas are not read yet
-abbrev pub IsOperatorRead : List Word → List ℕ → Result Argument Cause → Type 0
-IsOperatorRead (named w ∷ []) text r = listed (op_named w) ≡ r
-IsOperatorRead (named o ∷ sign symbol.DoubleColon ∷ named w ∷ []) text r = listed (op_method o w) ≡ r
-IsOperatorRead ws text r = Err cause.OperatorNotListed ≡ r
+-- a lambda of two parameters is an operator
+abbrev pub argument_of : LambdaTerm → Result Argument Cause
+argument_of (long e) = Ok (number e)
+argument_of (boolean p) = Ok (test p)
+argument_of (pair f) = listed (op_of_form f)
+
+abbrev pub after_references : Option Cause → LambdaTerm → Result Argument Cause
+after_references None l = argument_of l
+after_references (Some e) l = Err e
+
+abbrev pub lambda_answer : Scope → Result LambdaTerm ReadFault → Result Argument Cause
+lambda_answer scope (Err f) = Err (cause.Expr f)
+lambda_answer scope (Ok l) = after_references (first_cause (reference_causes scope (names_of l))) l
+
+abbrev pub IsLambdaRead : Scope → List ℕ → Want → Result Argument Cause → Type 0
+IsLambdaRead scope text w r = (o : Result LambdaTerm ReadFault) × IsOutcome text w o × (lambda_answer scope o ≡ r)
+
+-- an operator is a name, a method, or a lambda of two parameters
+abbrev pub IsOperatorRead : Option (Option Op) → Scope → List ℕ → Result Argument Cause → Type 0
+IsOperatorRead (Some f) scope text r = listed f ≡ r
+IsOperatorRead None scope text r = IsLambdaRead scope text want.Pair r
 
 -- what words and a text are read as, by what the row says of the part; lambdas to a stream are not read yet
 abbrev pub IsReadBy : Param → Scope → List Word → List ℕ → Result Argument Cause → Type 0
 IsReadBy param.Number scope ws text r = Ok nothing ≡ r
-IsReadBy param.Text scope ws text r = text_answer scope ws ≡ r
-IsReadBy param.Name scope ws text r = name_answer scope ws ≡ r
+IsReadBy param.Text scope ws text r = text_answer scope (string_in ws) ≡ r
+IsReadBy param.Name scope ws text r = name_answer scope (name_in ws) ≡ r
 IsReadBy param.Long scope ws text r = IsLambdaRead scope text want.Long r
 IsReadBy param.Bool scope ws text r = IsLambdaRead scope text want.Bool r
 IsReadBy param.Stream scope ws text r = Err cause.Syntax ≡ r
-IsReadBy param.Operator scope ws text r = IsOperatorRead ws text r
+IsReadBy param.Operator scope ws text r = IsOperatorRead (spelled_op ws) scope text r
 
 -- what the last part of a call of a job is read as
 abbrev pub IsArgumentRead : Scope → TokenizedText → PlacedCall → Result Argument Cause → Type 0

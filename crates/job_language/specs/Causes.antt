@@ -2,9 +2,9 @@
 use Rattle.std.specs.Prelude.{ℕ, suc, ℤ, pos, int_lt, Bool, true, false, not, ◌||◌, nat_eq, nat_lt, nat_le, if◌then◌else◌, List, [], ◌∷◌, ◌++◌, length, take, drop, ◌-◌, Option, Some, None}
 use Rattle.std.specs.Option.{is_some}
 use Rattle.std.specs.Cmp.Lexicographic.{pointwise}
-use Rattle.lambda_expr.specs.Words.{Word, named, quoted}
+use Rattle.lambda_expr.specs.Words.{Word}
 use Rattle.lambda_expr.specs.declared.fault.ReadFault.TheVariants.{LiteralTooLarge}
-use Rattle.columns.specs.Table.{NamedColumn, cells_named}
+use Rattle.columns.specs.Table.{NamedColumn}
 use Rattle.job_language.specs.declared.operation.Operation.{Operation}
 use Rattle.job_language.specs.declared.operation.Operation.TheVariants as op
 use Rattle.job_language.specs.declared.operation.Param.{Param}
@@ -12,13 +12,12 @@ use Rattle.job_language.specs.declared.operation.Param.TheVariants as param
 use Rattle.job_language.specs.declared.operation.Role.{Role}
 use Rattle.job_language.specs.declared.operation.Role.TheVariants as role
 use Rattle.job_language.specs.declared.scope.Gives.{Gives}
-use Rattle.job_language.specs.declared.scope.Gives.TheVariants as gives
 use Rattle.job_language.specs.declared.fault.Cause.{Cause}
 use Rattle.job_language.specs.declared.fault.Cause.TheVariants as cause
-use Rattle.job_language.specs.Table.{param_of, role_of}
+use Rattle.job_language.specs.Table.{param_of}
 use Rattle.job_language.specs.Calls.{Call}
-use Rattle.job_language.specs.Grammar.{Job, plain_sources, job_calls}
-use Rattle.job_language.specs.Numbers.{literal_fits, number_of, number_read}
+use Rattle.job_language.specs.Grammar.{Job, plain_sources}
+use Rattle.job_language.specs.Numbers.{literal_fits, number_of}
 
 -- an earlier job: its name, and what its terminal gives
 pub record Earlier : Type 0 where
@@ -29,14 +28,6 @@ pub record Earlier : Type 0 where
 pub record Scope : Type 0 where
   pub jobs : List Earlier
   pub columns : List NamedColumn
-
--- what a terminal gives
-abbrev pub gives_of : Operation → Gives
-gives_of op.ToArray = gives.Array
-gives_of op.AnyMatch = gives.Boolean
-gives_of op.AllMatch = gives.Boolean
-gives_of op.NoneMatch = gives.Boolean
-gives_of o = gives.Number
 
 -- what the earlier job with this name gives
 abbrev pub given : List Earlier → List ℕ → Option Gives
@@ -77,65 +68,6 @@ is_negative z = int_lt z (pos 0)
 abbrev pub inside_quotes : List ℕ → List ℕ
 inside_quotes w = take (length w - 2) (drop 1 w)
 
-abbrev pub column_cause : Scope → List Word → Option Cause
-column_cause scope (quoted w ∷ []) = when (not (is_some (cells_named (inside_quotes w) scope.columns))) cause.UnknownColumn
-column_cause scope ws = None
-
--- `result` names an earlier job that gives an array
-abbrev pub array_cause : Option Gives → Option Cause
-array_cause None = Some cause.UnknownJob
-array_cause (Some gives.Array) = None
-array_cause (Some g) = Some cause.NotAnArray
-
-abbrev pub result_cause : Scope → List Word → Option Cause
-result_cause scope (named w ∷ []) = array_cause (given scope.jobs w)
-result_cause scope ws = None
-
--- a count below 0; a number outside 64 bits has its own cause before
-abbrev pub below_zero : Option ℤ → Option Cause
-below_zero None = None
-below_zero (Some z) = when (is_negative z) cause.NegativeCount
-
--- a range that begins below 0, or ends before it begins
-abbrev pub bad_range : Option ℤ → Option ℤ → Option Cause
-bad_range (Some a) (Some b) = when (is_negative a || int_lt b a) cause.BadRange
-bad_range a b = None
-
--- the cause of a call's own, after its numbers
-abbrev pub row_cause : Scope → Operation → List (List Word) → Option Cause
-row_cause scope op.Column (a ∷ []) = column_cause scope a
-row_cause scope op.Result (a ∷ []) = result_cause scope a
-row_cause scope op.Limit (a ∷ []) = below_zero (number_read a)
-row_cause scope op.Skip (a ∷ []) = below_zero (number_read a)
-row_cause scope op.Prefix (a ∷ b ∷ c ∷ []) = bad_range (number_read a) (number_read b)
-row_cause scope o xs = None
-
--- the causes of a call before those of its lambda or operator
-abbrev pub call_causes : Scope → Call → List (Option Cause)
-call_causes scope c = count_of c.operation (length c.parts) ∷ (number_causes c.operation (length c.parts) 0 c.parts ++ row_cause scope c.operation c.parts ∷ [])
-
--- a stage after 32 others
-abbrev pub stage_cause : ℕ → Role → Option Cause
-stage_cause n role.Stage = when (nat_le 32 n) cause.TooLong
-stage_cause n r = None
-
-abbrev pub stages_after : ℕ → Role → ℕ
-stages_after n role.Stage = suc n
-stages_after n r = n
-
--- the causes of calls in order of writing, after n stages
-abbrev pub calls_causes : Scope → ℕ → List Call → List (Option Cause)
-calls_causes scope n [] = []
-calls_causes scope n (c ∷ cs) = stage_cause n (role_of c.operation) ∷ (call_causes scope c ++ calls_causes scope (stages_after n (role_of c.operation)) cs)
-
--- at most 8 plain sources, those of each `concat` counted
-abbrev pub sources_cause : Job → Option Cause
-sources_cause j = when (nat_lt 8 (length (plain_sources j.source))) cause.TooLong
-
--- the causes of a job before those of its lambdas and operators
-abbrev pub job_causes : Scope → Job → List (Option Cause)
-job_causes scope j = name_causes scope j.name ++ sources_cause j ∷ calls_causes scope 0 (job_calls j)
-
 -- the numbers of a call, from part i on
 abbrev pub number_in : Param → List Word → List ℤ
 number_in param.Number ws = number_of ws ∷ []
@@ -157,3 +89,12 @@ abbrev pub early_causes : Call → List (Option Cause)
 early_causes c =
     let n = length c.parts in
     count_of c.operation n ∷ (number_causes c.operation n 0 c.parts ++ values_cause c.operation (numbers_of c.operation n 0 c.parts) ∷ [])
+
+-- a stage after 32 others
+abbrev pub stage_cause : ℕ → Role → Option Cause
+stage_cause n role.Stage = when (nat_le 32 n) cause.TooLong
+stage_cause n r = None
+
+-- at most 8 plain sources, those of each `concat` counted
+abbrev pub sources_cause : Job → Option Cause
+sources_cause j = when (nat_lt 8 (length (plain_sources j.source))) cause.TooLong

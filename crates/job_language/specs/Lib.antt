@@ -13,3 +13,4 @@ pub mod Jobs
 pub mod Operators
 pub mod Arguments
 pub mod Verdicts
+pub mod Parts

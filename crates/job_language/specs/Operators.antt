@@ -1,11 +1,10 @@
 -- Meaning: the operators of `prefix` and `reduce`, by how they are written.
-use Rattle.std.specs.Prelude.{ℕ, ℤ, Bool, true, false, zero, suc, ◌&&◌, not, nat_eq, if◌then◌else◌, List, [], ◌∷◌, codes, Option, Some, None}
+use Rattle.std.specs.Prelude.{ℕ, Bool, true, false, nat_eq, if◌then◌else◌, List, [], ◌∷◌, codes, Option, Some, None}
 use Rattle.std.specs.Cmp.Lexicographic.{pointwise}
 use Rattle.stream_tokens.specs.declared.symbol.Symbol.TheVariants as symbol
-use Rattle.lambda_expr.specs.Words.{Word, named, numeral, referred, sign}
-use Rattle.lambda_expr.specs.Term.{Long, parameter, binary}
-use Rattle.lambda_expr.specs.declared.operator.BinaryOperator.{BinaryOperator}
-use Rattle.lambda_expr.specs.declared.operator.BinaryOperator.TheVariants as binary_operator
+use Rattle.lambda_expr.specs.Words.{Word, named, sign}
+use Rattle.lambda_expr.specs.declared.lambda.PairForm.{PairForm}
+use Rattle.lambda_expr.specs.declared.lambda.PairForm.TheVariants as form
 use Rattle.reduce_ops.specs.declared.op.Op.{Op}
 use Rattle.reduce_ops.specs.declared.op.Op.TheVariants as op
 
@@ -61,37 +60,21 @@ op_method owner name =
     else (if is_text owner (codes "Math") then only_if in_math (op_named name)
     else None)
 
--- the operator that computes as this one of expressions does
-abbrev pub op_computing : BinaryOperator → Option Op
-op_computing binary_operator.Add = Some op.Sum
-op_computing binary_operator.Multiply = Some op.Product
-op_computing binary_operator.Min = Some op.Min
-op_computing binary_operator.Max = Some op.Max
-op_computing binary_operator.And = Some op.And
-op_computing binary_operator.Or = Some op.Or
-op_computing binary_operator.Xor = Some op.Xor
-op_computing o = None
+-- the operator that words name, if they are a name or a method
+abbrev pub spelled_op : List Word → Option (Option Op)
+spelled_op (named w ∷ []) = Some (op_named w)
+spelled_op (named o ∷ sign symbol.DoubleColon ∷ named w ∷ []) = Some (op_method o w)
+spelled_op ws = None
 
--- the operator with this body of a lambda of two parameters: one of them, or an operation on the first and the second
-abbrev pub op_of_body : Long → Option Op
-op_of_body (parameter zero) = Some op.First
-op_of_body (parameter (suc zero)) = Some op.Last
-op_of_body (binary o (parameter zero) (parameter (suc zero))) = op_computing o
-op_of_body e = None
-
--- whether an operand ends with this word
-abbrev pub ends_operand : Word → Bool
-ends_operand (named w) = true
-ends_operand (numeral w) = true
-ends_operand (referred w) = true
-ends_operand (sign symbol.Close) = true
-ends_operand w = false
-
-abbrev pub is_plus : Word → Bool
-is_plus (sign symbol.Plus) = true
-is_plus w = false
-
--- whether a `+` stands before an operand, as no listed operator has it
-abbrev pub has_plus_sign : List Word → Bool
-has_plus_sign (v ∷ w ∷ ws) = if not (ends_operand v) && is_plus w then true else has_plus_sign (w ∷ ws)
-has_plus_sign ws = false
+-- the operator that a lambda of two parameters is, by the form of its body
+abbrev pub op_of_form : PairForm → Option Op
+op_of_form form.First = Some op.First
+op_of_form form.Second = Some op.Last
+op_of_form form.Sum = Some op.Sum
+op_of_form form.Product = Some op.Product
+op_of_form form.Min = Some op.Min
+op_of_form form.Max = Some op.Max
+op_of_form form.And = Some op.And
+op_of_form form.Or = Some op.Or
+op_of_form form.Xor = Some op.Xor
+op_of_form form.Other = None

@@ -16,7 +16,9 @@ use Rattle.job_language.specs.declared.shape.Reader as shape
 use Rattle.job_language.specs.Table.{operation_of, role_of}
 use Rattle.job_language.specs.Calls.{Call}
 use Rattle.job_language.specs.Splitting.{call_at, AreEnds}
-use Rattle.job_language.specs.Grammar.{Piece, call, begin_concat, owner, comma, close, dot, semicolon, piece_words, pieces_words, calls_of, job_calls, Job, IsSpelled, IsJob}
+use Rattle.job_language.specs.Grammar.{Piece, call, begin_concat, owner, comma, close, dot, semicolon, piece_words, pieces_words, Job, IsSpelled, IsJob}
+use Rattle.job_language.specs.Arguments.{PlacedCall}
+use Rattle.job_language.specs.Verdicts.{placed, placed_calls}
 use Rattle.job_language.specs.Reading.{mark_of, IsPiece, ArePieces, coded, reads, begins}
 
 -- the call whose parts end there, in the words after its parenthesis
@@ -26,6 +28,19 @@ call_in ws c = call_at c.operation (drop (c.opened + 1) ws) c.ends.items
 abbrev pub calls_in : List Word → List code.WrittenCall → List Call
 calls_in ws [] = []
 calls_in ws (c ∷ cs) = call_in ws c ∷ calls_in ws cs
+
+-- the call whose words stand there, with its place
+abbrev pub placed_in : List Word → code.WrittenCall → PlacedCall
+placed_in ws c = record { opened = c.opened; call = call_in ws c }
+
+abbrev pub all_placed : List Word → List code.WrittenCall → List PlacedCall
+all_placed ws [] = []
+all_placed ws (c ∷ cs) = placed_in ws c ∷ all_placed ws cs
+
+-- the parenthesis is the word after this place
+abbrev pub OpensAfter : ℕ → Option code.WrittenCall → Type 0
+OpensAfter at None = Unit {0}
+OpensAfter at (Some c) = c.opened ≡ suc at
 
 -- the parenthesis and the ends of a call stand in the words
 pub record StandsIn (ws : List Word) (c : code.WrittenCall) : Type 0 where
@@ -86,6 +101,7 @@ pub record IsPieceRead (ws : List Word) (at : ℕ) (r : piece.ReadPiece) : Type 
   pub begins : Begins ws at (piece_of ws r) r.to
   pub mark : mark_of (piece_of ws r) ≡ r.mark
   pub stands : MayStandIn ws r.call
+  pub opens : OpensAfter at r.call
 
 abbrev pub is_open : Word → Bool
 is_open (sign symbol.Open) = true
@@ -112,10 +128,10 @@ abbrev pub IsNotSpelled : List Word → Type 0
 IsNotSpelled ws = (j : Job) → IsSpelled ws j → ⊥
 
 -- these are the calls of a job with these words, in order of writing
-pub record AreCallsOf (ws : List Word) (cs : List Call) : Type 0 where
+pub record AreCallsOf (ws : List Word) (cs : List PlacedCall) : Type 0 where
   pub job : Job
   pub spelled : IsSpelled ws job
-  pub calls : cs ≡ job_calls job
+  pub calls : cs ≡ placed_calls job
 
 abbrev pub is_last : Mode → Bool
 is_last mode.AfterTerminal = true
@@ -128,7 +144,8 @@ pub record IsReading (ws : List Word) (r : shape.Reader) : Type 0 where
   pub pieces : ArePieces done
   pub spelled : pieces_words done ++ drop r.at ws ≡ drop 2 ws
   pub place : coded (reads begins done) ≡ Some (r.mode, reverse r.commas.items)
-  pub calls : calls_in ws r.calls.items ≡ calls_of done
+  pub calls : all_placed ws r.calls.items ≡ placed 2 done
+  pub far : r.at ≡ 2 + length (pieces_words done)
   pub stand : StandIn ws r.calls.items
   pub within : r.at ≤ length ws
 
@@ -138,10 +155,10 @@ Advances ws old new true = IsReading ws new × (old.at < new.at)
 Advances ws old new false = IsNotSpelled ws
 
 -- these are the calls of a job that these words are, in order of writing
-pub record AreCallsIn (ws : List Word) (cs : List Call) : Type 0 where
+pub record AreCallsIn (ws : List Word) (cs : List PlacedCall) : Type 0 where
   pub job : Job
   pub is : IsJob ws job
-  pub calls : cs ≡ job_calls job
+  pub calls : cs ≡ placed_calls job
 
 -- where part i begins: at a, or after the end of the part before it
 abbrev pub start_before : ℕ → List ℕ → ℕ → ℕ

@@ -1,5 +1,5 @@
 -- Meaning: what the text of a job is read as: the job, or the first cause for which it is refused.
-use Rattle.std.specs.Prelude.{◌≡◌, ℕ, suc, ◌+◌, ◌<◌, ◌≤◌, ℤ, pos, unsigned_abs, Bool, not, ◌⊎◌, if◌then◌else◌, List, [], ◌∷◌, ◌++◌, length, get_or, Option, Some, None, Result, Ok, Err}
+use Rattle.std.specs.Prelude.{◌≡◌, ℕ, suc, ◌+◌, ◌<◌, ◌≤◌, ℤ, pos, unsigned_abs, not, ◌⊎◌, List, [], ◌∷◌, ◌++◌, length, get_or, Option, Some, None, Result, Ok, Err}
 use Rattle.std.specs.Ordering.{int_eq}
 use Rattle.stream_tokens.specs.declared.token.Token.{Token}
 use Rattle.stream_tokens.specs.Tokens.{AreTokensOf}
@@ -21,12 +21,12 @@ use Rattle.job_language.specs.declared.operation.Role.TheVariants as role
 use Rattle.job_language.specs.declared.scope.Gives.{Gives}
 use Rattle.job_language.specs.declared.scope.Gives.TheVariants as gives
 use Rattle.job_language.specs.Table.{role_of}
-use Rattle.job_language.specs.Calls.{Call, call_words}
+use Rattle.job_language.specs.Calls.{call_words}
 use Rattle.job_language.specs.Grammar.{Piece, call, piece_words, job_pieces, Job, IsJob, IsNoJob}
 use Rattle.job_language.specs.Jobs.{PlainSourceTerm, JobStageTerm, TerminalTerm, JobTerm}
 use Rattle.job_language.specs.Jobs as term
 use Rattle.job_language.specs.Causes.{Earlier, Scope, first_cause, when, name_causes, stage_cause, early_causes, numbers_of, sources_cause}
-use Rattle.job_language.specs.Arguments.{Argument, nothing, column, job, number, test, stream, operator, PlacedCall, IsArgumentRead}
+use Rattle.job_language.specs.Arguments.{Argument, column, job, number, test, stream, operator, PlacedCall, IsArgumentRead}
 
 -- what a call is read as
 pub data CallTerm : Type 0 where

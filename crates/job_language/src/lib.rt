@@ -5,41 +5,49 @@
 //! `specs/Table.antt`): its name, where it stands, how many parts stand between its parentheses, and what each
 //! is. The grammar, the reader and what a job means share that table.
 //!
-//! Stands on `stream_tokens`, which cuts the text of a job once (`CutText`), and on the words and numbers of
-//! `lambda_expr`, and on `columns` for their names. `parse_job` gives the calls of a job in order of writing
-//! exactly when the text is a job, and `None` exactly when it is none; `one_job` says that words are one job at
-//! most. `job_cause` is the first cause for which a job is refused (`Scope`: the earlier jobs and the columns);
-//! `name_cause` and `call_cause` are that of a name and of a call.
+//! Stands on `stream_tokens`, which cuts the text of a job once (`CutText`), on `lambda_expr`, which reads a
+//! lambda from its part of that text, on `columns`, and on the crates whose stages, terminals and operators a job
+//! is made of. `read_job` gives the job that a text spells, or the first cause in order of writing for which it
+//! is refused (`specs/Verdicts.antt`, `IsRead`); `Scope` has the earlier jobs and the columns. `parse_job` gives
+//! the calls of a job in order of writing exactly when the text is a job; `one_job` says that words are one job
+//! at most.
 //!
-//! Begin with `specs/Grammar.antt`, then `shape.rt`; for refusals with `specs/Causes.antt`, then `causes.rt` and
-//! `job_causes.rt`. Tests are in the crate `job_tests`.
+//! Begin with `specs/Grammar.antt` and `specs/Verdicts.antt`, then `read.rt`, `parts.rt` and `argument.rt`; for
+//! the grammar `shape.rt`. Tests are in the crate `job_tests`.
 //!
-//! Not promised: that a lambda or an operator between parentheses is one.
+//! Not promised: that memory is there.
 #![tactic(auto)]
 
+mod argument;
 mod call;
+mod call_part;
 mod causes;
 mod fault;
 mod job;
-mod job_causes;
+mod laws;
 mod mode;
 mod number;
+mod numbers;
 mod operation;
+mod operator;
+mod parts;
 mod piece;
+mod read;
 mod scope;
 mod shape;
 mod sound;
 mod word;
 
 pub use call::one_call;
-pub use causes::{call_cause, name_cause};
+pub use causes::name_cause;
 pub use fault::{Cause, JobFault};
 pub use job::{Job, JobStage, PlainSource, Terminal};
-pub use job_causes::job_cause;
+pub use laws::{a_job_has_a_name, one_verdict};
 pub use operation::{
     Operation, Param, Role, allows, name_of, one_operation, operation_of, param_of, role_of,
 };
 pub use piece::WrittenCall;
-pub use scope::{EarlierJob, Gives, Scope, gives_of};
+pub use read::read_job;
+pub use scope::{EarlierJob, Gives, Scope};
 pub use shape::{ParsedJob, one_job, parse_job};
 pub use word::Word;

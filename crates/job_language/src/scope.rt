@@ -1,12 +1,15 @@
 //! What the names of a job may stand for: earlier jobs and columns.
 ghost use Rattle.std.specs.Prelude.{◌≡◌, drop};
-ghost use Rattle.job_language.specs.Causes.{gives_of, given};
+ghost use Rattle.job_language.specs.Causes.{given};
+ghost use Rattle.find_ops.specs.Finds.{find_of};
+ghost use Rattle.job_language.specs.Jobs.{terminal_of};
+ghost use Rattle.job_language.specs.Jobs.{find as find_terminal};
+ghost use Rattle.job_language.specs.Verdicts.{given_by};
 ghost use Rattle.job_language.specs.Scopes.{scope_of, jobs_of};
-ghost use Rattle.std.specs.Option.{is_some};
-ghost use Rattle.columns.specs.Table.{cells_named};
 
-use crate::operation::Operation;
+use crate::job::Terminal;
 use columns::Columns;
+use find_ops::FindTerminal;
 
 /// What the terminal of a job gives.
 #[derive(Clone, Copy, PartialEq, Eq)]
@@ -17,14 +20,32 @@ pub enum Gives {
     Array,
 }
 
-/// What a terminal gives.
-pub fn gives_of(operation: Operation) -> Gives
-    ensures { result ≡ gives_of operation }
+impl Terminal {
+    /// What the terminal gives.
+    pub fn gives(&self) -> Gives
+        ensures { result ≡ given_by (terminal_of self.now) }
+    {
+        match self {
+            Terminal::ToArray => Gives::Array,
+            Terminal::Find(find) => found_by(find),
+            Terminal::Sum
+            | Terminal::Count
+            | Terminal::Min
+            | Terminal::Max
+            | Terminal::Reduce(_)
+            | Terminal::ReduceFrom { .. } => Gives::Number,
+        }
+    }
+}
+
+fn found_by(find: &FindTerminal) -> Gives
+    ensures { result ≡ given_by (find_terminal (find_of find.now)) }
 {
-    match operation {
-        Operation::ToArray => Gives::Array,
-        Operation::AnyMatch | Operation::AllMatch | Operation::NoneMatch => Gives::Boolean,
-        _ => Gives::Number,
+    match find {
+        FindTerminal::First => Gives::Number,
+        FindTerminal::AnyMatch(_) | FindTerminal::AllMatch(_) | FindTerminal::NoneMatch(_) => {
+            Gives::Boolean
+        }
     }
 }
 
@@ -37,9 +58,9 @@ pub struct EarlierJob<'a> {
 
 /// The jobs above the one that is read, in file order, and the columns.
 #[derive(Clone, Copy)]
-pub struct Scope<'a> {
-    pub jobs: &'a [EarlierJob<'a>],
-    pub columns: &'a Columns,
+pub struct Scope<'s, 'c> {
+    pub jobs: &'s [EarlierJob<'s>],
+    pub columns: &'c Columns,
 }
 
 /// What the earlier job with this name gives. Looks at the names in turn.
@@ -52,11 +73,4 @@ pub fn given(jobs: &[EarlierJob], name: &[u8]) -> Option<Gives>
         }
     }
     None
-}
-
-/// Whether there is a column with this name.
-pub fn has_column(columns: &Columns, name: &[u8]) -> bool
-    ensures { result ≡ is_some (cells_named name.now columns.now) }
-{
-    columns.get(name).is_some()
 }

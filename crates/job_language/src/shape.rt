@@ -1,10 +1,11 @@
 //! The shape of a job: its calls in order of writing.
-ghost use Rattle.std.specs.Prelude.{◌≡◌, ◌<◌, ◌++◌, ◌∷◌, List, [], IfOk, MatchOption, length};
+ghost use Rattle.std.specs.Prelude.{◌≡◌, ℕ, ◌<◌, ◌++◌, ◌∷◌, List, [], IfOk, MatchOption, length};
 ghost use Rattle.lambda_expr.specs.Words.{Word as meant, words_of};
 ghost use Rattle.job_language.specs.declared.piece.Mark.{Mark as meant_mark};
 ghost use Rattle.job_language.specs.Splitting.{words_in};
-ghost use Rattle.job_language.specs.Grammar.{Job as job, calls_of, IsSpelled, IsNoJob};
-ghost use Rattle.job_language.specs.Shapes.{begins_job, calls_in, piece_from, is_last, IsNotSpelled, AreCallsOf, AreCallsIn, IsReading, Advances, StandIn, MayStandIn};
+ghost use Rattle.job_language.specs.Verdicts.{placed};
+ghost use Rattle.job_language.specs.Grammar.{Job as job, IsSpelled, IsNoJob};
+ghost use Rattle.job_language.specs.Shapes.{begins_job, all_placed, OpensAfter, piece_from, is_last, IsNotSpelled, AreCallsOf, AreCallsIn, IsReading, Advances, StandIn, MayStandIn};
 
 use crate::mode::{Mode, moved};
 use crate::piece::{ReadPiece, WrittenCall, piece_at};
@@ -27,8 +28,8 @@ pub struct Reader {
 fn add_call(calls: &mut Vec<WrittenCall>, call: Option<WrittenCall>) -> Result<(), AllocError>
     ensures stand { IfOk result (λ _. (ws : List meant) → StandIn ws calls.old.items
         → MayStandIn ws call → StandIn ws calls.new.items) }
-    ensures calls { IfOk result (λ _. (ws : List meant) (m : meant_mark)
-        → calls_in ws calls.new.items ≡ calls_in ws calls.old.items ++ calls_of (piece_from ws m call ∷ [])) }
+    ensures calls { IfOk result (λ _. (ws : List meant) (n : ℕ) (m : meant_mark) → OpensAfter n call
+        → all_placed ws calls.new.items ≡ all_placed ws calls.old.items ++ placed n (piece_from ws m call ∷ [])) }
 {
     if let Some(call) = call {
         calls.push(call)?;
@@ -78,7 +79,7 @@ fn is_last(mode: Mode) -> bool
 /// The calls of the job that has these words, or `None` if no job has them.
 pub fn read_calls(alloc: Global, words: &[Word]) -> Result<Option<Vec<WrittenCall>>, AllocError>
     ensures { IfOk result (λ found. MatchOption found (IsNotSpelled (words_in words.now))
-        (λ calls. AreCallsOf (words_in words.now) (calls_in (words_in words.now) calls.items)
+        (λ calls. AreCallsOf (words_in words.now) (all_placed (words_in words.now) calls.items)
         × StandIn (words_in words.now) calls.items)) }
 {
     if !begins_job(words) {
@@ -114,7 +115,7 @@ pub struct ParsedJob<'a> {
 fn with_words<'a>(alloc: Global, words: Vec<Word<'a>>) -> Result<Option<ParsedJob<'a>>, AllocError>
     ensures { let ws = words_in words.entry.items in
         IfOk result (λ found. MatchOption found (IsNotSpelled ws)
-        (λ job. (words_in job.words.items ≡ ws) × AreCallsOf ws (calls_in ws job.calls.items)
+        (λ job. (words_in job.words.items ≡ ws) × AreCallsOf ws (all_placed ws job.calls.items)
         × StandIn ws job.calls.items)) }
 {
     match read_calls(alloc, &words)? {
@@ -130,7 +131,7 @@ fn with_words<'a>(alloc: Global, words: Vec<Word<'a>>) -> Result<Option<ParsedJo
 pub fn parse_job<'a>(alloc: Global, text: &CutText<'a>) -> Result<Option<ParsedJob<'a>>, AllocError>
     ensures { let ws = words_of text.now.bytes text.now.tokens in
         IfOk result (λ found. MatchOption found (IsNoJob ws)
-        (λ job. (words_in job.words.items ≡ ws) × AreCallsIn ws (calls_in ws job.calls.items)
+        (λ job. (words_in job.words.items ≡ ws) × AreCallsIn ws (all_placed ws job.calls.items)
         × StandIn ws job.calls.items)) }
 {
     match sound_words(alloc, text)? {

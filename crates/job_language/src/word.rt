@@ -1,7 +1,8 @@
 //! The words of a job: what its tokens are to the grammar.
-ghost use Rattle.std.specs.Prelude.{◌≡◌, ◌≤◌, ◌<◌, ◌+◌, ℕ, length, get_or, drop, slice_range, IfSome, IfOk, IfSome, MatchOption, true, false, ◌&&◌};
+ghost use Rattle.std.specs.Prelude.{◌≡◌, ◌≤◌, ◌<◌, ◌+◌, ℕ, length, get_or, drop, slice_range, IfSome, IfOk, IfSome, MatchOption, option_map, ◌∷◌, [], true, false, ◌&&◌};
 ghost use Rattle.lambda_expr.specs.Words.{bad};
 ghost use Rattle.job_language.specs.Table.{fits, is_digits, is_minus, is_dot, is_owner, is_limit, is_number, is_text, is_name, is_some};
+ghost use Rattle.job_language.specs.Arguments.{string_in, name_in};
 ghost use Rattle.job_language.specs.Calls.{bracket_of, nest};
 ghost use Rattle.job_language.specs.Splitting.{word_of, words_in};
 
@@ -175,5 +176,43 @@ pub fn fits(param: Param, words: &[Word]) -> bool
         Param::Text => is_text(words),
         Param::Name => is_name(words),
         Param::Long | Param::Bool | Param::Stream | Param::Operator => is_some(words),
+    }
+}
+
+fn string_of<'a>(word: Word<'a>) -> Option<&'a [u8]>
+    ensures { option_map (λ w. w.now) result ≡ string_in (word_of word.entry ∷ []) }
+{
+    match word {
+        Word::Text(string) => Some(string),
+        _ => None,
+    }
+}
+
+/// The string that words are.
+pub fn string_in<'a>(words: &[Word<'a>]) -> Option<&'a [u8]>
+    ensures { option_map (λ w. w.now) result ≡ string_in (words_in words.now) }
+{
+    match words.len() {
+        1 => string_of(words[0]),
+        _ => None,
+    }
+}
+
+fn name_of<'a>(word: Word<'a>) -> Option<&'a [u8]>
+    ensures { option_map (λ w. w.now) result ≡ name_in (word_of word.entry ∷ []) }
+{
+    match word {
+        Word::Name(name) => Some(name),
+        _ => None,
+    }
+}
+
+/// The name that words are.
+pub fn name_in<'a>(words: &[Word<'a>]) -> Option<&'a [u8]>
+    ensures { option_map (λ w. w.now) result ≡ name_in (words_in words.now) }
+{
+    match words.len() {
+        1 => name_of(words[0]),
+        _ => None,
     }
 }

@@ -1,20 +1,9 @@
 //! Why jobs are refused. The causes are worked out by hand.
 use columns::{Columns, Counted, read_columns};
-use job_language::{Cause, EarlierJob, Gives, Scope, job_cause, parse_job};
+use job_language::{Cause, EarlierJob, Gives, JobFault, Scope, read_job};
 use lambda_expr::ReadFault;
-use std::alloc::{AllocError, Global};
+use std::alloc::Global;
 use std::test::Fail;
-use stream_tokens::{CutText, cut};
-
-/// The first cause of a job, but for its lambdas and operators.
-fn cause_of(alloc: Global, scope: Scope, text: &[u8]) -> Result<Option<Cause>, AllocError> {
-    let tokens = cut(alloc, text)?;
-    let text = CutText::of(text, &tokens);
-    match parse_job(alloc, &text)? {
-        Some(job) => Ok(job_cause(scope, &job)),
-        None => Ok(Some(Cause::Syntax)),
-    }
-}
 
 /// The cause if `total` gives a number, `any` a boolean and `list` an array, above the job.
 fn cause_in(alloc: Global, columns: &Columns, text: &[u8]) -> Option<Cause> {
@@ -35,10 +24,7 @@ fn cause_in(alloc: Global, columns: &Columns, text: &[u8]) -> Option<Cause> {
         jobs: &jobs,
         columns,
     };
-    match cause_of(alloc, scope, text) {
-        Ok(cause) => cause,
-        Err(AllocError) => Some(Cause::NoMemory),
-    }
+    read_job(alloc, scope, text).err()
 }
 
 #[test]
@@ -46,7 +32,7 @@ fn the_first_cause_in_order_of_writing_is_reported(rt: HostRuntime) {
     let columns = read_columns(rt.alloc(), &mut Counted::new(b"a,b c\n1,2\n".as_slice()));
     let columns = columns.unwrap_or(Columns::none());
     let well =
-        r#"s = column("a").limit(0).sum()|s = column("b c").skip(Long.MAX_VALUE).sum()|s = result(list).prefix(0, 0, sum).sum()|s = of(-9223372036854775808).limit(9223372036854775807).sum()"#;
+        r#"s = of(1).map(x -> x + $total).reduce(0, (a, b) -> (a) + b)|s = of(1).reduce(-9223372036854775808, (long f, long g) -> Math.max(f, g))|s = column("a").limit(0).sum()|s = column("b c").skip(Long.MAX_VALUE).sum()|s = result(list).prefix(0, 0, sum).sum()|s = of(-9223372036854775808).limit(9223372036854775807).sum()"#;
     let same_name = r#"list = column("z").limit(-1).sum()|any = of(1).limit(1).sum()"#;
     let unknown_column =
         r#"s = column("c").limit(-1).sum()|s = column("").limit(1).sum()|s = column("A").limit(1).sum()|s = column("a ").limit(1).sum()"#;
@@ -57,6 +43,19 @@ fn the_first_cause_in_order_of_writing_is_reported(rt: HostRuntime) {
     let too_large = "s = of(1, 9223372036854775808).limit(-1).sum()|\
 s = of(-9223372036854775809).limit(-1).sum()|s = of(1).limit(9223372036854775808).sum()|\
 s = of(1).prefix(3, 9223372036854775808, avg).sum()|s = of(1).limit(1).reduce(9223372036854775808, avg)";
+    let column_9 = "s = of(1).map(x -> x +).sum()|s = of(1).filter(x -> x +).limit(-1).sum()";
+    let wrong_type = "s = of(1).map(x -> x > 1).sum()|s = of(1).anyMatch(x -> x)";
+    let not_listed =
+        "s = of(1).reduce(1, avg)|s = of(1).prefix(Math::sum).sum()|s = of(1).reduce(true)";
+    let not_listed_lambda =
+        "s = of(1).reduce((a, b) -> a - b)|s = of(1).reduce(0, (a, b) -> +a + b)|\
+s = of(1).prefix((a, b) -> b + a).sum()|s = of(1).reduce((a, b) -> $z)";
+    let unknown_reference =
+        "s = of(1).map(x -> x + $lists + $any).sum()|s = of(1).filter(x -> x > $s).sum()";
+    let not_a_number =
+        "s = of(1).map(x -> $total + $any + $z).sum()|s = of(1).filter(x -> $list > 1).limit(-1).sum()";
+    let no_identity = "s = of(1).reduce(0, last)|s = of(1).reduce(1, (a, b) -> a)";
+    let not_identity = "s = of(1).reduce(1, Long::sum)|s = of(1).reduce(0, Math::min)";
     for (texts, cause) in [
         (well, None),
         (same_name, Some(Cause::SameName)),
@@ -66,12 +65,51 @@ s = of(1).prefix(3, 9223372036854775808, avg).sum()|s = of(1).limit(1).reduce(92
         (negative_count, Some(Cause::NegativeCount)),
         (bad_range, Some(Cause::BadRange)),
         (too_large, Some(Cause::Expr(ReadFault::LiteralTooLarge))),
+        (column_9, Some(Cause::Expr(ReadFault::Syntax { column: 9 }))),
+        (wrong_type, Some(Cause::Expr(ReadFault::WrongType))),
+        (not_listed, Some(Cause::OperatorNotListed)),
+        (not_listed_lambda, Some(Cause::OperatorNotListed)),
+        (unknown_reference, Some(Cause::UnknownJob)),
+        (not_a_number, Some(Cause::NotANumber)),
+        (no_identity, Some(Cause::NoIdentity)),
+        (not_identity, Some(Cause::NotIdentity)),
     ] {
         for text in texts.split('|') {
             let found = cause_in(rt.alloc(), &columns, text.as_bytes());
             assert!(rt; found == cause, "{text}");
         }
     }
+}
+
+#[test]
+fn each_cause_has_its_line(rt: HostRuntime) -> Result<(), Fail> {
+    let texts =
+        "syntax|same name|unknown column|unknown job|not a number|not an array|negative count|not identity|no identity|operator not listed|bad range|too long|expression syntax at column 9|wrong type|unknown name|too deep|literal too large";
+    let causes = [
+        Cause::Syntax,
+        Cause::SameName,
+        Cause::UnknownColumn,
+        Cause::UnknownJob,
+        Cause::NotANumber,
+        Cause::NotAnArray,
+        Cause::NegativeCount,
+        Cause::NotIdentity,
+        Cause::NoIdentity,
+        Cause::OperatorNotListed,
+        Cause::BadRange,
+        Cause::TooLong,
+        Cause::Expr(ReadFault::Syntax { column: 9 }),
+        Cause::Expr(ReadFault::WrongType),
+        Cause::Expr(ReadFault::UnknownName),
+        Cause::Expr(ReadFault::TooDeep),
+        Cause::Expr(ReadFault::LiteralTooLarge),
+    ];
+    for (text, cause) in texts.split('|').zip(causes) {
+        let found = format!(in rt.alloc(); "{}", JobFault::at(7, cause))?;
+        let line = format!(in rt.alloc(); "jobs: line 7: {text}")?;
+        assert!(rt; found == line, "{text}");
+    }
+    Ok(())
 }
 
 #[test]

@@ -51,5 +51,6 @@ returns c =
     record {
       begins = subst (λ n. Begins ws c.args.at (call (call_at o (drop (c.args.at + 1 + 1) ws) c.in-Some.ends.items)) (c.args.at + 2 + n)) (sym is) (begins_call ws c.args.at o c.in-Some.ends.items lt c.requires.name c.requires.open here);
       mark = ap mark.Call (sym c.role_of-role.ensures);
+      opens = omega arith;
       stands = record { opened = lt; ends = subst (λ v. AreEnds 0 c.in-Some.ends.items (length v)) there here.ends };
     }

@@ -17,6 +17,7 @@ returns-in-Some c =
       begins = begins_word ws c.args.at c.in-Some.mark lt here;
       mark = here.mark;
       stands = tt;
+      opens = tt;
     }
 
 pub returns-in-None : goal.returns-in-None

@@ -30,4 +30,4 @@ returns c =
     let p = c.in-Some.piece in
     let read = subst (λ f. MatchOption f (IsNoPiece (drop r.at ws)) (λ p. IsPieceRead ws r.at p)) c.in-Some.is c.in_ok-piece.ensures in
     let some = subst (λ f. MatchOption f (moved r.mode (reverse r.commas.items) p.mark ≡ None) (λ k. moved r.mode (reverse r.commas.items) p.mark ≡ Some (k, reverse c.moved.new.commas.items))) c.in-Some-2.is c.in_ok-mode.ensures in
-    (reading_on ws r (record { mode = c.in-Some-2.mode; commas = c.moved.new.commas; calls = c.add_call.new.calls; at = p.to }) (piece_of ws p) c.requires.reading read.begins (ap (moved r.mode (reverse r.commas.items)) read.mark ∙ some) (c.in_ok-add_call.ensures.calls ws p.mark) (c.in_ok-add_call.ensures.stand ws c.requires.reading.stand read.stands), read.begins.further)
+    (reading_on ws r (record { mode = c.in-Some-2.mode; commas = c.moved.new.commas; calls = c.add_call.new.calls; at = p.to }) (piece_of ws p) c.requires.reading read.begins (ap (moved r.mode (reverse r.commas.items)) read.mark ∙ some) (c.in_ok-add_call.ensures.calls ws r.at p.mark read.opens) (c.in_ok-add_call.ensures.stand ws c.requires.reading.stand read.stands), read.begins.further)

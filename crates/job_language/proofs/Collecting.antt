@@ -1,0 +1,90 @@
+-- What is collected of a call: its numbers, its last part.
+use Rattle.std.proofs.Common.{◌≡◌, ◌≢◌, ℕ, suc, ◌+◌, ◌<◌, ◌≤◌, false, List, [], ◌∷◌, ◌++◌, length, drop, get_or, Some, None, Err, refl, sym, ap, ◌∙◌, arith}
+use Rattle.std.specs.Prelude.{nat_eq, if◌then◌else◌}
+use Rattle.std.specs.Cmp.Lexicographic.{pointwise}
+use Rattle.std.proofs.lemmas.List.{drop_more}
+use Rattle.stream_tokens.specs.declared.symbol.Symbol.TheVariants as symbol
+use Rattle.lambda_expr.specs.Words.{Word, named, quoted, sign}
+use Rattle.lambda_expr.specs.Refusals.{IsRefused}
+use Rattle.lambda_expr.specs.declared.fault.ReadFault.{ReadFault}
+use Rattle.lambda_expr.specs.declared.fault.ReadFault.TheVariants as fault
+use Rattle.lambda_expr.specs.declared.lambda.Want.{Want}
+use Rattle.reduce_ops.specs.declared.op.Op.{Op}
+use Rattle.job_language.specs.declared.word.Word as code
+use Rattle.job_language.specs.declared.operation.Operation.{Operation}
+use Rattle.job_language.specs.declared.fault.Cause.{Cause}
+use Rattle.job_language.specs.declared.fault.Cause.TheVariants as cause
+use Rattle.job_language.specs.Table.{param_of}
+use Rattle.job_language.specs.Splitting.{word_of, words_in}
+use Rattle.job_language.specs.FaultCauses.{cause_of}
+use Rattle.job_language.specs.Causes.{Scope, number_in, numbers_of}
+use Rattle.job_language.specs.Operators.{op_name, op_among, spelled_op}
+use Rattle.job_language.specs.Arguments.{string_in, name_in, IsLambdaRead}
+
+-- an operator with another name is skipped
+pub op_more : (os : List Op) (i : ℕ) (w : List ℕ) (d : Op) → i < length os → pointwise nat_eq w (op_name (get_or os i d)) ≡ false → op_among (drop i os) w ≡ op_among (drop (i + 1) os) w
+op_more os i w d lt other = ap (λ v. op_among v w) (drop_more os i d lt) ∙ ap (λ b. if b then Some (get_or os i d) else op_among (drop (i + 1) os) w) other
+
+-- the numbers of a call from a part on
+pub values_more : (o : Operation) (n i : ℕ) (xs : List (List Word)) → i < length xs → numbers_of o n i (drop i xs) ≡ number_in (param_of o n i) (get_or xs i []) ++ numbers_of o n (i + 1) (drop (i + 1) xs)
+values_more o n i xs lt =
+    let e : suc i ≡ i + 1 = omega arith in
+    ap (λ v. numbers_of o n i v) (drop_more xs i [] lt)
+    ∙ ap (λ k. number_in (param_of o n i) (get_or xs i []) ++ numbers_of o n k (drop (i + 1) xs)) e
+
+-- words too many for a name or a string
+no_string_for : (a b : Word) (ws : List Word) → None ≡ string_in (a ∷ b ∷ ws)
+no_string_for (quoted w) b ws = refl
+no_string_for a b ws = refl
+
+pub one_word : (ws : List code.Word) (d : code.Word) → length ws ≡ 1 → word_of (get_or ws 0 d) ∷ [] ≡ words_in ws
+one_word [] d h = absurd (omega arith)
+one_word (a ∷ []) d h = refl
+one_word (a ∷ b ∷ ws) d h = absurd (omega arith)
+
+pub no_string : (ws : List code.Word) → (length ws ≡ 1 → ⊥) → None ≡ string_in (words_in ws)
+no_string [] h = refl
+no_string (a ∷ []) h = absurd (h refl)
+no_string (a ∷ b ∷ ws) h = no_string_for (word_of a) (word_of b) (words_in ws)
+
+no_name_for : (a b : Word) (ws : List Word) → None ≡ name_in (a ∷ b ∷ ws)
+no_name_for (named w) b ws = refl
+no_name_for a b ws = refl
+
+pub no_name : (ws : List code.Word) → (length ws ≡ 1 → ⊥) → None ≡ name_in (words_in ws)
+no_name [] h = refl
+no_name (a ∷ []) h = absurd (h refl)
+no_name (a ∷ b ∷ ws) h = no_name_for (word_of a) (word_of b) (words_in ws)
+
+no_two_for : (a b : Word) → None ≡ spelled_op (a ∷ b ∷ [])
+no_two_for (named v) (sign symbol.DoubleColon) = refl
+no_two_for (named v) b = refl
+no_two_for a b = refl
+
+pub no_spelled_two : (ws : List code.Word) → 2 ≤ length ws → length ws < 3 → None ≡ spelled_op (words_in ws)
+no_spelled_two [] h k = refl
+no_spelled_two (a ∷ []) h k = absurd (omega arith)
+no_spelled_two (a ∷ b ∷ []) h k = no_two_for (word_of a) (word_of b)
+no_spelled_two (a ∷ b ∷ c ∷ ws) h k = absurd (omega arith)
+
+no_more_for : (a b c d : Word) (ws : List Word) → None ≡ spelled_op (a ∷ b ∷ c ∷ d ∷ ws)
+no_more_for (named v) (sign symbol.DoubleColon) (named w) d ws = refl
+no_more_for (named v) (sign symbol.DoubleColon) c d ws = refl
+no_more_for (named v) b c d ws = refl
+no_more_for a b c d ws = refl
+
+pub no_spelled : (ws : List code.Word) → 4 ≤ length ws → None ≡ spelled_op (words_in ws)
+no_spelled [] h = refl
+no_spelled (a ∷ []) h = absurd (omega arith)
+no_spelled (a ∷ b ∷ []) h = absurd (omega arith)
+no_spelled (a ∷ b ∷ c ∷ []) h = absurd (omega arith)
+no_spelled (a ∷ b ∷ c ∷ d ∷ ws) h = no_more_for (word_of a) (word_of b) (word_of c) (word_of d) (words_in ws)
+
+-- a lambda that is refused
+pub lambda_refused : (s : Scope) (text : List ℕ) (w : Want) (f : ReadFault) (e : Cause) → IsRefused text w f → e ≡ cause_of f → e ≢ cause.NoMemory → IsLambdaRead s text w (Err e)
+lambda_refused s text w (fault.Syntax n) e h is other = (Err (fault.Syntax n), h, ap Err (sym is))
+lambda_refused s text w fault.WrongType e h is other = (Err fault.WrongType, h, ap Err (sym is))
+lambda_refused s text w fault.UnknownName e h is other = (Err fault.UnknownName, h, ap Err (sym is))
+lambda_refused s text w fault.TooDeep e h is other = (Err fault.TooDeep, h, ap Err (sym is))
+lambda_refused s text w fault.LiteralTooLarge e h is other = (Err fault.LiteralTooLarge, h, ap Err (sym is))
+lambda_refused s text w fault.NoMemory e h is other = absurd (other is)

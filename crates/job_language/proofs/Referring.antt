@@ -1,0 +1,24 @@
+-- Lambdas and their references.
+use Rattle.std.proofs.Common.{◌≡◌, ℕ, ◌+◌, ◌<◌, ◌≤◌, List, ◌∷◌, length, drop, get_or, Some, None, Result, Ok, Err, ap, ◌∙◌}
+use Rattle.std.proofs.lemmas.List.{drop_more, drop_all}
+use Rattle.lambda_expr.specs.Refusals.{LambdaTerm, Judged}
+use Rattle.lambda_expr.specs.declared.lambda.Want.{Want}
+use Rattle.job_language.specs.declared.argument.Argument as code
+use Rattle.job_language.specs.declared.fault.Cause.{Cause}
+use Rattle.job_language.specs.Causes.{Scope, given, first_cause}
+use Rattle.job_language.specs.Arguments.{reference_cause, reference_causes, lambda_answer, IsLambdaRead}
+use Rattle.job_language.specs.Parts.{argument_in, Answers}
+
+pub lambda_read : (s : Scope) (text : List ℕ) (w : Want) (l : LambdaTerm) (r : Result code.Argument Cause) → Judged text w (Ok l) → Answers argument_in (λ x. lambda_answer s (Ok l) ≡ x) r → Answers argument_in (IsLambdaRead s text w) r
+lambda_read s text w l (Ok a) j h = (Ok l, j, h)
+lambda_read s text w l (Err e) j h = λ other. (Ok l, j, h other)
+
+-- the references from a place on
+pub reference_here : (s : Scope) (ws : List (List ℕ)) (i : ℕ) (d : List ℕ) (c : Cause) → i < length ws → reference_cause (given s.jobs (get_or ws i d)) ≡ Some c → first_cause (reference_causes s (drop i ws)) ≡ Some c
+reference_here s ws i d c lt h = ap (λ v. first_cause (reference_causes s v)) (drop_more ws i d lt) ∙ ap (λ o. first_cause (o ∷ reference_causes s (drop (i + 1) ws))) h
+
+pub reference_more : (s : Scope) (ws : List (List ℕ)) (i : ℕ) (d : List ℕ) → i < length ws → reference_cause (given s.jobs (get_or ws i d)) ≡ None → first_cause (reference_causes s (drop i ws)) ≡ first_cause (reference_causes s (drop (i + 1) ws))
+reference_more s ws i d lt h = ap (λ v. first_cause (reference_causes s v)) (drop_more ws i d lt) ∙ ap (λ o. first_cause (o ∷ reference_causes s (drop (i + 1) ws))) h
+
+pub no_references : (s : Scope) (ws : List (List ℕ)) (i : ℕ) → length ws ≤ i → first_cause (reference_causes s (drop i ws)) ≡ None
+no_references s ws i far = ap (λ v. first_cause (reference_causes s v)) (drop_all i ws far)

@@ -1,0 +1,82 @@
+-- The calls of a job, in turn.
+use Rattle.std.proofs.Common.{◌≡◌, ℕ, suc, ◌+◌, ◌<◌, ◌≤◌, ℤ, inl, inr, List, [], ◌∷◌, ◌++◌, length, drop, get_or, Option, Some, None, Result, Ok, Err, refl, sym, ap, subst, ◌∙◌, arith}
+use Rattle.std.specs.Prelude.{nat_le}
+use Rattle.std.proofs.lemmas.List.{drop_more, drop_all, length-append}
+use Rattle.std.proofs.lemmas.Grind.{common_steps}
+use Rattle.stream_tokens.specs.CutTexts.{TokenizedText}
+use Rattle.lambda_expr.specs.Words.{Word}
+use Rattle.job_language.specs.declared.piece.WrittenCall as written
+use Rattle.job_language.specs.declared.call_part.CallPart.{CallPart}
+use Rattle.job_language.specs.declared.fault.Cause.{Cause}
+use Rattle.job_language.specs.declared.fault.Cause.TheVariants as cause
+use Rattle.job_language.specs.declared.operation.Role.{Role}
+use Rattle.job_language.specs.declared.operation.Role.TheVariants as role
+use Rattle.job_language.specs.Table.{role_of}
+use Rattle.job_language.specs.declared.operation.Operation.{Operation}
+use Rattle.job_language.specs.declared.job.JobStage.{JobStage}
+use Rattle.job_language.specs.declared.job.PlainSource.{PlainSource}
+use Rattle.job_language.specs.Jobs.{JobTerm, source_of, sources_of, job_stage_of, job_stages_of}
+use Rattle.job_language.specs.Causes.{Scope, first_cause, when, stage_cause, early_causes, numbers_of}
+use Rattle.job_language.specs.Arguments.{Argument, PlacedCall, IsArgumentRead}
+use Rattle.job_language.specs.Verdicts.{CallTerm, call_term, stage_term, call_answer, identity_cause, unless, added, IsReadAfter, IsCallRead, IsReadInTurn, AreRead}
+use Rattle.job_language.specs.Shapes.{placed_in, all_placed}
+use Rattle.job_language.specs.Parts.{part_in, answer_in, Answers}
+
+-- a call that is refused for its numbers, or for its last part
+pub early : (s : Scope) (t : TokenizedText) (c : PlacedCall) (e : Cause) → first_cause (early_causes c.call) ≡ Some e → IsCallRead s t c (Err e)
+early s t c e h = subst (λ f. IsReadAfter f s t c (Err e)) (sym h) refl
+
+pub late : (s : Scope) (t : TokenizedText) (c : PlacedCall) (e : Cause) → first_cause (early_causes c.call) ≡ None → IsArgumentRead s t c (Err e) → IsCallRead s t c (Err e)
+late s t c e h a = subst (λ f. IsReadAfter f s t c (Err e)) (sym h) (Err e, a, refl)
+
+-- a call whose parts were read
+pub whole : (s : Scope) (t : TokenizedText) (c : PlacedCall) (ks : List ℤ) (a : Argument) (r : Result CallPart Cause) → first_cause (early_causes c.call) ≡ None → ks ≡ numbers_of c.call.operation (length c.call.parts) 0 c.call.parts → IsArgumentRead s t c (Ok a) → answer_in part_in r ≡ call_answer c.call.operation ks (Ok a) → Answers part_in (IsCallRead s t c) r
+whole s t c ks a (Ok p) h k arg eq = subst (λ f. IsReadAfter f s t c (Ok (part_in p))) (sym h) (Ok a, arg, ap (λ v. call_answer c.call.operation v (Ok a)) (sym k) ∙ sym eq)
+whole s t c ks a (Err e) h k arg eq = λ other. subst (λ f. IsReadAfter f s t c (Err e)) (sym h) (Ok a, arg, ap (λ v. call_answer c.call.operation v (Ok a)) (sym k) ∙ sym eq)
+
+below : (n : ℕ) → when (nat_le 32 n) cause.TooLong ≡ None → n < 32
+below n h = grind (arith, common_steps)
+
+grown : (j : JobTerm) (r : Role) (o : Operation) (ks : List ℤ) (a : Argument) → stage_cause (length j.stages) r ≡ None → length j.stages ≤ 32 → length (added j (call_term r o ks a)).stages ≤ 32
+grown j role.Stage o ks a h le = let lt = below (length j.stages) h in let one = length-append j.stages (stage_term o ks a ∷ []) in omega arith
+grown j role.Source o ks a h le = le
+grown j role.Concatenation o ks a h le = le
+grown j role.Terminal o ks a h le = le
+
+kept : (j : JobTerm) (r : Role) (o : Operation) (ks : List ℤ) (a : Argument) (i : Option Cause) (g : CallTerm) → unless i (call_term r o ks a) ≡ Ok g → stage_cause (length j.stages) r ≡ None → length j.stages ≤ 32 → length (added j g).stages ≤ 32
+kept j r o ks a None g e h le = let same : call_term r o ks a ≡ g = cc in subst (λ v. length (added j v).stages ≤ 32) same (grown j r o ks a h le)
+kept j r o ks a (Some x) g e h le = absurd cc
+
+after_call : (j : JobTerm) (s : Scope) (t : TokenizedText) (c : PlacedCall) (g : CallTerm) (f : Option Cause) → IsReadAfter f s t c (Ok g) → stage_cause (length j.stages) (role_of c.call.operation) ≡ None → length j.stages ≤ 32 → length (added j g).stages ≤ 32
+after_call j s t c g (Some e) r h le = absurd cc
+after_call j s t c g None (Ok a, arg, eq) h le = let o = c.call.operation in let ks = numbers_of o (length c.call.parts) 0 c.call.parts in kept j (role_of o) o ks a (identity_cause o ks a) g eq h le
+after_call j s t c g None (Err e, arg, eq) h le = absurd cc
+
+in_turn : (j : JobTerm) (s : Scope) (t : TokenizedText) (c : PlacedCall) (g : CallTerm) (late : Option Cause) → stage_cause (length j.stages) (role_of c.call.operation) ≡ late → IsReadInTurn late s t c (Ok g) → length j.stages ≤ 32 → length (added j g).stages ≤ 32
+in_turn j s t c g (Some e) h r le = absurd cc
+in_turn j s t c g None h r le = after_call j s t c g (first_cause (early_causes c.call)) r h le
+
+pub few_after : (j : JobTerm) (s : Scope) (t : TokenizedText) (c : PlacedCall) (g : CallTerm) → IsReadInTurn (stage_cause (length j.stages) (role_of c.call.operation)) s t c (Ok g) → length j.stages ≤ 32 → length (added j g).stages ≤ 32
+few_after j s t c g r le = in_turn j s t c g (stage_cause (length j.stages) (role_of c.call.operation)) refl r le
+
+-- the calls from a place on
+pub turn_here : (s : Scope) (t : TokenizedText) (j : JobTerm) (ws : List Word) (cs : List written.WrittenCall) (i : ℕ) (x : written.WrittenCall) (e : Cause) → i < length cs → x ≡ get_or cs i x → IsReadInTurn (stage_cause (length j.stages) (role_of x.operation)) s t (placed_in ws x) (Err e) → AreRead s t j (all_placed ws (drop i cs)) (Err e)
+turn_here s t j ws cs i x e lt is h = subst (λ v. AreRead s t j (all_placed ws v) (Err e)) (sym (drop_more cs i x lt ∙ ap (λ y. y ∷ drop (i + 1) cs) (sym is))) (inl (e, h, refl))
+
+pub turn_more : (s : Scope) (t : TokenizedText) (j k : JobTerm) (ws : List Word) (cs : List written.WrittenCall) (i : ℕ) (x : written.WrittenCall) (g : CallTerm) (r : Result JobTerm Cause) → i < length cs → x ≡ get_or cs i x → IsReadInTurn (stage_cause (length j.stages) (role_of x.operation)) s t (placed_in ws x) (Ok g) → k ≡ added j g → AreRead s t k (all_placed ws (drop (i + 1) cs)) r → AreRead s t j (all_placed ws (drop i cs)) r
+turn_more s t j k ws cs i x g r lt is h same rest = subst (λ v. AreRead s t j (all_placed ws v) r) (sym (drop_more cs i x lt ∙ ap (λ y. y ∷ drop (i + 1) cs) (sym is))) (inr (g, h, subst (λ v. AreRead s t v (all_placed ws (drop (i + 1) cs)) r) same rest))
+
+pub length_stages : (gs : List JobStage) → length (job_stages_of gs) ≡ length gs
+length_stages [] = refl
+length_stages (g ∷ gs) = ap suc (length_stages gs)
+
+pub sources_push : (xs ys : List PlainSource) → sources_of (xs ++ ys) ≡ sources_of xs ++ sources_of ys
+sources_push [] ys = refl
+sources_push (x ∷ xs) ys = ap (λ v. source_of x ∷ v) (sources_push xs ys)
+
+pub stages_push : (xs ys : List JobStage) → job_stages_of (xs ++ ys) ≡ job_stages_of xs ++ job_stages_of ys
+stages_push [] ys = refl
+stages_push (x ∷ xs) ys = ap (λ v. job_stage_of x ∷ v) (stages_push xs ys)
+
+pub none_left : (s : Scope) (t : TokenizedText) (j : JobTerm) (ws : List Word) (cs : List written.WrittenCall) (i : ℕ) → length cs ≤ i → AreRead s t j (all_placed ws (drop i cs)) (Ok j)
+none_left s t j ws cs i far = subst (λ v. AreRead s t j (all_placed ws v) (Ok j)) (sym (drop_all i cs far)) refl

@@ -1,0 +1,50 @@
+-- Condition: what the program keeps of the parts of a job stands for.
+use Rattle.std.specs.Prelude.{◌≢◌, ℕ, List, [], ◌∷◌, ◌++◌, Option, Result, Ok, Err}
+use Rattle.lambda_expr.specs.Term.{long_of, truth_of}
+use Rattle.lambda_expr.specs.Streams.{inner_of}
+use Rattle.job_language.specs.declared.argument.Argument as code
+use Rattle.job_language.specs.declared.argument.Argument.TheVariants as code_argument
+use Rattle.job_language.specs.declared.call_part.CallPart as call_part
+use Rattle.job_language.specs.declared.call_part.CallPart.TheVariants as code_part
+use Rattle.job_language.specs.declared.parts.Parts as parts
+use Rattle.job_language.specs.declared.fault.Cause.{Cause}
+use Rattle.job_language.specs.declared.fault.Cause.TheVariants.{NoMemory}
+use Rattle.job_language.specs.Grammar.{Job}
+use Rattle.job_language.specs.Causes.{Scope, first_cause, name_causes, sources_cause}
+use Rattle.job_language.specs.Arguments.{Argument, nothing, column, job, number, test, stream, operator}
+use Rattle.job_language.specs.Jobs.{JobTerm, source_of, sources_of, job_stage_of, job_stages_of, terminal_of}
+use Rattle.job_language.specs.Verdicts.{CallTerm, source, stage, terminal}
+
+-- what a last part of the program stands for
+abbrev pub argument_in : code.Argument → Argument
+argument_in code_argument.Nothing = nothing
+argument_in (code_argument.Column cells) = column cells.now
+argument_in (code_argument.Job name) = job name
+argument_in (code_argument.Number e) = number (long_of e)
+argument_in (code_argument.Test p) = test (truth_of p)
+argument_in (code_argument.Stream g) = stream (inner_of g)
+argument_in (code_argument.Operator f) = operator f
+
+-- what a part of a job of the program stands for
+abbrev pub part_in : call_part.CallPart → CallTerm
+part_in (code_part.Source s) = source (source_of s)
+part_in (code_part.Stage g) = stage (job_stage_of g)
+part_in (code_part.Terminal d) = terminal (terminal_of d)
+
+-- an answer, as the definitions have it
+abbrev pub answer_in : {A T : Type 0} → (A → T) → Result A Cause → Result T Cause
+answer_in f (Ok a) = Ok (f a)
+answer_in f (Err e) = Err e
+
+-- an answer is as it should be; out of memory may stand in its place
+abbrev pub Answers : {A T : Type 0} → (A → T) → (Result T Cause → Type 0) → Result A Cause → Type 0
+Answers f P (Ok a) = P (Ok (f a))
+Answers f P (Err e) = e ≢ NoMemory → P (Err e)
+
+-- the job that was read up to a place
+abbrev pub job_so_far : List ℕ → parts.Parts → JobTerm
+job_so_far w p = record { name = w; sources = sources_of p.sources.items; stages = job_stages_of p.stages.items; terminal = terminal_of p.terminal }
+
+-- why a job is refused before its calls
+abbrev pub causes_before : Scope → Job → Option Cause
+causes_before s j = first_cause (name_causes s j.name ++ sources_cause j ∷ [])

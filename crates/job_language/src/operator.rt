@@ -1,0 +1,135 @@
+//! The operators of `prefix` and `reduce`: the table of how they are written.
+ghost use Rattle.std.specs.Prelude.{◌≡◌, ◌∷◌, []};
+ghost use Rattle.job_language.specs.Operators.{op_name, op_named, op_method, in_math, in_long, spelled_op, op_of_form};
+ghost use Rattle.job_language.specs.Splitting.{word_of, words_in};
+
+use crate::word::Word;
+use lambda_expr::PairForm;
+use reduce_ops::Op;
+use stream_tokens::Symbol;
+
+/// All operators.
+const OPS: [Op; 10] = [
+    Op::Sum,
+    Op::Product,
+    Op::Min,
+    Op::Max,
+    Op::And,
+    Op::Or,
+    Op::Xor,
+    Op::Affine,
+    Op::First,
+    Op::Last,
+];
+
+/// The name of an operator.
+fn op_name(op: Op) -> &'static str
+    ensures { result.now ≡ op_name op }
+{
+    match op {
+        Op::Sum => "sum",
+        Op::Product => "product",
+        Op::Min => "min",
+        Op::Max => "max",
+        Op::And => "and",
+        Op::Or => "or",
+        Op::Xor => "xor",
+        Op::Affine => "affine",
+        Op::First => "first",
+        Op::Last => "last",
+    }
+}
+
+/// The operator with this name.
+fn op_named(name: &[u8]) -> Option<Op>
+    ensures { result ≡ op_named name.now }
+{
+    for op in OPS {
+        if name == op_name(op).as_bytes() {
+            return Some(op);
+        }
+    }
+    None
+}
+
+/// Whether `Math` has the operator as a method.
+fn in_math(op: Op) -> bool
+    ensures { result ≡ in_math op }
+{
+    matches!(op, Op::Min | Op::Max)
+}
+
+/// Whether `Long` has the operator as a method.
+fn in_long(op: Op) -> bool
+    ensures { result ≡ in_long op }
+{
+    matches!(op, Op::Sum | Op::Min | Op::Max)
+}
+
+/// The operator that is the method `OWNER::NAME`.
+fn op_method(owner: &[u8], name: &[u8]) -> Option<Op>
+    ensures { result ≡ op_method owner.now name.now }
+{
+    if owner == b"Long".as_slice() {
+        op_named(name).filter(|op| in_long(*op))
+    } else if owner == b"Math".as_slice() {
+        op_named(name).filter(|op| in_math(*op))
+    } else {
+        None
+    }
+}
+
+fn named_op(name: Word) -> Option<Option<Op>>
+    ensures { result ≡ spelled_op (word_of name.entry ∷ []) }
+{
+    match name {
+        Word::Name(name) => Some(op_named(name)),
+        _ => None,
+    }
+}
+
+fn method_op(owner: Word, colons: Word, name: Word) -> Option<Option<Op>>
+    ensures { result
+        ≡ spelled_op (word_of owner.entry ∷ word_of colons.entry ∷ word_of name.entry ∷ []) }
+{
+    match owner {
+        Word::Name(owner) => match colons {
+            Word::Sign(Symbol::DoubleColon) => match name {
+                Word::Name(name) => Some(op_method(owner, name)),
+                _ => None,
+            },
+            _ => None,
+        },
+        _ => None,
+    }
+}
+
+/// The operator that words name, if they are a name or a method; the inner `None` if no operator is
+/// called so.
+pub fn spelled_op(words: &[Word]) -> Option<Option<Op>>
+    ensures { result ≡ spelled_op (words_in words.now) }
+{
+    match words {
+        [name] => named_op(*name),
+        [owner, colons, name] => method_op(*owner, *colons, *name),
+        _ => None,
+    }
+}
+
+/// The operator that a lambda of two parameters is, by the form of its body.
+pub fn op_of_form(form: PairForm) -> Option<Op>
+    ensures { result ≡ op_of_form form }
+{
+    match form {
+        PairForm::First => Some(Op::First),
+        PairForm::Second => Some(Op::Last),
+        PairForm::Sum => Some(Op::Sum),
+        PairForm::Product => Some(Op::Product),
+        PairForm::Min => Some(Op::Min),
+        PairForm::Max => Some(Op::Max),
+        PairForm::And => Some(Op::And),
+        PairForm::Or => Some(Op::Or),
+        PairForm::Xor => Some(Op::Xor),
+        PairForm::Other => None,
+    }
+}

@@ -1,0 +1,147 @@
+//! One job, read from its text.
+ghost use Rattle.std.specs.Prelude.{◌≡◌, ◌≢◌, ◌+◌, ◌<◌, ◌≤◌, ◌∷◌, ◌++◌, [], List, IfErr, IfOk, Ok, Err, length};
+ghost use Rattle.stream_tokens.specs.Tokens.{AreTokensOf};
+ghost use Rattle.lambda_expr.specs.Words.{Word as meant, words_of};
+ghost use Rattle.job_language.specs.declared.fault.Cause.TheVariants.{NoMemory};
+ghost use Rattle.job_language.specs.Splitting.{words_in};
+ghost use Rattle.job_language.specs.Grammar.{Job as meant_job, IsJob};
+ghost use Rattle.job_language.specs.Shapes.{StandIn, calls_in, all_placed, AreCallsIn, one_if_source, sources_in, first_name};
+ghost use Rattle.job_language.specs.Jobs.{job_of};
+ghost use Rattle.job_language.specs.Scopes.{scope_of};
+ghost use Rattle.job_language.specs.Verdicts.{IsJobRead, IsRead};
+ghost use Rattle.job_language.specs.Parts.{Answers, job_so_far, causes_before};
+
+use crate::causes::name_cause;
+use crate::fault::Cause;
+use crate::job::Job;
+use crate::operation::{Role, role_of};
+use crate::parts::{Parts, read_parts};
+use crate::piece::WrittenCall;
+use crate::scope::Scope;
+use crate::shape::parse_job;
+use crate::word::Word;
+use std::alloc::{AllocError, Global};
+use stream_tokens::{Bytes, CutText, cut};
+
+/// How many bytes the text of a job may have.
+const MAX_BYTES: usize = 65_536;
+/// How many plain sources a job may have, those of each `concat` counted.
+const MAX_SOURCES: usize = 8;
+
+fn one_if_source(role: Role) -> usize
+    ensures value { result ≡ one_if_source role }
+    ensures bound { result ≤ 1 }
+{
+    match role {
+        Role::Source => 1,
+        _ => 0,
+    }
+}
+
+/// How many of the calls are sources.
+fn sources_in(calls: &[WrittenCall]) -> usize
+    ensures { (ws : List meant) → result ≡ sources_in (calls_in ws calls.now) }
+{
+    let mut count = 0;
+    for call in calls {
+        count += one_if_source(role_of(call.operation));
+    }
+    count
+}
+
+/// The name that the words begin with.
+fn first_name<'a>(words: &[Word<'a>]) -> &'a [u8]
+    ensures { result.now ≡ first_name (words_in words.now) }
+{
+    match words {
+        [Word::Name(name), ..] => name,
+        _ => &[],
+    }
+}
+
+/// Why a job is refused before its calls are read.
+fn early_cause(scope: Scope, words: &[Word], calls: &[WrittenCall]) -> Option<Cause>
+    requires { AreCallsIn (words_in words.now) (all_placed (words_in words.now) calls.now) }
+    ensures { (j : meant_job) → IsJob (words_in words.now) j
+        → result ≡ causes_before (scope_of scope.entry) j }
+{
+    if let Some(cause) = name_cause(scope, first_name(words)) {
+        return Some(cause);
+    }
+    if sources_in(calls) > MAX_SOURCES {
+        return Some(Cause::TooLong);
+    }
+    None
+}
+
+/// A job with this name and these parts.
+fn named<'c>(alloc: Global, name: &[u8], parts: Parts<'c>) -> Result<Job<'c>, AllocError>
+    requires { length parts.stages.items ≤ 32 }
+    ensures { IfOk result (λ job. job_of job ≡ job_so_far name.now parts.entry) }
+{
+    let bytes = name.to_vec(alloc)?;
+    let Parts {
+        sources,
+        stages,
+        terminal,
+    } = parts;
+    Ok(Job {
+        name: Bytes::from(bytes),
+        sources,
+        stages,
+        terminal,
+    })
+}
+
+/// Reads a job from its words and calls.
+fn read_parsed<'c>(
+    alloc: Global,
+    scope: Scope<'_, 'c>,
+    text: &CutText,
+    words: &[Word],
+    calls: &[WrittenCall],
+) -> Result<Job<'c>, Cause>
+    requires words { words_in words.now ≡ words_of text.now.bytes text.now.tokens }
+    requires calls { AreCallsIn (words_in words.now) (all_placed (words_in words.now) calls.now) }
+    requires stand { StandIn (words_in words.now) calls.now }
+    ensures { (j : meant_job) → IsJob (words_in words.now) j
+        → Answers job_of (IsJobRead (causes_before (scope_of scope.entry) j)
+        (scope_of scope.entry) text.now j) result }
+{
+    if let Some(cause) = early_cause(scope, words, calls) {
+        return Err(cause);
+    }
+    let parts = read_parts(alloc, scope, text, words, calls)?;
+    Ok(named(alloc, first_name(words), parts)?)
+}
+
+/// Reads a job from its text and tokens.
+fn read_cut<'c>(alloc: Global, scope: Scope<'_, 'c>, text: &CutText) -> Result<Job<'c>, Cause>
+    requires short { length text.now.bytes ≤ 65536 }
+    requires tokens { AreTokensOf text.now.tokens text.now.bytes }
+    ensures { Answers job_of (IsRead (scope_of scope.entry) text.now.bytes) result }
+{
+    let Some(job) = parse_job(alloc, text)? else {
+        return Err(Cause::Syntax);
+    };
+    read_parsed(alloc, scope, text, &job.words, &job.calls)
+}
+
+/// Reads a job from its text: its lines, joined by spaces. Each argument is read once, in order of writing.
+///
+/// `TooLong` for more than 65,536 bytes, `Syntax` if the text is no job, else the first cause in order
+/// of writing. Takes memory for the tokens, a word for each, and what is kept of the job, and time in
+/// proportion to the bytes of the text and of the names of the scope. `NoMemory` may stand in place of any
+/// answer but the first if an allocation failed.
+pub fn read_job<'c>(alloc: Global, scope: Scope<'_, 'c>, text: &[u8]) -> Result<Job<'c>, Cause>
+    ensures ok { IfOk result (λ job. IsRead (scope_of scope.entry) text.now (Ok (job_of job))) }
+    ensures refused { IfErr result (λ cause. cause ≢ NoMemory
+        → IsRead (scope_of scope.entry) text.now (Err cause)) }
+    ensures memory { IfErr result (λ cause. cause ≡ NoMemory → length text.now ≤ 65536) }
+{
+    if text.len() > MAX_BYTES {
+        return Err(Cause::TooLong);
+    }
+    let tokens = cut(alloc, text)?;
+    read_cut(alloc, scope, &CutText::of(text, &tokens))
+}
