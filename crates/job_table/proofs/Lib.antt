@@ -1,0 +1,6 @@
+-- Lemmas of this crate.
+pub mod Openings
+pub mod Tops
+pub mod AnswerLemmas
+pub mod Plans
+pub mod Halves

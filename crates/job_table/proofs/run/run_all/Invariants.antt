@@ -1,0 +1,5 @@
+use Rattle.completer_tree.specs.Trees.{table_id_of}
+use Rattle.job_table.proofs.run.run_all.Given as goal
+
+abbrev pub ghosts-run_on : goal.ghosts-run_on
+ghosts-run_on g a = record { table = table_id_of a.opened.counts; jobs = g.S.Segments.job_count; last = g.S.Segments.last_of; size = g.S.Segments.size_of }

@@ -1,0 +1,5 @@
+-- The definitions of this crate; begin with Cuts.
+pub mod Cuts
+pub mod CutLaws
+pub mod Tasks
+pub mod Answers

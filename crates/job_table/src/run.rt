@@ -1,0 +1,105 @@
+//! Running all jobs.
+ghost use Rattle.std.specs.Prelude.{◌≡◌, ◌<◌, ◌≤◌, ℕ, IfOk, length};
+ghost use Rattle.completer_tree.specs.Trees.{table_id_of};
+ghost use Rattle.job_table.specs.Answers.{AreAnswers};
+
+use crate::NoMemory;
+use crate::alone::answer_alone;
+use crate::places::{JobPlaces, answer_in, empty_places};
+use crate::segments::Segments;
+use crate::task::Running;
+use crate::work::{JobWork, TableOpened, TableWork};
+use job_plan::Settings;
+use std::alloc::Global;
+use std::marker::Brand;
+use std::sync::Wait;
+use std::thread::Threads;
+use worker_pool::{Gate, run_pool};
+
+// The answer that lies in the job's place. If there is none, whoever reads it works it out.
+fn read_answer<S: Segments, G: Gate>(
+    alloc: Global,
+    gate: &G,
+    jobs: &S,
+    job: usize,
+    places: Option<JobPlaces<S>>,
+) -> Result<S::Answer, NoMemory>
+    requires job { job < S.job_count }
+    ensures { IfOk result (λ answer. S.is_answer job answer) }
+{
+    if let Some(places) = places {
+        if let Some(answer) = answer_in(places, job) {
+            return Ok(answer);
+        }
+    }
+    answer_alone(alloc, gate, jobs, job)
+}
+
+// The answers of all jobs, in their order.
+#[tactic(auto, using(crate::proofs::AnswerLemmas::more_answers))]
+fn read_answers<S: Segments, G: Gate>(
+    alloc: Global,
+    gate: &G,
+    jobs: &S,
+    places: Vec<JobPlaces<S>>,
+) -> Result<Vec<S::Answer>, NoMemory>
+    ensures count { IfOk result (λ answers. length answers.items ≡ S.job_count) }
+    ensures each { IfOk result (λ answers. AreAnswers S.is_answer 0 answers.items) }
+{
+    let mut answers = Vec::new(alloc);
+    let mut places = places.into_iter();
+    for job in 0..jobs.jobs() {
+        answers.push(read_answer(alloc, gate, jobs, job, places.next())?)?;
+    }
+    Ok(answers)
+}
+
+// Runs the jobs over one table of counts, and gives back their places.
+fn run_on<
+    S: Segments + Send + Sync,
+    R: Running + Send + Sync,
+    H: Threads + Wait + Sync,
+    G: Gate + Sync,
+>(
+    rt: &H,
+    alloc: Global,
+    gate: &G,
+    jobs: &S,
+    settings: Settings,
+    opened: TableOpened<S>,
+) -> Result<Vec<JobPlaces<S>>, NoMemory>
+where
+    S::Part: Send,
+    S::Source: Send + Sync,
+    S::Answer: Send + Sync,
+    requires ends { opened.jobs ≡ S.job_count }
+    requires table { table_id_of opened.counts ≡ R.table }
+    requires planned { (R.jobs ≡ S.job_count) × ((j : ℕ) → R.last j ≡ S.last_of j) × ((j k : ℕ) → R.size j k ≡ S.size_of j k) }
+{
+    let (work, tasks, idles) = TableWork::<S, R>::new(alloc, jobs, settings, opened)?;
+    if !idles.is_empty() {
+        run_pool(rt, alloc, gate, &work, tasks, idles);
+    }
+    let JobWork { places, .. } = work;
+    Ok(places)
+}
+
+/// The answers of all jobs, in their order. The only error is that an allocation failed.
+pub fn run_all<S: Segments + Send + Sync, H: Threads + Wait + Sync, G: Gate + Sync>(
+    rt: &H,
+    alloc: Global,
+    jobs: &S,
+    settings: Settings,
+    gate: &G,
+) -> Result<Vec<S::Answer>, NoMemory>
+where
+    S::Part: Send,
+    S::Source: Send + Sync,
+    S::Answer: Send + Sync,
+    ensures count { IfOk result (λ answers. length answers.items ≡ S.job_count) }
+    ensures each { IfOk result (λ answers. AreAnswers S.is_answer 0 answers.items) }
+{
+    let opened = TableOpened::<S>::new(alloc, jobs, settings)?;
+    let places = run_on::<S, Brand, H, G>(rt, alloc, gate, jobs, settings, opened)?;
+    read_answers(alloc, gate, jobs, places)
+}
