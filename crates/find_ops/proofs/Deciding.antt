@@ -1,5 +1,5 @@
 -- What joined walks decide.
-use Rattle.std.proofs.Common.{◌≡◌, ◌≢◌, ℕ, List, [], ◌∷◌, ◌++◌, drop, flat_map, length, Result, get_or, Option, Some, None, refl, sym, ap, ◌∙◌, arith, ◌<◌, ◌+◌, suc}
+use Rattle.std.proofs.Common.{◌≡◌, ◌≢◌, ℕ, List, [], ◌∷◌, ◌++◌, Bool, true, false, is_some, drop, flat_map, length, Result, get_or, Option, Some, None, refl, sym, ap, ◌∙◌, arith, ◌<◌, ◌+◌, suc}
 use Rattle.std.specs.Option.{option_or}
 use Rattle.std.proofs.Math.Seq.{drop-cons}
 use Rattle.trace.specs.declared.item.Item.{Item}
@@ -20,6 +20,10 @@ or_grouped None b c = refl
 pub or_none : {A : Type 0} → (a : Option A) → option_or a None ≡ a
 or_none (Some a) = refl
 or_none None = refl
+
+some_kept : {A : Type 0} → (u v : Option A) → is_some u ≡ true → option_or u v ≡ u
+some_kept (Some a) v h = refl
+some_kept None v h = absurd (let z : false ≡ true = h in cc)
 
 module _ (d : Find) (n : ℕ) (env : Numbers) where
   pub first_joined : (xs ys : List Item) → first_decision d n env (xs ++ ys) ≡ option_or (first_decision d n env xs) (first_decision d n env ys)
@@ -63,6 +67,14 @@ module _ (d : Find) (n : ℕ) (env : Numbers) where
   -- one more item is looked at, if nothing was decided before it
   pub looked : (p r : FindPart) (t : Trace) (x : Item) → StandsFor d n env p t → r.decision ≡ option_or p.decision (decision d n env x) → r.otherwise ≡ p.otherwise → StandsFor d n env r (append t (trace (x ∷ []) end.Done))
   looked p r t x s e o = merged p (record { decision = decision d n env x; otherwise = answer_of_none d }) r t (trace (x ∷ []) end.Done) s (one_item x) e o
+
+  -- the piece ends
+  pub ended : (p r : FindPart) (t : Trace) (e : End) → StandsFor d n env p t → r.decision ≡ option_or p.decision (decision_at_end e) → r.otherwise ≡ p.otherwise → StandsFor d n env r (append t (trace [] e))
+  ended p r t e s k o = merged p (record { decision = decision_at_end e; otherwise = answer_of_none d }) r t (trace [] e) s (record { decision = refl; otherwise = refl }) k o
+
+  -- what is decided stays
+  pub settled : (p : FindPart) (a b : Trace) → is_some p.decision ≡ true → StandsFor d n env p a → StandsFor d n env p (append a b)
+  settled p a b h s = merged p (record { decision = decision_of d n env b; otherwise = answer_of_none d }) p a b s (record { decision = refl; otherwise = refl }) (sym (some_kept p.decision (decision_of d n env b) h)) refl
 
   -- the same for a loop over pieces
   pub piece_step : {X : Type 0} (f : X → List Item) (ps : List X) (i : ℕ) (p : X) → i < length ps → p ≡ get_or ps i p

@@ -78,6 +78,17 @@ impl FindPart {
         }
     }
 
+    /// The part of this piece if it ends so.
+    pub fn end_with(self, end: End) -> FindPart
+        ensures stands { (d : Find) (stage : ℕ) (env : Numbers) (t : Trace) → StandsFor d stage env self t
+            → StandsFor d stage env result (append t (trace [] end)) }
+    {
+        FindPart {
+            decision: self.decision.or(decision_at(end)),
+            otherwise: self.otherwise,
+        }
+    }
+
     /// Whether no further piece can change the answer.
     pub fn is_decided(&self) -> bool
         ensures { result ≡ is_some self.now.decision }

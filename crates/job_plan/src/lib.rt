@@ -1,20 +1,41 @@
 //! What the jobs of a file mean: the answer of each.
 //!
-//! Stands on `trace`, for sources, stages and walks, and on `lambda_expr`.
-//! Used by `report`, which writes answers, and by whatever runs jobs. What it gives to both is one
-//! definition: `meaning_of` in `specs/Meaning.antt`, the list of the answers of a file's jobs.
-//! Begin with `specs/Answers.antt`, then `specs/Meaning.antt`, then `answer.rt`.
-//! The laws in `laws.rt` are what a program needs that goes from item to item and from job to job:
-//! how a sum, the values and the answers grow by one more. Not promised: that a program computes these
-//! answers; each program that does says so in its own contract.
+//! Stands on `job_language`, for jobs, and on `trace`, `reduce_ops`, `slice_ops` and `find_ops`, which make of a walk
+//! what stages and terminals ask. Used by `report`, which writes answers, and by whatever runs jobs.
+//! Two readings stand side by side until the program reads every operation. The older one is `meaning_of` of
+//! `specs/Meaning.antt`, with its laws in `laws.rt`. The newer one is `meaning_of` of `specs/FileAnswers.antt`; begin
+//! with `specs/Walks.antt`, then `specs/Plans.antt`. A job is cut into segments (`Plan::of`); `leaf` takes a piece of a
+//! segment's source to a `Part`, two parts side by side merge, and `Part::finish` gives the next source or the answer.
+//! `walk_tree` does all of this on one thread; `plan_laws.rt` says that it is the answer by stages.
+//! Not promised: that pieces are walked at the same time, or that a piece is walked no further than needed.
 #![tactic(auto)]
 
 mod answer;
 mod laws;
+mod leaves;
+mod outcome;
+mod part;
+mod pieces;
+mod plan;
+mod plan_laws;
+mod segment;
 mod settings;
+mod source;
+mod sources;
+mod supported;
 mod values;
+mod walks;
 
 pub use answer::Answer;
 pub use laws::{answers_join, answers_of_one_more, sum_of_one_more, sums_join, values_join};
+pub use leaves::leaf;
+pub use outcome::Outcome;
+pub use part::{FoldPart, Part};
+pub use plan_laws::{pieces_join, plans_give_the_answers, supported_jobs_stand_alone};
+pub use segment::{Fold, JobPlan, Plan, Segment, SegmentEnd};
 pub use settings::{Form, Settings};
+pub use source::Source;
+pub use sources::PlainSources;
+pub use supported::is_supported;
 pub use values::Values;
+pub use walks::{SplitTree, walk, walk_tree};

@@ -58,28 +58,27 @@ merged p q r a b done same sa sb op value ending =
       ending = ending ∙ sb.ending ∙ ap (λ (t : Trace). t.ending) (sym joined);
     }
 
--- a fold from an identity is the fold from the first value
-pub from_identity : (op : Op) (i v : ℤ) (xs : List Item) → identity_of op ≡ Some i → FitsSigned w64 v → Some v ≡ fold_items (value_of op) xs → fold_from (value_of op) i xs ≡ v
-from_identity op i v [] known fits e = absurd (let k : Some v ≡ None = e in cc)
-from_identity op i v (x ∷ xs) known fits e =
-    let first : fold_from (value_of op) x.value xs ≡ v = cc in
-    fold_after (value_of op) (all_associative op) i x.value xs ∙ ap (value_of op i) first ∙ (all_identities op i known v fits).0
+-- what is left of it to do after the fold from the first value
+abbrev pub started : (ℤ → ℤ → ℤ) → ℤ → Option ℤ → ℤ
+started f i None = i
+started f i (Some v) = f i v
 
-from_none : (f : ℤ → ℤ → ℤ) (i : ℤ) (xs : List Item) → None ≡ fold_items f xs → fold_from f i xs ≡ i
-from_none f i [] e = refl
-from_none f i (x ∷ xs) e = absurd (let k : None ≡ Some (fold_from f x.value xs) = e in cc)
+-- a fold from a start is the start and the fold from the first value
+from_value : (op : Op) (i w : ℤ) (v : Option ℤ) (xs : List Item) → v ≡ fold_items (value_of op) xs → started (value_of op) i v ≡ w → w ≡ fold_from (value_of op) i xs
+from_value op i w None [] e is = sym is
+from_value op i w None (x ∷ xs) e is = cc
+from_value op i w (Some u) [] e is = cc
+from_value op i w (Some u) (x ∷ xs) e is =
+    let first : u ≡ fold_from (value_of op) x.value xs = cc in
+    sym is ∙ ap (value_of op i) first ∙ sym (fold_after (value_of op) (all_associative op) i x.value xs)
 
-from_value : (op : Op) (i w : ℤ) (v : Option ℤ) (xs : List Item) → identity_of op ≡ Some i → FitsSigned w64 w → v ≡ fold_items (value_of op) xs → w ≡ unwrap_or v i → w ≡ fold_from (value_of op) i xs
-from_value op i w None xs known fits e is = is ∙ sym (from_none (value_of op) i xs e)
-from_value op i w (Some u) xs known fits e is = sym (from_identity op i w xs known fits (ap Some is ∙ e))
-
-from_end : (op : Op) (i w : ℤ) (v : Option ℤ) (xs : List Item) (e : End) → identity_of op ≡ Some i → FitsSigned w64 w → Ok v ≡ unless_faulted e (fold_items (value_of op) xs) → w ≡ unwrap_or v i
+from_end : (op : Op) (i w : ℤ) (v : Option ℤ) (xs : List Item) (e : End) → Ok v ≡ unless_faulted e (fold_items (value_of op) xs) → started (value_of op) i v ≡ w
     → Ok w ≡ unless_faulted e (fold_from (value_of op) i xs)
-from_end op i w v xs end.Done known fits k is = let value : v ≡ fold_items (value_of op) xs = cc in ap Ok (from_value op i w v xs known fits value is)
-from_end op i w v xs (end.Fault f) known fits k is = cc
+from_end op i w v xs end.Done k is = let value : v ≡ fold_items (value_of op) xs = cc in ap Ok (from_value op i w v xs value is)
+from_end op i w v xs (end.Fault f) k is = cc
 
--- the answer from an identity, out of the answer without one
-pub finished : (op : Op) (i w : ℤ) (v : Option ℤ) (t : Trace) → identity_of op ≡ Some i → FitsSigned w64 w → Ok v ≡ reduced (value_of op) t → w ≡ unwrap_or v i → Ok w ≡ reduced_from (value_of op) i t
+-- the answer from a start, out of the answer without one
+pub finished : (op : Op) (i w : ℤ) (v : Option ℤ) (t : Trace) → Ok v ≡ reduced (value_of op) t → started (value_of op) i v ≡ w → Ok w ≡ reduced_from (value_of op) i t
 finished op i w v t = from_end op i w v t.items t.ending
 
 wrap_twice : (z : ℤ) → wrap (wrap z) ≡ wrap z

@@ -3,4 +3,4 @@ mod Products
 mod Affine
 mod Associative
 mod Identities
-mod Folding
+pub mod Folding

@@ -67,11 +67,10 @@ impl Partial {
         }
     }
 
-    /// The fold of two pieces that lie side by side. A fault of the left one ends both.
+    /// The fold of two pieces that lie side by side, of one operator. A fault of the left one ends both.
     pub fn merge(self, right: Partial) -> Partial
-        requires { right.op ≡ self.op }
         ensures op { result.op ≡ self.op }
-        ensures stands { (a b : Trace) → StandsFor self a → StandsFor right b → StandsFor result (append a b) }
+        ensures stands { (a b : Trace) → right.op ≡ self.op → StandsFor self a → StandsFor right b → StandsFor result (append a b) }
     {
         match self.end {
             End::Fault(_) => self,
@@ -96,12 +95,28 @@ impl Partial {
         }
     }
 
-    /// The fault that ended the walk, or else the fold from an identity of the operator.
-    pub fn finish_from(self, identity: i64) -> Result<i64, Fault>
-        requires { identity_of self.op ≡ Some identity }
-        ensures { (t : Trace) → StandsFor self t → result ≡ reduced_from (value_of self.op) identity t }
+    /// The fault that ended the walk, or else the fold from a start, such as an identity of the operator.
+    pub fn finish_from(self, start: i64) -> Result<i64, Fault>
+        ensures { (t : Trace) → StandsFor self t → result ≡ reduced_from (value_of self.op) start t }
     {
-        Ok(self.finish()?.unwrap_or(identity))
+        match self.finish()? {
+            Some(value) => Ok(self.op.apply(start, value)),
+            None => Ok(start),
+        }
+    }
+
+    /// The operator.
+    pub fn op(&self) -> Op
+        ensures { result ≡ self.now.op }
+    {
+        self.op
+    }
+
+    /// How the piece ended.
+    pub fn end(&self) -> End
+        ensures { result ≡ self.now.end }
+    {
+        self.end
     }
 }
 

@@ -24,10 +24,10 @@ at_least m k h = grind (arith, nat_tests)
 is_enough : (m k : ℕ) → k ≤ m → nat_lt m k ≡ false
 is_enough m k h = grind (arith, nat_tests)
 
-limited_enough : (k : ℕ) (t : Trace) → k ≤ length t.items → limited k t ≡ trace (take k t.items) end.Done
+pub limited_enough : (k : ℕ) (t : Trace) → k ≤ length t.items → limited k t ≡ trace (take k t.items) end.Done
 limited_enough k t h = ap (λ (b : Bool). if b then t else trace (take k t.items) end.Done) (is_enough (length t.items) k h)
 
-limited_few : (k : ℕ) (t : Trace) → nat_lt (length t.items) k ≡ true → limited k t ≡ t
+pub limited_few : (k : ℕ) (t : Trace) → nat_lt (length t.items) k ≡ true → limited k t ≡ t
 limited_few k t h = ap (λ (b : Bool). if b then t else trace (take k t.items) end.Done) h
 
 limit_stays : (k : ℕ) (xs : List Item) (e : End) (b : Trace) → k ≤ length xs → limited k (then_on xs e b) ≡ limited k (trace xs e)
@@ -120,7 +120,7 @@ not_true : (b : Bool) → not b ≡ true → b ≡ false
 not_true true h = absurd (let k : false ≡ true = h in cc)
 not_true false h = refl
 
-not_false : (b : Bool) → not b ≡ false → b ≡ true
+pub not_false : (b : Bool) → not b ≡ false → b ≡ true
 not_false true h = refl
 not_false false h = absurd (let k : true ≡ false = h in cc)
 

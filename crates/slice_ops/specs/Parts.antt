@@ -1,8 +1,11 @@
 -- Condition: what the part of a slice stands for.
-use Rattle.std.specs.Prelude.{◌≡◌, ℕ, Bool, false, not, nat_lt, length, is_some}
+use Rattle.std.specs.Prelude.{◌≡◌, ℕ, Bool, true, false, not, nat_lt, [], ◌∷◌, ◌++◌, length, Option, Some, None, is_some}
 use Rattle.lambda_expr.specs.Earlier.{Numbers}
+use Rattle.trace.specs.declared.item.Item.{Item}
+use Rattle.trace.specs.declared.item.End.{End}
+use Rattle.trace.specs.declared.item.End.TheVariants as end
 use Rattle.trace.specs.Stops.{stop_at}
-use Rattle.trace.specs.Trace.{Trace}
+use Rattle.trace.specs.Trace.{Trace, trace, append}
 use Rattle.slice_ops.specs.declared.slice_part.SlicePart.{SlicePart}
 use Rattle.slice_ops.specs.Slices.{SliceTerm, limit, skip, take_while, drop_while, slice_of, limited, taken, front_ends}
 
@@ -33,3 +36,24 @@ IsJoined (limit k) t right_stops kept joined_stops = (kept ≡ limited k t) × (
 IsJoined (skip k) t right_stops kept joined_stops = (kept ≡ t) × (joined_stops ≡ right_stops)
 IsJoined (take_while p) t right_stops kept joined_stops = (kept ≡ t) × (joined_stops ≡ right_stops)
 IsJoined (drop_while p) t right_stops kept joined_stops = (kept ≡ t) × (joined_stops ≡ right_stops)
+
+-- whether nothing after a piece matters, of which the chunk ends so
+abbrev pub is_settled_by : End → Bool → Bool
+is_settled_by end.Done stopped = stopped
+is_settled_by (end.Fault f) stopped = true
+
+-- whether nothing after the piece matters
+abbrev pub is_settled : SlicePart → Bool
+is_settled p = is_settled_by p.chunk.ending p.stopped
+
+-- what a chunk becomes to which an item is added, if its test ends the front so
+abbrev pub IsTaken : Option End → Item → Trace → Trace → Bool → Type 0
+IsTaken None x t kept stopped = (kept ≡ trace (t.items ++ x ∷ []) end.Done) × (stopped ≡ false)
+IsTaken (Some e) x t kept stopped = (kept ≡ append t (trace [] e)) × (stopped ≡ true)
+
+-- what a chunk that goes on becomes to which an item is added, and whether the piece stops
+abbrev pub IsAdded : SliceTerm → ℕ → Numbers → Item → Trace → Trace → Bool → Type 0
+IsAdded (limit k) n env x t kept stopped = (kept ≡ limited k (trace (t.items ++ x ∷ []) end.Done)) × (stopped ≡ not (nat_lt (length (t.items ++ x ∷ [])) k))
+IsAdded (skip k) n env x t kept stopped = (kept ≡ trace (t.items ++ x ∷ []) end.Done) × (stopped ≡ false)
+IsAdded (take_while p) n env x t kept stopped = IsTaken (front_ends p n env x) x t kept stopped
+IsAdded (drop_while p) n env x t kept stopped = (kept ≡ trace (t.items ++ x ∷ []) end.Done) × (stopped ≡ false)

@@ -46,10 +46,10 @@ pub fn drop_while(chunk: &mut Chunk, stage: u32, test: &BoolExpr, env: &Env)
 
 /// The front of a walk, which ends before the first item at which the test isn't true.
 #[derive(Clone, Copy)]
-struct Front<'a> {
-    stage: u32,
-    test: &'a BoolExpr,
-    env: &'a Env,
+pub(super) struct Front<'a> {
+    pub(super) stage: u32,
+    pub(super) test: &'a BoolExpr,
+    pub(super) env: &'a Env,
 }
 
 impl Stop for Front<'_> {

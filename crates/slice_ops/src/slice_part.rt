@@ -1,14 +1,15 @@
 // What a slice keeps of the pieces of a stream, and how the pieces join in encounter order.
 
-ghost use Rattle.std.specs.Prelude.{◌≡◌, ℕ, IfOk, IfErr};
+ghost use Rattle.std.specs.Prelude.{◌≡◌, ℕ, false, [], ◌∷◌, IfOk, IfErr, OnOk, OnErr};
 ghost use Rattle.lambda_expr.specs.Earlier.{Numbers};
-ghost use Rattle.trace.specs.Trace.{Trace, append};
-ghost use Rattle.slice_ops.specs.Parts.{IsJoined, StandsFor};
+ghost use Rattle.trace.specs.Trace.{Trace, trace, append};
+ghost use Rattle.trace.specs.declared.item.End.TheVariants as end;
+ghost use Rattle.slice_ops.specs.Parts.{IsAdded, IsJoined, StandsFor, is_settled};
 ghost use Rattle.slice_ops.specs.Slices.{SliceTerm, slice_of, sliced};
 
-use super::shorten::{drop_while, limit, skip, take_while};
+use super::shorten::{Front, drop_while, limit, skip, take_while};
 use lambda_expr::{BoolExpr, Env};
-use trace::{Chunk, End};
+use trace::{Chunk, End, Item, NoMemory, Stop};
 
 /// A stage that looks at a whole walk.
 #[derive(Drop)]
@@ -48,6 +49,39 @@ impl<'a> SlicePart<'a> {
             stage,
             chunk,
             stopped,
+        }
+    }
+
+    /// The part of the piece and one more item after it. It keeps no item that the stage takes away.
+    ///
+    /// If the allocation fails, the part stays as it was.
+    pub fn push(&mut self, env: &Env, item: Item) -> Result<(), NoMemory>
+        requires { is_settled self.old ≡ false }
+        ensures ok { OnOk result ((d : SliceTerm) (stage : ℕ) (t : Trace) → StandsFor d stage env.now self.old t
+            → StandsFor d stage env.now self.new (append t (trace (item ∷ []) end.Done))) }
+        ensures err { OnErr result (self.new ≡ self.old) }
+    {
+        self.stopped = add_to(self.slice, self.stage, env, &mut self.chunk, item)?;
+        Ok(())
+    }
+
+    /// The part of the piece if it ends so. It takes no memory.
+    pub fn end_with(&mut self, end: End)
+        ensures { (d : SliceTerm) (stage : ℕ) (env : Numbers) (t : Trace) → StandsFor d stage env self.old t
+            → StandsFor d stage env self.new (append t (trace [] end)) }
+    {
+        if !self.stopped {
+            self.chunk.end_with(end);
+        }
+    }
+
+    /// Whether nothing after the piece matters: the stage takes no more, or a fault has ended the piece.
+    pub fn is_settled(&self) -> bool
+        ensures { result ≡ is_settled self.now }
+    {
+        match self.chunk.end() {
+            End::Done => self.stopped,
+            End::Fault(_) => true,
         }
     }
 
@@ -115,5 +149,38 @@ fn shorten_joined(slice: &Slice, chunk: &mut Chunk, stopped: bool) -> bool
     match slice {
         Slice::Limit(n) => limit(chunk, *n),
         Slice::Skip(_) | Slice::TakeWhile(_) | Slice::DropWhile(_) => stopped,
+    }
+}
+
+/// Adds an item to the chunk of a piece that goes on. The answer says whether the stage takes no more.
+fn add_to(
+    slice: &Slice,
+    stage: u32,
+    env: &Env,
+    chunk: &mut Chunk,
+    item: Item,
+) -> Result<bool, NoMemory>
+    requires { chunk.old.ending ≡ end.Done }
+    ensures ok { IfOk result (λ stopped. IsAdded (slice_of slice.now) stage env.now item chunk.old chunk.new stopped) }
+    ensures err { OnErr result (chunk.new ≡ chunk.old) }
+{
+    match slice {
+        Slice::Limit(n) => {
+            chunk.push(item)?;
+            Ok(limit(chunk, *n))
+        }
+        Slice::Skip(_) | Slice::DropWhile(_) => {
+            chunk.push(item)?;
+            Ok(false)
+        }
+        Slice::TakeWhile(test) => {
+            let front = Front { stage, test, env };
+            if let Some(end) = front.end_before(item) {
+                chunk.end_with(end);
+                return Ok(true);
+            }
+            chunk.push(item)?;
+            Ok(false)
+        }
     }
 }

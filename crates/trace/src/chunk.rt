@@ -86,6 +86,15 @@ impl Chunk {
         Ok(())
     }
 
+    /// Ends so, unless a fault has ended the chunk. It takes no memory.
+    pub fn end_with(&mut self, end: End)
+        ensures { self.new ≡ append self.old (trace [] end) }
+    {
+        if let End::Done = self.end {
+            self.end = end;
+        }
+    }
+
     /// The pieces: the items of the first, then those of the second, and so on.
     pub fn pieces(&self) -> &[Vec<Item>]
         ensures { flat_map (λ piece. piece.items) result.now ≡ self.now.items }

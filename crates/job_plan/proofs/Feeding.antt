@@ -1,0 +1,69 @@
+-- Walks over pieces side by side, and how they end.
+use Rattle.std.proofs.Common.{◌≡◌, ℕ, suc, ◌<◌, Bool, true, false, is_some, List, [], ◌∷◌, ◌++◌, length, take, drop, Option, Some, None, Result, Ok, Err, refl, sym, ap, subst, ◌∙◌, append_assoc, arith}
+use Rattle.std.specs.declared.alloc.AllocError.{AllocError}
+use Rattle.std.proofs.lemmas.List.{append-nil, take-append-drop}
+use Rattle.lambda_expr.specs.Earlier.{Numbers}
+use Rattle.trace.specs.declared.item.Item.{Item}
+use Rattle.trace.specs.declared.item.Fault.{Fault}
+use Rattle.trace.specs.declared.item.End.{End}
+use Rattle.trace.specs.declared.item.End.TheVariants as end
+use Rattle.trace.specs.declared.feeding.Fed.{Fed}
+use Rattle.trace.specs.declared.feeding.Fed.TheVariants as fed
+use Rattle.trace.specs.Sinks.{IsFed}
+use Rattle.trace.specs.Stages.{StageTerm, pipe}
+use Rattle.trace.specs.Trace.{Trace, trace, nothing, then_on, append}
+use Rattle.trace.proofs.Joining.{append_faulted, append_grouped, pipe_ended, pipe_more}
+use Rattle.trace.proofs.Walking.{IsFed_on, IsFed_ended}
+use Rattle.job_plan.specs.Pieces.{elements, piece_of}
+use Rattle.job_plan.specs.Plans.{SegmentTerm, walk_of}
+
+module _ {S : Type 0} (h : S → List Item → Type 0) (g : SegmentTerm) (env : Numbers) where
+  -- some items, and then others
+  pub fed_both : (xs ys zs all : List Item) (r : Result Fed AllocError) (s s' : S) → all ≡ ys ++ zs → IsFed h xs (walk_of g env (trace ys end.Done)) (Ok fed.More) s
+      → ((vs : List Item) → h s vs → IsFed h vs (walk_of g env (trace zs end.Done)) r s') → IsFed h xs (walk_of g env (trace all end.Done)) r s'
+  fed_both xs ys zs all r s s' e p later =
+      let a : Trace = walk_of g env (trace ys end.Done) in
+      let b : Trace = walk_of g env (trace zs end.Done) in
+      subst (λ (t : Trace). IsFed h xs t r s') (sym (ap (λ (us : List Item). walk_of g env (trace us end.Done)) e ∙ pipe_more g.first g.stages env ys zs end.Done))
+      (IsFed_on h xs a b r s' p.1 (later (xs ++ a.items) p.0))
+
+  -- some items, at which the walk was stopped
+  pub fed_stopped : (xs ys zs all : List Item) (r : Result Fed AllocError) (s : S) → all ≡ ys ++ zs → (r ≡ Ok fed.More → ⊥) → IsFed h xs (walk_of g env (trace ys end.Done)) r s
+      → IsFed h xs (walk_of g env (trace all end.Done)) r s
+  fed_stopped xs ys zs all r s e stopped p =
+      subst (λ (us : List Item). IsFed h xs (walk_of g env (trace us end.Done)) r s) (sym e) (IsFed_ended h g.first g.stages env xs ys zs end.Done r s stopped p)
+
+  -- no items
+  pub fed_none : (xs all : List Item) (s : S) → all ≡ [] → h s xs → IsFed h xs (walk_of g env (trace all end.Done)) (Ok fed.More) s
+  fed_none xs all s e took =
+      subst (λ (t : Trace). IsFed h xs t (Ok fed.More) s) (sym (ap (λ (us : List Item). walk_of g env (trace us end.Done)) e ∙ pipe_ended g.first g.stages env end.Done))
+      (subst (h s) (sym (append-nil xs)) took, refl)
+
+-- a piece: its items, and then its end
+pub piece_in_two : (g : SegmentTerm) (env : Numbers) (from : ℕ) (to : Option ℕ) (t : Trace)
+    → walk_of g env (piece_of from to t) ≡ append (walk_of g env (trace (elements from to t.items) end.Done)) (trace [] (piece_of from to t).ending)
+piece_in_two g env from to t =
+    let xs = elements from to t.items in
+    let e = (piece_of from to t).ending in
+    let ends : List Item = [] in
+    ap (walk_of g env) (as_piece from to t ∙ ap (λ (ys : List Item). trace ys e) (sym (append-nil xs))) ∙ pipe_more g.first g.stages env xs ends e
+    ∙ ap (append (walk_of g env (trace xs end.Done))) (pipe_ended g.first g.stages env e)
+  where
+    as_piece : (from : ℕ) (to : Option ℕ) (t : Trace) → piece_of from to t ≡ trace (elements from to t.items) (piece_of from to t).ending
+    as_piece from None t = refl
+    as_piece from (Some to) t = refl
+
+-- what a walk leaves, by how it ended: P holds of the walks that a value stands for
+module _ (P : Trace → Type 0) (w : Trace) (e : End) where
+  pub stands_more : w.ending ≡ end.Done → P (append (trace ([] ++ w.items) end.Done) (trace [] e)) → P (append w (trace [] e))
+  stands_more done p = subst P (ap (λ (f : End). append (trace w.items f) (trace [] e)) (sym done)) p
+
+  pub stands_fault : (f : Fault) → w.ending ≡ end.Fault f → P (append (trace ([] ++ w.items) end.Done) (trace [] (end.Fault f))) → P (append w (trace [] e))
+  stands_fault f h p =
+      subst P ((λ i. trace (append-nil w.items i) (end.Fault f)) ∙ ap (λ (x : End). trace w.items x) (sym h) ∙ sym (append_faulted w (trace [] e) f h)) p
+
+  pub stands_enough : (k : ℕ) → ((u : Trace) → P (append (trace ([] ++ take k w.items) end.Done) u)) → P (append w (trace [] e))
+  stands_enough k p =
+      let front : Trace = trace (take k w.items) end.Done in
+      let back : Trace = trace (drop k w.items) w.ending in
+      subst P (sym (append_grouped front back (trace [] e)) ∙ ap (λ (t : Trace). append t (trace [] e)) (λ i. trace (take-append-drop k w.items i) w.ending)) (p (append back (trace [] e)))

@@ -1,0 +1,284 @@
+-- Parts of no item, of one more item, of pieces side by side.
+use Rattle.std.proofs.Common.{◌≡◌, ℕ, ℤ, pos, suc, ◌+◌, Bool, true, false, is_some, List, [], ◌∷◌, ◌++◌, length, map as each_of, Option, Some, None, Result, Ok, Err, refl, sym, ap, subst, ◌∙◌, append_assoc, arith}
+use Rattle.std.proofs.lemmas.List.{append-nil}
+use Rattle.lambda_expr.specs.Earlier.{Numbers}
+use Rattle.trace.specs.declared.item.Item.{Item}
+use Rattle.trace.specs.declared.item.Fault.{Fault}
+use Rattle.trace.specs.declared.item.End.{End}
+use Rattle.trace.specs.declared.item.End.TheVariants as end
+use Rattle.trace.specs.declared.stage.Stage.{Stage}
+use Rattle.trace.specs.Stages.{StageTerm, stage_of, stages_of}
+use Rattle.trace.specs.Trace.{Trace, trace, nothing, then_on, append}
+use Rattle.trace.proofs.Joining.{append_faulted, pipe_append}
+use Rattle.reduce_ops.specs.declared.op.Op.{Op}
+use Rattle.reduce_ops.specs.declared.partial.Partial.{Partial}
+use Rattle.reduce_ops.specs.Folds.{ones, fold_from, fold_items, reduced, reduced_from, unless_faulted}
+use Rattle.reduce_ops.specs.Operators.{value_of}
+use Rattle.reduce_ops.specs.Parts.{StandsFor as FoldStands}
+use Rattle.slice_ops.specs.declared.slice_part.SlicePart.{SlicePart}
+use Rattle.slice_ops.proofs.Adding.{settled as slice_settled}
+use Rattle.find_ops.specs.declared.find_part.FindPart.{FindPart}
+use Rattle.find_ops.specs.declared.find_part.Found.{Found}
+use Rattle.find_ops.specs.declared.find_part.Found.TheVariants as found
+use Rattle.find_ops.proofs.Deciding.{settled as find_settled}
+use Rattle.job_plan.specs.declared.answer.Answer.{Answer}
+use Rattle.job_plan.specs.declared.answer.Answer.TheVariants as answer
+use Rattle.job_plan.specs.declared.part.FoldPart.{FoldPart}
+use Rattle.job_plan.specs.declared.part.Part.{Part}
+use Rattle.job_plan.specs.declared.part.Part.TheVariants as part
+use Rattle.job_language.specs.Jobs.{JobStageTerm, TerminalTerm}
+use Rattle.job_plan.specs.declared.outcome.Outcome.TheVariants as outcome
+use Rattle.job_plan.specs.declared.segment.Segment.{Segment}
+use Rattle.job_plan.specs.declared.segment.JobPlan.{JobPlan}
+use Rattle.job_plan.specs.Parts.{IsFold, EndsFor, StandsFor, is_settled, is_fault, segment_in, segments_in, plan_in, plans_in}
+use Rattle.job_plan.specs.Plans.{EndTerm, slicing, folding, finding, collecting, SegmentTerm, PlanTerm, counted_as, ended, folded, segments_from, walk_of, last_stage}
+use Rattle.job_plan.specs.Walks.{unless_fault}
+
+-- ---- folds
+
+ones_joined : (xs ys : List Item) → ones (xs ++ ys) ≡ ones xs ++ ones ys
+ones_joined [] ys = refl
+ones_joined (x ∷ xs) ys = ap (λ (zs : List Item). record { origin = x.origin; value = pos 1 } ∷ zs) (ones_joined xs ys)
+
+counted_joined : (c : Bool) (xs ys : List Item) → counted_as c (xs ++ ys) ≡ counted_as c xs ++ counted_as c ys
+counted_joined false xs ys = refl
+counted_joined true xs ys = ones_joined xs ys
+
+-- a walk as a fold takes it
+abbrev pub as_counted : Bool → Trace → Trace
+as_counted c t = trace (counted_as c t.items) t.ending
+
+counted_on : (c : Bool) (xs : List Item) (e : End) (u : Trace) → as_counted c (then_on xs e u) ≡ then_on (counted_as c xs) e (as_counted c u)
+counted_on c xs end.Done u = ap (λ (zs : List Item). trace zs u.ending) (counted_joined c xs u.items)
+counted_on c xs (end.Fault f) u = refl
+
+pub counted_append : (c : Bool) (t u : Trace) → as_counted c (append t u) ≡ append (as_counted c t) (as_counted c u)
+counted_append c t u = counted_on c t.items t.ending u
+
+-- a fold that goes on with another walk
+pub fold_on : (f : Op) (a : Option ℤ) (c : Bool) (p r : FoldPart) (t u : Trace) → IsFold f a c p t → r.start ≡ p.start → r.counts ≡ p.counts → r.partial.op ≡ p.partial.op
+    → (FoldStands p.partial (as_counted c t) → FoldStands r.partial (append (as_counted c t) (as_counted c u))) → IsFold f a c r (append t u)
+fold_on f a c p r t u s start counting op later = record {
+  start = start ∙ s.start;
+  op = op ∙ s.op;
+  counting = counting ∙ s.counting;
+  stands = subst (λ (w : Trace). FoldStands r.partial w) (sym (counted_append c t u)) (later s.stands);
+}
+
+none_counted : (c : Bool) → counted_as c [] ≡ []
+none_counted false = refl
+none_counted true = refl
+
+-- the fold of no item
+pub fold_none : (f : Op) (a : Option ℤ) (c : Bool) (p : FoldPart) → p.start ≡ a → p.partial.op ≡ f → p.counts ≡ c → FoldStands p.partial nothing → IsFold f a c p nothing
+fold_none f a c p start op counting s = record {
+  start = start;
+  op = op;
+  counting = counting;
+  stands = subst (λ (xs : List Item). FoldStands p.partial (trace xs end.Done)) (sym (none_counted c)) s;
+}
+
+-- the end of a walk, as a fold takes it
+pub end_counted : (c : Bool) (e : End) → as_counted c (trace [] e) ≡ trace [] e
+end_counted false e = refl
+end_counted true e = refl
+
+-- one item, as a fold takes it
+pub one_counted : (c : Bool) (x y : Item) → y ∷ [] ≡ counted_as c (x ∷ []) → trace (y ∷ []) end.Done ≡ as_counted c (trace (x ∷ []) end.Done)
+one_counted c x y e = ap (λ (zs : List Item). trace zs end.Done) e
+
+-- what a fold answers
+pub number_of : (e : End) (v n : ℤ) → Ok n ≡ unless_faulted e v → answer.Number n ≡ unless_fault e (answer.Number v)
+number_of end.Done v n h = let k : n ≡ v = cc in ap answer.Number k
+number_of (end.Fault f) v n h = cc
+
+pub number_fault : (e : End) (v : ℤ) (f : Fault) (a : Answer) → Err f ≡ unless_faulted e v → answer.Fault f ≡ unless_fault e a
+number_fault end.Done v f a h = cc
+number_fault (end.Fault g) v f a h = let k : f ≡ g = cc in ap answer.Fault k
+
+pub optional_of : (e : End) (v n : Option ℤ) → Ok n ≡ unless_faulted e v → answer.Optional n ≡ unless_fault e (answer.Optional v)
+optional_of end.Done v n h = let k : n ≡ v = cc in ap answer.Optional k
+optional_of (end.Fault f) v n h = cc
+
+pub optional_fault : (e : End) (v : Option ℤ) (f : Fault) (a : Answer) → Err f ≡ unless_faulted e v → answer.Fault f ≡ unless_fault e a
+optional_fault end.Done v f a h = cc
+optional_fault (end.Fault g) v f a h = let k : f ≡ g = cc in ap answer.Fault k
+
+-- ---- what settles a piece
+
+is_done : (e : End) → is_fault e ≡ false → e ≡ end.Done
+is_done end.Done h = refl
+is_done (end.Fault f) h = absurd (let z : true ≡ false = h in cc)
+
+the_fault : (e : End) → is_fault e ≡ true → (f : Fault) × (e ≡ end.Fault f)
+the_fault end.Done h = absurd (let z : false ≡ true = h in cc)
+the_fault (end.Fault f) h = (f, refl)
+
+faulted_stays : (a b : Trace) → is_fault a.ending ≡ true → append a b ≡ a
+faulted_stays a b h = let f = the_fault a.ending h in append_faulted a b f.0 f.1
+
+-- after what settles a piece, nothing matters
+pub settled : (e : EndTerm) (n : ℕ) (env : Numbers) (p : Part) (a b : Trace) → is_settled p ≡ true → EndsFor e n env p a → EndsFor e n env p (append a b)
+settled (slicing d) n env (part.Slice p) a b h s = slice_settled n env a b d p h s
+settled (slicing d) n env (part.Fold p) a b h s = s
+settled (slicing d) n env (part.Find p) a b h s = s
+settled (slicing d) n env (part.Array p) a b h s = s
+settled (folding f i c) n env (part.Slice p) a b h s = s
+settled (folding f i c) n env (part.Fold p) a b h s = subst (λ (t : Trace). IsFold f i c p t) (sym (faulted_stays a b (ap is_fault (sym s.stands.ending) ∙ h))) s
+settled (folding f i c) n env (part.Find p) a b h s = s
+settled (folding f i c) n env (part.Array p) a b h s = s
+settled (finding d) n env (part.Slice p) a b h s = s
+settled (finding d) n env (part.Fold p) a b h s = s
+settled (finding d) n env (part.Find p) a b h s = find_settled d n env p a b h s
+settled (finding d) n env (part.Array p) a b h s = s
+settled collecting n env (part.Slice p) a b h s = s
+settled collecting n env (part.Fold p) a b h s = s
+settled collecting n env (part.Find p) a b h s = s
+settled collecting n env (part.Array p) a b h s = s ∙ sym (faulted_stays a b (ap (λ (t : Trace). is_fault t.ending) (sym s) ∙ h))
+
+-- ---- two parts
+
+-- of a segment, from what holds of its end
+pub on_walks : (s : SegmentTerm) (env : Numbers) (p q r : Part) (a b : Trace)
+    → (EndsFor s.ending (last_stage s) env p (walk_of s env a) → EndsFor s.ending (last_stage s) env q (walk_of s env b) → EndsFor s.ending (last_stage s) env r (append (walk_of s env a) (walk_of s env b)))
+    → StandsFor s env p a → StandsFor s env q b → StandsFor s env r (append a b)
+on_walks s env p q r a b merged x y = subst (λ (t : Trace). EndsFor s.ending (last_stage s) env r t) (sym (pipe_append s.first s.stages env a b)) (merged x y)
+
+module _ (e : EndTerm) (n : ℕ) (env : Numbers) (a b : Trace) where
+  -- of one end, parts have one kind
+  pub only_slices : (p : SlicePart) (q : Part) → ((x : SlicePart) → q ≡ part.Slice x → ⊥) → EndsFor e n env (part.Slice p) a → EndsFor e n env q b → ⊥
+  only_slices p q other s t = by e q s t other
+    where
+      by : (e : EndTerm) (q : Part) → EndsFor e n env (part.Slice p) a → EndsFor e n env q b → ((x : SlicePart) → q ≡ part.Slice x → ⊥) → ⊥
+      by (slicing d) (part.Slice q) s t h = h q refl
+      by (slicing d) (part.Fold q) s t h = t
+      by (slicing d) (part.Find q) s t h = t
+      by (slicing d) (part.Array q) s t h = t
+      by (folding f i c) q s t h = s
+      by (finding d) q s t h = s
+      by collecting q s t h = s
+
+  pub only_folds : (p : FoldPart) (q : Part) → ((x : FoldPart) → q ≡ part.Fold x → ⊥) → EndsFor e n env (part.Fold p) a → EndsFor e n env q b → ⊥
+  only_folds p q other s t = by e q s t other
+    where
+      by : (e : EndTerm) (q : Part) → EndsFor e n env (part.Fold p) a → EndsFor e n env q b → ((x : FoldPart) → q ≡ part.Fold x → ⊥) → ⊥
+      by (slicing d) q s t h = s
+      by (folding f i c) (part.Slice q) s t h = t
+      by (folding f i c) (part.Fold q) s t h = h q refl
+      by (folding f i c) (part.Find q) s t h = t
+      by (folding f i c) (part.Array q) s t h = t
+      by (finding d) q s t h = s
+      by collecting q s t h = s
+
+  pub only_finds : (p : FindPart) (q : Part) → ((x : FindPart) → q ≡ part.Find x → ⊥) → EndsFor e n env (part.Find p) a → EndsFor e n env q b → ⊥
+  only_finds p q other s t = by e q s t other
+    where
+      by : (e : EndTerm) (q : Part) → EndsFor e n env (part.Find p) a → EndsFor e n env q b → ((x : FindPart) → q ≡ part.Find x → ⊥) → ⊥
+      by (slicing d) q s t h = s
+      by (folding f i c) q s t h = s
+      by (finding d) (part.Slice q) s t h = t
+      by (finding d) (part.Fold q) s t h = t
+      by (finding d) (part.Find q) s t h = h q refl
+      by (finding d) (part.Array q) s t h = t
+      by collecting q s t h = s
+
+  pub only_arrays : (p : Trace) (q : Part) → ((x : Trace) → q ≡ part.Array x → ⊥) → EndsFor e n env (part.Array p) a → EndsFor e n env q b → ⊥
+  only_arrays p q other s t = by e q s t other
+    where
+      by : (e : EndTerm) (q : Part) → EndsFor e n env (part.Array p) a → EndsFor e n env q b → ((x : Trace) → q ≡ part.Array x → ⊥) → ⊥
+      by (slicing d) q s t h = s
+      by (folding f i c) q s t h = s
+      by (finding d) q s t h = s
+      by collecting (part.Slice q) s t h = t
+      by collecting (part.Fold q) s t h = t
+      by collecting (part.Find q) s t h = t
+      by collecting (part.Array q) s t h = h q refl
+
+  -- parts of one kind side by side
+  pub slices_merge : (p q r : SlicePart) → ((d : _) → EndsFor (slicing d) n env (part.Slice p) a → EndsFor (slicing d) n env (part.Slice q) b → EndsFor (slicing d) n env (part.Slice r) (append a b))
+      → EndsFor e n env (part.Slice p) a → EndsFor e n env (part.Slice q) b → EndsFor e n env (part.Slice r) (append a b)
+  slices_merge p q r merged = by e
+    where
+      by : (e : EndTerm) → EndsFor e n env (part.Slice p) a → EndsFor e n env (part.Slice q) b → EndsFor e n env (part.Slice r) (append a b)
+      by (slicing d) s t = merged d s t
+      by (folding f i c) s t = s
+      by (finding d) s t = s
+      by collecting s t = s
+
+  pub folds_merge : (p q r : FoldPart) → ((f : Op) (i : Option ℤ) (c : Bool) → IsFold f i c p a → IsFold f i c q b → IsFold f i c r (append a b))
+      → EndsFor e n env (part.Fold p) a → EndsFor e n env (part.Fold q) b → EndsFor e n env (part.Fold r) (append a b)
+  folds_merge p q r merged = by e
+    where
+      by : (e : EndTerm) → EndsFor e n env (part.Fold p) a → EndsFor e n env (part.Fold q) b → EndsFor e n env (part.Fold r) (append a b)
+      by (slicing d) s t = s
+      by (folding f i c) s t = merged f i c s t
+      by (finding d) s t = s
+      by collecting s t = s
+
+  pub finds_merge : (p q r : FindPart) → ((d : _) → EndsFor (finding d) n env (part.Find p) a → EndsFor (finding d) n env (part.Find q) b → EndsFor (finding d) n env (part.Find r) (append a b))
+      → EndsFor e n env (part.Find p) a → EndsFor e n env (part.Find q) b → EndsFor e n env (part.Find r) (append a b)
+  finds_merge p q r merged = by e
+    where
+      by : (e : EndTerm) → EndsFor e n env (part.Find p) a → EndsFor e n env (part.Find q) b → EndsFor e n env (part.Find r) (append a b)
+      by (slicing d) s t = s
+      by (folding f i c) s t = s
+      by (finding d) s t = merged d s t
+      by collecting s t = s
+
+  pub arrays_merge : (p q r : Trace) → r ≡ append p q → EndsFor e n env (part.Array p) a → EndsFor e n env (part.Array q) b → EndsFor e n env (part.Array r) (append a b)
+  arrays_merge p q r is = by e
+    where
+      by : (e : EndTerm) → EndsFor e n env (part.Array p) a → EndsFor e n env (part.Array q) b → EndsFor e n env (part.Array r) (append a b)
+      by (slicing d) s t = s
+      by (folding f i c) s t = s
+      by (finding d) s t = s
+      by collecting s t = is ∙ (λ i. append (s i) (t i))
+
+-- the number of the stage that ends a segment
+pub length-stages_of : (gs : List Stage) → length (stages_of gs) ≡ length gs
+length-stages_of [] = refl
+length-stages_of (g ∷ gs) = ap suc (length-stages_of gs)
+
+-- one more of several
+pub stages_more : (gs : List Stage) (g : Stage) → stages_of (gs ++ g ∷ []) ≡ stages_of gs ++ stage_of g ∷ []
+stages_more [] g = refl
+stages_more (f ∷ gs) g = ap (λ (hs : List StageTerm). stage_of f ∷ hs) (stages_more gs g)
+
+segments_snoc : (ss : List Segment) (s : Segment) → segments_in (ss ++ s ∷ []) ≡ segments_in ss ++ segment_in s ∷ []
+segments_snoc [] s = refl
+segments_snoc (r ∷ ss) s = ap (λ (rs : List SegmentTerm). segment_in r ∷ rs) (segments_snoc ss s)
+
+pub segments_more : (new ss : List Segment) (s : Segment) → new ≡ ss ++ s ∷ [] → segments_in new ≡ segments_in ss ++ segment_in s ∷ []
+segments_more new ss s e = ap segments_in e ∙ segments_snoc ss s
+
+plans_snoc : (js : List JobPlan) (j : JobPlan) → plans_in (js ++ j ∷ []) ≡ plans_in js ++ plan_in j ∷ []
+plans_snoc [] j = refl
+plans_snoc (k ∷ js) j = ap (λ (ks : List PlanTerm). plan_in k ∷ ks) (plans_snoc js j)
+
+pub plans_more : (new js : List JobPlan) (j : JobPlan) (rest : List PlanTerm) → new ≡ js ++ j ∷ [] → plans_in new ++ rest ≡ plans_in js ++ plan_in j ∷ rest
+plans_more new js j rest e = ap (λ ks. plans_in ks ++ rest) e ∙ ap (λ ks. ks ++ rest) (plans_snoc js j) ∙ append_assoc (plans_in js) (plan_in j ∷ []) rest
+
+-- a segment that ends here, and those after it
+pub segment_on : (new ss : List Segment) (s : Segment) (m n : ℕ) (gs fresh : List StageTerm) (later : List SegmentTerm) (rest : List JobStageTerm) (d : TerminalTerm)
+    → new ≡ ss ++ s ∷ [] → m ≡ n → fresh ≡ [] → later ≡ segment_in s ∷ segments_from n [] rest d → segments_in new ++ segments_from m fresh rest d ≡ segments_in ss ++ later
+segment_on new ss s m n gs fresh later rest d e k f l =
+    (λ i. segments_more new ss s e i ++ segments_from (k i) (f i) rest d) ∙ append_assoc (segments_in ss) (segment_in s ∷ []) (segments_from n [] rest d) ∙ ap (λ rs. segments_in ss ++ rs) (sym l)
+
+-- what an array answers
+pub array_ends : (e : EndTerm) (n : ℕ) (env : Numbers) (c w : Trace) (a : Answer) → EndsFor e n env (part.Array c) w → a ≡ unless_fault c.ending (answer.Array (each_of (λ (x : Item). x.value) c.items)) → outcome.Answer a ≡ ended e n env w
+array_ends (slicing d) n env c w a s is = absurd s
+array_ends (folding f i k) n env c w a s is = absurd s
+array_ends (finding d) n env c w a s is = absurd s
+array_ends collecting n env c w a s is = ap outcome.Answer (is ∙ ap (λ (t : Trace). unless_fault t.ending (answer.Array (each_of (λ (x : Item). x.value) t.items))) s)
+
+-- a fold goes on
+pub fold_goes_on : (e : EndTerm) (n : ℕ) (env : Numbers) (p r : FoldPart) (t u : Trace) → ((f : Op) (i : Option ℤ) (c : Bool) → IsFold f i c p t → IsFold f i c r (append t u))
+    → EndsFor e n env (part.Fold p) t → EndsFor e n env (part.Fold r) (append t u)
+fold_goes_on (slicing d) n env p r t u go s = s
+fold_goes_on (folding f i c) n env p r t u go s = go f i c s
+fold_goes_on (finding d) n env p r t u go s = s
+fold_goes_on collecting n env p r t u go s = s
+
+pub no_items : {A : Type 0} (xs : List A) → length xs ≡ 0 → xs ≡ []
+no_items [] h = refl
+no_items (x ∷ xs) h = absurd (omega arith)

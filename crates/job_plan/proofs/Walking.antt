@@ -1,0 +1,91 @@
+-- Walks of segments in pieces.
+use Rattle.std.proofs.Common.{◌≡◌, ℕ, suc, ◌≤◌, ◌<◌, Bool, true, false, List, [], ◌∷◌, ◌++◌, length, take, Option, Some, None, IfSome, IfOk, Ok, Result, refl, sym, ap, subst, ◌∙◌}
+use Rattle.lambda_expr.specs.Earlier.{Numbers}
+use Rattle.trace.specs.declared.item.Item.{Item}
+use Rattle.trace.specs.declared.item.Fault.{Fault}
+use Rattle.trace.specs.declared.item.End.{End}
+use Rattle.trace.specs.declared.item.End.TheVariants as end
+use Rattle.trace.specs.Trace.{Trace, trace, nothing, append}
+use Rattle.trace.proofs.Joining.{pipe_append}
+use Rattle.job_plan.specs.declared.answer.Answer.{Answer}
+use Rattle.job_plan.specs.declared.outcome.Outcome.{Outcome}
+use Rattle.job_plan.specs.declared.outcome.Outcome.TheVariants as outcome
+use Rattle.job_plan.specs.declared.part.Part.{Part}
+use Rattle.std.specs.declared.alloc.AllocError.{AllocError}
+use Rattle.trace.specs.declared.sink.Flow.TheVariants as flow
+use Rattle.job_plan.specs.Parts.{EndsFor, StandsFor, flow_of, is_settled}
+use Rattle.job_plan.specs.Pieces.{elements, piece_of}
+use Rattle.job_plan.specs.Plans.{EndTerm, SegmentTerm, last_stage, on_outcome, outcome_of, segments_answer, walk_of}
+use Rattle.job_plan.specs.Spans.{IsNotAfter}
+use Rattle.job_plan.proofs.Feeding.{piece_in_two, stands_more, stands_fault, stands_enough}
+use Rattle.job_plan.proofs.Parting.{settled}
+use Rattle.job_plan.proofs.SideBySide.{pieces_joined, whole_piece}
+
+pub not_after : (m : ℕ) (to : Option ℕ) → IfSome to (λ last. m ≤ last) → IsNotAfter m to
+not_after m None h = tt
+not_after m (Some t) h = h
+
+-- a part that is settled stands for all that follows
+pub settled_piece : (s : SegmentTerm) (env : Numbers) (p : Part) (t : Trace) (from middle : ℕ) (to : Option ℕ) → from ≤ middle → IsNotAfter middle to → is_settled p ≡ true
+    → StandsFor s env p (piece_of from (Some middle) t) → StandsFor s env p (piece_of from to t)
+settled_piece s env p t from middle to h k is x =
+    let a : Trace = piece_of from (Some middle) t in
+    let b : Trace = piece_of middle to t in
+    let on : EndsFor s.ending (last_stage s) env p (append (walk_of s env a) (walk_of s env b)) = settled s.ending (last_stage s) env p (walk_of s env a) (walk_of s env b) is x in
+    subst (λ (u : Trace). StandsFor s env p u) (pieces_joined t from middle to h k) (subst (λ (u : Trace). EndsFor s.ending (last_stage s) env p u) (sym (pipe_append s.first s.stages env a b)) on)
+
+-- two parts side by side
+pub merged_piece : (s : SegmentTerm) (env : Numbers) (p : Part) (t : Trace) (from middle : ℕ) (to : Option ℕ) → from ≤ middle → IsNotAfter middle to
+    → StandsFor s env p (append (piece_of from (Some middle) t) (piece_of middle to t)) → StandsFor s env p (piece_of from to t)
+merged_piece s env p t from middle to h k x = subst (λ (u : Trace). StandsFor s env p u) (pieces_joined t from middle to h k) x
+
+-- the last segment
+pub answered : (s : SegmentTerm) (ss : List SegmentTerm) (env : Numbers) (t : Trace) (o : Outcome) (a : Answer) → o ≡ outcome_of s env (piece_of 0 None t) → o ≡ outcome.Answer a → a ≡ segments_answer (s ∷ ss) env t
+answered s ss env t o a e is = ap (λ x. on_outcome x (segments_answer ss env)) (sym is ∙ e ∙ ap (outcome_of s env) (whole_piece t))
+
+-- a segment before others
+pub went_on : (s : SegmentTerm) (ss : List SegmentTerm) (env : Numbers) (t u : Trace) (o : Outcome) (a : Answer) → o ≡ outcome_of s env (piece_of 0 None t) → o ≡ outcome.Source u → a ≡ segments_answer ss env u → a ≡ segments_answer (s ∷ ss) env t
+went_on s ss env t u o a e is later = later ∙ ap (λ x. on_outcome x (segments_answer ss env)) (sym is ∙ e ∙ ap (outcome_of s env) (whole_piece t))
+
+-- the part of no item, if nothing more matters
+pub settled_first : (s : SegmentTerm) (env : Numbers) (p : Part) (t : Trace) (from : ℕ) (to : Option ℕ) → is_settled p ≡ true → EndsFor s.ending (last_stage s) env p nothing → StandsFor s env p (piece_of from to t)
+settled_first s env p t from to is x = settled s.ending (last_stage s) env p nothing (walk_of s env (piece_of from to t)) is x
+
+module _ (s : SegmentTerm) (env : Numbers) (p : Part) (t : Trace) (from : ℕ) (to : Option ℕ) where
+  abbrev walked : Trace
+  walked = walk_of s env (trace (elements from to t.items) end.Done)
+
+  by_end : EndsFor s.ending (last_stage s) env p (append walked (trace [] (piece_of from to t).ending)) → StandsFor s env p (piece_of from to t)
+  by_end x = subst (λ (u : Trace). EndsFor s.ending (last_stage s) env p u) (sym (piece_in_two s env from to t)) x
+
+  -- all items went through
+  pub after_more : walked.ending ≡ end.Done → EndsFor s.ending (last_stage s) env p (append (trace ([] ++ walked.items) end.Done) (trace [] (piece_of from to t).ending)) → StandsFor s env p (piece_of from to t)
+  after_more done x = by_end (stands_more (EndsFor s.ending (last_stage s) env p) walked (piece_of from to t).ending done x)
+
+  -- one of them ended the walk in a fault
+  pub after_fault : (f : Fault) → walked.ending ≡ end.Fault f → EndsFor s.ending (last_stage s) env p (append (trace ([] ++ walked.items) end.Done) (trace [] (end.Fault f))) → StandsFor s env p (piece_of from to t)
+  after_fault f h x = by_end (stands_fault (EndsFor s.ending (last_stage s) env p) walked (piece_of from to t).ending f h x)
+
+  -- nothing more mattered
+  pub after_enough : (k : ℕ) → is_settled p ≡ true → EndsFor s.ending (last_stage s) env p (trace ([] ++ take k walked.items) end.Done) → StandsFor s env p (piece_of from to t)
+  after_enough k is x =
+      by_end (stands_enough (EndsFor s.ending (last_stage s) env p) walked (piece_of from to t).ending k
+      (λ u. settled s.ending (last_stage s) env p (trace ([] ++ take k walked.items) end.Done) u is x))
+
+-- how a piece ends doesn't depend on where it begins
+pub same_ending : (from : ℕ) (to : Option ℕ) (t : Trace) → (piece_of 0 to t).ending ≡ (piece_of from to t).ending
+same_ending from None t = refl
+same_ending from (Some to) t = refl
+
+pub enough_is_settled : (b : Bool) → flow_of b ≡ flow.Enough → b ≡ true
+enough_is_settled true h = refl
+enough_is_settled false h = cc
+
+-- the same end, stage and numbers
+pub unpinned : (e f : EndTerm) (m n : ℕ) (env named : Numbers) (p : Part) (t : Trace) → e ≡ f → m ≡ n → env ≡ named → EndsFor f n named p t → EndsFor e m env p t
+unpinned e f m n env named p t a b c h =
+    subst (λ (x : EndTerm). EndsFor x m env p t) (sym a) (subst (λ (x : ℕ). EndsFor f x env p t) (sym b) (subst (λ (x : Numbers). EndsFor f n x p t) (sym c) h))
+
+-- an answer, if there is one
+pub same_answer : (r : Result Answer AllocError) (x y : Answer) → x ≡ y → IfOk r (λ a. a ≡ x) → IfOk r (λ a. a ≡ y)
+same_answer r x y e h = subst (λ (z : Answer). IfOk r (λ a. a ≡ z)) e h

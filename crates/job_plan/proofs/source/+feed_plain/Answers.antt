@@ -1,0 +1,88 @@
+use Rattle.std.proofs.Common.{◌≡◌, ◌+◌, ◌-◌, List, [], ◌∷◌, ◌++◌, length, length-append, take, drop, Ok, Err, sym, ap, subst, ◌∙◌, arith, rules}
+use Rattle.std.proofs.lemmas.Result.{err_from_is_err_and}
+use Rattle.trace.specs.declared.item.Item.{Item}
+use Rattle.trace.specs.declared.item.End.TheVariants as end
+use Rattle.trace.specs.declared.feeding.Fed.TheVariants as fed
+use Rattle.trace.specs.Cover.{placed}
+use Rattle.job_language.specs.Jobs.{source_of, sources_of}
+use Rattle.job_plan.specs.Parts.{segment_in}
+use Rattle.job_plan.specs.Pieces.{elements}
+use Rattle.job_plan.specs.Spans.{after}
+use Rattle.job_plan.specs.Walks.{plain_values, values_of}
+use Rattle.job_plan.proofs.Elements.{elements_none, placed_positions}
+use Rattle.job_plan.proofs.Feeding.{fed_none, fed_both, fed_stopped}
+use Rattle.job_plan.proofs.Parting.{no_items}
+use Rattle.job_plan.proofs.source.+feed_plain.Goals as goal
+
+pub returns-in-None-clause-fed : goal.returns-in-None-clause-fed
+returns-in-None-clause-fed g t c = λ xs took.
+    let none = no_items c.args.sources.now c.in-None.ensures.cases in
+    fed_none g.S.LongSink.has_taken (segment_in c.args.segment.now) c.args.env.now xs (elements c.args.from c.args.to (placed c.args.origin (values_of (sources_of c.args.sources.now)))) c.args.sink.now
+    (ap (λ ss. elements c.args.from c.args.to (placed c.args.origin (values_of (sources_of ss)))) none ∙ elements_none c.args.from c.args.to) took
+
+pub returns-in_default-clause-fed : goal.returns-in_default-clause-fed
+returns-in_default-clause-fed g t c = λ xs took.
+    let hs = plain_values (source_of c.in-Some.source.now) in
+    let ts = values_of (sources_of c.in-Some.later.now) in
+    let size = c.plain_size-size.result in
+    let start = c.within-start.result.0 in
+    let count = c.within-start.result.1 in
+    let o = c.args.origin in
+    let split : c.args.sources.now ≡ c.in-Some.source.now ∷ c.in-Some.later.now = search rules in
+    let whole = ap (λ ss. values_of (sources_of ss)) split in
+    let l = ap length whole ∙ length-append hs ts in
+    let same : size ≡ length hs = omega (arith, c.plain_size-size.ensures, c.requires.few, l) in
+    let ys = placed (o + start) (take count (drop start hs)) in
+    let zs = elements (c.args.from - size) (after c.args.to size) (placed (o + size) ts) in
+    let all = elements c.args.from c.args.to (placed o (values_of (sources_of c.args.sources.now))) in
+    let parts : all ≡ ys ++ zs = ap (λ vs. elements c.args.from c.args.to (placed o vs)) whole ∙ placed_positions o c.args.from c.args.to hs ts size start count same c.within-start.ensures.start c.within-start.ensures.count in
+    let has = g.S.LongSink.has_taken in
+    let seg = segment_in c.args.segment.now in
+    let env = c.args.env.now in
+    fed_stopped has seg env xs ys zs all (Ok c.in_ok-stopped-in-Some.stopped) c.feed_one.new.sink parts (λ e. c.in_default.not-More cc) (c.in_ok-stopped-in-Some.ensures.fed xs took)
+
+pub returns-in_err-stopped-in-Some-clause-fed : goal.returns-in_err-stopped-in-Some-clause-fed
+returns-in_err-stopped-in-Some-clause-fed g t c = λ xs took.
+    let hs = plain_values (source_of c.in-Some.source.now) in
+    let ts = values_of (sources_of c.in-Some.later.now) in
+    let size = c.plain_size-size.result in
+    let start = c.within-start.result.0 in
+    let count = c.within-start.result.1 in
+    let o = c.args.origin in
+    let split : c.args.sources.now ≡ c.in-Some.source.now ∷ c.in-Some.later.now = search rules in
+    let whole = ap (λ ss. values_of (sources_of ss)) split in
+    let l = ap length whole ∙ length-append hs ts in
+    let same : size ≡ length hs = omega (arith, c.plain_size-size.ensures, c.requires.few, l) in
+    let ys = placed (o + start) (take count (drop start hs)) in
+    let zs = elements (c.args.from - size) (after c.args.to size) (placed (o + size) ts) in
+    let all = elements c.args.from c.args.to (placed o (values_of (sources_of c.args.sources.now))) in
+    let parts : all ≡ ys ++ zs = ap (λ vs. elements c.args.from c.args.to (placed o vs)) whole ∙ placed_positions o c.args.from c.args.to hs ts size start count same c.within-start.ensures.start c.within-start.ensures.count in
+    let has = g.S.LongSink.has_taken in
+    let seg = segment_in c.args.segment.now in
+    let env = c.args.env.now in
+    let p = err_from_is_err_and c.from_residual.result c.from_residual.ensures.1 in
+    rw p.1 (fed_stopped has seg env xs ys zs all (Err c.in_err-stopped-in-Some.field-0.0) c.feed_one.new.sink parts (λ e. cc) (c.in_err-stopped-in-Some.ensures.fed xs took))
+
+pub returns-in-More-clause-fed : goal.returns-in-More-clause-fed
+returns-in-More-clause-fed g t c = λ xs took.
+    let hs = plain_values (source_of c.in-Some.source.now) in
+    let ts = values_of (sources_of c.in-Some.later.now) in
+    let size = c.plain_size-size.result in
+    let start = c.within-start.result.0 in
+    let count = c.within-start.result.1 in
+    let o = c.args.origin in
+    let split : c.args.sources.now ≡ c.in-Some.source.now ∷ c.in-Some.later.now = search rules in
+    let whole = ap (λ ss. values_of (sources_of ss)) split in
+    let l = ap length whole ∙ length-append hs ts in
+    let same : size ≡ length hs = omega (arith, c.plain_size-size.ensures, c.requires.few, l) in
+    let ys = placed (o + start) (take count (drop start hs)) in
+    let zs = elements (c.args.from - size) (after c.args.to size) (placed (o + size) ts) in
+    let all = elements c.args.from c.args.to (placed o (values_of (sources_of c.args.sources.now))) in
+    let parts : all ≡ ys ++ zs = ap (λ vs. elements c.args.from c.args.to (placed o vs)) whole ∙ placed_positions o c.args.from c.args.to hs ts size start count same c.within-start.ensures.start c.within-start.ensures.count in
+    let has = g.S.LongSink.has_taken in
+    let seg = segment_in c.args.segment.now in
+    let env = c.args.env.now in
+    let more = rw c.in-More.is at c.in_ok-stopped-in-Some.ensures.fed in
+    let later = elements c.saturating_sub-from.result c.end_after.result (placed (o + size) ts) in
+    let same_later : zs ≡ later = λ i. elements (sym c.saturating_sub-from.ensures i) (sym c.end_after.ensures i) (placed (o + size) ts) in
+    fed_both has seg env xs ys later all c.feed_plain.result c.feed_one.new.sink c.feed_plain.new.sink (parts ∙ ap (λ vs. ys ++ vs) same_later) (more xs took) c.feed_plain.ensures.fed

@@ -1,0 +1,21 @@
+use Rattle.std.proofs.Common.{Some, sym, ◌∙◌}
+use Rattle.job_plan.specs.Parts.{segment_in, walk_in}
+use Rattle.job_plan.specs.Pieces.{piece_of}
+use Rattle.job_plan.proofs.Walking.{merged_piece, not_after, settled_piece}
+use Rattle.job_plan.proofs.walks.+walk_piece.Goals as goal
+
+pub returns-then-is_settled : goal.returns-then-is_settled
+returns-then-is_settled t c =
+    let middle = c.middle_of-middle.result in
+    settled_piece (segment_in c.args.segment.now) c.args.env.now c.in_ok-left-in-Node.left (walk_in c.args.source.now) c.args.from middle c.args.to
+    c.middle_of-middle.ensures.not_before (not_after middle c.args.to c.middle_of-middle.ensures.not_after) (sym c.is_settled.ensures ∙ c.if-is_settled.true) c.in_ok-left-in-Node.ensures
+
+pub returns-in-Ok : goal.returns-in-Ok
+returns-in-Ok t c =
+    let s = segment_in c.args.segment.now in
+    let env = c.args.env.now in
+    let source = walk_in c.args.source.now in
+    let middle = c.middle_of-middle.result in
+    merged_piece s env c.in-Ok.part source c.args.from middle c.args.to
+    c.middle_of-middle.ensures.not_before (not_after middle c.args.to c.middle_of-middle.ensures.not_after)
+    (c.in-Ok.ensures.ok s env (piece_of c.args.from (Some middle) source) (piece_of middle c.args.to source) c.in_ok-left-in-Node.ensures c.in_ok-right-in-Node.ensures)

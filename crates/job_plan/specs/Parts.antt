@@ -1,0 +1,102 @@
+-- Condition: what the parts, segments and sources of the program stand for.
+use Rattle.std.specs.Prelude.{◌≡◌, ℕ, ℤ, Bool, true, false, List, [], ◌∷◌, ◌++◌, length, Option, is_some}
+use Rattle.lambda_expr.specs.Earlier.{Numbers}
+use Rattle.trace.specs.declared.item.End.{End}
+use Rattle.trace.specs.declared.item.End.TheVariants as end
+use Rattle.trace.specs.declared.sink.Flow.{Flow}
+use Rattle.trace.specs.declared.sink.Flow.TheVariants as flow
+use Rattle.trace.specs.Stages.{stages_of}
+use Rattle.trace.specs.Trace.{Trace, trace}
+use Rattle.reduce_ops.specs.declared.op.Op.{Op}
+use Rattle.reduce_ops.specs.Parts.{StandsFor as FoldStands}
+use Rattle.slice_ops.specs.Slices.{slice_of}
+use Rattle.slice_ops.specs.Parts.{StandsFor as SliceStands, is_settled as slice_is_settled}
+use Rattle.find_ops.specs.Finds.{find_of}
+use Rattle.find_ops.specs.Parts.{StandsFor as FindStands}
+use Rattle.job_language.specs.Jobs.{sources_of}
+use Rattle.job_plan.specs.declared.part.FoldPart.{FoldPart}
+use Rattle.job_plan.specs.declared.part.Part.{Part}
+use Rattle.job_plan.specs.declared.part.Part.TheVariants as part
+use Rattle.job_plan.specs.declared.segment.SegmentEnd.{SegmentEnd}
+use Rattle.job_plan.specs.declared.segment.SegmentEnd.TheVariants as ends
+use Rattle.job_plan.specs.declared.segment.Segment.{Segment}
+use Rattle.job_plan.specs.declared.segment.JobPlan.{JobPlan}
+use Rattle.job_plan.specs.declared.source.Source.{Source}
+use Rattle.job_plan.specs.declared.source.Source.TheVariants as source
+use Rattle.job_plan.specs.Plans.{EndTerm, slicing, folding, finding, collecting, SegmentTerm, PlanTerm, counted_as, walk_of, last_stage}
+use Rattle.job_plan.specs.Walks.{source_walk}
+
+-- the end of a segment of the program
+abbrev pub end_in : SegmentEnd → EndTerm
+end_in (ends.Slice d) = slicing (slice_of d)
+end_in (ends.Fold f) = folding f.op f.start f.counts
+end_in (ends.Find d) = finding (find_of d)
+end_in ends.Array = collecting
+
+-- a segment of the program, and several
+abbrev pub segment_in : Segment → SegmentTerm
+segment_in s = record { first = s.first_stage; stages = stages_of s.stages.items; ending = end_in s.end }
+
+abbrev pub segments_in : List Segment → List SegmentTerm
+segments_in [] = []
+segments_in (s ∷ ss) = segment_in s ∷ segments_in ss
+
+-- a job of the program in segments, and several
+abbrev pub plan_in : JobPlan → PlanTerm
+plan_in j = record { name = j.name; sources = sources_of j.sources.items; segments = segments_in j.segments.items }
+
+abbrev pub plans_in : List JobPlan → List PlanTerm
+plans_in [] = []
+plans_in (j ∷ js) = plan_in j ∷ plans_in js
+
+-- the walk over a source of the program
+abbrev pub walk_in : Source → Trace
+walk_in (source.Plain p) = source_walk (sources_of p.sources.now)
+walk_in (source.Chunk c) = c.now
+
+-- a fold with this operator and start has the fold of this walk, and its end
+pub record IsFold (f : Op) (a : Option ℤ) (counts : Bool) (p : FoldPart) (t : Trace) : Type 0 where
+  pub start : p.start ≡ a
+  pub op : p.partial.op ≡ f
+  pub counting : p.counts ≡ counts
+  pub stands : FoldStands p.partial (trace (counted_as counts t.items) t.ending)
+
+-- a part stands for a walk that came through the stages, at this end, which is the stage with this number
+abbrev pub EndsFor : EndTerm → ℕ → Numbers → Part → Trace → Type 0
+EndsFor (slicing d) n env (part.Slice p) t = SliceStands d n env p t
+EndsFor (slicing d) n env (part.Fold p) t = ⊥
+EndsFor (slicing d) n env (part.Find p) t = ⊥
+EndsFor (slicing d) n env (part.Array c) t = ⊥
+EndsFor (folding f a counts) n env (part.Slice p) t = ⊥
+EndsFor (folding f a counts) n env (part.Fold p) t = IsFold f a counts p t
+EndsFor (folding f a counts) n env (part.Find p) t = ⊥
+EndsFor (folding f a counts) n env (part.Array c) t = ⊥
+EndsFor (finding d) n env (part.Slice p) t = ⊥
+EndsFor (finding d) n env (part.Fold p) t = ⊥
+EndsFor (finding d) n env (part.Find p) t = FindStands d n env p t
+EndsFor (finding d) n env (part.Array c) t = ⊥
+EndsFor collecting n env (part.Slice p) t = ⊥
+EndsFor collecting n env (part.Fold p) t = ⊥
+EndsFor collecting n env (part.Find p) t = ⊥
+EndsFor collecting n env (part.Array c) t = c ≡ t
+
+-- a part stands for a piece of a segment's source
+abbrev pub StandsFor : SegmentTerm → Numbers → Part → Trace → Type 0
+StandsFor s env p t = EndsFor s.ending (last_stage s) env p (walk_of s env t)
+
+-- helper: whether a walk ended in a fault
+abbrev pub is_fault : End → Bool
+is_fault end.Done = false
+is_fault (end.Fault f) = true
+
+-- whether nothing after the piece matters
+abbrev pub is_settled : Part → Bool
+is_settled (part.Slice p) = slice_is_settled p
+is_settled (part.Fold p) = is_fault p.partial.end
+is_settled (part.Find p) = is_some p.decision
+is_settled (part.Array c) = is_fault c.ending
+
+-- whether a part takes more items
+abbrev pub flow_of : Bool → Flow
+flow_of true = flow.Enough
+flow_of false = flow.More

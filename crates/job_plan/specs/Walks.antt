@@ -1,0 +1,81 @@
+-- Meaning: the walk of a job, and the answer that its terminal gives.
+use Rattle.std.specs.Prelude.{ℕ, suc, ℤ, pos, ◌+ℤ◌, List, [], ◌∷◌, ◌++◌, length, map as each_of, Option, Result, Ok, Err}
+use Rattle.lambda_expr.specs.Earlier.{Numbers}
+use Rattle.lambda_expr.specs.Streams.{counted, distance}
+use Rattle.lambda_expr.specs.Wrap.{wrap}
+use Rattle.trace.specs.declared.item.Item.{Item}
+use Rattle.trace.specs.declared.item.Fault.{Fault}
+use Rattle.trace.specs.declared.item.End.{End}
+use Rattle.trace.specs.declared.item.End.TheVariants as end
+use Rattle.trace.specs.Cover.{cover, values as listed}
+use Rattle.trace.specs.Stages.{through}
+use Rattle.trace.specs.Trace.{Trace}
+use Rattle.reduce_ops.specs.declared.op.Op.TheVariants as op
+use Rattle.reduce_ops.specs.Folds.{fold_from, fold_items, total}
+use Rattle.reduce_ops.specs.Operators.{value_of}
+use Rattle.slice_ops.specs.Slices.{sliced}
+use Rattle.find_ops.specs.Finds.{find_answer}
+use Rattle.find_ops.specs.declared.find_part.Found.{Found}
+use Rattle.find_ops.specs.declared.find_part.Found.TheVariants as found
+use Rattle.job_language.specs.Jobs.{PlainSourceTerm, range, range_closed, values, result, JobStageTerm, item, slice, prefix, prefix_range, TerminalTerm, sum, count, min, max, to_array, reduce, reduce_from, find, JobTerm}
+use Rattle.job_plan.specs.declared.answer.Answer.{Answer}
+use Rattle.job_plan.specs.declared.answer.Answer.TheVariants as answer
+
+-- the values of a plain source (`LongStream.range`, `rangeClosed`, `of`; the cells of a column); the array of an
+-- earlier job can't be read yet
+abbrev pub plain_values : PlainSourceTerm → List ℤ
+plain_values (range a b) = counted a (distance a b)
+plain_values (range_closed a b) = counted a (distance a (b +ℤ pos 1))
+plain_values (values vs) = vs
+plain_values (result name) = []
+
+-- those of several sources, one after the other (`LongStream.concat`)
+abbrev pub values_of : List PlainSourceTerm → List ℤ
+values_of [] = []
+values_of (s ∷ ss) = plain_values s ++ values_of ss
+
+-- the walk over sources: their values, at the places 0, 1, 2 and so on over all of them; of more than 2^62 values none,
+-- and a fault
+abbrev pub source_walk : List PlainSourceTerm → Trace
+source_walk ss = cover (listed (values_of ss))
+
+-- what stage number n makes of a walk; there is no prefix yet
+abbrev pub after_stage : ℕ → JobStageTerm → Numbers → Trace → Trace
+after_stage n (item g) env t = through n g env t
+after_stage n (slice d) env t = sliced d n env t
+after_stage n (prefix f) env t = t
+after_stage n (prefix_range a b f) env t = t
+
+-- the stages in order of writing, the first one with this number; each takes what the one before it gives
+abbrev pub after_stages : ℕ → List JobStageTerm → Numbers → Trace → Trace
+after_stages n [] env t = t
+after_stages n (g ∷ gs) env t = after_stages (suc n) gs env (after_stage n g env t)
+
+-- the fault in which a walk ended, or else this answer
+abbrev pub unless_fault : End → Answer → Answer
+unless_fault end.Done a = a
+unless_fault (end.Fault f) a = answer.Fault f
+
+-- what a find or a match found, or the fault that came before it
+abbrev pub found_answer : Result Found Fault → Answer
+found_answer (Ok (found.Value v)) = answer.Optional v
+found_answer (Ok (found.Truth b)) = answer.Truth b
+found_answer (Err f) = answer.Fault f
+
+-- the answer of a terminal, the stage with this number, for a walk (`LongStream.sum`, `count`, `min`, `max`, `toArray`,
+-- `reduce`, `findFirst`, `anyMatch`, `allMatch`, `noneMatch`); a sum and a count are wrapped once to 64 bits
+abbrev pub answer_of : ℕ → Numbers → TerminalTerm → Trace → Answer
+answer_of n env sum t = unless_fault t.ending (answer.Number (wrap (total t.items)))
+answer_of n env count t = unless_fault t.ending (answer.Number (wrap (pos (length t.items))))
+answer_of n env min t = unless_fault t.ending (answer.Optional (fold_items (value_of op.Min) t.items))
+answer_of n env max t = unless_fault t.ending (answer.Optional (fold_items (value_of op.Max) t.items))
+answer_of n env to_array t = unless_fault t.ending (answer.Array (each_of (λ (x : Item). x.value) t.items))
+answer_of n env (reduce f) t = unless_fault t.ending (answer.Optional (fold_items (value_of f) t.items))
+answer_of n env (reduce_from a f) t = unless_fault t.ending (answer.Number (fold_from (value_of f) a t.items))
+answer_of n env (find d) t = found_answer (find_answer d n env t)
+
+-- the answer of a job with the numbers of earlier jobs: its sources, through its stages, which are numbered from 1, to its
+-- terminal, which is the stage after the last
+abbrev pub answer_of_job : Numbers → JobTerm → Answer
+answer_of_job env job =
+    answer_of (suc (length job.stages)) env job.terminal (after_stages 1 job.stages env (source_walk job.sources))

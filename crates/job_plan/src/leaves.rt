@@ -1,0 +1,126 @@
+//! A piece of a segment's source, taken through the segment's stages to the part that its end wants.
+
+ghost use Rattle.std.specs.Prelude.{◌≡◌, ◌+◌, ◌<◌, ◌^◌, ℕ, [], length, IfOk, ⊤};
+ghost use Rattle.lambda_expr.specs.Earlier.{Numbers};
+ghost use Rattle.trace.specs.Trace.{trace};
+ghost use Rattle.trace.specs.declared.item.End.TheVariants as end;
+ghost use Rattle.job_plan.specs.Parts.{EndsFor, StandsFor, end_in, flow_of, is_settled, segment_in, walk_in};
+ghost use Rattle.job_plan.specs.Pieces.{piece_of};
+ghost use Rattle.job_plan.specs.Plans.{last_stage};
+ghost use Rattle.job_plan.specs.declared.segment.SegmentEnd.{SegmentEnd};
+ghost use Rattle.job_plan.specs.declared.segment.SegmentEnd.TheVariants as ends;
+
+use crate::part::Part;
+use crate::segment::Segment;
+use crate::source::Source;
+use lambda_expr::Env;
+use std::alloc::Global;
+use std::marker::{Brand, PhantomData};
+use trace::{End, Fed, Flow, Item, LongSink, NoMemory};
+
+/// The end of a walk, as contracts see it. No value has this type.
+pub(crate) trait Ending {
+    ghost last: { SegmentEnd };
+
+    ghost stage: { ℕ };
+
+    ghost env: { Numbers };
+}
+
+impl Ending for Brand {
+    ghost last = { ends.Array };
+
+    ghost stage = { 0 };
+
+    ghost env = { [] };
+}
+
+/// A sink that puts each item into a part, until nothing more matters.
+#[derive(Drop)]
+struct PartSink<'p, 'e, K: Ending> {
+    part: Part<'p>,
+    segment: &'p Segment,
+    stage: u32,
+    env: &'e Env,
+    of: PhantomData<K>,
+}
+
+impl<K: Ending> LongSink for PartSink<'_, '_, K> {
+    ghost has_taken = { λ sink items. (sink.segment.now.end ≡ K.last) × (sink.stage ≡ K.stage) × (sink.env.now ≡ K.env)
+        × EndsFor (end_in K.last) K.stage K.env sink.part (trace items end.Done) };
+
+    ghost flow = { λ sink. flow_of (is_settled sink.part) };
+
+    ghost takes_memory = { ⊤ };
+
+    fn accept(&mut self, item: Item) -> Result<Flow, NoMemory> {
+        self.part
+            .push(&self.segment.end, self.stage, self.env, item)?;
+        if self.part.is_settled() {
+            return Ok(Flow::Enough);
+        }
+        Ok(Flow::More)
+    }
+}
+
+/// The part of the items at positions from `from` on, up to, not with, `to`, if there is one, of the source of a segment.
+///
+/// A piece without `to` ends as the source does. The walk stops as soon as nothing more matters: no later item is
+/// evaluated, nor a further value of an inner stream. Only parts of slices and arrays need memory, for the items that
+/// they keep.
+pub fn leaf<'p>(
+    alloc: Global,
+    segment: &'p Segment,
+    source: &Source,
+    from: u64,
+    to: Option<u64>,
+    env: &Env,
+) -> Result<Part<'p>, NoMemory>
+    ensures { IfOk result (λ part. StandsFor (segment_in segment.now) env.now part (piece_of from to (walk_in source.now))) }
+{
+    leaf_as::<Brand>(alloc, segment, source, from, to, env)
+}
+
+/// The same, for an end that contracts can name.
+fn leaf_as<'p, K: Ending>(
+    alloc: Global,
+    segment: &'p Segment,
+    source: &Source,
+    from: u64,
+    to: Option<u64>,
+    env: &Env,
+) -> Result<Part<'p>, NoMemory>
+    requires last { segment.now.end ≡ K.last }
+    requires stage { last_stage (segment_in segment.now) ≡ K.stage }
+    requires env { env.now ≡ K.env }
+    ensures { IfOk result (λ part. StandsFor (segment_in segment.now) env.now part (piece_of from to (walk_in source.now))) }
+{
+    let stage = segment.first_stage + segment.stages.len() as u32;
+    let part = Part::none(alloc, &segment.end, stage, env);
+    if part.is_settled() {
+        return Ok(part);
+    }
+    let mut sink = PartSink::<K> {
+        part,
+        segment,
+        stage,
+        env,
+        of: PhantomData,
+    };
+    match source.feed(segment, env, from, to, &mut sink)? {
+        Fed::More => sink.part.end_with(piece_end(source, to)),
+        Fed::Fault(fault) => sink.part.end_with(End::Fault(fault)),
+        Fed::Enough => {}
+    }
+    Ok(sink.part)
+}
+
+/// How a piece of a source ends.
+fn piece_end(source: &Source, to: Option<u64>) -> End
+    ensures { result ≡ (piece_of 0 to (walk_in source.now)).ending }
+{
+    match to {
+        Some(_) => End::Done,
+        None => source.end(),
+    }
+}

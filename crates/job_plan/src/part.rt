@@ -1,0 +1,284 @@
+//! What a piece of a segment's source gives to the end of the segment.
+
+ghost use Rattle.std.specs.Prelude.{◌≡◌, ℕ, ℤ, Bool, false, [], ◌∷◌, map, Option, IfOk, IfErr, OnOk, OnErr};
+ghost use Rattle.lambda_expr.specs.Earlier.{Numbers};
+ghost use Rattle.trace.specs.Trace.{Trace, trace, nothing, append};
+ghost use Rattle.trace.specs.declared.item.End.TheVariants as end;
+ghost use Rattle.trace.specs.declared.item.Item.{Item as item};
+ghost use Rattle.reduce_ops.specs.declared.op.Op.{Op};
+ghost use Rattle.job_plan.specs.Parts.{EndsFor, IsFold, StandsFor, end_in, is_fault, is_settled};
+ghost use Rattle.job_plan.specs.Plans.{EndTerm, SegmentTerm, counted_as, folded, outcome_of};
+ghost use Rattle.job_plan.specs.Walks.{found_answer, unless_fault};
+
+use crate::answer::Answer;
+use crate::outcome::Outcome;
+use crate::segment::{Fold, SegmentEnd};
+use crate::values::Values;
+use find_ops::{FindPart, Found};
+use lambda_expr::Env;
+use reduce_ops::Partial;
+use slice_ops::SlicePart;
+use std::alloc::Global;
+use trace::{Chunk, End, Fault, Item, NoMemory};
+
+/// The fold of a piece.
+#[derive(Clone, Copy)]
+pub struct FoldPart {
+    partial: Partial,
+    start: Option<i64>,
+    counts: bool,
+}
+
+/// What a piece of a segment's source gives to the end of the segment.
+///
+/// A fold and a find have a constant size, `limit(n)` keeps `n` items at most, `takeWhile` those before the first at
+/// which its test isn't true. The other slices and `toArray` keep all items.
+#[derive(Drop)]
+pub enum Part<'p> {
+    Slice(SlicePart<'p>),
+    Fold(FoldPart),
+    Find(FindPart),
+    Array(Chunk),
+}
+
+impl FoldPart {
+    /// The fold of no item.
+    fn none(fold: Fold) -> FoldPart
+        ensures { IsFold fold.op fold.start fold.counts result nothing }
+    {
+        FoldPart {
+            partial: Partial::none(fold.op, End::Done),
+            start: fold.start,
+            counts: fold.counts,
+        }
+    }
+
+    /// Folds one more item in, or a 1 for it.
+    fn push(&mut self, item: Item)
+        requires { self.old.partial.end ≡ end.Done }
+        ensures { (f : Op) (a : Option ℤ) (counts : Bool) (t : Trace) → IsFold f a counts self.old t
+            → IsFold f a counts self.new (append t (trace (item ∷ []) end.Done)) }
+    {
+        self.partial.push(counted(self.counts, item));
+    }
+
+    /// Ends the piece so, unless a fault has ended it.
+    fn end_with(&mut self, end: End)
+        ensures { (f : Op) (a : Option ℤ) (counts : Bool) (t : Trace) → IsFold f a counts self.old t
+            → IsFold f a counts self.new (append t (trace [] end)) }
+    {
+        self.partial.end_with(end);
+    }
+
+    /// The fold of two pieces side by side.
+    fn merge(self, right: FoldPart) -> FoldPart
+        ensures { (f : Op) (a : Option ℤ) (counts : Bool) (t u : Trace) → IsFold f a counts self t → IsFold f a counts right u
+            → IsFold f a counts result (append t u) }
+    {
+        FoldPart {
+            partial: self.partial.merge(right.partial),
+            start: self.start,
+            counts: self.counts,
+        }
+    }
+
+    /// The answer of the fold.
+    fn finish(self) -> Answer
+        ensures { (f : Op) (a : Option ℤ) (counts : Bool) (t : Trace) → IsFold f a counts self t
+            → result ≡ unless_fault t.ending (folded f a (counted_as counts t.items)) }
+    {
+        match self.start {
+            Some(start) => match self.partial.finish_from(start) {
+                Ok(number) => Answer::Number(number),
+                Err(fault) => Answer::Fault(fault),
+            },
+            None => match self.partial.finish() {
+                Ok(value) => Answer::Optional(value),
+                Err(fault) => Answer::Fault(fault),
+            },
+        }
+    }
+}
+
+impl<'p> Part<'p> {
+    /// The part of no item. The end is the stage with this number. It takes no memory.
+    pub(crate) fn none(alloc: Global, end: &'p SegmentEnd, stage: u32, env: &Env) -> Part<'p>
+        ensures { EndsFor (end_in end.now) stage env.now result nothing }
+    {
+        match end {
+            SegmentEnd::Slice(slice) => {
+                let chunk = Chunk::ending(alloc, End::Done);
+                Part::Slice(SlicePart::of(slice, stage, chunk, env))
+            }
+            SegmentEnd::Fold(fold) => Part::Fold(FoldPart::none(*fold)),
+            SegmentEnd::Find(find) => Part::Find(FindPart::none(find, End::Done)),
+            SegmentEnd::Array => Part::Array(Chunk::ending(alloc, End::Done)),
+        }
+    }
+
+    /// Adds one more item after the others.
+    ///
+    /// If the allocation fails, the part stays as it was.
+    pub(crate) fn push(
+        &mut self,
+        close: &SegmentEnd,
+        stage: u32,
+        env: &Env,
+        item: Item,
+    ) -> Result<(), NoMemory>
+        requires { is_settled self.old ≡ false }
+        ensures ok { OnOk result ((t : Trace) → EndsFor (end_in close.now) stage env.now self.old t
+            → EndsFor (end_in close.now) stage env.now self.new (append t (trace (item ∷ []) end.Done))) }
+        ensures err { OnErr result (self.new ≡ self.old) }
+    {
+        match self {
+            Part::Slice(part) => part.push(env, item),
+            Part::Fold(part) => {
+                part.push(item);
+                Ok(())
+            }
+            Part::Find(part) => {
+                if let SegmentEnd::Find(find) = close {
+                    *part = part.look_at(find, stage, env, item);
+                }
+                Ok(())
+            }
+            Part::Array(chunk) => chunk.push(item),
+        }
+    }
+
+    /// Ends the piece so, unless it is settled. It takes no memory.
+    pub(crate) fn end_with(&mut self, ending: End)
+        ensures { (e : EndTerm) (stage : ℕ) (env : Numbers) (t : Trace) → EndsFor e stage env self.old t
+            → EndsFor e stage env self.new (append t (trace [] ending)) }
+    {
+        match self {
+            Part::Slice(part) => part.end_with(ending),
+            Part::Fold(part) => part.end_with(ending),
+            Part::Find(part) => *part = part.end_with(ending),
+            Part::Array(chunk) => chunk.end_with(ending),
+        }
+    }
+
+    /// Whether nothing after the piece matters: its end takes no more items, or a fault has ended it.
+    pub fn is_settled(&self) -> bool
+        ensures { result ≡ is_settled self.now }
+    {
+        match self {
+            Part::Slice(part) => part.is_settled(),
+            Part::Fold(part) => is_fault(part.partial.end()),
+            Part::Find(part) => part.is_decided(),
+            Part::Array(chunk) => is_fault(chunk.end()),
+        }
+    }
+
+    /// The part of two pieces side by side, of one segment. A fault of the left one ends both.
+    ///
+    /// Only slices and arrays may need memory; if the allocation fails, both parts come back. Parts of different
+    /// ends don't merge: the left one stays.
+    pub fn merge(self, right: Part<'p>) -> Result<Part<'p>, (Part<'p>, Part<'p>)>
+        ensures ok { IfOk result (λ part. (s : SegmentTerm) (env : Numbers) (a b : Trace) → StandsFor s env self.entry a
+            → StandsFor s env right.entry b → StandsFor s env part (append a b)) }
+        ensures err { IfErr result (λ parts. (parts.0 ≡ self.entry) × (parts.1 ≡ right.entry)) }
+    {
+        match self {
+            Part::Slice(left) => merge_slices(left, right),
+            Part::Fold(left) => match right {
+                Part::Fold(right) => Ok(Part::Fold(left.merge(right))),
+                _ => Ok(Part::Fold(left)),
+            },
+            Part::Find(left) => match right {
+                Part::Find(right) => Ok(Part::Find(left.merge(right))),
+                _ => Ok(Part::Find(left)),
+            },
+            Part::Array(left) => merge_arrays(left, right),
+        }
+    }
+
+    /// What the segment gives. Only the values of an array take memory, 8 bytes each.
+    pub fn finish(self, alloc: Global, env: &Env) -> Result<Outcome, NoMemory>
+        ensures { IfOk result (λ outcome. (s : SegmentTerm) (t : Trace) → StandsFor s env.now self.entry t
+            → outcome ≡ outcome_of s env.now t) }
+    {
+        match self {
+            Part::Slice(part) => Ok(Outcome::Source(part.finish(env))),
+            Part::Fold(part) => Ok(Outcome::Answer(part.finish())),
+            Part::Find(part) => Ok(Outcome::Answer(answer_of(part.finish()))),
+            Part::Array(chunk) => Ok(Outcome::Answer(values_of(alloc, chunk)?)),
+        }
+    }
+}
+
+/// The part of two pieces side by side, the left one of a slice.
+fn merge_slices<'p>(left: SlicePart<'p>, right: Part<'p>) -> Result<Part<'p>, (Part<'p>, Part<'p>)>
+    ensures ok { IfOk result (λ part. (s : SegmentTerm) (env : Numbers) (a b : Trace) → StandsFor s env (Part.Slice left.entry) a
+        → StandsFor s env right.entry b → StandsFor s env part (append a b)) }
+    ensures err { IfErr result (λ parts. (parts.0 ≡ Part.Slice left.entry) × (parts.1 ≡ right.entry)) }
+{
+    match right {
+        Part::Slice(right) => match left.join(right) {
+            Ok(part) => Ok(Part::Slice(part)),
+            Err((left, right)) => Err((Part::Slice(left), Part::Slice(right))),
+        },
+        _ => Ok(Part::Slice(left)),
+    }
+}
+
+/// The part of two pieces side by side, the left one of an array.
+fn merge_arrays<'p>(mut left: Chunk, right: Part<'p>) -> Result<Part<'p>, (Part<'p>, Part<'p>)>
+    ensures ok { IfOk result (λ part. (s : SegmentTerm) (env : Numbers) (a b : Trace) → StandsFor s env (Part.Array left) a
+        → StandsFor s env right.entry b → StandsFor s env part (append a b)) }
+    ensures err { IfErr result (λ parts. (parts.0 ≡ Part.Array left) × (parts.1 ≡ right.entry)) }
+{
+    match right {
+        Part::Array(right) => match left.append(right) {
+            Ok(()) => Ok(Part::Array(left)),
+            Err(right) => Err((Part::Array(left), Part::Array(right))),
+        },
+        _ => Ok(Part::Array(left)),
+    }
+}
+
+/// The item, or a 1 in its place.
+fn counted(counts: bool, item: Item) -> Item
+    ensures { result ∷ [] ≡ counted_as counts (item ∷ []) }
+{
+    if counts {
+        return Item {
+            origin: item.origin,
+            value: 1,
+        };
+    }
+    item
+}
+
+/// Whether a walk ended in a fault.
+fn is_fault(end: End) -> bool
+    ensures { result ≡ is_fault end }
+{
+    matches!(end, End::Fault(_))
+}
+
+/// What a find or a match answers.
+fn answer_of(found: Result<Found, Fault>) -> Answer
+    ensures { result ≡ found_answer found }
+{
+    match found {
+        Ok(Found::Value(value)) => Answer::Optional(value),
+        Ok(Found::Truth(truth)) => Answer::Truth(truth),
+        Err(fault) => Answer::Fault(fault),
+    }
+}
+
+/// The values of a walk, or the fault that ended it.
+fn values_of(alloc: Global, chunk: Chunk) -> Result<Answer, NoMemory>
+    ensures { IfOk result (λ answer. answer ≡ unless_fault chunk.ending (Answer.Array (map (λ (x : item). x.value) chunk.items))) }
+{
+    if let End::Fault(fault) = chunk.end() {
+        return Ok(Answer::Fault(fault));
+    }
+    match chunk.into_values(alloc) {
+        Ok(values) => Ok(Answer::Array(Values::from_vec(values))),
+        Err(_) => Err(NoMemory),
+    }
+}

@@ -1,0 +1,32 @@
+//! Laws of segments, pieces and supported jobs. Each is the contract of a function that does nothing.
+
+ghost use Rattle.std.specs.Prelude.{◌≡◌, ℕ, ◌≤◌, true, List, Option, Some, None};
+ghost use Rattle.lambda_expr.specs.Earlier.{Numbers};
+ghost use Rattle.trace.specs.Trace.{Trace, append};
+ghost use Rattle.job_language.specs.Jobs.{JobTerm};
+ghost use Rattle.job_plan.specs.FileAnswers.{answers_alone, meaning_of};
+ghost use Rattle.job_plan.specs.Pieces.{piece_of};
+ghost use Rattle.job_plan.specs.Plans.{plan_of, planned_answer};
+ghost use Rattle.job_plan.specs.Spans.{IsNotAfter};
+ghost use Rattle.job_plan.specs.Supported.{are_supported, is_supported};
+ghost use Rattle.job_plan.specs.Walks.{answer_of_job};
+
+/// The segments of a supported job, in turn, give the answer of its walk by stages.
+#[tactic(auto, using(crate::proofs::Cutting::planned))]
+pub fn plans_give_the_answers()
+    ensures { (env : Numbers) (job : JobTerm) → is_supported job ≡ true → planned_answer env (plan_of job) ≡ answer_of_job env job }
+{}
+
+/// The answers of supported jobs are those of each job by itself.
+#[tactic(auto, using(crate::proofs::Alone::meaning_alone))]
+pub fn supported_jobs_stand_alone()
+    ensures { (jobs : List JobTerm) → are_supported jobs ≡ true → meaning_of jobs ≡ answers_alone jobs }
+{}
+
+/// Two pieces of a walk side by side are one piece, and the piece of all positions is the walk.
+#[tactic(auto, using(crate::proofs::SideBySide::pieces_joined, crate::proofs::SideBySide::whole_piece))]
+pub fn pieces_join()
+    ensures joined { (t : Trace) (from middle : ℕ) (to : Option ℕ) → from ≤ middle → IsNotAfter middle to
+        → append (piece_of from (Some middle) t) (piece_of middle to t) ≡ piece_of from to t }
+    ensures whole { (t : Trace) → piece_of 0 None t ≡ t }
+{}

@@ -1,0 +1,57 @@
+//! Jobs in segments, as they are kept.
+
+ghost use Rattle.std.specs.Prelude.{◌+◌, ◌<◌, ◌^◌, length};
+
+use find_ops::FindTerminal;
+use job_language::PlainSource;
+use reduce_ops::Op;
+use slice_ops::Slice;
+use stream_tokens::Bytes;
+use trace::Stage;
+
+/// A fold of the values of a walk.
+#[derive(Clone, Copy)]
+pub struct Fold {
+    pub op: Op,
+    /// What is folded before the first value: the answer is then a number, else an optional.
+    pub start: Option<i64>,
+    /// Whether a 1 stands for each value.
+    pub counts: bool,
+}
+
+/// What ends a segment.
+#[derive(Drop)]
+pub enum SegmentEnd {
+    /// A stage that looks at a whole walk.
+    Slice(Slice),
+    /// `sum`, `count`, `min`, `max`, `reduce`.
+    Fold(Fold),
+    /// `findFirst` and the three matches.
+    Find(FindTerminal),
+    /// `toArray`.
+    Array,
+}
+
+/// Stages that look at one item at a time, and what ends them.
+#[derive(Drop)]
+pub struct Segment {
+    /// The number of the first stage; the end is the stage after the last one.
+    pub first_stage: u32,
+    pub stages: Vec<Stage>,
+    pub end: SegmentEnd,
+    ghost numbered: { first_stage + length stages.items < 2 ^ 32 },
+}
+
+/// A job in segments: the outcome of each one is the source of the next, and that of the last is the answer.
+#[derive(Drop)]
+pub struct JobPlan<'c> {
+    pub name: Bytes,
+    pub sources: Vec<PlainSource<'c>>,
+    pub segments: Vec<Segment>,
+}
+
+/// The jobs of a file in segments, in file order.
+#[derive(Drop)]
+pub struct Plan<'c> {
+    pub jobs: Vec<JobPlan<'c>>,
+}

@@ -1,0 +1,306 @@
+//! What a segment walks over, by position.
+
+ghost use Rattle.std.specs.Prelude.{◌≡◌, ◌+◌, ◌<◌, ◌≤◌, ◌^◌, min, pos, ◌+ℤ◌, ℕ, FitsSigned, List, length, flat_map, take, drop, OnErr};
+ghost use Rattle.std.specs.Int.{w64};
+ghost use Rattle.trace.specs.Cover.{counted, distance, placed};
+ghost use Rattle.trace.specs.Sinks.{IsFed, flow_after};
+ghost use Rattle.trace.specs.Trace.{trace};
+ghost use Rattle.trace.specs.declared.item.Item.{Item as item};
+ghost use Rattle.trace.specs.declared.item.End.TheVariants as end;
+ghost use Rattle.job_language.specs.Jobs.{source_of, sources_of};
+ghost use Rattle.job_plan.specs.Parts.{plan_in, segment_in, walk_in};
+ghost use Rattle.job_plan.specs.Pieces.{elements, piece_of};
+ghost use Rattle.job_plan.specs.Plans.{walk_of};
+ghost use Rattle.job_plan.specs.Spans.{after, span};
+ghost use Rattle.job_plan.specs.Walks.{plain_values, source_walk, values_of};
+
+use crate::pieces::{ItemPiece, RangePiece, ValuePiece};
+use crate::segment::{JobPlan, Segment};
+use crate::sources::{PlainSources, plain_size};
+use job_language::PlainSource;
+use lambda_expr::{Env, FaultKind};
+use trace::{Chunk, End, Fault, Fed, Flow, Item, LongSink, NoMemory, feed_all};
+
+/// The fault of sources of more than 2^62 values.
+const TOO_LONG: Fault = Fault {
+    kind: FaultKind::SourceTooLong,
+    stage: 0,
+    origin: None,
+};
+
+/// What a segment walks over. It borrows the values and copies none.
+#[derive(Clone, Copy)]
+pub enum Source<'a, 'c> {
+    /// Of the first segment: the sources of the job.
+    Plain(PlainSources<'a, 'c>),
+    /// Of a later segment: the outcome of the segment before it.
+    Chunk(&'a Chunk),
+}
+
+impl<'a, 'c> Source<'a, 'c> {
+    /// The source of the first segment of a job.
+    pub fn of_job(job: &'a JobPlan<'c>) -> Source<'a, 'c>
+        ensures { walk_in result ≡ source_walk (plan_in job.now).sources }
+    {
+        Source::Plain(PlainSources::of(&job.sources))
+    }
+
+    /// The source of a later segment.
+    pub fn of_chunk(chunk: &'a Chunk) -> Source<'a, 'c>
+        ensures { walk_in result ≡ chunk.now }
+    {
+        Source::Chunk(chunk)
+    }
+
+    /// How the walk over the source ends.
+    pub fn end(&self) -> End
+        ensures { result ≡ (walk_in self.now).ending }
+    {
+        match self {
+            Source::Plain(plain) => {
+                if plain.is_too_long {
+                    End::Fault(TOO_LONG)
+                } else {
+                    End::Done
+                }
+            }
+            Source::Chunk(chunk) => chunk.end(),
+        }
+    }
+
+    /// Takes the items at these positions one after the other through the stages of a segment.
+    pub(crate) fn feed<S: LongSink>(
+        &self,
+        segment: &Segment,
+        env: &Env,
+        from: u64,
+        to: Option<u64>,
+        sink: &mut S,
+    ) -> Result<Fed, NoMemory>
+        requires wants { S.flow sink.old ≡ Flow.More }
+        ensures fed { (xs : List item) → S.has_taken sink.old xs → IsFed S.has_taken xs
+            (walk_of (segment_in segment.now) env.now (trace (elements from to (walk_in self.now).items) end.Done)) result sink.new }
+        ensures flow { S.flow sink.new ≡ flow_after result }
+        ensures refused { OnErr result S.takes_memory }
+    {
+        match self {
+            Source::Plain(plain) => {
+                if plain.is_too_long {
+                    return Ok(Fed::More);
+                }
+                feed_plain(segment, env, plain.sources, 0, from, to, sink)
+            }
+            Source::Chunk(chunk) => feed_pieces(segment, env, chunk.pieces(), from, to, sink),
+        }
+    }
+}
+
+/// The first of these positions within a list of this size, and how many there are.
+fn within(from: u64, to: Option<u64>, size: u64) -> (u64, u64)
+    ensures start { result.0 ≡ min from size }
+    ensures count { result.1 ≡ span from to size }
+{
+    let end = match to {
+        Some(to) => to.min(size),
+        None => size,
+    };
+    (from.min(size), end.saturating_sub(from))
+}
+
+/// The end of positions, counted after this number of elements.
+fn end_after(to: Option<u64>, size: u64) -> Option<u64>
+    ensures { result ≡ after to size }
+{
+    Some(to?.saturating_sub(size))
+}
+
+/// Takes the items at these positions of sources, of which the first item has the place `origin`.
+fn feed_plain<S: LongSink>(
+    segment: &Segment,
+    env: &Env,
+    sources: &[PlainSource],
+    origin: u64,
+    from: u64,
+    to: Option<u64>,
+    sink: &mut S,
+) -> Result<Fed, NoMemory>
+    requires wants { S.flow sink.old ≡ Flow.More }
+    requires few { origin + length (values_of (sources_of sources.now)) ≤ 2 ^ 62 }
+    ensures fed { (xs : List item) → S.has_taken sink.old xs → IsFed S.has_taken xs
+        (walk_of (segment_in segment.now) env.now (trace (elements from to (placed origin (values_of (sources_of sources.now)))) end.Done)) result sink.new }
+    ensures flow { S.flow sink.new ≡ flow_after result }
+    ensures refused { OnErr result S.takes_memory }
+{
+    match sources.split_first() {
+        None => Ok(Fed::More),
+        Some((source, later)) => {
+            let size = plain_size(source);
+            let (start, count) = within(from, to, size);
+            match feed_one(segment, env, source, origin + start, start, count, sink)? {
+                Fed::More => {}
+                stopped => return Ok(stopped),
+            }
+            let from = from.saturating_sub(size);
+            feed_plain(
+                segment,
+                env,
+                later,
+                origin + size,
+                from,
+                end_after(to, size),
+                sink,
+            )
+        }
+    }
+}
+
+/// Takes `count` items of a source, from a position on; the first of them has the place `origin`.
+fn feed_one<S: LongSink>(
+    segment: &Segment,
+    env: &Env,
+    source: &PlainSource,
+    origin: u64,
+    start: u64,
+    count: u64,
+    sink: &mut S,
+) -> Result<Fed, NoMemory>
+    requires wants { S.flow sink.old ≡ Flow.More }
+    requires within { start + count ≤ length (plain_values (source_of source.now)) }
+    requires short { length (plain_values (source_of source.now)) ≤ 2 ^ 62 }
+    requires few { origin + count ≤ 2 ^ 62 }
+    ensures fed { (xs : List item) → S.has_taken sink.old xs → IsFed S.has_taken xs
+        (walk_of (segment_in segment.now) env.now (trace (placed origin (take count (drop start (plain_values (source_of source.now))))) end.Done)) result sink.new }
+    ensures flow { S.flow sink.new ≡ flow_after result }
+    ensures refused { OnErr result S.takes_memory }
+{
+    if count == 0 {
+        return Ok(Fed::More);
+    }
+    match source {
+        PlainSource::Range { from, to } => {
+            feed_range(segment, env, origin, *from, *to - 1, start, count, sink)
+        }
+        PlainSource::RangeClosed { from, to } => {
+            feed_range(segment, env, origin, *from, *to, start, count, sink)
+        }
+        PlainSource::Values(values) => {
+            let values = &values[start as usize..(start + count) as usize];
+            feed_all(
+                &segment.stages,
+                segment.first_stage,
+                env,
+                &ValuePiece { origin, values },
+                sink,
+            )
+        }
+        PlainSource::Column(cells) => {
+            let values = &cells[start as usize..(start + count) as usize];
+            feed_all(
+                &segment.stages,
+                segment.first_stage,
+                env,
+                &ValuePiece { origin, values },
+                sink,
+            )
+        }
+        PlainSource::Result(_) => Ok(Fed::More),
+    }
+}
+
+/// Takes `count` of the integers from `from` up to and with `to`, from a position on; the first of them has the place
+/// `origin`.
+fn feed_range<S: LongSink>(
+    segment: &Segment,
+    env: &Env,
+    origin: u64,
+    from: i64,
+    to: i64,
+    start: u64,
+    count: u64,
+    sink: &mut S,
+) -> Result<Fed, NoMemory>
+    requires wants { S.flow sink.old ≡ Flow.More }
+    requires some { 0 < count }
+    requires within { start + count ≤ distance from (to +ℤ pos 1) }
+    requires short { start + count ≤ 2 ^ 62 }
+    requires few { origin + count ≤ 2 ^ 62 }
+    ensures fed { (xs : List item) → S.has_taken sink.old xs → IsFed S.has_taken xs
+        (walk_of (segment_in segment.now) env.now (trace (placed origin (counted (from +ℤ pos start) count)) end.Done)) result sink.new }
+    ensures flow { S.flow sink.new ≡ flow_after result }
+    ensures refused { OnErr result S.takes_memory }
+{
+    let items = range_piece(origin, from, start, count);
+    feed_all(&segment.stages, segment.first_stage, env, &items, sink)
+}
+
+/// `count` integers that count up, from a position on; the first of them has the place `origin`.
+fn range_piece(origin: u64, from: i64, start: u64, count: u64) -> RangePiece
+    requires some { 0 < count }
+    requires few { origin + count ≤ 2 ^ 62 }
+    requires short { start + count ≤ 2 ^ 62 }
+    requires in_range { (i : ℕ) → i < start + count → FitsSigned w64 (from +ℤ pos i) }
+    ensures origin { result.origin ≡ origin }
+    ensures first { result.first ≡ from +ℤ pos start }
+    ensures count { result.count ≡ count }
+{
+    RangePiece {
+        origin,
+        first: from + start as i64,
+        count,
+    }
+}
+
+/// Takes the items at these positions of pieces.
+fn feed_pieces<S: LongSink>(
+    segment: &Segment,
+    env: &Env,
+    pieces: &[Vec<Item>],
+    from: u64,
+    to: Option<u64>,
+    sink: &mut S,
+) -> Result<Fed, NoMemory>
+    requires wants { S.flow sink.old ≡ Flow.More }
+    ensures fed { (xs : List item) → S.has_taken sink.old xs → IsFed S.has_taken xs
+        (walk_of (segment_in segment.now) env.now (trace (elements from to (flat_map (λ piece. piece.items) pieces.now)) end.Done)) result sink.new }
+    ensures flow { S.flow sink.new ≡ flow_after result }
+    ensures refused { OnErr result S.takes_memory }
+{
+    let mut next = from;
+    let mut last = to;
+    for piece in pieces {
+        let size = piece.len() as u64;
+        match feed_items(segment, env, piece, next, last, sink)? {
+            Fed::More => {}
+            stopped => return Ok(stopped),
+        }
+        next = next.saturating_sub(size);
+        last = end_after(last, size);
+    }
+    Ok(Fed::More)
+}
+
+/// Takes the items at these positions of one piece.
+fn feed_items<S: LongSink>(
+    segment: &Segment,
+    env: &Env,
+    items: &[Item],
+    from: u64,
+    to: Option<u64>,
+    sink: &mut S,
+) -> Result<Fed, NoMemory>
+    requires wants { S.flow sink.old ≡ Flow.More }
+    ensures fed { (xs : List item) → S.has_taken sink.old xs → IsFed S.has_taken xs
+        (walk_of (segment_in segment.now) env.now (trace (elements from to items.now) end.Done)) result sink.new }
+    ensures flow { S.flow sink.new ≡ flow_after result }
+    ensures refused { OnErr result S.takes_memory }
+{
+    let (start, count) = within(from, to, items.len() as u64);
+    let items = &items[start as usize..(start + count) as usize];
+    feed_all(
+        &segment.stages,
+        segment.first_stage,
+        env,
+        &ItemPiece { items },
+        sink,
+    )
+}

@@ -1,0 +1,70 @@
+//! The plain sources of a job, and how many values they have.
+
+ghost use Rattle.std.specs.Prelude.{◌≡◌, ◌-◌, ◌<◌, ◌^◌, min, length, nat_lt, pos, ◌+ℤ◌};
+ghost use Rattle.trace.specs.Cover.{distance};
+ghost use Rattle.job_language.specs.Jobs.{source_of, sources_of};
+ghost use Rattle.job_plan.specs.Walks.{plain_values, values_of};
+
+use job_language::PlainSource;
+use trace::MAX_SOURCE_SIZE;
+
+/// The plain sources of a job, one after the other, and whether they have more than 2^62 values.
+#[derive(Clone, Copy)]
+pub struct PlainSources<'a, 'c> {
+    pub(crate) sources: &'a [PlainSource<'c>],
+    pub(crate) is_too_long: bool,
+    ghost measured: { is_too_long ≡ nat_lt (2 ^ 62) (length (values_of (sources_of sources.now))) },
+}
+
+impl<'a, 'c> PlainSources<'a, 'c> {
+    /// These sources.
+    pub fn of(sources: &'a [PlainSource<'c>]) -> PlainSources<'a, 'c>
+        ensures { result.sources.now ≡ sources.now }
+    {
+        PlainSources {
+            sources,
+            is_too_long: total_size(sources) > MAX_SOURCE_SIZE,
+        }
+    }
+}
+
+/// How many integers there are from one up to, not with, another.
+fn distance(from: i64, to: i64) -> u64
+    ensures { result ≡ distance from to }
+{
+    if from < to { to.abs_diff(from) } else { 0 }
+}
+
+/// How many there are up to and with it, or the greatest `u64` if there are more.
+fn closed_distance(from: i64, to: i64) -> u64
+    ensures { result ≡ min (distance from (to +ℤ pos 1)) (2 ^ 64 - 1) }
+{
+    if from > to {
+        return 0;
+    }
+    to.abs_diff(from).saturating_add(1)
+}
+
+/// The number of values of a plain source, or the greatest `u64` if it is larger.
+#[tactic(auto, using(crate::proofs::Elements::counted_size, crate::proofs::Elements::counted_least))]
+pub(crate) fn plain_size(source: &PlainSource) -> u64
+    ensures { result ≡ min (length (plain_values (source_of source.now))) (2 ^ 64 - 1) }
+{
+    match source {
+        PlainSource::Range { from, to } => distance(*from, *to),
+        PlainSource::RangeClosed { from, to } => closed_distance(*from, *to),
+        PlainSource::Values(values) => values.len() as u64,
+        PlainSource::Column(cells) => cells.len() as u64,
+        PlainSource::Result(_) => 0,
+    }
+}
+
+/// The number of values of several sources, or the greatest `u64` if it is larger.
+fn total_size(sources: &[PlainSource]) -> u64
+    ensures { result ≡ min (length (values_of (sources_of sources.now))) (2 ^ 64 - 1) }
+{
+    let Some((source, later)) = sources.split_first() else {
+        return 0;
+    };
+    plain_size(source).saturating_add(total_size(later))
+}

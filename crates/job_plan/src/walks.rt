@@ -1,0 +1,112 @@
+//! Jobs on one thread, over pieces that a tree cuts.
+
+ghost use Rattle.std.specs.Prelude.{◌≡◌, ◌≤◌, ◌<◌, length, pos, IfOk, IfSome, slice_get, OnSome, Some};
+ghost use Rattle.trace.specs.Trace.{Trace};
+ghost use Rattle.job_plan.specs.Parts.{StandsFor, plan_in, plans_in, segment_in, segments_in, walk_in};
+ghost use Rattle.job_plan.specs.Pieces.{piece_of};
+ghost use Rattle.job_plan.specs.Plans.{planned_answer, segments_answer};
+
+use crate::answer::Answer;
+use crate::leaves::leaf;
+use crate::outcome::Outcome;
+use crate::part::Part;
+use crate::segment::{JobPlan, Segment};
+use crate::source::Source;
+use lambda_expr::Env;
+use std::alloc::Global;
+use trace::NoMemory;
+
+/// A tree that cuts a list of items in pieces, its leaves.
+#[derive(Drop)]
+pub enum SplitTree {
+    /// The items in one piece.
+    Leaf,
+    /// This number of items for the left tree, or all if there are fewer, and the others for the right one.
+    Node(u64, Box<SplitTree>, Box<SplitTree>),
+}
+
+/// The answer of a job. The tree is laid over the source of each segment.
+///
+/// A piece after one that settles the answer isn't walked.
+pub fn walk_tree(
+    alloc: Global,
+    job: &JobPlan,
+    tree: &SplitTree,
+    env: &Env,
+) -> Result<Answer, NoMemory>
+    ensures { IfOk result (λ answer. answer ≡ planned_answer env.now (plan_in job.now)) }
+{
+    walk_segments(alloc, &job.segments, &Source::of_job(job), tree, env)
+}
+
+/// The answer of a job, each segment in one piece.
+pub fn walk(alloc: Global, job: &JobPlan, env: &Env) -> Result<Answer, NoMemory>
+    ensures { IfOk result (λ answer. answer ≡ planned_answer env.now (plan_in job.now)) }
+{
+    walk_tree(alloc, job, &SplitTree::Leaf, env)
+}
+
+/// The answer of segments, the first of which has this source.
+fn walk_segments(
+    alloc: Global,
+    segments: &[Segment],
+    source: &Source,
+    tree: &SplitTree,
+    env: &Env,
+) -> Result<Answer, NoMemory>
+    ensures { IfOk result (λ answer. answer ≡ segments_answer (segments_in segments.now) env.now (walk_in source.now)) }
+{
+    let Some((segment, later)) = segments.split_first() else {
+        return Ok(Answer::Number(0));
+    };
+    let part = walk_piece(alloc, segment, source, 0, None, tree, env)?;
+    match part.finish(alloc, env)? {
+        Outcome::Answer(answer) => Ok(answer),
+        Outcome::Source(chunk) => {
+            walk_segments(alloc, later, &Source::of_chunk(&chunk), tree, env)
+        }
+    }
+}
+
+/// The part of the items at these positions, in the pieces of a tree.
+fn walk_piece<'p>(
+    alloc: Global,
+    segment: &'p Segment,
+    source: &Source,
+    from: u64,
+    to: Option<u64>,
+    tree: &SplitTree,
+    env: &Env,
+) -> Result<Part<'p>, NoMemory>
+    requires ordered { IfSome to (λ last. from ≤ last) }
+    ensures { IfOk result (λ part. StandsFor (segment_in segment.now) env.now part (piece_of from to (walk_in source.now))) }
+{
+    match tree {
+        SplitTree::Leaf => leaf(alloc, segment, source, from, to, env),
+        SplitTree::Node(size, front, back) => {
+            let middle = middle_of(from, to, *size);
+            let left = walk_piece(alloc, segment, source, from, Some(middle), front, env)?;
+            if left.is_settled() {
+                return Ok(left);
+            }
+            let right = walk_piece(alloc, segment, source, middle, to, back, env)?;
+            match left.merge(right) {
+                Ok(part) => Ok(part),
+                Err(_) => Err(NoMemory),
+            }
+        }
+    }
+}
+
+/// The position `size` items after `from`, but not after `to`.
+fn middle_of(from: u64, to: Option<u64>, size: u64) -> u64
+    requires ordered { IfSome to (λ last. from ≤ last) }
+    ensures not_before { from ≤ result }
+    ensures not_after { IfSome to (λ last. result ≤ last) }
+{
+    let middle = from.saturating_add(size);
+    match to {
+        Some(to) => middle.min(to),
+        None => middle,
+    }
+}
