@@ -1,0 +1,6 @@
+-- Condition: that two lists of numbers are the same is a fact.
+use Rattle.std.proofs.Common.{◌≡◌, ℤ, List}
+use Rattle.std.proofs.Props.{props}
+
+pub one_list : (xs ys : List ℤ) → IsProp (xs ≡ ys)
+one_list xs ys = hlevel props

@@ -1,0 +1,99 @@
+//! A run without a pool: tasks that are driven by hand.
+ghost use Rattle.std.specs.Prelude.{◌≡◌, ℕ, ℤ, List, [], length, map, slice_index_or, IfErr};
+ghost use Rattle.completer_tree.specs.Trees.{table_id_of};
+
+use crate::lists::{Lists, Planned};
+use job_plan::Settings;
+use job_table::{NoMemory, Running, Segments, TableOpened, TableWork};
+use std::alloc::Global;
+use std::marker::{Brand, PhantomData};
+use std::sync::Wait;
+use std::sync::atomic::AtomicU64;
+use worker_pool::{Gate, Spawn, Work};
+
+/// Hands each task back but the first few, which it drops and says that it took.
+#[derive(Drop)]
+pub(crate) struct Dropping {
+    pub(crate) drops: u64,
+}
+
+impl<T: Drop> Spawn<T> for Dropping {
+    fn push(&mut self, task: T) -> Result<(), T> {
+        if self.drops == 0 {
+            return Err(task);
+        }
+        self.drops -= 1;
+        Ok(())
+    }
+}
+
+/// Enters no leaf of its own.
+#[derive(Drop)]
+pub(crate) struct Open;
+
+impl Gate for Open {
+    fn at_leaf(&self, _job: usize, _from: u64, _to: u64) {}
+}
+
+/// How many answers are found after all tasks were run here, with a `Spawn` that drops the first `drops`.
+pub(crate) fn answers_found<S: Segments + Send + Sync, R: Running + Send + Sync, H: Wait>(
+    rt: &H,
+    alloc: Global,
+    jobs: &S,
+    settings: Settings,
+    opened: TableOpened<S>,
+    drops: u64,
+) -> Result<usize, NoMemory>
+where
+    S::Part: Send,
+    S::Source: Send + Sync,
+    S::Answer: Send + Sync,
+    requires ends { opened.jobs ≡ S.job_count }
+    requires table { table_id_of opened.counts ≡ R.table }
+    requires planned { (R.jobs ≡ S.job_count) × ((j : ℕ) → R.last j ≡ S.last_of j) × ((j k : ℕ) → R.size j k ≡ S.size_of j k) }
+{
+    let (work, tasks, idles) = TableWork::<S, R>::new(alloc, jobs, settings, opened)?;
+    let mut spawn = Dropping { drops };
+    let mut idles = idles.into_iter();
+    let mut left = idles.next();
+    for task in tasks {
+        let Some(idle) = left.take() else {
+            break;
+        };
+        left = Some(work.run(rt, 0, &Open, idle, task, &mut spawn));
+    }
+    Ok(
+        (0..jobs.jobs())
+            .filter(|&job| work.found(job).is_some())
+            .count(),
+    )
+}
+
+fn lists_found_as<P: Planned + Send + Sync, H: Wait>(
+    rt: &H,
+    alloc: Global,
+    lists: &[Vec<i64>],
+    settings: Settings,
+    drops: u64,
+) -> Result<usize, NoMemory>
+    requires planned { (length lists.now ≡ P.jobs) × ((j : ℕ) → slice_index_or (map (λ v. v.items) lists.now) j [] ≡ P.numbers j) }
+{
+    let jobs = Lists::<P> {
+        lists,
+        refusals: AtomicU64::new(0),
+        of: PhantomData,
+    };
+    let opened = TableOpened::<Lists<'_, P>>::new(alloc, &jobs, settings)?;
+    answers_found::<Lists<'_, P>, Brand, H>(rt, alloc, &jobs, settings, opened, drops)
+}
+
+/// How many of the lists are found after a run whose tasks are all run here, but for those that are dropped.
+pub(crate) fn lists_found<H: Wait>(
+    rt: &H,
+    alloc: Global,
+    lists: &[Vec<i64>],
+    settings: Settings,
+    drops: u64,
+) -> Result<usize, NoMemory> {
+    lists_found_as::<Brand, H>(rt, alloc, lists, settings, drops)
+}

@@ -1,0 +1,70 @@
+//! Gates that look at the leaves of a run.
+
+use std::sync::atomic::Ordering::SeqCst;
+use std::sync::atomic::{AtomicBool, AtomicU64};
+use worker_pool::Gate;
+
+pub(crate) const TURNS: u64 = 100_000_000;
+
+/// Holds the leaf at position 0 until another leaf is entered. It counts the leaves, and keeps how many turns that took.
+#[derive(Drop)]
+pub(crate) struct Holding {
+    pub(crate) entered: AtomicBool,
+    pub(crate) leaves: AtomicU64,
+    pub(crate) turns: AtomicU64,
+}
+
+impl Holding {
+    pub(crate) fn new() -> Holding {
+        Holding {
+            entered: AtomicBool::new(false),
+            leaves: AtomicU64::new(0),
+            turns: AtomicU64::new(0),
+        }
+    }
+
+    fn hold(&self) {
+        for turn in 0..TURNS {
+            if self.entered.load(SeqCst) {
+                self.turns.store(turn, SeqCst);
+                return;
+            }
+            // On a busy machine the other thread needs the processor.
+            if turn % 4096 == 0 {
+                std::thread::yield_now();
+            }
+        }
+        self.turns.store(TURNS, SeqCst);
+    }
+}
+
+impl Gate for Holding {
+    fn at_leaf(&self, _job: usize, from: u64, _to: u64) {
+        self.leaves.fetch_add(1, SeqCst);
+        if from == 0 {
+            self.hold();
+        } else {
+            self.entered.store(true, SeqCst);
+        }
+    }
+}
+
+/// Counts the leaves.
+#[derive(Drop)]
+pub(crate) struct Counted {
+    pub(crate) leaves: AtomicU64,
+}
+
+impl Counted {
+    pub(crate) fn new() -> Counted {
+        Counted {
+            leaves: AtomicU64::new(0),
+        }
+    }
+}
+
+impl Gate for Counted {
+    fn at_leaf(&self, _job: usize, _from: u64, _to: u64) {
+        self.leaves.fetch_add(1, SeqCst);
+    }
+}

@@ -1,0 +1,13 @@
+//! Tests of `job_table`: what no clause says.
+//!
+//! No clause says that a worker starts, that pieces are walked by tasks, or that an answer comes from them.
+//! Stands on `job_table`; nothing stands on it. Begin with `lists.rt`, the jobs of these tests.
+#![tactic(auto)]
+
+#[cfg(test)]
+mod driven;
+#[cfg(test)]
+mod gates;
+pub mod lists;
+#[cfg(test)]
+mod runs;
