@@ -18,3 +18,5 @@ pub mod JobCausing
 pub mod Wholes
 pub mod Referring
 pub mod OneVerdict
+pub mod Filing
+pub mod OneFile

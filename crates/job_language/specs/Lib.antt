@@ -14,3 +14,5 @@ pub mod Operators
 pub mod Arguments
 pub mod Verdicts
 pub mod Parts
+pub mod Files
+pub mod FileSteps

@@ -1,7 +1,10 @@
 //! Laws of the definitions. The functions do nothing; their contracts are the laws.
 ghost use Rattle.std.specs.Prelude.{◌≡◌, ℕ, List, Result, Ok};
 ghost use Rattle.stream_tokens.specs.Forms.{IsName};
+ghost use Rattle.columns.specs.Table.{NamedColumn};
 ghost use Rattle.job_language.specs.declared.fault.Cause.{Cause as meant_cause};
+ghost use Rattle.job_language.specs.declared.fault.JobFault.{JobFault as meant_fault};
+ghost use Rattle.job_language.specs.Files.{IsRefused, Spells};
 ghost use Rattle.job_language.specs.Jobs.{JobTerm};
 ghost use Rattle.job_language.specs.Causes.{Scope as meant_scope};
 ghost use Rattle.job_language.specs.Verdicts.{IsRead};
@@ -15,4 +18,15 @@ pub fn one_verdict()
 /// The name of a job is a letter or `_`, then letters, digits and `_`.
 pub fn a_job_has_a_name()
     ensures { (s : meant_scope) (text : List ℕ) (j : JobTerm) → IsRead s text (Ok j) → IsName j.name }
+{}
+
+/// With the same columns, bytes are a file of one list of jobs at most, are refused for one fault at most,
+/// and not both.
+pub fn one_file()
+    ensures jobs { (bytes : List ℕ) (columns : List NamedColumn) (j k : List JobTerm)
+        → Spells bytes columns j → Spells bytes columns k → j ≡ k }
+    ensures fault { (bytes : List ℕ) (columns : List NamedColumn) (f g : meant_fault)
+        → IsRefused bytes columns f → IsRefused bytes columns g → f ≡ g }
+    ensures apart { (bytes : List ℕ) (columns : List NamedColumn) (j : List JobTerm) (f : meant_fault)
+        → Spells bytes columns j → IsRefused bytes columns f → ⊥ }
 {}

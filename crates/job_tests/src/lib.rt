@@ -4,13 +4,15 @@
 //! clause says: that the definitions accept and refuse the texts that they should, worked out by hand, and that a
 //! call succeeds if there is memory.
 //!
-//! `grammar.rt` tests which texts are jobs, `causes.rt` why a job is refused. A table is one text: that
-//! costs the least to check.
+//! `grammar.rt` tests which texts are jobs, `causes.rt` why a job is refused, `files.rt` whole files. A table is
+//! one text: that costs the least to check.
 //!
 //! Nothing stands on this crate, and it promises nothing.
 #![tactic(auto)]
 
 #[cfg(test)]
 mod causes;
+#[cfg(test)]
+mod files;
 #[cfg(test)]
 mod grammar;

@@ -1,0 +1,120 @@
+-- Texts of jobs, read one after the other.
+use Rattle.std.proofs.Common.{◌≡◌, ◌≢◌, ℕ, ◌+◌, ◌<◌, ◌≤◌, List, [], ◌∷◌, ◌++◌, Result, Ok, Err, IfOk, IfErr, inl, inr, length, map, take, get_or, refl, sym, ap, ◌∙◌, suc, subst}
+use Rattle.std.specs.Prelude.{All}
+use Rattle.std.proofs.lemmas.List.{take_more}
+use Rattle.std.proofs.lemmas.List.Elements.{All-append, All-from_recursion}
+use Rattle.stream_tokens.specs.declared.job_text.JobText.{JobText}
+use Rattle.stream_tokens.specs.declared.job_text.TextFault.{TextFault}
+use Rattle.stream_tokens.specs.declared.job_text.TextFault.TheVariants as text
+use Rattle.stream_tokens.specs.TextsLeft.{Texts, HasText}
+use Rattle.columns.specs.Table.{NamedColumn}
+use Rattle.job_language.specs.declared.fault.Cause.{Cause}
+use Rattle.job_language.specs.declared.fault.Cause.TheVariants.{TooLong, NoMemory}
+use Rattle.job_language.specs.Causes.{Earlier}
+use Rattle.job_language.specs.Verdicts.{IsRead, earlier_of, given_by}
+use Rattle.stream_tokens.specs.Forms.{IsName}
+use Rattle.job_language.specs.declared.fault.JobFault.{JobFault}
+use Rattle.job_language.specs.declared.job.Job.{Job}
+use Rattle.job_language.specs.FaultCauses.{fault_of}
+use Rattle.job_language.specs.Files.{AreJobsLeft, AreJobsRead, IsNext, fault_at}
+use Rattle.job_language.specs.FileSteps.{IsNextJob, IsNextFault}
+use Rattle.job_language.specs.declared.scope.EarlierJob as code
+use Rattle.job_language.specs.declared.scope.Gives.{Gives}
+use Rattle.job_language.specs.Jobs.{JobTerm, job_of, jobs_of, names_of, terminal_of}
+use Rattle.job_language.specs.Scopes as scopes
+
+pub jobs_length : (jobs : List Job) → length (jobs_of jobs) ≡ length jobs
+jobs_length [] = refl
+jobs_length (j ∷ jobs) = ap suc (jobs_length jobs)
+
+pub jobs_push : (jobs : List Job) (j : Job) → jobs_of (jobs ++ j ∷ []) ≡ jobs_of jobs ++ job_of j ∷ []
+jobs_push [] j = refl
+jobs_push (k ∷ jobs) j = ap (λ (js : List JobTerm). job_of k ∷ js) (jobs_push jobs j)
+
+pub names_push : (jobs : List JobTerm) (j : JobTerm) → names_of (jobs ++ j ∷ []) ≡ names_of jobs ++ j.name ∷ []
+names_push [] j = refl
+names_push (k ∷ jobs) j = ap (λ (ns : List (List ℕ)). k.name ∷ ns) (names_push jobs j)
+
+-- these jobs were read, and with the texts that are left they are the file
+pub record FileSoFar (columns : List NamedColumn) (all left : Texts) (jobs : List JobTerm) : Type 0 where
+  pub goes : (r : Result (List JobTerm) JobFault) → AreJobsLeft columns jobs left r → AreJobsLeft columns [] all r
+  pub here : HasText left → HasText all
+
+pub file_none : (columns : List NamedColumn) (all left : Texts) (jobs : List JobTerm) → left ≡ all → jobs ≡ [] → FileSoFar columns all left jobs
+file_none columns all left jobs same none_yet = record { goes = λ r h. rw (none_yet, same) at h; here = λ h. rw same at h }
+
+pub file_more : (columns : List NamedColumn) (all left next : Texts) (more : List JobText) (jobs js : List JobTerm) (t : JobText) → left ≡ Ok (t ∷ more) → next ≡ Ok more
+    → FileSoFar columns all left jobs → IsNextJob columns jobs t js → FileSoFar columns all next js
+file_more columns all left next more jobs js t before after h step = record {
+  goes = λ r k.
+      let there : AreJobsRead columns js more r = rw after at k in
+      let here : AreJobsRead columns jobs (t ∷ more) r = inr (step.job, step.read, rw step.put at there) in
+      h.goes r (rw before here);
+  here = λ _. h.here (t, more, before);
+}
+
+pub file_refused : (columns : List NamedColumn) (all left : Texts) (more : List JobText) (jobs : List JobTerm) (t : JobText) (fault : JobFault) → left ≡ Ok (t ∷ more)
+    → FileSoFar columns all left jobs → IsNextFault columns jobs t fault → AreJobsLeft columns [] all (Err fault)
+file_refused columns all left more jobs t fault before h next =
+    let same : fault ≡ fault_at t fault.cause = ap (λ (l : ℕ). record { line = l; cause = fault.cause }) next.at in
+    let here : AreJobsRead columns jobs (t ∷ more) (Err fault) = inl (fault.cause, next.read, ap (λ (f : JobFault). Err f) same) in
+    h.goes (Err fault) (rw before here)
+
+pub file_stops : (columns : List NamedColumn) (all left : Texts) (jobs : List JobTerm) (fault : TextFault) → left ≡ Err fault → (fault_of fault).cause ≢ NoMemory
+    → FileSoFar columns all left jobs → AreJobsLeft columns [] all (Err (fault_of fault))
+file_stops columns all left jobs (text.Syntax line) stops solid h = h.goes (Err (fault_of (text.Syntax line))) (rw stops refl)
+file_stops columns all left jobs text.NoMemory stops solid h = absurd (solid refl)
+
+pub file_all : (columns : List NamedColumn) (all left : Texts) (jobs : List JobTerm) → left ≡ Ok [] → FileSoFar columns all left jobs → AreJobsLeft columns [] all (Ok jobs)
+file_all columns all left jobs ends h = h.goes (Ok jobs) (rw ends refl)
+
+-- ---- one text
+
+pub one_too_many : (columns : List NamedColumn) (jobs : List Job) (text : List ℕ) → 256 ≤ length jobs → IsNext columns (jobs_of jobs) text (Err TooLong)
+one_too_many columns jobs text many = inl (subst (λ (n : ℕ). 256 ≤ n) (sym (jobs_length jobs)) many, refl)
+
+pub read_there : (columns : List NamedColumn) (jobs : List Job) (earlier : List Earlier) (text : List ℕ) (r : Result JobTerm Cause) → earlier ≡ map earlier_of (jobs_of jobs) → length jobs < 256
+    → IsRead (record { jobs = earlier; columns = columns }) text r → IsNext columns (jobs_of jobs) text r
+read_there columns jobs earlier text r same few read =
+    inr (subst (λ (n : ℕ). n < 256) (sym (jobs_length jobs)) few, subst (λ (js : List Earlier). IsRead (record { jobs = js; columns = columns }) text r) same read)
+
+-- what a text says below jobs that are known by another name
+pub text_same : (columns : List NamedColumn) (js ks : List Job) (a b : List ℕ) (r : Result JobTerm Cause) → js ≡ ks → a ≡ b → IsNext columns (jobs_of js) a r → IsNext columns (jobs_of ks) b r
+text_same columns js ks a b r p q h = subst (λ (t : List ℕ). IsNext columns (jobs_of ks) t r) q (subst (λ (ls : List Job). IsNext columns (jobs_of ls) a r) p h)
+
+-- ---- names
+
+pub names_more : (jobs : List JobTerm) (j : JobTerm) → All IsName (names_of jobs) → IsName j.name → All IsName (names_of (jobs ++ j ∷ []))
+names_more jobs j all is = subst (λ (ns : List (List ℕ)). All IsName ns) (sym (names_push jobs j)) (All-append IsName (names_of jobs) (j.name ∷ []) all (All-from_recursion IsName (j.name ∷ []) (is, tt)))
+
+pub names_after : (before after : List Job) (j : Job) → after ≡ before ++ j ∷ [] → IsName j.name → All IsName (names_of (jobs_of before)) → All IsName (names_of (jobs_of after))
+names_after before after j put is all =
+    subst (λ (js : List JobTerm). All IsName (names_of js)) (sym (ap jobs_of put ∙ jobs_push before j)) (names_more (jobs_of before) (job_of j) all is)
+
+-- ---- answers in other words
+
+pub ok_as : {X E : Type 0} (r : Result X E) (P Q : X → Type 0) → ((x : X) → P x → Q x) → IfOk r P → IfOk r Q
+ok_as (Ok x) P Q f h = f x h
+ok_as (Err e) P Q f h = h
+
+pub err_as : {X E : Type 0} (r : Result X E) (P Q : E → Type 0) → ((e : E) → P e → Q e) → IfErr r P → IfErr r Q
+err_as (Ok x) P Q f h = h
+err_as (Err e) P Q f h = f e h
+
+-- ---- what jobs are to a job below them
+
+scopes_push : (es : List code.EarlierJob) (e : code.EarlierJob) → scopes.jobs_of (es ++ e ∷ []) ≡ scopes.jobs_of es ++ record { name = e.name.now; gives = e.gives } ∷ []
+scopes_push [] e = refl
+scopes_push (f ∷ es) e = ap (λ (js : List Earlier). record { name = f.name.now; gives = f.gives } ∷ js) (scopes_push es e)
+
+earlier_push : (jobs : List JobTerm) (j : JobTerm) → map earlier_of (jobs ++ j ∷ []) ≡ map earlier_of jobs ++ earlier_of j ∷ []
+earlier_push [] j = refl
+earlier_push (k ∷ jobs) j = ap (λ (js : List Earlier). earlier_of k ∷ js) (earlier_push jobs j)
+
+pub earlier_more : (jobs : List Job) (i : ℕ) (d : Job) (es : List code.EarlierJob) (e : code.EarlierJob) → i < length jobs → scopes.jobs_of es ≡ map earlier_of (jobs_of (take i jobs))
+    → e.name.now ≡ (get_or jobs i d).name → e.gives ≡ given_by (terminal_of (get_or jobs i d).terminal) → scopes.jobs_of (es ++ e ∷ []) ≡ map earlier_of (jobs_of (take (i + 1) jobs))
+earlier_more jobs i d es e within before named gives =
+    let one : record { name = e.name.now; gives = e.gives } ≡ earlier_of (job_of (get_or jobs i d)) = ap (λ (w : List ℕ). record { name = w; gives = e.gives }) named ∙ ap (λ (g : Gives). record { name = (get_or jobs i d).name; gives = g }) gives in
+    scopes_push es e ∙ ap (λ (js : List Earlier). js ++ record { name = e.name.now; gives = e.gives } ∷ []) before ∙ ap (λ (k : Earlier). map earlier_of (jobs_of (take i jobs)) ++ k ∷ []) one
+    ∙ sym (earlier_push (jobs_of (take i jobs)) (job_of (get_or jobs i d))) ∙ sym (ap (map earlier_of) (jobs_push (take i jobs) (get_or jobs i d)))
+    ∙ sym (ap (λ (js : List Job). map earlier_of (jobs_of js)) (take_more jobs i d within))

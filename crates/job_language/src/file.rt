@@ -1,0 +1,106 @@
+//! Whole files of jobs.
+ghost use Rattle.std.specs.Prelude.{◌≡◌, ◌≢◌, ◌≤◌, All, Ok, Err, IfOk, IfErr, OnOk, length, map};
+ghost use Rattle.stream_tokens.specs.Forms.{IsName};
+ghost use Rattle.stream_tokens.specs.JobTexts.{job_texts_of};
+ghost use Rattle.stream_tokens.specs.TextsLeft.{HasText};
+ghost use Rattle.job_language.specs.Files.{IsNext, IsRefused, Spells};
+ghost use Rattle.job_language.specs.FileSteps.{IsNextJob, IsNextFault};
+ghost use Rattle.job_language.specs.Jobs.{job_of, jobs_of, names_of};
+ghost use Rattle.job_language.specs.Scopes as scopes;
+ghost use Rattle.job_language.specs.Verdicts.{earlier_of};
+
+use crate::fault::{Cause, JobFault};
+use crate::job::Job;
+use crate::read::read_job;
+use crate::scope::{EarlierJob, Scope};
+use columns::Columns;
+use std::alloc::{AllocError, Global};
+use stream_tokens::{JobText, JobTexts};
+
+/// How many jobs a file may have.
+const MAX_JOBS: usize = 256;
+
+/// What jobs are to a job below them.
+fn earlier_jobs<'s>(alloc: Global, jobs: &'s [Job]) -> Result<Vec<EarlierJob<'s>>, AllocError>
+    ensures { IfOk result (λ earlier. scopes.jobs_of earlier.items ≡ map earlier_of (jobs_of jobs.now)) }
+{
+    let mut earlier = Vec::with_capacity(alloc, jobs.len())?;
+    for job in jobs {
+        earlier.push(EarlierJob {
+            name: job.name.as_slice(),
+            gives: job.terminal.gives(),
+        })?;
+    }
+    Ok(earlier)
+}
+
+/// The job of a text below these jobs, or its cause. Of the 257th nothing is read.
+fn read_below<'c>(
+    alloc: Global,
+    columns: &'c Columns,
+    jobs: &[Job],
+    text: &[u8],
+) -> Result<Job<'c>, Cause>
+    ensures ok { IfOk result
+        (λ job. IsNext columns.now (jobs_of jobs.now) text.now (Ok (job_of job))) }
+    ensures name { IfOk result (λ job. IsName job.name) }
+    ensures refused { IfErr result (λ cause. cause ≢ Cause.NoMemory
+        → IsNext columns.now (jobs_of jobs.now) text.now (Err cause)) }
+{
+    if jobs.len() >= MAX_JOBS {
+        return Err(Cause::TooLong);
+    }
+    let earlier = earlier_jobs(alloc, jobs)?;
+    let scope = Scope {
+        jobs: earlier.as_slice(),
+        columns,
+    };
+    read_job(alloc, scope, text)
+}
+
+/// Reads one more text below these jobs, and puts its job after them.
+fn read_next<'c>(
+    alloc: Global,
+    columns: &'c Columns,
+    jobs: &mut Vec<Job<'c>>,
+    text: &JobText,
+) -> Result<(), JobFault>
+    ensures ok { OnOk result
+        (IsNextJob columns.now (jobs_of jobs.old.items) text.now (jobs_of jobs.new.items)) }
+    ensures names { OnOk result (All IsName (names_of (jobs_of jobs.old.items))
+        → All IsName (names_of (jobs_of jobs.new.items))) }
+    ensures refused { IfErr result (λ fault. fault.cause ≢ Cause.NoMemory
+        → IsNextFault columns.now (jobs_of jobs.old.items) text.now fault) }
+    ensures memory { IfErr result (λ fault. fault.cause ≡ Cause.NoMemory → fault.line ≡ 0) }
+{
+    match read_below(alloc, columns, jobs, text.text.as_slice()) {
+        Ok(job) => Ok(jobs.push(job)?),
+        Err(cause) => Err(JobFault::at(text.line, cause)),
+    }
+}
+
+/// The jobs of a file, or the first fault in file order.
+///
+/// Each job is checked whole before the next one, and the 257th is refused unread. A job may name the jobs
+/// above it and these columns, of which it borrows the cells. Linear in the bytes, apart from a look at each
+/// earlier name. A text of one line isn't copied.
+pub fn read_jobs<'c>(
+    alloc: Global,
+    bytes: &[u8],
+    columns: &'c Columns,
+) -> Result<Vec<Job<'c>>, JobFault>
+    ensures ok { IfOk result (λ jobs. Spells bytes.now columns.now (jobs_of jobs.items)) }
+    ensures names { IfOk result (λ jobs. All IsName (names_of (jobs_of jobs.items))) }
+    ensures refused { IfErr result (λ fault. fault.cause ≢ Cause.NoMemory
+        → IsRefused bytes.now columns.now fault) }
+    ensures memory { IfErr result (λ fault. fault.cause ≡ Cause.NoMemory → fault.line ≡ 0) }
+    ensures texts { IfErr result (λ fault. fault.cause ≡ Cause.NoMemory
+        → HasText (job_texts_of bytes.now)) }
+{
+    let mut texts = JobTexts::of(bytes);
+    let mut jobs = Vec::new(alloc);
+    while let Some(text) = texts.next_text(alloc)? {
+        read_next(alloc, columns, &mut jobs, &text)?;
+    }
+    Ok(jobs)
+}
