@@ -12,44 +12,21 @@ ghost use Rattle.trace.specs.declared.item.Item.{Item};
 
 use crate::batch::Batch;
 use crate::register::LANES;
-use crate::room::stages_fit;
+use crate::registers::Registers;
 use lambda_expr::Env;
-use std::alloc::Global;
 use trace::{End, Fed, Flow, LongSink, NoMemory, SourceItems, Stage, feed_all};
-
-/// How many registers an expression may take while it is evaluated.
-const ROOM: usize = 32 * LANES;
 
 /// The first batch of a walk. Each further one is four times as large, up to 1,024 items, so that a
 /// sink that soon has enough doesn't pay for a large one.
 const FIRST_BATCH: u64 = 16;
-
-/// Registers for batches of up to 1,024 items: 280 KB.
-///
-/// A worker makes them once and uses them for each walk. They keep nothing from one walk to the next.
-#[derive(Drop)]
-pub struct Registers {
-    batch: Batch,
-    room: Vec<i64>,
-}
-
-impl Registers {
-    /// Registers for one worker at a time.
-    pub fn new(alloc: Global) -> Result<Registers, NoMemory> {
-        Ok(Registers {
-            batch: Batch::new(alloc)?,
-            room: vec![in alloc; 0i64; ROOM]?,
-        })
-    }
-}
 
 /// Takes the items of a source through all stages and into a sink, a batch at a time.
 ///
 /// The sink gets what `feed_all` of `trace` gives it. Each operator of a stage goes over a whole batch
 /// before the next one, so lambdas may be evaluated at up to one batch of items more than decide the
 /// result. Expressions that need more than 32 registers, and what comes after a `flatMap`, are
-/// evaluated item by item. It allocates nothing itself; `NoMemory` comes from the sink, which then
-/// keeps what it has accepted before.
+/// evaluated item by item; so is all of a short source, and of any source if an allocation of registers failed.
+/// `NoMemory` comes from the sink alone, which then keeps what it has accepted before.
 pub fn feed_batches<I: SourceItems, S: LongSink>(
     stages: &[Stage],
     first_stage: u32,
@@ -65,18 +42,20 @@ pub fn feed_batches<I: SourceItems, S: LongSink>(
     ensures flow { S.flow sink.new ≡ flow_after result }
     ensures refused { OnErr result S.takes_memory }
 {
-    if !stages_fit(stages, registers.room.len()) {
+    let Some(mut space) = registers.take_for(stages, source.count()) else {
         return feed_all(stages, first_stage, env, source, sink);
-    }
-    feed_pieces(
+    };
+    let fed = feed_pieces(
         stages,
         first_stage,
         env,
         source,
-        &mut registers.batch,
-        &mut registers.room,
+        &mut space.batch,
+        &mut space.room,
         sink,
-    )
+    );
+    registers.put_back(space);
+    fed
 }
 
 /// The same of stages that the room is enough for.

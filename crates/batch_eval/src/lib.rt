@@ -22,6 +22,8 @@ mod kernel;
 mod loops;
 mod reached;
 mod register;
+mod registers;
 mod room;
 
-pub use feeding::{Registers, feed_batches};
+pub use feeding::feed_batches;
+pub use registers::Registers;

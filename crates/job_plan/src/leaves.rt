@@ -13,6 +13,7 @@ ghost use Rattle.job_plan.specs.declared.segment.SegmentEnd.TheVariants as ends;
 use crate::part::Part;
 use crate::segment::Segment;
 use crate::source::Source;
+use batch_eval::Registers;
 use lambda_expr::Env;
 use std::alloc::Global;
 use std::marker::{Brand, PhantomData};
@@ -65,9 +66,9 @@ impl<K: Ending> LongSink for PartSink<'_, '_, K> {
 
 /// The part of the items at positions from `from` on, up to, not with, `to`, if there is one, of the source of a segment.
 ///
-/// A piece without `to` ends as the source does. The walk stops as soon as nothing more matters: no later item is
-/// evaluated, nor a further value of an inner stream. Only parts of slices and arrays need memory, for the items that
-/// they keep.
+/// A piece without `to` ends as the source does. The walk goes by batches, which begin with 16 items and have 1,024 at
+/// most; it stops after the batch in which nothing more matters. Only parts of slices and arrays need memory, for the
+/// items that they keep. If registers for batches aren't to be had, the walk goes item by item.
 pub fn leaf<'p>(
     alloc: Global,
     segment: &'p Segment,
@@ -78,7 +79,23 @@ pub fn leaf<'p>(
 ) -> Result<Part<'p>, NoMemory>
     ensures { IfOk result (λ part. StandsFor (segment_in segment.now) env.now part (piece_of from to (walk_in source.now))) }
 {
-    leaf_as::<Brand>(alloc, segment, source, from, to, env)
+    let mut registers = Registers::new(alloc);
+    leaf_with(alloc, segment, source, from, to, env, &mut registers)
+}
+
+/// The same with the registers of a worker, which it uses for all its leaves.
+pub fn leaf_with<'p>(
+    alloc: Global,
+    segment: &'p Segment,
+    source: &Source,
+    from: u64,
+    to: Option<u64>,
+    env: &Env,
+    registers: &mut Registers,
+) -> Result<Part<'p>, NoMemory>
+    ensures { IfOk result (λ part. StandsFor (segment_in segment.now) env.now part (piece_of from to (walk_in source.now))) }
+{
+    leaf_as::<Brand>(alloc, segment, source, from, to, env, registers)
 }
 
 /// The same, for an end that contracts can name.
@@ -89,6 +106,7 @@ fn leaf_as<'p, K: Ending>(
     from: u64,
     to: Option<u64>,
     env: &Env,
+    registers: &mut Registers,
 ) -> Result<Part<'p>, NoMemory>
     requires last { segment.now.end ≡ K.last }
     requires stage { last_stage (segment_in segment.now) ≡ K.stage }
@@ -107,7 +125,7 @@ fn leaf_as<'p, K: Ending>(
         env,
         of: PhantomData,
     };
-    match source.feed(segment, env, from, to, &mut sink)? {
+    match source.feed(segment, env, from, to, registers, &mut sink)? {
         Fed::More => sink.part.end_with(piece_end(source, to)),
         Fed::Fault(fault) => sink.part.end_with(End::Fault(fault)),
         Fed::Enough => {}

@@ -28,7 +28,7 @@ mod walks;
 
 pub use answer::Answer;
 pub use laws::{answers_join, answers_of_one_more, sum_of_one_more, sums_join, values_join};
-pub use leaves::leaf;
+pub use leaves::{leaf, leaf_with};
 pub use outcome::Outcome;
 pub use part::{FoldPart, Part};
 pub use plan_laws::{pieces_join, plans_give_the_answers, supported_jobs_stand_alone};

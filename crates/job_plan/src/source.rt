@@ -17,9 +17,10 @@ ghost use Rattle.job_plan.specs.Walks.{plain_values, source_walk, values_of};
 use crate::pieces::{ItemPiece, RangePiece, ValuePiece};
 use crate::segment::{JobPlan, Segment};
 use crate::sources::{PlainSources, plain_size};
+use batch_eval::{Registers, feed_batches};
 use job_language::PlainSource;
 use lambda_expr::{Env, FaultKind};
-use trace::{Chunk, End, Fault, Fed, Flow, Item, LongSink, NoMemory, feed_all};
+use trace::{Chunk, End, Fault, Fed, Flow, Item, LongSink, NoMemory};
 
 /// The fault of sources of more than 2^62 values.
 const TOO_LONG: Fault = Fault {
@@ -75,6 +76,7 @@ impl<'a, 'c> Source<'a, 'c> {
         env: &Env,
         from: u64,
         to: Option<u64>,
+        registers: &mut Registers,
         sink: &mut S,
     ) -> Result<Fed, NoMemory>
         requires wants { S.flow sink.old ≡ Flow.More }
@@ -88,9 +90,17 @@ impl<'a, 'c> Source<'a, 'c> {
                 if plain.is_too_long {
                     return Ok(Fed::More);
                 }
-                feed_plain(segment, env, plain.sources, 0, from, to, sink)
+                feed_plain(segment, env, plain.sources, 0, from, to, registers, sink)
             }
-            Source::Chunk(chunk) => feed_pieces(segment, env, chunk.pieces(), from, to, sink),
+            Source::Chunk(chunk) => feed_pieces(
+                segment,
+                env,
+                chunk.pieces(),
+                from,
+                to,
+                registers,
+                sink,
+            ),
         }
     }
 }
@@ -122,6 +132,7 @@ fn feed_plain<S: LongSink>(
     origin: u64,
     from: u64,
     to: Option<u64>,
+    registers: &mut Registers,
     sink: &mut S,
 ) -> Result<Fed, NoMemory>
     requires wants { S.flow sink.old ≡ Flow.More }
@@ -136,7 +147,16 @@ fn feed_plain<S: LongSink>(
         Some((source, later)) => {
             let size = plain_size(source);
             let (start, count) = within(from, to, size);
-            match feed_one(segment, env, source, origin + start, start, count, sink)? {
+            match feed_one(
+                segment,
+                env,
+                source,
+                origin + start,
+                start,
+                count,
+                registers,
+                sink,
+            )? {
                 Fed::More => {}
                 stopped => return Ok(stopped),
             }
@@ -148,6 +168,7 @@ fn feed_plain<S: LongSink>(
                 origin + size,
                 from,
                 end_after(to, size),
+                registers,
                 sink,
             )
         }
@@ -162,6 +183,7 @@ fn feed_one<S: LongSink>(
     origin: u64,
     start: u64,
     count: u64,
+    registers: &mut Registers,
     sink: &mut S,
 ) -> Result<Fed, NoMemory>
     requires wants { S.flow sink.old ≡ Flow.More }
@@ -178,33 +200,60 @@ fn feed_one<S: LongSink>(
     }
     match source {
         PlainSource::Range { from, to } => {
-            feed_range(segment, env, origin, *from, *to - 1, start, count, sink)
+            feed_range(
+                segment,
+                env,
+                origin,
+                *from,
+                *to - 1,
+                start,
+                count,
+                registers,
+                sink,
+            )
         }
         PlainSource::RangeClosed { from, to } => {
-            feed_range(segment, env, origin, *from, *to, start, count, sink)
+            feed_range(
+                segment, env, origin, *from, *to, start, count, registers, sink,
+            )
         }
         PlainSource::Values(values) => {
             let values = &values[start as usize..(start + count) as usize];
-            feed_all(
-                &segment.stages,
-                segment.first_stage,
-                env,
-                &ValuePiece { origin, values },
-                sink,
-            )
+            feed_values(segment, env, origin, values, registers, sink)
         }
         PlainSource::Column(cells) => {
             let values = &cells[start as usize..(start + count) as usize];
-            feed_all(
-                &segment.stages,
-                segment.first_stage,
-                env,
-                &ValuePiece { origin, values },
-                sink,
-            )
+            feed_values(segment, env, origin, values, registers, sink)
         }
         PlainSource::Result(_) => Ok(Fed::More),
     }
+}
+
+/// Takes values, of which the first has the place `origin`.
+fn feed_values<S: LongSink>(
+    segment: &Segment,
+    env: &Env,
+    origin: u64,
+    values: &[i64],
+    registers: &mut Registers,
+    sink: &mut S,
+) -> Result<Fed, NoMemory>
+    requires wants { S.flow sink.old ≡ Flow.More }
+    requires few { origin + length values.now ≤ 2 ^ 62 }
+    ensures fed { (xs : List item) → S.has_taken sink.old xs → IsFed S.has_taken xs
+        (walk_of (segment_in segment.now) env.now (trace (placed origin values.now) end.Done)) result sink.new }
+    ensures flow { S.flow sink.new ≡ flow_after result }
+    ensures refused { OnErr result S.takes_memory }
+{
+    let items = ValuePiece { origin, values };
+    feed_batches(
+        &segment.stages,
+        segment.first_stage,
+        env,
+        &items,
+        registers,
+        sink,
+    )
 }
 
 /// Takes `count` of the integers from `from` up to and with `to`, from a position on; the first of them has the place
@@ -217,6 +266,7 @@ fn feed_range<S: LongSink>(
     to: i64,
     start: u64,
     count: u64,
+    registers: &mut Registers,
     sink: &mut S,
 ) -> Result<Fed, NoMemory>
     requires wants { S.flow sink.old ≡ Flow.More }
@@ -230,7 +280,14 @@ fn feed_range<S: LongSink>(
     ensures refused { OnErr result S.takes_memory }
 {
     let items = range_piece(origin, from, start, count);
-    feed_all(&segment.stages, segment.first_stage, env, &items, sink)
+    feed_batches(
+        &segment.stages,
+        segment.first_stage,
+        env,
+        &items,
+        registers,
+        sink,
+    )
 }
 
 /// `count` integers that count up, from a position on; the first of them has the place `origin`.
@@ -257,6 +314,7 @@ fn feed_pieces<S: LongSink>(
     pieces: &[Vec<Item>],
     from: u64,
     to: Option<u64>,
+    registers: &mut Registers,
     sink: &mut S,
 ) -> Result<Fed, NoMemory>
     requires wants { S.flow sink.old ≡ Flow.More }
@@ -269,7 +327,7 @@ fn feed_pieces<S: LongSink>(
     let mut last = to;
     for piece in pieces {
         let size = piece.len() as u64;
-        match feed_items(segment, env, piece, next, last, sink)? {
+        match feed_items(segment, env, piece, next, last, registers, sink)? {
             Fed::More => {}
             stopped => return Ok(stopped),
         }
@@ -286,6 +344,7 @@ fn feed_items<S: LongSink>(
     items: &[Item],
     from: u64,
     to: Option<u64>,
+    registers: &mut Registers,
     sink: &mut S,
 ) -> Result<Fed, NoMemory>
     requires wants { S.flow sink.old ≡ Flow.More }
@@ -296,11 +355,12 @@ fn feed_items<S: LongSink>(
 {
     let (start, count) = within(from, to, items.len() as u64);
     let items = &items[start as usize..(start + count) as usize];
-    feed_all(
+    feed_batches(
         &segment.stages,
         segment.first_stage,
         env,
         &ItemPiece { items },
+        registers,
         sink,
     )
 }

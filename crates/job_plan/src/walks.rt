@@ -7,11 +7,12 @@ ghost use Rattle.job_plan.specs.Pieces.{piece_of};
 ghost use Rattle.job_plan.specs.Plans.{planned_answer, segments_answer};
 
 use crate::answer::Answer;
-use crate::leaves::leaf;
+use crate::leaves::leaf_with;
 use crate::outcome::Outcome;
 use crate::part::Part;
 use crate::segment::{JobPlan, Segment};
 use crate::source::Source;
+use batch_eval::Registers;
 use lambda_expr::Env;
 use std::alloc::Global;
 use trace::NoMemory;
@@ -36,7 +37,15 @@ pub fn walk_tree(
 ) -> Result<Answer, NoMemory>
     ensures { IfOk result (λ answer. answer ≡ planned_answer env.now (plan_in job.now)) }
 {
-    walk_segments(alloc, &job.segments, &Source::of_job(job), tree, env)
+    let mut registers = Registers::new(alloc);
+    walk_segments(
+        alloc,
+        &job.segments,
+        &Source::of_job(job),
+        tree,
+        env,
+        &mut registers,
+    )
 }
 
 /// The answer of a job, each segment in one piece.
@@ -53,17 +62,25 @@ fn walk_segments(
     source: &Source,
     tree: &SplitTree,
     env: &Env,
+    registers: &mut Registers,
 ) -> Result<Answer, NoMemory>
     ensures { IfOk result (λ answer. answer ≡ segments_answer (segments_in segments.now) env.now (walk_in source.now)) }
 {
     let Some((segment, later)) = segments.split_first() else {
         return Ok(Answer::Number(0));
     };
-    let part = walk_piece(alloc, segment, source, 0, None, tree, env)?;
+    let part = walk_piece(alloc, segment, source, 0, None, tree, env, registers)?;
     match part.finish(alloc, env)? {
         Outcome::Answer(answer) => Ok(answer),
         Outcome::Source(chunk) => {
-            walk_segments(alloc, later, &Source::of_chunk(&chunk), tree, env)
+            walk_segments(
+                alloc,
+                later,
+                &Source::of_chunk(&chunk),
+                tree,
+                env,
+                registers,
+            )
         }
     }
 }
@@ -77,19 +94,29 @@ fn walk_piece<'p>(
     to: Option<u64>,
     tree: &SplitTree,
     env: &Env,
+    registers: &mut Registers,
 ) -> Result<Part<'p>, NoMemory>
     requires ordered { IfSome to (λ last. from ≤ last) }
     ensures { IfOk result (λ part. StandsFor (segment_in segment.now) env.now part (piece_of from to (walk_in source.now))) }
 {
     match tree {
-        SplitTree::Leaf => leaf(alloc, segment, source, from, to, env),
+        SplitTree::Leaf => leaf_with(alloc, segment, source, from, to, env, registers),
         SplitTree::Node(size, front, back) => {
             let middle = middle_of(from, to, *size);
-            let left = walk_piece(alloc, segment, source, from, Some(middle), front, env)?;
+            let left = walk_piece(
+                alloc,
+                segment,
+                source,
+                from,
+                Some(middle),
+                front,
+                env,
+                registers,
+            )?;
             if left.is_settled() {
                 return Ok(left);
             }
-            let right = walk_piece(alloc, segment, source, middle, to, back, env)?;
+            let right = walk_piece(alloc, segment, source, middle, to, back, env, registers)?;
             match left.merge(right) {
                 Ok(part) => Ok(part),
                 Err(_) => Err(NoMemory),

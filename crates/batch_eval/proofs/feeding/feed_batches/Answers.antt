@@ -1,5 +1,5 @@
 use Rattle.std.proofs.Common.{rules}
 use Rattle.batch_eval.proofs.feeding.feed_batches.Goals as goal
 
-pub returns-then-not-stages_fit-clause-fed : goal.returns-then-not-stages_fit-clause-fed
-returns-then-not-stages_fit-clause-fed g c = search rules
+pub returns-in_default-clause-fed : goal.returns-in_default-clause-fed
+returns-in_default-clause-fed g c = search rules

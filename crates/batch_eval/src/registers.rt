@@ -1,0 +1,88 @@
+//! The registers of one worker, from walk to walk.
+
+ghost use Rattle.batch_eval.specs.Rooms.{FitsStages};
+ghost use Rattle.std.specs.Prelude.{◌≡◌, IfOk, IfSome, None, Some, length};
+ghost use Rattle.trace.specs.Stages.{stages_of};
+
+use crate::batch::Batch;
+use crate::register::LANES;
+use crate::room::stages_fit;
+use std::alloc::Global;
+use trace::{NoMemory, Stage};
+
+/// How many registers expressions may take while they are evaluated: at first, and at most.
+const FEW_REGISTERS: usize = 4 * LANES;
+
+const MOST_REGISTERS: usize = 32 * LANES;
+
+/// A walk over fewer items isn't worth an allocation of registers.
+const FEW_ITEMS: u64 = 64;
+
+/// What walks by batches of up to 1,024 items keep their values in.
+///
+/// A worker has one and uses it for each walk. The first walk that needs registers allocates 56 KB, one with larger
+/// expressions up to 280 KB. Nothing is kept from one walk to the next.
+#[derive(Drop)]
+pub struct Registers {
+    alloc: Global,
+    space: Option<Space>,
+}
+
+/// Registers that are allocated: a batch, and room for what expressions need besides.
+#[derive(Drop)]
+pub(crate) struct Space {
+    pub(crate) batch: Batch,
+    pub(crate) room: Vec<i64>,
+}
+
+impl Registers {
+    /// Registers for one worker at a time. It takes no memory.
+    pub fn new(alloc: Global) -> Registers
+        ensures { result.space ≡ None }
+    {
+        Registers { alloc, space: None }
+    }
+
+    /// Registers that these stages can use for a walk over this number of items, moved out. There are none if the stages need
+    /// more than 32 of them, if the items are few and an allocation would be needed, or if it failed.
+    pub(crate) fn take_for(&mut self, stages: &[Stage], count: u64) -> Option<Space>
+        ensures { IfSome result (λ space. FitsStages (stages_of stages.now) (length space.room.items)) }
+    {
+        if let Some(space) = self.space.take() {
+            if stages_fit(stages, space.room.len()) {
+                return Some(space);
+            }
+        }
+        if count < FEW_ITEMS {
+            return None;
+        }
+        let room = if stages_fit(stages, FEW_REGISTERS) {
+            FEW_REGISTERS
+        } else {
+            MOST_REGISTERS
+        };
+        if !stages_fit(stages, room) {
+            return None;
+        }
+        Space::new(self.alloc, room).ok()
+    }
+
+    /// Takes registers back, for a later walk.
+    pub(crate) fn put_back(&mut self, space: Space)
+        ensures { self.new.space ≡ Some space }
+    {
+        self.space = Some(space);
+    }
+}
+
+impl Space {
+    /// A batch without items, and room of this length.
+    fn new(alloc: Global, room: usize) -> Result<Space, NoMemory>
+        ensures { IfOk result (λ space. length space.room.items ≡ room) }
+    {
+        Ok(Space {
+            batch: Batch::new(alloc)?,
+            room: vec![in alloc; 0i64; room]?,
+        })
+    }
+}
