@@ -2,5 +2,6 @@
 pub mod CountingLemmas
 pub mod PairLemmas
 pub mod RandomTreeLemmas
+pub mod TraceLemmas
 pub mod WalkLemmas
 pub mod PathAboveLemmas

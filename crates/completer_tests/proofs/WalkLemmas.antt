@@ -1,7 +1,9 @@
 -- Walks of parts side by side.
-use Rattle.std.proofs.Common.{◌≡◌, ℕ, ℤ, zero, suc, ◌+◌, ◌-◌, ◌<◌, ◌≤◌, List, [], ◌∷◌, ◌++◌, take, drop, ap, sym, ◌∙◌, subst, refl, arith, Bool, false, Option, Some, None, inl, inr, ◌⊎◌}
+use Rattle.std.proofs.Common.{◌≡◌, ℕ, ℤ, ◌+◌, ◌-◌, ◌<◌, ◌≤◌, List, ◌++◌, take, drop, ap, sym, ◌∙◌, subst, refl, arith, Bool, false, Option, Some, None, inl, inr, ◌⊎◌}
 use Rattle.std.specs.Prelude.{Result, Ok, Err, int_lt, slice_index_or, pos}
 use Rattle.std.proofs.lemmas.Bool.{cases_lt}
+use Rattle.std.proofs.lemmas.List.{drop-drop}
+use Rattle.std.proofs.Math.Seq.{take-add}
 use Rattle.pending_count.specs.Pairs.{side_of}
 use Rattle.completer_tree.specs.declared.part.Failure.{Failure}
 use Rattle.completer_tree.specs.declared.part.Failure.TheVariants as failed
@@ -9,36 +11,17 @@ use Rattle.pending_count.specs.declared.place.Place.{Place}
 use Rattle.completer_tree.specs.Places.{Goes, leftmost, place_by}
 use Rattle.completer_tests.specs.declared.cut.Cut.{Cut}
 use Rattle.pending_count.proofs.SumLemmas.{some_is}
-use Rattle.completer_tests.specs.WalkLaws.{walked_as}
+use Rattle.completer_tests.specs.WalkLaws.{by_bounds}
 use Rattle.completer_tests.specs.Walks.{slice, begins, ends_at, IsClean, Walked}
-
-abbrev nil : List ℤ
-nil = []
-
-take_nil : (k : ℕ) → take k nil ≡ nil
-take_nil zero = refl
-take_nil (suc k) = refl
-
-drop_nil : (k : ℕ) → drop k nil ≡ nil
-drop_nil zero = refl
-drop_nil (suc k) = refl
-
-take_two : (a b : ℕ) (xs : List ℤ) → take a xs ++ take b (drop a xs) ≡ take (a + b) xs
-take_two zero b xs = ap (λ k. take k xs) (let e : b ≡ 0 + b = omega arith in e)
-take_two (suc a) b [] = take_nil b ∙ sym (take_nil (suc a + b))
-take_two (suc a) b (x ∷ xs) = ap (λ l. x ∷ l) (take_two a b xs) ∙ ap (λ k. take k (x ∷ xs)) (let e : suc (a + b) ≡ suc a + b = omega arith in e)
-
-drop_two : (a b : ℕ) (xs : List ℤ) → drop a (drop b xs) ≡ drop (b + a) xs
-drop_two a zero xs = ap (λ k. drop k xs) (let e : a ≡ 0 + a = omega arith in e)
-drop_two a (suc b) [] = drop_nil a ∙ sym (drop_nil (suc b + a))
-drop_two a (suc b) (x ∷ xs) = drop_two a b xs ∙ ap (λ k. drop k (x ∷ xs)) (let e : suc (b + a) ≡ suc b + a = omega arith in e)
 
 -- two parts side by side
 pub slices_join : (xs : List ℤ) (from middle to : ℕ) → from ≤ middle → middle ≤ to → slice xs from middle ++ slice xs middle to ≡ slice xs from to
 slices_join xs from middle to l h =
-    ap (λ d. slice xs from middle ++ take (to - middle) d) (ap (λ k. drop k xs) (let e : middle ≡ from + (middle - from) = omega arith in e) ∙ sym (drop_two (middle - from) from xs))
-    ∙ take_two (middle - from) (to - middle) (drop from xs)
-    ∙ ap (λ k. take k (drop from xs)) (let e : (middle - from) + (to - middle) ≡ to - from = omega arith in e)
+    let e : from + (middle - from) ≡ middle = omega arith in
+    let k : (middle - from) + (to - middle) ≡ to - from = omega arith in
+    ap (λ d. slice xs from middle ++ take (to - middle) d) (sym (drop-drop (middle - from) from xs ∙ ap (λ n. drop n xs) e))
+    ∙ sym (take-add (middle - from) (to - middle) (drop from xs))
+    ∙ ap (λ n. take n (drop from xs)) k
 
 clean_at : (xs : List ℤ) (from middle to i : ℕ) → IsClean xs from middle → IsClean xs middle to → from ≤ i → i < to → (i < middle) ⊎ (middle ≤ i) → int_lt (slice_index_or xs i (pos 0)) (pos 0) ≡ false
 clean_at xs from middle to i l r low high (inl h) = l i low h
@@ -62,12 +45,12 @@ module _ {X : Type 0} (items : X → List ℤ) (xs : List ℤ) where
   failed_of failure (Ok x) (Err e) from middle to a b is hl hr = subst (λ z. Walked items xs from to (Err z)) (some_is _ _ is) (failed_right e from middle to a hl.1 hr)
   failed_of failure (Ok x) (Ok y) from middle to a b is hl hr = absurd (grind arith)
 
-  -- the answer of a node fits where it goes
-  pub goes_of : (cut : Cut) (parent : Option (Cut × Bool)) (v : Result X Failure) → Walked items xs cut.from cut.to v
-      → ((p : Cut × Bool) → parent ≡ Some p → (begins p.0 (side_of p.1) ≡ cut.from) × (ends_at p.0 (side_of p.1) ≡ cut.to))
-      → Goes {T = Cut} {V = X} {F = Failure} (λ c side v. Walked items xs (begins c side) (ends_at c side) v) cut parent v
-  goes_of cut None v h s = h
-  goes_of cut (Some p) v h s = let w = s p refl in walked_as items xs v cut.from _ cut.to _ (sym w.0) (sym w.1) h
+-- the answer of a node fits where it goes, for any fact of the bounds of a part and its value
+pub goes_of : {X : Type 0} (fact : ℕ → ℕ → Result X Failure → Type 0) (cut : Cut) (parent : Option (Cut × Bool)) (v : Result X Failure) → fact cut.from cut.to v
+    → ((p : Cut × Bool) → parent ≡ Some p → (begins p.0 (side_of p.1) ≡ cut.from) × (ends_at p.0 (side_of p.1) ≡ cut.to))
+    → Goes {T = Cut} {V = X} {F = Failure} (λ c side w. fact (begins c side) (ends_at c side) w) cut parent v
+goes_of fact cut None v h s = h
+goes_of fact cut (Some p) v h s = let w = s p refl in by_bounds (λ a b. fact a b v) cut.from _ cut.to _ (sym w.0) (sym w.1) h
 
 -- a place by its node, its top, its tag and its side
 pub place_is : {T : Type 0} (p : Place T) (b : Bool) → p.side ≡ side_of b → Some p ≡ place_by p.node p.root (Some (p.tag, b))

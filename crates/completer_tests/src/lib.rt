@@ -13,6 +13,8 @@ mod paths;
 #[cfg(test)]
 mod random_tree;
 #[cfg(test)]
+mod traces;
+#[cfg(test)]
 mod trees;
 #[cfg(test)]
 mod walks;

@@ -8,7 +8,7 @@ ghost use Rattle.completer_tree.specs.Trees.{table_id_of, CanFork};
 ghost use Rattle.completer_tree.specs.Roots.{Rooted};
 ghost use Rattle.completer_tests.specs.Halves.{CanWalk};
 ghost use Rattle.completer_tests.specs.Walks.{begins, ends_at, IsClean, IsFirstNegative, Walked};
-ghost use Rattle.completer_tests.specs.WalkLaws.{walked_as};
+ghost use Rattle.completer_tests.specs.WalkLaws.{by_bounds};
 
 use crate::cut::Cut;
 use completer_tree::{
@@ -65,7 +65,7 @@ impl<P: Planned> Continuation<Items<P>> for Append<P> {
 
     ghost leads = { λ c p e v h. h };
 
-    ghost ends = { λ c e v h. walked_as (λ x. x.items.items) P.source v c.cut.from 0 c.cut.to (length P.source) (c.top e).0 (c.top e).1 h };
+    ghost ends = { λ c e v h. by_bounds (λ a b. Walked (λ x. x.items.items) P.source a b v) c.cut.from 0 c.cut.to (length P.source) (c.top e).0 (c.top e).1 h };
 
     fn tag(&self) -> Cut {
         self.cut
@@ -132,14 +132,14 @@ fn walked<P: Planned>(alloc: Global, numbers: &[i64], from: usize, to: usize) ->
     }
 }
 
-fn is_left(place: &Place<Cut>) -> bool
+pub(crate) fn is_left(place: &Place<Cut>) -> bool
     requires { place.now.side ≢ Whole }
     ensures { place.now.side ≡ side_of result }
 {
     place.side == Side::Left
 }
 
-fn range_of(place: &Place<Cut>) -> (usize, usize)
+pub(crate) fn range_of(place: &Place<Cut>) -> (usize, usize)
     requires { place.now.side ≢ Whole }
     ensures { (result.0 ≡ begins place.now.tag place.now.side) × (result.1 ≡ ends_at place.now.tag place.now.side) }
 {
