@@ -5,7 +5,7 @@ use Rattle.lambda_expr.specs.declared.operator.Comparison.{Comparison}
 use Rattle.lambda_expr.specs.Operators.{on, comparison_value}
 use Rattle.lambda_expr.specs.Value.{chosen}
 use Rattle.batch_eval.specs.Choices.{between, chosen_value}
-use Rattle.batch_eval.specs.Lanes.{compared, flag_of, flagged, opposed}
+use Rattle.batch_eval.specs.Lanes.{compared, flagged, opposed}
 
 pub flagged_between : (c : Comparison) (a b : Result ℤ FaultKind) → flagged (on a (λ v. on b (λ w. Ok (comparison_value c v w)))) ≡ between (compared c) a b
 flagged_between c (Err e) b = refl

@@ -46,3 +46,10 @@ lane_inside live k g e t seen below =
 pub counts_less : (start : Option ℕ) (n m : ℕ) → n ≤ m → CountsUp start m → CountsUp start n
 counts_less None n m less counts = counts
 counts_less (Some start) n m less counts = omega (arith, less, counts)
+
+-- the first lanes, and those after them
+pub lanes_add : (a b : ℕ) (g : ℕ → Item) → lanes (a + b) g ≡ lanes a g ++ lanes b (λ k. g (a + k))
+lanes_add a zero g = ap (λ (m : ℕ). lanes m g) (add-zero a) ∙ sym (append-nil (lanes a g))
+lanes_add a (suc b) g =
+    let on : a + suc b ≡ suc (a + b) = omega arith in
+    ap (λ (m : ℕ). lanes m g) on ∙ ap (λ (xs : List Item). xs ++ g (a + b) ∷ []) (lanes_add a b g) ∙ append_assoc (lanes a g) (lanes b (λ k. g (a + k))) (g (a + b) ∷ [])

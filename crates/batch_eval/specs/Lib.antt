@@ -2,4 +2,5 @@
 pub mod Batches
 pub mod Choices
 pub mod Lanes
+pub mod Pours
 pub mod Rooms

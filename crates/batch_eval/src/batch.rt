@@ -4,10 +4,11 @@ ghost use Rattle.batch_eval.specs.Batches.{CountsUp, StopsInside, end_after, ite
 ghost use Rattle.batch_eval.specs.Lanes.{at};
 ghost use Rattle.batch_eval.specs.Rooms.{Fits, FitsTest};
 ghost use Rattle.lambda_expr.specs.Term.{long_of, truth_of};
-ghost use Rattle.std.specs.Prelude.{◌≡◌, ℕ, ◌+◌, ◌<◌, ◌≤◌, ◌^◌, [], ◌++◌, IfOk, None, Some, length, slice_get, take};
+ghost use Rattle.std.specs.Prelude.{◌≡◌, ℕ, ◌+◌, ◌<◌, ◌≤◌, ◌^◌, List, [], ◌++◌, IfOk, None, Some, length, slice_get, slice_index, take};
 ghost use Rattle.trace.specs.Stages.{filter, of_item};
 ghost use Rattle.trace.specs.Stages.{map as map_term};
 ghost use Rattle.trace.specs.Trace.{each, trace};
+ghost use Rattle.trace.specs.declared.item.Item.{Item};
 
 use crate::keep::keep_lanes;
 use crate::reached::Reached;
@@ -122,6 +123,22 @@ impl Batch {
         self.start = None;
     }
 
+    /// No items, and a walk that is done.
+    pub(crate) fn clear(&mut self)
+        ensures { self.new ≡ trace [] End.Done }
+    {
+        self.live = 0;
+        self.start = None;
+        self.end = End::Done;
+    }
+
+    /// Ends the walk so after the items.
+    pub(crate) fn end_with(&mut self, end: End)
+        ensures { self.new ≡ trace self.old.items end }
+    {
+        self.end = end;
+    }
+
     /// Starts again with items of a source, from a position on.
     pub(crate) fn fill<I: SourceItems>(&mut self, source: &I, position: u64, count: u64)
         requires within { position + count ≤ length (I.items source.now) }
@@ -130,11 +147,30 @@ impl Batch {
         ensures items { take (position + count) (I.items source.now) ≡ take position (I.items source.now) ++ self.new.items }
         ensures ending { self.new.ending ≡ End.Done }
     {
-        let live = count as usize;
-        list_items(source, position, live, &mut self.origins, &mut self.values);
-        self.live = live;
+        self.clear();
+        self.add(source, position, count);
+    }
+
+    /// Adds items of a source, from a position on, after those that are there.
+    pub(crate) fn add<I: SourceItems>(&mut self, source: &I, position: u64, count: u64)
+        requires within { position + count ≤ length (I.items source.now) }
+        requires bound { length (I.items source.now) < 2 ^ 64 }
+        requires space { length self.old.items + count ≤ 1024 }
+        ensures items { (part : List Item) × (self.new.items ≡ self.old.items ++ part) × (take (position + count) (I.items source.now) ≡ take position (I.items source.now) ++ part) }
+        ensures ending { self.new.ending ≡ self.old.ending }
+    {
+        let count = count as usize;
+        list_places(self.start, self.live, &mut self.origins);
         self.start = None;
-        self.end = End::Done;
+        list_items(
+            source,
+            position,
+            self.live,
+            count,
+            &mut self.origins,
+            &mut self.values,
+        );
+        self.live += count;
     }
 
     /// How the walk ends after the items.
@@ -161,23 +197,38 @@ impl SourceItems for Batch {
     }
 }
 
-/// The items of a source from a position on, lane by lane.
+/// The places of lanes, listed.
+fn list_places(start: Option<u64>, live: usize, origins: &mut [u64])
+    requires counts { CountsUp start live }
+    requires within { live ≤ length origins.old }
+    ensures { (k : ℕ) → k < live → slice_index origins.new k ≡ origin_at start origins.old k }
+{
+    if let Some(start) = start {
+        for lane in 0..live {
+            origins[lane] = start + lane as u64;
+        }
+    }
+}
+
+/// The items of a source from a position on, from a lane on; the lanes before it stay.
 fn list_items<I: SourceItems>(
     source: &I,
     position: u64,
+    first: usize,
     count: usize,
     origins: &mut [u64],
     values: &mut [i64],
 )
     requires within { position + count ≤ length (I.items source.now) }
     requires bound { length (I.items source.now) < 2 ^ 64 }
-    requires origins { count ≤ length origins.old }
-    requires values { count ≤ length values.old }
-    ensures { (k : ℕ) → k < count → slice_get (I.items source.now) (position + k) ≡ Some (item_at None origins.new values.new k) }
+    requires origins { first + count ≤ length origins.old }
+    requires values { first + count ≤ length values.old }
+    ensures items { (k : ℕ) → k < count → slice_get (I.items source.now) (position + k) ≡ Some (item_at None origins.new values.new (first + k)) }
+    ensures before { (k : ℕ) → k < first → item_at None origins.new values.new k ≡ item_at None origins.old values.old k }
 {
     for lane in 0..count {
         let item = source.item_at(position + lane as u64);
-        origins[lane] = item.origin;
-        values[lane] = item.value;
+        origins[first + lane] = item.origin;
+        values[first + lane] = item.value;
     }
 }

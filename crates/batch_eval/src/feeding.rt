@@ -1,6 +1,5 @@
 //! The items of a source in batches, through the stages and into a sink.
 
-ghost use Rattle.batch_eval.specs.Batches.{fed_of};
 ghost use Rattle.batch_eval.specs.Rooms.{FitsStages};
 ghost use Rattle.std.specs.Prelude.{◌≡◌, ◌+◌, ◌<◌, ◌≤◌, ◌^◌, List, Ok, OnErr, length, take};
 ghost use Rattle.trace.specs.Sinks.{IsFed, flow_after};
@@ -13,8 +12,9 @@ ghost use Rattle.trace.specs.declared.item.Item.{Item};
 use crate::batch::Batch;
 use crate::register::LANES;
 use crate::registers::Registers;
+use crate::staging::feed_batch;
 use lambda_expr::Env;
-use trace::{End, Fed, Flow, LongSink, NoMemory, SourceItems, Stage, feed_all};
+use trace::{Fed, Flow, LongSink, NoMemory, SourceItems, Stage, feed_all};
 
 /// The first batch of a walk. Each further one is four times as large, up to 1,024 items, so that a
 /// sink that soon has enough doesn't pay for a large one.
@@ -24,8 +24,9 @@ const FIRST_BATCH: u64 = 16;
 ///
 /// The sink gets what `feed_all` of `trace` gives it. Each operator of a stage goes over a whole batch
 /// before the next one, so lambdas may be evaluated at up to one batch of items more than decide the
-/// result. Expressions that need more than 32 registers, and what comes after a `flatMap`, are
-/// evaluated item by item; so is all of a short source, and of any source if an allocation of registers failed.
+/// result, and after each `flatMap` at one batch of inner values more. Expressions that need more than 32 registers, and
+/// what comes after a fourth `flatMap`, are evaluated item by item; so is all of a short source, and of any source if an
+/// allocation of registers failed.
 /// `NoMemory` comes from the sink alone, which then keeps what it has accepted before.
 pub fn feed_batches<I: SourceItems, S: LongSink>(
     stages: &[Stage],
@@ -51,6 +52,7 @@ pub fn feed_batches<I: SourceItems, S: LongSink>(
         env,
         source,
         &mut space.batch,
+        &mut space.nested,
         &mut space.room,
         sink,
     );
@@ -65,6 +67,7 @@ fn feed_pieces<I: SourceItems, S: LongSink>(
     env: &Env,
     source: &I,
     batch: &mut Batch,
+    nested: &mut [Batch],
     room: &mut [i64],
     sink: &mut S,
 ) -> Result<Fed, NoMemory>
@@ -89,6 +92,7 @@ fn feed_pieces<I: SourceItems, S: LongSink>(
             position,
             taken,
             batch,
+            nested,
             room,
             sink,
         )? {
@@ -110,6 +114,7 @@ fn feed_piece<I: SourceItems, S: LongSink>(
     position: u64,
     count: u64,
     batch: &mut Batch,
+    nested: &mut [Batch],
     room: &mut [i64],
     sink: &mut S,
 ) -> Result<Fed, NoMemory>
@@ -126,85 +131,5 @@ fn feed_piece<I: SourceItems, S: LongSink>(
     ensures refused { OnErr result S.takes_memory }
 {
     batch.fill(source, position, count);
-    feed_batch(stages, first_stage, env, batch, room, sink)
-}
-
-/// Takes a batch through all stages, and gives the sink what comes out.
-fn feed_batch<S: LongSink>(
-    stages: &[Stage],
-    first_stage: u32,
-    env: &Env,
-    batch: &mut Batch,
-    room: &mut [i64],
-    sink: &mut S,
-) -> Result<Fed, NoMemory>
-    requires numbered { first_stage + length stages.now < 2 ^ 32 }
-    requires wants { S.flow sink.old ≡ Flow.More }
-    requires room { FitsStages (stages_of stages.now) (length room.old) }
-    ensures fed { (xs : List Item) → S.has_taken sink.old xs → IsFed S.has_taken xs
-        (pipe first_stage (stages_of stages.now) env.now batch.old) result sink.new }
-    ensures flow { S.flow sink.new ≡ flow_after result }
-    ensures refused { OnErr result S.takes_memory }
-{
-    let Some((stage, later)) = stages.split_first() else {
-        return give(batch, sink);
-    };
-    match stage {
-        Stage::Map(image) => {
-            batch.map(image, first_stage, env, room);
-            feed_batch(later, first_stage + 1, env, batch, room, sink)
-        }
-        Stage::Filter(test) => {
-            batch.filter(test, first_stage, env, room);
-            feed_batch(later, first_stage + 1, env, batch, room, sink)
-        }
-        Stage::FlatMap(_) => feed_lanes(stages, first_stage, env, batch, sink),
-    }
-}
-
-/// Takes the items of a batch through all stages one after the other.
-fn feed_lanes<S: LongSink>(
-    stages: &[Stage],
-    first_stage: u32,
-    env: &Env,
-    batch: &Batch,
-    sink: &mut S,
-) -> Result<Fed, NoMemory>
-    requires numbered { first_stage + length stages.now < 2 ^ 32 }
-    requires wants { S.flow sink.old ≡ Flow.More }
-    ensures fed { (xs : List Item) → S.has_taken sink.old xs → IsFed S.has_taken xs
-        (pipe first_stage (stages_of stages.now) env.now batch.now) result sink.new }
-    ensures flow { S.flow sink.new ≡ flow_after result }
-    ensures refused { OnErr result S.takes_memory }
-{
-    match feed_all(stages, first_stage, env, batch, sink)? {
-        Fed::More => Ok(fed_by(batch.end())),
-        stopped => Ok(stopped),
-    }
-}
-
-/// Gives the sink the items of a batch one after the other.
-fn give<S: LongSink>(batch: &Batch, sink: &mut S) -> Result<Fed, NoMemory>
-    requires wants { S.flow sink.old ≡ Flow.More }
-    ensures fed { (xs : List Item) → S.has_taken sink.old xs → IsFed S.has_taken xs batch.now result sink.new }
-    ensures flow { S.flow sink.new ≡ flow_after result }
-    ensures refused { OnErr result S.takes_memory }
-{
-    for position in 0..batch.count() {
-        match sink.accept(batch.item_at(position))? {
-            Flow::More => {}
-            Flow::Enough => return Ok(Fed::Enough),
-        }
-    }
-    Ok(fed_by(batch.end()))
-}
-
-/// What becomes of items after which the walk ends so.
-fn fed_by(end: End) -> Fed
-    ensures { result ≡ fed_of end }
-{
-    match end {
-        End::Done => Fed::More,
-        End::Fault(fault) => Fed::Fault(fault),
-    }
+    feed_batch(stages, first_stage, env, batch, nested, room, sink)
 }

@@ -17,6 +17,7 @@ mod choose;
 mod dispatch;
 mod feeding;
 mod flag;
+mod inner;
 mod keep;
 mod kernel;
 mod loops;
@@ -24,6 +25,7 @@ mod reached;
 mod register;
 mod registers;
 mod room;
+mod staging;
 
 pub use feeding::feed_batches;
 pub use registers::Registers;

@@ -15,6 +15,9 @@ const FEW_REGISTERS: usize = 4 * LANES;
 
 const MOST_REGISTERS: usize = 32 * LANES;
 
+/// How many `flatMap`s of a pipeline go by batches. What comes out of a further one goes item by item.
+const MOST_NESTED: usize = 3;
+
 /// A walk over fewer items isn't worth an allocation of registers.
 const FEW_ITEMS: u64 = 64;
 
@@ -32,6 +35,8 @@ pub struct Registers {
 #[derive(Drop)]
 pub(crate) struct Space {
     pub(crate) batch: Batch,
+    /// Batches for the inner values of `flatMap`s.
+    pub(crate) nested: Vec<Batch>,
     pub(crate) room: Vec<i64>,
 }
 
@@ -46,6 +51,15 @@ impl Registers {
     /// Registers that these stages can use for a walk over this number of items, moved out. There are none if the stages need
     /// more than 32 of them, if the items are few and an allocation would be needed, or if it failed.
     pub(crate) fn take_for(&mut self, stages: &[Stage], count: u64) -> Option<Space>
+        ensures { IfSome result (λ space. FitsStages (stages_of stages.now) (length space.room.items)) }
+    {
+        let mut space = self.take_room(stages, count)?;
+        space.nest(self.alloc, stages);
+        Some(space)
+    }
+
+    /// The same, perhaps without batches for inner values.
+    fn take_room(&mut self, stages: &[Stage], count: u64) -> Option<Space>
         ensures { IfSome result (λ space. FitsStages (stages_of stages.now) (length space.room.items)) }
     {
         if let Some(space) = self.space.take() {
@@ -82,7 +96,27 @@ impl Space {
     {
         Ok(Space {
             batch: Batch::new(alloc)?,
+            nested: Vec::new(alloc),
             room: vec![in alloc; 0i64; room]?,
         })
+    }
+
+    /// Adds batches for the inner values of the `flatMap`s among these stages, up to three, as far as memory for them is
+    /// there.
+    fn nest(&mut self, alloc: Global, stages: &[Stage])
+        ensures { self.new.room.items ≡ self.old.room.items }
+    {
+        let inner = stages
+            .iter()
+            .filter(|stage| matches!(stage, Stage::FlatMap(_)))
+            .count();
+        for _ in self.nested.len()..inner.min(MOST_NESTED) {
+            let Ok(batch) = Batch::new(alloc) else {
+                return;
+            };
+            if self.nested.push(batch).is_err() {
+                return;
+            }
+        }
     }
 }

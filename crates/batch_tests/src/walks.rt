@@ -21,6 +21,9 @@ const TESTS: &str =
     "x -> x > -2; x -> x % 2 == 0; x -> x != 0 && 12 / x > 2; x -> x == 0 || 12 / x < 3; x -> !(x <= 1); \
     x -> 5 / x >= 1; x -> x < 0 ? x < -4 : 6 / (x - 3) != 2; x -> true; x -> x == 1 || x > 2 && 9 / (x - 5) < 0";
 
+/// The ends of inner streams that begin with 0, none of them above 6.
+const ENDS: &str = "x -> x & 3; x -> 6 / x; x -> x % (x - 5)";
+
 /// The items that came, in order.
 #[derive(Drop)]
 struct Items {
@@ -71,21 +74,36 @@ fn stage(alloc: Global, text: &str, want: Want) -> Result<Stage, NoMemory> {
     }
 }
 
+/// `flatMap` to the integers from 0 up to, not with, the value of a lambda.
+fn flat_map(alloc: Global, text: &str) -> Result<Stage, NoMemory> {
+    match stage(alloc, text, Want::Long)? {
+        Stage::Map(end) => Ok(Stage::FlatMap(InnerExpr::Range(LongExpr::Number(0), end))),
+        _ => Err(AllocError),
+    }
+}
+
 /// The next one of a row of numbers without a pattern.
 fn next(seed: u64) -> u64 {
     seed.wrapping_mul(6364136223846793005)
         .wrapping_add(1442695040888963407)
 }
 
-/// One of the stages of both tables.
+/// One of the stages of the tables.
 fn any_stage(alloc: Global, seed: u64) -> Result<Stage, NoMemory> {
     let pick = (seed >> 33) as usize;
-    if pick % 3 == 0 {
-        let at = pick / 3 % 9;
-        stage(alloc, TESTS.split(';').nth(at).unwrap_or(""), Want::Bool)
-    } else {
-        let at = pick / 3 % 22;
-        stage(alloc, IMAGES.split(';').nth(at).unwrap_or(""), Want::Long)
+    match pick % 7 {
+        0 | 1 => {
+            let at = pick / 7 % 9;
+            stage(alloc, TESTS.split(';').nth(at).unwrap_or(""), Want::Bool)
+        }
+        2 => {
+            let at = pick / 7 % 3;
+            flat_map(alloc, ENDS.split(';').nth(at).unwrap_or(""))
+        }
+        _ => {
+            let at = pick / 7 % 22;
+            stage(alloc, IMAGES.split(';').nth(at).unwrap_or(""), Want::Long)
+        }
     }
 }
 
@@ -197,6 +215,48 @@ fn an_earlier_item_s_later_fault_comes_first(rt: HostRuntime) -> Result<(), Fail
     };
     let fed = feed_batches(&stages, 1, &env, &items, &mut registers, &mut sink)?;
     assert!(rt; fed == Fed::Fault(division_by_zero(2, 2)) && sink.items.len() == 1);
+    Ok(())
+}
+
+#[test]
+fn long_and_empty_inner_streams_go_on_in_order(rt: HostRuntime) -> Result<(), Fail> {
+    let alloc = rt.alloc();
+    let mut registers = used_registers(alloc)?;
+    let items = items_of(alloc, &[0, 3000, -1, 1024, 1023, 0, 1025, 5])?;
+    let stages = [
+        flat_map(alloc, "x -> x")?,
+        stage(alloc, "x -> x % 5 == 2", Want::Bool)?,
+        flat_map(alloc, "x -> x / 100")?,
+        flat_map(alloc, "x -> x % 4")?,
+        flat_map(alloc, "x -> x")?,
+        stage(alloc, "x -> x * 3 + 1", Want::Long)?,
+    ];
+    assert!(rt; agree(alloc, &stages, &items, &mut registers)?);
+    Ok(())
+}
+
+#[test]
+fn a_fault_at_an_inner_value_is_that_of_its_item(rt: HostRuntime) -> Result<(), Fail> {
+    let alloc = rt.alloc();
+    let env = Env::empty(alloc);
+    let mut registers = used_registers(alloc)?;
+    let items = items_of(alloc, &[0, 3000, -1, 1024, 1023, 5])?;
+    for (image, answer, count) in [
+        ("x -> 6 / x", Fed::Fault(division_by_zero(2, 1)), 0),
+        (
+            "x -> 6 / (x - 2999)",
+            Fed::Fault(division_by_zero(2, 1)),
+            2999,
+        ),
+        ("x -> 6 / (x - 3000)", Fed::More, 5052),
+    ] {
+        let stages = [flat_map(alloc, "x -> x")?, stage(alloc, image, Want::Long)?];
+        let mut sink = Items {
+            items: Vec::new(alloc),
+        };
+        let fed = feed_batches(&stages, 1, &env, &items, &mut registers, &mut sink)?;
+        assert!(rt; fed == answer && sink.items.len() == count, "{image}");
+    }
     Ok(())
 }
 

@@ -1,18 +1,14 @@
-use Rattle.std.proofs.Common.{◌≡◌, ◌+◌, ◌<◌, ℕ, ℤ, List, Some, None, ap, sym, ◌∙◌, rules}
-use Rattle.std.proofs.lemmas.List.{places, with_items_is}
-use Rattle.std.specs.List.{slice_get}
-use Rattle.std.specs.Vec.{with_items}
-use Rattle.batch_eval.specs.Batches.{item_at}
-use Rattle.batch_eval.proofs.Items.{lanes_taken}
+use Rattle.std.proofs.Common.{◌≡◌, ◌++◌, List, take, sym, ap, ◌∙◌}
+use Rattle.trace.specs.declared.item.Item.{Item}
+use Rattle.trace.specs.Trace.{Trace}
 use Rattle.batch_eval.proofs.batch.Batch.fill.Goals as goal
 
 pub returns-clause-items : goal.returns-clause-items
 returns-clause-items g c =
-    let b = c.self.inside in
     let items = g.I.SourceItems.items c.args.source.now in
-    let filled = c.list_items.new in
-    let origins = with_items_is b.origins filled.origins (search (rules, places)) in
-    let values = with_items_is b.values filled.values (search (rules, places)) in
-    let all_origins = (with_items b.origins filled.origins).items in
-    let all_values = (with_items b.values filled.values).items in
-    lanes_taken items c.args.position c.args.count (item_at None all_origins all_values) (λ k below. c.list_items.ensures k below ∙ ap (λ (xs : List ℕ). Some (item_at None xs filled.values k)) (sym origins) ∙ ap (λ (ys : List ℤ). Some (item_at None all_origins ys k)) (sym values))
+    let part = c.add.new.self.items in
+    let added : part ≡ c.add.ensures.items.0 = rw c.clear.ensures at c.add.ensures.items.1 in
+    c.add.ensures.items.2 ∙ ap (λ (ys : List Item). take c.args.position items ++ ys) (sym added)
+
+pub returns-clause-ending : goal.returns-clause-ending
+returns-clause-ending g c = c.add.ensures.ending ∙ ap (λ (t : Trace). t.ending) c.clear.ensures

@@ -1,6 +1,5 @@
 use Rattle.std.proofs.Common.{◌≡◌, ◌+◌, ◌<◌, ℕ, ℤ, List, length, Some, ap, subst, sym, ◌∙◌, arith, rules, w64, to_z, of_z}
 use Rattle.std.specs.List.{slice_get}
-use Rattle.trace.specs.declared.item.Item.{Item}
 use Rattle.trace.specs.Trace.{Trace}
 use Rattle.batch_eval.specs.Lanes.{at}
 use Rattle.batch_eval.specs.Batches.{item_at, origin_at}

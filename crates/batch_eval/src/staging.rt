@@ -1,0 +1,267 @@
+//! A batch through the stages and into a sink; the values of inner streams in batches of their own,
+//! depth first.
+
+ghost use Rattle.batch_eval.specs.Batches.{fed_of};
+ghost use Rattle.batch_eval.specs.Pours.{Holds, Poured};
+ghost use Rattle.batch_eval.specs.Rooms.{FitsStages};
+ghost use Rattle.lambda_expr.specs.Streams.{inner_of, inner_values};
+ghost use Rattle.std.specs.Prelude.{◌≡◌, ◌+◌, ◌<◌, ◌^◌, List, ◌++◌, Ok, OnErr, Some, length};
+ghost use Rattle.trace.specs.Sinks.{IsFed, flow_after};
+ghost use Rattle.trace.specs.Stages.{at_place, flat_map, of_item, pipe, stages_of};
+ghost use Rattle.trace.specs.Trace.{each, trace};
+ghost use Rattle.trace.specs.declared.feeding.Fed.TheVariants as fed;
+ghost use Rattle.trace.specs.declared.item.Item.{Item};
+
+use crate::batch::Batch;
+use crate::inner::InnerItems;
+use crate::register::LANES;
+use lambda_expr::{Env, FaultKind, InnerExpr};
+use trace::{End, Fault, Fed, Flow, Item, LongSink, NoMemory, SourceItems, Stage, feed_all};
+
+/// Takes a batch through all stages, and gives the sink what comes out.
+#[cycle(batches)]
+pub(crate) fn feed_batch<S: LongSink>(
+    stages: &[Stage],
+    first_stage: u32,
+    env: &Env,
+    batch: &mut Batch,
+    nested: &mut [Batch],
+    room: &mut [i64],
+    sink: &mut S,
+) -> Result<Fed, NoMemory>
+    requires numbered { first_stage + length stages.now < 2 ^ 32 }
+    requires wants { S.flow sink.old ≡ Flow.More }
+    requires room { FitsStages (stages_of stages.now) (length room.old) }
+    ensures fed { (xs : List Item) → S.has_taken sink.old xs → IsFed S.has_taken xs
+        (pipe first_stage (stages_of stages.now) env.now batch.old) result sink.new }
+    ensures flow { S.flow sink.new ≡ flow_after result }
+    ensures refused { OnErr result S.takes_memory }
+{
+    let Some((stage, later)) = stages.split_first() else {
+        return give(batch, sink);
+    };
+    match stage {
+        Stage::Map(image) => {
+            batch.map(image, first_stage, env, room);
+            feed_batch(later, first_stage + 1, env, batch, nested, room, sink)
+        }
+        Stage::Filter(test) => {
+            batch.filter(test, first_stage, env, room);
+            feed_batch(later, first_stage + 1, env, batch, nested, room, sink)
+        }
+        Stage::FlatMap(inner) => match nested.split_first_mut() {
+            Some((pending, rest)) => feed_inner(
+                inner,
+                later,
+                first_stage,
+                env,
+                batch,
+                pending,
+                rest,
+                room,
+                sink,
+            ),
+            None => feed_lanes(stages, first_stage, env, batch, sink),
+        },
+    }
+}
+
+/// Takes the inner values of the items of a batch through the later stages. They are put together in
+/// `pending`, which goes on when it is full and after the last item.
+#[cycle(batches)]
+pub(crate) fn feed_inner<S: LongSink>(
+    inner: &InnerExpr,
+    later: &[Stage],
+    stage: u32,
+    env: &Env,
+    batch: &Batch,
+    pending: &mut Batch,
+    rest: &mut [Batch],
+    room: &mut [i64],
+    sink: &mut S,
+) -> Result<Fed, NoMemory>
+    requires numbered { stage + 1 + length later.now < 2 ^ 32 }
+    requires wants { S.flow sink.old ≡ Flow.More }
+    requires room { FitsStages (stages_of later.now) (length room.old) }
+    ensures fed { (xs : List Item) → S.has_taken sink.old xs → IsFed S.has_taken xs
+        (pipe (stage + 1) (stages_of later.now) env.now (each (of_item stage (flat_map (inner_of inner.now)) env.now) batch.now.items batch.now.ending)) result sink.new }
+    ensures flow { S.flow sink.new ≡ flow_after result }
+    ensures refused { OnErr result S.takes_memory }
+{
+    pending.clear();
+    for position in 0..batch.count() {
+        let item = batch.item_at(position);
+        match inner.eval(item.value, env) {
+            Ok(values) => {
+                let values = InnerItems {
+                    origin: item.origin,
+                    values,
+                };
+                match pour(later, stage + 1, env, &values, pending, rest, room, sink)? {
+                    Fed::More => {}
+                    stopped => return Ok(stopped),
+                }
+            }
+            Err(kind) => {
+                let end = fault_at(stage, item, kind);
+                return finish(later, stage + 1, env, end, pending, rest, room, sink);
+            }
+        }
+    }
+    finish(
+        later,
+        stage + 1,
+        env,
+        batch.end(),
+        pending,
+        rest,
+        room,
+        sink,
+    )
+}
+
+/// Adds the values of an inner stream to those that wait, and takes them through the stages whenever
+/// the batch is full.
+#[cycle(batches)]
+fn pour<S: LongSink>(
+    stages: &[Stage],
+    first_stage: u32,
+    env: &Env,
+    values: &InnerItems,
+    pending: &mut Batch,
+    rest: &mut [Batch],
+    room: &mut [i64],
+    sink: &mut S,
+) -> Result<Fed, NoMemory>
+    requires numbered { first_stage + length stages.now < 2 ^ 32 }
+    requires wants { S.flow sink.old ≡ Flow.More }
+    requires room { FitsStages (stages_of stages.now) (length room.old) }
+    ensures poured { (xs whole : List Item) → Holds S.has_taken first_stage (stages_of stages.now) env.now xs whole pending.old.items sink.old
+        → Poured S.has_taken first_stage (stages_of stages.now) env.now xs (whole ++ at_place values.now.origin (inner_values values.now.values)) result pending.new.items sink.new }
+    ensures flow { S.flow sink.new ≡ flow_after result }
+    ensures refused { OnErr result S.takes_memory }
+{
+    let count = values.count();
+    let mut position = 0;
+    while position < count {
+        match make_space(stages, first_stage, env, pending, rest, room, sink)? {
+            Fed::More => {}
+            stopped => return Ok(stopped),
+        }
+        let taken = (LANES as u64 - pending.count()).min(count - position);
+        pending.add(values, position, taken);
+        position += taken;
+    }
+    Ok(Fed::More)
+}
+
+/// Takes the values that wait through the stages, if there is no space for another.
+#[cycle(batches)]
+fn make_space<S: LongSink>(
+    stages: &[Stage],
+    first_stage: u32,
+    env: &Env,
+    pending: &mut Batch,
+    rest: &mut [Batch],
+    room: &mut [i64],
+    sink: &mut S,
+) -> Result<Fed, NoMemory>
+    requires numbered { first_stage + length stages.now < 2 ^ 32 }
+    requires wants { S.flow sink.old ≡ Flow.More }
+    requires room { FitsStages (stages_of stages.now) (length room.old) }
+    ensures poured { (xs whole : List Item) → Holds S.has_taken first_stage (stages_of stages.now) env.now xs whole pending.old.items sink.old
+        → Poured S.has_taken first_stage (stages_of stages.now) env.now xs whole result pending.new.items sink.new }
+    ensures space { result ≡ Ok fed.More → length pending.new.items < 1024 }
+    ensures flow { S.flow sink.new ≡ flow_after result }
+    ensures refused { OnErr result S.takes_memory }
+{
+    if pending.count() < LANES as u64 {
+        return Ok(Fed::More);
+    }
+    pending.end_with(End::Done);
+    let fed = feed_batch(stages, first_stage, env, pending, rest, room, sink)?;
+    pending.clear();
+    Ok(fed)
+}
+
+/// Takes the values that wait through the stages, after which the walk ends so.
+#[cycle(batches)]
+fn finish<S: LongSink>(
+    stages: &[Stage],
+    first_stage: u32,
+    env: &Env,
+    end: End,
+    pending: &mut Batch,
+    rest: &mut [Batch],
+    room: &mut [i64],
+    sink: &mut S,
+) -> Result<Fed, NoMemory>
+    requires numbered { first_stage + length stages.now < 2 ^ 32 }
+    requires wants { S.flow sink.old ≡ Flow.More }
+    requires room { FitsStages (stages_of stages.now) (length room.old) }
+    ensures fed { (xs whole : List Item) → Holds S.has_taken first_stage (stages_of stages.now) env.now xs whole pending.old.items sink.old
+        → IsFed S.has_taken xs (pipe first_stage (stages_of stages.now) env.now (trace whole end)) result sink.new }
+    ensures flow { S.flow sink.new ≡ flow_after result }
+    ensures refused { OnErr result S.takes_memory }
+{
+    pending.end_with(end);
+    feed_batch(stages, first_stage, env, pending, rest, room, sink)
+}
+
+/// The end by the fault of this stage at this item.
+fn fault_at(stage: u32, item: Item, kind: FaultKind) -> End
+    ensures { result ≡ End.Fault (record { kind = kind; stage = stage; origin = Some item.origin }) }
+{
+    End::Fault(Fault {
+        kind,
+        stage,
+        origin: Some(item.origin),
+    })
+}
+
+/// Takes the items of a batch through all stages one after the other.
+fn feed_lanes<S: LongSink>(
+    stages: &[Stage],
+    first_stage: u32,
+    env: &Env,
+    batch: &Batch,
+    sink: &mut S,
+) -> Result<Fed, NoMemory>
+    requires numbered { first_stage + length stages.now < 2 ^ 32 }
+    requires wants { S.flow sink.old ≡ Flow.More }
+    ensures fed { (xs : List Item) → S.has_taken sink.old xs → IsFed S.has_taken xs
+        (pipe first_stage (stages_of stages.now) env.now batch.now) result sink.new }
+    ensures flow { S.flow sink.new ≡ flow_after result }
+    ensures refused { OnErr result S.takes_memory }
+{
+    match feed_all(stages, first_stage, env, batch, sink)? {
+        Fed::More => Ok(fed_by(batch.end())),
+        stopped => Ok(stopped),
+    }
+}
+
+/// Gives the sink the items of a batch one after the other.
+fn give<S: LongSink>(batch: &Batch, sink: &mut S) -> Result<Fed, NoMemory>
+    requires wants { S.flow sink.old ≡ Flow.More }
+    ensures fed { (xs : List Item) → S.has_taken sink.old xs → IsFed S.has_taken xs batch.now result sink.new }
+    ensures flow { S.flow sink.new ≡ flow_after result }
+    ensures refused { OnErr result S.takes_memory }
+{
+    for position in 0..batch.count() {
+        match sink.accept(batch.item_at(position))? {
+            Flow::More => {}
+            Flow::Enough => return Ok(Fed::Enough),
+        }
+    }
+    Ok(fed_by(batch.end()))
+}
+
+/// What becomes of items after which the walk ends so.
+fn fed_by(end: End) -> Fed
+    ensures { result ≡ fed_of end }
+{
+    match end {
+        End::Done => Fed::More,
+        End::Fault(fault) => Fed::Fault(fault),
+    }
+}
