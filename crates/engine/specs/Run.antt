@@ -1,11 +1,11 @@
 -- Meaning: what a run writes, from the bytes of the column file and of the job file to the bytes of the report. Read this first.
 --   bytes of the column file → columns         columns/specs/Cells, Table, Refusals
 --   bytes of the job file → texts of jobs      stream_tokens/specs/JobTexts, Tokens
---   texts of jobs         → jobs               JobGrammar, JobRefusals; their lambdas: lambda_expr/specs/Grammar, Refusals
---   jobs                  → answers            job_plan/specs/Meaning; their walks: trace/specs/Cover, Stages, Trace
+--   texts of jobs         → jobs               job_language/specs/Files, Verdicts, Grammar, Table; their lambdas: lambda_expr/specs/Grammar, Refusals
+--   jobs                  → answers            job_plan/specs/FileAnswers, Walks; their walks: trace/specs/Cover, Stages, Trace
 --   answers               → bytes of the report     report/specs/Text, Json
 -- Reports of small files, worked out: report/specs/Worked.
-use Rattle.std.specs.Prelude.{◌≡◌, ◌≢◌, ℕ, ◌<◌, List, [], length, take, Option, Some, None, Result, Ok, Err}
+use Rattle.std.specs.Prelude.{◌≡◌, ◌≢◌, ℕ, ◌<◌, List, [], length, not, position, take, Option, Some, None, Result, Ok, Err}
 use Rattle.std.specs.Io.KnownBytes.{Appends, Keeps}
 use Rattle.columns.specs.declared.fault.ColumnFault.{ColumnFault}
 use Rattle.columns.specs.declared.fault.ColumnFault.TheVariants as column
@@ -14,14 +14,16 @@ use Rattle.columns.specs.Table.{NamedColumn}
 use Rattle.job_plan.specs.declared.answer.Answer.{Answer}
 use Rattle.job_plan.specs.declared.settings.Form.{Form}
 use Rattle.job_plan.specs.declared.settings.Form.TheVariants as form
-use Rattle.job_plan.specs.Meaning.{JobTerm, meaning_of, names_of}
+use Rattle.job_language.specs.declared.fault.Cause.TheVariants as cause
+use Rattle.job_language.specs.declared.fault.JobFault.{JobFault}
+use Rattle.job_language.specs.Files.{Spells, IsRefused}
+use Rattle.job_language.specs.Jobs.{JobTerm, names_of}
+use Rattle.job_plan.specs.FileAnswers.{meaning_of}
+use Rattle.job_plan.specs.Supported.{is_supported}
 use Rattle.report.specs.Json.{report_json}
 use Rattle.report.specs.Text.{report_text}
 use Rattle.engine.specs.declared.running.EngineFault.{EngineFault}
-use Rattle.engine.specs.declared.running.EngineFault.TheVariants.{Columns, Jobs, JobsRead, NoMemory, Write}
-use Rattle.engine.specs.declared.jobs.fault.Cause.TheVariants as cause
-use Rattle.engine.specs.declared.jobs.fault.JobFault.{JobFault}
-use Rattle.engine.specs.JobRefusals.{Spells, IsRefused}
+use Rattle.engine.specs.declared.running.EngineFault.TheVariants.{Columns, Jobs, JobsRead, NoMemory, Write, NotYet}
 
 -- what a run is given: the bytes of the column file, if there is one, those of the job file, and the form of the report
 pub record Input : Type 0 where
@@ -39,13 +41,18 @@ abbrev pub report_in : Form → List (List ℕ) → List Answer → List ℕ
 report_in form.Text names answers = report_text names answers
 report_in form.Json names answers = report_json names answers
 
--- the report of the jobs that the input spells: what one thread writes that takes the jobs in file order and each
+-- the place of the first job that isn't supported, if there is one
+abbrev pub first_unsupported : List JobTerm → Option ℕ
+first_unsupported jobs = position (λ job. not (is_supported job)) jobs
+
+-- the report of the jobs that the input spells, all of which are supported: what one thread writes that takes the jobs in file order and each
 -- source in encounter order, with the first fault that it meets in place of the job's answer
 pub record IsReport (input : Input) (report : List ℕ) : Type 0 where
   pub columns : List NamedColumn
   pub given : columns_of input.columns ≡ Ok columns
   pub jobs : List JobTerm
-  pub spelled : Spells input.jobs jobs
+  pub spelled : Spells input.jobs columns jobs
+  pub supported : first_unsupported jobs ≡ None
   pub written : report ≡ report_in input.form (names_of jobs) (meaning_of jobs)
 
 -- a writer that held these bytes before and those after took the report and nothing else
@@ -65,8 +72,16 @@ HasColumns input = (columns : List NamedColumn) × (columns_of input.columns ≡
 pub record IsJobFault (input : Input) (f : JobFault) : Type 0 where
   pub columns : List NamedColumn
   pub given : columns_of input.columns ≡ Ok columns
-  pub refused : f.cause ≢ cause.NoMemory → IsRefused input.jobs f
+  pub refused : f.cause ≢ cause.NoMemory → IsRefused input.jobs columns f
   pub memory : f.cause ≡ cause.NoMemory → f.line ≡ 0
+
+-- the input spells jobs, of which this is the first that isn't supported
+pub record IsNotYet (input : Input) (n : ℕ) : Type 0 where
+  pub columns : List NamedColumn
+  pub given : columns_of input.columns ≡ Ok columns
+  pub jobs : List JobTerm
+  pub spelled : Spells input.jobs columns jobs
+  pub unsupported : first_unsupported jobs ≡ Some n
 
 -- what a fault other than a failed write says of the input
 abbrev pub Says : Input → EngineFault → Type 0
@@ -75,6 +90,7 @@ Says input (Jobs f) = IsJobFault input f
 Says input JobsRead = HasColumns input
 Says input NoMemory = HasColumns input
 Says input (Write n) = ⊥
+Says input (NotYet n) = IsNotYet input n
 
 -- what a fault says of the input, and what the writer then holds: after a failed write the first bytes of the report
 -- went out and no others; otherwise nothing was written

@@ -1,22 +1,23 @@
 //! A run: from the bytes of the column file and of the job file to the bytes of the report.
 
 ghost use Rattle.counted_io.specs.FailureCounts.{HasRisen};
-ghost use Rattle.engine.specs.Jobs.{jobs_of};
 ghost use Rattle.engine.specs.Refused.{IsEarly};
 ghost use Rattle.engine.specs.Given.{HasRisenThere, IsGiven, IsWhole};
-ghost use Rattle.engine.specs.Run.{Faulted, Input, IsReport, Reported, columns_of, report_in};
-ghost use Rattle.job_plan.specs.Meaning.{meaning_of, names_of};
+ghost use Rattle.engine.specs.Run.{Faulted, Input, IsReport, Reported, columns_of, first_unsupported, report_in};
+ghost use Rattle.job_language.specs.Jobs.{jobs_of, names_of};
+ghost use Rattle.job_plan.specs.FileAnswers.{meaning_of};
+ghost use Rattle.job_plan.specs.Parts.{plans_in};
+ghost use Rattle.job_plan.specs.Plans.{PlanTerm, planned_answer};
 ghost use Rattle.job_plan.specs.SettingsParts.{form_of};
 ghost use Rattle.report.specs.Named.{IsNamed, IsText};
 ghost use Rattle.std.specs.Io.KnownBytes.{Keeps};
-ghost use Rattle.std.specs.Prelude.{◌≡◌, ◌≢◌, ◌≤◌, ℕ, All, List, length, Option, Ok, IfErr, IfOk, OnOk};
+ghost use Rattle.std.specs.Prelude.{◌≡◌, ◌≢◌, ℕ, All, List, [], length, map, Option, None, Ok, IfErr, IfOk, OnOk};
+ghost use Rattle.stream_tokens.specs.Forms.{IsName};
 
-use crate::jobs::fault::JobFault;
-use crate::jobs::file::read_jobs;
-use crate::jobs::job::Job;
-use crate::walk::answer_of;
 use columns::{ColumnFault, Columns, CountedRead, ReadAllFault, read_all_of, read_columns};
-use job_plan::{Answer, Form, Settings};
+use job_language::{Job, JobFault, read_jobs};
+use job_plan::{Answer, Form, JobPlan, Plan, Settings, is_supported, walk};
+use lambda_expr::Env;
 use report::{CountedWrite, WriteFault, json, text, write_all_of};
 use std::alloc::Global;
 use stream_tokens::{Bytes, NoMemory};
@@ -24,7 +25,7 @@ use thiserror::Error;
 
 /// Why a run gives no report, or only a part of it. Unless it is `Write`, nothing was written.
 ///
-/// The numbers are stable. The text is the program's line on standard error, without the program's name.
+/// The numbers are stable; there is no 6. The text is the program's line on standard error, without the program's name.
 #[derive(Clone, Copy, Debug, PartialEq, Eq, Error)]
 pub enum EngineFault {
     /// 1: the column file is refused, a read of it failed, or memory for it was refused.
@@ -42,15 +43,19 @@ pub enum EngineFault {
     /// 5: a write failed; the first `written` bytes of the report went out, and no others.
     #[error("write failed after {written} bytes")]
     Write { written: u64 },
+    /// 7: the files are as they should be, but this job, counted from 0, has an operation that isn't supported
+    /// yet. It is the first such job, and no job was run. The line counts from 1.
+    #[error("job {} not served yet", .job.saturating_add(1))]
+    NotYet { job: usize },
 }
 
 /// Reads the columns, if there is a reader of them, then the job file whole; checks the jobs, runs them,
 /// builds the report whole and writes it.
 ///
-/// Of the settings only the form of the report is used yet: it uses one thread and walks each source once,
-/// with at most one call of each stage per item. The cells of the columns, the job file and the report are
-/// each held in memory once, and the column file while its cells are read. If the column file is refused,
-/// the job file isn't read.
+/// Of the settings only the form of the report is used yet: it uses one thread and walks each source once, no
+/// further than its job wants, with at most one call of each stage per item. The cells of the columns, the job file
+/// and the report are each held in memory once, and the column file while its cells are read. If the column file is
+/// refused, the job file isn't read; if one job isn't supported, none is run.
 pub fn run<C: CountedRead, J: CountedRead, W: CountedWrite>(
     alloc: Global,
     columns: Option<&mut C>,
@@ -133,26 +138,36 @@ pub fn report_of(
         → IsEarly (record { columns = file; jobs = bytes.now; form = form }) fault) }
     ensures read { IfErr result (λ fault. fault ≢ EngineFault.JobsRead) }
 {
-    let _columns = columns;
-    let jobs = match read_jobs(alloc, bytes) {
+    let jobs = match read_jobs(alloc, bytes, columns) {
         Ok(jobs) => jobs,
         Err(fault) => return Err(EngineFault::Jobs(fault)),
     };
+    if let Some(job) = first_unsupported(&jobs) {
+        return Err(EngineFault::NotYet { job });
+    }
     match written(alloc, jobs, form) {
         Ok(report) => Ok(report),
         Err(_) => Err(EngineFault::NoMemory),
     }
 }
 
-/// The report of these jobs.
-fn written(alloc: Global, jobs: Vec<Job>, form: Form) -> Result<Vec<u8>, NoMemory>
-    requires few { All (λ job. length job.stages.items ≤ 32) jobs.items }
-    requires text { All IsText (names_of (jobs_of jobs.items)) }
-    ensures { IfOk result (λ report. report.items
-        ≡ report_in form (names_of (jobs_of jobs.items)) (meaning_of (jobs_of jobs.items))) }
+/// The place of the first job that isn't supported.
+fn first_unsupported(jobs: &[Job]) -> Option<usize>
+    ensures { result ≡ first_unsupported (jobs_of jobs.now) }
 {
-    let answers = answers_of(alloc, &jobs)?;
-    let names = names_in(alloc, jobs)?;
+    jobs.iter().position(|job| !is_supported(job))
+}
+
+/// The report of jobs, all of which are supported.
+fn written(alloc: Global, jobs: Vec<Job>, form: Form) -> Result<Vec<u8>, NoMemory>
+    requires supported { first_unsupported (jobs_of jobs.items) ≡ None }
+    requires names { All IsName (names_of (jobs_of jobs.items)) }
+    ensures { IfOk result (λ report. report.items
+        ≡ report_in form (names_of (jobs_of jobs.entry.items)) (meaning_of (jobs_of jobs.entry.items))) }
+{
+    let plan = Plan::of(alloc, jobs)?;
+    let answers = answers_of(alloc, &plan.jobs)?;
+    let names = names_in(alloc, plan.jobs)?;
     printed(alloc, &names, &answers, form)
 }
 
@@ -174,21 +189,21 @@ fn printed(
     }
 }
 
-/// The answers of jobs, in their order.
-fn answers_of(alloc: Global, jobs: &[Job]) -> Result<Vec<Answer>, NoMemory>
-    requires few { All (λ job. length job.stages.items ≤ 32) jobs.now }
-    ensures { IfOk result (λ answers. answers.items ≡ meaning_of (jobs_of jobs.now)) }
+/// The answers of planned jobs, in their order.
+fn answers_of(alloc: Global, jobs: &[JobPlan]) -> Result<Vec<Answer>, NoMemory>
+    ensures { IfOk result (λ answers. answers.items ≡ map (planned_answer []) (plans_in jobs.now)) }
 {
+    let env = Env::empty(alloc);
     let mut answers = Vec::new(alloc);
     for job in jobs {
-        answers.push(answer_of(alloc, job)?)?;
+        answers.push(walk(alloc, job, &env)?)?;
     }
     Ok(answers)
 }
 
-/// The names of jobs, in their order; nothing is copied.
-fn names_in(alloc: Global, jobs: Vec<Job>) -> Result<Vec<Bytes>, NoMemory>
-    ensures { IfOk result (λ names. names.items ≡ names_of (jobs_of jobs.items)) }
+/// The names of planned jobs, in their order; nothing is copied.
+fn names_in(alloc: Global, jobs: Vec<JobPlan>) -> Result<Vec<Bytes>, NoMemory>
+    ensures { IfOk result (λ names. names.items ≡ map (λ (p : PlanTerm). p.name) (plans_in jobs.entry.items)) }
 {
     let mut names = Vec::new(alloc);
     for job in jobs {

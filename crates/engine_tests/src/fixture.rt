@@ -59,23 +59,18 @@ pub fn reports(alloc: Global, jobs: &str, report: &str) -> bool {
 }
 
 /// Whether `tell` writes this line for the fault, without its line feed, and answers this status.
-pub fn is_told(alloc: Global, fault: &EngineFault, line: &str, status: u8) -> bool {
-    let mut told = Vec::new(alloc);
-    tell(fault, &mut told) == status && is_line(&told, line)
-}
-
-/// Whether this job file is refused by this line, with status 1, and nothing is written.
-pub fn is_refused(alloc: Global, jobs: &[u8], line: &str) -> bool {
-    is_refused_with(alloc, None, jobs, line)
+pub fn has_line(alloc: Global, fault: &EngineFault, line: &str, status: u8) -> bool {
+    let mut written = Vec::new(alloc);
+    tell(fault, &mut written) == status && is_line(&written, line)
 }
 
 /// Whether a run of this job file with these columns is refused by this line, with status 1, and nothing is
 /// written.
-pub fn is_refused_with(alloc: Global, columns: Option<&[u8]>, jobs: &[u8], line: &str) -> bool {
+pub fn is_refused(alloc: Global, columns: Option<&[u8]>, jobs: &[u8], line: &str) -> bool {
     let outcome = run_with(alloc, columns, jobs, Form::Text);
     match outcome.answer {
         Ok(()) => false,
-        Err(fault) => outcome.written.is_empty() && is_told(alloc, &fault, line, 1),
+        Err(fault) => outcome.written.is_empty() && has_line(alloc, &fault, line, 1),
     }
 }
 

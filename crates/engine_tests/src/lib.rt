@@ -1,15 +1,13 @@
 //! Tests of the public calls of `engine` and `report`, as another program makes them.
 //!
-//! They hold what no contract says: reports worked out by hand, sums and quotients by Java 17, the
-//! text of each fault, and readers and writers that give or take little, or fail.
+//! They hold what no contract says: reports worked out by hand and by Java 17, the text of each fault, and readers
+//! and writers that give or take little, or fail.
 #![tactic(auto)]
 
 #[cfg(test)]
 mod answers;
 #[cfg(test)]
 mod fixture;
-#[cfg(test)]
-mod job_files;
 #[cfg(test)]
 mod refusals;
 #[cfg(test)]

@@ -1,8 +1,9 @@
 //! Job files that are refused: which job, why, and the line on standard error.
 
-use crate::fixture::{halves, is_refused, is_refused_with, is_told};
+use crate::fixture::{halves, has_line, is_refused};
 use columns::ColumnFault;
-use engine::{Cause, EngineFault, JobFault};
+use engine::EngineFault;
+use job_language::{Cause, JobFault};
 use lambda_expr::ReadFault;
 use std::alloc::Global;
 
@@ -34,7 +35,7 @@ s = range(1, 2, 3).sum()
 s = range(0, 01).sum()
 s = of(1).sum(0)
 s = of(1).toArray(x)
-s = of(1).count()
+s = of(1).average()
 s = of(1).sum() sum
 s = of(1).sum().sum()
 s = of(1).map().sum()
@@ -47,9 +48,13 @@ s = of(1).map(x -> 007).sum()
 s = of(1).map(x -> x ++ 1).sum()
 s = of(1).map(x -> x # 1).sum()
 .sum()
-s = of(1).sum();
-s = LongStream.range(0, 1).sum()
-s = of(Long.MAX_VALUE).sum()
+s = of(1).sum();;
+s = LongStreams.range(0, 1).sum()
+s = concat(of(1)).sum()
+s = of(-Long.MAX_VALUE).sum()
+s = column(a).sum()
+s = of(1).limit(x -> x).sum()
+s = of(1).reduce().sum()
 \u{feff}\u{feff}s = of(1).sum()
 s = of(9223372036854775808).map(x -> y).sum(0)";
 
@@ -57,7 +62,10 @@ s = of(9223372036854775808).map(x -> y).sum(0)";
 fn a_text_outside_the_grammar_is_a_syntax_fault(rt: HostRuntime) {
     for jobs in OUTSIDE_THE_GRAMMAR.lines() {
         let line = "streamrun: jobs: line 1: syntax";
-        assert!(rt; is_refused(rt.alloc(), jobs.as_bytes(), line), "{jobs}");
+        assert!(rt;
+            is_refused(rt.alloc(), None, jobs.as_bytes(), line),
+            "{jobs}"
+        );
     }
 }
 
@@ -77,6 +85,14 @@ s = of(1).filter(x -> x).sum() => wrong type
 s = of(1).filter(x -> x).map(x -> y).sum() => wrong type
 s = of(1).map(x -> y).sum() => unknown name
 s = of(1).map(x -> y).filter(x -> x).sum() => unknown name
+s = column(\"a\").limit(-1).sum() => unknown column
+s = result(s).limit(-1).sum() => unknown job
+s = of(1).map(x -> $s).limit(-1).sum() => unknown job
+s = range(0, 5).limit(-1).sum() => negative count
+s = range(0, 5).prefix(3, 2, avg).sum() => bad range
+s = range(0, 5).reduce(1, Long::sum) => not identity
+s = range(0, 5).reduce(0, last) => no identity
+s = range(0, 5).reduce((a, b) -> a - b) => operator not listed
 aaaaaaaaaabbbbbbbbbbccccccccccddddddddddeeeeeeeeeeffffffffff12345 = of(1).sum() => too long";
 
 #[test]
@@ -85,8 +101,13 @@ fn the_first_faulty_part_of_a_job_is_the_cause(rt: HostRuntime) {
     for row in FAULTY_PARTS.lines() {
         let (jobs, cause) = halves(row);
         let line = format!(in alloc; "streamrun: jobs: line 1: {cause}");
-        let told = line.is_ok_and(|line| is_refused(alloc, jobs.as_bytes(), line.as_str()));
-        assert!(rt; told, "{row}");
+        let refused = line.is_ok_and(|line| is_refused(
+            alloc,
+            None,
+            jobs.as_bytes(),
+            line.as_str(),
+        ));
+        assert!(rt; refused, "{row}");
     }
 }
 
@@ -103,8 +124,52 @@ fn the_first_faulty_job_is_reported_with_its_line(rt: HostRuntime) {
         "line 3: syntax|line 4: syntax|line 3: same name|line 3: unknown name|line 2: syntax";
     for (jobs, want) in files.into_iter().zip(lines.split('|')) {
         let line = format!(in rt.alloc(); "streamrun: jobs: {want}");
-        let told = line.is_ok_and(|line| is_refused(rt.alloc(), jobs, line.as_str()));
-        assert!(rt; told, "{want}");
+        let refused = line.is_ok_and(|line| is_refused(rt.alloc(), None, jobs, line.as_str()));
+        assert!(rt; refused, "{want}");
+    }
+}
+
+#[test]
+fn a_job_that_is_not_supported_is_named_after_every_refusal(rt: HostRuntime) {
+    let alloc = rt.alloc();
+    for (jobs, line) in [
+        (
+            "p = of(0).map(x -> 1 / x).prefix(sum).sum()",
+            "job 1 not served yet",
+        ),
+        (
+            "a = of(1).sum()\n\np = of(2, 1).limit(1).prefix(0, 1, max).sum()\nq = of(1).prefix(sum).sum()",
+            "job 2 not served yet",
+        ),
+        (
+            "a = of(2).toArray()\nb = concat(of(1), result(a)).sum()",
+            "job 2 not served yet",
+        ),
+        (
+            "a = of(2).sum()\nb = of(1).sum()\nc = of(1).takeWhile(x -> x < $a).sum()",
+            "job 3 not served yet",
+        ),
+        (
+            "a = of(2).sum()\nb = of(1).anyMatch(x -> x == -$a)",
+            "job 2 not served yet",
+        ),
+        (
+            "p = of(1).prefix(sum).sum()\n\nq = of(1).average()",
+            "jobs: line 3: syntax",
+        ),
+        (
+            "p = of(1).prefix(sum).sum()\np = of(1).sum()",
+            "jobs: line 2: same name",
+        ),
+    ] {
+        let text = format!(in alloc; "streamrun: {line}");
+        let refused = text.is_ok_and(|text| is_refused(
+            alloc,
+            Some(b"a\n1\n"),
+            jobs.as_bytes(),
+            text.as_str(),
+        ));
+        assert!(rt; refused, "{jobs}");
     }
 }
 
@@ -128,13 +193,13 @@ fn a_refused_column_file_is_reported_before_the_job_file_is_read(rt: HostRuntime
         (COMMAS, "more than 256 columns"),
     ] {
         let line = format!(in alloc; "streamrun: columns: {want}");
-        let told = line.is_ok_and(|line| is_refused_with(
+        let refused = line.is_ok_and(|line| is_refused(
             alloc,
             Some(columns.as_bytes()),
             b"junk",
             line.as_str(),
         ));
-        assert!(rt; told, "{columns}");
+        assert!(rt; refused, "{columns}");
     }
 }
 
@@ -142,7 +207,7 @@ fn a_refused_column_file_is_reported_before_the_job_file_is_read(rt: HostRuntime
 fn has_text(alloc: Global, cause: Cause, text: &str) -> bool {
     let fault = EngineFault::Jobs(JobFault { line: 7, cause });
     let line = format!(in alloc; "streamrun: jobs: line 7: {text}");
-    line.is_ok_and(|line| is_told(alloc, &fault, line.as_str(), 1))
+    line.is_ok_and(|line| has_line(alloc, &fault, line.as_str(), 1))
 }
 
 #[test]
@@ -151,6 +216,8 @@ fn each_fault_has_its_line_and_status(rt: HostRuntime) {
     let causes = [
         Cause::Syntax,
         Cause::SameName,
+        Cause::UnknownColumn,
+        Cause::NotAnArray,
         Cause::TooLong,
         Cause::Expr(ReadFault::Syntax { column: 9 }),
         Cause::Expr(ReadFault::WrongType),
@@ -158,7 +225,8 @@ fn each_fault_has_its_line_and_status(rt: HostRuntime) {
         Cause::Expr(ReadFault::TooDeep),
         Cause::Expr(ReadFault::LiteralTooLarge),
     ];
-    let texts = "syntax|same name|too long|expression syntax at column 9|wrong type|unknown name\
+    let texts =
+        "syntax|same name|unknown column|not an array|too long|expression syntax at column 9|wrong type|unknown name\
         |too deep|literal too large";
     for (cause, text) in causes.into_iter().zip(texts.split('|')) {
         assert!(rt; has_text(alloc, cause, text), "{text}");
@@ -167,10 +235,10 @@ fn each_fault_has_its_line_and_status(rt: HostRuntime) {
         line: 0,
         cause: Cause::NoMemory,
     });
-    assert!(rt; is_told(alloc, &memory, "streamrun: out of memory", 3));
-    assert!(rt; is_told(alloc, &EngineFault::NoMemory, "streamrun: out of memory", 3));
+    assert!(rt; has_line(alloc, &memory, "streamrun: out of memory", 3));
+    assert!(rt; has_line(alloc, &EngineFault::NoMemory, "streamrun: out of memory", 3));
     assert!(rt;
-        is_told(
+        has_line(
             alloc,
             &EngineFault::JobsRead,
             "streamrun: jobs: read failed",
@@ -178,9 +246,12 @@ fn each_fault_has_its_line_and_status(rt: HostRuntime) {
         )
     );
     let columns = EngineFault::Columns(ColumnFault::Read);
-    assert!(rt; is_told(alloc, &columns, "streamrun: columns: read failed", 4));
+    assert!(rt; has_line(alloc, &columns, "streamrun: columns: read failed", 4));
     let columns = EngineFault::Columns(ColumnFault::NoMemory);
-    assert!(rt; is_told(alloc, &columns, "streamrun: out of memory", 3));
+    assert!(rt; has_line(alloc, &columns, "streamrun: out of memory", 3));
+    let last = EngineFault::NotYet { job: usize::MAX };
+    let line = "streamrun: job 18446744073709551615 not served yet";
+    assert!(rt; has_line(alloc, &last, line, 1));
     let write = EngineFault::Write { written: 4 };
-    assert!(rt; is_told(alloc, &write, "streamrun: write failed after 4 bytes", 4));
+    assert!(rt; has_line(alloc, &write, "streamrun: write failed after 4 bytes", 4));
 }

@@ -1,5 +1,4 @@
 -- The lemmas of this crate; the first line of each file says what they are about.
-pub mod Joining
 pub mod Positions
 pub mod Elements
 pub mod Parting

@@ -1,7 +1,5 @@
 -- Condition: the files of this crate's definitions; the first line of each says what it is.
-pub mod Answers
 pub mod FileAnswers
-pub mod Meaning
 pub mod Parts
 pub mod Pieces
 pub mod Plans

@@ -2,16 +2,14 @@
 //!
 //! Stands on `job_language`, for jobs, and on `trace`, `reduce_ops`, `slice_ops` and `find_ops`, which make of a walk
 //! what stages and terminals ask. Used by `report`, which writes answers, and by whatever runs jobs.
-//! Two readings stand side by side until the program reads every operation. The older one is `meaning_of` of
-//! `specs/Meaning.antt`, with its laws in `laws.rt`. The newer one is `meaning_of` of `specs/FileAnswers.antt`; begin
-//! with `specs/Walks.antt`, then `specs/Plans.antt`. A job is cut into segments (`Plan::of`); `leaf` takes a piece of a
-//! segment's source to a `Part`, two parts side by side merge, and `Part::finish` gives the next source or the answer.
-//! `walk_tree` does all of this on one thread; `plan_laws.rt` says that it is the answer by stages.
+//! Begin with `meaning_of` of `specs/FileAnswers.antt`, then `specs/Walks.antt` and `specs/Plans.antt`. A job is cut
+//! into segments (`Plan::of`); `leaf` takes a piece of a segment's source to a `Part`, two parts side by side merge, and
+//! `Part::finish` gives the next source or the answer. `walk_tree` does all of this on one thread; `plan_laws.rt` says
+//! that it is the answer by stages. `is_supported` says which jobs can be run.
 //! Not promised: that pieces are walked at the same time, or that a piece is walked no further than needed.
 #![tactic(auto)]
 
 mod answer;
-mod laws;
 mod leaves;
 mod outcome;
 mod part;
@@ -27,7 +25,6 @@ mod values;
 mod walks;
 
 pub use answer::Answer;
-pub use laws::{answers_join, answers_of_one_more, sum_of_one_more, sums_join, values_join};
 pub use leaves::{leaf, leaf_with};
 pub use outcome::Outcome;
 pub use part::{FoldPart, Part};
