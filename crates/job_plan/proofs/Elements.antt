@@ -30,13 +30,13 @@ module _ {A : Type 0} where
   drop_of_none zero = refl
   drop_of_none (suc n) = refl
 
-  -- the first so many of two lists
+  -- the first n elements of two lists
   pub take_both : (n : ℕ) (xs ys : List A) → take n (xs ++ ys) ≡ take n xs ++ take (n - length xs) ys
   take_both n [] ys = let e : n ≡ n - 0 = omega arith in ap (λ m. take m ys) e ∙ ap (λ (zs : List A). zs ++ take (n - 0) ys) (sym (take_of_none n))
   take_both zero (x ∷ xs) ys = let e : 0 - suc (length xs) ≡ 0 = omega arith in sym (ap (λ m. take m ys) e ∙ take_none ys)
   take_both (suc n) (x ∷ xs) ys = let e : n - length xs ≡ suc n - suc (length xs) = omega arith in ap (λ (zs : List A). x ∷ zs) (take_both n xs ys ∙ ap (λ m. take n xs ++ take m ys) e)
 
-  -- two lists without the first so many
+  -- two lists without their first n elements
   pub drop_both : (n : ℕ) (xs ys : List A) → drop n (xs ++ ys) ≡ drop n xs ++ drop (n - length xs) ys
   drop_both n [] ys = let e : n ≡ n - 0 = omega arith in ap (λ m. drop m ys) e ∙ ap (λ (zs : List A). zs ++ drop (n - 0) ys) (sym (drop_of_none n))
   drop_both zero (x ∷ xs) ys = let e : 0 - suc (length xs) ≡ 0 = omega arith in sym (ap (λ m. (x ∷ xs) ++ drop m ys) e ∙ ap (λ (zs : List A). (x ∷ xs) ++ zs) (drop_none ys))

@@ -1,10 +1,9 @@
-use Rattle.std.proofs.Common.{◌≡◌, ◌+◌, ◌≤◌, suc, [], ◌∷◌, ◌++◌, length, length-append, refl, sym, ap, ◌∙◌, arith, rules}
+use Rattle.std.proofs.Common.{◌≡◌, ◌+◌, suc, [], ◌∷◌, ◌++◌, length, length-append, sym, ap, ◌∙◌, arith, rules}
 use Rattle.std.specs.Vec.Iter.{into_iter_items}
-use Rattle.trace.specs.Stages.{stage_of, stages_of}
-use Rattle.slice_ops.specs.Slices.{slice_of}
-use Rattle.job_language.specs.Jobs.{item, slice, job_stage_of, job_stages_of, terminal_of}
-use Rattle.job_plan.specs.Parts.{end_in, segments_in}
-use Rattle.job_plan.specs.Plans.{EndTerm, end_of, segments_from}
+use Rattle.trace.specs.Stages.{stages_of}
+use Rattle.job_language.specs.Jobs.{job_stage_of, job_stages_of, terminal_of}
+use Rattle.job_plan.specs.Parts.{segments_in}
+use Rattle.job_plan.specs.Plans.{EndTerm, segments_from}
 use Rattle.job_plan.proofs.Parting.{length-stages_of, no_items, stages_more, segments_more, segment_on}
 use Rattle.job_plan.proofs.plan.cut.Goals as goal
 

@@ -1,8 +1,5 @@
-use Rattle.std.proofs.Common.{◌≡◌, ◌+◌, ◌-◌, List, [], ◌∷◌, ◌++◌, length, length-append, take, drop, Ok, Err, sym, ap, subst, ◌∙◌, arith, rules}
+use Rattle.std.proofs.Common.{◌≡◌, ◌+◌, ◌-◌, ◌∷◌, ◌++◌, length, length-append, take, drop, Ok, Err, sym, ap, ◌∙◌, arith, rules}
 use Rattle.std.proofs.lemmas.Result.{err_from_is_err_and}
-use Rattle.trace.specs.declared.item.Item.{Item}
-use Rattle.trace.specs.declared.item.End.TheVariants as end
-use Rattle.trace.specs.declared.feeding.Fed.TheVariants as fed
 use Rattle.trace.specs.Cover.{placed}
 use Rattle.job_language.specs.Jobs.{source_of, sources_of}
 use Rattle.job_plan.specs.Parts.{segment_in}

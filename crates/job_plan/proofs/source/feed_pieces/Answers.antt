@@ -1,4 +1,4 @@
-use Rattle.std.proofs.Common.{◌≡◌, ◌+◌, ◌-◌, ◌≤◌, List, [], ◌∷◌, ◌++◌, length, drop, flat_map, Ok, Err, Vec, Global, refl, sym, ap, subst, ◌∙◌, append_assoc, arith, rules}
+use Rattle.std.proofs.Common.{◌≡◌, ◌+◌, ◌-◌, ◌≤◌, List, [], ◌++◌, length, drop, flat_map, Ok, Err, Vec, Global, refl, sym, ap, subst, ◌∙◌, append_assoc, arith, rules}
 use Rattle.std.proofs.lemmas.Result.{err_from_is_err_and}
 use Rattle.std.proofs.lemmas.List.{append-nil}
 use Rattle.trace.specs.declared.item.Item.{Item}
@@ -10,7 +10,7 @@ use Rattle.job_plan.specs.Parts.{segment_in}
 use Rattle.job_plan.specs.Pieces.{elements}
 use Rattle.job_plan.specs.Plans.{walk_of}
 use Rattle.job_plan.specs.Spans.{after}
-use Rattle.job_plan.proofs.Elements.{drop_none, next_elements, none_after}
+use Rattle.job_plan.proofs.Elements.{next_elements, none_after}
 use Rattle.job_plan.proofs.Feeding.{fed_none, fed_both, fed_stopped}
 use Rattle.job_plan.proofs.source.feed_pieces.Goals as goal
 

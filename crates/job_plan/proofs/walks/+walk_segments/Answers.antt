@@ -1,4 +1,4 @@
-use Rattle.std.proofs.Common.{◌≡◌, ◌∷◌, None, refl, sym, ap, ◌∙◌, rules}
+use Rattle.std.proofs.Common.{◌≡◌, ◌∷◌, None, sym, ap, ◌∙◌, rules}
 use Rattle.job_plan.specs.Parts.{segment_in, segments_in, walk_in}
 use Rattle.job_plan.specs.Pieces.{piece_of}
 use Rattle.job_plan.specs.Plans.{segments_answer}

@@ -1,4 +1,4 @@
-use Rattle.std.proofs.Common.{sym, ap, ◌∙◌, Some, None, Ok, rules, FitsSigned, w64, ℤ}
+use Rattle.std.proofs.Common.{sym, ap, ◌∙◌, rules, FitsSigned, w64}
 use Rattle.std.proofs.lemmas.Int.{to_z-of_z}
 use Rattle.reduce_ops.specs.Folds.{fold_from, fold_items, reduced, reduced_from}
 use Rattle.reduce_ops.specs.Operators.{value_of}

@@ -1,4 +1,4 @@
-use Rattle.std.proofs.Common.{[], ◌∷◌, refl, subst, sym, ap, ◌∙◌}
+use Rattle.std.proofs.Common.{[], ◌∷◌, refl, subst, ap, ◌∙◌}
 use Rattle.trace.specs.declared.item.End.TheVariants as end
 use Rattle.trace.specs.Trace.{Trace, trace, append}
 use Rattle.reduce_ops.specs.Parts.{StandsFor}

@@ -1,6 +1,6 @@
 use Rattle.std.proofs.Common.{[], ◌∷◌, subst}
 use Rattle.trace.specs.declared.item.End.TheVariants as end
-use Rattle.trace.specs.Trace.{Trace, trace}
+use Rattle.trace.specs.Trace.{trace}
 use Rattle.job_plan.specs.declared.part.Part.{Part}
 use Rattle.job_plan.specs.Parts.{EndsFor, end_in}
 use Rattle.job_plan.proofs.Parting.{fold_goes_on}

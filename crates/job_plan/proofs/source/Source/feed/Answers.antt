@@ -1,7 +1,7 @@
-use Rattle.std.proofs.Common.{◌≡◌, true, sym, ap, ◌∙◌, if◌then◌else◌, Bool, rules}
+use Rattle.std.proofs.Common.{sym, ap, ◌∙◌, if◌then◌else◌, Bool}
 use Rattle.trace.specs.declared.item.End.TheVariants as end
 use Rattle.trace.specs.Cover.{placed, too_long}
-use Rattle.trace.specs.Trace.{Trace, trace}
+use Rattle.trace.specs.Trace.{trace}
 use Rattle.job_language.specs.Jobs.{sources_of}
 use Rattle.job_plan.specs.Parts.{segment_in, walk_in}
 use Rattle.job_plan.specs.Pieces.{elements}
