@@ -1,5 +1,5 @@
 -- What names no other job has the same value whatever the numbers of other jobs are.
-use Rattle.std.proofs.Common.{◌≡◌, ℕ, suc, ℤ, pos, Bool, true, false, not, List, [], ◌∷◌, ◌++◌, length, Some, None, Ok, refl, sym, ap, ◌∙◌}
+use Rattle.std.proofs.Common.{◌≡◌, ℕ, suc, ℤ, true, false, not, List, [], ◌∷◌, ◌++◌, length, Ok, refl, ap, ◌∙◌}
 use Rattle.std.specs.Prelude.{◌&&◌}
 use Rattle.lambda_expr.specs.Earlier.{Numbers}
 use Rattle.lambda_expr.specs.Operators.{on, unary_value, binary_value, comparison_value}
@@ -11,11 +11,10 @@ use Rattle.trace.specs.Stages.{StageTerm, map, filter, flat_map, image, passed, 
 use Rattle.trace.specs.Stops.{stop_at, kept_before, kept_from}
 use Rattle.trace.specs.Trace.{Trace, each}
 use Rattle.slice_ops.specs.Slices.{SliceTerm, limit, skip, take_while, drop_while, sliced, end_by, front_ends}
-use Rattle.find_ops.specs.Finds.{Find, first, any_match, all_match, none_match, tested, if_true, if_false, decision, first_decision, find_answer, decided_or, answer_of_none, decision_at_end}
+use Rattle.find_ops.specs.Finds.{Find, first, any_match, all_match, none_match, tested, if_true, if_false, decision, first_decision, decided_or, answer_of_none, decision_at_end}
 use Rattle.find_ops.specs.declared.find_part.Found.TheVariants as found
 use Rattle.std.specs.Option.{option_or}
 use Rattle.job_language.specs.Jobs.{JobStageTerm, item, slice, prefix, prefix_range, TerminalTerm, sum, count, min, max, to_array, reduce, reduce_from, find, JobTerm}
-use Rattle.job_plan.specs.declared.answer.Answer.{Answer}
 use Rattle.job_plan.specs.Walks.{after_stage, after_stages, answer_of, answer_of_job, found_answer, source_walk}
 use Rattle.job_plan.specs.FileAnswers.{NamedAnswer, answer_after, answers_alone, answers_from, answers_in, meaning_of, numbers_in}
 use Rattle.job_plan.specs.Supported.{long_is_alone, truth_is_alone, longs_are_alone, inner_is_alone, stage_is_alone, slice_is_alone, find_is_alone, stage_is_supported, stages_are_supported, terminal_is_supported, sources_are_supported, is_supported, are_supported}

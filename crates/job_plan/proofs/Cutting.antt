@@ -1,18 +1,16 @@
 -- The segments of a job, in turn, give the walk by stages.
-use Rattle.std.proofs.Common.{◌≡◌, ℕ, zero, suc, ◌+◌, ℤ, pos, Bool, true, false, List, [], ◌∷◌, ◌++◌, length, length-append, Option, Some, None, Ok, Err, refl, sym, ap, ◌∙◌, arith}
+use Rattle.std.proofs.Common.{◌≡◌, ℕ, suc, ◌+◌, Bool, true, false, List, [], ◌∷◌, ◌++◌, length, length-append, refl, ap, ◌∙◌, arith}
 use Rattle.std.specs.Prelude.{◌&&◌}
 use Rattle.lambda_expr.specs.Earlier.{Numbers}
 use Rattle.trace.specs.Stages.{StageTerm, through, pipe}
-use Rattle.trace.specs.Trace.{Trace, trace}
+use Rattle.trace.specs.Trace.{Trace}
 use Rattle.reduce_ops.proofs.Folding.{wrapped_sum, counted}
-use Rattle.find_ops.specs.Finds.{find_answer}
 use Rattle.slice_ops.specs.Slices.{sliced}
 use Rattle.job_language.specs.Jobs.{JobStageTerm, item, slice, prefix, prefix_range, TerminalTerm, sum, count, min, max, to_array, reduce, reduce_from, find, JobTerm}
 use Rattle.job_plan.specs.declared.answer.Answer.{Answer}
 use Rattle.job_plan.specs.declared.answer.Answer.TheVariants as answer
-use Rattle.job_plan.specs.declared.outcome.Outcome.{Outcome}
 use Rattle.job_plan.specs.Supported.{is_supported, sources_are_supported, stage_is_supported, stages_are_supported, terminal_is_supported}
-use Rattle.job_plan.specs.Walks.{after_stage, after_stages, answer_of, answer_of_job, source_walk, unless_fault}
+use Rattle.job_plan.specs.Walks.{after_stages, answer_of, answer_of_job, source_walk, unless_fault}
 use Rattle.job_plan.specs.Plans.{end_of, ended, on_outcome, plan_of, planned_answer, segments_answer, segments_from}
 
 pub and_left : (a b : Bool) → (a && b) ≡ true → a ≡ true

@@ -1,5 +1,5 @@
 -- Elements at positions of a list, and of two lists one after the other.
-use Rattle.std.proofs.Common.{get_or, FitsSigned, w64, int_lt, unsigned_abs, ◌-ℤ◌, Bool, true, false, if◌then◌else◌, subst, ◌≡◌, ℕ, zero, suc, ◌+◌, ◌-◌, ◌<◌, ◌≤◌, min, ℤ, pos, ◌+ℤ◌, List, [], ◌∷◌, ◌++◌, length, length-append, take, drop, Option, Some, None, refl, sym, ap, ◌∙◌, arith}
+use Rattle.std.proofs.Common.{get_or, FitsSigned, w64, int_lt, unsigned_abs, ◌-ℤ◌, Bool, true, false, if◌then◌else◌, subst, ◌≡◌, ℕ, zero, suc, ◌+◌, ◌-◌, ◌<◌, ◌≤◌, min, ℤ, pos, ◌+ℤ◌, List, [], ◌∷◌, ◌++◌, length, take, drop, Option, Some, None, refl, sym, ap, ◌∙◌, arith}
 use Rattle.std.proofs.lemmas.Int.{ints}
 use Rattle.std.specs.List.{flat_map}
 use Rattle.trace.proofs.Cutting.{drop_on}

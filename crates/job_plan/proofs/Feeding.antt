@@ -1,5 +1,5 @@
 -- Walks over pieces side by side, and how they end.
-use Rattle.std.proofs.Common.{◌≡◌, ℕ, suc, ◌<◌, Bool, true, false, is_some, List, [], ◌∷◌, ◌++◌, length, take, drop, Option, Some, None, Result, Ok, Err, refl, sym, ap, subst, ◌∙◌, append_assoc, arith}
+use Rattle.std.proofs.Common.{◌≡◌, ℕ, List, [], ◌++◌, take, drop, Option, Some, None, Result, Ok, refl, sym, ap, subst, ◌∙◌}
 use Rattle.std.specs.declared.alloc.AllocError.{AllocError}
 use Rattle.std.proofs.lemmas.List.{append-nil, take-append-drop}
 use Rattle.lambda_expr.specs.Earlier.{Numbers}
@@ -10,8 +10,7 @@ use Rattle.trace.specs.declared.item.End.TheVariants as end
 use Rattle.trace.specs.declared.feeding.Fed.{Fed}
 use Rattle.trace.specs.declared.feeding.Fed.TheVariants as fed
 use Rattle.trace.specs.Sinks.{IsFed}
-use Rattle.trace.specs.Stages.{StageTerm, pipe}
-use Rattle.trace.specs.Trace.{Trace, trace, nothing, then_on, append}
+use Rattle.trace.specs.Trace.{Trace, trace, append}
 use Rattle.trace.proofs.Joining.{append_faulted, append_grouped, pipe_ended, pipe_more}
 use Rattle.trace.proofs.Walking.{IsFed_on, IsFed_ended}
 use Rattle.job_plan.specs.Pieces.{elements, piece_of}

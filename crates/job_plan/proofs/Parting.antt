@@ -1,6 +1,5 @@
 -- Parts of no item, of one more item, of pieces side by side.
-use Rattle.std.proofs.Common.{◌≡◌, ℕ, ℤ, pos, suc, ◌+◌, Bool, true, false, is_some, List, [], ◌∷◌, ◌++◌, length, map as each_of, Option, Some, None, Result, Ok, Err, refl, sym, ap, subst, ◌∙◌, append_assoc, arith}
-use Rattle.std.proofs.lemmas.List.{append-nil}
+use Rattle.std.proofs.Common.{◌≡◌, ℕ, ℤ, pos, suc, Bool, true, false, List, [], ◌∷◌, ◌++◌, length, map as each_of, Option, Ok, Err, refl, sym, ap, subst, ◌∙◌, append_assoc, arith}
 use Rattle.lambda_expr.specs.Earlier.{Numbers}
 use Rattle.trace.specs.declared.item.Item.{Item}
 use Rattle.trace.specs.declared.item.Fault.{Fault}
@@ -11,15 +10,11 @@ use Rattle.trace.specs.Stages.{StageTerm, stage_of, stages_of}
 use Rattle.trace.specs.Trace.{Trace, trace, nothing, then_on, append}
 use Rattle.trace.proofs.Joining.{append_faulted, pipe_append}
 use Rattle.reduce_ops.specs.declared.op.Op.{Op}
-use Rattle.reduce_ops.specs.declared.partial.Partial.{Partial}
-use Rattle.reduce_ops.specs.Folds.{ones, fold_from, fold_items, reduced, reduced_from, unless_faulted}
-use Rattle.reduce_ops.specs.Operators.{value_of}
+use Rattle.reduce_ops.specs.Folds.{ones, unless_faulted}
 use Rattle.reduce_ops.specs.Parts.{StandsFor as FoldStands}
 use Rattle.slice_ops.specs.declared.slice_part.SlicePart.{SlicePart}
 use Rattle.slice_ops.proofs.Adding.{settled as slice_settled}
 use Rattle.find_ops.specs.declared.find_part.FindPart.{FindPart}
-use Rattle.find_ops.specs.declared.find_part.Found.{Found}
-use Rattle.find_ops.specs.declared.find_part.Found.TheVariants as found
 use Rattle.find_ops.proofs.Deciding.{settled as find_settled}
 use Rattle.job_plan.specs.declared.answer.Answer.{Answer}
 use Rattle.job_plan.specs.declared.answer.Answer.TheVariants as answer
@@ -31,7 +26,7 @@ use Rattle.job_plan.specs.declared.outcome.Outcome.TheVariants as outcome
 use Rattle.job_plan.specs.declared.segment.Segment.{Segment}
 use Rattle.job_plan.specs.declared.segment.JobPlan.{JobPlan}
 use Rattle.job_plan.specs.Parts.{IsFold, EndsFor, StandsFor, is_settled, is_fault, segment_in, segments_in, plan_in, plans_in}
-use Rattle.job_plan.specs.Plans.{EndTerm, slicing, folding, finding, collecting, SegmentTerm, PlanTerm, counted_as, ended, folded, segments_from, walk_of, last_stage}
+use Rattle.job_plan.specs.Plans.{EndTerm, slicing, folding, finding, collecting, SegmentTerm, PlanTerm, counted_as, ended, segments_from, walk_of, last_stage}
 use Rattle.job_plan.specs.Walks.{unless_fault}
 
 -- ---- folds

@@ -1,8 +1,8 @@
 -- Pieces side by side.
-use Rattle.std.proofs.Common.{◌≡◌, ℕ, ◌≤◌, List, [], Option, Some, None, refl, sym, ap, ◌∙◌}
+use Rattle.std.proofs.Common.{◌≡◌, ℕ, ◌≤◌, Option, Some, None, ap}
 use Rattle.trace.specs.declared.item.End.TheVariants as end
 use Rattle.trace.specs.Trace.{Trace, trace, append}
-use Rattle.job_plan.specs.Pieces.{elements, piece_of}
+use Rattle.job_plan.specs.Pieces.{piece_of}
 use Rattle.job_plan.specs.Spans.{IsNotAfter}
 use Rattle.job_plan.proofs.Elements.{drop_none, elements_join}
 

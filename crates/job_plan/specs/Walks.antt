@@ -1,5 +1,5 @@
 -- Meaning: the walk of a job, and the answer that its terminal gives.
-use Rattle.std.specs.Prelude.{ℕ, suc, ℤ, pos, ◌+ℤ◌, List, [], ◌∷◌, ◌++◌, length, map as each_of, Option, Result, Ok, Err}
+use Rattle.std.specs.Prelude.{ℕ, suc, ℤ, pos, ◌+ℤ◌, List, [], ◌∷◌, ◌++◌, length, map as each_of, Result, Ok, Err}
 use Rattle.lambda_expr.specs.Earlier.{Numbers}
 use Rattle.lambda_expr.specs.Streams.{counted, distance}
 use Rattle.lambda_expr.specs.Wrap.{wrap}
