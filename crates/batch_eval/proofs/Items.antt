@@ -1,6 +1,6 @@
 -- The items of lanes, by their position.
-use Rattle.std.proofs.Common.{◌≡◌, ℕ, zero, suc, ◌+◌, ◌<◌, ◌≤◌, List, [], ◌∷◌, ◌++◌, length, get_or, take, Option, Some, None, refl, sym, ap, ◌∙◌, append_assoc, arith, length-append, add-zero}
-use Rattle.std.proofs.lemmas.List.{append-nil, get_or_append_left, get_or_at, take_more}
+use Rattle.std.proofs.Common.{◌≡◌, ℕ, ℤ, pos, map, add-one, zero, suc, ◌+◌, ◌<◌, ◌≤◌, List, [], ◌∷◌, ◌++◌, length, get_or, take, Option, Some, None, refl, sym, ap, ◌∙◌, append_assoc, arith, length-append, add-zero}
+use Rattle.std.proofs.lemmas.List.{append-nil, get_or_append_left, get_or_at, map-append, take_more}
 use Rattle.std.proofs.lemmas.Option.{slice_get_within, get_or_from_slice_get, slice_get-get_or}
 use Rattle.std.specs.List.{slice_get}
 use mathlib.Core.Logic.{dite}
@@ -8,7 +8,7 @@ use native.Mathlib.Decide.{ℕ_discrete}
 use Rattle.trace.specs.declared.item.Item.{Item}
 use Rattle.trace.specs.declared.item.End.{End}
 use Rattle.trace.specs.Trace.{Trace, trace}
-use Rattle.batch_eval.specs.Batches.{lanes, CountsUp}
+use Rattle.batch_eval.specs.Batches.{lanes, item_at, CountsUp}
 
 pub length_lanes : (n : ℕ) (g : ℕ → Item) → length (lanes n g) ≡ n
 length_lanes zero g = refl
@@ -53,3 +53,11 @@ lanes_add a zero g = ap (λ (m : ℕ). lanes m g) (add-zero a) ∙ sym (append-n
 lanes_add a (suc b) g =
     let on : a + suc b ≡ suc (a + b) = omega arith in
     ap (λ (m : ℕ). lanes m g) on ∙ ap (λ (xs : List Item). xs ++ g (a + b) ∷ []) (lanes_add a b g) ∙ append_assoc (lanes a g) (lanes b (λ k. g (a + k))) (g (a + b) ∷ [])
+
+-- the values of lanes
+pub lane_values : (n : ℕ) (start : Option ℕ) (origins : List ℕ) (values : List ℤ) → n ≤ length values → map (λ (x : Item). x.value) (lanes n (item_at start origins values)) ≡ take n values
+lane_values zero start origins values within = refl
+lane_values (suc n) start origins values within =
+    let g = item_at start origins values in
+    let more : take (n + 1) values ≡ take n values ++ get_or values n (pos 0) ∷ [] = take_more values n (pos 0) (omega arith) in
+    map-append (λ (x : Item). x.value) (lanes n g) (g n ∷ []) ∙ ap (λ (vs : List ℤ). vs ++ get_or values n (pos 0) ∷ []) (lane_values n start origins values (omega arith)) ∙ sym more ∙ ap (λ (m : ℕ). take m values) (add-one n)

@@ -4,7 +4,7 @@ ghost use Rattle.batch_eval.specs.Batches.{CountsUp, StopsInside, end_after, ite
 ghost use Rattle.batch_eval.specs.Lanes.{at};
 ghost use Rattle.batch_eval.specs.Rooms.{Fits, FitsTest};
 ghost use Rattle.lambda_expr.specs.Term.{long_of, truth_of};
-ghost use Rattle.std.specs.Prelude.{◌≡◌, ℕ, ◌+◌, ◌<◌, ◌≤◌, ◌^◌, List, [], ◌++◌, IfOk, None, Some, length, slice_get, slice_index, take};
+ghost use Rattle.std.specs.Prelude.{◌≡◌, ℕ, ◌+◌, ◌<◌, ◌≤◌, ◌^◌, List, [], ◌++◌, IfOk, None, Some, length, map, slice_get, slice_index, take};
 ghost use Rattle.trace.specs.Stages.{filter, of_item};
 ghost use Rattle.trace.specs.Stages.{map as map_term};
 ghost use Rattle.trace.specs.Trace.{each, trace};
@@ -23,7 +23,7 @@ use trace::{End, Fault, Item, NoMemory, SourceItems};
 ///
 /// Contracts see a batch as the trace of those items.
 #[derive(Drop)]
-pub(crate) struct Batch {
+pub struct Batch {
     pub(crate) live: usize,
     /// The place of the first lane, if the places count up from it; else they are listed.
     pub(crate) start: Option<u64>,
@@ -171,6 +171,13 @@ impl Batch {
             &mut self.values,
         );
         self.live += count;
+    }
+
+    /// The values of the items, in encounter order.
+    pub fn values(&self) -> &[i64]
+        ensures { result.now ≡ map (λ x. x.value) self.now.items }
+    {
+        &self.values[..self.live]
     }
 
     /// How the walk ends after the items.

@@ -12,9 +12,10 @@ ghost use Rattle.trace.specs.declared.item.Item.{Item};
 use crate::batch::Batch;
 use crate::register::LANES;
 use crate::registers::Registers;
+use crate::sink::BatchSink;
 use crate::staging::feed_batch;
 use lambda_expr::Env;
-use trace::{Fed, Flow, LongSink, NoMemory, SourceItems, Stage, feed_all};
+use trace::{Fed, Flow, NoMemory, SourceItems, Stage, feed_all};
 
 /// The first batch of a walk. Each further one is four times as large, up to 1,024 items, so that a
 /// sink that soon has enough doesn't pay for a large one.
@@ -28,7 +29,7 @@ const FIRST_BATCH: u64 = 16;
 /// what comes after a fourth `flatMap`, are evaluated item by item; so is all of a short source, and of any source if an
 /// allocation of registers failed.
 /// `NoMemory` comes from the sink alone, which then keeps what it has accepted before.
-pub fn feed_batches<I: SourceItems, S: LongSink>(
+pub fn feed_batches<I: SourceItems, S: BatchSink>(
     stages: &[Stage],
     first_stage: u32,
     env: &Env,
@@ -61,7 +62,7 @@ pub fn feed_batches<I: SourceItems, S: LongSink>(
 }
 
 /// The same of stages that the room is enough for.
-fn feed_pieces<I: SourceItems, S: LongSink>(
+fn feed_pieces<I: SourceItems, S: BatchSink>(
     stages: &[Stage],
     first_stage: u32,
     env: &Env,
@@ -106,7 +107,7 @@ fn feed_pieces<I: SourceItems, S: LongSink>(
 }
 
 /// Takes the items of a source from a position on, up to 1,024 of them.
-fn feed_piece<I: SourceItems, S: LongSink>(
+fn feed_piece<I: SourceItems, S: BatchSink>(
     stages: &[Stage],
     first_stage: u32,
     env: &Env,

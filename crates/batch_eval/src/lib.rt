@@ -25,7 +25,10 @@ mod reached;
 mod register;
 mod registers;
 mod room;
+mod sink;
 mod staging;
 
+pub use batch::Batch;
 pub use feeding::feed_batches;
 pub use registers::Registers;
+pub use sink::{BatchSink, accept_each};

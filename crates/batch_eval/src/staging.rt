@@ -15,12 +15,13 @@ ghost use Rattle.trace.specs.declared.item.Item.{Item};
 use crate::batch::Batch;
 use crate::inner::InnerItems;
 use crate::register::LANES;
+use crate::sink::BatchSink;
 use lambda_expr::{Env, FaultKind, InnerExpr};
-use trace::{End, Fault, Fed, Flow, Item, LongSink, NoMemory, SourceItems, Stage, feed_all};
+use trace::{End, Fault, Fed, Flow, Item, NoMemory, SourceItems, Stage, feed_all};
 
 /// Takes a batch through all stages, and gives the sink what comes out.
 #[cycle(batches)]
-pub(crate) fn feed_batch<S: LongSink>(
+pub(crate) fn feed_batch<S: BatchSink>(
     stages: &[Stage],
     first_stage: u32,
     env: &Env,
@@ -69,7 +70,7 @@ pub(crate) fn feed_batch<S: LongSink>(
 /// Takes the inner values of the items of a batch through the later stages. They are put together in
 /// `pending`, which goes on when it is full and after the last item.
 #[cycle(batches)]
-pub(crate) fn feed_inner<S: LongSink>(
+pub(crate) fn feed_inner<S: BatchSink>(
     inner: &InnerExpr,
     later: &[Stage],
     stage: u32,
@@ -123,7 +124,7 @@ pub(crate) fn feed_inner<S: LongSink>(
 /// Adds the values of an inner stream to those that wait, and takes them through the stages whenever
 /// the batch is full.
 #[cycle(batches)]
-fn pour<S: LongSink>(
+fn pour<S: BatchSink>(
     stages: &[Stage],
     first_stage: u32,
     env: &Env,
@@ -157,7 +158,7 @@ fn pour<S: LongSink>(
 
 /// Takes the values that wait through the stages, if there is no space for another.
 #[cycle(batches)]
-fn make_space<S: LongSink>(
+fn make_space<S: BatchSink>(
     stages: &[Stage],
     first_stage: u32,
     env: &Env,
@@ -186,7 +187,7 @@ fn make_space<S: LongSink>(
 
 /// Takes the values that wait through the stages, after which the walk ends so.
 #[cycle(batches)]
-fn finish<S: LongSink>(
+fn finish<S: BatchSink>(
     stages: &[Stage],
     first_stage: u32,
     env: &Env,
@@ -220,7 +221,7 @@ fn fault_at(stage: u32, item: Item, kind: FaultKind) -> End
 }
 
 /// Takes the items of a batch through all stages one after the other.
-fn feed_lanes<S: LongSink>(
+fn feed_lanes<S: BatchSink>(
     stages: &[Stage],
     first_stage: u32,
     env: &Env,
@@ -240,20 +241,17 @@ fn feed_lanes<S: LongSink>(
     }
 }
 
-/// Gives the sink the items of a batch one after the other.
-fn give<S: LongSink>(batch: &Batch, sink: &mut S) -> Result<Fed, NoMemory>
+/// Gives the sink the items of a batch.
+fn give<S: BatchSink>(batch: &Batch, sink: &mut S) -> Result<Fed, NoMemory>
     requires wants { S.flow sink.old ≡ Flow.More }
     ensures fed { (xs : List Item) → S.has_taken sink.old xs → IsFed S.has_taken xs batch.now result sink.new }
     ensures flow { S.flow sink.new ≡ flow_after result }
     ensures refused { OnErr result S.takes_memory }
 {
-    for position in 0..batch.count() {
-        match sink.accept(batch.item_at(position))? {
-            Flow::More => {}
-            Flow::Enough => return Ok(Fed::Enough),
-        }
+    match sink.accept_batch(batch)? {
+        Fed::More => Ok(fed_by(batch.end())),
+        stopped => Ok(stopped),
     }
-    Ok(fed_by(batch.end()))
 }
 
 /// What becomes of items after which the walk ends so.

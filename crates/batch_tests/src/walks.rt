@@ -2,7 +2,7 @@
 ghost use Rattle.std.specs.Prelude.{◌≡◌, ◌+◌, ◌<◌, ◌^◌, ⊤, length, if◌then◌else◌, ◌==◌};
 ghost use Rattle.trace.specs.declared.sink.Flow.TheVariants as flow;
 
-use batch_eval::{Registers, feed_batches};
+use batch_eval::{Batch, BatchSink, Registers, accept_each, feed_batches};
 use lambda_expr::{Body, Env, FaultKind, InnerExpr, LongExpr, Want, read_lambda};
 use std::alloc::{AllocError, Global};
 use std::test::Fail;
@@ -40,6 +40,12 @@ impl LongSink for Items {
     fn accept(&mut self, item: Item) -> Result<Flow, NoMemory> {
         self.items.push(item)?;
         Ok(Flow::More)
+    }
+}
+
+impl BatchSink for Items {
+    fn accept_batch(&mut self, batch: &Batch) -> Result<Fed, NoMemory> {
+        accept_each(batch, self)
     }
 }
 
@@ -285,6 +291,12 @@ impl LongSink for Few {
         } else {
             Flow::More
         })
+    }
+}
+
+impl BatchSink for Few {
+    fn accept_batch(&mut self, batch: &Batch) -> Result<Fed, NoMemory> {
+        accept_each(batch, self)
     }
 }
 

@@ -1,4 +1,5 @@
 -- The lemmas of this crate; the first line of each file says what they are about.
+pub mod Batching
 pub mod Positions
 pub mod Elements
 pub mod Parting

@@ -13,7 +13,7 @@ ghost use Rattle.job_plan.specs.declared.segment.SegmentEnd.TheVariants as ends;
 use crate::part::Part;
 use crate::segment::Segment;
 use crate::source::Source;
-use batch_eval::Registers;
+use batch_eval::{Batch, BatchSink, Registers, accept_each};
 use lambda_expr::Env;
 use std::alloc::Global;
 use std::marker::{Brand, PhantomData};
@@ -61,6 +61,15 @@ impl<K: Ending> LongSink for PartSink<'_, '_, K> {
             return Ok(Flow::Enough);
         }
         Ok(Flow::More)
+    }
+}
+
+impl<K: Ending> BatchSink for PartSink<'_, '_, K> {
+    fn accept_batch(&mut self, batch: &Batch) -> Result<Fed, NoMemory> {
+        if self.part.fold_batch(batch.values()) {
+            return Ok(Fed::More);
+        }
+        accept_each(batch, self)
     }
 }
 

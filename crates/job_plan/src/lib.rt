@@ -1,7 +1,8 @@
 //! What the jobs of a file mean: the answer of each.
 //!
-//! Stands on `job_language`, for jobs, and on `trace`, `reduce_ops`, `slice_ops` and `find_ops`, which make of a walk
-//! what stages and terminals ask. Used by `report`, which writes answers, and by whatever runs jobs.
+//! Stands on `job_language`, for jobs, on `trace` and `batch_eval`, for walks, and on `reduce_ops`, `slice_ops` and
+//! `find_ops`, which make of a walk what stages and terminals ask. Used by `report`, which writes answers, and by whatever
+//! runs jobs.
 //! Begin with `meaning_of` of `specs/FileAnswers.antt`, then `specs/Walks.antt` and `specs/Plans.antt`. A job is cut
 //! into segments (`Plan::of`); `leaf` takes a piece of a segment's source to a `Part`, two parts side by side merge, and
 //! `Part::finish` gives the next source or the answer. `walk_tree` does all of this on one thread; `plan_laws.rt` says
@@ -10,6 +11,7 @@
 #![tactic(auto)]
 
 mod answer;
+mod folding;
 mod leaves;
 mod outcome;
 mod part;

@@ -1,6 +1,6 @@
 //! What a piece of a segment's source gives to the end of the segment.
 
-ghost use Rattle.std.specs.Prelude.{◌≡◌, ℕ, ℤ, Bool, false, [], ◌∷◌, map, Option, IfOk, IfErr, OnOk, OnErr};
+ghost use Rattle.std.specs.Prelude.{◌≡◌, ℕ, ℤ, Bool, false, true, List, [], ◌∷◌, map, Option, IfOk, IfErr, OnOk, OnErr};
 ghost use Rattle.lambda_expr.specs.Earlier.{Numbers};
 ghost use Rattle.trace.specs.Trace.{Trace, trace, nothing, append};
 ghost use Rattle.trace.specs.declared.item.End.TheVariants as end;
@@ -11,6 +11,7 @@ ghost use Rattle.job_plan.specs.Plans.{EndTerm, SegmentTerm, counted_as, folded,
 ghost use Rattle.job_plan.specs.Walks.{found_answer, unless_fault};
 
 use crate::answer::Answer;
+use crate::folding::folded;
 use crate::outcome::Outcome;
 use crate::segment::{Fold, SegmentEnd};
 use crate::values::Values;
@@ -60,6 +61,16 @@ impl FoldPart {
             → IsFold f a counts self.new (append t (trace (item ∷ []) end.Done)) }
     {
         self.partial.push(counted(self.counts, item));
+    }
+
+    /// Folds the values of several items in, or a 1 for each.
+    fn push_all(&mut self, values: &[i64])
+        ensures fold { (f : Op) (a : Option ℤ) (counts : Bool) (t : Trace) (xs : List item) → map (λ x. x.value) xs ≡ values.now
+            → IsFold f a counts self.old t → IsFold f a counts self.new (append t (trace xs end.Done)) }
+        ensures ending { self.new.partial.end ≡ self.old.partial.end }
+    {
+        let right = folded(self.partial.op(), self.counts, values);
+        self.partial = self.partial.merge(right);
     }
 
     /// Ends the piece so, unless a fault has ended it.
@@ -144,6 +155,22 @@ impl<'p> Part<'p> {
                 Ok(())
             }
             Part::Array(chunk) => chunk.push(item),
+        }
+    }
+
+    /// Adds the values of several items, if the end is a fold, and answers whether it is.
+    pub(crate) fn fold_batch(&mut self, values: &[i64]) -> bool
+        ensures folded { result ≡ true → (e : EndTerm) (stage : ℕ) (env : Numbers) (t : Trace) (xs : List item)
+            → map (λ x. x.value) xs ≡ values.now → EndsFor e stage env self.old t → EndsFor e stage env self.new (append t (trace xs end.Done)) }
+        ensures open { result ≡ true → is_settled self.new ≡ is_settled self.old }
+        ensures other { result ≡ false → self.new ≡ self.old }
+    {
+        match self {
+            Part::Fold(part) => {
+                part.push_all(values);
+                true
+            }
+            _ => false,
         }
     }
 

@@ -17,10 +17,10 @@ ghost use Rattle.job_plan.specs.Walks.{plain_values, source_walk, values_of};
 use crate::pieces::{ItemPiece, RangePiece, ValuePiece};
 use crate::segment::{JobPlan, Segment};
 use crate::sources::{PlainSources, plain_size};
-use batch_eval::{Registers, feed_batches};
+use batch_eval::{BatchSink, Registers, feed_batches};
 use job_language::PlainSource;
 use lambda_expr::{Env, FaultKind};
-use trace::{Chunk, End, Fault, Fed, Flow, Item, LongSink, NoMemory};
+use trace::{Chunk, End, Fault, Fed, Flow, Item, NoMemory};
 
 /// The fault of sources of more than 2^62 values.
 const TOO_LONG: Fault = Fault {
@@ -70,7 +70,7 @@ impl<'a, 'c> Source<'a, 'c> {
     }
 
     /// Takes the items at these positions one after the other through the stages of a segment.
-    pub(crate) fn feed<S: LongSink>(
+    pub(crate) fn feed<S: BatchSink>(
         &self,
         segment: &Segment,
         env: &Env,
@@ -125,7 +125,7 @@ fn end_after(to: Option<u64>, size: u64) -> Option<u64>
 }
 
 /// Takes the items at these positions of sources, of which the first item has the place `origin`.
-fn feed_plain<S: LongSink>(
+fn feed_plain<S: BatchSink>(
     segment: &Segment,
     env: &Env,
     sources: &[PlainSource],
@@ -176,7 +176,7 @@ fn feed_plain<S: LongSink>(
 }
 
 /// Takes `count` items of a source, from a position on; the first of them has the place `origin`.
-fn feed_one<S: LongSink>(
+fn feed_one<S: BatchSink>(
     segment: &Segment,
     env: &Env,
     source: &PlainSource,
@@ -230,7 +230,7 @@ fn feed_one<S: LongSink>(
 }
 
 /// Takes values, of which the first has the place `origin`.
-fn feed_values<S: LongSink>(
+fn feed_values<S: BatchSink>(
     segment: &Segment,
     env: &Env,
     origin: u64,
@@ -258,7 +258,7 @@ fn feed_values<S: LongSink>(
 
 /// Takes `count` of the integers from `from` up to and with `to`, from a position on; the first of them has the place
 /// `origin`.
-fn feed_range<S: LongSink>(
+fn feed_range<S: BatchSink>(
     segment: &Segment,
     env: &Env,
     origin: u64,
@@ -308,7 +308,7 @@ fn range_piece(origin: u64, from: i64, start: u64, count: u64) -> RangePiece
 }
 
 /// Takes the items at these positions of pieces.
-fn feed_pieces<S: LongSink>(
+fn feed_pieces<S: BatchSink>(
     segment: &Segment,
     env: &Env,
     pieces: &[Vec<Item>],
@@ -338,7 +338,7 @@ fn feed_pieces<S: LongSink>(
 }
 
 /// Takes the items at these positions of one piece.
-fn feed_items<S: LongSink>(
+fn feed_items<S: BatchSink>(
     segment: &Segment,
     env: &Env,
     items: &[Item],

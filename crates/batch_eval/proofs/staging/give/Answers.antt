@@ -1,30 +1,29 @@
-use Rattle.std.proofs.Common.{◌≤◌, ◌++◌, length, take, sym, subst, arith, rules}
-use Rattle.std.proofs.lemmas.List.{append-nil, take_all}
+use Rattle.std.proofs.Common.{List, [], Ok, Err}
 use Rattle.std.proofs.lemmas.Result.{err_from_is_err_and}
-use Rattle.batch_eval.proofs.Onward.{IsFed_given, one_taken, IsFed_enough, IsFed_refused}
+use Rattle.lambda_expr.specs.Earlier.{Numbers}
+use Rattle.trace.specs.Stages.{StageTerm}
+use Rattle.batch_eval.proofs.Onward.{IsFed_end, IsFed_cut}
 use Rattle.batch_eval.proofs.staging.give.Goals as goal
 
-pub loop-position-init : goal.loop-position-init
-loop-position-init g c = record {
-  wants = c.requires.wants;
-  taken = λ xs took. subst (g.S.LongSink.has_taken c.args.sink.now) (sym (append-nil xs)) took;
-}
+pub returns-in-More-clause-fed : goal.returns-in-More-clause-fed
+returns-in-More-clause-fed g c = λ xs took.
+    let more = rw c.in-More.is at c.in_ok-stopped.ensures.fed in
+    let batch = c.args.batch.now in
+    let none : List StageTerm = [] in
+    let env : Numbers = [] in
+    rw (c.fed_by.ensures, c.end.ensures) (IsFed_end g.S.LongSink.has_taken 0 none env xs batch.items batch.ending c.accept_batch.new.self (more xs took))
 
-pub loop-position-preserved : goal.loop-position-preserved
-loop-position-preserved g c = record {
-  wants = search rules;
-  taken = λ xs took. one_taken g.S.LongSink.has_taken xs c.args.batch.now.items c.loop-position.position c.item_at.result c.accept.new.self c.item_at.ensures (c.in_ok-accept.ensures.ok (xs ++ take c.loop-position.position c.args.batch.now.items) (c.loop-position.invariant.taken xs took));
-}
+pub returns-in_default-clause-fed : goal.returns-in_default-clause-fed
+returns-in_default-clause-fed g c = λ xs took.
+    let batch = c.args.batch.now in
+    let none : List StageTerm = [] in
+    let env : Numbers = [] in
+    IsFed_cut g.S.LongSink.has_taken 0 none env xs batch.items batch.ending (Ok c.in_ok-stopped.stopped) c.accept_batch.new.self (λ e. c.in_default.not-More cc) (c.in_ok-stopped.ensures.fed xs took)
 
-pub returns-in-Enough-clause-fed : goal.returns-in-Enough-clause-fed
-returns-in-Enough-clause-fed g c = λ xs took. IsFed_enough g.S.LongSink.has_taken xs c.args.batch.now c.loop-position.position c.item_at.result c.accept.new.self c.item_at.ensures (c.in_ok-accept.ensures.ok (xs ++ take c.loop-position.position c.args.batch.now.items) (c.loop-position.invariant.taken xs took))
-
-pub returns-in_err-accept-clause-fed : goal.returns-in_err-accept-clause-fed
-returns-in_err-accept-clause-fed g c = λ xs took.
+pub returns-in_err-stopped-clause-fed : goal.returns-in_err-stopped-clause-fed
+returns-in_err-stopped-clause-fed g c = λ xs took.
     let p = err_from_is_err_and c.from_residual.result c.from_residual.ensures.1 in
-    rw p.1 (IsFed_refused g.S.LongSink.has_taken xs c.args.batch.now c.loop-position.position c.item_at.result (c.in_err-accept.field-0.0) c.accept.new.self c.item_at.ensures (c.in_err-accept.ensures.err (xs ++ take c.loop-position.position c.args.batch.now.items) (c.loop-position.invariant.taken xs took)))
-
-pub returns-clause-fed : goal.returns-clause-fed
-returns-clause-fed g c = λ xs took.
-    let past : length c.args.batch.now.items ≤ c.loop-position.position = omega (arith, c.loop-position-test.false, c.count-position-end.ensures) in
-    rw (c.fed_by.ensures, c.end.ensures) (IsFed_given g.S.LongSink.has_taken xs c.args.batch.now c.loop-position.sink (rw (take_all c.loop-position.position c.args.batch.now.items past) at (c.loop-position.invariant.taken xs took)))
+    let batch = c.args.batch.now in
+    let none : List StageTerm = [] in
+    let env : Numbers = [] in
+    rw p.1 (IsFed_cut g.S.LongSink.has_taken 0 none env xs batch.items batch.ending (Err c.in_err-stopped.field-0.0) c.accept_batch.new.self (λ e. cc) (c.in_err-stopped.ensures.fed xs took))

@@ -1,7 +1,7 @@
 use Rattle.std.proofs.Common.{◌≡◌, List, ◌++◌, take}
 use Rattle.trace.specs.declared.item.Item.{Item}
 use Rattle.trace.specs.declared.sink.Flow.TheVariants as flow
-use Rattle.batch_eval.proofs.staging.give.Given as goal
+use Rattle.batch_eval.proofs.sink.accept_each.Given as goal
 
 abbrev pub invariant-loop-position : goal.invariant-loop-position
 invariant-loop-position g l =
