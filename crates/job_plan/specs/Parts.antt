@@ -96,6 +96,13 @@ is_settled (part.Fold p) = is_fault p.partial.end
 is_settled (part.Find p) = is_some p.decision
 is_settled (part.Array c) = is_fault c.ending
 
+-- whether a part keeps items; to merge it may then take memory
+abbrev pub keeps_items : Part → Bool
+keeps_items (part.Slice p) = true
+keeps_items (part.Fold p) = false
+keeps_items (part.Find p) = false
+keeps_items (part.Array c) = true
+
 -- whether a part takes more items
 abbrev pub flow_of : Bool → Flow
 flow_of true = flow.Enough

@@ -6,7 +6,7 @@ ghost use Rattle.trace.specs.Trace.{Trace, trace, nothing, append};
 ghost use Rattle.trace.specs.declared.item.End.TheVariants as end;
 ghost use Rattle.trace.specs.declared.item.Item.{Item as item};
 ghost use Rattle.reduce_ops.specs.declared.op.Op.{Op};
-ghost use Rattle.job_plan.specs.Parts.{EndsFor, IsFold, StandsFor, end_in, is_fault, is_settled};
+ghost use Rattle.job_plan.specs.Parts.{EndsFor, IsFold, StandsFor, end_in, is_fault, is_settled, keeps_items};
 ghost use Rattle.job_plan.specs.Plans.{EndTerm, SegmentTerm, counted_as, folded, outcome_of};
 ghost use Rattle.job_plan.specs.Walks.{found_answer, unless_fault};
 
@@ -207,6 +207,7 @@ impl<'p> Part<'p> {
         ensures ok { IfOk result (λ part. (s : SegmentTerm) (env : Numbers) (a b : Trace) → StandsFor s env self.entry a
             → StandsFor s env right.entry b → StandsFor s env part (append a b)) }
         ensures err { IfErr result (λ parts. (parts.0 ≡ self.entry) × (parts.1 ≡ right.entry)) }
+        ensures memory { OnErr result (keeps_items self.entry ≡ true) }
     {
         match self {
             Part::Slice(left) => merge_slices(left, right),
