@@ -1,5 +1,6 @@
 pub mod Choosing
 pub mod Onward
+pub mod Placing
 pub mod Pouring
 pub mod Flags
 pub mod Items

@@ -2,5 +2,6 @@
 pub mod Batches
 pub mod Choices
 pub mod Lanes
+pub mod Places
 pub mod Pours
 pub mod Rooms

@@ -2,6 +2,7 @@
 
 ghost use Rattle.batch_eval.specs.Batches.{CountsUp, StopsInside, end_after, item_at, origin_at};
 ghost use Rattle.batch_eval.specs.Lanes.{at};
+ghost use Rattle.batch_eval.specs.Places.{HasValue};
 ghost use Rattle.batch_eval.specs.Rooms.{Fits, FitsTest};
 ghost use Rattle.lambda_expr.specs.Term.{long_of, truth_of};
 ghost use Rattle.std.specs.Prelude.{◌≡◌, ℕ, ◌+◌, ◌<◌, ◌≤◌, ◌^◌, List, [], ◌++◌, IfOk, None, Some, length, map, slice_get, slice_index, take};
@@ -13,6 +14,7 @@ ghost use Rattle.trace.specs.declared.item.Item.{Item};
 use crate::keep::keep_lanes;
 use crate::reached::Reached;
 use crate::register::{LANES, eval_bool, eval_long};
+use crate::source::BatchSource;
 use lambda_expr::{BoolExpr, Env, LongExpr};
 use std::alloc::Global;
 use std::marker::Model;
@@ -140,15 +142,26 @@ impl Batch {
     }
 
     /// Starts again with items of a source, from a position on.
-    pub(crate) fn fill<I: SourceItems>(&mut self, source: &I, position: u64, count: u64)
+    pub(crate) fn fill<I: BatchSource>(&mut self, source: &I, position: u64, count: u64)
         requires within { position + count ≤ length (I.items source.now) }
         requires bound { length (I.items source.now) < 2 ^ 64 }
         requires lanes { count ≤ 1024 }
         ensures items { take (position + count) (I.items source.now) ≡ take position (I.items source.now) ++ self.new.items }
         ensures ending { self.new.ending ≡ End.Done }
     {
-        self.clear();
-        self.add(source, position, count);
+        match source.first_place() {
+            Some(first) => {
+                let live = count as usize;
+                list_values(source, position, live, &mut self.values);
+                self.live = live;
+                self.start = Some(first + position);
+                self.end = End::Done;
+            }
+            None => {
+                self.clear();
+                self.add(source, position, count);
+            }
+        }
     }
 
     /// Adds items of a source, from a position on, after those that are there.
@@ -214,6 +227,18 @@ fn list_places(start: Option<u64>, live: usize, origins: &mut [u64])
         for lane in 0..live {
             origins[lane] = start + lane as u64;
         }
+    }
+}
+
+/// The values of a source's items from a position on, lane by lane.
+fn list_values<I: SourceItems>(source: &I, position: u64, count: usize, values: &mut [i64])
+    requires within { position + count ≤ length (I.items source.now) }
+    requires bound { length (I.items source.now) < 2 ^ 64 }
+    requires values { count ≤ length values.old }
+    ensures { (k : ℕ) → k < count → HasValue (I.items source.now) (position + k) (at values.new k) }
+{
+    for lane in 0..count {
+        values[lane] = source.item_at(position + lane as u64).value;
     }
 }
 

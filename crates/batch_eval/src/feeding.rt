@@ -13,9 +13,10 @@ use crate::batch::Batch;
 use crate::register::LANES;
 use crate::registers::Registers;
 use crate::sink::BatchSink;
+use crate::source::BatchSource;
 use crate::staging::feed_batch;
 use lambda_expr::Env;
-use trace::{Fed, Flow, NoMemory, SourceItems, Stage, feed_all};
+use trace::{Fed, Flow, NoMemory, Stage, feed_all};
 
 /// The first batch of a walk. Each further one is four times as large, up to 1,024 items, so that a
 /// sink that soon has enough doesn't pay for a large one.
@@ -29,7 +30,7 @@ const FIRST_BATCH: u64 = 16;
 /// what comes after a fourth `flatMap`, are evaluated item by item; so is all of a short source, and of any source if an
 /// allocation of registers failed.
 /// `NoMemory` comes from the sink alone, which then keeps what it has accepted before.
-pub fn feed_batches<I: SourceItems, S: BatchSink>(
+pub fn feed_batches<I: BatchSource, S: BatchSink>(
     stages: &[Stage],
     first_stage: u32,
     env: &Env,
@@ -62,7 +63,7 @@ pub fn feed_batches<I: SourceItems, S: BatchSink>(
 }
 
 /// The same of stages that the room is enough for.
-fn feed_pieces<I: SourceItems, S: BatchSink>(
+fn feed_pieces<I: BatchSource, S: BatchSink>(
     stages: &[Stage],
     first_stage: u32,
     env: &Env,
@@ -107,7 +108,7 @@ fn feed_pieces<I: SourceItems, S: BatchSink>(
 }
 
 /// Takes the items of a source from a position on, up to 1,024 of them.
-fn feed_piece<I: SourceItems, S: BatchSink>(
+fn feed_piece<I: BatchSource, S: BatchSink>(
     stages: &[Stage],
     first_stage: u32,
     env: &Env,

@@ -26,9 +26,11 @@ mod register;
 mod registers;
 mod room;
 mod sink;
+mod source;
 mod staging;
 
 pub use batch::Batch;
 pub use feeding::feed_batches;
 pub use registers::Registers;
 pub use sink::{BatchSink, accept_each};
+pub use source::BatchSource;

@@ -2,7 +2,7 @@
 ghost use Rattle.std.specs.Prelude.{◌≡◌, ◌+◌, ◌<◌, ◌^◌, ⊤, length, if◌then◌else◌, ◌==◌};
 ghost use Rattle.trace.specs.declared.sink.Flow.TheVariants as flow;
 
-use batch_eval::{Batch, BatchSink, Registers, accept_each, feed_batches};
+use batch_eval::{Batch, BatchSink, BatchSource, Registers, accept_each, feed_batches};
 use lambda_expr::{Body, Env, FaultKind, InnerExpr, LongExpr, Want, read_lambda};
 use std::alloc::{AllocError, Global};
 use std::test::Fail;
@@ -125,10 +125,10 @@ fn any_values(alloc: Global, seed: u64, count: u64) -> Result<Vec<i64>, NoMemory
 }
 
 /// Whether both ways give the same items and the same end.
-fn agree(
+fn agree<I: BatchSource>(
     alloc: Global,
     stages: &[Stage],
-    items: &Vec<Item>,
+    items: &I,
     registers: &mut Registers,
 ) -> Result<bool, NoMemory>
     requires { 1 + length stages.now < 2 ^ 32 }
@@ -263,6 +263,30 @@ fn a_fault_at_an_inner_value_is_that_of_its_item(rt: HostRuntime) -> Result<(), 
         let fed = feed_batches(&stages, 1, &env, &items, &mut registers, &mut sink)?;
         assert!(rt; fed == answer && sink.items.len() == count, "{image}");
     }
+    Ok(())
+}
+
+#[test]
+fn places_that_count_up_stay_with_their_items(rt: HostRuntime) -> Result<(), Fail> {
+    let alloc = rt.alloc();
+    let env = Env::empty(alloc);
+    let mut registers = Registers::new(alloc);
+    let Some(source) = RangeItems::between(10, 2010) else {
+        return Err(AllocError.into());
+    };
+    let stages = [
+        stage(alloc, "x -> x % 2 == 0", Want::Bool)?,
+        stage(alloc, "x -> 4992 / (x - 1010)", Want::Long)?,
+    ];
+    assert!(rt; agree(alloc, &stages, &source, &mut registers)?);
+    let mut sink = Items {
+        items: Vec::new(alloc),
+    };
+    let fed = feed_batches(&stages, 1, &env, &source, &mut registers, &mut sink)?;
+    assert!(rt; fed == Fed::Fault(division_by_zero(2, 1000)));
+    assert!(rt; sink.items.len() == 500);
+    let last = sink.items[499];
+    assert!(rt; last.origin == 998 && last.value == -2496);
     Ok(())
 }
 

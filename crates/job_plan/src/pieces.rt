@@ -4,6 +4,7 @@ ghost use Rattle.std.specs.Prelude.{ℕ, ◌+◌, ◌<◌, ◌≤◌, ◌^◌, p
 ghost use Rattle.std.specs.Int.{w64};
 ghost use Rattle.trace.specs.Cover.{counted, placed};
 
+use batch_eval::BatchSource;
 use trace::{Item, SourceItems};
 
 /// Integers counted up by 1, at places that count up from `origin`.
@@ -31,6 +32,12 @@ impl SourceItems for RangePiece {
     }
 }
 
+impl BatchSource for RangePiece {
+    fn first_place(&self) -> Option<u64> {
+        Some(self.origin)
+    }
+}
+
 /// Values in a slice, at places that count up from `origin`.
 #[derive(Clone, Copy)]
 pub(crate) struct ValuePiece<'a> {
@@ -54,6 +61,12 @@ impl SourceItems for ValuePiece<'_> {
     }
 }
 
+impl BatchSource for ValuePiece<'_> {
+    fn first_place(&self) -> Option<u64> {
+        Some(self.origin)
+    }
+}
+
 /// Items that already have their places.
 #[derive(Clone, Copy)]
 pub(crate) struct ItemPiece<'a> {
@@ -69,5 +82,11 @@ impl SourceItems for ItemPiece<'_> {
 
     fn item_at(&self, position: u64) -> Item {
         self.items[position as usize]
+    }
+}
+
+impl BatchSource for ItemPiece<'_> {
+    fn first_place(&self) -> Option<u64> {
+        None
     }
 }

@@ -1,0 +1,5 @@
+use Rattle.batch_eval.proofs.Placing.{placed_counts}
+use Rattle.job_plan.proofs.pieces.ValuePieceBatchSource.first_place.Goals as goal
+
+pub returns : goal.returns
+returns c = placed_counts c.args.self.now.origin c.args.self.now.values.now c.args.self.now.few
