@@ -54,7 +54,7 @@ one_by param.Text s ws text r q h k = sym h ∙ k
 one_by param.Name s ws text r q h k = sym h ∙ k
 one_by param.Long s ws text r q h k = one_lambda s text want.Long r q h k
 one_by param.Bool s ws text r q h k = one_lambda s text want.Bool r q h k
-one_by param.Stream s ws text r q h k = sym h ∙ k
+one_by param.Stream s ws text r q h k = one_lambda s text want.Stream r q h k
 one_by param.Operator s ws text r q h k = one_operator (spelled_op ws) s text r q h k
 
 one_argument : (s : Scope) (t : TokenizedText) (c : PlacedCall) (r q : Result Argument Cause) → IsArgumentRead s t c r → IsArgumentRead s t c q → r ≡ q

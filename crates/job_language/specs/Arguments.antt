@@ -6,7 +6,7 @@ use Rattle.stream_tokens.specs.CutTexts.{TokenizedText, between}
 use Rattle.lambda_expr.specs.Words.{Word, named, quoted}
 use Rattle.lambda_expr.specs.Term.{Long, Truth}
 use Rattle.lambda_expr.specs.Streams.{Inner}
-use Rattle.lambda_expr.specs.Refusals.{LambdaTerm, long, boolean, pair, Judged, IsRefused}
+use Rattle.lambda_expr.specs.Refusals.{LambdaTerm, long, boolean, stream as inner_stream, pair, Judged, IsRefused}
 use Rattle.lambda_expr.specs.References.{names_of}
 use Rattle.lambda_expr.specs.declared.fault.ReadFault.{ReadFault}
 use Rattle.lambda_expr.specs.declared.fault.ReadFault.TheVariants as fault
@@ -122,6 +122,7 @@ listed (Some f) = Ok (operator f)
 abbrev pub argument_of : LambdaTerm → Result Argument Cause
 argument_of (long e) = Ok (number e)
 argument_of (boolean p) = Ok (test p)
+argument_of (inner_stream g) = Ok (stream g)
 argument_of (pair f) = listed (op_of_form f)
 
 abbrev pub after_references : Option Cause → LambdaTerm → Result Argument Cause
@@ -140,14 +141,14 @@ abbrev pub IsOperatorRead : Option (Option Op) → Scope → List ℕ → Result
 IsOperatorRead (Some f) scope text r = listed f ≡ r
 IsOperatorRead None scope text r = IsLambdaRead scope text want.Pair r
 
--- what words and a text are read as, by what the row says of the part; lambdas to a stream are not read yet
+-- what words and a text are read as, by what the row says of the part
 abbrev pub IsReadBy : Param → Scope → List Word → List ℕ → Result Argument Cause → Type 0
 IsReadBy param.Number scope ws text r = Ok nothing ≡ r
 IsReadBy param.Text scope ws text r = text_answer scope (string_in ws) ≡ r
 IsReadBy param.Name scope ws text r = name_answer scope (name_in ws) ≡ r
 IsReadBy param.Long scope ws text r = IsLambdaRead scope text want.Long r
 IsReadBy param.Bool scope ws text r = IsLambdaRead scope text want.Bool r
-IsReadBy param.Stream scope ws text r = Err cause.Syntax ≡ r
+IsReadBy param.Stream scope ws text r = IsLambdaRead scope text want.Stream r
 IsReadBy param.Operator scope ws text r = IsOperatorRead (spelled_op ws) scope text r
 
 -- what the last part of a call of a job is read as

@@ -101,6 +101,7 @@ fn argument_of<'c>(body: Body) -> Result<Argument<'c>, Cause>
     match body {
         Body::Long(expr) => Ok(Argument::Number(expr)),
         Body::Bool(test) => Ok(Argument::Test(test)),
+        Body::Stream(inner) => Ok(Argument::Stream(inner)),
         Body::Pair(form) => listed(op_of_form(form)),
     }
 }
@@ -222,7 +223,7 @@ fn read_by<'c>(
         Param::Name => read_name(alloc, scope, name_in(words)),
         Param::Long => read_lambda_part(alloc, scope, text, Want::Long),
         Param::Bool => read_lambda_part(alloc, scope, text, Want::Bool),
-        Param::Stream => Err(Cause::Syntax),
+        Param::Stream => read_lambda_part(alloc, scope, text, Want::Stream),
         Param::Operator => read_operator(alloc, scope, text, spelled_op(words)),
     }
 }

@@ -4,7 +4,8 @@
 //! clause says: that the definitions accept and refuse the texts that they should, worked out by hand, and that a
 //! call succeeds if there is memory.
 //!
-//! `grammar.rt` tests which texts are jobs, `causes.rt` why a job is refused, `files.rt` whole files. A table is
+//! `grammar.rt` tests which texts are jobs, `causes.rt` why a job is refused, `files.rt` whole files, `streams.rt`
+//! lambdas to a stream. A table is
 //! one text: that costs the least to check.
 //!
 //! Nothing stands on this crate, and it promises nothing.
@@ -16,3 +17,5 @@ mod causes;
 mod files;
 #[cfg(test)]
 mod grammar;
+#[cfg(test)]
+mod streams;

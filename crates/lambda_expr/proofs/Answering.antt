@@ -8,9 +8,9 @@ use Rattle.lambda_expr.specs.declared.fault.ReadFault.TheVariants as fault
 use Rattle.lambda_expr.specs.declared.lambda.Lambda.{Lambda}
 use Rattle.lambda_expr.specs.declared.lambda.Want.{Want}
 use Rattle.lambda_expr.specs.declared.lexeme.Lexeme.{Lexeme}
-use Rattle.lambda_expr.specs.declared.step.Step.{Step}
-use Rattle.lambda_expr.specs.Grammar.{Shape, postfix}
-use Rattle.lambda_expr.specs.Heads.{ALambda, IsLambda}
+use Rattle.lambda_expr.specs.declared.body.BodySteps.{BodySteps}
+use Rattle.lambda_expr.specs.BodyReading.{AreSteps}
+use Rattle.lambda_expr.specs.Heads.{ALambda, BodyShape, IsLambda}
 use Rattle.lambda_expr.specs.Judging.{IsJudged, IsWritten}
 use Rattle.lambda_expr.specs.Lexemes.{lexemes_of, names_in}
 use Rattle.lambda_expr.specs.Refusals.{column, verdict, IsNoLambda, IsRefused, IsSpelled, Spells}
@@ -22,17 +22,17 @@ pub record IsRead (text : List ℕ) (ts : List Token) (ws : List Lexeme) : Type 
   pub few : length ts ≤ 4096
   pub words : ws ≡ lexemes_of text ts
 
-abbrev IsVerdict : List ℕ → List Token → Want → List Step → Result Lambda ReadFault → Type 0
-IsVerdict text ts w ss r = (e : Shape) → ss ≡ postfix e → IsJudged (verdict w (names_in text ts) e) r
+abbrev IsVerdict : List ℕ → List Token → Want → BodySteps → Result Lambda ReadFault → Type 0
+IsVerdict text ts w ss r = (b : BodyShape) → AreSteps b ss → IsJudged (verdict w (names_in text ts) b) r
 
-abbrev spelled : (text : List ℕ) (ts : List Token) (ws : List Lexeme) (w : Want) (e : Shape) → IsRead text ts ws → IsLambda w ws e → IsSpelled text w e
+abbrev spelled : (text : List ℕ) (ts : List Token) (ws : List Lexeme) (w : Want) (e : BodyShape) → IsRead text ts ws → IsLambda w ws e → IsSpelled text w e
 spelled text ts ws w e r l = record { tokens = ts; cut = r.cut; few = r.few; lambda = subst (λ ws. IsLambda w ws e) r.words l }
 
-pub judged_ok : (text : List ℕ) (ts : List Token) (ws : List Lexeme) (w : Want) (ss : List Step) (r : Result Lambda ReadFault) → IsRead text ts ws → IsWritten w ws ss → IsVerdict text ts w ss r → IfOk r (λ l. Spells text w l)
+pub judged_ok : (text : List ℕ) (ts : List Token) (ws : List Lexeme) (w : Want) (ss : BodySteps) (r : Result Lambda ReadFault) → IsRead text ts ws → IsWritten w ws ss → IsVerdict text ts w ss r → IfOk r (λ l. Spells text w l)
 judged_ok text ts ws w ss (Ok l) is x v = record { body = x.0; spelled = spelled text ts ws w x.0 is x.1; gives = v x.0 x.2 }
 judged_ok text ts ws w ss (Err f) is x v = tt
 
-pub judged_refused : (text : List ℕ) (ts : List Token) (ws : List Lexeme) (w : Want) (ss : List Step) (r : Result Lambda ReadFault) → IsRead text ts ws → IsWritten w ws ss → IsVerdict text ts w ss r → IfErr r (λ f. IsRefused text w f)
+pub judged_refused : (text : List ℕ) (ts : List Token) (ws : List Lexeme) (w : Want) (ss : BodySteps) (r : Result Lambda ReadFault) → IsRead text ts ws → IsWritten w ws ss → IsVerdict text ts w ss r → IfErr r (λ f. IsRefused text w f)
 judged_refused text ts ws w ss (Ok l) is x v = tt
 judged_refused text ts ws w ss (Err (fault.Syntax n)) is x v = absurd (v x.0 x.2)
 judged_refused text ts ws w ss (Err fault.WrongType) is x v = record { body = x.0; spelled = spelled text ts ws w x.0 is x.1; gives = v x.0 x.2 }

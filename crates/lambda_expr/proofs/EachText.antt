@@ -1,5 +1,5 @@
 -- Each text with tokens has an answer.
-use Rattle.std.proofs.Common.{◌≢◌, ◌⊎◌, inl, inr, ℕ, ◌<◌, ◌≤◌, Bool, true, false, nat_lt, not, List, length, Result, Ok, Err, refl, ⊎_elim}
+use Rattle.std.proofs.Common.{◌≢◌, ◌⊎◌, inl, inr, ℕ, suc, max, ◌<◌, ◌≤◌, Bool, true, false, nat_lt, not, List, length, Option, Some, None, Result, Ok, Err, refl, ⊎_elim}
 use Rattle.std.proofs.str.Laws.{order}
 use Rattle.std.specs.Prelude.{if◌then◌else◌}
 use Rattle.stream_tokens.specs.declared.token.Token.{Token}
@@ -9,12 +9,14 @@ use Rattle.lambda_expr.specs.declared.fault.ReadFault.TheVariants as fault
 use Rattle.lambda_expr.specs.declared.lambda.PairForm.{PairForm}
 use Rattle.lambda_expr.specs.declared.lambda.Want.{Want}
 use Rattle.lambda_expr.specs.declared.lambda.Want.TheVariants as want
+use Rattle.lambda_expr.specs.declared.source.Source.{Source}
 use Rattle.lambda_expr.specs.Checks.{depth, fit, literals, names_known}
-use Rattle.lambda_expr.specs.Grammar.{Shape}
-use Rattle.lambda_expr.specs.Heads.{ALambda, parameters}
+use Rattle.lambda_expr.specs.Heads.{ALambda, BodyShape, expression, operands, parameters}
 use Rattle.lambda_expr.specs.Lexemes.{Names, lexemes_of, names_in}
-use Rattle.lambda_expr.specs.Refusals.{LambdaTerm, Judged, IsRefused, column, verdict, wanted}
+use Rattle.lambda_expr.specs.Refusals.{LambdaTerm, Judged, IsRefused, column, streamed, verdict, wanted}
 use Rattle.lambda_expr.specs.Stops.{StopsAt}
+use Rattle.lambda_expr.specs.StreamChecks.{all_fit, all_known, deepest, numbers}
+use Rattle.lambda_expr.specs.Term.{Long}
 use Rattle.lambda_expr.specs.Typing.{Typed, long, boolean, longs, untyped}
 use Rattle.lambda_expr.proofs.Heads.{each_lambda}
 
@@ -34,6 +36,10 @@ wanted_verdict want.Bool (long a) f = tt
 wanted_verdict want.Bool (boolean a) f = tt
 wanted_verdict want.Bool (longs a b) f = tt
 wanted_verdict want.Bool untyped f = tt
+wanted_verdict want.Stream (long a) f = tt
+wanted_verdict want.Stream (boolean a) f = tt
+wanted_verdict want.Stream (longs a b) f = tt
+wanted_verdict want.Stream untyped f = tt
 wanted_verdict want.Pair (long a) f = tt
 wanted_verdict want.Pair (boolean a) f = tt
 wanted_verdict want.Pair (longs a b) f = tt
@@ -43,8 +49,13 @@ either_verdict : (b : Bool) (r s : Result LambdaTerm ReadFault) → IsVerdict r 
 either_verdict true r s h k = h
 either_verdict false r s h k = k
 
-is_verdict : (w : Want) (h : Names) (e : Shape) → IsVerdict (verdict w h e)
-is_verdict w h e = either_verdict (not (fit (literals e))) _ _ tt (either_verdict (nat_lt 64 (depth e)) _ _ tt (either_verdict (not (names_known (parameters w) e)) _ _ tt (wanted_verdict w _ _)))
+streamed_verdict : (s : Source) (o : Option (List Long)) → IsVerdict (streamed s o)
+streamed_verdict s None = tt
+streamed_verdict s (Some es) = tt
+
+is_verdict : (w : Want) (h : Names) (b : BodyShape) → IsVerdict (verdict w h b)
+is_verdict w h (operands s es) = either_verdict (not (all_fit es)) _ _ tt (either_verdict (nat_lt 64 (max (suc (deepest es)) (length es))) _ _ tt (either_verdict (not (all_known 1 es)) _ _ tt (streamed_verdict s (numbers h es))))
+is_verdict w h (expression e) = either_verdict (not (fit (literals e))) _ _ tt (either_verdict (nat_lt 64 (depth e)) _ _ tt (either_verdict (not (names_known (parameters w) e)) _ _ tt (wanted_verdict w _ _)))
 
 -- a lambda or a refusal
 abbrev pub HasAnswer : List ℕ → Want → Type 0

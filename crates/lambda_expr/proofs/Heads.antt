@@ -5,11 +5,10 @@ use Rattle.lambda_expr.specs.declared.head.Mark.{Mark}
 use Rattle.lambda_expr.specs.declared.head.Mark.TheVariants as mark
 use Rattle.lambda_expr.specs.declared.lambda.Want.{Want}
 use Rattle.lambda_expr.specs.declared.lexeme.Lexeme.{Lexeme}
-use Rattle.lambda_expr.specs.Grammar.{Expression}
 use Rattle.lambda_expr.specs.HeadReading.{IsMatched, AreTried, first_of}
-use Rattle.lambda_expr.specs.Heads.{ALambda, mark_of, heads}
+use Rattle.lambda_expr.specs.Heads.{ABody, ALambda, mark_of, heads}
 use Rattle.lambda_expr.specs.Stops.{StopsAt}
-use Rattle.lambda_expr.proofs.Existence.{each_answer}
+use Rattle.lambda_expr.proofs.Bodies.{each_body}
 use Rattle.lambda_expr.proofs.Lambdas.{lambda_of, stops_in_body, stops_in_head}
 
 -- marks by number, and back
@@ -66,12 +65,12 @@ each_trial (p ∷ ps) ws =
 abbrev Answered : Want → List Lexeme → Type 0
 Answered w ws = ALambda w ws ⊎ ((n : ℕ) × StopsAt (ALambda w) ws n)
 
-by_body : (w : Want) (ws : List Lexeme) (r : Result ℕ ℕ) (n : ℕ) → AreTried (heads w) ws r → r ≡ Ok n → Expression (drop n ws) ⊎ ((k : ℕ) × StopsAt Expression (drop n ws) k) → Answered w ws
+by_body : (w : Want) (ws : List Lexeme) (r : Result ℕ ℕ) (n : ℕ) → AreTried (heads w) ws r → r ≡ Ok n → ABody w (drop n ws) ⊎ ((k : ℕ) × StopsAt (ABody w) (drop n ws) k) → Answered w ws
 by_body w ws r n t is (inl x) = inl (x.0, lambda_of w ws r n x.0 t is x.1)
 by_body w ws r n t is (inr s) = inr (n + s.0, stops_in_body w ws r n s.0 t is s.1)
 
 by_head : (w : Want) (ws : List Lexeme) (r q : Result ℕ ℕ) → AreTried (heads w) ws r → r ≡ q → Answered w ws
-by_head w ws r (Ok n) t is = by_body w ws r n t is (each_answer (drop n ws))
+by_head w ws r (Ok n) t is = by_body w ws r n t is (each_body w (drop n ws))
 by_head w ws r (Err n) t is = inr (n, stops_in_head w ws r n t is)
 
 pub each_lambda : (w : Want) (ws : List Lexeme) → ALambda w ws ⊎ ((n : ℕ) × StopsAt (ALambda w) ws n)

@@ -12,7 +12,7 @@ use Rattle.lambda_expr.specs.Grammar.{Shape, postfix}
 use Rattle.lambda_expr.specs.Heads.{parameters}
 use Rattle.lambda_expr.specs.Lexemes.{Names}
 use Rattle.lambda_expr.specs.PairForms.{form, whole_form}
-use Rattle.lambda_expr.specs.Refusals.{verdict, wanted}
+use Rattle.lambda_expr.specs.Refusals.{expression_verdict, wanted}
 use Rattle.lambda_expr.specs.Summaries.{summary, summary_steps, top_summary}
 use Rattle.lambda_expr.specs.Typing.{Typed, typed}
 use Rattle.lambda_expr.proofs.ElaborateLemmas as elaborate
@@ -30,17 +30,17 @@ deep n h = let k : 64 < n = omega arith in grind (arith, common_steps)
 flat : (n : ℕ) → (64 < min n 65 → ⊥) → nat_lt 64 n ≡ false
 flat n h = let k : n ≤ 64 = omega arith in grind (arith, common_steps)
 
-pub too_large : (w : Want) (p : Names) (e : Shape) (s : Summary) → s ≡ summary (parameters w) e → fit s.literals ≡ false → verdict w p e ≡ Err fault.LiteralTooLarge
+pub too_large : (w : Want) (p : Names) (e : Shape) (s : Summary) → s ≡ summary (parameters w) e → fit s.literals ≡ false → expression_verdict w p e ≡ Err fault.LiteralTooLarge
 too_large w p e s is off = let h : fit (literals e) ≡ false = ap (λ (s : Summary). fit s.literals) (sym is) ∙ off in rw h refl
 
-pub too_deep : (w : Want) (p : Names) (e : Shape) (s : Summary) → s ≡ summary (parameters w) e → fit s.literals ≡ true → 64 < s.depth → verdict w p e ≡ Err fault.TooDeep
+pub too_deep : (w : Want) (p : Names) (e : Shape) (s : Summary) → s ≡ summary (parameters w) e → fit s.literals ≡ true → 64 < s.depth → expression_verdict w p e ≡ Err fault.TooDeep
 too_deep w p e s is on more =
     let h : fit (literals e) ≡ true = ap (λ (s : Summary). fit s.literals) (sym is) ∙ on in
     let same : s.depth ≡ min (depth e) 65 = ap (λ (s : Summary). s.depth) is in
     let k : nat_lt 64 (depth e) ≡ true = deep (depth e) (omega arith) in
     rw (h, k) refl
 
-pub unknown : (w : Want) (p : Names) (e : Shape) (s : Summary) → s ≡ summary (parameters w) e → fit s.literals ≡ true → (64 < s.depth → ⊥) → s.known ≡ false → verdict w p e ≡ Err fault.UnknownName
+pub unknown : (w : Want) (p : Names) (e : Shape) (s : Summary) → s ≡ summary (parameters w) e → fit s.literals ≡ true → (64 < s.depth → ⊥) → s.known ≡ false → expression_verdict w p e ≡ Err fault.UnknownName
 unknown w p e s is on less off =
     let h : fit (literals e) ≡ true = ap (λ (s : Summary). fit s.literals) (sym is) ∙ on in
     let same : s.depth ≡ min (depth e) 65 = ap (λ (s : Summary). s.depth) is in
@@ -48,7 +48,7 @@ unknown w p e s is on less off =
     let n : names_known (parameters w) e ≡ false = ap (λ (s : Summary). s.known) (sym is) ∙ off in
     rw (h, k, n) refl
 
-pub by_type : (w : Want) (p : Names) (e : Shape) (s : Summary) (t : Typed) (f : PairForm) → s ≡ summary (parameters w) e → fit s.literals ≡ true → (64 < s.depth → ⊥) → s.known ≡ true → t ≡ typed p e → f ≡ whole_form s.form → verdict w p e ≡ wanted w t f
+pub by_type : (w : Want) (p : Names) (e : Shape) (s : Summary) (t : Typed) (f : PairForm) → s ≡ summary (parameters w) e → fit s.literals ≡ true → (64 < s.depth → ⊥) → s.known ≡ true → t ≡ typed p e → f ≡ whole_form s.form → expression_verdict w p e ≡ wanted w t f
 by_type w p e s t f is on less known type same_form =
     let h : fit (literals e) ≡ true = ap (λ (s : Summary). fit s.literals) (sym is) ∙ on in
     let same : s.depth ≡ min (depth e) 65 = ap (λ (s : Summary). s.depth) is in

@@ -41,7 +41,7 @@ goes (calls gs Math i) fs e w h n = absurd cc
 goes (calls gs Long i) fs e w h n = called_next gs Long i w n ∙ ap (λ s. read s w) h
 goes stuck fs e w h n = absurd cc
 
-then_word : (fs : List Frame) (e : Shape) (l : Leads fs e) (w : Lexeme) (ws : List Lexeme) → (w ≡ word.Open → ⊥) → reads (wants fs) (spells e ++ w ∷ ws) ≡ reads (follows (at_top l.frames l.shape) w) ws
+pub then_word : (fs : List Frame) (e : Shape) (l : Leads fs e) (w : Lexeme) (ws : List Lexeme) → (w ≡ word.Open → ⊥) → reads (wants fs) (spells e ++ w ∷ ws) ≡ reads (follows (at_top l.frames l.shape) w) ws
 then_word fs e l w ws n = reads_append (wants fs) (spells e) (w ∷ ws) ∙ ap (λ s. reads (read s w) ws) l.run ∙ ap (λ s. reads s ws) (goes l.state l.frames l.shape w l.settles n)
 
 opens : (o : Opening) (fs : List Frame) (ws : List Lexeme) → reads (wants fs) (opening o ++ ws) ≡ reads (wants (opened o ∷ fs)) ws

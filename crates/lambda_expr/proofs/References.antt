@@ -3,7 +3,8 @@ use Rattle.std.proofs.Common.{◌≡◌, ℕ, ℤ, pos, List, [], ◌∷◌, ◌
 use Rattle.std.specs.Prelude.{unwrap_or}
 use Rattle.lambda_expr.specs.Earlier.{Numbers}
 use Rattle.lambda_expr.specs.Operators.{on, unary_value, binary_value, comparison_value}
-use Rattle.lambda_expr.specs.References.{Agree, long_names, truth_names}
+use Rattle.lambda_expr.specs.References.{Agree, each_names, inner_names, long_names, truth_names}
+use Rattle.lambda_expr.specs.Streams.{Inner, range, range_closed, values, distance, each_value, inner_value, through, up_from}
 use Rattle.lambda_expr.specs.Term.{Long, number, parameter, reference, unary, binary, choose, Truth, literal, compare, opposite, connect, choose_truth}
 use Rattle.lambda_expr.specs.Value.{chosen, connected, long_value, truth_value}
 
@@ -42,3 +43,15 @@ mutual
       let later = back (truth_names c) (truth_names e ++ truth_names f) a b h in
       ap (λ r. on r (λ t. chosen t (truth_value e x a) (truth_value f x a))) (same_truth c x a b (front (truth_names c) (truth_names e ++ truth_names f) a b h))
       ∙ both (λ r s. on (truth_value c x b) (λ t. chosen t r s)) (truth_value e x a) (truth_value e x b) (truth_value f x a) (truth_value f x b) (same_truth e x a b (front (truth_names e) (truth_names f) a b later)) (same_truth f x a b (back (truth_names e) (truth_names f) a b later))
+
+same_each : (es : List Long) (x : ℤ) (a b : Numbers) → Agree (each_names es) a b → each_value es x a ≡ each_value es x b
+same_each [] x a b h = refl
+same_each (e ∷ es) x a b h =
+    both (λ r s. on r (λ v. on s (λ vs. Ok (v ∷ vs)))) (long_value e x a) (long_value e x b) (each_value es x a) (each_value es x b) (same_long e x a b (front (long_names e) (each_names es) a b h)) (same_each es x a b (back (long_names e) (each_names es) a b h))
+
+pub same_inner : (g : Inner) (x : ℤ) (a b : Numbers) → Agree (inner_names g) a b → inner_value g x a ≡ inner_value g x b
+same_inner (range e f) x a b h =
+    both (λ r s. on r (λ v. on s (λ w. up_from v (distance v w)))) (long_value e x a) (long_value e x b) (long_value f x a) (long_value f x b) (same_long e x a b (front (long_names e) (long_names f) a b h)) (same_long f x a b (back (long_names e) (long_names f) a b h))
+same_inner (range_closed e f) x a b h =
+    both (λ r s. on r (λ v. on s (λ w. up_from v (through v w)))) (long_value e x a) (long_value e x b) (long_value f x a) (long_value f x b) (same_long e x a b (front (long_names e) (long_names f) a b h)) (same_long f x a b (back (long_names e) (long_names f) a b h))
+same_inner (values es) x a b h = same_each es x a b h

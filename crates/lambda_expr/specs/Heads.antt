@@ -8,7 +8,9 @@ use Rattle.lambda_expr.specs.declared.lexeme.Lexeme.{Lexeme}
 use Rattle.lambda_expr.specs.declared.lexeme.Lexeme.TheVariants as word
 use Rattle.lambda_expr.specs.declared.lexeme.Name.TheVariants.{Plain, LowerLong}
 use Rattle.lambda_expr.specs.declared.sign.Sign.TheVariants.{Comma}
+use Rattle.lambda_expr.specs.declared.source.Source.{Source}
 use Rattle.lambda_expr.specs.Grammar.{Shape, IsExpression}
+use Rattle.lambda_expr.specs.Sources.{IsStream}
 
 -- what a word is in a head: a name is a parameter by its number
 abbrev pub mark_of : Lexeme → Option Mark
@@ -59,9 +61,25 @@ abbrev pub parameters : Want → ℕ
 parameters want.Pair = 2
 parameters w = 1
 
+-- a body as it is written: an expression, or a source of an inner stream with its operands
+pub data BodyShape : Type 0 where
+  expression : Shape → BodyShape
+  operands : Source → List Shape → BodyShape
+
+-- the words are a body that is wanted: of a stream a source and its operands, else an expression
+abbrev pub IsBody : Want → List Lexeme → BodyShape → Type 0
+IsBody want.Stream ws (expression e) = ⊥
+IsBody want.Stream ws (operands s es) = IsStream s es ws
+IsBody w ws (expression e) = IsExpression ws e
+IsBody w ws (operands s es) = ⊥
+
+-- helper: the words are a body
+abbrev pub ABody : Want → List Lexeme → Type 0
+ABody w ws = (b : BodyShape) × IsBody w ws b
+
 -- the words are a lambda of this want with this body (JLS 17, 15.27)
-abbrev pub IsLambda : Want → List Lexeme → Shape → Type 0
-IsLambda w ws e = HasHead (heads w) (λ front rest. IsExpression rest e) ws
+abbrev pub IsLambda : Want → List Lexeme → BodyShape → Type 0
+IsLambda w ws b = HasHead (heads w) (λ front rest. IsBody w rest b) ws
 
 abbrev pub ALambda : Want → List Lexeme → Type 0
-ALambda w ws = (e : Shape) × IsLambda w ws e
+ALambda w ws = (b : BodyShape) × IsLambda w ws b

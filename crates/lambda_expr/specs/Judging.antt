@@ -5,9 +5,9 @@ use Rattle.lambda_expr.specs.declared.fault.ReadFault.TheVariants as fault
 use Rattle.lambda_expr.specs.declared.lambda.Lambda.{Lambda}
 use Rattle.lambda_expr.specs.declared.lexeme.Lexeme.{Lexeme}
 use Rattle.lambda_expr.specs.declared.lambda.Want.{Want}
-use Rattle.lambda_expr.specs.declared.step.Step.{Step}
-use Rattle.lambda_expr.specs.Grammar.{Shape, postfix}
-use Rattle.lambda_expr.specs.Heads.{IsLambda}
+use Rattle.lambda_expr.specs.declared.body.BodySteps.{BodySteps}
+use Rattle.lambda_expr.specs.BodyReading.{AreSteps}
+use Rattle.lambda_expr.specs.Heads.{BodyShape, IsLambda}
 use Rattle.lambda_expr.specs.Refusals.{LambdaTerm, body_of}
 
 -- what the judge answers, if this is the verdict
@@ -18,5 +18,5 @@ IsJudged v (Err (fault.Syntax n)) = ⊥
 IsJudged v (Err f) = v ≡ Err f
 
 -- the words are a lambda of this want whose body has these steps
-abbrev pub IsWritten : Want → List Lexeme → List Step → Type 0
-IsWritten w ws ss = (e : Shape) × IsLambda w ws e × (ss ≡ postfix e)
+abbrev pub IsWritten : Want → List Lexeme → BodySteps → Type 0
+IsWritten w ws b = (shape : BodyShape) × IsLambda w ws shape × AreSteps shape b

@@ -1,4 +1,5 @@
 pub mod Checks
+pub mod BodyReading
 pub mod Codes
 pub mod Earlier
 pub mod Elaborating
@@ -15,8 +16,11 @@ pub mod PairForms
 pub mod Reader
 pub mod References
 pub mod Refusals
+pub mod SourceReading
+pub mod Sources
 pub mod Stacks
 pub mod Stops
+pub mod StreamChecks
 pub mod Streams
 pub mod Summaries
 pub mod Term

@@ -1,7 +1,8 @@
 -- Meaning: the references of an expression, in order of writing.
 use Rattle.std.specs.Prelude.{◌≡◌, ℕ, List, [], ◌∷◌, ◌++◌}
 use Rattle.lambda_expr.specs.Earlier.{Numbers, number_under}
-use Rattle.lambda_expr.specs.Refusals.{LambdaTerm, long, boolean, pair}
+use Rattle.lambda_expr.specs.Refusals.{LambdaTerm, long, boolean, stream, pair}
+use Rattle.lambda_expr.specs.Streams.{Inner, range, range_closed, values}
 use Rattle.lambda_expr.specs.Term.{Long, number, parameter, reference, unary, binary, choose, Truth, literal, compare, opposite, connect, choose_truth}
 
 -- the names of the earlier jobs that an expression refers to, from left to right
@@ -21,10 +22,22 @@ abbrev mutual
   truth_names (connect o a b) = truth_names a ++ truth_names b
   truth_names (choose_truth c a b) = truth_names c ++ (truth_names a ++ truth_names b)
 
+-- those of each expression of a list, one after the other
+abbrev pub each_names : List Long → List (List ℕ)
+each_names [] = []
+each_names (e ∷ es) = long_names e ++ each_names es
+
+-- those of an inner stream, in order of writing
+abbrev pub inner_names : Inner → List (List ℕ)
+inner_names (range a b) = long_names a ++ long_names b
+inner_names (range_closed a b) = long_names a ++ long_names b
+inner_names (values es) = each_names es
+
 -- those of a lambda; of one with two parameters only its form is kept
 abbrev pub names_of : LambdaTerm → List (List ℕ)
 names_of (long e) = long_names e
 names_of (boolean e) = truth_names e
+names_of (stream g) = inner_names g
 names_of (pair f) = []
 
 -- two environments have the same number under each of these names, or both none

@@ -1,6 +1,6 @@
 -- Meaning: which texts are lambdas, and what each other text is refused for.
 pub use Rattle.stream_tokens.specs.CutTexts.{column}
-use Rattle.std.specs.Prelude.{◌≡◌, ℕ, ◌<◌, ◌≤◌, not, nat_lt, if◌then◌else◌, ◌⊎◌, List, length, Result, Ok, Err}
+use Rattle.std.specs.Prelude.{◌≡◌, ℕ, suc, max, ◌<◌, ◌≤◌, not, nat_lt, if◌then◌else◌, ◌⊎◌, List, length, Option, Some, None, Result, Ok, Err}
 use Rattle.stream_tokens.specs.declared.token.Token.{Token}
 use Rattle.stream_tokens.specs.Tokens.{AreTokensOf}
 use Rattle.lambda_expr.specs.declared.fault.ReadFault.{ReadFault}
@@ -11,20 +11,24 @@ use Rattle.lambda_expr.specs.declared.lambda.Lambda.{Lambda}
 use Rattle.lambda_expr.specs.declared.lambda.PairForm.{PairForm}
 use Rattle.lambda_expr.specs.declared.lambda.Body.{Body}
 use Rattle.lambda_expr.specs.declared.lambda.Body.TheVariants as body
+use Rattle.lambda_expr.specs.declared.source.Source.{Source}
 use Rattle.lambda_expr.specs.Checks.{depth, fit, literals, names_known}
 use Rattle.lambda_expr.specs.Grammar.{Shape}
-use Rattle.lambda_expr.specs.Heads.{ALambda, IsLambda, parameters}
+use Rattle.lambda_expr.specs.Heads.{ALambda, BodyShape, expression, operands, IsLambda, parameters}
 use Rattle.lambda_expr.specs.Lexemes.{Names, lexemes_of, names_in}
 use Rattle.lambda_expr.specs.Stops.{StopsAt}
 use Rattle.lambda_expr.specs.PairForms.{form, whole_form}
+use Rattle.lambda_expr.specs.StreamChecks.{all_fit, all_known, deepest, numbers, stream_of}
+use Rattle.lambda_expr.specs.Streams.{Inner, inner_of}
 use Rattle.lambda_expr.specs.Term.{Long, Truth, long_of, truth_of}
 use Rattle.lambda_expr.specs.Typing as typing
 use Rattle.lambda_expr.specs.Typing.{Typed, typed}
 
--- a lambda: an expression whose value is a number or a boolean, or the form of one with two parameters
+-- a lambda: an expression whose value is a number, a boolean or a stream, or the form of one with two parameters
 pub data LambdaTerm : Type 0 where
   long : Long → LambdaTerm
   boolean : Truth → LambdaTerm
+  stream : Inner → LambdaTerm
   pair : PairForm → LambdaTerm
 
 -- the lambda of an expression of this type and form, if it is of the type that is wanted
@@ -34,16 +38,35 @@ wanted want.Bool (typing.boolean a) f = Ok (boolean a)
 wanted want.Pair (typing.long a) f = Ok (pair f)
 wanted w t f = Err fault.WrongType
 
--- what a lambda with this body gives, if its references stand for these names: the first that applies
-abbrev pub verdict : Want → Names → Shape → Result LambdaTerm ReadFault
-verdict w h e =
+-- what a lambda whose body is this expression gives, if its references stand for these names: the first that applies
+abbrev pub expression_verdict : Want → Names → Shape → Result LambdaTerm ReadFault
+expression_verdict w h e =
     if not (fit (literals e)) then Err fault.LiteralTooLarge
     else (if nat_lt 64 (depth e) then Err fault.TooDeep
     else (if not (names_known (parameters w) e) then Err fault.UnknownName
     else wanted w (typed h e) (whole_form (form e))))
 
+-- helper: the lambda of a source and the numbers that its operands are
+abbrev pub streamed : Source → Option (List Long) → Result LambdaTerm ReadFault
+streamed s None = Err fault.WrongType
+streamed s (Some es) = Ok (stream (stream_of s es))
+
+-- what a lambda whose body is a source with these operands gives: the first that applies. The body is a call, so it is
+-- one deeper than its deepest operand, and it has at most 64 operands
+abbrev pub stream_verdict : Names → Source → List Shape → Result LambdaTerm ReadFault
+stream_verdict h s es =
+    if not (all_fit es) then Err fault.LiteralTooLarge
+    else (if nat_lt 64 (max (suc (deepest es)) (length es)) then Err fault.TooDeep
+    else (if not (all_known 1 es) then Err fault.UnknownName
+    else streamed s (numbers h es)))
+
+-- what a lambda with this body gives
+abbrev pub verdict : Want → Names → BodyShape → Result LambdaTerm ReadFault
+verdict w h (expression e) = expression_verdict w h e
+verdict w h (operands s es) = stream_verdict h s es
+
 -- the text has at most 4,096 tokens, and they are a lambda with this body
-pub record IsSpelled (text : List ℕ) (w : Want) (body : Shape) : Type 0 where
+pub record IsSpelled (text : List ℕ) (w : Want) (body : BodyShape) : Type 0 where
   pub tokens : List Token
   pub cut : AreTokensOf tokens text
   pub few : length tokens ≤ 4096
@@ -51,7 +74,7 @@ pub record IsSpelled (text : List ℕ) (w : Want) (body : Shape) : Type 0 where
 
 -- the text is a lambda, and that is what it gives
 pub record Judged (text : List ℕ) (w : Want) (r : Result LambdaTerm ReadFault) : Type 0 where
-  pub body : Shape
+  pub body : BodyShape
   pub spelled : IsSpelled text w body
   pub gives : verdict w (names_in text spelled.tokens) body ≡ r
 
@@ -74,6 +97,7 @@ pub record HasTooManyTokens (text : List ℕ) : Type 0 where
 abbrev pub body_of : Body → LambdaTerm
 body_of (body.Long e) = long (long_of e)
 body_of (body.Bool e) = boolean (truth_of e)
+body_of (body.Stream e) = stream (inner_of e)
 body_of (body.Pair f) = pair f
 
 -- the text spells this lambda of that want

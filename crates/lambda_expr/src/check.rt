@@ -14,6 +14,9 @@ use super::step::{Opening, Step};
 use super::table::{constant_of, function_of};
 use std::alloc::{AllocError, Global};
 
+/// How deep an expression may be.
+pub(crate) const MAX_DEPTH: u32 = 64;
+
 /// 2^63: the least number that is too large, but may stand directly after a minus.
 const TOO_LARGE: u64 = 1 << 63;
 

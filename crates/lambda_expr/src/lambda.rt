@@ -1,6 +1,7 @@
 // Lambdas as they are kept once they are read.
 
 use super::expr::{BoolExpr, LongExpr};
+use super::inner::InnerExpr;
 
 /// What kind of lambda a text has to be.
 #[derive(Clone, Copy, Debug, PartialEq, Eq)]
@@ -9,6 +10,8 @@ pub enum Want {
     Long,
     /// From a number to a boolean, as `filter` takes it.
     Bool,
+    /// From a number to a stream of numbers, as `flatMap` takes it.
+    Stream,
     /// From two numbers to a number, as `reduce` takes it.
     Pair,
 }
@@ -24,6 +27,7 @@ pub struct Lambda {
 pub enum Body {
     Long(LongExpr),
     Bool(BoolExpr),
+    Stream(InnerExpr),
     Pair(PairForm),
 }
 

@@ -5,8 +5,7 @@ ghost use Rattle.lambda_expr.specs.declared.fault.ReadFault.{ReadFault};
 ghost use Rattle.lambda_expr.specs.declared.lambda.Lambda.{Lambda};
 ghost use Rattle.lambda_expr.specs.declared.lambda.Want.{Want};
 ghost use Rattle.lambda_expr.specs.declared.lexeme.Lexeme.{Lexeme as word};
-ghost use Rattle.lambda_expr.specs.Grammar.{Shape};
-ghost use Rattle.lambda_expr.specs.Heads.{ALambda, IsLambda};
+ghost use Rattle.lambda_expr.specs.Heads.{ALambda, BodyShape, IsLambda};
 ghost use Rattle.lambda_expr.specs.Stops.{StopsAt};
 ghost use Rattle.lambda_expr.specs.Numbers.{IsNumberRefused, SpellsNumber};
 ghost use Rattle.lambda_expr.specs.Refusals.{IsRefused, Judged, LambdaTerm, Spells, body_of};
@@ -16,8 +15,8 @@ ghost use Rattle.stream_tokens.specs.declared.token.Token.{Token};
 
 /// Words are one lambda of a want at most.
 pub fn one_reading()
-    ensures { (ws : List word) (want : Want) (e f : Shape) →
-        IsLambda want ws e → IsLambda want ws f → e ≡ f }
+    ensures { (ws : List word) (want : Want) (b c : BodyShape) →
+        IsLambda want ws b → IsLambda want ws c → b ≡ c }
 {}
 
 /// Words stop being the beginning of a lambda of a want at one place at most.

@@ -18,6 +18,7 @@
 //! is evaluated.
 #![tactic(auto)]
 
+mod body;
 mod check;
 mod elaborate;
 mod env;
@@ -36,8 +37,10 @@ mod parse;
 mod read;
 mod run;
 mod sign;
+mod source;
 mod stack;
 mod step;
+mod stream;
 mod table;
 mod wrapping;
 

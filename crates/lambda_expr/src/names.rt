@@ -1,13 +1,15 @@
 //! The names of the earlier jobs that a lambda refers to.
 
 ghost use Rattle.lambda_expr.specs.Earlier.{Numbers};
-ghost use Rattle.lambda_expr.specs.References.{Agree, long_names, names_of, truth_names};
+ghost use Rattle.lambda_expr.specs.References.{Agree, each_names, inner_names, long_names, names_of, truth_names};
 ghost use Rattle.lambda_expr.specs.Refusals.{body_of};
+ghost use Rattle.lambda_expr.specs.Streams.{Inner, exprs_of, inner_of, inner_value};
 ghost use Rattle.lambda_expr.specs.Term.{Long, Truth, long_of, truth_of};
 ghost use Rattle.lambda_expr.specs.Value.{long_value, truth_value};
 ghost use Rattle.std.specs.Prelude.{◌≡◌, ◌++◌, [], ◌∷◌, IfOk, ℤ};
 
 use super::expr::{BoolExpr, LongExpr};
+use super::inner::InnerExpr;
 use super::lambda::{Body, Lambda};
 use std::alloc::{AllocError, Global};
 use stream_tokens::Bytes;
@@ -68,6 +70,30 @@ impl BoolExpr {
     }
 }
 
+// The names of expressions, one expression after the other.
+fn push_each(alloc: Global, exprs: &[LongExpr], names: &mut Vec<Bytes>) -> Result<(), AllocError>
+    ensures { IfOk result (λ _. names.new.items ≡ names.old.items ++ each_names (exprs_of exprs.now)) }
+{
+    for expr in exprs {
+        expr.push_names(alloc, names)?;
+    }
+    Ok(())
+}
+
+impl InnerExpr {
+    fn push_names(&self, alloc: Global, names: &mut Vec<Bytes>) -> Result<(), AllocError>
+        ensures { IfOk result (λ _. names.new.items ≡ names.old.items ++ inner_names (inner_of self.now)) }
+    {
+        match self {
+            InnerExpr::Range(from, to) | InnerExpr::RangeClosed(from, to) => {
+                from.push_names(alloc, names)?;
+                to.push_names(alloc, names)
+            }
+            InnerExpr::Of(operands) => push_each(alloc, operands.exprs(), names),
+        }
+    }
+}
+
 impl Lambda {
     /// The names that follow the `$` of its references, in order of writing, each as often as it is
     /// written; none for a lambda of two parameters, of which only the form is kept. The one error is
@@ -79,6 +105,7 @@ impl Lambda {
         match &self.body {
             Body::Long(expr) => expr.push_names(alloc, &mut names)?,
             Body::Bool(expr) => expr.push_names(alloc, &mut names)?,
+            Body::Stream(inner) => inner.push_names(alloc, &mut names)?,
             Body::Pair(_) => {}
         }
         Ok(names)
@@ -91,4 +118,6 @@ pub fn references_decide()
         Agree (long_names e) a b → long_value e x a ≡ long_value e x b }
     ensures boolean { (e : Truth) (x : ℤ) (a b : Numbers) →
         Agree (truth_names e) a b → truth_value e x a ≡ truth_value e x b }
+    ensures stream { (g : Inner) (x : ℤ) (a b : Numbers) →
+        Agree (inner_names g) a b → inner_value g x a ≡ inner_value g x b }
 {}

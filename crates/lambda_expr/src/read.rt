@@ -1,40 +1,40 @@
 //! Lambdas, read from a text.
 
+ghost use Rattle.lambda_expr.specs.BodyReading.{AreSteps};
 ghost use Rattle.lambda_expr.specs.Grammar.{Shape, postfix};
-ghost use Rattle.lambda_expr.specs.Heads.{ALambda};
+ghost use Rattle.lambda_expr.specs.Heads.{ALambda, BodyShape};
 ghost use Rattle.lambda_expr.specs.Judging.{IsJudged, IsWritten};
 ghost use Rattle.lambda_expr.specs.Codes.{IsStop};
 ghost use Rattle.lambda_expr.specs.Elaborating.{typed_of};
 ghost use Rattle.lambda_expr.specs.Lexemes.{names_in};
-ghost use Rattle.lambda_expr.specs.Refusals.{IsRefused, Spells, body_of, verdict};
+ghost use Rattle.lambda_expr.specs.Refusals.{IsRefused, Spells, body_of, expression_verdict, verdict};
 ghost use Rattle.lambda_expr.specs.Refusals.{wanted as specs_wanted};
 ghost use Rattle.std.specs.Prelude.{◌≡◌, ◌≢◌, [], Err, IfErr, IfOk, Ok};
 
-use super::check::summarize;
+use super::body::{BodySteps, parse_body};
+use super::check::{MAX_DEPTH, summarize};
 use super::elaborate::{Operand, elaborate};
 use super::fault::ReadFault;
 use super::head::{parameters, parse_head};
 use super::lambda::{Body, Lambda, PairForm, Want};
 use super::lexeme::{Lexeme, lexemes};
-use super::parse::{Stop, parse};
+use super::parse::Stop;
 use super::step::Step;
+use super::stream::judge_stream;
 use std::alloc::Global;
 use stream_tokens::{CutText, cut};
 
 /// How many tokens a lambda may have.
 const MAX_TOKENS: usize = 4096;
 
-/// How deep an expression may be.
-const MAX_DEPTH: u32 = 64;
-
-// Reads the words of a lambda: the steps of its body, or where the words stop.
-fn parse_lambda(alloc: Global, words: &[Lexeme], want: Want) -> Result<Vec<Step>, Stop>
-    ensures ok { IfOk result (λ steps. IsWritten want words.now steps.items) }
+// Reads the words of a lambda: its body in steps, or where the words stop.
+fn parse_lambda(alloc: Global, words: &[Lexeme], want: Want) -> Result<BodySteps, Stop>
+    ensures ok { IfOk result (λ body. IsWritten want words.now body) }
     ensures stops { IfErr result (λ stop. IsStop (ALambda want) words.now stop) }
 {
     match parse_head(want, words) {
-        Ok(count) => match parse(alloc, &words[count..]) {
-            Ok(steps) => Ok(steps),
+        Ok(count) => match parse_body(alloc, want, &words[count..]) {
+            Ok(body) => Ok(body),
             Err(Stop::At(place)) => Err(Stop::At(count + place)),
             Err(Stop::NoMemory) => Err(Stop::NoMemory),
         },
@@ -56,10 +56,15 @@ fn wanted(want: Want, operand: Operand, form: PairForm) -> Result<Lambda, ReadFa
     Ok(Lambda { body })
 }
 
-// The lambda, or the first refusal: of its numbers, its depth, its names, its types.
-fn judge(alloc: Global, text: &CutText, steps: &[Step], want: Want) -> Result<Lambda, ReadFault>
+// The lambda of an expression, or the first refusal: of its numbers, its depth, its names, its types.
+fn judge_expression(
+    alloc: Global,
+    text: &CutText,
+    steps: &[Step],
+    want: Want,
+) -> Result<Lambda, ReadFault>
     ensures { (e : Shape) → steps.now ≡ postfix e
-        → IsJudged (verdict want (names_in text.now.bytes text.now.tokens) e) result }
+        → IsJudged (expression_verdict want (names_in text.now.bytes text.now.tokens) e) result }
 {
     let summary = summarize(alloc, parameters(want), steps)?;
     if !summary.literals.fit() {
@@ -73,6 +78,17 @@ fn judge(alloc: Global, text: &CutText, steps: &[Step], want: Want) -> Result<La
     }
     let operand = elaborate(alloc, text, steps)?;
     wanted(want, operand, summary.form.whole())
+}
+
+// The lambda, or the first refusal.
+fn judge(alloc: Global, text: &CutText, body: &BodySteps, want: Want) -> Result<Lambda, ReadFault>
+    ensures { (shape : BodyShape) → AreSteps shape body.now
+        → IsJudged (verdict want (names_in text.now.bytes text.now.tokens) shape) result }
+{
+    match body {
+        BodySteps::Expression(steps) => judge_expression(alloc, text, steps, want),
+        BodySteps::Stream(source, operands) => judge_stream(alloc, text, *source, operands),
+    }
 }
 
 /// Reads a lambda of the wanted kind (JLS 17, 15.27) from a text that was cut already, as a part of a
@@ -90,7 +106,7 @@ pub fn read_lambda_of(alloc: Global, text: &CutText, want: Want) -> Result<Lambd
     }
     let words = lexemes(alloc, text)?;
     match parse_lambda(alloc, &words, want) {
-        Ok(steps) => judge(alloc, text, &steps, want),
+        Ok(body) => judge(alloc, text, &body, want),
         Err(Stop::At(place)) => Err(ReadFault::Syntax {
             column: text.column(place),
         }),

@@ -23,6 +23,7 @@ impl Model for Stack {
 }
 
 impl Stack {
+    /// A stack of nothing; it takes no memory yet.
     pub(crate) fn new(alloc: Global) -> Stack
         ensures { result ≡ [] }
     {
@@ -31,6 +32,7 @@ impl Stack {
         }
     }
 
+    /// Puts what waits on top. The one error is that an allocation failed.
     pub(crate) fn put(&mut self, innermost: Pending) -> Result<(), AllocError>
         ensures { OnOk result (self.new ≡ innermost ∷ self.old) }
     {
@@ -38,6 +40,7 @@ impl Stack {
         Ok(())
     }
 
+    /// Takes the innermost off the stack, if anything waits.
     pub(crate) fn take(&mut self) -> Option<Pending>
         ensures some { IfSome result (λ innermost. self.old ≡ innermost ∷ self.new) }
         ensures none { IfNone result (self.old ≡ []) }
@@ -45,6 +48,7 @@ impl Stack {
         self.items.pop()
     }
 
+    /// The innermost, which stays where it is.
     pub(crate) fn innermost(&self) -> Option<Pending>
         ensures some { IfSome result (λ innermost. (rest : List pending) × (self.now ≡ innermost ∷ rest)) }
         ensures none { IfNone result (self.now ≡ []) }

@@ -37,7 +37,7 @@ returns-in-Ok-clause-ok c =
     let count = c.len.ensures in
     let few : length t.tokens ≤ 4096 = omega arith in
     let read : IsRead t.bytes t.tokens c.deref.result.now = record { cut = c.bytes.ensures.tokens; few = few; words = c.deref.ensures.value ∙ c.in_ok-words.ensures } in
-    judged_ok t.bytes t.tokens c.deref.result.now c.args.want c.in-Ok.steps.items c.judge.result read c.in-Ok.ensures.ok (λ e is. c.judge.ensures e (c.deref-in-Ok.ensures.value ∙ is))
+    judged_ok t.bytes t.tokens c.deref.result.now c.args.want c.in-Ok.body c.judge.result read c.in-Ok.ensures.ok c.judge.ensures
 
 pub returns-in-Ok-clause-refused : goal.returns-in-Ok-clause-refused
 returns-in-Ok-clause-refused c =
@@ -46,7 +46,7 @@ returns-in-Ok-clause-refused c =
     let count = c.len.ensures in
     let few : length t.tokens ≤ 4096 = omega arith in
     let read : IsRead t.bytes t.tokens c.deref.result.now = record { cut = c.bytes.ensures.tokens; few = few; words = c.deref.ensures.value ∙ c.in_ok-words.ensures } in
-    judged_refused t.bytes t.tokens c.deref.result.now c.args.want c.in-Ok.steps.items c.judge.result read c.in-Ok.ensures.ok (λ e is. c.judge.ensures e (c.deref-in-Ok.ensures.value ∙ is))
+    judged_refused t.bytes t.tokens c.deref.result.now c.args.want c.in-Ok.body c.judge.result read c.in-Ok.ensures.ok c.judge.ensures
 
 pub returns-in-Err-At-clause-refused : goal.returns-in-Err-At-clause-refused
 returns-in-Err-At-clause-refused c =

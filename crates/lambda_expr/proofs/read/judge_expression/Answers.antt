@@ -14,7 +14,7 @@ use Rattle.lambda_expr.specs.Summaries.{summary_steps, top_summary}
 use Rattle.lambda_expr.specs.Typing.{Typed}
 use Rattle.std.specs.Prelude.{Err, IfErr, IfOk, Ok, Result}
 use Rattle.lambda_expr.proofs.JudgeLemmas.{by_type, summary_is, too_deep, too_large, typed_is, unknown}
-use Rattle.lambda_expr.proofs.read.judge.Goals as goal
+use Rattle.lambda_expr.proofs.read.judge_expression.Goals as goal
 
 not_true : (b : Bool) → not b ≡ true → b ≡ false
 not_true true h = absurd cc

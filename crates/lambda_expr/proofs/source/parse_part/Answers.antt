@@ -1,4 +1,4 @@
-use Rattle.std.proofs.Common.{◌≡◌, ◌≤◌, ◌<◌, ℕ, List, Result, subst, sym, length, take}
+use Rattle.std.proofs.Common.{◌≡◌, ℕ, List, Result, subst, sym, take}
 use Rattle.std.specs.Prelude.{IfErr}
 use Rattle.lambda_expr.specs.declared.lexeme.Lexeme.{Lexeme}
 use Rattle.lambda_expr.specs.declared.parse.Stop.{Stop}
@@ -9,7 +9,6 @@ use Rattle.lambda_expr.specs.Codes.{IsStop}
 use Rattle.lambda_expr.specs.Grammar.{Expression}
 use Rattle.lambda_expr.specs.Stops.{StopsAt}
 use Rattle.lambda_expr.proofs.OperandLemmas.{no_end, no_front, only_one}
-use Rattle.lambda_expr.proofs.SourceLemmas.{stream_found}
 use Rattle.lambda_expr.proofs.source.parse_part.Goals.{in-Ok, in-Err-NoMemory, in-Err-At+else-end-words+in-Ok-parse, in-Err-At+else-end-words+in-Err-NoMemory-parse, in-Err-At+else-end-words+in-Err-At-parse}
 use Rattle.lambda_expr.proofs.source.parse_part.Goals as goal
 
@@ -24,9 +23,9 @@ returns-then-end-words-clause-stops c = λ s n t. no_end c.args.words.now c.in-E
 
 pub returns-clause-stops : goal.returns-clause-stops
 returns-clause-stops c = elim c.match-parse.branch [
-    in-Ok w ↦ answered c.args.words.now c.match-parse.result _ w.result-is (λ s n t. only_one c.args.words.now w.in-Ok.ensures.ok.0 s n t w.in-Ok.ensures.ok.1)
-    | in-Err-NoMemory w ↦ answered c.args.words.now c.match-parse.result _ w.result-is tt
-    | in-Err-At+else-end-words+in-Ok-parse w ↦ answered c.args.words.now c.match-parse.result _ w.result-is tt
-    | in-Err-At+else-end-words+in-Err-NoMemory-parse w ↦ answered c.args.words.now c.match-parse.result _ w.result-is tt
-    | in-Err-At+else-end-words+in-Err-At-parse w ↦ answered c.args.words.now c.match-parse.result _ w.result-is (λ s n t. no_front c.args.words.now w.in-Err-At.end s n t w.if-end-words.false (stopping c.args.words.now _ _ w.in-Err-At.ensures.stops w.in-Err-At.field-0-is) (stopping (take w.in-Err-At.end c.args.words.now) _ _ w.in-Err-At-parse.ensures.stops w.in-Err-At-parse.field-0-is).outside)
-  ]
+  | in-Ok w ↦ answered c.args.words.now c.match-parse.result _ w.result-is (λ s n t. only_one c.args.words.now w.in-Ok.ensures.ok.0 s n t w.in-Ok.ensures.ok.1)
+  | in-Err-NoMemory w ↦ answered c.args.words.now c.match-parse.result _ w.result-is tt
+  | in-Err-At+else-end-words+in-Ok-parse w ↦ answered c.args.words.now c.match-parse.result _ w.result-is tt
+  | in-Err-At+else-end-words+in-Err-NoMemory-parse w ↦ answered c.args.words.now c.match-parse.result _ w.result-is tt
+  | in-Err-At+else-end-words+in-Err-At-parse w ↦ answered c.args.words.now c.match-parse.result _ w.result-is (λ s n t. no_front c.args.words.now w.in-Err-At.end s n t w.if-end-words.false (stopping c.args.words.now _ _ w.in-Err-At.ensures.stops w.in-Err-At.field-0-is) (stopping (take w.in-Err-At.end c.args.words.now) _ _ w.in-Err-At-parse.ensures.stops w.in-Err-At-parse.field-0-is).outside)
+]

@@ -1,9 +1,9 @@
 //! The sources of inner streams, and the reader of their operands.
 
 ghost use Rattle.lambda_expr.specs.Codes.{IsStop};
-ghost use Rattle.lambda_expr.specs.SourceReading.{ArePosted, IsFront, IsNoNext, Next, Operands, Says, TakesMore, dotted_at, named_at, opened_at, sourced_at, stream_at};
+ghost use Rattle.lambda_expr.specs.SourceReading.{ArePosted, IsFront, IsNoNext, Next, Operands, Says, TakesMore, after_close, dotted_at, named_at, opened_at, stream_at};
 ghost use Rattle.lambda_expr.specs.Sources.{Takes, source_of};
-ghost use Rattle.std.specs.Prelude.{◌≡◌, ◌≤◌, IfErr, IfOk};
+ghost use Rattle.std.specs.Prelude.{◌≡◌, ◌≤◌, IfErr, IfOk, option_map};
 
 use super::lexeme::{Lexeme, Member, Name};
 use super::parse::{Stop, parse};
@@ -42,7 +42,7 @@ fn source_of(member: Member) -> Option<Source>
 }
 
 impl Source {
-    // Whether it has so many operands.
+    // Whether it has this number of operands.
     fn takes(self, count: usize) -> bool
         ensures { Says result (Takes self count) }
     {
@@ -53,7 +53,7 @@ impl Source {
         }
     }
 
-    // Whether one more operand may follow so many.
+    // Whether one more operand may follow after this number of them.
     fn takes_more(self, count: usize) -> bool
         ensures { Says result (TakesMore self count) }
     {
@@ -179,6 +179,16 @@ fn parse_parts(alloc: Global, source: Source, words: &[Lexeme]) -> Result<Vec<Ve
     Err(Stop::At(words.len()))
 }
 
+// What follows the parenthesis that closes, if the words begin with it.
+fn after_close(words: &[Lexeme]) -> Option<&[Lexeme]>
+    ensures { option_map (λ rest. rest.now) result ≡ after_close words.now }
+{
+    match words.split_first() {
+        Some((Lexeme::Close, rest)) => Some(rest),
+        _ => None,
+    }
+}
+
 /// Reads the operands of a source and the parenthesis that closes, or where the words stop.
 pub(crate) fn parse_operands(
     alloc: Global,
@@ -188,8 +198,8 @@ pub(crate) fn parse_operands(
     ensures ok { IfOk result (λ parts. ArePosted source words.now parts.items) }
     ensures stops { IfErr result (λ stop. IsStop (Operands source) words.now stop) }
 {
-    match words.split_first() {
-        Some((Lexeme::Close, rest)) => {
+    match after_close(words) {
+        Some(rest) => {
             if !source.takes(0) {
                 return Err(Stop::At(0));
             }
@@ -198,7 +208,7 @@ pub(crate) fn parse_operands(
             }
             Ok(Vec::new(alloc))
         }
-        _ => {
+        None => {
             if !source.takes_more(0) {
                 return Err(Stop::At(0));
             }

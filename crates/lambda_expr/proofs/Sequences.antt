@@ -1,5 +1,5 @@
 -- Where words stop, for a grammar that is another one after some words.
-use Rattle.std.proofs.Common.{◌≡◌, inl, inr, ◌⊎◌, ℕ, zero, suc, ◌+◌, ◌<◌, ◌≤◌, List, [], ◌∷◌, ◌++◌, length, take, refl, sym, ap, subst, ◌∙◌, append_assoc, append-nil, arith}
+use Rattle.std.proofs.Common.{◌≡◌, inl, inr, ◌⊎◌, ℕ, suc, ◌+◌, ◌<◌, List, [], ◌∷◌, ◌++◌, length, take, refl, sym, ap, subst, ◌∙◌, append_assoc, arith}
 use Rattle.std.proofs.lemmas.List.{take_all}
 use Rattle.lambda_expr.specs.Stops.{Begins, StopsAt}
 
@@ -35,6 +35,15 @@ stop_end G a begins dead = record {
   outside = dead;
   begins = subst (Begins G) (sym (take_all (length a) a (omega arith))) begins;
   stops = λ lt x. absurd (omega arith);
+}
+
+-- the same grammar under another name
+pub stop_same : {W : Type 0} (G H : List W → Type 0) (ws : List W) (n : ℕ) → ((m : List W) → G m → H m) → ((m : List W) → H m → G m) → StopsAt G ws n → StopsAt H ws n
+stop_same G H ws n to from s = record {
+  within = s.within;
+  outside = λ h. s.outside (from ws h);
+  begins = (s.begins.0, to _ s.begins.1);
+  stops = λ lt b. s.stops lt (b.0, from _ b.1);
 }
 
 -- one word, and then another grammar

@@ -7,9 +7,9 @@ use Rattle.lambda_expr.specs.declared.sign.Sign.TheVariants as sign
 use Rattle.lambda_expr.specs.declared.source.Source.{Source}
 use Rattle.lambda_expr.specs.declared.source.Source.TheVariants as source
 use Rattle.lambda_expr.specs.Grammar.{Shape, number, spells, Binds, IsExpression, Expression}
-use Rattle.lambda_expr.specs.Reader.{wants, stuck, when, operates, shuts, reads, result_of}
-use Rattle.lambda_expr.specs.SourceReading.{IsNext, Next, Operands, TakesMore}
-use Rattle.lambda_expr.specs.Sources.{AreBound, AreOperands, Takes, further, listed}
+use Rattle.lambda_expr.specs.Reader.{wants, stuck, operates, shuts, reads, result_of}
+use Rattle.lambda_expr.specs.SourceReading.{IsNext, Next, TakesMore}
+use Rattle.lambda_expr.specs.Sources.{AreBound, Takes, further, listed}
 use Rattle.lambda_expr.specs.Stops.{Begins, StopsAt}
 use Rattle.lambda_expr.proofs.Frames.{binds_lower}
 use Rattle.lambda_expr.proofs.Leads.{leads, one_expression, reads_back, stuck_begins_none, then_word}
@@ -94,12 +94,18 @@ more_no source.Empty n k h t = omega arith
 next_begins : (s : Source) (n : ℕ) (c : List Lexeme) → TakesMore s n → Begins Expression c → Begins (Next s n) c
 next_begins s n c t b =
     let k = more_yes s n t in
-    let es = zeros k.0 in
-    (b.0 ++ further es, (b.1.0, es, record {
-      count = subst (λ j. Takes s (n + suc j)) (sym (zeros_length k.0)) k.1;
-      bound = (b.1.1.binds, zeros_bound k.0);
-      spelled = ap (λ v. v ++ further es) b.1.1.spelled ∙ append_assoc c b.0 (further es);
-    }))
+    let es = zeros k.0 in (
+      b.0 ++ further es,
+      (
+        b.1.0,
+        es,
+        record {
+          count = subst (λ j. Takes s (n + suc j)) (sym (zeros_length k.0)) k.1;
+          bound = (b.1.1.binds, zeros_bound k.0);
+          spelled = ap (λ v. v ++ further es) b.1.1.spelled ∙ append_assoc c b.0 (further es);
+        },
+      ),
+    )
 
 -- ---- where operands stop
 
@@ -198,7 +204,7 @@ not_by : (e : Shape) (ws vs : List Lexeme) → Binds 1 e → ((x : List Lexeme) 
 not_by e ws vs b (inl (x, s, t)) = stuck_begins_none (word.Close ∷ []) refl (x, (e, record { binds = b; spelled = s }))
 not_by e ws vs b (inr (y, s, t)) = not_whole e y b s
 
-not_close : (e : Shape) (ws vs : List Lexeme) → Binds 1 e → spells e ++ ws ≡ word.Close ∷ vs → ⊥
+pub not_close : (e : Shape) (ws vs : List Lexeme) → Binds 1 e → spells e ++ ws ≡ word.Close ∷ vs → ⊥
 not_close e ws vs b is =
     not_by e ws vs b (levi (spells e) ws (word.Close ∷ []) vs is)
 
@@ -225,7 +231,7 @@ long (w ∷ ws) (suc k) h = ap suc (long ws k (omega arith))
 pub cut_at : (ws : List Lexeme) (k : ℕ) (d : Lexeme) → StopsAt Expression ws k → k < length ws → IsCut (take k ws) (get_or ws k d)
 cut_at ws k d s lt = record { begins = s.begins; none = λ b. s.stops lt (subst (Begins Expression) (sym (take_more ws k d lt)) b) }
 
-at_place : (G : List Lexeme → Type 0) (ws : List Lexeme) (k : ℕ) (d : Lexeme) → k < length ws → StopsAt G (take k ws ++ get_or ws k d ∷ drop (k + 1) ws) (length (take k ws)) → StopsAt G ws k
+pub at_place : (G : List Lexeme → Type 0) (ws : List Lexeme) (k : ℕ) (d : Lexeme) → k < length ws → StopsAt G (take k ws ++ get_or ws k d ∷ drop (k + 1) ws) (length (take k ws)) → StopsAt G ws k
 at_place G ws k d lt s = subst (StopsAt G ws) (long ws k (omega arith)) (subst (λ v. StopsAt G v (length (take k ws))) (in_words ws k d lt) s)
 
 -- the words in front of the place where an expression stops are none

@@ -1,5 +1,5 @@
 -- Condition: how sources and their operands are read.
-use Rattle.std.specs.Prelude.{◌≡◌, ℕ, suc, ◌+◌, ◌<◌, Bool, true, false, List, [], ◌∷◌, length, drop, take, Option, Some, None, Result, Ok, Err}
+use Rattle.std.specs.Prelude.{◌≡◌, ℕ, suc, ◌+◌, ◌<◌, Bool, true, false, List, [], ◌∷◌, length, take, Option, Some, None, Result, Ok, Err}
 use Rattle.std.specs.Global.{Vec}
 use Rattle.lambda_expr.specs.declared.source.Source.{Source}
 use Rattle.lambda_expr.specs.declared.source.Source.TheVariants as source
@@ -10,9 +10,9 @@ use Rattle.lambda_expr.specs.declared.lexeme.Name.TheVariants.{Plain, LongStream
 use Rattle.lambda_expr.specs.declared.parse.Stop.{Stop}
 use Rattle.lambda_expr.specs.declared.parse.Stop.TheVariants.{At, NoMemory}
 use Rattle.lambda_expr.specs.declared.step.Step.{Step}
-use Rattle.lambda_expr.specs.Grammar.{Shape, postfix, spells, Expression}
+use Rattle.lambda_expr.specs.Grammar.{Shape, postfix, Expression}
 use Rattle.lambda_expr.specs.Codes.{ArePostfix}
-use Rattle.lambda_expr.specs.Sources.{AreBound, AreOperands, IsStream, Takes, listed, source_of}
+use Rattle.lambda_expr.specs.Sources.{AreBound, AreOperands, Takes, listed, source_of}
 use Rattle.lambda_expr.specs.Stops.{StopsAt}
 
 -- an answer to a question
@@ -20,7 +20,7 @@ abbrev pub Says : Bool → Type 0 → Type 0
 Says true A = A
 Says false A = A → ⊥
 
--- whether one more operand may follow so many
+-- whether one more operand may follow after n of them
 abbrev pub TakesMore : Source → ℕ → Type 0
 TakesMore source.Range n = n < 2
 TakesMore source.RangeClosed n = n < 2
@@ -52,10 +52,17 @@ stream_at [] = Err 0
 stream_at (word.Name LongStream ∷ ws) = dotted_at ws
 stream_at (w ∷ ws) = named_at 0 (w ∷ ws)
 
+-- what follows the parenthesis that closes, if the words begin with it
+abbrev pub after_close : List Lexeme → Option (List Lexeme)
+after_close [] = None
+after_close (word.Close ∷ ws) = Some ws
+after_close (w ∷ ws) = None
+
+-- the words are operands of this source and the parenthesis that closes
 abbrev pub Operands : Source → List Lexeme → Type 0
 Operands s ws = (es : List Shape) × AreOperands s es ws
 
--- the words are one more operand of a source after so many, and others
+-- the words are one more operand of a source after n of them, and others
 pub record IsNext (s : Source) (n : ℕ) (e : Shape) (es : List Shape) (ws : List Lexeme) : Type 0 where
   pub count : Takes s (n + suc (length es))
   pub bound : AreBound (e ∷ es)

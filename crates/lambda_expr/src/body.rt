@@ -1,0 +1,50 @@
+//! The body of a lambda: an expression, or a source of an inner stream and its operands.
+
+ghost use Rattle.lambda_expr.specs.BodyReading.{IsBodyOf};
+ghost use Rattle.lambda_expr.specs.Codes.{IsStop};
+ghost use Rattle.lambda_expr.specs.Heads.{ABody};
+ghost use Rattle.std.specs.Prelude.{IfErr, IfOk};
+
+use super::lambda::Want;
+use super::lexeme::Lexeme;
+use super::parse::{Stop, parse};
+use super::source::{Source, parse_operands, parse_source};
+use super::step::Step;
+use std::alloc::Global;
+
+/// A body in steps.
+#[derive(Drop)]
+pub(crate) enum BodySteps {
+    Expression(Vec<Step>),
+    /// A source, and the steps of each operand.
+    Stream(Source, Vec<Vec<Step>>),
+}
+
+// Reads a body that gives a stream.
+fn parse_stream(alloc: Global, words: &[Lexeme]) -> Result<BodySteps, Stop>
+    ensures ok { IfOk result (λ body. IsBodyOf Want.Stream words.now body) }
+    ensures stops { IfErr result (λ stop. IsStop (ABody Want.Stream) words.now stop) }
+{
+    match parse_source(words) {
+        Ok(opened) => match parse_operands(alloc, opened.source, &words[opened.count..]) {
+            Ok(operands) => Ok(BodySteps::Stream(opened.source, operands)),
+            Err(Stop::At(place)) => Err(Stop::At(opened.count + place)),
+            Err(Stop::NoMemory) => Err(Stop::NoMemory),
+        },
+        Err(place) => Err(Stop::At(place)),
+    }
+}
+
+/// Reads a body that is wanted: its steps, or where its words stop.
+pub(crate) fn parse_body(alloc: Global, want: Want, words: &[Lexeme]) -> Result<BodySteps, Stop>
+    ensures ok { IfOk result (λ body. IsBodyOf want words.now body) }
+    ensures stops { IfErr result (λ stop. IsStop (ABody want) words.now stop) }
+{
+    match want {
+        Want::Stream => parse_stream(alloc, words),
+        _ => match parse(alloc, words) {
+            Ok(steps) => Ok(BodySteps::Expression(steps)),
+            Err(stop) => Err(stop),
+        },
+    }
+}
