@@ -26,6 +26,7 @@ pub fn name_cause(scope: Scope, name: &[u8]) -> Option<Cause>
     None
 }
 
+/// The cause, if what it is a cause of holds.
 pub fn when(holds: bool, cause: Cause) -> Option<Cause>
     ensures { result ≡ when holds cause }
 {
@@ -56,6 +57,7 @@ pub fn part_of<'a, 'b>(words: &'b [Word<'a>], call: &WrittenCall, place: usize) 
     part(rest, from, ends[place])
 }
 
+/// The bytes of a string token between its quotes; none of fewer than two bytes.
 pub fn inside_quotes(text: &[u8]) -> &[u8]
     ensures { result.now ≡ inside_quotes text.now }
 {

@@ -1,33 +1,18 @@
 //! The value of a number.
-ghost use Rattle.std.specs.Prelude.{◌≡◌, ◌≤◌, ◌^◌, pos, neg_ℤ, nat_lt, nat_le, min, if◌then◌else◌, Some, None, ◌∷◌, []};
+ghost use Rattle.std.specs.Prelude.{◌≡◌, ◌≤◌, ◌^◌, pos, neg_ℤ, nat_lt, nat_le, if◌then◌else◌, Some, None, ◌∷◌, []};
 ghost use Rattle.lambda_expr.specs.Numerals.{numeral_value};
 ghost use Rattle.job_language.specs.Splitting.{word_of, words_in};
 ghost use Rattle.job_language.specs.Numbers.{constant_value, number_read};
 
 use crate::word::Word;
+use lambda_expr::numeral_value;
 use stream_tokens::Symbol;
-
-/// The value of digits, or the greatest `u64` if it is above that. A mark after the digits is skipped.
-fn digits_value(digits: &[u8]) -> u64
-    ensures { result ≡ min (numeral_value digits.now) u64.MAX }
-{
-    let mut value: u64 = 0;
-    for byte in digits {
-        if !byte.is_ascii_digit() {
-            return value;
-        }
-        value = value
-            .saturating_mul(10)
-            .saturating_add(u64::from(*byte - b'0'));
-    }
-    value
-}
 
 fn positive(digits: &[u8]) -> Option<i64>
     ensures { let n = numeral_value digits.now in
         result ≡ (if nat_lt n (2 ^ 63) then Some (pos n) else None) }
 {
-    let value = digits_value(digits);
+    let value = numeral_value(digits);
     if value < 9_223_372_036_854_775_808 {
         Some(value as i64)
     } else {
@@ -39,7 +24,7 @@ fn negative(digits: &[u8]) -> Option<i64>
     ensures { let n = numeral_value digits.now in
         result ≡ (if nat_le n (2 ^ 63) then Some (neg_ℤ (pos n)) else None) }
 {
-    0i64.checked_sub_unsigned(digits_value(digits))
+    0i64.checked_sub_unsigned(numeral_value(digits))
 }
 
 fn constant(name: &[u8]) -> i64

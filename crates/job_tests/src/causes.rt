@@ -32,7 +32,7 @@ fn the_first_cause_in_order_of_writing_is_reported(rt: HostRuntime) {
     let columns = read_columns(rt.alloc(), &mut Counted::new(b"a,b c\n1,2\n".as_slice()));
     let columns = columns.unwrap_or(Columns::none());
     let well =
-        r#"s = of(1).map(x -> x + $total).reduce(0, (a, b) -> (a) + b)|s = of(1).reduce(-9223372036854775808, (long f, long g) -> Math.max(f, g))|s = column("a").limit(0).sum()|s = column("b c").skip(Long.MAX_VALUE).sum()|s = result(list).prefix(0, 0, sum).sum()|s = of(-9223372036854775808).limit(9223372036854775807).sum()"#;
+        r#"s = of(1).map(x -> x + $total).reduce(0, (a, b) -> (a) + b)|s = of(1).reduce(-9223372036854775808, (long f, long g) -> Math.max(f, g))|s = column("a").limit(0).sum()|s = column("b c").skip(Long.MAX_VALUE).sum()|s = result(list).prefix(0, 0, sum).sum()|s = of(-9223372036854775808).limit(9223372036854775807).sum()|s = of(1).flatMap(x -> LongStream.range(0, x + $total)).flatMap(x -> of()).sum()"#;
     let same_name = r#"list = column("z").limit(-1).sum()|any = of(1).limit(1).sum()"#;
     let unknown_column =
         r#"s = column("c").limit(-1).sum()|s = column("").limit(1).sum()|s = column("A").limit(1).sum()|s = column("a ").limit(1).sum()"#;
@@ -43,17 +43,20 @@ fn the_first_cause_in_order_of_writing_is_reported(rt: HostRuntime) {
     let too_large = "s = of(1, 9223372036854775808).limit(-1).sum()|\
 s = of(-9223372036854775809).limit(-1).sum()|s = of(1).limit(9223372036854775808).sum()|\
 s = of(1).prefix(3, 9223372036854775808, avg).sum()|s = of(1).limit(1).reduce(9223372036854775808, avg)";
-    let column_9 = "s = of(1).map(x -> x +).sum()|s = of(1).filter(x -> x +).limit(-1).sum()";
-    let wrong_type = "s = of(1).map(x -> x > 1).sum()|s = of(1).anyMatch(x -> x)";
+    let column_9 = "s = of(1).map(x -> x +).sum()|s = of(1).filter(x -> x +).limit(-1).sum()|\
+s = of(1).flatMap(x -> of + 1).limit(-1).sum()|s = of(1).flatMap(x -> of(, x)).sum()";
+    let wrong_type =
+        "s = of(1).map(x -> x > 1).sum()|s = of(1).anyMatch(x -> x)|s = of(1).flatMap(x -> of(x > 1)).limit(-1).sum()";
     let not_listed =
         "s = of(1).reduce(1, avg)|s = of(1).prefix(Math::sum).sum()|s = of(1).reduce(true)";
     let not_listed_lambda =
         "s = of(1).reduce((a, b) -> a - b)|s = of(1).reduce(0, (a, b) -> +a + b)|\
 s = of(1).prefix((a, b) -> b + a).sum()|s = of(1).reduce((a, b) -> $z)";
     let unknown_reference =
-        "s = of(1).map(x -> x + $lists + $any).sum()|s = of(1).filter(x -> x > $s).sum()";
+        "s = of(1).map(x -> x + $lists + $any).sum()|s = of(1).filter(x -> x > $s).sum()|\
+s = of(1).flatMap(x -> range($z, $list)).sum()";
     let not_a_number =
-        "s = of(1).map(x -> $total + $any + $z).sum()|s = of(1).filter(x -> $list > 1).limit(-1).sum()";
+        "s = of(1).map(x -> $total + $any + $z).sum()|s = of(1).filter(x -> $list > 1).limit(-1).sum()|s = of(1).flatMap(x -> of(x, $any, $z)).sum()";
     let no_identity = "s = of(1).reduce(0, last)|s = of(1).reduce(1, (a, b) -> a)";
     let not_identity = "s = of(1).reduce(1, Long::sum)|s = of(1).reduce(0, Math::min)";
     for (texts, cause) in [

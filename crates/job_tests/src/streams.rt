@@ -82,9 +82,13 @@ fn inner_at_5(alloc: Global, text: &str) -> Result<Result<Inner, FaultKind>, Rea
 
 /// Whether these are the values, with blanks between them.
 fn has_values(inner: &Inner, expected: &str) -> bool {
-    let expected = expected.split_whitespace().map(|digits| digits.parse::<i64>().ok());
+    let expected = expected
+        .split_whitespace()
+        .map(|digits| digits.parse::<i64>().ok());
     match inner {
-        Inner::Range(run) => (0..run.count).map(|at| Some(run.first + at as i64)).eq(expected),
+        Inner::Range(run) => (0..run.count)
+            .map(|at| Some(run.first + at as i64))
+            .eq(expected),
         Inner::Values(values) => values.iter().map(|value| Some(*value)).eq(expected),
     }
 }
@@ -109,9 +113,18 @@ fn inner_streams_have_the_values_of_java(rt: HostRuntime) {
         assert!(rt; is_right, "{text}");
     }
     for (text, fault) in [
-        ("x -> range(Long.MIN_VALUE, Long.MAX_VALUE)", FaultKind::SourceTooLong),
-        ("x -> of(x, 1 / 0, Math.addExact(Long.MAX_VALUE, x))", FaultKind::DivideByZero),
-        ("x -> rangeClosed(Math.negateExact(Long.MIN_VALUE), 1 / 0)", FaultKind::Overflow),
+        (
+            "x -> range(Long.MIN_VALUE, Long.MAX_VALUE)",
+            FaultKind::SourceTooLong,
+        ),
+        (
+            "x -> of(x, 1 / 0, Math.addExact(Long.MAX_VALUE, x))",
+            FaultKind::DivideByZero,
+        ),
+        (
+            "x -> rangeClosed(Math.negateExact(Long.MIN_VALUE), 1 / 0)",
+            FaultKind::Overflow,
+        ),
     ] {
         let found = inner_at_5(rt.alloc(), text);
         assert!(rt; matches!(found, Ok(Err(kind)) if kind == fault), "{text}");

@@ -4,7 +4,7 @@ ghost use Rattle.lambda_expr.specs.Lexemes.{first_name, is_reserved, is_taken, l
 ghost use Rattle.lambda_expr.specs.Words.{named, word_for, words_of};
 ghost use Rattle.std.specs.Prelude.{◌≡◌, ◌<◌, ◌≤◌, ◌^◌, ℕ, IfNone, IfOk, IfSome, List, drop, false, length, true};
 
-use super::number::{may_stand, value_of};
+use super::number::{may_stand, numeral_value};
 use super::sign::Sign;
 use std::alloc::{AllocError, Global};
 use stream_tokens::{CutText, Symbol, TokenKind};
@@ -196,7 +196,7 @@ fn number_lexeme(number: &[u8]) -> Lexeme
     ensures { result ≡ number_lexeme number.now }
 {
     if may_stand(number) {
-        Lexeme::Number(value_of(number))
+        Lexeme::Number(numeral_value(number))
     } else {
         Lexeme::Other
     }

@@ -40,7 +40,7 @@ impl Numeral<'_> {
             let value = number_value number in
             SomeIff result (FitsSigned w64 value) value }
     {
-        let size = value_of(self.digits);
+        let size = numeral_value(self.digits);
         if self.is_negative {
             0i64.checked_sub_unsigned(size)
         } else {
@@ -49,9 +49,9 @@ impl Numeral<'_> {
     }
 }
 
-/// The value of a number's digits, or the greatest `u64` if it is above that. A mark after the
-/// digits is skipped.
-pub(crate) fn value_of(number: &[u8]) -> u64
+/// The value of a number's digits, or the greatest `u64` if it is above that. The mark `L` or `l` after
+/// them is skipped. It takes no memory.
+pub fn numeral_value(number: &[u8]) -> u64
     ensures { result ≡ min (numeral_value number.now) u64.MAX }
 {
     let mut value: u64 = 0;

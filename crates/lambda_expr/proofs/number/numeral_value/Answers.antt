@@ -1,7 +1,7 @@
 use Rattle.std.proofs.Common.{◌≡◌, ◌+◌, ◌-◌, ◌*◌, ◌^◌, min, true, get_or, sym, ◌∙◌, arith}
 use Rattle.std.specs.Char.{is_ascii_digit}
 use Rattle.lambda_expr.proofs.Values.{digits_more}
-use Rattle.lambda_expr.proofs.number.value_of.Goals as goal
+use Rattle.lambda_expr.proofs.number.numeral_value.Goals as goal
 
 pub loop-byte-preserved : goal.loop-byte-preserved
 loop-byte-preserved c =
