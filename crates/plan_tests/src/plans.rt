@@ -62,7 +62,9 @@ of(1).reduce(1, (a, b) -> a * b)
 of(1).findFirst()
 of(1).anyMatch(x -> x < 1 && x > 2)
 of(1).allMatch(x -> true)
-of(1).noneMatch(x -> x < 1 || x > 2)";
+of(1).noneMatch(x -> x < 1 || x > 2)
+of(1).flatMap(x -> of(x, x > 0 ? 1 : 2)).sum()
+of(1).flatMap(x -> rangeClosed(-x, x)).sum()";
 
 const NOT_SUPPORTED: &str = "\
 result(b).sum()
@@ -78,7 +80,9 @@ of(1).limit(1).takeWhile(x -> x > 1 && x < $a).sum()
 of(1).dropWhile(x -> x < $a || x > 1).sum()
 of(1).anyMatch(x -> x < $a)
 of(1).allMatch(x -> x < $a)
-of(1).noneMatch(x -> x < $a)";
+of(1).noneMatch(x -> x < $a)
+of(1).flatMap(x -> range(0, $a)).sum()
+of(1).flatMap(x -> of(x, x, $a)).sum()";
 
 #[test]
 fn jobs_that_name_others_or_have_a_prefix_are_not_supported(rt: HostRuntime) -> Result<(), Fail> {

@@ -49,7 +49,14 @@ empty().anyMatch(x -> true) => false
 empty().allMatch(x -> false) => true
 empty().noneMatch(x -> true) => true
 of(3, 1, 4).dropWhile(x -> x > 2).toArray() => [1, 4]
-of(3, 4, 5).skip(1).limit(1).findFirst() => OptionalLong[4]";
+of(3, 4, 5).skip(1).limit(1).findFirst() => OptionalLong[4]
+of(6, 5, 4, 3, 2, 1).map(x -> 60 / x).limit(4).filter(x -> x > 10).reduce((a, b) -> b) => OptionalLong[20]
+of(2, 0, 3, 1, 0, 2).flatMap(x -> range(0, x)).toArray() => [0, 1, 0, 1, 2, 0, 0, 1]
+of(2, 0, 3, 1, 0, 2).flatMap(x -> range(0, x)).skip(1).limit(5).toArray() => [1, 0, 1, 2, 0]
+range(0, 6).flatMap(x -> of(x, -x)).filter(x -> x != 0).findFirst() => OptionalLong[1]
+range(0, 6).flatMap(x -> rangeClosed(x, 3)).map(x -> x * x).sum() => 50
+range(0, 6).flatMap(x -> empty()).count() => 0
+of(2, 0, 3).flatMap(x -> range(0, x)).toArray() => [0, 1, 0, 1, 2]";
 
 /// Jobs whose walks meet a fault, or end before one, and operators of this project; worked out by hand.
 const BY_HAND: &str = "\
@@ -90,7 +97,11 @@ range(-9223372036854775808, 9223372036854775807).count() => fault source-too-lon
 range(-9223372036854775808, 9223372036854775807).findFirst() => fault source-too-long stage 0 item -
 range(-9223372036854775808, 9223372036854775807).limit(0).count() => 0
 of(1, 0).map(x -> 1 / x).limit(5).map(x -> 1 / (x - 1)).toArray() => fault divide-by-zero stage 3 item 0
-of(1, 0).skip(0).map(x -> 1 / x).limit(1).toArray() => [1]";
+of(1, 0).skip(0).map(x -> 1 / x).limit(1).toArray() => [1]
+of(2, 1).flatMap(x -> range(0, x)).map(x -> 1 / (1 - x)).toArray() => fault divide-by-zero stage 2 item 0
+of(3, 1, 2, 0, 1, 5).flatMap(x -> of(x, 6 / x)).toArray() => fault divide-by-zero stage 1 item 3
+of(3, 1, 2, 0, 1, 5).flatMap(x -> of(x, 6 / x)).limit(6).toArray() => [3, 2, 1, 6, 2, 3]
+of(1, 2).flatMap(x -> range(-9223372036854775808, 9223372036854775807)).count() => fault source-too-long stage 1 item 0";
 
 /// Jobs over sources that no walk ever comes to the end of.
 const ENDLESS: &str = "\
@@ -104,7 +115,8 @@ range(0, 4611686018427387904).noneMatch(x -> x == 9) => false
 range(0, 4611686018427387904).takeWhile(x -> x < 3).sum() => 3
 range(0, 4611686018427387904).map(x -> 6 / (x - 9)).count() => fault divide-by-zero stage 1 item 9
 rangeClosed(1, 4611686018427387904).limit(9).skip(7).toArray() => [8, 9]
-concat(of(5), range(0, 4611686018427387903)).takeWhile(x -> x != 2).max() => OptionalLong[5]";
+concat(of(5), range(0, 4611686018427387903)).takeWhile(x -> x != 2).max() => OptionalLong[5]
+of(0, 1).flatMap(x -> range(x, 4611686018427387900)).limit(4).toArray() => [0, 1, 2, 3]";
 
 #[test]
 fn any_tree_gives_what_java_gives(rt: HostRuntime) -> Result<(), Fail> {
