@@ -1,4 +1,4 @@
-use Rattle.std.proofs.Common.{◌≡◌, ◌≤◌, length, map, take, sym, ap, ◌∙◌, arith, rules}
+use Rattle.std.proofs.Common.{◌≤◌, length, map, take, sym, ap, ◌∙◌, arith}
 use Rattle.trace.specs.declared.item.Item.{Item}
 use Rattle.trace.specs.Trace.{Trace}
 use Rattle.batch_eval.proofs.Items.{lane_values}
