@@ -19,11 +19,11 @@ both : (a b : Bool) → a && b ≡ true → (a ≡ true) × (b ≡ true)
 both true b h = (refl, h)
 both false b h = absurd cc
 
-fit_all : (o : Operation) (n i : ℕ) (xs : List (List Word)) → fits_from o n i xs ≡ true → FitFrom o n i xs
+pub fit_all : (o : Operation) (n i : ℕ) (xs : List (List Word)) → fits_from o n i xs ≡ true → FitFrom o n i xs
 fit_all o n i [] h = tt
 fit_all o n i (a ∷ xs) h = let two = both (fits (param_of o n i) a) (fits_from o n (suc i) xs) h in (two.0, fit_all o n (suc i) xs two.1)
 
-fit_again : (o : Operation) (n i : ℕ) (xs : List (List Word)) → FitFrom o n i xs → fits_from o n i xs ≡ true
+pub fit_again : (o : Operation) (n i : ℕ) (xs : List (List Word)) → FitFrom o n i xs → fits_from o n i xs ≡ true
 fit_again o n i [] h = refl
 fit_again o n i (a ∷ xs) h = ap (λ b. b && fits_from o n (suc i) xs) h.0 ∙ fit_again o n (suc i) xs h.1
 

@@ -20,3 +20,7 @@ pub mod Referring
 pub mod OneVerdict
 pub mod Filing
 pub mod OneFile
+pub mod EachCut
+pub mod EachFile
+pub mod EachJob
+pub mod EachVerdict

@@ -51,7 +51,7 @@ names (referred n) o h = absurd cc
 names (sign s) o h = absurd cc
 names bad o h = absurd cc
 
-is_concat : (o : Operation) → role_of o ≡ role.Concatenation → o ≡ op.Concat
+pub is_concat : (o : Operation) → role_of o ≡ role.Concatenation → o ≡ op.Concat
 is_concat op.Concat h = refl
 is_concat o h = absurd cc
 
@@ -118,7 +118,7 @@ begins_call ws at o es lt name open_ h =
     })
 
 -- a name and a parenthesis that begin no call
-no_call_for : (o : Operation) (vs : List Word) → IsNoCallOf o vs → (role_of o ≡ role.Concatenation → ⊥) → IsNoPiece (named (name_of o) ∷ sign symbol.Open ∷ vs)
+pub no_call_for : (o : Operation) (vs : List Word) → IsNoCallOf o vs → (role_of o ≡ role.Concatenation → ⊥) → IsNoPiece (named (name_of o) ∷ sign symbol.Open ∷ vs)
 no_call_for o vs none_ n (call c) rest k e =
     let same = one_name c.operation o (name_is (name_of c.operation) (name_of o) _ _ e) in
     let here : Completes c rest vs = completes c rest vs k (e ∙ ap (λ p. named (name_of p) ∷ sign symbol.Open ∷ vs) (sym same)) in

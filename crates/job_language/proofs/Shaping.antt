@@ -25,7 +25,7 @@ stands_from : (ps qs : List Piece) (s : State) → ArePieces qs → Stands ps s 
 stands_from ps [] s k h = subst (λ v. Stands v s) (sym (append-nil ps)) h
 stands_from ps (q ∷ qs) s k h = subst (λ v. Stands v (reads (read s q) qs)) (append_assoc ps (q ∷ []) qs) (stands_from (ps ++ q ∷ []) qs (read s q) k.1 (keeps ps s q k.0 h))
 
-stands : (ps : List Piece) → ArePieces ps → Stands ps (reads begins ps)
+pub stands : (ps : List Piece) → ArePieces ps → Stands ps (reads begins ps)
 stands ps k = stands_from [] ps begins k (refl, tt)
 
 -- the calls of a job are those of its pieces
@@ -63,20 +63,20 @@ are_ending : (b : Bool) → ArePieces (ending b)
 are_ending true = (tt, tt)
 are_ending false = tt
 
-are_job : (ws : List Word) (j : Job) → IsSpelled ws j → ArePieces (job_pieces j)
+pub are_job : (ws : List Word) (j : Job) → IsSpelled ws j → ArePieces (job_pieces j)
 are_job ws j h =
     are_append (source_pieces j.source) (steps_pieces j.stages ++ dot ∷ call j.terminal ∷ ending j.semicolon) (are_source j.source h.source)
     (are_append (steps_pieces j.stages) (dot ∷ call j.terminal ∷ ending j.semicolon) (are_steps j.stages h.stages) (tt, (h.terminal.call, are_ending j.semicolon)))
 
 -- a job with these words has the pieces that were read, and then others
-prefix : (done ps : List Piece) (r : List Word) → ArePieces done → ArePieces ps → pieces_words done ++ r ≡ pieces_words ps → (qs : List Piece) × (ps ≡ done ++ qs) × ArePieces qs × (pieces_words qs ≡ r)
+pub prefix : (done ps : List Piece) (r : List Word) → ArePieces done → ArePieces ps → pieces_words done ++ r ≡ pieces_words ps → (qs : List Piece) × (ps ≡ done ++ qs) × ArePieces qs × (pieces_words qs ≡ r)
 prefix [] ps r h k e = (ps, refl, k, sym e)
 prefix (p ∷ done) ps r h k e =
     let n = next_piece p ps (pieces_words done ++ r) h.0 k (sym e ∙ append_assoc (piece_words p) (pieces_words done) r) in
     let m = prefix done n.0 r h.1 n.2 (sym n.3) in
     (m.0, n.1 ∙ ap (λ v. p ∷ v) m.1, m.2, m.3)
 
-after_two : (ws : List Word) (j : Job) → IsSpelled ws j → pieces_words (job_pieces j) ≡ drop 2 ws
+pub after_two : (ws : List Word) (j : Job) → IsSpelled ws j → pieces_words (job_pieces j) ≡ drop 2 ws
 after_two ws j h = ap (drop 2) h.spelled
 
 left : (ws : List Word) (r : code.Reader) (h : IsReading ws r) (j : Job) → IsSpelled ws j → (qs : List Piece) × (job_pieces j ≡ h.done ++ qs) × ArePieces qs × (pieces_words qs ≡ drop r.at ws)
@@ -125,7 +125,7 @@ last_mode j = last_of j.semicolon
     last_of true = (mode.End, [], refl, refl)
     last_of false = (mode.AfterTerminal, [], refl, refl)
 
-reads_last : (ws : List Word) (j : Job) → IsSpelled ws j → reads begins (job_pieces j) ≡ last_state j
+pub reads_last : (ws : List Word) (j : Job) → IsSpelled ws j → reads begins (job_pieces j) ≡ last_state j
 reads_last ws j h = reads_job j h.source h.stages h.terminal
 
 pub no_move : (ws : List Word) (r : code.Reader) (p : Piece) (to : ℕ) → IsReading ws r → Begins ws r.at p to → moved r.mode (reverse r.commas.items) (mark_of p) ≡ None → IsNotSpelled ws
@@ -280,12 +280,12 @@ no_job_in (a ∷ b ∷ ws) h = absurd (omega arith)
 same_name : (a b : List ℕ) (v w : List Word) → named a ∷ v ≡ named b ∷ w → a ≡ b
 same_name a b v w h = cc
 
-abbrev job_in : List ℕ → State → Option Job
+abbrev pub job_in : List ℕ → State → Option Job
 job_in name (ended s gs c) = Some (record { name = name; source = s; stages = gs; terminal = c; semicolon = false })
 job_in name (finished s gs c) = Some (record { name = name; source = s; stages = gs; terminal = c; semicolon = true })
 job_in name s = None
 
-last_job : (j : Job) → job_in j.name (last_state j) ≡ Some j
+pub last_job : (j : Job) → job_in j.name (last_state j) ≡ Some j
 last_job j = for_end j.semicolon refl
   where
     for_end : (b : Bool) → j.semicolon ≡ b → job_in j.name (last_state j) ≡ Some j

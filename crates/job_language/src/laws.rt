@@ -1,5 +1,5 @@
 //! Laws of the definitions. The functions do nothing; their contracts are the laws.
-ghost use Rattle.std.specs.Prelude.{◌≡◌, ℕ, List, Result, Ok};
+ghost use Rattle.std.specs.Prelude.{◌≡◌, ◌⊎◌, ℕ, List, Result, Ok};
 ghost use Rattle.stream_tokens.specs.Forms.{IsName};
 ghost use Rattle.columns.specs.Table.{NamedColumn};
 ghost use Rattle.job_language.specs.declared.fault.Cause.{Cause as meant_cause};
@@ -13,6 +13,11 @@ ghost use Rattle.job_language.specs.Verdicts.{IsRead};
 pub fn one_verdict()
     ensures { (s : meant_scope) (text : List ℕ) (r q : Result JobTerm meant_cause)
         → IsRead s text r → IsRead s text q → r ≡ q }
+{}
+
+/// Each text is read as something: a job, or a cause for which it is refused.
+pub fn each_text_has_a_verdict()
+    ensures { (s : meant_scope) (text : List ℕ) → (r : Result JobTerm meant_cause) × IsRead s text r }
 {}
 
 /// The name of a job is a letter or `_`, then letters, digits and `_`.
@@ -29,4 +34,11 @@ pub fn one_file()
         → IsRefused bytes columns f → IsRefused bytes columns g → f ≡ g }
     ensures apart { (bytes : List ℕ) (columns : List NamedColumn) (j : List JobTerm) (f : meant_fault)
         → Spells bytes columns j → IsRefused bytes columns f → ⊥ }
+{}
+
+/// With these columns, bytes are a file of jobs, or are refused with a fault; by `one_file` not both.
+pub fn each_file_has_an_answer()
+    ensures { (bytes : List ℕ) (columns : List NamedColumn) →
+        ((jobs : List JobTerm) × Spells bytes columns jobs)
+        ⊎ ((fault : meant_fault) × IsRefused bytes columns fault) }
 {}

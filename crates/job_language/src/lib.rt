@@ -9,7 +9,8 @@
 //! lambda from its part of that text, on `columns`, and on the crates whose stages, terminals and operators a job
 //! is made of. `read_job` gives the job that a text spells, or the first cause in order of writing for which it
 //! is refused (`specs/Verdicts.antt`, `IsRead`); `Scope` has the earlier jobs and the columns. `read_jobs` gives
-//! the jobs of a file, or its first fault (`specs/Files.antt`). `parse_job` gives the calls of a job in order of
+//! the jobs of a file, or its first fault (`specs/Files.antt`); `each_file_has_an_answer` and `one_file` say that
+//! bytes have exactly one of the two. `parse_job` gives the calls of a job in order of
 //! writing exactly when the text is a job; `one_job` says that words are one job at most.
 //!
 //! Begin with `specs/Grammar.antt` and `specs/Verdicts.antt`, then `read.rt`, `parts.rt` and `argument.rt`; for
@@ -44,7 +45,9 @@ pub use causes::name_cause;
 pub use fault::{Cause, JobFault};
 pub use file::read_jobs;
 pub use job::{Job, JobStage, PlainSource, Terminal};
-pub use laws::{a_job_has_a_name, one_file, one_verdict};
+pub use laws::{
+    a_job_has_a_name, each_file_has_an_answer, each_text_has_a_verdict, one_file, one_verdict,
+};
 pub use operation::{
     Operation, Param, Role, allows, name_of, one_operation, operation_of, param_of, role_of,
 };

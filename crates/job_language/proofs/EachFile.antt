@@ -1,0 +1,69 @@
+-- Bytes are a file of jobs, or are refused.
+use Rattle.std.proofs.Common.{◌≡◌, ◌⊎◌, inl, inr, ⊎_elim, ℕ, ◌<◌, ◌≤◌, Bool, true, false, List, [], ◌∷◌, ◌++◌, length, Result, Ok, Err, refl}
+use Rattle.std.proofs.str.Laws.{order}
+use Rattle.stream_tokens.specs.declared.job_text.JobText.{JobText}
+use Rattle.stream_tokens.specs.declared.job_text.TextFault.{TextFault}
+use Rattle.stream_tokens.specs.declared.job_text.TextFault.TheVariants as text
+use Rattle.std.specs.List.{starts_with}
+use Rattle.std.specs.Prelude.{◌||◌, nat_eq, if◌then◌else◌}
+use Rattle.stream_tokens.specs.Bytes.{is_blank}
+use Rattle.stream_tokens.specs.JobTexts.{NumberedLine, begun, by_kind, job_texts_of, jobs_after, jobs_of_lines, kind_of, kind_of_solid, numbered, without_mark}
+use Rattle.stream_tokens.specs.Lines.{lines_of}
+use Rattle.columns.specs.Table.{NamedColumn}
+use Rattle.job_language.specs.declared.fault.Cause.{Cause}
+use Rattle.job_language.specs.declared.fault.Cause.TheVariants.{Syntax, TooLong}
+use Rattle.job_language.specs.declared.fault.JobFault.{JobFault}
+use Rattle.job_language.specs.Files.{AreJobsLeft, AreJobsRead, IsNext, IsRefused, Spells, fault_at, scope_below}
+use Rattle.job_language.specs.Jobs.{JobTerm}
+use Rattle.job_language.proofs.EachVerdict.{each_read}
+
+each_next : (columns : List NamedColumn) (above : List JobTerm) (t : List ℕ) → (r : Result JobTerm Cause) × IsNext columns above t r
+each_next columns above t =
+    ⊎_elim (λ (few : length above < 256). let r = each_read (scope_below columns above) t in (r.0, inr (few, r.1)))
+    (λ (many : 256 ≤ length above). (Err TooLong, inl (many, refl)))
+    (order (length above) 256)
+
+abbrev HasJobs : List NamedColumn → List JobTerm → List JobText → Type 0
+HasJobs columns above ts = (r : Result (List JobTerm) JobFault) × AreJobsRead columns above ts r
+
+after_next : (columns : List NamedColumn) (above : List JobTerm) (t : JobText) (ts : List JobText) (r : Result JobTerm Cause) → IsNext columns above t.text r → ((j : JobTerm) → HasJobs columns (above ++ j ∷ []) ts) → HasJobs columns above (t ∷ ts)
+after_next columns above t ts (Err c) h later = (Err (fault_at t c), inl (c, h, refl))
+after_next columns above t ts (Ok j) h later = let l = later j in (l.0, inr (j, h, l.1))
+
+each_jobs : (columns : List NamedColumn) (above : List JobTerm) (ts : List JobText) → HasJobs columns above ts
+each_jobs columns above [] = (Ok above, refl)
+each_jobs columns above (t ∷ ts) = let n = each_next columns above t.text in after_next columns above t ts n.0 n.1 (λ j. each_jobs columns (above ++ j ∷ []) ts)
+
+-- a line needs no memory: it is skipped, it continues nothing, or it begins a job; `p` and `q` are the tests of `kind_of`
+by_tests : (p q : Bool) (n : ℕ) (later : Result (List JobText) TextFault) (js : List JobText) → (later ≡ Err text.NoMemory → ⊥) → by_kind (if p then kind_of [] else (if q then kind_of (46 ∷ []) else kind_of (97 ∷ []))) later (Err (text.Syntax n)) (Ok js) ≡ Err text.NoMemory → ⊥
+by_tests true q n later js none_later h = none_later h
+by_tests false true n later js none_later h = absurd cc
+by_tests false false n later js none_later h = absurd cc
+
+by_blank : (c : Bool) (b : ℕ) (bs : List ℕ) (n : ℕ) (later : Result (List JobText) TextFault) (js : List JobText) → (later ≡ Err text.NoMemory → ⊥) → (by_kind (kind_of bs) later (Err (text.Syntax n)) (Ok js) ≡ Err text.NoMemory → ⊥) → by_kind (if c then kind_of bs else kind_of_solid (b ∷ bs)) later (Err (text.Syntax n)) (Ok js) ≡ Err text.NoMemory → ⊥
+by_blank true b bs n later js none_later further h = further h
+by_blank false b bs n later js none_later further h = by_tests (starts_with nat_eq (b ∷ bs) (35 ∷ []) || starts_with nat_eq (b ∷ bs) (47 ∷ 47 ∷ [])) (starts_with nat_eq (b ∷ bs) (46 ∷ [])) n later js none_later h
+
+by_line : (line : List ℕ) (n : ℕ) (later : Result (List JobText) TextFault) (js : List JobText) → (later ≡ Err text.NoMemory → ⊥) → by_kind (kind_of line) later (Err (text.Syntax n)) (Ok js) ≡ Err text.NoMemory → ⊥
+by_line [] n later js none_later h = none_later h
+by_line (b ∷ bs) n later js none_later h = by_blank (is_blank b) b bs n later js none_later (by_line bs n later js none_later) h
+
+no_memory : (lines : List NumberedLine) → jobs_of_lines lines ≡ Err text.NoMemory → ⊥
+no_memory [] h = absurd cc
+no_memory (line ∷ lines) h = by_line line.bytes line.number (jobs_of_lines lines) (jobs_after (begun line) lines) (no_memory lines) h
+
+no_memory_in : (bytes : List ℕ) → job_texts_of bytes ≡ Err text.NoMemory → ⊥
+unfolding job_texts_of
+no_memory_in bytes h = no_memory (numbered 1 (lines_of (without_mark bytes))) h
+
+left : (columns : List NamedColumn) (texts : Result (List JobText) TextFault) → (texts ≡ Err text.NoMemory → ⊥) → (r : Result (List JobTerm) JobFault) × AreJobsLeft columns [] texts r
+left columns (Ok ts) other = each_jobs columns [] ts
+left columns (Err (text.Syntax line)) other = (Err (record { line = line; cause = Syntax }), refl)
+left columns (Err text.NoMemory) other = absurd (other refl)
+
+by_result : (bytes : List ℕ) (columns : List NamedColumn) (r : Result (List JobTerm) JobFault) → AreJobsLeft columns [] (job_texts_of bytes) r → ((jobs : List JobTerm) × Spells bytes columns jobs) ⊎ ((fault : JobFault) × IsRefused bytes columns fault)
+by_result bytes columns (Ok jobs) h = inl (jobs, h)
+by_result bytes columns (Err fault) h = inr (fault, h)
+
+pub each_file : (bytes : List ℕ) (columns : List NamedColumn) → ((jobs : List JobTerm) × Spells bytes columns jobs) ⊎ ((fault : JobFault) × IsRefused bytes columns fault)
+each_file bytes columns = let l = left columns (job_texts_of bytes) (no_memory_in bytes) in by_result bytes columns l.0 l.1
