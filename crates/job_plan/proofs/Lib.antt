@@ -8,3 +8,4 @@ pub mod Cutting
 pub mod Alone
 pub mod SideBySide
 pub mod Walking
+pub mod ItemCounts

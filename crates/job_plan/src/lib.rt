@@ -20,6 +20,7 @@ mod plan;
 mod plan_laws;
 mod segment;
 mod settings;
+mod sizes;
 mod source;
 mod sources;
 mod supported;

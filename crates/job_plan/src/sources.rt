@@ -60,7 +60,7 @@ pub(crate) fn plain_size(source: &PlainSource) -> u64
 }
 
 /// The number of values of several sources, or the greatest `u64` if it is larger.
-fn total_size(sources: &[PlainSource]) -> u64
+pub(crate) fn total_size(sources: &[PlainSource]) -> u64
     ensures { result ≡ min (length (values_of (sources_of sources.now))) (2 ^ 64 - 1) }
 {
     let Some((source, later)) = sources.split_first() else {

@@ -3,3 +3,6 @@ pub mod Cuts
 pub mod CutLaws
 pub mod Tasks
 pub mod Answers
+pub mod PlanSegments
+pub mod PlanLaws
+pub mod Sources

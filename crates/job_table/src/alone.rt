@@ -6,7 +6,7 @@ use crate::segments::Segments;
 use std::alloc::Global;
 use worker_pool::Gate;
 
-// Walks a whole segment as one piece.
+/// Walks a whole segment as one piece.
 fn walk_whole<S: Segments>(
     alloc: Global,
     jobs: &S,

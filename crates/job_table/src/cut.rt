@@ -44,7 +44,7 @@ pub(crate) fn is_left(place: &Place<Cut>) -> bool
     place.side == Side::Left
 }
 
-// The positions of one side of a cut.
+/// The positions of one side of a cut.
 pub(crate) fn range_of(place: &Place<Cut>) -> (u64, u64)
     requires { place.now.side ≢ Whole }
     ensures { (result.0 ≡ begins place.now.tag place.now.side) × (result.1 ≡ ends_at place.now.tag place.now.side) }

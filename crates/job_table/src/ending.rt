@@ -11,7 +11,7 @@ use completion_core::END;
 use worker_pool::{Gate, Spawn};
 
 impl<'a, S: Segments, R: Running> JobWork<'a, S, TablePart<S>, TableKept<S>, R> {
-    // Leaves what the segment gives in its place, and begins the next segment, or settles the job.
+    /// Leaves what the segment gives in its place, and begins the next segment, or settles the job.
     fn end_segment<G: Gate, P: Spawn<TableTask<S, R>>>(
         &self,
         gate: &G,

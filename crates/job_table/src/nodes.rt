@@ -1,11 +1,12 @@
 //! How many nodes a run can use.
-ghost use Rattle.std.specs.Prelude.{◌<◌, ℕ};
+ghost use Rattle.std.specs.Prelude.{◌+◌, ◌-◌, ◌^◌, ◌<◌, ◌≤◌, min, ℕ};
+ghost use Rattle.job_plan.specs.SettingsParts.{nodes_of};
 
 use crate::segments::Segments;
 use job_plan::Settings;
 
-// The most nodes that the pieces of a job can claim. A piece is cut if it has more positions than the threshold, so each side has at
-// least half as many as that. How long the later segments are isn't known before they are walked.
+/// The most nodes that the pieces of a job can claim. A piece is cut if it has more positions than the threshold, so each side has at
+/// least half as many as that. How long the later segments are isn't known before they are walked.
 fn most_cuts<S: Segments>(jobs: &S, job: usize, settings: Settings) -> u64
     requires { job < S.job_count }
 {
@@ -14,15 +15,18 @@ fn most_cuts<S: Segments>(jobs: &S, job: usize, settings: Settings) -> u64
     }
     let size = jobs.size(job, 0, &jobs.first_source(job));
     let threshold = settings.threshold();
-    if size <= threshold {
+    if size <= threshold || !jobs.is_divided(job, 0) {
         0
     } else {
         (size / threshold).saturating_mul(2).saturating_add(1)
     }
 }
 
-/// One start node for each job, and no more nodes for cuts than the settings allow and the jobs can use.
-pub(crate) fn node_count<S: Segments>(jobs: &S, settings: Settings) -> u32 {
+/// One start node for each job, and no more nodes for cuts than the settings allow and the jobs can use; 2^32 - 1 at most.
+pub(crate) fn node_count<S: Segments>(jobs: &S, settings: Settings) -> u32
+    ensures starts { min S.job_count (2 ^ 32 - 1) ≤ result }
+    ensures few { result ≤ S.job_count + nodes_of settings }
+{
     let mut cuts = 0u64;
     for job in 0..jobs.jobs() {
         cuts = cuts.saturating_add(most_cuts(jobs, job, settings));
@@ -30,5 +34,5 @@ pub(crate) fn node_count<S: Segments>(jobs: &S, settings: Settings) -> u32 {
     let all = cuts
         .min(settings.nodes())
         .saturating_add(jobs.jobs() as u64);
-    u32::try_from(all).unwrap_or(u32::MAX)
+    all.min(u64::from(u32::MAX)) as u32
 }

@@ -1,5 +1,5 @@
 //! The openings of the jobs, and the seats of the workers.
-ghost use Rattle.std.specs.Prelude.{◌≡◌, ◌<◌, ◌≤◌, ◌-◌, ℕ, IfSome};
+ghost use Rattle.std.specs.Prelude.{◌≡◌, ◌<◌, ◌≤◌, ◌-◌, ℕ, length, IfOk, IfSome};
 ghost use Rattle.completer_tree.specs.Trees.{table_id_of};
 ghost use Rattle.job_table.specs.Cuts.{StandsWhole};
 ghost use Rattle.job_table.specs.Tasks.{HasEnds};
@@ -17,8 +17,8 @@ use std::alloc::Global;
 use std::marker::PhantomData;
 use worker_pool::{Gate, Spawn};
 
-// Opens the last job that isn't opened: claims its start node, which owes one arrival, of the opening, and keeps one at END. If no
-// node is left, the job is settled, and left to whoever reads its answer.
+/// Opens the last job that isn't opened: claims its start node, which owes one arrival, of the opening, and keeps one at END. If no
+/// node is left, the job is settled, and left to whoever reads its answer.
 fn open_one<S: Segments, R: Running>(
     counts: &TableCounts<S>,
     purse: TablePurse<S, R>,
@@ -68,11 +68,13 @@ pub(crate) fn open_all<S: Segments, R: Running>(
     workers: u64,
 ) -> Result<(Vec<TableTask<S, R>>, Vec<TableIdle<S, R>>), NoMemory>
     requires table { table_id_of counts.now ≡ R.table }
+    ensures tasks { IfOk result (λ made. length made.0.items ≤ purse.jobs) }
+    ensures idles { IfOk result (λ made. length made.1.items ≡ workers) }
 {
     let mut tasks = Vec::new(alloc);
     let jobs = purse.jobs;
     let mut left = Some(purse);
-    for _ in 0..jobs {
+    for _opened in 0..jobs {
         let Some(purse) = left.take() else {
             break;
         };
@@ -86,11 +88,8 @@ pub(crate) fn open_all<S: Segments, R: Running>(
             tasks.push(Task::Open(opening))?;
         }
     }
-    let idle = match left {
-        Some(purse) => Some(empty(purse)),
-        None => None,
-    };
-    let idles = idle_seats(alloc, counts, idle, workers)?;
+    let Some(purse) = left else { unreachable!() };
+    let idles = idle_seats(alloc, counts, empty(purse), workers)?;
     Ok((tasks, idles))
 }
 
@@ -99,17 +98,19 @@ fn empty<S: Segments, R: Running>(purse: TablePurse<S, R>) -> TableIdle<S, R> {
     Idle { seat, of }
 }
 
+/// This many seats without credit, split off the first one.
 fn idle_seats<S: Segments, R: Running>(
     alloc: Global,
     counts: &TableCounts<S>,
-    first: Option<TableIdle<S, R>>,
+    first: TableIdle<S, R>,
     workers: u64,
 ) -> Result<Vec<TableIdle<S, R>>, NoMemory>
     requires table { table_id_of counts.now ≡ R.table }
+    ensures { IfOk result (λ idles. length idles.items ≡ workers) }
 {
     let mut idles = Vec::new(alloc);
-    let mut left = first;
-    for _ in 0..workers {
+    let mut left = Some(first);
+    for _made in 0..workers {
         let Some(from) = left.take() else {
             break;
         };
@@ -137,7 +138,7 @@ fn idle_one<S: Segments, R: Running>(
     )
 }
 
-// The arrival that opens a job, at its start node. The last one gets what the start node kept.
+/// The arrival that opens a job, at its start node. The last one gets what the start node kept.
 fn started<S: Segments, R: Running>(
     work: &TableWork<S, R>,
     opening: TableOpening<S, R>,

@@ -1,5 +1,5 @@
 //! The places in which tasks leave sources and answers for others.
-ghost use Rattle.std.specs.Prelude.{◌≡◌, ◌+◌, ◌<◌, ◌≤◌, ℕ, IfSome};
+ghost use Rattle.std.specs.Prelude.{◌≡◌, ◌+◌, ◌<◌, ◌≤◌, ℕ, length, IfOk, IfSome};
 
 use crate::NoMemory;
 use crate::segments::Segments;
@@ -33,10 +33,12 @@ pub struct JobPlaces<S: Segments> {
     pub(crate) answer: OnceLock<KeptAnswer<S>>,
 }
 
-// The empty places of a job whose last segment has this number.
-fn places_of_job<S: Segments>(alloc: Global, last: usize) -> Result<JobPlaces<S>, NoMemory> {
+/// The empty places of a job whose last segment has this number.
+fn places_of_job<S: Segments>(alloc: Global, last: usize) -> Result<JobPlaces<S>, NoMemory>
+    ensures { IfOk result (λ places. length places.sources.items ≡ last) }
+{
     let mut sources = Vec::new(alloc);
-    for _ in 0..last {
+    for _segment in 0..last {
         sources.push(OnceLock::new())?;
     }
     Ok(JobPlaces {
@@ -49,7 +51,9 @@ fn places_of_job<S: Segments>(alloc: Global, last: usize) -> Result<JobPlaces<S>
 pub(crate) fn empty_places<S: Segments>(
     alloc: Global,
     jobs: &S,
-) -> Result<Vec<JobPlaces<S>>, NoMemory> {
+) -> Result<Vec<JobPlaces<S>>, NoMemory>
+    ensures { IfOk result (λ places. length places.items ≡ S.job_count) }
+{
     let mut places = Vec::new(alloc);
     for job in 0..jobs.jobs() {
         places.push(places_of_job(alloc, jobs.last_segment(job))?)?;

@@ -16,7 +16,7 @@ use std::sync::Wait;
 use std::thread::Threads;
 use worker_pool::{Gate, run_pool};
 
-// The answer that lies in the job's place. If there is none, whoever reads it works it out.
+/// The answer that lies in the job's place. If there is none, whoever reads it works it out.
 fn read_answer<S: Segments, G: Gate>(
     alloc: Global,
     gate: &G,
@@ -35,7 +35,7 @@ fn read_answer<S: Segments, G: Gate>(
     answer_alone(alloc, gate, jobs, job)
 }
 
-// The answers of all jobs, in their order.
+/// The answers of all jobs, in their order.
 #[tactic(auto, using(crate::proofs::AnswerLemmas::more_answers))]
 fn read_answers<S: Segments, G: Gate>(
     alloc: Global,
@@ -54,7 +54,7 @@ fn read_answers<S: Segments, G: Gate>(
     Ok(answers)
 }
 
-// Runs the jobs over one table of counts, and gives back their places.
+/// Runs the jobs over one table of counts, and gives back their places.
 fn run_on<
     S: Segments + Send + Sync,
     R: Running + Send + Sync,
@@ -84,7 +84,10 @@ where
     Ok(places)
 }
 
-/// The answers of all jobs, in their order. The only error is that an allocation failed.
+/// The answers of all jobs, in their order, worked out by as many workers as the settings say.
+///
+/// Each piece that is walked enters the gate first. An answer that no task left is worked out here, which enters the gate once, for all
+/// of the job's source. `NoMemory` says that a job couldn't be worked out here either.
 pub fn run_all<S: Segments + Send + Sync, H: Threads + Wait + Sync, G: Gate + Sync>(
     rt: &H,
     alloc: Global,

@@ -1,5 +1,5 @@
 //! What a run is over.
-ghost use Rattle.std.specs.Prelude.{◌≡◌, ◌+◌, ◌<◌, ◌≤◌, ℕ, IfOk};
+ghost use Rattle.std.specs.Prelude.{◌≡◌, ◌+◌, ◌<◌, ◌≤◌, ℕ, Bool, IfOk};
 ghost use Rattle.job_table.specs.Cuts.{IsPiece};
 
 use crate::NoMemory;
@@ -27,6 +27,9 @@ pub trait Segments {
 
     // How many positions the source of a job's segment has.
     ghost size_of: { ℕ → ℕ → ℕ };
+
+    // Whether a job's segment is walked in pieces.
+    ghost divided: { ℕ → ℕ → Bool };
 
     // The part is what a job's segment gives for the positions from the first up to, not with, the second.
     ghost stands_for: { ℕ → ℕ → ℕ → ℕ → Self.Part → Type 0 };
@@ -62,6 +65,12 @@ pub trait Segments {
         requires segment { segment ≤ last_of job }
         requires source { is_source job segment source.now }
         ensures { result ≡ size_of job segment };
+
+    /// Whether a segment is walked in pieces, side by side. If not, it is one piece, whatever the threshold is.
+    fn is_divided(&self, job: usize, segment: usize) -> bool
+        requires job { job < job_count }
+        requires segment { segment ≤ last_of job }
+        ensures { result ≡ divided job segment };
 
     /// Walks a piece.
     fn leaf(

@@ -13,7 +13,7 @@ use completion_core::END;
 use std::marker::PhantomData;
 use worker_pool::{Gate, Spawn};
 
-// Walks one side of a cut as one piece, and hands its part in.
+/// Walks one side of a cut as one piece, and hands its part in.
 #[tactic(auto, using(crate::proofs::Plans::as_planned))]
 fn leaf<S: Segments, R: Running, G: Gate>(
     work: &TableWork<S, R>,
@@ -89,7 +89,7 @@ impl<'a, S: Segments, R: Running> JobWork<'a, S, TablePart<S>, TableKept<S>, R> 
     }
 }
 
-// Walks a segment as one piece.
+/// Walks a segment as one piece.
 #[tactic(auto, using(crate::proofs::Plans::as_planned))]
 fn walk_whole<S: Segments, R: Running, G: Gate>(
     work: &TableWork<S, R>,
@@ -133,7 +133,7 @@ impl<'a, S: Segments, R: Running> JobWork<'a, S, TablePart<S>, TableKept<S>, R> 
             let _ = self.counts.settle(seat);
             return None;
         };
-        if size <= self.threshold {
+        if size <= self.threshold || !self.jobs.is_divided(job, segment) {
             return Some(walk_whole(self, gate, seat, job, segment, size));
         }
         let run = Join {

@@ -1,5 +1,6 @@
 //! The jobs of a run as work for a pool.
-ghost use Rattle.std.specs.Prelude.{◌≡◌, ◌<◌, ◌≤◌, ℕ, Some, IfSome, IfOk};
+ghost use Rattle.std.specs.Prelude.{◌≡◌, ◌<◌, ◌≤◌, ℕ, Some, length, IfSome, IfOk};
+ghost use Rattle.job_plan.specs.SettingsParts.{workers_of};
 ghost use Rattle.pending_count.specs.Views.{first_view};
 ghost use Rattle.pending_count.specs.Seats.{view_of, IsSeatOf};
 ghost use Rattle.completer_tree.specs.Trees.{table_id_of};
@@ -125,6 +126,8 @@ impl<'a, S: Segments, R: Running> JobWork<'a, S, TablePart<S>, TableKept<S>, R> 
         requires ends { opened.jobs ≡ S.job_count }
         requires table { table_id_of opened.counts ≡ R.table }
         requires planned { (R.jobs ≡ S.job_count) × ((j : ℕ) → R.last j ≡ S.last_of j) × ((j k : ℕ) → R.size j k ≡ S.size_of j k) }
+        ensures tasks { IfOk result (λ made. length made.1.items ≤ S.job_count) }
+        ensures idles { IfOk result (λ made. length made.2.items ≡ workers_of settings) }
     {
         let Opened {
             counts,

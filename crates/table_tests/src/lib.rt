@@ -10,4 +10,6 @@ mod driven;
 mod gates;
 pub mod lists;
 #[cfg(test)]
+mod plans;
+#[cfg(test)]
 mod runs;

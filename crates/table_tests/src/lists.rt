@@ -1,5 +1,5 @@
 //! Jobs that copy lists of numbers. They stand outside the tests, since definitions name them.
-ghost use Rattle.std.specs.Prelude.{◌≡◌, ◌%◌, ◌<◌, ◌≤◌, ℕ, ℤ, List, [], length, map, slice_index_or, IfOk};
+ghost use Rattle.std.specs.Prelude.{◌≡◌, ◌%◌, ◌<◌, ◌≤◌, ℕ, ℤ, true, List, [], length, map, slice_index_or, IfOk};
 ghost use Rattle.table_tests.specs.Lists.{slice, numbers_in, JobLast};
 ghost use Rattle.table_tests.specs.ListLaws.{one_list};
 
@@ -55,7 +55,7 @@ impl<'a, P: Planned> Lists<'a, P> {
         }
     }
 
-    // Whether the next leaf is refused memory.
+    /// Whether the next leaf is refused memory.
     fn refuses(&self) -> bool {
         let left = self.refusals.load(SeqCst);
         self.refusals.store(left.saturating_sub(1), SeqCst);
@@ -86,6 +86,8 @@ impl<'a, P: Planned + Sync> Segments for Lists<'a, P> {
 
     ghost size_of = { λ job _. length (P.numbers job) };
 
+    ghost divided = { λ _ _. true };
+
     ghost stands_for = { λ job _ from to part. part.items ≡ slice (P.numbers job) from to };
 
     ghost is_source = { λ job _ source. numbers_in (P.numbers job) source ≡ P.numbers job };
@@ -110,6 +112,10 @@ impl<'a, P: Planned + Sync> Segments for Lists<'a, P> {
 
     fn size(&self, job: usize, _segment: usize, source: &ListSource) -> u64 {
         self.numbers(job, source).len() as u64
+    }
+
+    fn is_divided(&self, _job: usize, _segment: usize) -> bool {
+        true
     }
 
     fn leaf(

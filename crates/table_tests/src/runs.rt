@@ -10,12 +10,12 @@ use std::sync::atomic::Ordering::SeqCst;
 use std::test::Fail;
 use std::thread::Threads;
 
-// These settings, or `NoMemory` if they are none.
+/// These settings, or `NoMemory` if they are none.
 fn settings(workers: u64, threshold: u64, nodes: u64) -> Result<Settings, NoMemory> {
     Settings::of(workers, threshold, nodes, Form::Text).ok_or(NoMemory)
 }
 
-// Six lists of 0, 7, .. 35 numbers.
+/// Six lists of 0, 7, .. 35 numbers.
 fn lists(alloc: Global) -> Result<Vec<Vec<i64>>, Fail> {
     let mut lists = Vec::new(alloc);
     for job in 0..6i64 {
@@ -28,7 +28,7 @@ fn lists(alloc: Global) -> Result<Vec<Vec<i64>>, Fail> {
     Ok(lists)
 }
 
-// How many leaves a run has, if its answers are the lists.
+/// How many leaves a run has, if its answers are the lists.
 fn leaves<H: Threads + Wait + Sync>(
     rt: &H,
     alloc: Global,

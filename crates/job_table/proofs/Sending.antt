@@ -1,0 +1,48 @@
+-- The jobs of a plan may be shared by threads.
+use denote.Param.Send.{IsSend, IsSync, sendable}
+use denote.Ref.{NamedLft}
+use denote.RattleType.{RattleType}
+use Rattle.std.proofs.Crossing.{crosses}
+use Rattle.lambda_expr.proofs.expr.BoolExpr.TheLaws.TheKnot as exprs
+use Rattle.lambda_expr.specs.contracts.env.Env as envs
+use Rattle.lambda_expr.specs.contracts.expr.BoolExpr as truths
+use Rattle.lambda_expr.specs.contracts.expr.LongExpr as longs
+use Rattle.trace.specs.contracts.stage.Stage as stages
+use Rattle.job_plan.specs.contracts.segment.Segment as segments
+use Rattle.job_plan.specs.contracts.segment.JobPlan as jobs
+use Rattle.job_plan.specs.contracts.segment.Plan as plans
+use Rattle.job_table.specs.contracts.planned.PlanJobs as plan_jobs
+
+pub env_send : IsSend envs.the_row
+env_send = search (sendable, crosses) depth 30
+
+pub env_sync : IsSync envs.the_row
+env_sync = search (sendable, crosses) depth 30
+
+-- expressions, as a field and as an element
+long_field : IsSync (longs.the_field).row
+long_field = search (sendable, crosses, exprs.crosses) depth 60 fits 20000
+
+truth_field : IsSync (truths.the_field).row
+truth_field = search (sendable, crosses, exprs.crosses) depth 60 fits 20000
+
+long_sync : IsSync longs.the_row
+long_sync = search (sendable, crosses, long_field) depth 60 fits 20000
+
+stage_sync : IsSync stages.the_row
+stage_sync = search (sendable, crosses, long_field, truth_field, long_sync) depth 60 fits 20000
+
+segment_sync : IsSync segments.the_row
+segment_sync = search (sendable, crosses, truth_field, stage_sync) depth 60 fits 20000
+
+job_sync : (a : NamedLft) → IsSync (jobs.the_row a)
+job_sync a = search (sendable, crosses, segment_sync) depth 60 fits 20000
+
+pub plan_sync : (a : NamedLft) → IsSync (plans.the_row a)
+plan_sync a = search (sendable, crosses, job_sync) depth 30
+
+pub jobs_send : (a c : NamedLft) (P : RattleType) (g : _) → IsSend P → IsSend (plan_jobs.the_row a c P g)
+jobs_send a c P g s = search (sendable, crosses, plan_sync, env_send) depth 60 fits 20000
+
+pub jobs_sync : (a c : NamedLft) (P : RattleType) (g : _) → IsSync P → IsSync (plan_jobs.the_row a c P g)
+jobs_sync a c P g s = search (sendable, crosses, plan_sync, env_sync) depth 60 fits 20000

@@ -1,0 +1,12 @@
+//! What the segments of a plan go over, as it is kept between them.
+
+use trace::Chunk;
+
+/// What a segment goes over.
+#[derive(Drop)]
+pub(crate) enum SegmentSource {
+    /// The sources of the job.
+    Own,
+    /// What the segment before it gave.
+    Kept(Chunk),
+}
