@@ -30,7 +30,7 @@ pub enum ReadFault {
     WrongType,
     /// A name that is no parameter, and no method or constant of `Math` and `Long`.
     UnknownName,
-    /// More than 4,096 tokens, or an expression deeper than 64.
+    /// More than 4,096 tokens, an expression deeper than 64, or a stream of more than 64 operands.
     TooDeep,
     /// A number above 2^63 - 1; 2^63 may stand directly after a unary minus.
     LiteralTooLarge,

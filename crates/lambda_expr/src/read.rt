@@ -117,8 +117,9 @@ pub fn read_lambda_of(alloc: Global, text: &CutText, want: Want) -> Result<Lambd
 /// Reads a lambda of the wanted kind (JLS 17, 15.27).
 ///
 /// Refusals, the first that applies: `TooDeep` for more than 4,096 tokens, `Syntax`,
-/// `LiteralTooLarge`, `TooDeep` for a body deeper than 64, `UnknownName`, `WrongType`. `NoMemory`
-/// may stand in place of any answer if an allocation failed; the empty text takes no memory.
+/// `LiteralTooLarge`, `TooDeep` for a body deeper than 64 or a stream of more than 64 operands,
+/// `UnknownName`, `WrongType`. `NoMemory` may stand in place of any answer if an allocation failed; the
+/// empty text takes no memory.
 pub fn read_lambda(alloc: Global, text: &[u8], want: Want) -> Result<Lambda, ReadFault>
     ensures ok { IfOk result (λ lambda. Spells text.now want lambda) }
     ensures refused { IfErr result (λ fault. IsRefused text.now want fault) }
