@@ -1,4 +1,4 @@
-//! Jobs of job files on workers: the leaves that they are walked in.
+//! Jobs of job files on workers: the answers of Java, and the leaves that they were walked in.
 use crate::gates::Counted;
 use columns::Columns;
 use job_language::read_jobs;
@@ -9,6 +9,47 @@ use std::sync::Wait;
 use std::sync::atomic::Ordering::SeqCst;
 use std::test::Fail;
 use std::thread::Threads;
+
+/// Jobs with their answers. `reference/jobs` has those of Java; the faults and `unended` are worked out by hand.
+const JOBS: &str = "\
+sum = range(0, 5000).map(x -> x * x).filter(x -> x % 3 == 1).sum() => 27769446111
+count = rangeClosed(1, 3000).filter(x -> x % 7 == 3).count() => 429
+min = range(0, 2500).map(x -> x * 7919 % 2503 - 9).min() => OptionalLong[-9]
+max = range(0, 2500).map(x -> x * 7919 % 2503 - 9).max() => OptionalLong[2493]
+first = range(3, 3000).reduce((a, b) -> a) => OptionalLong[3]
+last = range(3, 3000).reduce((a, b) -> b) => OptionalLong[2999]
+from = range(0, 3000).map(x -> x * x).reduce(0, (a, b) -> a ^ b) => 16233808
+window = range(0, 4000).map(x -> x * 3).skip(1500).limit(4).toArray() => [4500, 4503, 4506, 4509]
+middle = range(0, 3000).takeWhile(x -> x < 2000).dropWhile(x -> x < 1996).toArray() => [1996, 1997, 1998, 1999]
+joined = concat(range(0, 1500), of(7, 8), rangeClosed(-3, 1500)).filter(x -> x % 500 == 0).toArray() => [0, 500, 1000, 0, 500, 1000, 1500]
+found = range(1, 3000).filter(x -> x % 1001 == 0).findFirst() => OptionalLong[1001]
+any = range(0, 3000).anyMatch(x -> x == 2999) => true
+all = range(0, 3000).allMatch(x -> x < 2999) => false
+none = range(0, 3000).noneMatch(x -> x < 0) => true
+least_of_none = range(5, 5).min() => OptionalLong.empty
+no_values = empty().map(x -> x + 1).toArray() => []
+hidden = range(0, 3000).limit(5).map(x -> 10 / (x - 2000)).toArray() => [0, 0, 0, 0, 0]
+fault = range(0, 3000).skip(1000).map(x -> 10 / (x - 2000)).sum() => fault of stage 2 at 2000
+two_faults = range(0, 3000).filter(x -> 9 / (x - 2500) > -10).map(x -> 1 / (x - 700)).count() => fault of stage 2 at 700
+of_array = range(0, 3000).map(x -> 1 / (x - 2999)).toArray() => fault of stage 1 at 2999
+unended = range(0, 4611686018427387904).filter(x -> x == 70000).findFirst() => OptionalLong[70000]";
+
+/// An answer as Java prints it, and a fault with its stage and its item.
+fn shown(alloc: Global, answer: &Answer) -> Result<String, AllocError> {
+    match answer {
+        Answer::Number(number) => format!(in alloc; "{number}"),
+        Answer::Truth(truth) => format!(in alloc; "{truth}"),
+        Answer::Optional(None) => format!(in alloc; "OptionalLong.empty"),
+        Answer::Optional(Some(number)) => format!(in alloc; "OptionalLong[{number}]"),
+        Answer::Array(values) => format!(in alloc; "{:?}", values.as_slice()),
+        Answer::Fault(fault) => format!(in alloc;
+            "fault of stage {} at {}",
+            fault.stage,
+            fault.origin.unwrap_or(0)
+        ),
+        Answer::Unusable(job) => format!(in alloc; "unusable {job}"),
+    }
+}
 
 /// The texts of the jobs of a table, as the bytes of a job file.
 fn file_of(alloc: Global, table: &str) -> Result<Vec<u8>, AllocError> {
@@ -38,6 +79,35 @@ fn run<H: Threads + Wait + Sync>(
     let gate = Counted::new();
     let answers = run_jobs(rt, alloc, &plan, &settings, &gate).map_err(|_fault| AllocError)?;
     Ok((answers, gate.leaves.load(SeqCst)))
+}
+
+/// The first row of the table whose job has another answer, or the number of its rows.
+fn first_difference(alloc: Global, table: &str, answers: &[Answer]) -> Result<usize, AllocError> {
+    for (row, (line, answer)) in table.lines().zip(answers).enumerate() {
+        let (_job, want) = line.split_once(" => ").unwrap_or((line, ""));
+        if shown(alloc, answer)?.as_str() != want {
+            return Ok(row);
+        }
+    }
+    Ok(answers.len())
+}
+
+#[test]
+fn jobs_have_the_answers_of_java_with_any_settings(rt: HostRuntime) -> Result<(), Fail> {
+    let alloc = rt.alloc();
+    for workers in [1, 2, 8] {
+        for threshold in [1, 1000] {
+            for nodes in [0, 4096] {
+                let (answers, _leaves) = run(&rt, alloc, JOBS, workers, threshold, nodes)?;
+                let row = first_difference(alloc, JOBS, &answers)?;
+                assert!(rt;
+                    row == 21,
+                    "row {row} with {workers} workers, threshold {threshold}"
+                );
+            }
+        }
+    }
+    Ok(())
 }
 
 /// One job each, and the leaves that it is walked in with threshold 1,000.
