@@ -1,20 +1,15 @@
 -- The segments of a plan, from the first to the one that gives the answer.
-use Rattle.std.proofs.Common.{◌≡◌, ◌≢◌, ℕ, zero, suc, ◌+◌, ◌-◌, ◌^◌, ◌<◌, ◌≤◌, min, pos, Bool, true, false, List, [], ◌∷◌, length, map, Option, Some, None, IfSome, Ok, Err, Result, IfOk, slice_get, get_or, ap, sym, subst, ◌∙◌, refl, arith}
-use Rattle.trace.specs.Trace.{Trace, append}
+use Rattle.std.proofs.Common.{◌≡◌, ℕ, zero, suc, ◌<◌, ◌≤◌, pos, List, [], ◌∷◌, length, Option, Some, None, slice_get, get_or, ap, sym, ◌∙◌, refl, arith}
+use Rattle.trace.specs.Trace.{Trace}
 use Rattle.job_plan.specs.declared.answer.Answer.{Answer}
 use Rattle.job_plan.specs.declared.answer.Answer.TheVariants as answer
 use Rattle.job_plan.specs.declared.outcome.Outcome.{Outcome}
 use Rattle.job_plan.specs.declared.outcome.Outcome.TheVariants as outcome
-use Rattle.job_plan.specs.declared.part.Part.{Part}
 use Rattle.job_plan.specs.declared.segment.JobPlan.{JobPlan}
 use Rattle.job_plan.specs.declared.segment.Segment.{Segment}
-use Rattle.job_plan.specs.Parts.{StandsFor, plan_in, plans_in, segment_in, segments_in}
-use Rattle.job_plan.specs.Pieces.{piece_of}
-use Rattle.job_plan.specs.Plans.{EndTerm, slicing, folding, finding, collecting, SegmentTerm, PlanTerm, ended, last_stage, walk_of, on_outcome, outcome_of, planned_answer, segments_answer}
-use Rattle.job_plan.specs.Walks.{source_walk}
-use Rattle.job_plan.proofs.SideBySide.{pieces_joined, whole_piece}
-use Rattle.job_table.specs.Answers.{AreAnswers}
-use Rattle.job_table.specs.PlanSegments.{PartStands, given_walk, one_more, piece_between, plan_at, slices_first, source_at, upto, walk_at, walk_size}
+use Rattle.job_plan.specs.Parts.{plan_in, plans_in, segment_in, segments_in}
+use Rattle.job_plan.specs.Plans.{EndTerm, slicing, folding, finding, collecting, SegmentTerm, ended, last_stage, walk_of, on_outcome, outcome_of, segments_answer}
+use Rattle.job_table.specs.PlanSegments.{given_walk, one_more, plan_at, slices_first, source_at}
 
 -- the answer that a segment gives; of one that gives a walk, and of none, it is 0
 abbrev pub given_answer : Outcome → Answer

@@ -1,5 +1,5 @@
 -- Condition: the segments of a plan: what each goes over, and what parts of it stand for.
-use Rattle.std.specs.Prelude.{◌≡◌, ℕ, zero, suc, ◌-◌, ◌^◌, min, Bool, true, false, List, [], ◌∷◌, length, Option, Some, None, IfSome, slice_get, slice_index_or, if◌then◌else◌, ◌==◌}
+use Rattle.std.specs.Prelude.{ℕ, zero, suc, ◌-◌, ◌^◌, min, Bool, true, false, List, [], ◌∷◌, length, Option, Some, None, IfSome, slice_get, slice_index_or, if◌then◌else◌, ◌==◌}
 use Rattle.trace.specs.Trace.{Trace, nothing}
 use Rattle.job_plan.specs.declared.outcome.Outcome.{Outcome}
 use Rattle.job_plan.specs.declared.outcome.Outcome.TheVariants as outcome

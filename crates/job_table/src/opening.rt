@@ -93,6 +93,7 @@ pub(crate) fn open_all<S: Segments, R: Running>(
     Ok((tasks, idles))
 }
 
+/// What is left of a purse whose jobs are opened.
 fn empty<S: Segments, R: Running>(purse: TablePurse<S, R>) -> TableIdle<S, R> {
     let Purse { seat, jobs: _, of } = purse;
     Idle { seat, of }
@@ -121,6 +122,7 @@ fn idle_seats<S: Segments, R: Running>(
     Ok(idles)
 }
 
+/// A seat without credit, and the one that it was split off from.
 fn idle_one<S: Segments, R: Running>(
     counts: &TableCounts<S>,
     from: TableIdle<S, R>,

@@ -15,6 +15,7 @@ pub(crate) struct Holding {
 }
 
 impl Holding {
+    /// A gate that no leaf has entered.
     pub(crate) fn new() -> Holding {
         Holding {
             entered: AtomicBool::new(false),
@@ -23,6 +24,7 @@ impl Holding {
         }
     }
 
+    /// Waits until another leaf is entered, or for as many turns as there may be.
     fn hold(&self) {
         for turn in 0..TURNS {
             if self.entered.load(SeqCst) {
@@ -56,6 +58,7 @@ pub(crate) struct Counted {
 }
 
 impl Counted {
+    /// A count of no leaf.
     pub(crate) fn new() -> Counted {
         Counted {
             leaves: AtomicU64::new(0),

@@ -1,4 +1,4 @@
-use Rattle.std.proofs.Common.{◌∙◌, ap, sym, subst, length, get_or, ◌<◌, ◌≤◌, ◌≡◌, arith, List}
+use Rattle.std.proofs.Common.{◌∙◌, ap, sym, subst, length, get_or, ◌<◌, ◌≤◌, ◌≡◌, List}
 use Rattle.job_plan.specs.declared.segment.Segment.{Segment}
 use Rattle.job_table.specs.PlanSegments.{segment_divides}
 use Rattle.job_table.proofs.PlanAnswers.{segment_got, no_segment}

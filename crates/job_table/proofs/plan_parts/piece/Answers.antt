@@ -1,4 +1,4 @@
-use Rattle.std.proofs.Common.{◌∙◌, ap, sym, subst, length, get_or, ◌<◌, ◌≤◌, ◌≡◌, arith, List}
+use Rattle.std.proofs.Common.{subst, length, get_or, ◌<◌, ◌≤◌, ◌≡◌, List}
 use Rattle.job_plan.specs.declared.part.Part.TheVariants as part
 use Rattle.job_plan.specs.declared.segment.Segment.{Segment}
 use Rattle.job_plan.specs.Parts.{plan_in, segment_in, walk_in}

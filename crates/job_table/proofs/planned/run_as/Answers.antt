@@ -1,8 +1,5 @@
-use Rattle.std.proofs.Common.{◌∙◌, ◌≡◌, ap, length, List, IfOk, Ok, Err, Result, Vec, Global, subst, sym, map}
+use Rattle.std.proofs.Common.{Vec, Global}
 use Rattle.job_plan.specs.declared.answer.Answer.{Answer}
-use Rattle.job_plan.specs.declared.segment.JobPlan.{JobPlan}
-use Rattle.job_plan.specs.Parts.{plans_in}
-use Rattle.job_plan.specs.Plans.{planned_answer}
 use Rattle.job_table.proofs.PlannedAnswers.{planned_jobs}
 use denote.Exit.{no}
 use denote.Param.{param}
