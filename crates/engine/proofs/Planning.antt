@@ -1,11 +1,9 @@
 -- The answers and names of planned jobs are those of the jobs.
-use Rattle.std.proofs.Common.{◌≡◌, ℕ, suc, ◌+◌, ◌<◌, Bool, true, false, not, List, [], ◌∷◌, ◌++◌, length, take, get_or, Option, Some, None, refl, sym, ap, ◌∙◌, arith}
+use Rattle.std.proofs.Common.{◌≡◌, ℕ, suc, ◌+◌, Bool, true, false, not, List, [], ◌∷◌, ◌++◌, length, Option, Some, None, refl, sym, ap, ◌∙◌, arith}
 use Rattle.std.specs.Prelude.{if◌then◌else◌, nat_lt, map, position, ◌&&◌}
 use Rattle.std.specs.List.{position_or_len}
-use Rattle.std.proofs.lemmas.List.{take_more}
 use Rattle.job_language.specs.declared.job.Job.{Job}
 use Rattle.job_language.specs.Jobs.{JobTerm, job_of, jobs_of, names_of}
-use Rattle.job_plan.specs.declared.answer.Answer.{Answer}
 use Rattle.job_plan.specs.declared.segment.JobPlan.{JobPlan}
 use Rattle.job_plan.specs.FileAnswers.{answers_alone, meaning_of}
 use Rattle.job_plan.specs.Parts.{plan_in, plans_in}
@@ -68,11 +66,6 @@ module _ {A : Type 0} (f : PlanTerm → A) where
   more : (js : List JobPlan) (j : JobPlan) → map f (plans_in (js ++ j ∷ [])) ≡ map f (plans_in js) ++ f (plan_in j) ∷ []
   more [] j = refl
   more (k ∷ js) j = ap (λ (xs : List A). f (plan_in k) ∷ xs) (more js j)
-
-pub answers_more : (js : List JobPlan) (i : ℕ) (d : JobPlan) (bs : List Answer) (a : Answer) → i < length js → bs ≡ map (planned_answer []) (plans_in (take i js)) → a ≡ planned_answer [] (plan_in (get_or js i d))
-    → bs ++ a ∷ [] ≡ map (planned_answer []) (plans_in (take (i + 1) js))
-answers_more js i d bs a within before is =
-    (λ k. before k ++ is k ∷ []) ∙ sym (more (planned_answer []) (take i js) (get_or js i d)) ∙ sym (ap (λ (ks : List JobPlan). map (planned_answer []) (plans_in ks)) (take_more js i d within))
 
 pub names_more : (js : List JobPlan) (j : JobPlan) (ns : List (List ℕ)) → ns ≡ map (λ (p : PlanTerm). p.name) (plans_in js) → ns ++ j.name ∷ [] ≡ map (λ (p : PlanTerm). p.name) (plans_in (js ++ j ∷ []))
 names_more js j ns before = ap (λ (ms : List (List ℕ)). ms ++ j.name ∷ []) before ∙ sym (more (λ (p : PlanTerm). p.name) js j)

@@ -7,21 +7,24 @@ ghost use Rattle.engine.specs.Run.{Faulted, Input, IsReport, Reported, columns_o
 ghost use Rattle.job_language.specs.Jobs.{jobs_of, names_of};
 ghost use Rattle.job_plan.specs.FileAnswers.{meaning_of};
 ghost use Rattle.job_plan.specs.Parts.{plans_in};
-ghost use Rattle.job_plan.specs.Plans.{PlanTerm, planned_answer};
+ghost use Rattle.job_plan.specs.Plans.{PlanTerm};
 ghost use Rattle.job_plan.specs.SettingsParts.{form_of};
 ghost use Rattle.report.specs.Named.{IsNamed, IsText};
 ghost use Rattle.std.specs.Io.KnownBytes.{Keeps};
-ghost use Rattle.std.specs.Prelude.{◌≡◌, ◌≢◌, ℕ, All, List, [], length, map, Option, None, Ok, IfErr, IfOk, OnOk};
+ghost use Rattle.std.specs.Prelude.{◌≡◌, ◌≢◌, ℕ, All, List, length, map, Option, None, Ok, IfErr, IfOk, OnOk};
 ghost use Rattle.stream_tokens.specs.Forms.{IsName};
 
 use columns::{ColumnFault, Columns, CountedRead, ReadAllFault, read_all_of, read_columns};
 use job_language::{Job, JobFault, read_jobs};
-use job_plan::{Answer, Form, JobPlan, Plan, Settings, is_supported, walk};
-use lambda_expr::Env;
+use job_plan::{Answer, Form, JobPlan, Plan, Settings, is_supported};
+use job_table::{RunFault, run_jobs};
 use report::{CountedWrite, WriteFault, json, text, write_all_of};
 use std::alloc::Global;
+use std::sync::Wait;
+use std::thread::Threads;
 use stream_tokens::{Bytes, NoMemory};
 use thiserror::Error;
+use worker_pool::Gate;
 
 /// Why a run gives no report, or only a part of it. Unless it is `Write`, nothing was written.
 ///
@@ -52,16 +55,24 @@ pub enum EngineFault {
 /// Reads the columns, if there is a reader of them, then the job file whole; checks the jobs, runs them,
 /// builds the report whole and writes it.
 ///
-/// Of the settings only the form of the report is used yet: it uses one thread and walks each source once, no
-/// further than its job wants, with at most one call of each stage per item. The cells of the columns, the job file
-/// and the report are each held in memory once, and the column file while its cells are read. If the column file is
-/// refused, the job file isn't read; if one job isn't supported, none is run.
-pub fn run<C: CountedRead, J: CountedRead, W: CountedWrite>(
+/// The jobs run on as many threads as the settings say, in pieces of at most their threshold; the gate is called before
+/// each piece, and one that lets all pass will do. Neither changes the report. The cells of the columns, the job file and
+/// the report are each held in memory once, and the column file while its cells are read. If the column file is refused,
+/// the job file isn't read; if one job isn't supported, none is run.
+pub fn run<
+    H: Threads + Wait + Sync,
+    C: CountedRead,
+    J: CountedRead,
+    W: CountedWrite,
+    G: Gate + Sync,
+>(
+    rt: &H,
     alloc: Global,
     columns: Option<&mut C>,
     jobs: &mut J,
     writer: &mut W,
     settings: &Settings,
+    gate: &G,
 ) -> Result<(), EngineFault>
     // The headline: the writer holds what it held before, and then the report of the jobs that the bytes
     // spell. The input is what the readers held, and some bytes for a reader of which they aren't known.
@@ -90,7 +101,7 @@ pub fn run<C: CountedRead, J: CountedRead, W: CountedWrite>(
         },
         None => Columns::none(),
     };
-    let report = match report_from(alloc, &table, jobs, settings.form()) {
+    let report = match report_from(rt, alloc, &table, jobs, settings, gate) {
         Ok(report) => report,
         Err(fault) => return Err(fault),
     };
@@ -101,19 +112,21 @@ pub fn run<C: CountedRead, J: CountedRead, W: CountedWrite>(
 }
 
 /// The report of the job file that this reader has left, with these columns.
-fn report_from<J: CountedRead>(
+fn report_from<H: Threads + Wait + Sync, J: CountedRead, G: Gate + Sync>(
+    rt: &H,
     alloc: Global,
     columns: &Columns,
     jobs: &mut J,
-    form: Form,
+    settings: &Settings,
+    gate: &G,
 ) -> Result<Vec<u8>, EngineFault>
     ensures ok { IfOk result (λ report. (bytes : List ℕ) × IsWhole (J.remaining jobs.old) bytes
         × ((file : Option (List ℕ)) → columns_of file ≡ Ok columns.now
-        → IsReport (record { columns = file; jobs = bytes; form = form }) report.items)) }
+        → IsReport (record { columns = file; jobs = bytes; form = form_of settings.now }) report.items)) }
     ensures err { IfErr result (λ fault. fault ≢ EngineFault.JobsRead
         → (bytes : List ℕ) × IsWhole (J.remaining jobs.old) bytes
         × ((file : Option (List ℕ)) → columns_of file ≡ Ok columns.now
-        → IsEarly (record { columns = file; jobs = bytes; form = form }) fault)) }
+        → IsEarly (record { columns = file; jobs = bytes; form = form_of settings.now }) fault)) }
     ensures read_failed { IfErr result (λ fault. fault ≡ EngineFault.JobsRead →
         HasRisen (J.failures jobs.old) (J.failures jobs.new)) }
 {
@@ -122,20 +135,22 @@ fn report_from<J: CountedRead>(
         Err(ReadAllFault::Failed) => return Err(EngineFault::JobsRead),
         Err(ReadAllFault::NoMemory) => return Err(EngineFault::NoMemory),
     };
-    report_of(alloc, columns, &bytes, form)
+    report_of(rt, alloc, columns, &bytes, settings, gate)
 }
 
-/// The report of the jobs that these bytes spell, with these columns, in this form.
-pub fn report_of(
+/// The report of the jobs that these bytes spell, with these columns.
+fn report_of<H: Threads + Wait + Sync, G: Gate + Sync>(
+    rt: &H,
     alloc: Global,
     columns: &Columns,
     bytes: &[u8],
-    form: Form,
+    settings: &Settings,
+    gate: &G,
 ) -> Result<Vec<u8>, EngineFault>
     ensures ok { IfOk result (λ report. (file : Option (List ℕ)) → columns_of file ≡ Ok columns.now
-        → IsReport (record { columns = file; jobs = bytes.now; form = form }) report.items) }
+        → IsReport (record { columns = file; jobs = bytes.now; form = form_of settings.now }) report.items) }
     ensures err { IfErr result (λ fault. (file : Option (List ℕ)) → columns_of file ≡ Ok columns.now
-        → IsEarly (record { columns = file; jobs = bytes.now; form = form }) fault) }
+        → IsEarly (record { columns = file; jobs = bytes.now; form = form_of settings.now }) fault) }
     ensures read { IfErr result (λ fault. fault ≢ EngineFault.JobsRead) }
 {
     let jobs = match read_jobs(alloc, bytes, columns) {
@@ -145,7 +160,7 @@ pub fn report_of(
     if let Some(job) = first_unsupported(&jobs) {
         return Err(EngineFault::NotYet { job });
     }
-    match written(alloc, jobs, form) {
+    match written(rt, alloc, jobs, settings, gate) {
         Ok(report) => Ok(report),
         Err(_) => Err(EngineFault::NoMemory),
     }
@@ -159,16 +174,25 @@ fn first_unsupported(jobs: &[Job]) -> Option<usize>
 }
 
 /// The report of jobs, all of which are supported.
-fn written(alloc: Global, jobs: Vec<Job>, form: Form) -> Result<Vec<u8>, NoMemory>
+fn written<H: Threads + Wait + Sync, G: Gate + Sync>(
+    rt: &H,
+    alloc: Global,
+    jobs: Vec<Job>,
+    settings: &Settings,
+    gate: &G,
+) -> Result<Vec<u8>, NoMemory>
     requires supported { first_unsupported (jobs_of jobs.items) ≡ None }
     requires names { All IsName (names_of (jobs_of jobs.items)) }
     ensures { IfOk result (λ report. report.items
-        ≡ report_in form (names_of (jobs_of jobs.entry.items)) (meaning_of (jobs_of jobs.entry.items))) }
+        ≡ report_in (form_of settings.now) (names_of (jobs_of jobs.entry.items)) (meaning_of (jobs_of jobs.entry.items))) }
 {
     let plan = Plan::of(alloc, jobs)?;
-    let answers = answers_of(alloc, &plan.jobs)?;
+    let answers = match run_jobs(rt, alloc, &plan, settings, gate) {
+        Ok(answers) => answers,
+        Err(RunFault::NoMemory) => return Err(NoMemory),
+    };
     let names = names_in(alloc, plan.jobs)?;
-    printed(alloc, &names, &answers, form)
+    printed(alloc, &names, &answers, settings.form())
 }
 
 /// The report of answers in a form.
@@ -187,18 +211,6 @@ fn printed(
         Form::Text => text(alloc, names, answers),
         Form::Json => json(alloc, names, answers),
     }
-}
-
-/// The answers of planned jobs, in their order.
-fn answers_of(alloc: Global, jobs: &[JobPlan]) -> Result<Vec<Answer>, NoMemory>
-    ensures { IfOk result (λ answers. answers.items ≡ map (planned_answer []) (plans_in jobs.now)) }
-{
-    let env = Env::empty(alloc);
-    let mut answers = Vec::new(alloc);
-    for job in jobs {
-        answers.push(walk(alloc, job, &env)?)?;
-    }
-    Ok(answers)
 }
 
 /// The names of planned jobs, in their order; nothing is copied.

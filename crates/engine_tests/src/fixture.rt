@@ -5,6 +5,9 @@ use engine::{EngineFault, run, tell};
 use job_plan::{Form, Settings};
 use report::{CountedOut, CountedWrite};
 use std::alloc::Global;
+use std::sync::Wait;
+use std::thread::Threads;
+use worker_pool::Gate;
 
 /// What a run answers, and what it wrote.
 #[derive(Drop)]
@@ -13,31 +16,74 @@ pub struct Outcome {
     pub written: Vec<u8>,
 }
 
+/// A gate that lets every piece of a job pass.
+#[derive(Drop)]
+struct OpenGate;
+
+impl Gate for OpenGate {
+    fn at_leaf(&self, _job: usize, _from: u64, _to: u64) {}
+}
+
 /// A run with the settings of the program and a report in this form; `NoMemory` if they are none.
-pub fn run_as<C: CountedRead, J: CountedRead, W: CountedWrite>(
-    alloc: Global,
+pub fn run_as<
+    H: AllocGlobal + Threads + Wait + Sync,
+    C: CountedRead,
+    J: CountedRead,
+    W: CountedWrite,
+>(
+    rt: &H,
     columns: Option<&mut C>,
     jobs: &mut J,
     writer: &mut W,
     form: Form,
 ) -> Result<(), EngineFault> {
     match Settings::of(4, 1_024, 4_096, form) {
-        Some(settings) => run(alloc, columns, jobs, writer, &settings),
+        Some(settings) => run(rt, rt.alloc(), columns, jobs, writer, &settings, &OpenGate),
         None => Err(EngineFault::NoMemory),
     }
 }
 
 /// Runs a job file of these bytes without columns, with a report as text.
-pub fn run_over(alloc: Global, jobs: &[u8]) -> Outcome {
-    run_with(alloc, None, jobs, Form::Text)
+pub fn run_over<H: AllocGlobal + Threads + Wait + Sync>(rt: &H, jobs: &[u8]) -> Outcome {
+    run_with(rt, None, jobs, Form::Text)
 }
 
 /// Runs a job file of these bytes with these columns and a report in this form.
-pub fn run_with(alloc: Global, columns: Option<&[u8]>, jobs: &[u8], form: Form) -> Outcome {
+pub fn run_with<H: AllocGlobal + Threads + Wait + Sync>(
+    rt: &H,
+    columns: Option<&[u8]>,
+    jobs: &[u8],
+    form: Form,
+) -> Outcome {
     let mut table = columns.map(|bytes| Counted::new(bytes));
     let mut reader = Counted::new(jobs);
-    let mut writer = CountedOut::new(Vec::new(alloc));
-    let answer = run_as(alloc, table.as_mut(), &mut reader, &mut writer, form);
+    let mut writer = CountedOut::new(Vec::new(rt.alloc()));
+    let answer = run_as(rt, table.as_mut(), &mut reader, &mut writer, form);
+    Outcome {
+        answer,
+        written: writer.into_inner(),
+    }
+}
+
+/// Runs a job file of these bytes with these columns and settings.
+pub fn run_set<H: AllocGlobal + Threads + Wait + Sync>(
+    rt: &H,
+    columns: &[u8],
+    jobs: &[u8],
+    settings: &Settings,
+) -> Outcome {
+    let mut table = Counted::new(columns);
+    let mut reader = Counted::new(jobs);
+    let mut writer = CountedOut::new(Vec::new(rt.alloc()));
+    let answer = run(
+        rt,
+        rt.alloc(),
+        Some(&mut table),
+        &mut reader,
+        &mut writer,
+        settings,
+        &OpenGate,
+    );
     Outcome {
         answer,
         written: writer.into_inner(),
@@ -53,8 +99,8 @@ pub fn is_line(bytes: &[u8], text: &str) -> bool {
 }
 
 /// Whether the run of this job file writes this report; its last line feed is left out here.
-pub fn reports(alloc: Global, jobs: &str, report: &str) -> bool {
-    let outcome = run_over(alloc, jobs.as_bytes());
+pub fn reports<H: AllocGlobal + Threads + Wait + Sync>(rt: &H, jobs: &str, report: &str) -> bool {
+    let outcome = run_over(rt, jobs.as_bytes());
     outcome.answer.is_ok() && is_line(&outcome.written, report)
 }
 
@@ -66,11 +112,16 @@ pub fn has_line(alloc: Global, fault: &EngineFault, line: &str, status: u8) -> b
 
 /// Whether a run of this job file with these columns is refused by this line, with status 1, and nothing is
 /// written.
-pub fn is_refused(alloc: Global, columns: Option<&[u8]>, jobs: &[u8], line: &str) -> bool {
-    let outcome = run_with(alloc, columns, jobs, Form::Text);
+pub fn is_refused<H: AllocGlobal + Threads + Wait + Sync>(
+    rt: &H,
+    columns: Option<&[u8]>,
+    jobs: &[u8],
+    line: &str,
+) -> bool {
+    let outcome = run_with(rt, columns, jobs, Form::Text);
     match outcome.answer {
         Ok(()) => false,
-        Err(fault) => outcome.written.is_empty() && has_line(alloc, &fault, line, 1),
+        Err(fault) => outcome.written.is_empty() && has_line(rt.alloc(), &fault, line, 1),
     }
 }
 

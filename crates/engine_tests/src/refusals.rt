@@ -6,6 +6,7 @@ use engine::EngineFault;
 use job_language::{Cause, JobFault};
 use lambda_expr::ReadFault;
 use std::alloc::Global;
+use std::test::Fail;
 
 const OUTSIDE_THE_GRAMMAR: &str = "\
 s
@@ -62,10 +63,7 @@ s = of(9223372036854775808).map(x -> y).sum(0)";
 fn a_text_outside_the_grammar_is_a_syntax_fault(rt: HostRuntime) {
     for jobs in OUTSIDE_THE_GRAMMAR.lines() {
         let line = "streamrun: jobs: line 1: syntax";
-        assert!(rt;
-            is_refused(rt.alloc(), None, jobs.as_bytes(), line),
-            "{jobs}"
-        );
+        assert!(rt; is_refused(&rt, None, jobs.as_bytes(), line), "{jobs}");
     }
 }
 
@@ -96,23 +94,18 @@ s = range(0, 5).reduce((a, b) -> a - b) => operator not listed
 aaaaaaaaaabbbbbbbbbbccccccccccddddddddddeeeeeeeeeeffffffffff12345 = of(1).sum() => too long";
 
 #[test]
-fn the_first_faulty_part_of_a_job_is_the_cause(rt: HostRuntime) {
-    let alloc = rt.alloc();
+fn the_first_faulty_part_of_a_job_is_the_cause(rt: HostRuntime) -> Result<(), Fail> {
     for row in FAULTY_PARTS.lines() {
         let (jobs, cause) = halves(row);
-        let line = format!(in alloc; "streamrun: jobs: line 1: {cause}");
-        let refused = line.is_ok_and(|line| is_refused(
-            alloc,
-            None,
-            jobs.as_bytes(),
-            line.as_str(),
-        ));
+        let line = format!(in rt.alloc(); "streamrun: jobs: line 1: {cause}")?;
+        let refused = is_refused(&rt, None, jobs.as_bytes(), line.as_str());
         assert!(rt; refused, "{row}");
     }
+    Ok(())
 }
 
 #[test]
-fn the_first_faulty_job_is_reported_with_its_line(rt: HostRuntime) {
+fn the_first_faulty_job_is_reported_with_its_line(rt: HostRuntime) -> Result<(), Fail> {
     let files = [
         b" \n\ns = of(1).sum()\r\n\t\n  .sum()\n".as_slice(),
         b"# s\n\n\t// s\n .sum()\ns = of(1).sum()",
@@ -123,15 +116,14 @@ fn the_first_faulty_job_is_reported_with_its_line(rt: HostRuntime) {
     let lines =
         "line 3: syntax|line 4: syntax|line 3: same name|line 3: unknown name|line 2: syntax";
     for (jobs, want) in files.into_iter().zip(lines.split('|')) {
-        let line = format!(in rt.alloc(); "streamrun: jobs: {want}");
-        let refused = line.is_ok_and(|line| is_refused(rt.alloc(), None, jobs, line.as_str()));
-        assert!(rt; refused, "{want}");
+        let line = format!(in rt.alloc(); "streamrun: jobs: {want}")?;
+        assert!(rt; is_refused(&rt, None, jobs, line.as_str()), "{want}");
     }
+    Ok(())
 }
 
 #[test]
-fn a_job_that_is_not_supported_is_named_after_every_refusal(rt: HostRuntime) {
-    let alloc = rt.alloc();
+fn a_job_that_is_not_supported_is_named_after_every_refusal(rt: HostRuntime) -> Result<(), Fail> {
     for (jobs, line) in [
         (
             "p = of(0).map(x -> 1 / x).prefix(sum).sum()",
@@ -162,15 +154,11 @@ fn a_job_that_is_not_supported_is_named_after_every_refusal(rt: HostRuntime) {
             "jobs: line 2: same name",
         ),
     ] {
-        let text = format!(in alloc; "streamrun: {line}");
-        let refused = text.is_ok_and(|text| is_refused(
-            alloc,
-            Some(b"a\n1\n"),
-            jobs.as_bytes(),
-            text.as_str(),
-        ));
+        let text = format!(in rt.alloc(); "streamrun: {line}")?;
+        let refused = is_refused(&rt, Some(b"a\n1\n"), jobs.as_bytes(), text.as_str());
         assert!(rt; refused, "{jobs}");
     }
+    Ok(())
 }
 
 /// A header of 257 empty names: 256 commas.
@@ -181,8 +169,9 @@ const COMMAS: &str = "\
 ,,,,,,,,,,,,,,,,,,,,,,,,,,,,,,,,,,,,,,,,,,,,,,,,,,,,,,,,,,,,,,,,";
 
 #[test]
-fn a_refused_column_file_is_reported_before_the_job_file_is_read(rt: HostRuntime) {
-    let alloc = rt.alloc();
+fn a_refused_column_file_is_reported_before_the_job_file_is_read(
+    rt: HostRuntime,
+) -> Result<(), Fail> {
     for (columns, want) in [
         ("", "no header"),
         ("a,b,a\n", "same name"),
@@ -192,15 +181,11 @@ fn a_refused_column_file_is_reported_before_the_job_file_is_read(rt: HostRuntime
         ("a,b\n1,2\n3,-\n", "bad number in row 2 column 2"),
         (COMMAS, "more than 256 columns"),
     ] {
-        let line = format!(in alloc; "streamrun: columns: {want}");
-        let refused = line.is_ok_and(|line| is_refused(
-            alloc,
-            Some(columns.as_bytes()),
-            b"junk",
-            line.as_str(),
-        ));
+        let line = format!(in rt.alloc(); "streamrun: columns: {want}")?;
+        let refused = is_refused(&rt, Some(columns.as_bytes()), b"junk", line.as_str());
         assert!(rt; refused, "{columns}");
     }
+    Ok(())
 }
 
 /// Whether a job file that is refused for this cause at line 7 has this line and status 1.

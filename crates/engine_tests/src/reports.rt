@@ -1,7 +1,8 @@
 //! Whole runs over memory: the bytes of the report, worked out by hand and by Java 17.
 
-use crate::fixture::{halves, is_line, reports, run_over, run_with};
+use crate::fixture::{halves, is_line, reports, run_over, run_set, run_with};
 use job_plan::{Form, Settings};
+use std::test::Fail;
 
 const FIRST_FAULTS: &str = "\
 q = range(0, 10).map(x -> 10 / (x - 7)).toArray() => q = fault divide-by-zero stage 1 item 7
@@ -33,7 +34,7 @@ d = rangeClosed(1, 4611686018427387904).allMatch(x -> x < 9) => d = false";
 fn the_first_fault_that_the_walk_meets_is_reported(rt: HostRuntime) {
     for row in FIRST_FAULTS.lines() {
         let (jobs, report) = halves(row);
-        assert!(rt; reports(rt.alloc(), jobs, report), "{row}");
+        assert!(rt; reports(&rt, jobs, report), "{row}");
     }
 }
 
@@ -56,35 +57,62 @@ n = of(1, 2).noneMatch(x -> x == 2); => n = false";
 fn each_operation_has_the_answer_of_java(rt: HostRuntime) {
     for row in OPERATIONS.lines() {
         let (jobs, report) = halves(row);
-        assert!(rt; reports(rt.alloc(), jobs, report), "{row}");
+        assert!(rt; reports(&rt, jobs, report), "{row}");
     }
     let jobs =
         "# squares\r\ns = LongStream.rangeClosed(1, 4)\r\n  .map((x) -> x * x)\r\n  .sum();\r\n";
-    assert!(rt;
-        reports(rt.alloc(), jobs, "s = 30"),
-        "one job on several lines"
-    );
+    assert!(rt; reports(&rt, jobs, "s = 30"), "one job on several lines");
 }
 
 /// A table of two columns.
 const TABLE: &[u8] = b"a,b\n3,10\n0,20\n-5,30\n";
 
-const OF_COLUMNS: &str = "\
+/// Jobs whose sources are cut into pieces if the threshold is small, each with its line of the report.
+const IN_PIECES: &str = "\
 s = column(\"a\").sum() => s = -2
 t = column(\"b\").map(x -> x / -2).toArray() => t = [-5, -10, -15]
 u = concat(of(1), column(\"a\")).map(x -> 6 / x).toArray() => u = fault divide-by-zero stage 1 item 2
-v = column(\"b\").filter(x -> x > 10).findFirst() => v = OptionalLong[20]";
+v = column(\"b\").filter(x -> x > 10).findFirst() => v = OptionalLong[20]
+q = range(0, 10).map(x -> 10 / (x - 7)).toArray() => q = fault divide-by-zero stage 1 item 7
+f = of(1, 0).map(x -> 1 / x).map(x -> 1 / (x - 1)).toArray() => f = fault divide-by-zero stage 2 item 0
+g = of(1, 0).map(x -> 1 / x).limit(5).map(x -> 1 / (x - 1)).toArray() => g = fault divide-by-zero stage 3 item 0
+l = range(0, 3000).reduce((a, b) -> b) => l = OptionalLong[2999]
+k = range(0, 3000).map(x -> x * x).filter(x -> x % 3 == 1).count() => k = 2000
+m = range(0, 3000).map(x -> x * 7 % 3001).max() => m = OptionalLong[3000]
+h = of(8589934595, 21474836487).reduce(4294967296, affine) => h = 42949672982
+w = range(0, 3000).skip(2997).toArray() => w = [2997, 2998, 2999]
+d = range(0, 4611686018427387904).map(x -> x * 2).limit(3).toArray() => d = [0, 2, 4]
+e = range(0, 3000).dropWhile(x -> x < 2990).limit(4).map(x -> x - 2990).toArray() => e = [0, 1, 2, 3]
+y = range(0, 3000).anyMatch(x -> x == 2500) => y = true
+z = range(0, 2001).sum() => z = 2001000";
 
 #[test]
-fn a_column_is_the_source_of_a_job(rt: HostRuntime) {
-    for row in OF_COLUMNS.lines() {
-        let (jobs, report) = halves(row);
-        let outcome = run_with(rt.alloc(), Some(TABLE), jobs.as_bytes(), Form::Text);
-        assert!(rt;
-            outcome.answer.is_ok() && is_line(&outcome.written, report),
-            "{row}"
-        );
+fn settings_change_no_byte_of_a_report(rt: HostRuntime) -> Result<(), Fail> {
+    let mut jobs = Vec::new(rt.alloc());
+    let mut report = Vec::new(rt.alloc());
+    for row in IN_PIECES.lines() {
+        let (job, line) = halves(row);
+        jobs.extend_from_slice(job.as_bytes())?;
+        jobs.push(b'\n')?;
+        report.extend_from_slice(line.as_bytes())?;
+        report.push(b'\n')?;
     }
+    for workers in [1, 2, 8] {
+        for threshold in [1, 1_000] {
+            for nodes in [0, 4_096] {
+                let Some(settings) = Settings::of(workers, threshold, nodes, Form::Text) else {
+                    assert!(rt; false, "settings");
+                    return Ok(());
+                };
+                let outcome = run_set(&rt, TABLE, &jobs, &settings);
+                assert!(rt;
+                    outcome.answer.is_ok() && outcome.written.as_slice() == report.as_slice(),
+                    "{workers} {threshold} {nodes}"
+                );
+            }
+        }
+    }
+    Ok(())
 }
 
 const ARITHMETIC: &str = "\
@@ -105,7 +133,7 @@ c = range(0, 9).filter(x -> x * x != 16).filter(x -> x >= 3).filter(x -> x <= 6)
 fn sums_and_quotients_are_those_of_64_bits(rt: HostRuntime) {
     for row in ARITHMETIC.lines() {
         let (jobs, report) = halves(row);
-        assert!(rt; reports(rt.alloc(), jobs, report), "{row}");
+        assert!(rt; reports(&rt, jobs, report), "{row}");
     }
 }
 
@@ -126,7 +154,7 @@ fn report_of(end: usize) -> Option<&'static str> {
 #[test]
 fn every_beginning_of_a_file_is_run_or_refused(rt: HostRuntime) {
     for end in 0..=TWO_JOBS.len() {
-        let outcome = run_over(rt.alloc(), &TWO_JOBS[..end]);
+        let outcome = run_over(&rt, &TWO_JOBS[..end]);
         let expected = match report_of(end) {
             Some(report) => {
                 outcome.answer.is_ok() && outcome.written.as_slice() == report.as_bytes()
@@ -150,7 +178,7 @@ n = range(-9223372036854775808, 9223372036854775807).sum() => [{\"fault\":\"sour
 fn a_report_as_json_is_one_array_on_one_line(rt: HostRuntime) {
     for row in JSON.lines() {
         let (jobs, report) = halves(row);
-        let outcome = run_with(rt.alloc(), None, jobs.as_bytes(), Form::Json);
+        let outcome = run_with(&rt, None, jobs.as_bytes(), Form::Json);
         assert!(rt;
             outcome.answer.is_ok() && is_line(&outcome.written, report),
             "{row}"

@@ -5,9 +5,10 @@ use columns::{ColumnFault, Counted};
 use engine::EngineFault;
 use job_plan::Form;
 use report::CountedOut;
-use std::alloc::Global;
 use std::io;
 use std::io::{ErrorKind, Read, Write};
+use std::sync::Wait;
+use std::thread::Threads;
 
 const JOBS: &[u8] = b"s = of(3, 0, -5).sum()\n";
 
@@ -61,8 +62,8 @@ impl Write for Tight {
 
 /// Runs `JOBS` over `TABLE` from two readers, each of which fails at this call: the answer, and what was
 /// written.
-fn run_from(
-    alloc: Global,
+fn run_from<H: AllocGlobal + Threads + Wait + Sync>(
+    rt: &H,
     columns_fail_in: usize,
     jobs_fail_in: usize,
 ) -> (Result<(), EngineFault>, Vec<u8>) {
@@ -74,26 +75,24 @@ fn run_from(
         left: JOBS,
         fails_in: jobs_fail_in,
     });
-    let mut writer = CountedOut::new(Vec::new(alloc));
-    let answer = run_as(
-        alloc,
-        Some(&mut columns),
-        &mut jobs,
-        &mut writer,
-        Form::Text,
-    );
+    let mut writer = CountedOut::new(Vec::new(rt.alloc()));
+    let answer = run_as(rt, Some(&mut columns), &mut jobs, &mut writer, Form::Text);
     (answer, writer.into_inner())
 }
 
 /// Runs these jobs into a writer with room for this many bytes: the answer, and what it holds.
-fn run_into(alloc: Global, jobs: &[u8], room: usize) -> (Result<(), EngineFault>, Vec<u8>) {
+fn run_into<H: AllocGlobal + Threads + Wait + Sync>(
+    rt: &H,
+    jobs: &[u8],
+    room: usize,
+) -> (Result<(), EngineFault>, Vec<u8>) {
     let mut writer = CountedOut::new(Tight {
-        held: Vec::new(alloc),
+        held: Vec::new(rt.alloc()),
         room,
     });
     let mut no_columns: Option<Counted<&[u8]>> = None;
     let answer = run_as(
-        alloc,
+        rt,
         no_columns.as_mut(),
         &mut Counted::new(jobs),
         &mut writer,
@@ -105,7 +104,7 @@ fn run_into(alloc: Global, jobs: &[u8], room: usize) -> (Result<(), EngineFault>
 #[test]
 fn a_reader_that_fails_at_any_read_gives_no_report(rt: HostRuntime) {
     for fails_in in 0..JOBS.len() + 2 {
-        let (answer, written) = run_from(rt.alloc(), TABLE.len() + 1, fails_in);
+        let (answer, written) = run_from(&rt, TABLE.len() + 1, fails_in);
         let expected = if fails_in <= JOBS.len() {
             answer == Err(EngineFault::JobsRead) && written.is_empty()
         } else {
@@ -119,7 +118,7 @@ fn a_reader_that_fails_at_any_read_gives_no_report(rt: HostRuntime) {
 fn a_reader_of_columns_that_fails_at_any_read_gives_no_report(rt: HostRuntime) {
     for fails_in in 0..TABLE.len() + 1 {
         // The job file isn't read at all, so its reader can't fail.
-        let (answer, written) = run_from(rt.alloc(), fails_in, 0);
+        let (answer, written) = run_from(&rt, fails_in, 0);
         let fault = EngineFault::Columns(ColumnFault::Read);
         assert!(rt;
             answer == Err(fault) && written.is_empty(),
@@ -131,7 +130,7 @@ fn a_reader_of_columns_that_fails_at_any_read_gives_no_report(rt: HostRuntime) {
 #[test]
 fn a_writer_that_fails_after_some_bytes_holds_just_those(rt: HostRuntime) {
     for room in 0..REPORT.len() + 1 {
-        let (answer, held) = run_into(rt.alloc(), JOBS, room);
+        let (answer, held) = run_into(&rt, JOBS, room);
         let expected = if room < REPORT.len() {
             let written = room as u64;
             answer == Err(EngineFault::Write { written })
@@ -149,7 +148,7 @@ fn a_writer_that_fails_after_some_bytes_holds_just_those(rt: HostRuntime) {
 fn an_empty_report_is_no_write_at_all(rt: HostRuntime) {
     // Without room every call of `write` fails, so an answer `Ok` shows that none was made.
     for jobs in [b"".as_slice(), b"\n", b"\n \t\r\n"] {
-        let (answer, held) = run_into(rt.alloc(), jobs, 0);
+        let (answer, held) = run_into(&rt, jobs, 0);
         assert!(rt; answer == Ok(()) && held.is_empty(), "{jobs:?}");
     }
 }

@@ -5,7 +5,7 @@
 //! node. A piece longer than the threshold is cut in two, if a node can be claimed; parts climb in trees of completers. Whoever gets
 //! the part of a whole segment leaves its outcome in a `OnceLock`, and begins the next segment or settles the job.
 //!
-//! Stands on `job_plan`, `completer_tree` and `worker_pool`. No program uses it yet.
+//! Stands on `job_plan`, `completer_tree` and `worker_pool`. Used by `engine`.
 //! What it promises to its callers: `run_jobs`: the answers of a plan's jobs by their definition, in order, with any settings and in
 //! any schedule; `run_all`, clauses `count` and `each`: the same of each type that implements `Segments`.
 //! Begin with `segments.rt` and `planned.rt`, then `run.rt`, `walking.rt` and `ending.rt`; docs/workers.md has a job's way through the

@@ -22,7 +22,10 @@ use std::alloc::AllocError;
 use std::fs::File;
 use std::io::{ErrorKind, Write};
 use std::process::ExitCode;
+use std::sync::Wait;
+use std::thread::Threads;
 use std::{env, fs};
+use worker_pool::Gate;
 
 /// The exit status if the command line is refused.
 const REFUSED: u8 = 2;
@@ -30,15 +33,23 @@ const REFUSED: u8 = 2;
 /// The exit status if a file can't be opened.
 const NOT_OPENED: u8 = 4;
 
+/// A gate that lets every piece of a job pass.
+#[derive(Drop)]
+struct OpenGate;
+
+impl Gate for OpenGate {
+    fn at_leaf(&self, _job: usize, _from: u64, _to: u64) {}
+}
+
 fn main(rt: HostRuntime) -> ExitCode {
-    ExitCode::from(match status_of(&rt) {
+    ExitCode::from(match status_of(&rt, &rt) {
         Ok(status) => status,
         Err(_) => tell(&EngineFault::NoMemory, &mut rt.stderr()),
     })
 }
 
-/// Reads the words of the command line, and answers the exit status.
-fn status_of(rt: &HostRuntime) -> Result<u8, AllocError> {
+/// Reads the words of the command line, and answers the exit status. The jobs run on the second handle.
+fn status_of<H: Threads + Wait + Sync>(rt: &HostRuntime, threads: &H) -> Result<u8, AllocError> {
     let given: Vec<String> = match env::args(rt) {
         Ok(given) => given.collect(rt.alloc())?,
         Err(error) if error.kind() == ErrorKind::OutOfMemory => return Err(AllocError),
@@ -49,7 +60,7 @@ fn status_of(rt: &HostRuntime) -> Result<u8, AllocError> {
     };
     let words: Vec<&str> = given.iter().map(|word| word.as_str()).collect(rt.alloc())?;
     match read_arguments(rt.alloc(), words.as_slice()) {
-        Ok(arguments) => status_of_arguments(rt, &arguments),
+        Ok(arguments) => status_of_arguments(rt, threads, &arguments),
         Err(error) if error.kind() == ArgumentErrorKind::OutOfMemory => Err(AllocError),
         Err(refused) => {
             let _ = refused.print(rt);
@@ -60,7 +71,11 @@ fn status_of(rt: &HostRuntime) -> Result<u8, AllocError> {
 
 /// Does what the command line asks for, and answers the exit status. Both files are opened before one is
 /// read, the columns first.
-fn status_of_arguments(rt: &HostRuntime, arguments: &Arguments<'_>) -> Result<u8, AllocError> {
+fn status_of_arguments<H: Threads + Wait + Sync>(
+    rt: &HostRuntime,
+    threads: &H,
+    arguments: &Arguments<'_>,
+) -> Result<u8, AllocError> {
     let Some(settings) = arguments.settings else {
         let _ = writeln!(rt.stderr(), "streamrun: a setting is outside its limits");
         return Ok(REFUSED);
@@ -73,7 +88,7 @@ fn status_of_arguments(rt: &HostRuntime, arguments: &Arguments<'_>) -> Result<u8
         None => None,
     };
     match opened(rt, arguments.jobs, "jobs")? {
-        Some(jobs) => Ok(report_of_files(rt, columns, jobs, &settings)),
+        Some(jobs) => Ok(report_of_files(rt, threads, columns, jobs, &settings)),
         None => Ok(NOT_OPENED),
     }
 }
@@ -91,8 +106,9 @@ fn opened(rt: &HostRuntime, path: &str, which: &str) -> Result<Option<File>, All
 }
 
 /// Runs the jobs of an open file over the columns of another one, and answers the exit status.
-fn report_of_files(
+fn report_of_files<H: Threads + Wait + Sync>(
     rt: &HostRuntime,
+    threads: &H,
     columns: Option<Counted<File>>,
     jobs: File,
     settings: &Settings,
@@ -101,11 +117,13 @@ fn report_of_files(
     let mut jobs = Counted::new(jobs);
     let mut writer = CountedOut::new(rt.stdout());
     match run(
+        threads,
         rt.alloc(),
         columns.as_mut(),
         &mut jobs,
         &mut writer,
         settings,
+        &OpenGate,
     ) {
         Ok(()) => 0,
         Err(fault) => tell(&fault, &mut rt.stderr()),

@@ -21,7 +21,7 @@ returns-in-Err-report_from-clause-fault g c =
       | in-Some+in-Ok w ↦ some_table g.C.CountedRead.remaining c.args.columns c.match-columns.table w.in-Some.reader w.read_columns.result w.in-Some.is w.read_columns.ensures.cells w.read_columns.ensures.some_bytes (search rules)
       | in-None w ↦ no_table g.C.CountedRead.remaining c.args.columns c.match-columns.table w.in-None.is (search rules)
     ] in
-    early_fault g.C.CountedRead.remaining c.args.columns (g.J.CountedRead.remaining c.args.jobs.now) (form_of c.args.settings.now) (g.W.CountedWrite.contents c.args.writer.now) (g.W.CountedWrite.contents c.args.writer.now) c.match-columns.table c.in-Err-report_from.fault t (subst (λ (wanted : Form). IsEarlyFault c.match-columns.table (g.J.CountedRead.remaining c.args.jobs.now) wanted c.in-Err-report_from.fault) c.form.ensures c.in-Err-report_from.ensures.err) (search rules)
+    early_fault g.C.CountedRead.remaining c.args.columns (g.J.CountedRead.remaining c.args.jobs.now) (form_of c.args.settings.now) (g.W.CountedWrite.contents c.args.writer.now) (g.W.CountedWrite.contents c.args.writer.now) c.match-columns.table c.in-Err-report_from.fault t c.in-Err-report_from.ensures.err (search rules)
 
 pub returns-in-Err-report_from-clause-columns_failed : goal.returns-in-Err-report_from-clause-columns_failed
 returns-in-Err-report_from-clause-columns_failed g c is =
@@ -29,7 +29,7 @@ returns-in-Err-report_from-clause-columns_failed g c is =
       | in-Some+in-Ok w ↦ some_table g.C.CountedRead.remaining c.args.columns c.match-columns.table w.in-Some.reader w.read_columns.result w.in-Some.is w.read_columns.ensures.cells w.read_columns.ensures.some_bytes (search rules)
       | in-None w ↦ no_table g.C.CountedRead.remaining c.args.columns c.match-columns.table w.in-None.is (search rules)
     ] in
-    absurd (early_no_columns g.C.CountedRead.remaining c.args.columns (g.J.CountedRead.remaining c.args.jobs.now) (form_of c.args.settings.now) c.match-columns.table c.in-Err-report_from.fault t (subst (λ (wanted : Form). IsEarlyFault c.match-columns.table (g.J.CountedRead.remaining c.args.jobs.now) wanted c.in-Err-report_from.fault) c.form.ensures c.in-Err-report_from.ensures.err) is)
+    absurd (early_no_columns g.C.CountedRead.remaining c.args.columns (g.J.CountedRead.remaining c.args.jobs.now) (form_of c.args.settings.now) c.match-columns.table c.in-Err-report_from.fault t c.in-Err-report_from.ensures.err is)
 
 pub returns-in-Err-report_from-clause-write_failed : goal.returns-in-Err-report_from-clause-write_failed
 returns-in-Err-report_from-clause-write_failed g c n is =
@@ -37,7 +37,7 @@ returns-in-Err-report_from-clause-write_failed g c n is =
       | in-Some+in-Ok w ↦ some_table g.C.CountedRead.remaining c.args.columns c.match-columns.table w.in-Some.reader w.read_columns.result w.in-Some.is w.read_columns.ensures.cells w.read_columns.ensures.some_bytes (search rules)
       | in-None w ↦ no_table g.C.CountedRead.remaining c.args.columns c.match-columns.table w.in-None.is (search rules)
     ] in
-    absurd (early_no_write g.C.CountedRead.remaining c.args.columns (g.J.CountedRead.remaining c.args.jobs.now) (form_of c.args.settings.now) c.match-columns.table c.in-Err-report_from.fault n t (subst (λ (wanted : Form). IsEarlyFault c.match-columns.table (g.J.CountedRead.remaining c.args.jobs.now) wanted c.in-Err-report_from.fault) c.form.ensures c.in-Err-report_from.ensures.err) is)
+    absurd (early_no_write g.C.CountedRead.remaining c.args.columns (g.J.CountedRead.remaining c.args.jobs.now) (form_of c.args.settings.now) c.match-columns.table c.in-Err-report_from.fault n t c.in-Err-report_from.ensures.err is)
 
 pub returns-in-Ok-write_all_of-clause-report : goal.returns-in-Ok-write_all_of-clause-report
 returns-in-Ok-write_all_of-clause-report g c =
@@ -45,7 +45,7 @@ returns-in-Ok-write_all_of-clause-report g c =
       | in-Some+in-Ok w ↦ some_table g.C.CountedRead.remaining c.args.columns c.match-columns.table w.in-Some.reader w.read_columns.result w.in-Some.is w.read_columns.ensures.cells w.read_columns.ensures.some_bytes (search rules)
       | in-None w ↦ no_table g.C.CountedRead.remaining c.args.columns c.match-columns.table w.in-None.is (search rules)
     ] in
-    let (input, given, report) = report_for g.C.CountedRead.remaining c.args.columns (g.J.CountedRead.remaining c.args.jobs.now) (form_of c.args.settings.now) c.match-columns.table c.in-Ok-report_from.report.items t (subst (λ (wanted : Form). IsReportFor c.match-columns.table (g.J.CountedRead.remaining c.args.jobs.now) wanted c.in-Ok-report_from.report.items) c.form.ensures c.in-Ok-report_from.ensures.ok) in
+    let (input, given, report) = report_for g.C.CountedRead.remaining c.args.columns (g.J.CountedRead.remaining c.args.jobs.now) (form_of c.args.settings.now) c.match-columns.table c.in-Ok-report_from.report.items t c.in-Ok-report_from.ensures.ok in
     (input, given, (c.in-Ok-report_from.report.items, report, search rules))
 
 pub returns-clause-fault : goal.returns-clause-fault
@@ -54,7 +54,7 @@ returns-clause-fault g c =
       | in-Some+in-Ok w ↦ some_table g.C.CountedRead.remaining c.args.columns c.match-columns.table w.in-Some.reader w.read_columns.result w.in-Some.is w.read_columns.ensures.cells w.read_columns.ensures.some_bytes (search rules)
       | in-None w ↦ no_table g.C.CountedRead.remaining c.args.columns c.match-columns.table w.in-None.is (search rules)
     ] in
-    let (input, given, report) = report_for g.C.CountedRead.remaining c.args.columns (g.J.CountedRead.remaining c.args.jobs.now) (form_of c.args.settings.now) c.match-columns.table c.in-Ok-report_from.report.items t (subst (λ (wanted : Form). IsReportFor c.match-columns.table (g.J.CountedRead.remaining c.args.jobs.now) wanted c.in-Ok-report_from.report.items) c.form.ensures c.in-Ok-report_from.ensures.ok) in
+    let (input, given, report) = report_for g.C.CountedRead.remaining c.args.columns (g.J.CountedRead.remaining c.args.jobs.now) (form_of c.args.settings.now) c.match-columns.table c.in-Ok-report_from.report.items t c.in-Ok-report_from.ensures.ok in
     (input, given, (c.in-Ok-report_from.report.items, report, search rules, search rules))
 
 pub returns-clause-unwritten : goal.returns-clause-unwritten
