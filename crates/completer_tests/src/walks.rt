@@ -132,6 +132,7 @@ fn walked<P: Planned>(alloc: Global, numbers: &[i64], from: usize, to: usize) ->
     }
 }
 
+/// Whether a place is on the left side of a cut.
 pub(crate) fn is_left(place: &Place<Cut>) -> bool
     requires { place.now.side ≢ Whole }
     ensures { place.now.side ≡ side_of result }
@@ -139,6 +140,7 @@ pub(crate) fn is_left(place: &Place<Cut>) -> bool
     place.side == Side::Left
 }
 
+/// The positions of one side of a cut.
 pub(crate) fn range_of(place: &Place<Cut>) -> (usize, usize)
     requires { place.now.side ≢ Whole }
     ensures { (result.0 ≡ begins place.now.tag place.now.side) × (result.1 ≡ ends_at place.now.tag place.now.side) }

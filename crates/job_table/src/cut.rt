@@ -37,6 +37,7 @@ impl Cut {
     }
 }
 
+/// Whether a place is on the left side of a cut.
 pub(crate) fn is_left(place: &Place<Cut>) -> bool
     requires { place.now.side ≢ Whole }
     ensures { place.now.side ≡ side_of result }
