@@ -1,9 +1,9 @@
-pub mod Choosing
-pub mod Onward
-pub mod Placing
-pub mod Pouring
+pub mod BatchWalkLemmas
+pub mod ChoiceLemmas
 pub mod Flags
 pub mod Items
-pub mod Keeping
+pub mod KeptLaneLemmas
+pub mod PlaceLemmas
 pub mod Steps
+pub mod WaitingItemLemmas
 pub mod Walks

@@ -13,7 +13,7 @@ use Rattle.trace.specs.declared.item.End.{End}
 use Rattle.trace.specs.declared.item.End.TheVariants as end
 use Rattle.trace.specs.Trace.{Trace, trace, append, each}
 use Rattle.trace.specs.Stages.{map, filter, image, passed, of_item}
-use Rattle.trace.proofs.Joining.{each_append}
+use Rattle.trace.proofs.JoinLemmas.{each_append}
 use Rattle.batch_eval.specs.declared.reached.Reached.{Reached}
 use Rattle.batch_eval.specs.Lanes.{at, flagged, is_set, StopsAt, Reaches}
 use Rattle.batch_eval.specs.Batches.{gathered, lanes, picked, passing, end_after, origin_at, item_at}

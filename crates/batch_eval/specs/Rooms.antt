@@ -1,7 +1,7 @@
 -- Condition: expressions that room of some length is enough for; a register takes 1,024 of it.
 use Rattle.std.specs.Prelude.{ℕ, ◌-◌, ◌≤◌, List, [], ◌∷◌}
 use Rattle.lambda_expr.specs.Term.{Long, number, parameter, reference, unary, binary, choose, long_of, Truth, literal, compare, opposite, connect, choose_truth, truth_of}
-use Rattle.trace.specs.Stages.{StageTerm, map, filter, flat_map}
+use Rattle.trace.specs.Stages.{AbstractStage, map, filter, flat_map}
 use Rattle.batch_eval.specs.declared.register.Operand.{Operand}
 use Rattle.batch_eval.specs.declared.register.Operand.TheVariants as operand
 
@@ -35,11 +35,11 @@ FitsOperand (operand.Flag b) room = Unit {0}
 abbrev pub FitsChosen : Truth → Operand → Operand → ℕ → Type 0
 FitsChosen c a b room = (4096 ≤ room) × FitsTest c (room - 1024) × FitsOperand a (room - 4096) × FitsOperand b (room - 4096)
 
-abbrev pub FitsStage : StageTerm → ℕ → Type 0
+abbrev pub FitsStage : AbstractStage → ℕ → Type 0
 FitsStage (map e) room = Fits e room
 FitsStage (filter p) room = FitsTest p room
 FitsStage (flat_map i) room = Unit {0}
 
-abbrev pub FitsStages : List StageTerm → ℕ → Type 0
+abbrev pub FitsStages : List AbstractStage → ℕ → Type 0
 FitsStages [] room = Unit {0}
 FitsStages (g ∷ gs) room = FitsStage g room × FitsStages gs room

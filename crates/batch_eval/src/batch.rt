@@ -7,7 +7,7 @@ ghost use Rattle.batch_eval.specs.Rooms.{Fits, FitsTest};
 ghost use Rattle.lambda_expr.specs.Term.{long_of, truth_of};
 ghost use Rattle.std.specs.Prelude.{◌≡◌, ℕ, ◌+◌, ◌<◌, ◌≤◌, ◌^◌, List, [], ◌++◌, IfOk, None, Some, length, map, slice_get, slice_index, take};
 ghost use Rattle.trace.specs.Stages.{filter, of_item};
-ghost use Rattle.trace.specs.Stages.{map as map_term};
+ghost use Rattle.trace.specs.Stages.{map as abstract_map};
 ghost use Rattle.trace.specs.Trace.{each, trace};
 ghost use Rattle.trace.specs.declared.item.Item.{Item};
 
@@ -100,7 +100,7 @@ impl Batch {
     /// `map` of `LongStream`: each item's image, at the same place.
     pub(crate) fn map(&mut self, image: &LongExpr, stage: u32, env: &Env, room: &mut [i64])
         requires { Fits (long_of image.now) (length room.old) }
-        ensures { self.new ≡ each (of_item stage (map_term (long_of image.now)) env.now) self.old.items self.old.ending }
+        ensures { self.new ≡ each (of_item stage (abstract_map (long_of image.now)) env.now) self.old.items self.old.ending }
     {
         let reached = eval_long(image, env, &self.values, self.live, &mut self.spare, room);
         self.end = stopped(self.end, stage, self.start, &self.origins, reached);

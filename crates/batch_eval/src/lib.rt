@@ -17,7 +17,6 @@ mod choose;
 mod dispatch;
 mod feeding;
 mod flag;
-mod inner;
 mod keep;
 mod kernel;
 mod loops;

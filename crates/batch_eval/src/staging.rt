@@ -13,11 +13,10 @@ ghost use Rattle.trace.specs.declared.feeding.Fed.TheVariants as fed;
 ghost use Rattle.trace.specs.declared.item.Item.{Item};
 
 use crate::batch::Batch;
-use crate::inner::InnerItems;
 use crate::register::LANES;
 use crate::sink::BatchSink;
 use lambda_expr::{Env, FaultKind, InnerExpr};
-use trace::{End, Fault, Fed, Flow, Item, NoMemory, SourceItems, Stage, feed_all};
+use trace::{End, Fault, Fed, Flow, InnerItems, Item, NoMemory, SourceItems, Stage, feed_all};
 
 /// Takes a batch through all stages, and gives the sink what comes out.
 #[cycle(batches)]

@@ -6,7 +6,7 @@ use Rattle.std.proofs.lemmas.List.{reverse-append, reverse-reverse}
 use Rattle.std.proofs.lemmas.List.Folds.{list_all-append}
 use Rattle.std.specs.List.{list_all}
 use Rattle.std.specs.Char.{is_ascii_digit}
-use Rattle.columns.specs.Cell.{Spells, IsSigned, digits_value, is_blank}
+use Rattle.columns.specs.Cell.{SpellsCell, IsSigned, digits_value, is_blank}
 use Rattle.columns.specs.Number.{drop_blanks, in_range, number_of, signed_digits, signed_number}
 
 both : (a b : Bool) → (a && b) ≡ true → (a ≡ true) × (b ≡ true)
@@ -118,9 +118,9 @@ signed_number-signed sign (d ∷ ds) n some h (inr (inl s)) fits =
 signed_number-signed sign (d ∷ ds) n some h (inr (inr s)) fits =
     rw s.0 (signed_digits-fits (λ m. neg_ℤ (pos m)) (d ∷ ds) some h (subst (FitsSigned w64) s.1 fits) ∙ ap Some (sym s.1))
 
-pub Spells-number_of : (cell : List ℕ) (n : ℤ) → number_of cell ≡ Some n → Spells cell n
+pub SpellsCell-number_of : (cell : List ℕ) (n : ℤ) → number_of cell ≡ Some n → SpellsCell cell n
 unfolding number_of
-Spells-number_of cell n h =
+SpellsCell-number_of cell n h =
     let middle = drop_blanks cell in
     let core = reverse (drop_blanks (reverse middle)) in
     let (before, split, blank_before) = blanks_before cell in
@@ -142,9 +142,9 @@ Spells-number_of cell n h =
       fits = fits;
     }
 
-pub number_of-Spells : (cell : List ℕ) (n : ℤ) → Spells cell n → number_of cell ≡ Some n
+pub number_of-SpellsCell : (cell : List ℕ) (n : ℤ) → SpellsCell cell n → number_of cell ≡ Some n
 unfolding number_of
-number_of-Spells cell n s =
+number_of-SpellsCell cell n s =
     let front : drop_blanks cell ≡ s.sign ++ (s.digits ++ s.after) =
     ap drop_blanks s.text ∙ drop_blanks-blanks s.before _ s.blank_before ∙ drop_blanks-signed s.sign s.digits s.after _ n s.value s.some_digit s.all_digits in
     let core = s.sign ++ s.digits in
@@ -158,6 +158,6 @@ number_of-Spells cell n s =
     ap reverse (trimmed ∙ sym (reverse-append s.sign s.digits)) ∙ reverse-reverse core in
     ap signed_number whole ∙ signed_number-signed s.sign s.digits n s.some_digit s.all_digits s.value s.fits
 
-pub Spells-if_some : (cell : List ℕ) (o : Option ℤ) → o ≡ number_of cell → IfSome o (λ n. Spells cell n)
-Spells-if_some cell None e = tt
-Spells-if_some cell (Some n) e = Spells-number_of cell n (sym e)
+pub SpellsCell-if_some : (cell : List ℕ) (o : Option ℤ) → o ≡ number_of cell → IfSome o (λ n. SpellsCell cell n)
+SpellsCell-if_some cell None e = tt
+SpellsCell-if_some cell (Some n) e = SpellsCell-number_of cell n (sym e)

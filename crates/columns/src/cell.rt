@@ -4,7 +4,7 @@ ghost use Rattle.std.specs.Option.{SomeIff};
 ghost use Rattle.std.specs.Int.{w64};
 ghost use Rattle.std.specs.List.{list_all};
 ghost use Rattle.std.specs.Char.{is_ascii_digit};
-ghost use Rattle.columns.specs.Cell.{Spells, digits_value, is_blank};
+ghost use Rattle.columns.specs.Cell.{SpellsCell, digits_value, is_blank};
 ghost use Rattle.columns.specs.Number.{drop_blanks, number_of, signed_digits, signed_number};
 
 /// The number that a cell spells in decimal digits, with spaces and tabs around it and one sign
@@ -12,8 +12,8 @@ ghost use Rattle.columns.specs.Number.{drop_blanks, number_of, signed_digits, si
 /// `None` is any other text, and a number that an `i64` doesn't hold. Takes one look at each byte.
 pub fn read_cell(cell: &[u8]) -> Option<i64>
     ensures value { result ≡ number_of cell.now }
-    ensures spells { IfSome result (λ n. Spells cell.now n) }
-    ensures only { (n : ℤ) → Spells cell.now n → result ≡ Some n }
+    ensures spells { IfSome result (λ n. SpellsCell cell.now n) }
+    ensures only { (n : ℤ) → SpellsCell cell.now n → result ≡ Some n }
 {
     signed(without_last_blanks(without_first_blanks(cell)))
 }

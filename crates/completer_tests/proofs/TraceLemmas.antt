@@ -6,7 +6,7 @@ use Rattle.trace.specs.declared.item.Item.{Item}
 use Rattle.trace.specs.declared.item.End.TheVariants as end
 use Rattle.trace.specs.Cover.{placed}
 use Rattle.trace.specs.Trace.{trace, nothing, append, each}
-use Rattle.trace.proofs.Joining.{append_nothing, each_append}
+use Rattle.trace.proofs.JoinLemmas.{append_nothing, each_append}
 use Rattle.completer_tests.specs.Traces.{until_negative, walk_over}
 use Rattle.completer_tests.specs.Walks.{slice}
 use Rattle.completer_tests.proofs.WalkLemmas.{slices_join}

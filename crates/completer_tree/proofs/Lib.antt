@@ -1,5 +1,5 @@
 -- Lemmas of this crate.
-pub mod ForkLemmas
 pub mod ClimbLemmas
-pub mod RootLemmas
+pub mod ForkLemmas
 pub mod PathLemmas
+pub mod RootLemmas

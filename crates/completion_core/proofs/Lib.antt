@@ -1,11 +1,11 @@
-pub mod BagLemmas
 pub mod ArmCheckLemmas
+pub mod BagLemmas
 pub mod DemandLemmas
 pub mod EffectLemmas
+pub mod HeldArrivalLemmas
 pub mod HistoryLemmas
 pub mod HoldingLemmas
 pub mod NamedArrivalLemmas
-pub mod HeldArrivalLemmas
 pub mod PlayLemmas
 pub mod StartLemmas
 pub mod TotalLemmas

@@ -1,3 +1,3 @@
 mod NamedTexts
-mod Planning
+mod PlannedJobLemmas
 mod RunLemmas

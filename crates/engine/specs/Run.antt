@@ -16,8 +16,8 @@ use Rattle.job_plan.specs.declared.settings.Form.{Form}
 use Rattle.job_plan.specs.declared.settings.Form.TheVariants as form
 use Rattle.job_language.specs.declared.fault.Cause.TheVariants as cause
 use Rattle.job_language.specs.declared.fault.JobFault.{JobFault}
-use Rattle.job_language.specs.Files.{Spells, IsRefused}
-use Rattle.job_language.specs.Jobs.{JobTerm, names_of}
+use Rattle.job_language.specs.Files.{SpellsJobs, IsRefused}
+use Rattle.job_language.specs.Jobs.{AbstractJob, names_of}
 use Rattle.job_plan.specs.FileAnswers.{meaning_of}
 use Rattle.job_plan.specs.Supported.{is_supported}
 use Rattle.report.specs.Json.{report_json}
@@ -42,7 +42,7 @@ report_in form.Text names answers = report_text names answers
 report_in form.Json names answers = report_json names answers
 
 -- the place of the first job that isn't supported, if there is one
-abbrev pub first_unsupported : List JobTerm → Option ℕ
+abbrev pub first_unsupported : List AbstractJob → Option ℕ
 first_unsupported jobs = position (λ job. not (is_supported job)) jobs
 
 -- the report of the jobs that the input spells, all of which are supported: what one thread writes that takes the jobs in file order and each
@@ -50,8 +50,8 @@ first_unsupported jobs = position (λ job. not (is_supported job)) jobs
 pub record IsReport (input : Input) (report : List ℕ) : Type 0 where
   pub columns : List NamedColumn
   pub given : columns_of input.columns ≡ Ok columns
-  pub jobs : List JobTerm
-  pub spelled : Spells input.jobs columns jobs
+  pub jobs : List AbstractJob
+  pub spelled : SpellsJobs input.jobs columns jobs
   pub supported : first_unsupported jobs ≡ None
   pub written : report ≡ report_in input.form (names_of jobs) (meaning_of jobs)
 
@@ -79,8 +79,8 @@ pub record IsJobFault (input : Input) (f : JobFault) : Type 0 where
 pub record IsNotYet (input : Input) (n : ℕ) : Type 0 where
   pub columns : List NamedColumn
   pub given : columns_of input.columns ≡ Ok columns
-  pub jobs : List JobTerm
-  pub spelled : Spells input.jobs columns jobs
+  pub jobs : List AbstractJob
+  pub spelled : SpellsJobs input.jobs columns jobs
   pub unsupported : first_unsupported jobs ≡ Some n
 
 -- what a fault other than a failed write says of the input

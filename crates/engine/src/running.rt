@@ -7,7 +7,7 @@ ghost use Rattle.engine.specs.Run.{Faulted, Input, IsReport, Reported, columns_o
 ghost use Rattle.job_language.specs.Jobs.{jobs_of, names_of};
 ghost use Rattle.job_plan.specs.FileAnswers.{meaning_of};
 ghost use Rattle.job_plan.specs.Parts.{plans_in};
-ghost use Rattle.job_plan.specs.Plans.{PlanTerm};
+ghost use Rattle.job_plan.specs.Plans.{AbstractPlan};
 ghost use Rattle.job_plan.specs.SettingsParts.{form_of};
 ghost use Rattle.report.specs.Named.{IsNamed, IsText};
 ghost use Rattle.std.specs.Io.KnownBytes.{Keeps};
@@ -215,7 +215,7 @@ fn printed(
 
 /// The names of planned jobs, in their order; nothing is copied.
 fn names_in(alloc: Global, jobs: Vec<JobPlan>) -> Result<Vec<Bytes>, NoMemory>
-    ensures { IfOk result (λ names. names.items ≡ map (λ (p : PlanTerm). p.name) (plans_in jobs.entry.items)) }
+    ensures { IfOk result (λ names. names.items ≡ map (λ (p : AbstractPlan). p.name) (plans_in jobs.entry.items)) }
 {
     let mut names = Vec::new(alloc);
     for job in jobs {

@@ -13,7 +13,7 @@ use Rattle.stream_tokens.specs.Bytes.{is_blank, is_name_start, is_name_byte, is_
 use Rattle.stream_tokens.specs.Scanning.{symbol_at}
 use Rattle.stream_tokens.specs.Symbols.{spelling_of}
 use Rattle.stream_tokens.specs.Tokens.{AreTokensOf, CutBetween, IsFirstToken}
-use Rattle.stream_tokens.proofs.Cutting.{cut_blank, cut_push, first_some, none_blank}
+use Rattle.stream_tokens.proofs.CutLemmas.{cut_blank, cut_push, first_some, none_blank}
 use Rattle.stream_tokens.proofs.FrontReads.{dollar_alone, number_marked, number_plain, reference_read, string_open, string_read}
 use Rattle.stream_tokens.proofs.Longest.{longest_name, nothing_taken, stays_inside, symbol_taken}
 

@@ -13,24 +13,24 @@ use Rattle.columns.specs.Table.{NamedColumn}
 use Rattle.job_language.specs.declared.fault.Cause.{Cause}
 use Rattle.job_language.specs.declared.fault.Cause.TheVariants.{Syntax, TooLong}
 use Rattle.job_language.specs.declared.fault.JobFault.{JobFault}
-use Rattle.job_language.specs.Files.{AreJobsLeft, AreJobsRead, IsNext, IsRefused, Spells, fault_at, scope_below}
-use Rattle.job_language.specs.Jobs.{JobTerm}
+use Rattle.job_language.specs.Files.{AreJobsLeft, AreJobsRead, IsNext, IsRefused, SpellsJobs, fault_at, scope_below}
+use Rattle.job_language.specs.Jobs.{AbstractJob}
 use Rattle.job_language.proofs.EachVerdict.{each_read}
 
-each_next : (columns : List NamedColumn) (above : List JobTerm) (t : List ℕ) → (r : Result JobTerm Cause) × IsNext columns above t r
+each_next : (columns : List NamedColumn) (above : List AbstractJob) (t : List ℕ) → (r : Result AbstractJob Cause) × IsNext columns above t r
 each_next columns above t =
     ⊎_elim (λ (few : length above < 256). let r = each_read (scope_below columns above) t in (r.0, inr (few, r.1)))
     (λ (many : 256 ≤ length above). (Err TooLong, inl (many, refl)))
     (order (length above) 256)
 
-abbrev HasJobs : List NamedColumn → List JobTerm → List JobText → Type 0
-HasJobs columns above ts = (r : Result (List JobTerm) JobFault) × AreJobsRead columns above ts r
+abbrev HasJobs : List NamedColumn → List AbstractJob → List JobText → Type 0
+HasJobs columns above ts = (r : Result (List AbstractJob) JobFault) × AreJobsRead columns above ts r
 
-after_next : (columns : List NamedColumn) (above : List JobTerm) (t : JobText) (ts : List JobText) (r : Result JobTerm Cause) → IsNext columns above t.text r → ((j : JobTerm) → HasJobs columns (above ++ j ∷ []) ts) → HasJobs columns above (t ∷ ts)
+after_next : (columns : List NamedColumn) (above : List AbstractJob) (t : JobText) (ts : List JobText) (r : Result AbstractJob Cause) → IsNext columns above t.text r → ((j : AbstractJob) → HasJobs columns (above ++ j ∷ []) ts) → HasJobs columns above (t ∷ ts)
 after_next columns above t ts (Err c) h later = (Err (fault_at t c), inl (c, h, refl))
 after_next columns above t ts (Ok j) h later = let l = later j in (l.0, inr (j, h, l.1))
 
-each_jobs : (columns : List NamedColumn) (above : List JobTerm) (ts : List JobText) → HasJobs columns above ts
+each_jobs : (columns : List NamedColumn) (above : List AbstractJob) (ts : List JobText) → HasJobs columns above ts
 each_jobs columns above [] = (Ok above, refl)
 each_jobs columns above (t ∷ ts) = let n = each_next columns above t.text in after_next columns above t ts n.0 n.1 (λ j. each_jobs columns (above ++ j ∷ []) ts)
 
@@ -56,14 +56,14 @@ no_memory_in : (bytes : List ℕ) → job_texts_of bytes ≡ Err text.NoMemory �
 unfolding job_texts_of
 no_memory_in bytes h = no_memory (numbered 1 (lines_of (without_mark bytes))) h
 
-left : (columns : List NamedColumn) (texts : Result (List JobText) TextFault) → (texts ≡ Err text.NoMemory → ⊥) → (r : Result (List JobTerm) JobFault) × AreJobsLeft columns [] texts r
+left : (columns : List NamedColumn) (texts : Result (List JobText) TextFault) → (texts ≡ Err text.NoMemory → ⊥) → (r : Result (List AbstractJob) JobFault) × AreJobsLeft columns [] texts r
 left columns (Ok ts) other = each_jobs columns [] ts
 left columns (Err (text.Syntax line)) other = (Err (record { line = line; cause = Syntax }), refl)
 left columns (Err text.NoMemory) other = absurd (other refl)
 
-by_result : (bytes : List ℕ) (columns : List NamedColumn) (r : Result (List JobTerm) JobFault) → AreJobsLeft columns [] (job_texts_of bytes) r → ((jobs : List JobTerm) × Spells bytes columns jobs) ⊎ ((fault : JobFault) × IsRefused bytes columns fault)
+by_result : (bytes : List ℕ) (columns : List NamedColumn) (r : Result (List AbstractJob) JobFault) → AreJobsLeft columns [] (job_texts_of bytes) r → ((jobs : List AbstractJob) × SpellsJobs bytes columns jobs) ⊎ ((fault : JobFault) × IsRefused bytes columns fault)
 by_result bytes columns (Ok jobs) h = inl (jobs, h)
 by_result bytes columns (Err fault) h = inr (fault, h)
 
-pub each_file : (bytes : List ℕ) (columns : List NamedColumn) → ((jobs : List JobTerm) × Spells bytes columns jobs) ⊎ ((fault : JobFault) × IsRefused bytes columns fault)
+pub each_file : (bytes : List ℕ) (columns : List NamedColumn) → ((jobs : List AbstractJob) × SpellsJobs bytes columns jobs) ⊎ ((fault : JobFault) × IsRefused bytes columns fault)
 each_file bytes columns = let l = left columns (job_texts_of bytes) (no_memory_in bytes) in by_result bytes columns l.0 l.1

@@ -22,10 +22,10 @@ use Rattle.job_language.specs.Shapes.{IsNoPiece, IsNotSpelled, begins_job, mark_
 use Rattle.job_language.proofs.CallReads.{fit_again, fit_all, is_open, reads_call}
 use Rattle.job_language.proofs.Names.{named_back}
 use Rattle.job_language.proofs.PieceReads.{is_concat, names, no_call_for}
-use Rattle.job_language.proofs.Piecing.{call_tail, first_word, later_words, next_piece, no_pieces, words_of_piece}
-use Rattle.job_language.proofs.Shaping.{after_two, are_job, job_in, last_job, no_start, no_unsound_job, no_unspelled_job, prefix, reads_last, stands}
+use Rattle.job_language.proofs.PieceLemmas.{call_tail, first_word, later_words, next_piece, no_pieces, words_of_piece}
+use Rattle.job_language.proofs.ShapeLemmas.{after_two, are_job, job_in, last_job, no_start, no_unsound_job, no_unspelled_job, prefix, reads_last, stands}
 use Rattle.job_language.proofs.Splits.{reads_written}
-use Rattle.job_language.proofs.Standing.{Stands, last_state}
+use Rattle.job_language.proofs.JobReaderLemmas.{Stands, last_state}
 
 -- ---- a call after its parenthesis
 

@@ -5,7 +5,7 @@ use Rattle.stream_tokens.specs.declared.token.Token.{Token}
 use Rattle.stream_tokens.specs.Tokens.{AreTokensOf}
 use Rattle.stream_tokens.specs.CutTexts.{TokenizedText}
 use Rattle.lambda_expr.specs.Words.{Word, words_of}
-use Rattle.lambda_expr.specs.Refusals.{LambdaTerm, IsRefused}
+use Rattle.lambda_expr.specs.Refusals.{AbstractLambda, IsRefused}
 use Rattle.lambda_expr.specs.declared.fault.ReadFault.{ReadFault}
 use Rattle.lambda_expr.specs.declared.fault.ReadFault.TheVariants as fault
 use Rattle.lambda_expr.specs.declared.lambda.Want.{Want}
@@ -18,11 +18,11 @@ use Rattle.job_language.specs.declared.operation.Param.{Param}
 use Rattle.job_language.specs.declared.operation.Param.TheVariants as param
 use Rattle.job_language.specs.Table.{role_of}
 use Rattle.job_language.specs.Grammar.{Job, IsJob, IsNoJob}
-use Rattle.job_language.specs.Jobs.{JobTerm}
+use Rattle.job_language.specs.Jobs.{AbstractJob}
 use Rattle.job_language.specs.Causes.{Scope, first_cause, stage_cause, early_causes, numbers_of}
 use Rattle.job_language.specs.Operators.{spelled_op}
 use Rattle.job_language.specs.Arguments.{Argument, PlacedCall, IsOutcome, lambda_answer, IsLambdaRead, IsOperatorRead, IsReadBy, IsArgumentRead, last_param, last_part, argument_text, listed, name_answer, name_in, nothing, string_in, text_answer}
-use Rattle.job_language.specs.Verdicts.{CallTerm, call_answer, added, job_named, placed_calls, IsReadAfter, IsReadInTurn, AreRead, IsJobRead, IsRead}
+use Rattle.job_language.specs.Verdicts.{AbstractCall, call_answer, added, job_named, placed_calls, IsReadAfter, IsReadInTurn, AreRead, IsJobRead, IsRead}
 use Rattle.job_language.specs.Verdicts as verdict
 use Rattle.job_language.specs.Parts.{causes_before}
 use Rattle.job_language.proofs.EachCut.{each_cut}
@@ -36,7 +36,7 @@ refused text w fault.TooDeep other h = h
 refused text w fault.LiteralTooLarge other h = h
 refused text w fault.NoMemory other h = absurd (other refl)
 
-outcome : (text : List ℕ) (w : Want) → HasAnswer text w → (o : Result LambdaTerm ReadFault) × IsOutcome text w o
+outcome : (text : List ℕ) (w : Want) → HasAnswer text w → (o : Result AbstractLambda ReadFault) × IsOutcome text w o
 outcome text w (inl l) = (Ok l.0, l.1)
 outcome text w (inr f) = (Err f.0, refused text w f.0 f.1 f.2)
 
@@ -62,40 +62,40 @@ each_by param.Operator s ws text = each_operator (spelled_op ws) s text
 each_argument : (s : Scope) (t : TokenizedText) (c : PlacedCall) → (r : Result Argument Cause) × IsArgumentRead s t c r
 each_argument s t c = each_by (last_param c.call.operation c.call.parts) s (last_part c.call.parts) (argument_text t c).bytes
 
-each_after : (o : Option Cause) (s : Scope) (t : TokenizedText) (c : PlacedCall) → (r : Result CallTerm Cause) × IsReadAfter o s t c r
+each_after : (o : Option Cause) (s : Scope) (t : TokenizedText) (c : PlacedCall) → (r : Result AbstractCall Cause) × IsReadAfter o s t c r
 each_after (Some e) s t c = (Err e, refl)
 each_after None s t c =
     let a = each_argument s t c in
     (call_answer c.call.operation (numbers_of c.call.operation (length c.call.parts) 0 c.call.parts) a.0, (a.0, a.1, refl))
 
-each_turn : (o : Option Cause) (s : Scope) (t : TokenizedText) (c : PlacedCall) → (r : Result CallTerm Cause) × IsReadInTurn o s t c r
+each_turn : (o : Option Cause) (s : Scope) (t : TokenizedText) (c : PlacedCall) → (r : Result AbstractCall Cause) × IsReadInTurn o s t c r
 each_turn (Some e) s t c = (Err e, refl)
 each_turn None s t c = each_after (first_cause (early_causes c.call)) s t c
 
-abbrev HasRest : Scope → TokenizedText → JobTerm → List PlacedCall → Type 0
-HasRest s t j cs = (r : Result JobTerm Cause) × AreRead s t j cs r
+abbrev HasRest : Scope → TokenizedText → AbstractJob → List PlacedCall → Type 0
+HasRest s t j cs = (r : Result AbstractJob Cause) × AreRead s t j cs r
 
-rest_after : (s : Scope) (t : TokenizedText) (j : JobTerm) (c : PlacedCall) (cs : List PlacedCall) (r : Result CallTerm Cause) → IsReadInTurn (stage_cause (length j.stages) (role_of c.call.operation)) s t c r → ((g : CallTerm) → HasRest s t (added j g) cs) → HasRest s t j (c ∷ cs)
+rest_after : (s : Scope) (t : TokenizedText) (j : AbstractJob) (c : PlacedCall) (cs : List PlacedCall) (r : Result AbstractCall Cause) → IsReadInTurn (stage_cause (length j.stages) (role_of c.call.operation)) s t c r → ((g : AbstractCall) → HasRest s t (added j g) cs) → HasRest s t j (c ∷ cs)
 rest_after s t j c cs (Err e) h later = (Err e, inl (e, h, refl))
 rest_after s t j c cs (Ok g) h later = let l = later g in (l.0, inr (g, h, l.1))
 
-each_rest : (s : Scope) (t : TokenizedText) (j : JobTerm) (cs : List PlacedCall) → HasRest s t j cs
+each_rest : (s : Scope) (t : TokenizedText) (j : AbstractJob) (cs : List PlacedCall) → HasRest s t j cs
 each_rest s t j [] = (Ok j, refl)
 each_rest s t j (c ∷ cs) =
     let here = each_turn (stage_cause (length j.stages) (role_of c.call.operation)) s t c in
     rest_after s t j c cs here.0 here.1 (λ g. each_rest s t (added j g) cs)
 
-each_job_read : (o : Option Cause) (s : Scope) (t : TokenizedText) (j : Job) → (r : Result JobTerm Cause) × IsJobRead o s t j r
+each_job_read : (o : Option Cause) (s : Scope) (t : TokenizedText) (j : Job) → (r : Result AbstractJob Cause) × IsJobRead o s t j r
 each_job_read (Some e) s t j = (Err e, refl)
 each_job_read None s t j = each_rest s t (job_named j.name) (placed_calls j)
 
-by_job : (s : Scope) (text : List ℕ) (ts : List Token) → length text ≤ 65536 → AreTokensOf ts text → ((j : Job) × IsJob (words_of text ts) j) ⊎ IsNoJob (words_of text ts) → (r : Result JobTerm Cause) × IsRead s text r
+by_job : (s : Scope) (text : List ℕ) (ts : List Token) → length text ≤ 65536 → AreTokensOf ts text → ((j : Job) × IsJob (words_of text ts) j) ⊎ IsNoJob (words_of text ts) → (r : Result AbstractJob Cause) × IsRead s text r
 by_job s text ts short cut (inl j) =
     let r = each_job_read (causes_before s j.0) s (record { bytes = text; tokens = ts }) j.0 in
     (r.0, verdict.inside (record { short = short; tokens = ts; cut = cut; job = j.0; is = j.1; read = r.1 }))
 by_job s text ts short cut (inr none_there) = (Err cause.Syntax, verdict.outside (record { short = short; tokens = ts; cut = cut; outside = none_there; refused = refl }))
 
-pub each_read : (s : Scope) (text : List ℕ) → (r : Result JobTerm Cause) × IsRead s text r
+pub each_read : (s : Scope) (text : List ℕ) → (r : Result AbstractJob Cause) × IsRead s text r
 each_read s text =
     ⊎_elim (λ (long : 65536 < length text). (Err cause.TooLong, verdict.long (record { long = long; refused = refl })))
     (λ (short : length text ≤ 65536). let cut = each_cut text in by_job s text cut.0 short cut.1 (each_job (words_of text cut.0)))

@@ -10,7 +10,7 @@ use Rattle.job_language.specs.declared.piece.WrittenCall as written
 use Rattle.job_language.specs.Shapes.{start_before, call_in, placed_in, StandsIn}
 use Rattle.job_language.specs.Arguments.{last_param, last_part, before_last, no_token, argument_text}
 use Rattle.job_language.proofs.PieceReads.{length_slice}
-use Rattle.job_language.proofs.Causing.{length_parts, ends_at}
+use Rattle.job_language.proofs.CauseLemmas.{length_parts, ends_at}
 
 pub last_none : (o : Operation) (ws : List Word) (a : ℕ) (es : List ℕ) → length es ≡ 0 → param.Number ≡ last_param o (pieces ws a es)
 last_none o ws a [] h = refl

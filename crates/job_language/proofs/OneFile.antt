@@ -7,16 +7,16 @@ use Rattle.columns.specs.Table.{NamedColumn}
 use Rattle.job_language.specs.declared.fault.Cause.{Cause}
 use Rattle.job_language.specs.declared.fault.JobFault.{JobFault}
 use Rattle.job_language.specs.Files.{AreJobsLeft, AreJobsRead, IsNext, fault_at, scope_below}
-use Rattle.job_language.specs.Jobs.{JobTerm}
+use Rattle.job_language.specs.Jobs.{AbstractJob}
 use Rattle.job_language.proofs.OneVerdict.{one_read}
 
-next_once : (columns : List NamedColumn) (above : List JobTerm) (t : List ℕ) (r q : Result JobTerm Cause) → IsNext columns above t r → IsNext columns above t q → r ≡ q
+next_once : (columns : List NamedColumn) (above : List AbstractJob) (t : List ℕ) (r q : Result AbstractJob Cause) → IsNext columns above t r → IsNext columns above t q → r ≡ q
 next_once columns above t r q (inl h) (inl k) = h.1 ∙ sym k.1
 next_once columns above t r q (inl h) (inr k) = absurd (omega (arith, h.0, k.0))
 next_once columns above t r q (inr h) (inl k) = absurd (omega (arith, h.0, k.0))
 next_once columns above t r q (inr h) (inr k) = one_read (scope_below columns above) t r q h.1 k.1
 
-texts_once : (columns : List NamedColumn) (above : List JobTerm) (ts : List JobText) (r q : Result (List JobTerm) JobFault) → AreJobsRead columns above ts r → AreJobsRead columns above ts q → r ≡ q
+texts_once : (columns : List NamedColumn) (above : List AbstractJob) (ts : List JobText) (r q : Result (List AbstractJob) JobFault) → AreJobsRead columns above ts r → AreJobsRead columns above ts q → r ≡ q
 texts_once columns above [] r q h k = h ∙ sym k
 texts_once columns above (t ∷ ts) r q (inl h) (inl k) =
     let e = next_once columns above t.text (Err h.0) (Err k.0) h.1 k.1 in
@@ -27,9 +27,9 @@ texts_once columns above (t ∷ ts) r q (inr h) (inl k) = let e = next_once colu
 texts_once columns above (t ∷ ts) r q (inr h) (inr k) =
     let e = next_once columns above t.text (Ok h.0) (Ok k.0) h.1 k.1 in
     let same : h.0 ≡ k.0 = cc in
-    texts_once columns (above ++ k.0 ∷ []) ts r q (subst (λ (j : JobTerm). AreJobsRead columns (above ++ j ∷ []) ts r) same h.2) k.2
+    texts_once columns (above ++ k.0 ∷ []) ts r q (subst (λ (j : AbstractJob). AreJobsRead columns (above ++ j ∷ []) ts r) same h.2) k.2
 
-pub left_once : (columns : List NamedColumn) (left : Result (List JobText) TextFault) (r q : Result (List JobTerm) JobFault) → AreJobsLeft columns [] left r → AreJobsLeft columns [] left q → r ≡ q
+pub left_once : (columns : List NamedColumn) (left : Result (List JobText) TextFault) (r q : Result (List AbstractJob) JobFault) → AreJobsLeft columns [] left r → AreJobsLeft columns [] left q → r ≡ q
 left_once columns (Ok texts) r q h k = texts_once columns [] texts r q h k
 left_once columns (Err (text.Syntax line)) r q h k = h ∙ sym k
 left_once columns (Err text.NoMemory) r q h k = absurd h

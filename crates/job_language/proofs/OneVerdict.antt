@@ -7,9 +7,9 @@ use Rattle.stream_tokens.specs.declared.token.TokenKind.TheVariants.{Name}
 use Rattle.stream_tokens.specs.Forms.{IsName}
 use Rattle.stream_tokens.specs.Tokens.{CutBetween, IsFirstToken, token_text}
 use Rattle.stream_tokens.specs.CutTexts.{TokenizedText}
-use Rattle.stream_tokens.proofs.Cutting.{same_tokens}
+use Rattle.stream_tokens.proofs.CutLemmas.{same_tokens}
 use Rattle.lambda_expr.specs.Words.{Word, words_of, named, sign, word_for}
-use Rattle.lambda_expr.specs.Refusals.{LambdaTerm}
+use Rattle.lambda_expr.specs.Refusals.{AbstractLambda}
 use Rattle.lambda_expr.specs.declared.fault.ReadFault.{ReadFault}
 use Rattle.lambda_expr.specs.declared.fault.ReadFault.TheVariants as fault
 use Rattle.lambda_expr.specs.declared.lambda.Want.{Want}
@@ -22,16 +22,16 @@ use Rattle.job_language.specs.declared.operation.Param.{Param}
 use Rattle.job_language.specs.declared.operation.Param.TheVariants as param
 use Rattle.job_language.specs.Table.{role_of}
 use Rattle.job_language.specs.Grammar.{Job, IsJob, IsNoJob, pieces_words, job_pieces}
-use Rattle.job_language.specs.Jobs.{JobTerm}
+use Rattle.job_language.specs.Jobs.{AbstractJob}
 use Rattle.job_language.specs.Causes.{Scope, first_cause, stage_cause, early_causes, numbers_of}
 use Rattle.job_language.specs.Operators.{spelled_op}
 use Rattle.job_language.specs.Arguments.{Argument, PlacedCall, IsOutcome, lambda_answer, IsLambdaRead, IsOperatorRead, IsReadBy, IsArgumentRead, last_param, last_part, argument_text}
-use Rattle.job_language.specs.Verdicts.{CallTerm, source, stage, terminal, call_answer, added, job_named, placed_calls, IsReadAfter, IsReadInTurn, AreRead, IsJobRead, IsRead, IsInside}
+use Rattle.job_language.specs.Verdicts.{AbstractCall, source, stage, terminal, call_answer, added, job_named, placed_calls, IsReadAfter, IsReadInTurn, AreRead, IsJobRead, IsRead, IsInside}
 use Rattle.job_language.specs.Verdicts as verdict
 use Rattle.job_language.specs.Parts.{causes_before}
-use Rattle.job_language.proofs.Shaping.{one_spelled}
+use Rattle.job_language.proofs.ShapeLemmas.{one_spelled}
 
-to_outcome : (text : List ℕ) (w : Want) (o : Result LambdaTerm ReadFault) → IsOutcome text w o → Outcome text w o
+to_outcome : (text : List ℕ) (w : Want) (o : Result AbstractLambda ReadFault) → IsOutcome text w o → Outcome text w o
 to_outcome text w (Ok l) j = judged j
 to_outcome text w (Err (fault.Syntax at)) h = outside at h refl
 to_outcome text w (Err fault.TooDeep) (inl m) = many m refl
@@ -60,15 +60,15 @@ one_by param.Operator s ws text r q h k = one_operator (spelled_op ws) s text r 
 one_argument : (s : Scope) (t : TokenizedText) (c : PlacedCall) (r q : Result Argument Cause) → IsArgumentRead s t c r → IsArgumentRead s t c q → r ≡ q
 one_argument s t c r q h k = one_by (last_param c.call.operation c.call.parts) s (last_part c.call.parts) (argument_text t c).bytes r q h k
 
-one_after : (o : Option Cause) (s : Scope) (t : TokenizedText) (c : PlacedCall) (r q : Result CallTerm Cause) → IsReadAfter o s t c r → IsReadAfter o s t c q → r ≡ q
+one_after : (o : Option Cause) (s : Scope) (t : TokenizedText) (c : PlacedCall) (r q : Result AbstractCall Cause) → IsReadAfter o s t c r → IsReadAfter o s t c q → r ≡ q
 one_after (Some e) s t c r q h k = sym h ∙ k
 one_after None s t c r q h k = sym h.2 ∙ ap (call_answer c.call.operation (numbers_of c.call.operation (length c.call.parts) 0 c.call.parts)) (one_argument s t c h.0 k.0 h.1 k.1) ∙ k.2
 
-one_turn : (o : Option Cause) (s : Scope) (t : TokenizedText) (c : PlacedCall) (r q : Result CallTerm Cause) → IsReadInTurn o s t c r → IsReadInTurn o s t c q → r ≡ q
+one_turn : (o : Option Cause) (s : Scope) (t : TokenizedText) (c : PlacedCall) (r q : Result AbstractCall Cause) → IsReadInTurn o s t c r → IsReadInTurn o s t c q → r ≡ q
 one_turn (Some e) s t c r q h k = sym h ∙ k
 one_turn None s t c r q h k = one_after (first_cause (early_causes c.call)) s t c r q h k
 
-one_rest : (s : Scope) (t : TokenizedText) (j : JobTerm) (cs : List PlacedCall) (r q : Result JobTerm Cause) → AreRead s t j cs r → AreRead s t j cs q → r ≡ q
+one_rest : (s : Scope) (t : TokenizedText) (j : AbstractJob) (cs : List PlacedCall) (r q : Result AbstractJob Cause) → AreRead s t j cs r → AreRead s t j cs q → r ≡ q
 one_rest s t j [] r q h k = sym h ∙ k
 one_rest s t j (c ∷ cs) r q (inl (e, a, x)) (inl (f, b, y)) =
     let eq = one_turn (stage_cause (length j.stages) (role_of c.call.operation)) s t c (Err e) (Err f) a b in
@@ -81,14 +81,14 @@ one_rest s t j (c ∷ cs) r q (inr (g, a, x)) (inr (h, b, y)) =
     let same : g ≡ h = cc in
     one_rest s t (added j h) cs r q (subst (λ v. AreRead s t (added j v) cs r) same x) y
 
-one_job_read : (o : Option Cause) (s : Scope) (t : TokenizedText) (j : Job) (r q : Result JobTerm Cause) → IsJobRead o s t j r → IsJobRead o s t j q → r ≡ q
+one_job_read : (o : Option Cause) (s : Scope) (t : TokenizedText) (j : Job) (r q : Result AbstractJob Cause) → IsJobRead o s t j r → IsJobRead o s t j q → r ≡ q
 one_job_read (Some e) s t j r q h k = sym h ∙ k
 one_job_read None s t j r q h k = one_rest s t (job_named j.name) (placed_calls j) r q h k
 
 abbrev text_of : List ℕ → List Token → TokenizedText
 text_of text ts = record { bytes = text; tokens = ts }
 
-both_inside : (s : Scope) (text : List ℕ) (r q : Result JobTerm Cause) → IsInside s text r → IsInside s text q → r ≡ q
+both_inside : (s : Scope) (text : List ℕ) (r q : Result AbstractJob Cause) → IsInside s text r → IsInside s text q → r ≡ q
 both_inside s text r q a b =
     let same : b.tokens ≡ a.tokens = same_tokens text 0 b.tokens a.tokens (length text) b.cut a.cut in
     let is : IsJob (words_of text a.tokens) b.job = subst (λ ts. IsJob (words_of text ts) b.job) same b.is in
@@ -96,7 +96,7 @@ both_inside s text r q a b =
     let there = subst (λ ts. IsJobRead (causes_before s b.job) s (text_of text ts) b.job q) same b.read in
     one_job_read (causes_before s a.job) s (text_of text a.tokens) a.job r q a.read (subst (λ j. IsJobRead (causes_before s j) s (text_of text a.tokens) j q) job there)
 
-pub one_read : (s : Scope) (text : List ℕ) (r q : Result JobTerm Cause) → IsRead s text r → IsRead s text q → r ≡ q
+pub one_read : (s : Scope) (text : List ℕ) (r q : Result AbstractJob Cause) → IsRead s text r → IsRead s text q → r ≡ q
 one_read s text r q (verdict.long a) (verdict.long b) = sym a.refused ∙ b.refused
 one_read s text r q (verdict.long a) (verdict.outside b) = let more = a.long in let less = b.short in absurd (omega arith)
 one_read s text r q (verdict.long a) (verdict.inside b) = let more = a.long in let less = b.short in absurd (omega arith)
@@ -108,17 +108,17 @@ one_read s text r q (verdict.inside a) (verdict.outside b) = absurd (subst (λ t
 one_read s text r q (verdict.inside a) (verdict.inside b) = both_inside s text r q a b
 
 -- the name of a job is the first word of its text
-same_name : (j : JobTerm) (g : CallTerm) → (added j g).name ≡ j.name
+same_name : (j : AbstractJob) (g : AbstractCall) → (added j g).name ≡ j.name
 same_name j (source s) = refl
 same_name j (stage s) = refl
 same_name j (terminal d) = refl
 
-name_kept : (s : Scope) (t : TokenizedText) (j k : JobTerm) (cs : List PlacedCall) → AreRead s t j cs (Ok k) → k.name ≡ j.name
+name_kept : (s : Scope) (t : TokenizedText) (j k : AbstractJob) (cs : List PlacedCall) → AreRead s t j cs (Ok k) → k.name ≡ j.name
 name_kept s t j k [] h = let same : j ≡ k = cc in ap (λ v. v.name) (sym same)
 name_kept s t j k (c ∷ cs) (inl (e, a, x)) = absurd cc
 name_kept s t j k (c ∷ cs) (inr (g, a, x)) = name_kept s t (added j g) k cs x ∙ same_name j g
 
-name_read : (o : Option Cause) (s : Scope) (t : TokenizedText) (j : Job) (k : JobTerm) → IsJobRead o s t j (Ok k) → k.name ≡ j.name
+name_read : (o : Option Cause) (s : Scope) (t : TokenizedText) (j : Job) (k : AbstractJob) → IsJobRead o s t j (Ok k) → k.name ≡ j.name
 name_read (Some e) s t j k h = absurd cc
 name_read None s t j k h = name_kept s t (job_named j.name) k (placed_calls j) h
 
@@ -133,7 +133,7 @@ first_is_name text w (t ∷ ts) vs n cut e =
     let first : word_for t.kind (token_text text t) ≡ named w = cc in
     token_name text w t.kind t.from t.to (named_kind t.kind (token_text text t) w first) cut.3 (named_bytes t.kind (token_text text t) w first)
 
-pub name_is_name : (s : Scope) (text : List ℕ) (k : JobTerm) → IsRead s text (Ok k) → IsName k.name
+pub name_is_name : (s : Scope) (text : List ℕ) (k : AbstractJob) → IsRead s text (Ok k) → IsName k.name
 name_is_name s text k (verdict.long a) = let no_job = a.refused in absurd cc
 name_is_name s text k (verdict.outside a) = let no_job = a.refused in absurd cc
 name_is_name s text k (verdict.inside a) =

@@ -15,7 +15,7 @@ use Rattle.job_language.specs.Splitting.{pieces, AreEnds, Completes, call_at, Is
 use Rattle.job_language.specs.Grammar.{call, begin_concat, owner}
 use Rattle.job_language.specs.Shapes.{width, sign_piece, is_open, operation_in, IsNoPiece, Begins, IsMarkOf}
 use Rattle.job_language.proofs.Names.{one_name}
-use Rattle.job_language.proofs.Piecing.{not_owner, name_is, call_tail, completes}
+use Rattle.job_language.proofs.PieceLemmas.{not_owner, name_is, call_tail, completes}
 
 pub front : (ws : List Word) (at : ℕ) → at < length ws → drop at ws ≡ get_or ws at bad ∷ drop (at + 1) ws
 front ws at lt = drop_more ws at bad lt

@@ -6,7 +6,7 @@ use Rattle.stream_tokens.specs.CutTexts.{TokenizedText, between}
 use Rattle.lambda_expr.specs.Words.{Word, named, quoted}
 use Rattle.lambda_expr.specs.Term.{Long, Truth}
 use Rattle.lambda_expr.specs.Streams.{Inner}
-use Rattle.lambda_expr.specs.Refusals.{LambdaTerm, long, boolean, stream as inner_stream, pair, Judged, IsRefused}
+use Rattle.lambda_expr.specs.Refusals.{AbstractLambda, long, boolean, stream as inner_stream, pair, Judged, IsRefused}
 use Rattle.lambda_expr.specs.References.{names_of}
 use Rattle.lambda_expr.specs.declared.fault.ReadFault.{ReadFault}
 use Rattle.lambda_expr.specs.declared.fault.ReadFault.TheVariants as fault
@@ -98,7 +98,7 @@ name_answer scope (Some w) = result_answer w (given scope.jobs w)
 name_answer scope None = Ok nothing
 
 -- the lambda that a text is, or what it is refused for
-abbrev pub IsOutcome : List ℕ → Want → Result LambdaTerm ReadFault → Type 0
+abbrev pub IsOutcome : List ℕ → Want → Result AbstractLambda ReadFault → Type 0
 IsOutcome text w (Ok l) = Judged text w (Ok l)
 IsOutcome text w (Err fault.NoMemory) = ⊥
 IsOutcome text w (Err f) = IsRefused text w f
@@ -119,22 +119,22 @@ listed None = Err cause.OperatorNotListed
 listed (Some f) = Ok (operator f)
 
 -- a lambda of two parameters is an operator
-abbrev pub argument_of : LambdaTerm → Result Argument Cause
+abbrev pub argument_of : AbstractLambda → Result Argument Cause
 argument_of (long e) = Ok (number e)
 argument_of (boolean p) = Ok (test p)
 argument_of (inner_stream g) = Ok (stream g)
 argument_of (pair f) = listed (op_of_form f)
 
-abbrev pub after_references : Option Cause → LambdaTerm → Result Argument Cause
+abbrev pub after_references : Option Cause → AbstractLambda → Result Argument Cause
 after_references None l = argument_of l
 after_references (Some e) l = Err e
 
-abbrev pub lambda_answer : Scope → Result LambdaTerm ReadFault → Result Argument Cause
+abbrev pub lambda_answer : Scope → Result AbstractLambda ReadFault → Result Argument Cause
 lambda_answer scope (Err f) = Err (cause.Expr f)
 lambda_answer scope (Ok l) = after_references (first_cause (reference_causes scope (names_of l))) l
 
 abbrev pub IsLambdaRead : Scope → List ℕ → Want → Result Argument Cause → Type 0
-IsLambdaRead scope text w r = (o : Result LambdaTerm ReadFault) × IsOutcome text w o × (lambda_answer scope o ≡ r)
+IsLambdaRead scope text w r = (o : Result AbstractLambda ReadFault) × IsOutcome text w o × (lambda_answer scope o ≡ r)
 
 -- an operator is a name, a method, or a lambda of two parameters
 abbrev pub IsOperatorRead : Option (Option Op) → Scope → List ℕ → Result Argument Cause → Type 0

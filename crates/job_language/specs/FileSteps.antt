@@ -3,16 +3,16 @@ use Rattle.std.specs.Prelude.{◌≡◌, List, [], ◌∷◌, ◌++◌, Ok, Err}
 use Rattle.stream_tokens.specs.declared.job_text.JobText.{JobText}
 use Rattle.columns.specs.Table.{NamedColumn}
 use Rattle.job_language.specs.declared.fault.JobFault.{JobFault}
-use Rattle.job_language.specs.Jobs.{JobTerm}
+use Rattle.job_language.specs.Jobs.{AbstractJob}
 use Rattle.job_language.specs.Files.{IsNext}
 
 -- the text is a job below these, and with it they are those
-pub record IsNextJob (columns : List NamedColumn) (above : List JobTerm) (t : JobText) (after : List JobTerm) : Type 0 where
-  pub job : JobTerm
+pub record IsNextJob (columns : List NamedColumn) (above : List AbstractJob) (t : JobText) (after : List AbstractJob) : Type 0 where
+  pub job : AbstractJob
   pub read : IsNext columns above t.text (Ok job)
   pub put : after ≡ above ++ job ∷ []
 
 -- the text is refused below these jobs, at its line
-pub record IsNextFault (columns : List NamedColumn) (above : List JobTerm) (t : JobText) (fault : JobFault) : Type 0 where
+pub record IsNextFault (columns : List NamedColumn) (above : List AbstractJob) (t : JobText) (fault : JobFault) : Type 0 where
   pub read : IsNext columns above t.text (Err fault.cause)
   pub at : fault.line ≡ t.line

@@ -1,7 +1,7 @@
 -- Meaning: abstract jobs, in which no operation is left out.
 use Rattle.std.specs.Prelude.{ℕ, ℤ, List, [], ◌∷◌}
-use Rattle.trace.specs.Stages.{StageTerm, stage_of}
-use Rattle.slice_ops.specs.Slices.{SliceTerm, slice_of}
+use Rattle.trace.specs.Stages.{AbstractStage, stage_of}
+use Rattle.slice_ops.specs.Slices.{AbstractSlice, slice_of}
 use Rattle.find_ops.specs.Finds.{Find, find_of}
 use Rattle.reduce_ops.specs.declared.op.Op.{Op}
 use Rattle.job_language.specs.declared.job.PlainSource.{PlainSource}
@@ -13,39 +13,39 @@ use Rattle.job_language.specs.declared.job.Terminal.TheVariants as terminal
 use Rattle.job_language.specs.declared.job.Job.{Job}
 
 -- an abstract source that is no `concat`: a column is its cells, the array of an earlier job is that job's name
-pub data PlainSourceTerm : Type 0 where
-  range : ℤ → ℤ → PlainSourceTerm
-  range_closed : ℤ → ℤ → PlainSourceTerm
-  values : List ℤ → PlainSourceTerm
-  result : List ℕ → PlainSourceTerm
+pub data AbstractPlainSource : Type 0 where
+  range : ℤ → ℤ → AbstractPlainSource
+  range_closed : ℤ → ℤ → AbstractPlainSource
+  values : List ℤ → AbstractPlainSource
+  result : List ℕ → AbstractPlainSource
 
 -- an abstract stage of a job
-pub data JobStageTerm : Type 0 where
-  item : StageTerm → JobStageTerm
-  slice : SliceTerm → JobStageTerm
-  prefix : Op → JobStageTerm
-  prefix_range : ℕ → ℕ → Op → JobStageTerm
+pub data AbstractJobStage : Type 0 where
+  item : AbstractStage → AbstractJobStage
+  slice : AbstractSlice → AbstractJobStage
+  prefix : Op → AbstractJobStage
+  prefix_range : ℕ → ℕ → Op → AbstractJobStage
 
 -- an abstract terminal
-pub data TerminalTerm : Type 0 where
-  sum : TerminalTerm
-  count : TerminalTerm
-  min : TerminalTerm
-  max : TerminalTerm
-  to_array : TerminalTerm
-  reduce : Op → TerminalTerm
-  reduce_from : ℤ → Op → TerminalTerm
-  find : Find → TerminalTerm
+pub data AbstractTerminal : Type 0 where
+  sum : AbstractTerminal
+  count : AbstractTerminal
+  min : AbstractTerminal
+  max : AbstractTerminal
+  to_array : AbstractTerminal
+  reduce : Op → AbstractTerminal
+  reduce_from : ℤ → Op → AbstractTerminal
+  find : Find → AbstractTerminal
 
 -- an abstract job: its name in bytes, its plain sources in order of writing, its stages and its terminal
-pub record JobTerm : Type 0 where
+pub record AbstractJob : Type 0 where
   pub name : List ℕ
-  pub sources : List PlainSourceTerm
-  pub stages : List JobStageTerm
-  pub terminal : TerminalTerm
+  pub sources : List AbstractPlainSource
+  pub stages : List AbstractJobStage
+  pub terminal : AbstractTerminal
 
 -- helper: the abstract source of a source of the program
-abbrev pub source_of : PlainSource → PlainSourceTerm
+abbrev pub source_of : PlainSource → AbstractPlainSource
 source_of (source.Range a b) = range a b
 source_of (source.RangeClosed a b) = range_closed a b
 source_of (source.Values vs) = values vs.items
@@ -53,24 +53,24 @@ source_of (source.Column cells) = values cells.now
 source_of (source.Result name) = result name
 
 -- helper: those of several sources
-abbrev pub sources_of : List PlainSource → List PlainSourceTerm
+abbrev pub sources_of : List PlainSource → List AbstractPlainSource
 sources_of [] = []
 sources_of (s ∷ ss) = source_of s ∷ sources_of ss
 
 -- helper: the abstract stage of a stage of the program
-abbrev pub job_stage_of : JobStage → JobStageTerm
+abbrev pub job_stage_of : JobStage → AbstractJobStage
 job_stage_of (stage.Item g) = item (stage_of g)
 job_stage_of (stage.Slice d) = slice (slice_of d)
 job_stage_of (stage.Prefix f) = prefix f
 job_stage_of (stage.PrefixRange a b f) = prefix_range a b f
 
 -- helper: those of several stages
-abbrev pub job_stages_of : List JobStage → List JobStageTerm
+abbrev pub job_stages_of : List JobStage → List AbstractJobStage
 job_stages_of [] = []
 job_stages_of (g ∷ gs) = job_stage_of g ∷ job_stages_of gs
 
 -- helper: the abstract terminal of a terminal of the program
-abbrev pub terminal_of : Terminal → TerminalTerm
+abbrev pub terminal_of : Terminal → AbstractTerminal
 terminal_of terminal.Sum = sum
 terminal_of terminal.Count = count
 terminal_of terminal.Min = min
@@ -81,15 +81,15 @@ terminal_of (terminal.ReduceFrom a f) = reduce_from a f
 terminal_of (terminal.Find d) = find (find_of d)
 
 -- helper: the abstract job of a job of the program
-abbrev pub job_of : Job → JobTerm
+abbrev pub job_of : Job → AbstractJob
 job_of j = record { name = j.name; sources = sources_of j.sources.items; stages = job_stages_of j.stages.items; terminal = terminal_of j.terminal }
 
 -- helper: those of several jobs
-abbrev pub jobs_of : List Job → List JobTerm
+abbrev pub jobs_of : List Job → List AbstractJob
 jobs_of [] = []
 jobs_of (j ∷ js) = job_of j ∷ jobs_of js
 
 -- the names of jobs, in file order
-abbrev pub names_of : List JobTerm → List (List ℕ)
+abbrev pub names_of : List AbstractJob → List (List ℕ)
 names_of [] = []
 names_of (job ∷ jobs) = job.name ∷ names_of jobs

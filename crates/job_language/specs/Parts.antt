@@ -12,8 +12,8 @@ use Rattle.job_language.specs.declared.fault.Cause.TheVariants.{NoMemory}
 use Rattle.job_language.specs.Grammar.{Job}
 use Rattle.job_language.specs.Causes.{Scope, first_cause, name_causes, sources_cause}
 use Rattle.job_language.specs.Arguments.{Argument, nothing, column, job, number, test, stream, operator}
-use Rattle.job_language.specs.Jobs.{JobTerm, source_of, sources_of, job_stage_of, job_stages_of, terminal_of}
-use Rattle.job_language.specs.Verdicts.{CallTerm, source, stage, terminal}
+use Rattle.job_language.specs.Jobs.{AbstractJob, source_of, sources_of, job_stage_of, job_stages_of, terminal_of}
+use Rattle.job_language.specs.Verdicts.{AbstractCall, source, stage, terminal}
 
 -- what a last part of the program stands for
 abbrev pub argument_in : code.Argument → Argument
@@ -26,7 +26,7 @@ argument_in (code_argument.Stream g) = stream (inner_of g)
 argument_in (code_argument.Operator f) = operator f
 
 -- what a part of a job of the program stands for
-abbrev pub part_in : call_part.CallPart → CallTerm
+abbrev pub part_in : call_part.CallPart → AbstractCall
 part_in (code_part.Source s) = source (source_of s)
 part_in (code_part.Stage g) = stage (job_stage_of g)
 part_in (code_part.Terminal d) = terminal (terminal_of d)
@@ -42,7 +42,7 @@ Answers f P (Ok a) = P (Ok (f a))
 Answers f P (Err e) = e ≢ NoMemory → P (Err e)
 
 -- the job that was read up to a place
-abbrev pub job_so_far : List ℕ → parts.Parts → JobTerm
+abbrev pub job_so_far : List ℕ → parts.Parts → AbstractJob
 job_so_far w p = record { name = w; sources = sources_of p.sources.items; stages = job_stages_of p.stages.items; terminal = terminal_of p.terminal }
 
 -- why a job is refused before its calls

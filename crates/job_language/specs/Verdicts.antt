@@ -7,7 +7,7 @@ use Rattle.stream_tokens.specs.CutTexts.{TokenizedText}
 use Rattle.lambda_expr.specs.Words.{words_of}
 use Rattle.lambda_expr.specs.Term.{Truth}
 use Rattle.trace.specs.Stages.{map, filter, flat_map}
-use Rattle.slice_ops.specs.Slices.{SliceTerm, limit, skip, take_while, drop_while}
+use Rattle.slice_ops.specs.Slices.{AbstractSlice, limit, skip, take_while, drop_while}
 use Rattle.find_ops.specs.Finds.{Find}
 use Rattle.find_ops.specs.Finds as find
 use Rattle.reduce_ops.specs.declared.op.Op.{Op}
@@ -23,64 +23,64 @@ use Rattle.job_language.specs.declared.scope.Gives.TheVariants as gives
 use Rattle.job_language.specs.Table.{role_of}
 use Rattle.job_language.specs.Calls.{call_words}
 use Rattle.job_language.specs.Grammar.{Piece, call, piece_words, job_pieces, Job, IsJob, IsNoJob}
-use Rattle.job_language.specs.Jobs.{PlainSourceTerm, JobStageTerm, TerminalTerm, JobTerm}
+use Rattle.job_language.specs.Jobs.{AbstractPlainSource, AbstractJobStage, AbstractTerminal, AbstractJob}
 use Rattle.job_language.specs.Jobs as term
 use Rattle.job_language.specs.Causes.{Earlier, Scope, first_cause, when, name_causes, stage_cause, early_causes, numbers_of, sources_cause}
 use Rattle.job_language.specs.Arguments.{Argument, column, job, number, test, stream, operator, PlacedCall, IsArgumentRead}
 
 -- what a call is read as
-pub data CallTerm : Type 0 where
-  source : PlainSourceTerm → CallTerm
-  stage : JobStageTerm → CallTerm
-  terminal : TerminalTerm → CallTerm
+pub data AbstractCall : Type 0 where
+  source : AbstractPlainSource → AbstractCall
+  stage : AbstractJobStage → AbstractCall
+  terminal : AbstractTerminal → AbstractCall
 
 -- number i of a call
 abbrev pub number_at : List ℤ → ℕ → ℤ
 number_at ks i = get_or ks i (pos 0)
 
 -- a source with numbers alone
-abbrev pub number_source : Operation → List ℤ → PlainSourceTerm
+abbrev pub number_source : Operation → List ℤ → AbstractPlainSource
 number_source op.Range ks = term.range (number_at ks 0) (number_at ks 1)
 number_source op.RangeClosed ks = term.range_closed (number_at ks 0) (number_at ks 1)
 number_source o ks = term.values ks
 
 -- a source; `of` and `empty` are their values
-abbrev pub source_term : Operation → List ℤ → Argument → PlainSourceTerm
-source_term o ks (column cells) = term.values cells
-source_term o ks (job w) = term.result w
-source_term o ks a = number_source o ks
+abbrev pub abstract_source : Operation → List ℤ → Argument → AbstractPlainSource
+abstract_source o ks (column cells) = term.values cells
+abstract_source o ks (job w) = term.result w
+abstract_source o ks a = number_source o ks
 
-abbrev pub count_stage : Operation → ℕ → SliceTerm
+abbrev pub count_stage : Operation → ℕ → AbstractSlice
 count_stage op.Limit k = limit k
 count_stage o k = skip k
 
-abbrev pub test_stage : Operation → Truth → JobStageTerm
+abbrev pub test_stage : Operation → Truth → AbstractJobStage
 test_stage op.Filter p = term.item (filter p)
 test_stage op.TakeWhile p = term.slice (take_while p)
 test_stage o p = term.slice (drop_while p)
 
-abbrev pub prefix_stage : List ℤ → Op → JobStageTerm
+abbrev pub prefix_stage : List ℤ → Op → AbstractJobStage
 prefix_stage (a ∷ b ∷ []) f = term.prefix_range (unsigned_abs a) (unsigned_abs b) f
 prefix_stage ks f = term.prefix f
 
 -- a stage: `map`, `flatMap`, a test, `prefix`, `limit` and `skip`
-abbrev pub stage_term : Operation → List ℤ → Argument → JobStageTerm
-stage_term o ks (number e) = term.item (map e)
-stage_term o ks (stream g) = term.item (flat_map g)
-stage_term o ks (test p) = test_stage o p
-stage_term o ks (operator f) = prefix_stage ks f
-stage_term o ks a = term.slice (count_stage o (unsigned_abs (number_at ks 0)))
+abbrev pub abstract_stage : Operation → List ℤ → Argument → AbstractJobStage
+abstract_stage o ks (number e) = term.item (map e)
+abstract_stage o ks (stream g) = term.item (flat_map g)
+abstract_stage o ks (test p) = test_stage o p
+abstract_stage o ks (operator f) = prefix_stage ks f
+abstract_stage o ks a = term.slice (count_stage o (unsigned_abs (number_at ks 0)))
 
 abbrev pub match_terminal : Operation → Truth → Find
 match_terminal op.AnyMatch p = find.any_match p
 match_terminal op.AllMatch p = find.all_match p
 match_terminal o p = find.none_match p
 
-abbrev pub reduce_terminal : List ℤ → Op → TerminalTerm
+abbrev pub reduce_terminal : List ℤ → Op → AbstractTerminal
 reduce_terminal (i ∷ []) f = term.reduce_from i f
 reduce_terminal ks f = term.reduce f
 
-abbrev pub plain_terminal : Operation → TerminalTerm
+abbrev pub plain_terminal : Operation → AbstractTerminal
 plain_terminal op.Count = term.count
 plain_terminal op.Min = term.min
 plain_terminal op.Max = term.max
@@ -89,16 +89,16 @@ plain_terminal op.ToArray = term.to_array
 plain_terminal o = term.sum
 
 -- a terminal: a match, `reduce`, and those without parts
-abbrev pub terminal_term : Operation → List ℤ → Argument → TerminalTerm
-terminal_term o ks (test p) = term.find (match_terminal o p)
-terminal_term o ks (operator f) = reduce_terminal ks f
-terminal_term o ks a = plain_terminal o
+abbrev pub abstract_terminal : Operation → List ℤ → Argument → AbstractTerminal
+abstract_terminal o ks (test p) = term.find (match_terminal o p)
+abstract_terminal o ks (operator f) = reduce_terminal ks f
+abstract_terminal o ks a = plain_terminal o
 
 -- what a call means, by its numbers and its last part
-abbrev pub call_term : Role → Operation → List ℤ → Argument → CallTerm
-call_term role.Stage o ks a = stage (stage_term o ks a)
-call_term role.Terminal o ks a = terminal (terminal_term o ks a)
-call_term r o ks a = source (source_term o ks a)
+abbrev pub abstract_call : Role → Operation → List ℤ → Argument → AbstractCall
+abstract_call role.Stage o ks a = stage (abstract_stage o ks a)
+abstract_call role.Terminal o ks a = terminal (abstract_terminal o ks a)
+abstract_call r o ks a = source (abstract_source o ks a)
 
 -- the number of `reduce` is the identity of its operator
 abbrev pub same_identity : Option ℤ → ℤ → Option Cause
@@ -109,46 +109,46 @@ abbrev pub identity_cause : Operation → List ℤ → Argument → Option Cause
 identity_cause op.Reduce (k ∷ []) (operator f) = same_identity (identity_of f) k
 identity_cause o ks a = None
 
-abbrev pub unless : Option Cause → CallTerm → Result CallTerm Cause
+abbrev pub unless : Option Cause → AbstractCall → Result AbstractCall Cause
 unless None g = Ok g
 unless (Some e) g = Err e
 
 -- a call whose numbers have no fault
-abbrev pub call_answer : Operation → List ℤ → Result Argument Cause → Result CallTerm Cause
+abbrev pub call_answer : Operation → List ℤ → Result Argument Cause → Result AbstractCall Cause
 call_answer o ks (Err e) = Err e
-call_answer o ks (Ok a) = unless (identity_cause o ks a) (call_term (role_of o) o ks a)
+call_answer o ks (Ok a) = unless (identity_cause o ks a) (abstract_call (role_of o) o ks a)
 
 -- a call is refused for its number of parts, its numbers, its last part, and at last for the two together
-abbrev pub IsReadAfter : Option Cause → Scope → TokenizedText → PlacedCall → Result CallTerm Cause → Type 0
+abbrev pub IsReadAfter : Option Cause → Scope → TokenizedText → PlacedCall → Result AbstractCall Cause → Type 0
 IsReadAfter (Some e) scope t c r = Err e ≡ r
 IsReadAfter None scope t c r =
     (a : Result Argument Cause) × IsArgumentRead scope t c a
     × (call_answer c.call.operation (numbers_of c.call.operation (length c.call.parts) 0 c.call.parts) a ≡ r)
 
-abbrev pub IsCallRead : Scope → TokenizedText → PlacedCall → Result CallTerm Cause → Type 0
+abbrev pub IsCallRead : Scope → TokenizedText → PlacedCall → Result AbstractCall Cause → Type 0
 IsCallRead scope t c r = IsReadAfter (first_cause (early_causes c.call)) scope t c r
 
 -- a stage after 32 others is refused before all else
-abbrev pub IsReadInTurn : Option Cause → Scope → TokenizedText → PlacedCall → Result CallTerm Cause → Type 0
+abbrev pub IsReadInTurn : Option Cause → Scope → TokenizedText → PlacedCall → Result AbstractCall Cause → Type 0
 IsReadInTurn (Some e) scope t c r = Err e ≡ r
 IsReadInTurn None scope t c r = IsCallRead scope t c r
 
 -- a job with one more part
-abbrev pub added : JobTerm → CallTerm → JobTerm
+abbrev pub added : AbstractJob → AbstractCall → AbstractJob
 added j (source s) = record j { sources = j.sources ++ s ∷ [] }
 added j (stage g) = record j { stages = j.stages ++ g ∷ [] }
 added j (terminal d) = record j { terminal = d }
 
 -- the calls that are left, in order of writing: the first that is refused gives the cause
-abbrev pub AreRead : Scope → TokenizedText → JobTerm → List PlacedCall → Result JobTerm Cause → Type 0
+abbrev pub AreRead : Scope → TokenizedText → AbstractJob → List PlacedCall → Result AbstractJob Cause → Type 0
 AreRead scope t j [] r = Ok j ≡ r
 AreRead scope t j (c ∷ cs) r =
     let late = stage_cause (length j.stages) (role_of c.call.operation) in
     ((e : Cause) × IsReadInTurn late scope t c (Err e) × (Err e ≡ r))
-    ⊎ ((g : CallTerm) × IsReadInTurn late scope t c (Ok g) × AreRead scope t (added j g) cs r)
+    ⊎ ((g : AbstractCall) × IsReadInTurn late scope t c (Ok g) × AreRead scope t (added j g) cs r)
 
 -- a job before its parts; the last of them is its terminal
-abbrev pub job_named : List ℕ → JobTerm
+abbrev pub job_named : List ℕ → AbstractJob
 job_named w = record { name = w; sources = []; stages = []; terminal = term.sum }
 
 -- calls with their places, after n words
@@ -162,17 +162,17 @@ abbrev pub placed_calls : Job → List PlacedCall
 placed_calls j = placed 2 (job_pieces j)
 
 -- a job in the grammar is refused for its name, for too many plain sources, for a call
-abbrev pub IsJobRead : Option Cause → Scope → TokenizedText → Job → Result JobTerm Cause → Type 0
+abbrev pub IsJobRead : Option Cause → Scope → TokenizedText → Job → Result AbstractJob Cause → Type 0
 IsJobRead (Some e) scope t j r = Err e ≡ r
 IsJobRead None scope t j r = AreRead scope t (job_named j.name) (placed_calls j) r
 
 -- the text has more than 65,536 bytes
-pub record IsTooLong (text : List ℕ) (r : Result JobTerm Cause) : Type 0 where
+pub record IsTooLong (text : List ℕ) (r : Result AbstractJob Cause) : Type 0 where
   pub long : 65536 < length text
   pub refused : Err cause.TooLong ≡ r
 
 -- the text is no job
-pub record IsOutside (text : List ℕ) (r : Result JobTerm Cause) : Type 0 where
+pub record IsOutside (text : List ℕ) (r : Result AbstractJob Cause) : Type 0 where
   pub short : length text ≤ 65536
   pub tokens : List Token
   pub cut : AreTokensOf tokens text
@@ -180,7 +180,7 @@ pub record IsOutside (text : List ℕ) (r : Result JobTerm Cause) : Type 0 where
   pub refused : Err cause.Syntax ≡ r
 
 -- the text is this job
-pub record IsInside (scope : Scope) (text : List ℕ) (r : Result JobTerm Cause) : Type 0 where
+pub record IsInside (scope : Scope) (text : List ℕ) (r : Result AbstractJob Cause) : Type 0 where
   pub short : length text ≤ 65536
   pub tokens : List Token
   pub cut : AreTokensOf tokens text
@@ -189,13 +189,13 @@ pub record IsInside (scope : Scope) (text : List ℕ) (r : Result JobTerm Cause)
   pub read : IsJobRead (first_cause (name_causes scope job.name ++ sources_cause job ∷ [])) scope (record { bytes = text; tokens = tokens }) job r
 
 -- what a text is read as, with these earlier jobs and columns
-pub data IsRead (scope : Scope) (text : List ℕ) (r : Result JobTerm Cause) : Type 0 where
+pub data IsRead (scope : Scope) (text : List ℕ) (r : Result AbstractJob Cause) : Type 0 where
   long : IsTooLong text r → IsRead scope text r
   outside : IsOutside text r → IsRead scope text r
   inside : IsInside scope text r → IsRead scope text r
 
 -- what a terminal gives
-abbrev pub given_by : TerminalTerm → Gives
+abbrev pub given_by : AbstractTerminal → Gives
 given_by term.to_array = gives.Array
 given_by (term.find (find.any_match p)) = gives.Boolean
 given_by (term.find (find.all_match p)) = gives.Boolean
@@ -203,5 +203,5 @@ given_by (term.find (find.none_match p)) = gives.Boolean
 given_by d = gives.Number
 
 -- a job as later jobs see it
-abbrev pub earlier_of : JobTerm → Earlier
+abbrev pub earlier_of : AbstractJob → Earlier
 earlier_of j = record { name = j.name; gives = given_by j.terminal }

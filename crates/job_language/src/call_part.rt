@@ -5,7 +5,7 @@ ghost use Rattle.find_ops.specs.Finds.{find_of};
 ghost use Rattle.lambda_expr.specs.Term.{truth_of};
 ghost use Rattle.job_language.specs.Jobs.{source_of, job_stage_of, terminal_of};
 ghost use Rattle.job_language.specs.Table.{role_of};
-ghost use Rattle.job_language.specs.Verdicts.{number_at, number_source, source_term, count_stage, test_stage, prefix_stage, stage_term, match_terminal, reduce_terminal, plain_terminal, terminal_term, call_term, same_identity, identity_cause};
+ghost use Rattle.job_language.specs.Verdicts.{number_at, number_source, abstract_source, count_stage, test_stage, prefix_stage, abstract_stage, match_terminal, reduce_terminal, plain_terminal, abstract_terminal, abstract_call, same_identity, identity_cause};
 ghost use Rattle.job_language.specs.Parts.{argument_in, part_in};
 
 use crate::argument::Argument;
@@ -49,7 +49,7 @@ fn number_source<'c>(operation: Operation, numbers: Vec<i64>) -> PlainSource<'c>
 }
 
 fn source<'c>(operation: Operation, numbers: Vec<i64>, last: Argument<'c>) -> PlainSource<'c>
-    ensures { source_of result ≡ source_term operation numbers.items (argument_in last.entry) }
+    ensures { source_of result ≡ abstract_source operation numbers.items (argument_in last.entry) }
 {
     match last {
         Argument::Column(cells) => PlainSource::Column(cells),
@@ -91,7 +91,7 @@ fn prefix_stage(numbers: &[i64], op: Op) -> JobStage
 }
 
 fn stage(operation: Operation, numbers: &[i64], last: Argument) -> JobStage
-    ensures { job_stage_of result ≡ stage_term operation numbers.now (argument_in last.entry) }
+    ensures { job_stage_of result ≡ abstract_stage operation numbers.now (argument_in last.entry) }
 {
     match last {
         Argument::Number(expr) => JobStage::Item(Stage::Map(expr)),
@@ -141,7 +141,7 @@ fn plain_terminal(operation: Operation) -> Terminal
 }
 
 fn terminal(operation: Operation, numbers: &[i64], last: Argument) -> Terminal
-    ensures { terminal_of result ≡ terminal_term operation numbers.now (argument_in last.entry) }
+    ensures { terminal_of result ≡ abstract_terminal operation numbers.now (argument_in last.entry) }
 {
     match last {
         Argument::Test(test) => Terminal::Find(match_terminal(operation, test)),
@@ -153,7 +153,7 @@ fn terminal(operation: Operation, numbers: &[i64], last: Argument) -> Terminal
 /// What a call with these numbers and this last part is.
 pub fn call_part<'c>(operation: Operation, numbers: Vec<i64>, last: Argument<'c>) -> CallPart<'c>
     ensures { part_in result
-        ≡ call_term (role_of operation) operation numbers.items (argument_in last.entry) }
+        ≡ abstract_call (role_of operation) operation numbers.items (argument_in last.entry) }
 {
     match role_of(operation) {
         Role::Stage => CallPart::Stage(stage(operation, &numbers, last)),

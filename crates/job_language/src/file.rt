@@ -3,7 +3,7 @@ ghost use Rattle.std.specs.Prelude.{◌≡◌, ◌≢◌, ◌≤◌, All, Ok, Er
 ghost use Rattle.stream_tokens.specs.Forms.{IsName};
 ghost use Rattle.stream_tokens.specs.JobTexts.{job_texts_of};
 ghost use Rattle.stream_tokens.specs.TextsLeft.{HasText};
-ghost use Rattle.job_language.specs.Files.{IsNext, IsRefused, Spells};
+ghost use Rattle.job_language.specs.Files.{IsNext, IsRefused, SpellsJobs};
 ghost use Rattle.job_language.specs.FileSteps.{IsNextJob, IsNextFault};
 ghost use Rattle.job_language.specs.Jobs.{job_of, jobs_of, names_of};
 ghost use Rattle.job_language.specs.Scopes as scopes;
@@ -89,7 +89,7 @@ pub fn read_jobs<'c>(
     bytes: &[u8],
     columns: &'c Columns,
 ) -> Result<Vec<Job<'c>>, JobFault>
-    ensures ok { IfOk result (λ jobs. Spells bytes.now columns.now (jobs_of jobs.items)) }
+    ensures ok { IfOk result (λ jobs. SpellsJobs bytes.now columns.now (jobs_of jobs.items)) }
     ensures names { IfOk result (λ jobs. All IsName (names_of (jobs_of jobs.items))) }
     ensures refused { IfErr result (λ fault. fault.cause ≢ Cause.NoMemory
         → IsRefused bytes.now columns.now fault) }

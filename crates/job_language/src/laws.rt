@@ -4,41 +4,41 @@ ghost use Rattle.stream_tokens.specs.Forms.{IsName};
 ghost use Rattle.columns.specs.Table.{NamedColumn};
 ghost use Rattle.job_language.specs.declared.fault.Cause.{Cause as meant_cause};
 ghost use Rattle.job_language.specs.declared.fault.JobFault.{JobFault as meant_fault};
-ghost use Rattle.job_language.specs.Files.{IsRefused, Spells};
-ghost use Rattle.job_language.specs.Jobs.{JobTerm};
+ghost use Rattle.job_language.specs.Files.{IsRefused, SpellsJobs};
+ghost use Rattle.job_language.specs.Jobs.{AbstractJob};
 ghost use Rattle.job_language.specs.Causes.{Scope as meant_scope};
 ghost use Rattle.job_language.specs.Verdicts.{IsRead};
 
 /// A text is read as one thing at most: one job, or one cause.
 pub fn one_verdict()
-    ensures { (s : meant_scope) (text : List ℕ) (r q : Result JobTerm meant_cause)
+    ensures { (s : meant_scope) (text : List ℕ) (r q : Result AbstractJob meant_cause)
         → IsRead s text r → IsRead s text q → r ≡ q }
 {}
 
 /// Each text is read as something: a job, or a cause for which it is refused.
 pub fn each_text_has_a_verdict()
-    ensures { (s : meant_scope) (text : List ℕ) → (r : Result JobTerm meant_cause) × IsRead s text r }
+    ensures { (s : meant_scope) (text : List ℕ) → (r : Result AbstractJob meant_cause) × IsRead s text r }
 {}
 
 /// The name of a job is a letter or `_`, then letters, digits and `_`.
 pub fn a_job_has_a_name()
-    ensures { (s : meant_scope) (text : List ℕ) (j : JobTerm) → IsRead s text (Ok j) → IsName j.name }
+    ensures { (s : meant_scope) (text : List ℕ) (j : AbstractJob) → IsRead s text (Ok j) → IsName j.name }
 {}
 
 /// With the same columns, bytes are a file of one list of jobs at most, are refused for one fault at most,
 /// and not both.
 pub fn one_file()
-    ensures jobs { (bytes : List ℕ) (columns : List NamedColumn) (j k : List JobTerm)
-        → Spells bytes columns j → Spells bytes columns k → j ≡ k }
+    ensures jobs { (bytes : List ℕ) (columns : List NamedColumn) (j k : List AbstractJob)
+        → SpellsJobs bytes columns j → SpellsJobs bytes columns k → j ≡ k }
     ensures fault { (bytes : List ℕ) (columns : List NamedColumn) (f g : meant_fault)
         → IsRefused bytes columns f → IsRefused bytes columns g → f ≡ g }
-    ensures apart { (bytes : List ℕ) (columns : List NamedColumn) (j : List JobTerm) (f : meant_fault)
-        → Spells bytes columns j → IsRefused bytes columns f → ⊥ }
+    ensures apart { (bytes : List ℕ) (columns : List NamedColumn) (j : List AbstractJob) (f : meant_fault)
+        → SpellsJobs bytes columns j → IsRefused bytes columns f → ⊥ }
 {}
 
 /// With these columns, bytes are a file of jobs, or are refused with a fault; by `one_file` not both.
 pub fn each_file_has_an_answer()
     ensures { (bytes : List ℕ) (columns : List NamedColumn) →
-        ((jobs : List JobTerm) × Spells bytes columns jobs)
+        ((jobs : List AbstractJob) × SpellsJobs bytes columns jobs)
         ⊎ ((fault : meant_fault) × IsRefused bytes columns fault) }
 {}

@@ -2,7 +2,7 @@
 use Rattle.std.specs.Prelude.{ℕ, ℤ, List, [], ◌∷◌, ◌++◌, Some, None}
 use Rattle.lambda_expr.specs.declared.env.NamedNumber.{NamedNumber}
 use Rattle.lambda_expr.specs.Earlier.{Numbers}
-use Rattle.job_language.specs.Jobs.{JobTerm}
+use Rattle.job_language.specs.Jobs.{AbstractJob}
 use Rattle.job_plan.specs.declared.answer.Answer.{Answer}
 use Rattle.job_plan.specs.declared.answer.Answer.TheVariants as answer
 use Rattle.job_plan.specs.Walks.{answer_of_job}
@@ -32,11 +32,11 @@ numbers_in [] = []
 numbers_in (a ∷ more) = number_in a.name a.answer ++ numbers_in more
 
 -- the answer of a job after those of the jobs before it
-abbrev pub answer_after : List NamedAnswer → JobTerm → NamedAnswer
+abbrev pub answer_after : List NamedAnswer → AbstractJob → NamedAnswer
 answer_after before job = record { name = job.name; answer = answer_of_job (numbers_in before) job }
 
 -- the answers of jobs in file order, after those of the jobs before them
-abbrev pub answers_from : List NamedAnswer → List JobTerm → List NamedAnswer
+abbrev pub answers_from : List NamedAnswer → List AbstractJob → List NamedAnswer
 answers_from before [] = []
 answers_from before (job ∷ jobs) = answer_after before job ∷ answers_from (before ++ answer_after before job ∷ []) jobs
 
@@ -46,10 +46,10 @@ answers_in [] = []
 answers_in (a ∷ more) = a.answer ∷ answers_in more
 
 -- the answers of the jobs of a file, in file order
-abbrev pub meaning_of : List JobTerm → List Answer
+abbrev pub meaning_of : List AbstractJob → List Answer
 meaning_of jobs = answers_in (answers_from [] jobs)
 
 -- the answers of jobs, each by itself
-abbrev pub answers_alone : List JobTerm → List Answer
+abbrev pub answers_alone : List AbstractJob → List Answer
 answers_alone [] = []
 answers_alone (job ∷ jobs) = answer_of_job [] job ∷ answers_alone jobs

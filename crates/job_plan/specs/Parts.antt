@@ -23,29 +23,29 @@ use Rattle.job_plan.specs.declared.segment.Segment.{Segment}
 use Rattle.job_plan.specs.declared.segment.JobPlan.{JobPlan}
 use Rattle.job_plan.specs.declared.source.Source.{Source}
 use Rattle.job_plan.specs.declared.source.Source.TheVariants as source
-use Rattle.job_plan.specs.Plans.{EndTerm, slicing, folding, finding, collecting, SegmentTerm, PlanTerm, counted_as, walk_of, last_stage}
+use Rattle.job_plan.specs.Plans.{AbstractEnd, slicing, folding, finding, collecting, AbstractSegment, AbstractPlan, counted_as, walk_of, last_stage}
 use Rattle.job_plan.specs.Walks.{source_walk}
 
 -- the end of a segment of the program
-abbrev pub end_in : SegmentEnd → EndTerm
+abbrev pub end_in : SegmentEnd → AbstractEnd
 end_in (ends.Slice d) = slicing (slice_of d)
 end_in (ends.Fold f) = folding f.op f.start f.counts
 end_in (ends.Find d) = finding (find_of d)
 end_in ends.Array = collecting
 
 -- a segment of the program, and several
-abbrev pub segment_in : Segment → SegmentTerm
+abbrev pub segment_in : Segment → AbstractSegment
 segment_in s = record { first = s.first_stage; stages = stages_of s.stages.items; ending = end_in s.end }
 
-abbrev pub segments_in : List Segment → List SegmentTerm
+abbrev pub segments_in : List Segment → List AbstractSegment
 segments_in [] = []
 segments_in (s ∷ ss) = segment_in s ∷ segments_in ss
 
 -- a job of the program in segments, and several
-abbrev pub plan_in : JobPlan → PlanTerm
+abbrev pub plan_in : JobPlan → AbstractPlan
 plan_in j = record { name = j.name; sources = sources_of j.sources.items; segments = segments_in j.segments.items }
 
-abbrev pub plans_in : List JobPlan → List PlanTerm
+abbrev pub plans_in : List JobPlan → List AbstractPlan
 plans_in [] = []
 plans_in (j ∷ js) = plan_in j ∷ plans_in js
 
@@ -62,7 +62,7 @@ pub record IsFold (f : Op) (a : Option ℤ) (counts : Bool) (p : FoldPart) (t : 
   pub stands : FoldStands p.partial (trace (counted_as counts t.items) t.ending)
 
 -- a part stands for a walk that came through the stages, at this end, which is the stage with this number
-abbrev pub EndsFor : EndTerm → ℕ → Numbers → Part → Trace → Type 0
+abbrev pub EndsFor : AbstractEnd → ℕ → Numbers → Part → Trace → Type 0
 EndsFor (slicing d) n env (part.Slice p) t = SliceStands d n env p t
 EndsFor (slicing d) n env (part.Fold p) t = ⊥
 EndsFor (slicing d) n env (part.Find p) t = ⊥
@@ -81,7 +81,7 @@ EndsFor collecting n env (part.Find p) t = ⊥
 EndsFor collecting n env (part.Array c) t = c ≡ t
 
 -- a part stands for a piece of a segment's source
-abbrev pub StandsFor : SegmentTerm → Numbers → Part → Trace → Type 0
+abbrev pub StandsFor : AbstractSegment → Numbers → Part → Trace → Type 0
 StandsFor s env p t = EndsFor s.ending (last_stage s) env p (walk_of s env t)
 
 -- helper: whether a walk ended in a fault

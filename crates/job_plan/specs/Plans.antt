@@ -2,15 +2,15 @@
 use Rattle.std.specs.Prelude.{ℕ, suc, ℤ, pos, Bool, true, false, ◌+◌, List, [], ◌∷◌, ◌++◌, length, map as each_of, Option, Some, None}
 use Rattle.lambda_expr.specs.Earlier.{Numbers}
 use Rattle.trace.specs.declared.item.Item.{Item}
-use Rattle.trace.specs.Stages.{StageTerm, pipe}
+use Rattle.trace.specs.Stages.{AbstractStage, pipe}
 use Rattle.trace.specs.Trace.{Trace}
 use Rattle.reduce_ops.specs.declared.op.Op.{Op}
 use Rattle.reduce_ops.specs.declared.op.Op.TheVariants as op
 use Rattle.reduce_ops.specs.Folds.{fold_from, fold_items, ones}
 use Rattle.reduce_ops.specs.Operators.{value_of}
-use Rattle.slice_ops.specs.Slices.{SliceTerm, sliced}
+use Rattle.slice_ops.specs.Slices.{AbstractSlice, sliced}
 use Rattle.find_ops.specs.Finds.{Find, find_answer}
-use Rattle.job_language.specs.Jobs.{PlainSourceTerm, JobStageTerm, item, slice, prefix, prefix_range, TerminalTerm, sum, count, min, max, to_array, reduce, reduce_from, find, JobTerm}
+use Rattle.job_language.specs.Jobs.{AbstractPlainSource, AbstractJobStage, item, slice, prefix, prefix_range, AbstractTerminal, sum, count, min, max, to_array, reduce, reduce_from, find, AbstractJob}
 use Rattle.job_plan.specs.declared.answer.Answer.{Answer}
 use Rattle.job_plan.specs.declared.answer.Answer.TheVariants as answer
 use Rattle.job_plan.specs.declared.outcome.Outcome.{Outcome}
@@ -19,26 +19,26 @@ use Rattle.job_plan.specs.Walks.{found_answer, source_walk, unless_fault}
 
 -- the end of a segment: a stage that looks at a whole walk, a fold (its operator, its start, and whether it counts), a
 -- find or a match, or the values
-pub data EndTerm : Type 0 where
-  slicing : SliceTerm → EndTerm
-  folding : Op → Option ℤ → Bool → EndTerm
-  finding : Find → EndTerm
-  collecting : EndTerm
+pub data AbstractEnd : Type 0 where
+  slicing : AbstractSlice → AbstractEnd
+  folding : Op → Option ℤ → Bool → AbstractEnd
+  finding : Find → AbstractEnd
+  collecting : AbstractEnd
 
 -- stages that look at one item at a time, the first one with this number, and what ends them
-pub record SegmentTerm : Type 0 where
+pub record AbstractSegment : Type 0 where
   pub first : ℕ
-  pub stages : List StageTerm
-  pub ending : EndTerm
+  pub stages : List AbstractStage
+  pub ending : AbstractEnd
 
 -- a job in segments: the outcome of each one is the source of the next
-pub record PlanTerm : Type 0 where
+pub record AbstractPlan : Type 0 where
   pub name : List ℕ
-  pub sources : List PlainSourceTerm
-  pub segments : List SegmentTerm
+  pub sources : List AbstractPlainSource
+  pub segments : List AbstractSegment
 
 -- a terminal as the end of a segment
-abbrev pub end_of : TerminalTerm → EndTerm
+abbrev pub end_of : AbstractTerminal → AbstractEnd
 end_of sum = folding op.Sum (Some (pos 0)) false
 end_of count = folding op.Sum (Some (pos 0)) true
 end_of min = folding op.Min None false
@@ -49,7 +49,7 @@ end_of (reduce_from a f) = folding f (Some a) false
 end_of (find d) = finding d
 
 -- the segments of stages and a terminal, after these stages, the first of which has this number
-abbrev pub segments_from : ℕ → List StageTerm → List JobStageTerm → TerminalTerm → List SegmentTerm
+abbrev pub segments_from : ℕ → List AbstractStage → List AbstractJobStage → AbstractTerminal → List AbstractSegment
 segments_from n gs [] d = record { first = n; stages = gs; ending = end_of d } ∷ []
 segments_from n gs (item g ∷ rest) d = segments_from n (gs ++ g ∷ []) rest d
 segments_from n gs (slice s ∷ rest) d = record { first = n; stages = gs; ending = slicing s } ∷ segments_from (suc (n + length gs)) [] rest d
@@ -57,11 +57,11 @@ segments_from n gs (prefix f ∷ rest) d = segments_from n gs rest d
 segments_from n gs (prefix_range a b f ∷ rest) d = segments_from n gs rest d
 
 -- a job in segments
-abbrev pub plan_of : JobTerm → PlanTerm
+abbrev pub plan_of : AbstractJob → AbstractPlan
 plan_of job = record { name = job.name; sources = job.sources; segments = segments_from 1 [] job.stages job.terminal }
 
 -- several jobs in segments
-abbrev pub plans_of : List JobTerm → List PlanTerm
+abbrev pub plans_of : List AbstractJob → List AbstractPlan
 plans_of [] = []
 plans_of (job ∷ jobs) = plan_of job ∷ plans_of jobs
 
@@ -76,22 +76,22 @@ folded f (Some a) xs = answer.Number (fold_from (value_of f) a xs)
 folded f None xs = answer.Optional (fold_items (value_of f) xs)
 
 -- what an end, the stage with this number, makes of a walk: a walk, or the answer of the job
-abbrev pub ended : EndTerm → ℕ → Numbers → Trace → Outcome
+abbrev pub ended : AbstractEnd → ℕ → Numbers → Trace → Outcome
 ended (slicing d) n env t = outcome.Source (sliced d n env t)
 ended (folding f a counts) n env t = outcome.Answer (unless_fault t.ending (folded f a (counted_as counts t.items)))
 ended (finding d) n env t = outcome.Answer (found_answer (find_answer d n env t))
 ended collecting n env t = outcome.Answer (unless_fault t.ending (answer.Array (each_of (λ (x : Item). x.value) t.items)))
 
 -- the walk of a segment's source through its stages
-abbrev pub walk_of : SegmentTerm → Numbers → Trace → Trace
+abbrev pub walk_of : AbstractSegment → Numbers → Trace → Trace
 walk_of s env t = pipe s.first s.stages env t
 
 -- the number of the stage that ends a segment
-abbrev pub last_stage : SegmentTerm → ℕ
+abbrev pub last_stage : AbstractSegment → ℕ
 last_stage s = s.first + length s.stages
 
 -- what a segment makes of its source
-abbrev pub outcome_of : SegmentTerm → Numbers → Trace → Outcome
+abbrev pub outcome_of : AbstractSegment → Numbers → Trace → Outcome
 outcome_of s env t = ended s.ending (last_stage s) env (walk_of s env t)
 
 -- helper: a walk goes on with what comes after it; an answer stands
@@ -100,10 +100,10 @@ on_outcome (outcome.Source t) later = later t
 on_outcome (outcome.Answer a) later = a
 
 -- the answer of segments, each of which takes what the one before it gives; there is at least one
-abbrev pub segments_answer : List SegmentTerm → Numbers → Trace → Answer
+abbrev pub segments_answer : List AbstractSegment → Numbers → Trace → Answer
 segments_answer [] env t = answer.Number (pos 0)
 segments_answer (s ∷ ss) env t = on_outcome (outcome_of s env t) (segments_answer ss env)
 
 -- the answer of a job in segments
-abbrev pub planned_answer : Numbers → PlanTerm → Answer
+abbrev pub planned_answer : Numbers → AbstractPlan → Answer
 planned_answer env plan = segments_answer plan.segments env (source_walk plan.sources)

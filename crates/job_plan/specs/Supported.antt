@@ -2,10 +2,10 @@
 use Rattle.std.specs.Prelude.{Bool, true, false, List, [], ◌∷◌, ◌&&◌}
 use Rattle.lambda_expr.specs.Term.{Long, number, parameter, reference, unary, binary, choose, Truth, literal, compare, opposite, connect, choose_truth}
 use Rattle.lambda_expr.specs.Streams.{Inner, range as inner_range, range_closed as inner_range_closed, values as inner_values}
-use Rattle.trace.specs.Stages.{StageTerm, map, filter, flat_map}
-use Rattle.slice_ops.specs.Slices.{SliceTerm, limit, skip, take_while, drop_while}
+use Rattle.trace.specs.Stages.{AbstractStage, map, filter, flat_map}
+use Rattle.slice_ops.specs.Slices.{AbstractSlice, limit, skip, take_while, drop_while}
 use Rattle.find_ops.specs.Finds.{Find, first, any_match, all_match, none_match}
-use Rattle.job_language.specs.Jobs.{PlainSourceTerm, range, range_closed, values, result, JobStageTerm, item, slice, prefix, prefix_range, TerminalTerm, sum, count, min, max, to_array, reduce, reduce_from, find, JobTerm}
+use Rattle.job_language.specs.Jobs.{AbstractPlainSource, range, range_closed, values, result, AbstractJobStage, item, slice, prefix, prefix_range, AbstractTerminal, sum, count, min, max, to_array, reduce, reduce_from, find, AbstractJob}
 
 -- whether no reference stands in an expression
 abbrev mutual
@@ -35,12 +35,12 @@ inner_is_alone (inner_range_closed a b) = long_is_alone a && (long_is_alone b)
 inner_is_alone (inner_values es) = longs_are_alone es
 
 -- whether no reference stands in a stage that looks at one item at a time, in one that looks at the whole walk, in a find
-abbrev pub stage_is_alone : StageTerm → Bool
+abbrev pub stage_is_alone : AbstractStage → Bool
 stage_is_alone (map e) = long_is_alone e
 stage_is_alone (filter p) = truth_is_alone p
 stage_is_alone (flat_map g) = inner_is_alone g
 
-abbrev pub slice_is_alone : SliceTerm → Bool
+abbrev pub slice_is_alone : AbstractSlice → Bool
 slice_is_alone (limit k) = true
 slice_is_alone (skip k) = true
 slice_is_alone (take_while p) = truth_is_alone p
@@ -53,29 +53,29 @@ find_is_alone (all_match p) = truth_is_alone p
 find_is_alone (none_match p) = truth_is_alone p
 
 -- whether a stage is supported, and all of several
-abbrev pub stage_is_supported : JobStageTerm → Bool
+abbrev pub stage_is_supported : AbstractJobStage → Bool
 stage_is_supported (item g) = stage_is_alone g
 stage_is_supported (slice d) = slice_is_alone d
 stage_is_supported (prefix f) = false
 stage_is_supported (prefix_range a b f) = false
 
-abbrev pub stages_are_supported : List JobStageTerm → Bool
+abbrev pub stages_are_supported : List AbstractJobStage → Bool
 stages_are_supported [] = true
 stages_are_supported (g ∷ gs) = stage_is_supported g && (stages_are_supported gs)
 
 -- whether no source is the array of an earlier job
-abbrev pub source_is_supported : PlainSourceTerm → Bool
+abbrev pub source_is_supported : AbstractPlainSource → Bool
 source_is_supported (range a b) = true
 source_is_supported (range_closed a b) = true
 source_is_supported (values vs) = true
 source_is_supported (result name) = false
 
-abbrev pub sources_are_supported : List PlainSourceTerm → Bool
+abbrev pub sources_are_supported : List AbstractPlainSource → Bool
 sources_are_supported [] = true
 sources_are_supported (s ∷ ss) = source_is_supported s && (sources_are_supported ss)
 
 -- whether no reference stands in a terminal
-abbrev pub terminal_is_supported : TerminalTerm → Bool
+abbrev pub terminal_is_supported : AbstractTerminal → Bool
 terminal_is_supported sum = true
 terminal_is_supported count = true
 terminal_is_supported min = true
@@ -86,9 +86,9 @@ terminal_is_supported (reduce_from a f) = true
 terminal_is_supported (find d) = find_is_alone d
 
 -- whether a job is supported, and all of several
-abbrev pub is_supported : JobTerm → Bool
+abbrev pub is_supported : AbstractJob → Bool
 is_supported job = sources_are_supported job.sources && (stages_are_supported job.stages && (terminal_is_supported job.terminal))
 
-abbrev pub are_supported : List JobTerm → Bool
+abbrev pub are_supported : List AbstractJob → Bool
 are_supported [] = true
 are_supported (job ∷ jobs) = is_supported job && (are_supported jobs)

@@ -17,37 +17,37 @@ use Rattle.slice_ops.specs.Slices.{sliced}
 use Rattle.find_ops.specs.Finds.{find_answer}
 use Rattle.find_ops.specs.declared.find_part.Found.{Found}
 use Rattle.find_ops.specs.declared.find_part.Found.TheVariants as found
-use Rattle.job_language.specs.Jobs.{PlainSourceTerm, range, range_closed, values, result, JobStageTerm, item, slice, prefix, prefix_range, TerminalTerm, sum, count, min, max, to_array, reduce, reduce_from, find, JobTerm}
+use Rattle.job_language.specs.Jobs.{AbstractPlainSource, range, range_closed, values, result, AbstractJobStage, item, slice, prefix, prefix_range, AbstractTerminal, sum, count, min, max, to_array, reduce, reduce_from, find, AbstractJob}
 use Rattle.job_plan.specs.declared.answer.Answer.{Answer}
 use Rattle.job_plan.specs.declared.answer.Answer.TheVariants as answer
 
 -- the values of a plain source (`LongStream.range`, `rangeClosed`, `of`; the cells of a column); the array of an
 -- earlier job can't be read yet
-abbrev pub plain_values : PlainSourceTerm → List ℤ
+abbrev pub plain_values : AbstractPlainSource → List ℤ
 plain_values (range a b) = counted a (distance a b)
 plain_values (range_closed a b) = counted a (distance a (b +ℤ pos 1))
 plain_values (values vs) = vs
 plain_values (result name) = []
 
 -- those of several sources, one after the other (`LongStream.concat`)
-abbrev pub values_of : List PlainSourceTerm → List ℤ
+abbrev pub values_of : List AbstractPlainSource → List ℤ
 values_of [] = []
 values_of (s ∷ ss) = plain_values s ++ values_of ss
 
 -- the walk over sources: their values, at the places 0, 1, 2 and so on over all of them; of more than 2^62 values none,
 -- and a fault
-abbrev pub source_walk : List PlainSourceTerm → Trace
+abbrev pub source_walk : List AbstractPlainSource → Trace
 source_walk ss = cover (listed (values_of ss))
 
 -- what stage number n makes of a walk; there is no prefix yet
-abbrev pub after_stage : ℕ → JobStageTerm → Numbers → Trace → Trace
+abbrev pub after_stage : ℕ → AbstractJobStage → Numbers → Trace → Trace
 after_stage n (item g) env t = through n g env t
 after_stage n (slice d) env t = sliced d n env t
 after_stage n (prefix f) env t = t
 after_stage n (prefix_range a b f) env t = t
 
 -- the stages in order of writing, the first one with this number; each takes what the one before it gives
-abbrev pub after_stages : ℕ → List JobStageTerm → Numbers → Trace → Trace
+abbrev pub after_stages : ℕ → List AbstractJobStage → Numbers → Trace → Trace
 after_stages n [] env t = t
 after_stages n (g ∷ gs) env t = after_stages (suc n) gs env (after_stage n g env t)
 
@@ -64,7 +64,7 @@ found_answer (Err f) = answer.Fault f
 
 -- the answer of a terminal, the stage with this number, for a walk (`LongStream.sum`, `count`, `min`, `max`, `toArray`,
 -- `reduce`, `findFirst`, `anyMatch`, `allMatch`, `noneMatch`); a sum and a count are wrapped once to 64 bits
-abbrev pub answer_of : ℕ → Numbers → TerminalTerm → Trace → Answer
+abbrev pub answer_of : ℕ → Numbers → AbstractTerminal → Trace → Answer
 answer_of n env sum t = unless_fault t.ending (answer.Number (wrap (total t.items)))
 answer_of n env count t = unless_fault t.ending (answer.Number (wrap (pos (length t.items))))
 answer_of n env min t = unless_fault t.ending (answer.Optional (fold_items (value_of op.Min) t.items))
@@ -76,6 +76,6 @@ answer_of n env (find d) t = found_answer (find_answer d n env t)
 
 -- the answer of a job with the numbers of earlier jobs: its sources, through its stages, which are numbered from 1, to its
 -- terminal, which is the stage after the last
-abbrev pub answer_of_job : Numbers → JobTerm → Answer
+abbrev pub answer_of_job : Numbers → AbstractJob → Answer
 answer_of_job env job =
     answer_of (suc (length job.stages)) env job.terminal (after_stages 1 job.stages env (source_walk job.sources))

@@ -7,7 +7,7 @@ ghost use Rattle.trace.specs.declared.item.End.TheVariants as end;
 ghost use Rattle.trace.specs.declared.item.Item.{Item as item};
 ghost use Rattle.reduce_ops.specs.declared.op.Op.{Op};
 ghost use Rattle.job_plan.specs.Parts.{EndsFor, IsFold, StandsFor, end_in, is_fault, is_settled, keeps_items};
-ghost use Rattle.job_plan.specs.Plans.{EndTerm, SegmentTerm, counted_as, folded, outcome_of};
+ghost use Rattle.job_plan.specs.Plans.{AbstractEnd, AbstractSegment, counted_as, folded, outcome_of};
 ghost use Rattle.job_plan.specs.Walks.{found_answer, unless_fault};
 
 use crate::answer::Answer;
@@ -160,7 +160,7 @@ impl<'p> Part<'p> {
 
     /// Adds the values of several items, if the end is a fold, and answers whether it is.
     pub(crate) fn fold_batch(&mut self, values: &[i64]) -> bool
-        ensures folded { result ≡ true → (e : EndTerm) (stage : ℕ) (env : Numbers) (t : Trace) (xs : List item)
+        ensures folded { result ≡ true → (e : AbstractEnd) (stage : ℕ) (env : Numbers) (t : Trace) (xs : List item)
             → map (λ x. x.value) xs ≡ values.now → EndsFor e stage env self.old t → EndsFor e stage env self.new (append t (trace xs end.Done)) }
         ensures open { result ≡ true → is_settled self.new ≡ is_settled self.old }
         ensures other { result ≡ false → self.new ≡ self.old }
@@ -176,7 +176,7 @@ impl<'p> Part<'p> {
 
     /// Ends the piece so, unless it is settled. It takes no memory.
     pub(crate) fn end_with(&mut self, ending: End)
-        ensures { (e : EndTerm) (stage : ℕ) (env : Numbers) (t : Trace) → EndsFor e stage env self.old t
+        ensures { (e : AbstractEnd) (stage : ℕ) (env : Numbers) (t : Trace) → EndsFor e stage env self.old t
             → EndsFor e stage env self.new (append t (trace [] ending)) }
     {
         match self {
@@ -204,7 +204,7 @@ impl<'p> Part<'p> {
     /// Only slices and arrays may need memory; if the allocation fails, both parts come back. Parts of different
     /// ends don't merge: the left one stays.
     pub fn merge(self, right: Part<'p>) -> Result<Part<'p>, (Part<'p>, Part<'p>)>
-        ensures ok { IfOk result (λ part. (s : SegmentTerm) (env : Numbers) (a b : Trace) → StandsFor s env self.entry a
+        ensures ok { IfOk result (λ part. (s : AbstractSegment) (env : Numbers) (a b : Trace) → StandsFor s env self.entry a
             → StandsFor s env right.entry b → StandsFor s env part (append a b)) }
         ensures err { IfErr result (λ parts. (parts.0 ≡ self.entry) × (parts.1 ≡ right.entry)) }
         ensures memory { OnErr result (keeps_items self.entry ≡ true) }
@@ -225,7 +225,7 @@ impl<'p> Part<'p> {
 
     /// What the segment gives. Only the values of an array take memory, 8 bytes each.
     pub fn finish(self, alloc: Global, env: &Env) -> Result<Outcome, NoMemory>
-        ensures { IfOk result (λ outcome. (s : SegmentTerm) (t : Trace) → StandsFor s env.now self.entry t
+        ensures { IfOk result (λ outcome. (s : AbstractSegment) (t : Trace) → StandsFor s env.now self.entry t
             → outcome ≡ outcome_of s env.now t) }
     {
         match self {
@@ -239,7 +239,7 @@ impl<'p> Part<'p> {
 
 /// The part of two pieces side by side, the left one of a slice.
 fn merge_slices<'p>(left: SlicePart<'p>, right: Part<'p>) -> Result<Part<'p>, (Part<'p>, Part<'p>)>
-    ensures ok { IfOk result (λ part. (s : SegmentTerm) (env : Numbers) (a b : Trace) → StandsFor s env (Part.Slice left.entry) a
+    ensures ok { IfOk result (λ part. (s : AbstractSegment) (env : Numbers) (a b : Trace) → StandsFor s env (Part.Slice left.entry) a
         → StandsFor s env right.entry b → StandsFor s env part (append a b)) }
     ensures err { IfErr result (λ parts. (parts.0 ≡ Part.Slice left.entry) × (parts.1 ≡ right.entry)) }
 {
@@ -254,7 +254,7 @@ fn merge_slices<'p>(left: SlicePart<'p>, right: Part<'p>) -> Result<Part<'p>, (P
 
 /// The part of two pieces side by side, the left one of an array.
 fn merge_arrays<'p>(mut left: Chunk, right: Part<'p>) -> Result<Part<'p>, (Part<'p>, Part<'p>)>
-    ensures ok { IfOk result (λ part. (s : SegmentTerm) (env : Numbers) (a b : Trace) → StandsFor s env (Part.Array left) a
+    ensures ok { IfOk result (λ part. (s : AbstractSegment) (env : Numbers) (a b : Trace) → StandsFor s env (Part.Array left) a
         → StandsFor s env right.entry b → StandsFor s env part (append a b)) }
     ensures err { IfErr result (λ parts. (parts.0 ≡ Part.Array left) × (parts.1 ≡ right.entry)) }
 {

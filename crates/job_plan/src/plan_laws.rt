@@ -3,7 +3,7 @@
 ghost use Rattle.std.specs.Prelude.{◌≡◌, ℕ, ◌≤◌, true, List, Option, Some, None};
 ghost use Rattle.lambda_expr.specs.Earlier.{Numbers};
 ghost use Rattle.trace.specs.Trace.{Trace, append};
-ghost use Rattle.job_language.specs.Jobs.{JobTerm};
+ghost use Rattle.job_language.specs.Jobs.{AbstractJob};
 ghost use Rattle.job_plan.specs.FileAnswers.{answers_alone, meaning_of};
 ghost use Rattle.job_plan.specs.Pieces.{piece_of};
 ghost use Rattle.job_plan.specs.Plans.{plan_of, planned_answer};
@@ -12,15 +12,15 @@ ghost use Rattle.job_plan.specs.Supported.{are_supported, is_supported};
 ghost use Rattle.job_plan.specs.Walks.{answer_of_job};
 
 /// The segments of a supported job, in turn, give the answer of its walk by stages.
-#[tactic(auto, using(crate::proofs::Cutting::planned))]
+#[tactic(auto, using(crate::proofs::SegmentLemmas::planned))]
 pub fn plans_give_the_answers()
-    ensures { (env : Numbers) (job : JobTerm) → is_supported job ≡ true → planned_answer env (plan_of job) ≡ answer_of_job env job }
+    ensures { (env : Numbers) (job : AbstractJob) → is_supported job ≡ true → planned_answer env (plan_of job) ≡ answer_of_job env job }
 {}
 
 /// The answers of supported jobs are those of each job by itself.
 #[tactic(auto, using(crate::proofs::Alone::meaning_alone))]
 pub fn supported_jobs_stand_alone()
-    ensures { (jobs : List JobTerm) → are_supported jobs ≡ true → meaning_of jobs ≡ answers_alone jobs }
+    ensures { (jobs : List AbstractJob) → are_supported jobs ≡ true → meaning_of jobs ≡ answers_alone jobs }
 {}
 
 /// Two pieces of a walk side by side are one piece, and the piece of all positions is the walk.

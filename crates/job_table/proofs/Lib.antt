@@ -1,10 +1,10 @@
 -- Lemmas of this crate.
-pub mod Openings
-pub mod Tops
 pub mod AnswerLemmas
-pub mod Plans
 pub mod Halves
+pub mod Openings
 pub mod PlanAnswers
 pub mod PlanParts
 pub mod PlannedAnswers
-pub mod Sending
+pub mod Plans
+pub mod SharedPlanLemmas
+pub mod Tops

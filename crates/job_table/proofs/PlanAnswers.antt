@@ -8,7 +8,7 @@ use Rattle.job_plan.specs.declared.outcome.Outcome.TheVariants as outcome
 use Rattle.job_plan.specs.declared.segment.JobPlan.{JobPlan}
 use Rattle.job_plan.specs.declared.segment.Segment.{Segment}
 use Rattle.job_plan.specs.Parts.{plan_in, plans_in, segment_in, segments_in}
-use Rattle.job_plan.specs.Plans.{EndTerm, slicing, folding, finding, collecting, SegmentTerm, ended, last_stage, walk_of, on_outcome, outcome_of, segments_answer}
+use Rattle.job_plan.specs.Plans.{AbstractEnd, slicing, folding, finding, collecting, AbstractSegment, ended, last_stage, walk_of, on_outcome, outcome_of, segments_answer}
 use Rattle.job_table.specs.PlanSegments.{given_walk, one_more, plan_at, slices_first, source_at}
 
 -- the answer that a segment gives; of one that gives a walk, and of none, it is 0
@@ -16,12 +16,12 @@ abbrev pub given_answer : Outcome → Answer
 given_answer (outcome.Source t) = answer.Number (pos 0)
 given_answer (outcome.Answer a) = a
 
-abbrev pub answer_at : Option SegmentTerm → Trace → Answer
+abbrev pub answer_at : Option AbstractSegment → Trace → Answer
 answer_at None t = answer.Number (pos 0)
 answer_at (Some s) t = given_answer (outcome_of s [] t)
 
 -- a segment gives its answer, or what the segments after it make of its walk
-ends_there : (e f : EndTerm) → f ≡ e → (n : ℕ) (w : Trace) (s : SegmentTerm) (ss : List SegmentTerm) (t : Trace) → outcome_of s [] t ≡ ended f n [] w
+ends_there : (e f : AbstractEnd) → f ≡ e → (n : ℕ) (w : Trace) (s : AbstractSegment) (ss : List AbstractSegment) (t : Trace) → outcome_of s [] t ≡ ended f n [] w
     → ((u : Trace) → segments_answer ss [] u ≡ answer_at (slice_get ss (slices_first ss)) (source_at (slices_first ss) ss u))
     → on_outcome (ended e n [] w) (segments_answer ss []) ≡ answer_at (slice_get (s ∷ ss) (one_more e (slices_first ss))) (source_at (one_more e (slices_first ss)) (s ∷ ss) t)
 ends_there (slicing d) f same n w s ss t is later =
@@ -32,25 +32,25 @@ ends_there (finding d) f same n w s ss t is later = sym (ap given_answer (is ∙
 ends_there collecting f same n w s ss t is later = sym (ap given_answer (is ∙ ap (λ e. ended e n [] w) same))
 
 -- the answer of segments is that of the first which doesn't end in a slice
-pub answer_there : (ss : List SegmentTerm) (t : Trace) → segments_answer ss [] t ≡ answer_at (slice_get ss (slices_first ss)) (source_at (slices_first ss) ss t)
+pub answer_there : (ss : List AbstractSegment) (t : Trace) → segments_answer ss [] t ≡ answer_at (slice_get ss (slices_first ss)) (source_at (slices_first ss) ss t)
 answer_there [] t = refl
 answer_there (s ∷ ss) t = ends_there s.ending s.ending refl (last_stage s) (walk_of s [] t) s ss t refl (λ u. answer_there ss u)
 
 -- a segment goes over what the one before it gave
-pub goes_on : (k : ℕ) (ss : List SegmentTerm) (s : SegmentTerm) (t : Trace) → slice_get ss k ≡ Some s → source_at (suc k) ss t ≡ given_walk (outcome_of s [] (source_at k ss t))
+pub goes_on : (k : ℕ) (ss : List AbstractSegment) (s : AbstractSegment) (t : Trace) → slice_get ss k ≡ Some s → source_at (suc k) ss t ≡ given_walk (outcome_of s [] (source_at k ss t))
 goes_on zero [] s t e = absurd (let z : None ≡ Some s = e in cc)
-goes_on zero (r ∷ ss) s t e = let same : r ≡ s = (let z : Some r ≡ Some s = e in cc) in ap (λ (x : SegmentTerm). given_walk (outcome_of x [] t)) same
+goes_on zero (r ∷ ss) s t e = let same : r ≡ s = (let z : Some r ≡ Some s = e in cc) in ap (λ (x : AbstractSegment). given_walk (outcome_of x [] t)) same
 goes_on (suc k) [] s t e = absurd (let z : None ≡ Some s = e in cc)
 goes_on (suc k) (r ∷ ss) s t e = goes_on k ss s (given_walk (outcome_of r [] t)) e
 
 -- before the answer there is a segment
-more_than : (e : EndTerm) (k n : ℕ) → suc k < one_more e n → k < n
+more_than : (e : AbstractEnd) (k n : ℕ) → suc k < one_more e n → k < n
 more_than (slicing d) k n h = omega arith
 more_than (folding f a counts) k n h = absurd (omega arith)
 more_than (finding d) k n h = absurd (omega arith)
 more_than collecting k n h = absurd (omega arith)
 
-pub stands_there : (ss : List SegmentTerm) (k : ℕ) → k < slices_first ss → slice_get ss k ≡ None → ⊥
+pub stands_there : (ss : List AbstractSegment) (k : ℕ) → k < slices_first ss → slice_get ss k ≡ None → ⊥
 stands_there [] k h e = omega arith
 stands_there (s ∷ ss) zero h e = let z : Some s ≡ None = e in cc
 stands_there (s ∷ ss) (suc k) h e = stands_there ss k (more_than s.ending k (slices_first ss) h) e
@@ -66,7 +66,7 @@ no_segment [] k h = refl
 no_segment (r ∷ ss) zero h = absurd (omega arith)
 no_segment (r ∷ ss) (suc k) h = no_segment ss k (omega arith)
 
-pub some_segment : (ss : List Segment) (k : ℕ) → k < length ss → (s : SegmentTerm) × slice_get (segments_in ss) k ≡ Some s
+pub some_segment : (ss : List Segment) (k : ℕ) → k < length ss → (s : AbstractSegment) × slice_get (segments_in ss) k ≡ Some s
 some_segment [] k h = absurd (omega arith)
 some_segment (r ∷ ss) zero h = (segment_in r, refl)
 some_segment (r ∷ ss) (suc k) h = some_segment ss k (omega arith)

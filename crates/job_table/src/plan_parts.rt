@@ -1,7 +1,7 @@
 //! The segments of one job of a plan: how a piece is walked, and what comes of a whole segment.
 ghost use Rattle.std.specs.Prelude.{◌≡◌, ◌+◌, ◌<◌, ◌≤◌, ℕ, [], length, slice_get, IfOk};
 ghost use Rattle.job_plan.specs.Parts.{end_in, plan_in, segments_in, walk_in};
-ghost use Rattle.job_plan.specs.Plans.{PlanTerm, planned_answer};
+ghost use Rattle.job_plan.specs.Plans.{AbstractPlan, planned_answer};
 ghost use Rattle.job_table.specs.PlanSegments.{PartStands, end_divides, segment_divides, slices_first, walk_at, walk_size};
 
 use crate::NoMemory;
@@ -71,7 +71,7 @@ pub(crate) fn piece<'a>(
 /// What the next segment goes over, of the part of a whole segment.
 pub(crate) fn next_walk(alloc: Global, part: Part<'_>, env: &Env) -> Result<Chunk, NoMemory>
     requires alone { env.now ≡ [] }
-    ensures { IfOk result (λ chunk. (plan : PlanTerm) (segment : ℕ) → segment < slices_first plan.segments
+    ensures { IfOk result (λ chunk. (plan : AbstractPlan) (segment : ℕ) → segment < slices_first plan.segments
         → PartStands plan segment 0 (walk_size (walk_at plan segment)) part.entry → chunk ≡ walk_at plan (segment + 1)) }
 {
     match part.finish(alloc, env)? {

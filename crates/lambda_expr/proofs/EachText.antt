@@ -13,7 +13,7 @@ use Rattle.lambda_expr.specs.declared.source.Source.{Source}
 use Rattle.lambda_expr.specs.Checks.{depth, fit, literals, names_known}
 use Rattle.lambda_expr.specs.Heads.{ALambda, BodyShape, expression, operands, parameters}
 use Rattle.lambda_expr.specs.Lexemes.{Names, lexemes_of, names_in}
-use Rattle.lambda_expr.specs.Refusals.{LambdaTerm, Judged, IsRefused, column, streamed, verdict, wanted}
+use Rattle.lambda_expr.specs.Refusals.{AbstractLambda, Judged, IsRefused, column, streamed, verdict, wanted}
 use Rattle.lambda_expr.specs.Stops.{StopsAt}
 use Rattle.lambda_expr.specs.StreamChecks.{all_fit, all_known, deepest, numbers}
 use Rattle.lambda_expr.specs.Term.{Long}
@@ -21,7 +21,7 @@ use Rattle.lambda_expr.specs.Typing.{Typed, long, boolean, longs, untyped}
 use Rattle.lambda_expr.proofs.Heads.{each_lambda}
 
 -- what a verdict may be
-abbrev IsVerdict : Result LambdaTerm ReadFault → Type 0
+abbrev IsVerdict : Result AbstractLambda ReadFault → Type 0
 IsVerdict (Ok t) = Unit {0}
 IsVerdict (Err (fault.Syntax n)) = ⊥
 IsVerdict (Err fault.NoMemory) = ⊥
@@ -45,7 +45,7 @@ wanted_verdict want.Pair (boolean a) f = tt
 wanted_verdict want.Pair (longs a b) f = tt
 wanted_verdict want.Pair untyped f = tt
 
-either_verdict : (b : Bool) (r s : Result LambdaTerm ReadFault) → IsVerdict r → IsVerdict s → IsVerdict (if b then r else s)
+either_verdict : (b : Bool) (r s : Result AbstractLambda ReadFault) → IsVerdict r → IsVerdict s → IsVerdict (if b then r else s)
 either_verdict true r s h k = h
 either_verdict false r s h k = k
 
@@ -59,9 +59,9 @@ is_verdict w h (expression e) = either_verdict (not (fit (literals e))) _ _ tt (
 
 -- a lambda or a refusal
 abbrev pub HasAnswer : List ℕ → Want → Type 0
-HasAnswer text w = ((t : LambdaTerm) × Judged text w (Ok t)) ⊎ ((f : ReadFault) × (f ≢ fault.NoMemory) × IsRefused text w f)
+HasAnswer text w = ((t : AbstractLambda) × Judged text w (Ok t)) ⊎ ((f : ReadFault) × (f ≢ fault.NoMemory) × IsRefused text w f)
 
-by_verdict : (text : List ℕ) (w : Want) (r : Result LambdaTerm ReadFault) → IsVerdict r → Judged text w r → HasAnswer text w
+by_verdict : (text : List ℕ) (w : Want) (r : Result AbstractLambda ReadFault) → IsVerdict r → Judged text w r → HasAnswer text w
 by_verdict text w (Ok t) v j = inl (t, j)
 by_verdict text w (Err (fault.Syntax n)) v j = absurd v
 by_verdict text w (Err fault.WrongType) v j = inr (fault.WrongType, (λ e. cc), j)

@@ -5,7 +5,7 @@ use Rattle.lambda_expr.specs.declared.lexeme.Lexeme.{Lexeme}
 use Rattle.lambda_expr.specs.Grammar.{Shape, Expression}
 use Rattle.lambda_expr.specs.Stops.{StopsAt}
 use Rattle.lambda_expr.specs.Reader.{State, wants, has, owns, dots, calls, stuck, reads, result_of}
-use Rattle.lambda_expr.proofs.Standing.{stops_at, stops_end, reads_expression}
+use Rattle.lambda_expr.proofs.ReaderStateLemmas.{stops_at, stops_end, reads_expression}
 
 -- a state is stuck or not
 is_stuck : (s : State) → (s ≡ stuck) ⊎ (s ≢ stuck)

@@ -8,7 +8,7 @@ use Rattle.lambda_expr.specs.declared.lexeme.Lexeme.TheVariants as word
 use Rattle.lambda_expr.specs.Grammar.{Shape, name, number, truth, reference, constant, prefix, binary, ternary, enclosed, level, opening, inside, spells, Binds, IsExpression, Expression}
 use Rattle.lambda_expr.specs.Stops.{Begins}
 use Rattle.lambda_expr.specs.Reader.{Frame, opened, signed, left, question, colon, Top, joined, State, wants, has, owns, dots, calls, stuck, when, operates, asks, answers, shuts, follows, read, reads, settled, result_of, result_at, whole}
-use Rattle.lambda_expr.proofs.Joining.{called_next}
+use Rattle.lambda_expr.proofs.JoinLemmas.{called_next}
 use Rattle.lambda_expr.proofs.Frames.{wanted, binds_lower, level_high, stays, stays_at, takes_at, joins_left, joins_colon}
 
 pub reads_append : (s : State) (a b : List Lexeme) → reads s (a ++ b) ≡ reads (reads s a) b

@@ -6,7 +6,7 @@ use Rattle.lambda_expr.specs.declared.fault.ReadFault.TheVariants as fault
 use Rattle.lambda_expr.specs.Words.{Word, words_of}
 use Rattle.lambda_expr.specs.Refusals.{column}
 use Rattle.lambda_expr.specs.Numbers.{Number, plain, negative, IsNumber, ANumber, number_value, SpellsNumber, IsTooLarge, StopsAtColumn, IsNumberRefused}
-use Rattle.lambda_expr.proofs.Only.{one_place}
+use Rattle.lambda_expr.proofs.OneStop.{one_place}
 
 same_written : (ws : List Word) (m n : Number) → IsNumber ws m → IsNumber ws n → m ≡ n
 same_written ws (plain v) (plain w) s t = let e = s.1 ∙ sym t.1 in let f : v ≡ w = cc in ap plain f

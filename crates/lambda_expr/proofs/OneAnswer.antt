@@ -2,7 +2,7 @@
 use Rattle.std.proofs.Common.{◌≡◌, ◌≢◌, ℕ, ◌≤◌, inl, inr, List, length, Result, Ok, Err, refl, sym, ap, subst, ◌∙◌, arith}
 use Rattle.stream_tokens.specs.declared.token.Token.{Token}
 use Rattle.stream_tokens.specs.Tokens.{AreTokensOf}
-use Rattle.stream_tokens.proofs.Cutting.{same_tokens}
+use Rattle.stream_tokens.proofs.CutLemmas.{same_tokens}
 use Rattle.lambda_expr.specs.declared.fault.ReadFault.{ReadFault}
 use Rattle.lambda_expr.specs.declared.fault.ReadFault.TheVariants as fault
 use Rattle.lambda_expr.specs.declared.lambda.Want.{Want}
@@ -10,12 +10,12 @@ use Rattle.lambda_expr.specs.declared.lambda.Lambda.{Lambda}
 use Rattle.lambda_expr.specs.Lexemes.{lexemes_of, names_in}
 use Rattle.lambda_expr.specs.Stops.{StopsAt}
 use Rattle.lambda_expr.specs.Heads.{ALambda, IsLambda}
-use Rattle.lambda_expr.specs.Refusals.{LambdaTerm, verdict, Judged, IsNoLambda, HasTooManyTokens, column, body_of, Spells, IsRefused}
-use Rattle.lambda_expr.proofs.Only.{one_place}
+use Rattle.lambda_expr.specs.Refusals.{AbstractLambda, verdict, Judged, IsNoLambda, HasTooManyTokens, column, body_of, SpellsLambda, IsRefused}
+use Rattle.lambda_expr.proofs.OneStop.{one_place}
 use Rattle.lambda_expr.proofs.Lambdas.{one_lambda}
 
 -- what a text gives, memory aside
-pub data Outcome (text : List ℕ) (want : Want) (r : Result LambdaTerm ReadFault) : Type 0 where
+pub data Outcome (text : List ℕ) (want : Want) (r : Result AbstractLambda ReadFault) : Type 0 where
   many : HasTooManyTokens text → r ≡ Err fault.TooDeep → Outcome text want r
   outside : (at : ℕ) → IsNoLambda text want at → r ≡ Err (fault.Syntax at) → Outcome text want r
   judged : Judged text want r → Outcome text want r
@@ -29,7 +29,7 @@ few_or_many text ts cut few m =
     let many = m.many in
     omega arith
 
-in_or_out : (text : List ℕ) (want : Want) (r : Result LambdaTerm ReadFault) (at : ℕ) → Judged text want r → IsNoLambda text want at → ⊥
+in_or_out : (text : List ℕ) (want : Want) (r : Result AbstractLambda ReadFault) (at : ℕ) → Judged text want r → IsNoLambda text want at → ⊥
 in_or_out text want r at j n =
     let ts = j.spelled.tokens in
     let out = subst (λ us. ALambda want (lexemes_of text us) → ⊥) (one_cut text n.tokens ts n.cut j.spelled.cut) n.stops.outside in
@@ -42,14 +42,14 @@ one_column text want a b m n =
     let place : m.place ≡ n.place = one_place (ALambda want) (lexemes_of text m.tokens) m.place n.place m.stops there in
     m.here ∙ ap (column text m.tokens) place ∙ ap (λ us. column text us n.place) (sym same) ∙ sym n.here
 
-one_judgement : (text : List ℕ) (want : Want) (r s : Result LambdaTerm ReadFault) → Judged text want r → Judged text want s → r ≡ s
+one_judgement : (text : List ℕ) (want : Want) (r s : Result AbstractLambda ReadFault) → Judged text want r → Judged text want s → r ≡ s
 one_judgement text want r s j k =
     let same : k.spelled.tokens ≡ j.spelled.tokens = one_cut text k.spelled.tokens j.spelled.tokens k.spelled.cut j.spelled.cut in
     let there = subst (λ us. IsLambda want (lexemes_of text us) k.body) same k.spelled.lambda in
     let one = one_lambda (lexemes_of text j.spelled.tokens) want j.body k.body j.spelled.lambda there in
     sym j.gives ∙ ap (λ us. verdict want (names_in text us) j.body) (sym same) ∙ ap (verdict want (names_in text k.spelled.tokens)) one ∙ k.gives
 
-pub one_outcome : (text : List ℕ) (want : Want) (r s : Result LambdaTerm ReadFault) → Outcome text want r → Outcome text want s → r ≡ s
+pub one_outcome : (text : List ℕ) (want : Want) (r s : Result AbstractLambda ReadFault) → Outcome text want r → Outcome text want s → r ≡ s
 one_outcome text want r s (many m e) (many n f) = e ∙ sym f
 one_outcome text want r s (many m e) (outside at n f) = absurd (few_or_many text n.tokens n.cut n.few m)
 one_outcome text want r s (many m e) (judged j) = absurd (few_or_many text j.spelled.tokens j.spelled.cut j.spelled.few m)
@@ -71,7 +71,7 @@ outcome_of text want fault.WrongType j n = judged j
 outcome_of text want fault.NoMemory h n = absurd (n refl)
 
 -- a text spells one lambda
-pub same_lambda : (text : List ℕ) (want : Want) (l m : Lambda) → Spells text want l → Spells text want m → body_of l.body ≡ body_of m.body
+pub same_lambda : (text : List ℕ) (want : Want) (l m : Lambda) → SpellsLambda text want l → SpellsLambda text want m → body_of l.body ≡ body_of m.body
 same_lambda text want l m h k = let e = one_judgement text want (Ok (body_of l.body)) (Ok (body_of m.body)) h k in cc
 
 -- a text is refused for one thing
@@ -80,11 +80,11 @@ same_refusal text want f g h k n m =
     let e = one_outcome text want (Err f) (Err g) (outcome_of text want f h n) (outcome_of text want g k m) in
     cc
 
-apart : (text : List ℕ) (want : Want) (l : Lambda) (f : ReadFault) → Spells text want l → Outcome text want (Err f) → ⊥
+apart : (text : List ℕ) (want : Want) (l : Lambda) (f : ReadFault) → SpellsLambda text want l → Outcome text want (Err f) → ⊥
 apart text want l f h o = let e = one_outcome text want (Ok (body_of l.body)) (Err f) (judged h) o in cc
 
 -- what spells a lambda is refused for being out of memory alone
-pub only_memory : (text : List ℕ) (want : Want) (l : Lambda) (f : ReadFault) → Spells text want l → IsRefused text want f → f ≡ fault.NoMemory
+pub only_memory : (text : List ℕ) (want : Want) (l : Lambda) (f : ReadFault) → SpellsLambda text want l → IsRefused text want f → f ≡ fault.NoMemory
 only_memory text want l (fault.Syntax at) h k = absurd (apart text want l (fault.Syntax at) h (outcome_of text want (fault.Syntax at) k (λ e. cc)))
 only_memory text want l fault.TooDeep h k = absurd (apart text want l fault.TooDeep h (outcome_of text want fault.TooDeep k (λ e. cc)))
 only_memory text want l fault.LiteralTooLarge h k = absurd (apart text want l fault.LiteralTooLarge h (outcome_of text want fault.LiteralTooLarge k (λ e. cc)))

@@ -8,10 +8,10 @@ use Rattle.lambda_expr.specs.declared.lambda.Want.{Want}
 use Rattle.lambda_expr.specs.declared.body.BodySteps.{BodySteps}
 use Rattle.lambda_expr.specs.BodyReading.{AreSteps}
 use Rattle.lambda_expr.specs.Heads.{BodyShape, IsLambda}
-use Rattle.lambda_expr.specs.Refusals.{LambdaTerm, body_of}
+use Rattle.lambda_expr.specs.Refusals.{AbstractLambda, body_of}
 
 -- what the judge answers, if this is the verdict
-abbrev pub IsJudged : Result LambdaTerm ReadFault → Result Lambda ReadFault → Type 0
+abbrev pub IsJudged : Result AbstractLambda ReadFault → Result Lambda ReadFault → Type 0
 IsJudged v (Ok l) = v ≡ Ok (body_of l.body)
 IsJudged v (Err fault.NoMemory) = Unit {0}
 IsJudged v (Err (fault.Syntax n)) = ⊥

@@ -1,7 +1,7 @@
 -- Meaning: the references of an expression, in order of writing.
 use Rattle.std.specs.Prelude.{◌≡◌, ℕ, List, [], ◌∷◌, ◌++◌}
 use Rattle.lambda_expr.specs.Earlier.{Numbers, number_under}
-use Rattle.lambda_expr.specs.Refusals.{LambdaTerm, long, boolean, stream, pair}
+use Rattle.lambda_expr.specs.Refusals.{AbstractLambda, long, boolean, stream, pair}
 use Rattle.lambda_expr.specs.Streams.{Inner, range, range_closed, values}
 use Rattle.lambda_expr.specs.Term.{Long, number, parameter, reference, unary, binary, choose, Truth, literal, compare, opposite, connect, choose_truth}
 
@@ -34,7 +34,7 @@ inner_names (range_closed a b) = long_names a ++ long_names b
 inner_names (values es) = each_names es
 
 -- those of a lambda; of one with two parameters only its form is kept
-abbrev pub names_of : LambdaTerm → List (List ℕ)
+abbrev pub names_of : AbstractLambda → List (List ℕ)
 names_of (long e) = long_names e
 names_of (boolean e) = truth_names e
 names_of (stream g) = inner_names g

@@ -25,21 +25,21 @@ use Rattle.lambda_expr.specs.Typing as typing
 use Rattle.lambda_expr.specs.Typing.{Typed, typed}
 
 -- a lambda: an expression whose value is a number, a boolean or a stream, or the form of one with two parameters
-pub data LambdaTerm : Type 0 where
-  long : Long → LambdaTerm
-  boolean : Truth → LambdaTerm
-  stream : Inner → LambdaTerm
-  pair : PairForm → LambdaTerm
+pub data AbstractLambda : Type 0 where
+  long : Long → AbstractLambda
+  boolean : Truth → AbstractLambda
+  stream : Inner → AbstractLambda
+  pair : PairForm → AbstractLambda
 
 -- the lambda of an expression of this type and form, if it is of the type that is wanted
-abbrev pub wanted : Want → Typed → PairForm → Result LambdaTerm ReadFault
+abbrev pub wanted : Want → Typed → PairForm → Result AbstractLambda ReadFault
 wanted want.Long (typing.long a) f = Ok (long a)
 wanted want.Bool (typing.boolean a) f = Ok (boolean a)
 wanted want.Pair (typing.long a) f = Ok (pair f)
 wanted w t f = Err fault.WrongType
 
 -- what a lambda whose body is this expression gives, if its references stand for these names: the first that applies
-abbrev pub expression_verdict : Want → Names → Shape → Result LambdaTerm ReadFault
+abbrev pub expression_verdict : Want → Names → Shape → Result AbstractLambda ReadFault
 expression_verdict w h e =
     if not (fit (literals e)) then Err fault.LiteralTooLarge
     else (if nat_lt 64 (depth e) then Err fault.TooDeep
@@ -47,13 +47,13 @@ expression_verdict w h e =
     else wanted w (typed h e) (whole_form (form e))))
 
 -- helper: the lambda of a source and the numbers that its operands are
-abbrev pub streamed : Source → Option (List Long) → Result LambdaTerm ReadFault
+abbrev pub streamed : Source → Option (List Long) → Result AbstractLambda ReadFault
 streamed s None = Err fault.WrongType
 streamed s (Some es) = Ok (stream (stream_of s es))
 
 -- what a lambda whose body is a source with these operands gives: the first that applies. The body is a call, so it is
 -- one deeper than its deepest operand, and it has at most 64 operands
-abbrev pub stream_verdict : Names → Source → List Shape → Result LambdaTerm ReadFault
+abbrev pub stream_verdict : Names → Source → List Shape → Result AbstractLambda ReadFault
 stream_verdict h s es =
     if not (all_fit es) then Err fault.LiteralTooLarge
     else (if nat_lt 64 (max (suc (deepest es)) (length es)) then Err fault.TooDeep
@@ -61,7 +61,7 @@ stream_verdict h s es =
     else streamed s (numbers h es)))
 
 -- what a lambda with this body gives
-abbrev pub verdict : Want → Names → BodyShape → Result LambdaTerm ReadFault
+abbrev pub verdict : Want → Names → BodyShape → Result AbstractLambda ReadFault
 verdict w h (expression e) = expression_verdict w h e
 verdict w h (operands s es) = stream_verdict h s es
 
@@ -73,7 +73,7 @@ pub record IsSpelled (text : List ℕ) (w : Want) (body : BodyShape) : Type 0 wh
   pub lambda : IsLambda w (lexemes_of text tokens) body
 
 -- the text is a lambda, and that is what it gives
-pub record Judged (text : List ℕ) (w : Want) (r : Result LambdaTerm ReadFault) : Type 0 where
+pub record Judged (text : List ℕ) (w : Want) (r : Result AbstractLambda ReadFault) : Type 0 where
   pub body : BodyShape
   pub spelled : IsSpelled text w body
   pub gives : verdict w (names_in text spelled.tokens) body ≡ r
@@ -94,15 +94,15 @@ pub record HasTooManyTokens (text : List ℕ) : Type 0 where
   pub many : 4096 < length tokens
 
 -- what the body of a lambda of the program stands for
-abbrev pub body_of : Body → LambdaTerm
+abbrev pub body_of : Body → AbstractLambda
 body_of (body.Long e) = long (long_of e)
 body_of (body.Bool e) = boolean (truth_of e)
 body_of (body.Stream e) = stream (inner_of e)
 body_of (body.Pair f) = pair f
 
 -- the text spells this lambda of that want
-abbrev pub Spells : List ℕ → Want → Lambda → Type 0
-Spells text w l = Judged text w (Ok (body_of l.body))
+abbrev pub SpellsLambda : List ℕ → Want → Lambda → Type 0
+SpellsLambda text w l = Judged text w (Ok (body_of l.body))
 
 -- the text is refused for this; out of memory may stand in place of any answer
 abbrev pub IsRefused : List ℕ → Want → ReadFault → Type 0

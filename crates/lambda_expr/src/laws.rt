@@ -8,7 +8,7 @@ ghost use Rattle.lambda_expr.specs.declared.lexeme.Lexeme.{Lexeme as word};
 ghost use Rattle.lambda_expr.specs.Heads.{ALambda, BodyShape, IsLambda};
 ghost use Rattle.lambda_expr.specs.Stops.{StopsAt};
 ghost use Rattle.lambda_expr.specs.Numbers.{IsNumberRefused, SpellsNumber};
-ghost use Rattle.lambda_expr.specs.Refusals.{IsRefused, Judged, LambdaTerm, Spells, body_of};
+ghost use Rattle.lambda_expr.specs.Refusals.{IsRefused, Judged, AbstractLambda, SpellsLambda, body_of};
 ghost use Rattle.stream_tokens.specs.Tokens.{AreTokensOf};
 ghost use Rattle.std.specs.Prelude.{◌≡◌, ◌≢◌, ◌⊎◌, ℕ, ℤ, List, Ok};
 ghost use Rattle.stream_tokens.specs.declared.token.Token.{Token};
@@ -30,19 +30,19 @@ pub fn one_stop()
 /// failed.
 pub fn one_answer()
     ensures lambda { (text : List ℕ) (want : Want) (l m : Lambda) →
-        Spells text want l → Spells text want m → body_of l.body ≡ body_of m.body }
+        SpellsLambda text want l → SpellsLambda text want m → body_of l.body ≡ body_of m.body }
     ensures refusal { (text : List ℕ) (want : Want) (f g : ReadFault) →
         IsRefused text want f → IsRefused text want g →
         f ≢ ReadFault.NoMemory → g ≢ ReadFault.NoMemory → f ≡ g }
     ensures apart { (text : List ℕ) (want : Want) (l : Lambda) (f : ReadFault) →
-        Spells text want l → IsRefused text want f → f ≡ ReadFault.NoMemory }
+        SpellsLambda text want l → IsRefused text want f → f ≡ ReadFault.NoMemory }
 {}
 
 /// A text that is cut into tokens spells a lambda or is refused, out of memory apart; by `one_answer` not
 /// both.
 pub fn each_text_has_an_answer()
     ensures { (text : List ℕ) (tokens : List Token) (want : Want) → AreTokensOf tokens text →
-        ((t : LambdaTerm) × Judged text want (Ok t))
+        ((t : AbstractLambda) × Judged text want (Ok t))
         ⊎ ((f : ReadFault) × (f ≢ ReadFault.NoMemory) × IsRefused text want f) }
 {}
 

@@ -7,7 +7,7 @@ ghost use Rattle.lambda_expr.specs.Judging.{IsJudged, IsWritten};
 ghost use Rattle.lambda_expr.specs.Codes.{IsStop};
 ghost use Rattle.lambda_expr.specs.Elaborating.{typed_of};
 ghost use Rattle.lambda_expr.specs.Lexemes.{names_in};
-ghost use Rattle.lambda_expr.specs.Refusals.{IsRefused, Spells, body_of, expression_verdict, verdict};
+ghost use Rattle.lambda_expr.specs.Refusals.{IsRefused, SpellsLambda, body_of, expression_verdict, verdict};
 ghost use Rattle.lambda_expr.specs.Refusals.{wanted as specs_wanted};
 ghost use Rattle.std.specs.Prelude.{◌≡◌, ◌≢◌, [], Err, IfErr, IfOk, Ok};
 
@@ -94,7 +94,7 @@ fn judge(alloc: Global, text: &CutText, body: &BodySteps, want: Want) -> Result<
 /// Reads a lambda of the wanted kind (JLS 17, 15.27) from a text that was cut already, as a part of a
 /// job's text is. It refuses as `read_lambda` does, and columns count from the text's first byte.
 pub fn read_lambda_of(alloc: Global, text: &CutText, want: Want) -> Result<Lambda, ReadFault>
-    ensures ok { IfOk result (λ lambda. Spells text.now.bytes want lambda) }
+    ensures ok { IfOk result (λ lambda. SpellsLambda text.now.bytes want lambda) }
     ensures refused { IfErr result (λ fault. IsRefused text.now.bytes want fault) }
     ensures memory { IfErr result (λ fault. fault ≡ ReadFault.NoMemory → text.now.bytes ≢ []) }
 {
@@ -121,7 +121,7 @@ pub fn read_lambda_of(alloc: Global, text: &CutText, want: Want) -> Result<Lambd
 /// `UnknownName`, `WrongType`. `NoMemory` may stand in place of any answer if an allocation failed; the
 /// empty text takes no memory.
 pub fn read_lambda(alloc: Global, text: &[u8], want: Want) -> Result<Lambda, ReadFault>
-    ensures ok { IfOk result (λ lambda. Spells text.now want lambda) }
+    ensures ok { IfOk result (λ lambda. SpellsLambda text.now want lambda) }
     ensures refused { IfErr result (λ fault. IsRefused text.now want fault) }
     ensures memory { IfErr result (λ fault. fault ≡ ReadFault.NoMemory → text.now ≢ []) }
 {

@@ -1,6 +1,6 @@
 mod Bits
 mod Products
 mod Affine
-mod Associative
+mod Associativity
 mod Identities
-pub mod Folding
+pub mod FoldLemmas

@@ -8,7 +8,7 @@ ghost use Rattle.reduce_ops.specs.Operators.{value_of, identity_of, affine, map_
 ghost use Rattle.reduce_ops.specs.Folds.{fold_from, total, ones};
 
 /// Each operator is associative, on all integers.
-#[tactic(auto, using(crate::proofs::Associative::all_associative))]
+#[tactic(auto, using(crate::proofs::Associativity::all_associative))]
 pub fn operators_are_associative()
     ensures { (op : Op) → IsAssociative (value_of op) }
 {}
@@ -26,13 +26,13 @@ pub fn affine_composes_maps()
 {}
 
 /// A sum may be wrapped at each value or once at the end.
-#[tactic(auto, using(crate::proofs::Folding::wrapped_sum))]
+#[tactic(auto, using(crate::proofs::FoldLemmas::wrapped_sum))]
 pub fn sums_are_wrapped_totals()
     ensures { (xs : List Item) → fold_from (value_of Op.Sum) (pos 0) xs ≡ wrap (total xs) }
 {}
 
 /// A count is the sum of a 1 for each item, and counts of pieces join.
-#[tactic(auto, using(crate::proofs::Folding::counted, crate::proofs::Folding::ones_join))]
+#[tactic(auto, using(crate::proofs::FoldLemmas::counted, crate::proofs::FoldLemmas::ones_join))]
 pub fn counts_are_sums_of_ones()
     ensures count { (xs : List Item) → fold_from (value_of Op.Sum) (pos 0) (ones xs) ≡ wrap (pos (length xs)) }
     ensures joined { (xs ys : List Item) → ones (xs ++ ys) ≡ ones xs ++ ones ys }

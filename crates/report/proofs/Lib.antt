@@ -1,3 +1,3 @@
 pub mod EachNamed
 mod NoFloats
-mod Written
+mod WrittenTextLemmas

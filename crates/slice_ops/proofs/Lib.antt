@@ -1,2 +1,2 @@
-pub mod Joining
-pub mod Adding
+pub mod GrownPartLemmas
+pub mod JoinLemmas

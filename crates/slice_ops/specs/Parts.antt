@@ -7,31 +7,31 @@ use Rattle.trace.specs.declared.item.End.TheVariants as end
 use Rattle.trace.specs.Stops.{stop_at}
 use Rattle.trace.specs.Trace.{Trace, trace, append}
 use Rattle.slice_ops.specs.declared.slice_part.SlicePart.{SlicePart}
-use Rattle.slice_ops.specs.Slices.{SliceTerm, limit, skip, take_while, drop_while, slice_of, limited, taken, front_ends}
+use Rattle.slice_ops.specs.Slices.{AbstractSlice, limit, skip, take_while, drop_while, slice_of, limited, taken, front_ends}
 
 -- what is kept of a piece: what stands left of it doesn't matter to `limit` and `takeWhile`
-abbrev pub kept_of : SliceTerm → ℕ → Numbers → Trace → Trace
+abbrev pub kept_of : AbstractSlice → ℕ → Numbers → Trace → Trace
 kept_of (limit k) n env t = limited k t
 kept_of (skip k) n env t = t
 kept_of (take_while p) n env t = taken p n env t
 kept_of (drop_while p) n env t = t
 
 -- whether nothing after the piece matters
-abbrev pub stops : SliceTerm → ℕ → Numbers → Trace → Bool
+abbrev pub stops : AbstractSlice → ℕ → Numbers → Trace → Bool
 stops (limit k) n env t = not (nat_lt (length t.items) k)
 stops (skip k) n env t = false
 stops (take_while p) n env t = is_some (stop_at (front_ends p n env) t.items)
 stops (drop_while p) n env t = false
 
 -- the part of a piece with this walk
-pub record StandsFor (d : SliceTerm) (n : ℕ) (env : Numbers) (p : SlicePart) (t : Trace) : Type 0 where
+pub record StandsFor (d : AbstractSlice) (n : ℕ) (env : Numbers) (p : SlicePart) (t : Trace) : Type 0 where
   pub slice : slice_of p.slice.now ≡ d
   pub stage : p.stage ≡ n
   pub chunk : p.chunk ≡ kept_of d n env t
   pub stopped : p.stopped ≡ stops d n env t
 
 -- what a chunk becomes to which the right piece was appended, and whether the joined piece stops
-abbrev pub IsJoined : SliceTerm → Trace → Bool → Trace → Bool → Type 0
+abbrev pub IsJoined : AbstractSlice → Trace → Bool → Trace → Bool → Type 0
 IsJoined (limit k) t right_stops kept joined_stops = (kept ≡ limited k t) × (joined_stops ≡ not (nat_lt (length t.items) k))
 IsJoined (skip k) t right_stops kept joined_stops = (kept ≡ t) × (joined_stops ≡ right_stops)
 IsJoined (take_while p) t right_stops kept joined_stops = (kept ≡ t) × (joined_stops ≡ right_stops)
@@ -52,7 +52,7 @@ IsTaken None x t kept stopped = (kept ≡ trace (t.items ++ x ∷ []) end.Done) 
 IsTaken (Some e) x t kept stopped = (kept ≡ append t (trace [] e)) × (stopped ≡ true)
 
 -- what a chunk that goes on becomes to which an item is added, and whether the piece stops
-abbrev pub IsAdded : SliceTerm → ℕ → Numbers → Item → Trace → Trace → Bool → Type 0
+abbrev pub IsAdded : AbstractSlice → ℕ → Numbers → Item → Trace → Trace → Bool → Type 0
 IsAdded (limit k) n env x t kept stopped = (kept ≡ limited k (trace (t.items ++ x ∷ []) end.Done)) × (stopped ≡ not (nat_lt (length (t.items ++ x ∷ [])) k))
 IsAdded (skip k) n env x t kept stopped = (kept ≡ trace (t.items ++ x ∷ []) end.Done) × (stopped ≡ false)
 IsAdded (take_while p) n env x t kept stopped = IsTaken (front_ends p n env x) x t kept stopped

@@ -13,14 +13,14 @@ use Rattle.slice_ops.specs.declared.slice_part.Slice.{Slice}
 use Rattle.slice_ops.specs.declared.slice_part.Slice.TheVariants as slice
 
 -- a stage, by its number or its test
-pub data SliceTerm : Type 0 where
-  limit : ℕ → SliceTerm
-  skip : ℕ → SliceTerm
-  take_while : Truth → SliceTerm
-  drop_while : Truth → SliceTerm
+pub data AbstractSlice : Type 0 where
+  limit : ℕ → AbstractSlice
+  skip : ℕ → AbstractSlice
+  take_while : Truth → AbstractSlice
+  drop_while : Truth → AbstractSlice
 
 -- what a stage of the program stands for
-abbrev pub slice_of : Slice → SliceTerm
+abbrev pub slice_of : Slice → AbstractSlice
 slice_of (slice.Limit k) = limit k
 slice_of (slice.Skip k) = skip k
 slice_of (slice.TakeWhile p) = take_while (truth_of p)
@@ -53,7 +53,7 @@ abbrev pub dropped : Truth → ℕ → Numbers → Trace → Trace
 dropped p n env t = kept_from (stop_at (front_ends p n env) t.items) t
 
 -- what the stage with this number makes of a walk
-abbrev pub sliced : SliceTerm → ℕ → Numbers → Trace → Trace
+abbrev pub sliced : AbstractSlice → ℕ → Numbers → Trace → Trace
 sliced (limit k) n env t = limited k t
 sliced (skip k) n env t = skipped k t
 sliced (take_while p) n env t = taken p n env t

@@ -5,7 +5,7 @@ ghost use Rattle.lambda_expr.specs.Earlier.{Numbers};
 ghost use Rattle.trace.specs.Trace.{Trace, trace, append};
 ghost use Rattle.trace.specs.declared.item.End.TheVariants as end;
 ghost use Rattle.slice_ops.specs.Parts.{IsAdded, IsJoined, StandsFor, is_settled};
-ghost use Rattle.slice_ops.specs.Slices.{SliceTerm, slice_of, sliced};
+ghost use Rattle.slice_ops.specs.Slices.{AbstractSlice, slice_of, sliced};
 
 use super::shorten::{Front, drop_while, limit, skip, take_while};
 use lambda_expr::{BoolExpr, Env};
@@ -57,7 +57,7 @@ impl<'a> SlicePart<'a> {
     /// If the allocation fails, the part stays as it was.
     pub fn push(&mut self, env: &Env, item: Item) -> Result<(), NoMemory>
         requires { is_settled self.old ≡ false }
-        ensures ok { OnOk result ((d : SliceTerm) (stage : ℕ) (t : Trace) → StandsFor d stage env.now self.old t
+        ensures ok { OnOk result ((d : AbstractSlice) (stage : ℕ) (t : Trace) → StandsFor d stage env.now self.old t
             → StandsFor d stage env.now self.new (append t (trace (item ∷ []) end.Done))) }
         ensures err { OnErr result (self.new ≡ self.old) }
     {
@@ -67,7 +67,7 @@ impl<'a> SlicePart<'a> {
 
     /// The part of the piece if it ends so. It takes no memory.
     pub fn end_with(&mut self, end: End)
-        ensures { (d : SliceTerm) (stage : ℕ) (env : Numbers) (t : Trace) → StandsFor d stage env self.old t
+        ensures { (d : AbstractSlice) (stage : ℕ) (env : Numbers) (t : Trace) → StandsFor d stage env self.old t
             → StandsFor d stage env self.new (append t (trace [] end)) }
     {
         if !self.stopped {
@@ -92,7 +92,7 @@ impl<'a> SlicePart<'a> {
         mut self,
         right: SlicePart<'a>,
     ) -> Result<SlicePart<'a>, (SlicePart<'a>, SlicePart<'a>)>
-        ensures ok { IfOk result (λ part. (d : SliceTerm) (stage : ℕ) (env : Numbers) (a b : Trace)
+        ensures ok { IfOk result (λ part. (d : AbstractSlice) (stage : ℕ) (env : Numbers) (a b : Trace)
             → StandsFor d stage env self.entry a → StandsFor d stage env right.entry b → StandsFor d stage env part (append a b)) }
         ensures err { IfErr result (λ parts. (parts.0 ≡ self.entry) × (parts.1 ≡ right.entry)) }
     {

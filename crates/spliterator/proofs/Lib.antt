@@ -1,2 +1,2 @@
-mod Parted
-mod Splitting
+mod PartLemmas
+mod SplitLemmas

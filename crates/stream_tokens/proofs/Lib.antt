@@ -1,9 +1,9 @@
-pub mod Runs
-pub mod Fronts
-pub mod SymbolFronts
-pub mod Longest
-pub mod FrontReads
-pub mod Cutting
+pub mod CutLemmas
 pub mod CutTextLemmas
+pub mod FrontReads
+pub mod Fronts
 pub mod LineLemmas
+pub mod Longest
+pub mod Runs
+pub mod SymbolFronts
 pub mod TextLemmas

@@ -1,3 +1,3 @@
 -- Lemmas of the jobs of these tests.
-pub mod Slices
 pub mod Copies
+pub mod Slices

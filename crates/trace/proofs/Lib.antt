@@ -1,9 +1,9 @@
 -- The lemmas of this crate; the first line of each file says what they are about.
-pub mod Covering
-pub mod Cutting
-pub mod InPieces
-pub mod Joining
+pub mod CoverLemmas
+pub mod CutLemmas
+pub mod JoinLemmas
+pub mod PieceLemmas
 pub mod Ranges
 pub mod Sources
-pub mod Stopping
-pub mod Walking
+pub mod StopLemmas
+pub mod WalkLemmas

@@ -7,13 +7,13 @@ use Rattle.trace.specs.declared.item.End.TheVariants as end
 use Rattle.trace.specs.Trace.{Trace, trace}
 
 -- an abstract source
-pub data SourceTerm : Type 0 where
-  range : ℤ → ℤ → SourceTerm
-  values : List ℤ → SourceTerm
-  concat : SourceTerm → SourceTerm → SourceTerm
+pub data AbstractSource : Type 0 where
+  range : ℤ → ℤ → AbstractSource
+  values : List ℤ → AbstractSource
+  concat : AbstractSource → AbstractSource → AbstractSource
 
 -- the values of a source (`LongStream.range`, `of`, `concat`)
-abbrev pub values_of : SourceTerm → List ℤ
+abbrev pub values_of : AbstractSource → List ℤ
 values_of (range a b) = counted a (distance a b)
 values_of (values vs) = vs
 values_of (concat s t) = values_of s ++ values_of t
@@ -28,5 +28,5 @@ abbrev pub too_long : Trace
 too_long = trace [] (end.Fault (record { kind = SourceTooLong; stage = 0; origin = None }))
 
 -- the trace of a source: its values at the places 0, 1, 2 and so on
-abbrev pub cover : SourceTerm → Trace
+abbrev pub cover : AbstractSource → Trace
 cover s = if nat_lt (2 ^ 62) (length (values_of s)) then too_long else trace (placed 0 (values_of s)) end.Done

@@ -12,10 +12,10 @@ use Rattle.trace.specs.declared.stage.Stage.TheVariants as stage
 use Rattle.trace.specs.Trace.{Trace, trace, each}
 
 -- an abstract stage that looks at one item at a time
-pub data StageTerm : Type 0 where
-  map : Long → StageTerm
-  filter : Truth → StageTerm
-  flat_map : Inner → StageTerm
+pub data AbstractStage : Type 0 where
+  map : Long → AbstractStage
+  filter : Truth → AbstractStage
+  flat_map : Inner → AbstractStage
 
 -- the walk ends at this item, with a fault of this kind in this stage
 abbrev pub faulted : FaultKind → ℕ → Item → Trace
@@ -43,27 +43,27 @@ flattened n x (Ok vs) = trace (at_place x.origin vs) end.Done
 flattened n x (Err k) = faulted k n x
 
 -- what stage number n makes of one item
-abbrev pub of_item : ℕ → StageTerm → Numbers → Item → Trace
+abbrev pub of_item : ℕ → AbstractStage → Numbers → Item → Trace
 of_item n (map e) env x = image n x (long_value e x.value env)
 of_item n (filter p) env x = passed n x (truth_value p x.value env)
 of_item n (flat_map g) env x = flattened n x (inner_value g x.value env)
 
 -- what stage number n makes of a trace: what it makes of each item, one after the other
-abbrev pub through : ℕ → StageTerm → Numbers → Trace → Trace
+abbrev pub through : ℕ → AbstractStage → Numbers → Trace → Trace
 through n g env t = each (of_item n g env) t.items t.ending
 
 -- the stages in order of writing, the first one with this number; each takes what the one before it gives
-abbrev pub pipe : ℕ → List StageTerm → Numbers → Trace → Trace
+abbrev pub pipe : ℕ → List AbstractStage → Numbers → Trace → Trace
 pipe n [] env t = t
 pipe n (g ∷ gs) env t = pipe (suc n) gs env (through n g env t)
 
 -- helper: the abstract stage of a stage of the program
-abbrev pub stage_of : Stage → StageTerm
+abbrev pub stage_of : Stage → AbstractStage
 stage_of (stage.Map e) = map (long_of e)
 stage_of (stage.Filter p) = filter (truth_of p)
 stage_of (stage.FlatMap g) = flat_map (inner_of g)
 
 -- helper: those of several stages
-abbrev pub stages_of : List Stage → List StageTerm
+abbrev pub stages_of : List Stage → List AbstractStage
 stages_of [] = []
 stages_of (g ∷ gs) = stage_of g ∷ stages_of gs

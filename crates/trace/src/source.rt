@@ -99,11 +99,11 @@ impl SourceItems for ValueItems<'_> {
     }
 }
 
-/// The values of an inner stream, all at the place of the outer item.
+/// The items of an inner stream, all at the place of the outer item: what `flatMap` makes of that item.
 #[derive(Drop)]
-pub(crate) struct InnerItems {
-    pub(crate) origin: u64,
-    pub(crate) values: Inner,
+pub struct InnerItems {
+    pub origin: u64,
+    pub values: Inner,
 }
 
 impl SourceItems for InnerItems {

@@ -1,5 +1,5 @@
 use Rattle.std.proofs.Common.{◌≡◌, ◌<◌, length, sym, arith, rules, w64, to_z, of_z}
-use Rattle.batch_eval.proofs.Placing.{one_value_more}
+use Rattle.batch_eval.proofs.PlaceLemmas.{one_value_more}
 use Rattle.batch_eval.proofs.batch.list_values.Goals as goal
 
 pub loop-lane-preserved : goal.loop-lane-preserved

@@ -1,7 +1,7 @@
 use Rattle.std.proofs.Common.{Bool, ◌≡◌, ℕ, ◌+◌, ◌<◌, ◌≤◌, pos, length, get_or, ◌∙◌, arith, rules, w64, to_z, of_z, subst}
 use Rattle.batch_eval.specs.Lanes.{at}
 use Rattle.batch_eval.specs.Batches.{wants, picked}
-use Rattle.batch_eval.proofs.Keeping.{kept_set, kept_unset, front_more}
+use Rattle.batch_eval.proofs.KeptLaneLemmas.{kept_set, kept_unset, front_more}
 use Rattle.batch_eval.proofs.choose.gather.Goals.{then-is_wanted, else-is_wanted}
 use Rattle.batch_eval.proofs.choose.gather.Goals as goal
 

@@ -1,8 +1,8 @@
 use Rattle.std.proofs.Common.{Bool, true, false, not, ◌≡◌, ℕ, ◌+◌, ◌<◌, ◌≤◌, ℤ, pos, List, Ok, length, get_or, refl, sym, ap, subst, ◌∙◌, arith, rules, w64, to_z, of_z}
 use Rattle.batch_eval.specs.Lanes.{at, is_set}
 use Rattle.batch_eval.specs.Batches.{picked, wants}
-use Rattle.batch_eval.proofs.Keeping.{kept_set, kept_unset}
-use Rattle.batch_eval.proofs.Choosing.{one_value, one_stop, one_more}
+use Rattle.batch_eval.proofs.KeptLaneLemmas.{kept_set, kept_unset}
+use Rattle.batch_eval.proofs.ChoiceLemmas.{one_value, one_stop, one_more}
 use Rattle.batch_eval.proofs.choose.merge.Goals.{then-is_set+else-y-first, else-is_set+else-n-second}
 use Rattle.batch_eval.proofs.choose.merge.Goals as goal
 

@@ -4,7 +4,7 @@ use Rattle.trace.specs.declared.item.End.{End}
 use Rattle.trace.specs.Trace.{trace}
 use Rattle.trace.specs.Sinks.{IsFed}
 use Rattle.trace.specs.Stages.{pipe, stages_of}
-use Rattle.batch_eval.proofs.Onward.{IsFed_more}
+use Rattle.batch_eval.proofs.BatchWalkLemmas.{IsFed_more}
 use Rattle.batch_eval.proofs.feeding.feed_piece.Goals as goal
 
 pub returns-clause-fed : goal.returns-clause-fed

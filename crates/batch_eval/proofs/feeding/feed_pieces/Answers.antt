@@ -2,7 +2,7 @@ use Rattle.std.proofs.Common.{◌+◌, Ok, Err, arith}
 use Rattle.std.proofs.lemmas.Result.{err_from_is_err_and}
 use Rattle.trace.specs.declared.item.End.TheVariants as end
 use Rattle.trace.specs.Stages.{stages_of}
-use Rattle.trace.proofs.Walking.{IsFed_none, IsFed_whole}
+use Rattle.trace.proofs.WalkLemmas.{IsFed_none, IsFed_whole}
 use Rattle.batch_eval.proofs.feeding.feed_pieces.Goals as goal
 
 pub loop-position-init : goal.loop-position-init

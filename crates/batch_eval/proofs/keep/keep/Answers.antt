@@ -1,7 +1,7 @@
 use Rattle.std.proofs.Common.{Bool, ◌≡◌, ℕ, ◌+◌, ◌<◌, ◌≤◌, pos, length, slice_index, get_or, ◌∙◌, arith, rules, w64, to_z, of_z, subst}
 use Rattle.batch_eval.specs.Lanes.{at, is_set}
 use Rattle.batch_eval.specs.Batches.{passing}
-use Rattle.batch_eval.proofs.Keeping.{kept_set, kept_unset, front_more, rest_more}
+use Rattle.batch_eval.proofs.KeptLaneLemmas.{kept_set, kept_unset, front_more, rest_more}
 use Rattle.batch_eval.proofs.keep.keep.Goals.{then-is_set, else-is_set}
 use Rattle.batch_eval.proofs.keep.keep.Goals as goal
 

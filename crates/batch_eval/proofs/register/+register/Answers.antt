@@ -6,7 +6,7 @@ use Rattle.batch_eval.specs.declared.register.Operand.{Operand}
 use Rattle.batch_eval.specs.Choices.{operand_value}
 use Rattle.batch_eval.specs.Lanes.{at}
 use Rattle.batch_eval.specs.Rooms.{FitsOperand}
-use Rattle.batch_eval.proofs.Choosing.{chosen_reaches}
+use Rattle.batch_eval.proofs.ChoiceLemmas.{chosen_reaches}
 use Rattle.batch_eval.proofs.register.+register.Goals as goal
 
 pub eval_chosen-returns : goal.eval_chosen-returns

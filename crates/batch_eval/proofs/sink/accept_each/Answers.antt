@@ -3,7 +3,7 @@ use Rattle.std.proofs.lemmas.List.{append-nil, take_all}
 use Rattle.std.proofs.lemmas.Result.{err_from_is_err_and}
 use Rattle.trace.specs.declared.item.End.TheVariants as end
 use Rattle.trace.specs.Trace.{trace}
-use Rattle.batch_eval.proofs.Onward.{IsFed_given, one_taken, IsFed_enough, IsFed_refused}
+use Rattle.batch_eval.proofs.BatchWalkLemmas.{IsFed_given, one_taken, IsFed_enough, IsFed_refused}
 use Rattle.batch_eval.proofs.sink.accept_each.Goals as goal
 
 pub loop-position-init : goal.loop-position-init

@@ -10,7 +10,7 @@ use Rattle.trace.specs.Sinks.{IsFed}
 use Rattle.trace.specs.Stages.{at_place, flat_map, flattened, of_item, pipe, stages_of}
 use Rattle.lambda_expr.specs.Streams.{inner_of, inner_value, inner_values}
 use Rattle.batch_eval.specs.Pours.{Holds}
-use Rattle.batch_eval.proofs.Pouring.{holds_none, holds_ended, holds_added, flushed, poured_rest, inner_stopped, each_next, each_fault, each_whole}
+use Rattle.batch_eval.proofs.WaitingItemLemmas.{holds_none, holds_ended, holds_added, flushed, poured_rest, inner_stopped, each_next, each_fault, each_whole}
 use Rattle.batch_eval.proofs.staging.+batches.Goals as goal
 
 pub feed_batch-returns-in-Map-clause-fed : goal.feed_batch-returns-in-Map-clause-fed

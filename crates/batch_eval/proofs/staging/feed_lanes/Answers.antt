@@ -1,7 +1,7 @@
 use Rattle.std.proofs.Common.{Ok, Err}
 use Rattle.std.proofs.lemmas.Result.{err_from_is_err_and}
 use Rattle.trace.specs.Stages.{stages_of}
-use Rattle.batch_eval.proofs.Onward.{IsFed_end, IsFed_cut}
+use Rattle.batch_eval.proofs.BatchWalkLemmas.{IsFed_end, IsFed_cut}
 use Rattle.batch_eval.proofs.staging.feed_lanes.Goals as goal
 
 pub returns-in-More-clause-fed : goal.returns-in-More-clause-fed

@@ -1,22 +1,22 @@
 use Rattle.std.proofs.Common.{List, [], Ok, Err}
 use Rattle.std.proofs.lemmas.Result.{err_from_is_err_and}
 use Rattle.lambda_expr.specs.Earlier.{Numbers}
-use Rattle.trace.specs.Stages.{StageTerm}
-use Rattle.batch_eval.proofs.Onward.{IsFed_end, IsFed_cut}
+use Rattle.trace.specs.Stages.{AbstractStage}
+use Rattle.batch_eval.proofs.BatchWalkLemmas.{IsFed_end, IsFed_cut}
 use Rattle.batch_eval.proofs.staging.give.Goals as goal
 
 pub returns-in-More-clause-fed : goal.returns-in-More-clause-fed
 returns-in-More-clause-fed g c = λ xs took.
     let more = rw c.in-More.is at c.in_ok-stopped.ensures.fed in
     let batch = c.args.batch.now in
-    let none : List StageTerm = [] in
+    let none : List AbstractStage = [] in
     let env : Numbers = [] in
     rw (c.fed_by.ensures, c.end.ensures) (IsFed_end g.S.LongSink.has_taken 0 none env xs batch.items batch.ending c.accept_batch.new.self (more xs took))
 
 pub returns-in_default-clause-fed : goal.returns-in_default-clause-fed
 returns-in_default-clause-fed g c = λ xs took.
     let batch = c.args.batch.now in
-    let none : List StageTerm = [] in
+    let none : List AbstractStage = [] in
     let env : Numbers = [] in
     IsFed_cut g.S.LongSink.has_taken 0 none env xs batch.items batch.ending (Ok c.in_ok-stopped.stopped) c.accept_batch.new.self (λ e. c.in_default.not-More cc) (c.in_ok-stopped.ensures.fed xs took)
 
@@ -24,6 +24,6 @@ pub returns-in_err-stopped-clause-fed : goal.returns-in_err-stopped-clause-fed
 returns-in_err-stopped-clause-fed g c = λ xs took.
     let p = err_from_is_err_and c.from_residual.result c.from_residual.ensures.1 in
     let batch = c.args.batch.now in
-    let none : List StageTerm = [] in
+    let none : List AbstractStage = [] in
     let env : Numbers = [] in
     rw p.1 (IsFed_cut g.S.LongSink.has_taken 0 none env xs batch.items batch.ending (Err c.in_err-stopped.field-0.0) c.accept_batch.new.self (λ e. cc) (c.in_err-stopped.ensures.fed xs took))

@@ -5,7 +5,7 @@ use Rattle.std.proofs.lemmas.Iterator.Search.{position_from_yields_List}
 use Rattle.job_language.specs.declared.job.Job.{Job}
 use Rattle.job_language.specs.Jobs.{job_of}
 use Rattle.job_plan.specs.Supported.{is_supported}
-use Rattle.engine.proofs.Planning.{first_of}
+use Rattle.engine.proofs.PlannedJobLemmas.{first_of}
 use Rattle.engine.proofs.running.first_unsupported.Goals as goal
 
 pub returns : goal.returns

@@ -1,6 +1,6 @@
 use Rattle.std.proofs.Common.{ap, ◌∙◌, is_ok}
 use Rattle.std.proofs.ResultArms.{chosen}
-use Rattle.engine.proofs.Planning.{names_more}
+use Rattle.engine.proofs.PlannedJobLemmas.{names_more}
 use Rattle.engine.proofs.running.names_in.Goals as goal
 
 pub loop-job-preserved : goal.loop-job-preserved

@@ -5,18 +5,18 @@ use Rattle.job_language.specs.Jobs.{jobs_of, names_of}
 use Rattle.job_plan.specs.declared.answer.Answer.{Answer}
 use Rattle.job_plan.specs.declared.settings.Form.{Form}
 use Rattle.job_plan.specs.FileAnswers.{meaning_of}
-use Rattle.job_plan.specs.Plans.{PlanTerm, planned_answer}
+use Rattle.job_plan.specs.Plans.{AbstractPlan, planned_answer}
 use Rattle.report.specs.Named.{IsNamed, IsText}
 use Rattle.report.proofs.EachNamed.{paired, named}
 use Rattle.engine.proofs.NamedTexts.{names_text}
-use Rattle.engine.proofs.Planning.{planned_answers, planned_names}
+use Rattle.engine.proofs.PlannedJobLemmas.{planned_answers, planned_names}
 use Rattle.engine.proofs.running.written.Goals as goal
 use Rattle.engine.proofs.running.written.Given.{Over}
 use Rattle.engine.proofs.running.written.Goals.{After-deref-2}
 
 names : (g : Over) (c : After-deref-2 g) → names_of (jobs_of c.args.jobs.items) ≡ c.deref.result.now
 names g c =
-    sym (c.deref.ensures.value ∙ c.in_ok-names.ensures ∙ ap (map (λ (p : PlanTerm). p.name)) c.in_ok-plan.ensures.ok ∙ planned_names (jobs_of c.args.jobs.items))
+    sym (c.deref.ensures.value ∙ c.in_ok-names.ensures ∙ ap (map (λ (p : AbstractPlan). p.name)) c.in_ok-plan.ensures.ok ∙ planned_names (jobs_of c.args.jobs.items))
 
 answers : (g : Over) (c : After-deref-2 g) → meaning_of (jobs_of c.args.jobs.items) ≡ c.deref-2.result.now
 answers g c =

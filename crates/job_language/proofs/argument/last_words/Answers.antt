@@ -1,7 +1,7 @@
 use Rattle.std.proofs.Common.{◌≡◌, ◌+◌, ◌-◌, ◌<◌, [], length, drop, get_or, sym, ap, subst, ◌∙◌, rules}
 use Rattle.job_language.specs.Splitting.{words_in}
 use Rattle.job_language.specs.Shapes.{call_in}
-use Rattle.job_language.proofs.Causing.{length_parts}
+use Rattle.job_language.proofs.CauseLemmas.{length_parts}
 use Rattle.job_language.proofs.LastParts.{last_at}
 use Rattle.job_language.proofs.argument.last_words.Goals as goal
 

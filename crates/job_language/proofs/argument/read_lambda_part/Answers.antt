@@ -1,8 +1,8 @@
 use Rattle.std.proofs.lemmas.Result.{err_from_is_err_and}
 use Rattle.lambda_expr.specs.Refusals.{body_of}
 use Rattle.job_language.specs.Scopes.{scope_of}
-use Rattle.job_language.proofs.Collecting.{lambda_refused}
-use Rattle.job_language.proofs.Referring.{lambda_read}
+use Rattle.job_language.proofs.CollectedPartLemmas.{lambda_refused}
+use Rattle.job_language.proofs.ReferenceLemmas.{lambda_read}
 use Rattle.job_language.proofs.argument.read_lambda_part.Goals as goal
 
 pub returns-in_err-lambda : goal.returns-in_err-lambda

@@ -2,7 +2,7 @@ use Rattle.std.proofs.Common.{sym, ap, ◌∙◌}
 use Rattle.job_language.specs.Scopes.{scope_of, jobs_of}
 use Rattle.job_language.specs.Causes.{given}
 use Rattle.job_language.specs.Arguments.{reference_cause}
-use Rattle.job_language.proofs.Referring.{reference_here, reference_more, no_references}
+use Rattle.job_language.proofs.ReferenceLemmas.{reference_here, reference_more, no_references}
 use Rattle.job_language.proofs.argument.references_cause.Goals as goal
 
 pub returns-in-Some : goal.returns-in-Some

@@ -3,7 +3,7 @@ use Rattle.std.specs.Prelude.{slice_range}
 use Rattle.job_language.specs.Splitting.{words_in, AreEnds}
 use Rattle.job_language.specs.Shapes.{start_before}
 use Rattle.job_language.proofs.WordLists.{length_words}
-use Rattle.job_language.proofs.Causing.{ends_at, piece_at}
+use Rattle.job_language.proofs.CauseLemmas.{ends_at, piece_at}
 use Rattle.job_language.proofs.causes.part_of.Goals as goal
 
 pub overflow_add-call : goal.overflow_add-call

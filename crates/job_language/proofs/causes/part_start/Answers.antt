@@ -1,5 +1,5 @@
 use Rattle.std.proofs.Common.{◌-◌, arith, rules, Fits, w64}
-use Rattle.job_language.proofs.Causing.{ends_at}
+use Rattle.job_language.proofs.CauseLemmas.{ends_at}
 use Rattle.job_language.proofs.causes.part_start.Goals as goal
 
 pub overflow_add-result : goal.overflow_add-result

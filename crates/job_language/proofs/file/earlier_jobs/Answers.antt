@@ -4,7 +4,7 @@ use Rattle.job_language.specs.Jobs.{terminal_of}
 use Rattle.job_language.specs.Scopes as scopes
 use Rattle.job_language.specs.Verdicts.{given_by}
 use Rattle.job_language.specs.declared.job.Job.{Job}
-use Rattle.job_language.proofs.Filing.{earlier_more}
+use Rattle.job_language.proofs.FileLemmas.{earlier_more}
 use Rattle.job_language.proofs.file.earlier_jobs.Goals as goal
 
 pub loop-job-preserved : goal.loop-job-preserved

@@ -1,7 +1,7 @@
 use Rattle.std.proofs.Common.{Ok, Err, ap, ◌∙◌}
 use Rattle.job_language.specs.Jobs.{job_of}
 use Rattle.job_language.specs.Scopes as scopes
-use Rattle.job_language.proofs.Filing.{ok_as, err_as, one_too_many, read_there}
+use Rattle.job_language.proofs.FileLemmas.{ok_as, err_as, one_too_many, read_there}
 use Rattle.job_language.proofs.OneVerdict.{name_is_name}
 use Rattle.job_language.proofs.file.read_below.Goals as goal
 

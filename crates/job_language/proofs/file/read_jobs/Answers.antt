@@ -1,7 +1,7 @@
 use Rattle.std.proofs.lemmas.Result.{err_from_is_err_and}
 use Rattle.stream_tokens.specs.JobTexts.{job_texts_of}
 use Rattle.job_language.specs.Jobs.{jobs_of}
-use Rattle.job_language.proofs.Filing.{file_more, file_refused}
+use Rattle.job_language.proofs.FileLemmas.{file_more, file_refused}
 use Rattle.job_language.proofs.file.read_jobs.Goals as goal
 
 pub returns-in_err-read_next-clause-refused : goal.returns-in_err-read_next-clause-refused

@@ -3,7 +3,7 @@ use Rattle.stream_tokens.specs.Forms.{IsName}
 use Rattle.stream_tokens.specs.JobTexts.{job_texts_of}
 use Rattle.stream_tokens.proofs.TextLemmas.{count_left}
 use Rattle.job_language.specs.Jobs.{jobs_of, names_of}
-use Rattle.job_language.proofs.Filing.{FileSoFar}
+use Rattle.job_language.proofs.FileLemmas.{FileSoFar}
 use Rattle.job_language.proofs.file.read_jobs.Given as goal
 
 abbrev pub invariant-loop-jobs : goal.invariant-loop-jobs

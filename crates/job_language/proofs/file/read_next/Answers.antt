@@ -4,7 +4,7 @@ use Rattle.job_language.specs.declared.fault.Cause.{Cause}
 use Rattle.job_language.specs.declared.fault.Cause.TheVariants.{NoMemory}
 use Rattle.job_language.specs.Files.{IsNext}
 use Rattle.job_language.specs.Jobs.{job_of, jobs_of}
-use Rattle.job_language.proofs.Filing.{jobs_push, text_same, names_after}
+use Rattle.job_language.proofs.FileLemmas.{jobs_push, text_same, names_after}
 use Rattle.job_language.proofs.file.read_next.Goals as goal
 
 pub returns-in_ok-push-in-Ok-clause-ok : goal.returns-in_ok-push-in-Ok-clause-ok

@@ -5,8 +5,8 @@ use Rattle.job_language.specs.Table.{param_of}
 use Rattle.job_language.specs.Splitting.{words_in}
 use Rattle.job_language.specs.Shapes.{call_in}
 use Rattle.job_language.specs.Causes.{first_cause, number_cause, number_causes, number_in, numbers_of}
-use Rattle.job_language.proofs.Causing.{length_parts, numbers_here, numbers_more}
-use Rattle.job_language.proofs.Collecting.{values_more}
+use Rattle.job_language.proofs.CauseLemmas.{length_parts, numbers_here, numbers_more}
+use Rattle.job_language.proofs.CollectedPartLemmas.{values_more}
 use Rattle.job_language.proofs.numbers.read_numbers.Goals as goal
 
 pub returns-in_err-add_number-clause-refused : goal.returns-in_err-add_number-clause-refused

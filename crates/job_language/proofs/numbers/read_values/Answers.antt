@@ -3,7 +3,7 @@ use Rattle.std.proofs.lemmas.Result.{err_from_is_err_and}
 use Rattle.job_language.specs.Splitting.{words_in}
 use Rattle.job_language.specs.Shapes.{call_in}
 use Rattle.job_language.specs.Causes.{count_of, number_causes, numbers_of, values_cause}
-use Rattle.job_language.proofs.Causing.{length_parts, by_count, by_numbers, by_row}
+use Rattle.job_language.proofs.CauseLemmas.{length_parts, by_count, by_numbers, by_row}
 use Rattle.job_language.proofs.numbers.read_values.Goals as goal
 
 pub returns-in-Some-clause-refused : goal.returns-in-Some-clause-refused

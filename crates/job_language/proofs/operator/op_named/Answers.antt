@@ -3,7 +3,7 @@ use Rattle.std.specs.Prelude.{nat_eq}
 use Rattle.std.specs.Cmp.Lexicographic.{pointwise}
 use Rattle.reduce_ops.specs.declared.op.Op.TheVariants.{Sum}
 use Rattle.job_language.specs.Operators.{ops}
-use Rattle.job_language.proofs.Collecting.{op_more}
+use Rattle.job_language.proofs.CollectedPartLemmas.{op_more}
 use Rattle.job_language.proofs.operator.op_named.Goals as goal
 
 pub loop-op-preserved : goal.loop-op-preserved

@@ -1,5 +1,5 @@
 use Rattle.std.proofs.Common.{arith}
-use Rattle.job_language.proofs.Collecting.{no_spelled, no_spelled_two}
+use Rattle.job_language.proofs.CollectedPartLemmas.{no_spelled, no_spelled_two}
 use Rattle.job_language.proofs.operator.spelled_op.Goals as goal
 
 pub returns-in_default-2 : goal.returns-in_default-2

@@ -3,7 +3,7 @@ use Rattle.job_language.specs.Splitting.{words_in}
 use Rattle.job_language.specs.Scopes.{scope_of}
 use Rattle.job_language.specs.Shapes.{placed_in}
 use Rattle.job_language.specs.Parts.{argument_in}
-use Rattle.job_language.proofs.Turns.{early, late, whole}
+use Rattle.job_language.proofs.CallTurnLemmas.{early, late, whole}
 use Rattle.job_language.proofs.parts.read_call.Goals as goal
 
 pub returns-in_err-numbers : goal.returns-in_err-numbers

@@ -7,8 +7,8 @@ use Rattle.job_language.specs.Shapes.{placed_in}
 use Rattle.job_language.specs.Causes.{stage_cause}
 use Rattle.job_language.specs.Verdicts.{IsReadInTurn}
 use Rattle.job_language.specs.Parts.{part_in, job_so_far}
-use Rattle.job_language.proofs.JobCausing.{item_stands}
-use Rattle.job_language.proofs.Turns.{length_stages, few_after, turn_here, turn_more, none_left}
+use Rattle.job_language.proofs.JobCauseLemmas.{item_stands}
+use Rattle.job_language.proofs.CallTurnLemmas.{length_stages, few_after, turn_here, turn_more, none_left}
 use Rattle.job_language.proofs.parts.read_parts.Goals as goal
 
 pub read_in_turn-requires-clause-stands : goal.read_in_turn-requires-clause-stands

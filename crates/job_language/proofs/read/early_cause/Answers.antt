@@ -3,7 +3,7 @@ use Rattle.job_language.specs.Splitting.{words_in}
 use Rattle.job_language.specs.Shapes.{calls_in, sources_in, first_name}
 use Rattle.job_language.specs.Causes.{first_cause, name_causes}
 use Rattle.job_language.specs.Scopes.{scope_of}
-use Rattle.job_language.proofs.JobCausing.{by_name, by_sources, by_none}
+use Rattle.job_language.proofs.JobCauseLemmas.{by_name, by_sources, by_none}
 use Rattle.job_language.proofs.read.early_cause.Goals as goal
 
 pub returns-in-Some : goal.returns-in-Some

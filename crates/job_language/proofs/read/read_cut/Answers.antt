@@ -9,7 +9,7 @@ use Rattle.job_language.specs.Shapes.{all_placed, AreCallsIn, StandIn}
 use Rattle.job_language.specs.Grammar.{IsNoJob, IsJob}
 use Rattle.job_language.specs.Verdicts.{IsRead, IsJobRead}
 use Rattle.job_language.specs.Parts.{causes_before}
-use Rattle.job_language.proofs.Wholes.{inside_of, outside_of, answers_more}
+use Rattle.job_language.proofs.WholeTextLemmas.{inside_of, outside_of, answers_more}
 use Rattle.job_language.proofs.read.read_cut.Goals as goal
 
 pub returns-in_default : goal.returns-in_default

@@ -6,8 +6,8 @@ use Rattle.job_language.specs.Shapes.{all_placed}
 use Rattle.job_language.specs.Jobs.{job_of}
 use Rattle.job_language.specs.Parts.{job_so_far}
 use Rattle.job_language.specs.Verdicts.{job_named, AreRead, IsJobRead}
-use Rattle.job_language.proofs.Wholes.{in_calls}
-use Rattle.job_language.proofs.JobCausing.{name_of_job}
+use Rattle.job_language.proofs.WholeTextLemmas.{in_calls}
+use Rattle.job_language.proofs.JobCauseLemmas.{name_of_job}
 use Rattle.job_language.proofs.read.read_parsed.Goals as goal
 
 pub returns-in-Some : goal.returns-in-Some

@@ -1,7 +1,7 @@
 use Rattle.std.proofs.Common.{subst, ◌∷◌, ◌++◌, [], ap, sym, ◌∙◌}
 use Rattle.job_language.specs.Verdicts.{placed}
 use Rattle.job_language.specs.Shapes.{all_placed, piece_from, OpensAfter, StandIn, MayStandIn}
-use Rattle.job_language.proofs.Shaping.{stand_more, calls_more, one_placed}
+use Rattle.job_language.proofs.ShapeLemmas.{stand_more, calls_more, one_placed}
 use Rattle.job_language.proofs.shape.add_call.Goals as goal
 
 pub returns-in_ok-push-clause-calls : goal.returns-in_ok-push-clause-calls

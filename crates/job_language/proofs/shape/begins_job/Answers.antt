@@ -1,5 +1,5 @@
 use Rattle.std.proofs.Common.{arith}
-use Rattle.job_language.proofs.Shaping.{no_job_in}
+use Rattle.job_language.proofs.ShapeLemmas.{no_job_in}
 use Rattle.job_language.proofs.shape.begins_job.Goals as goal
 
 pub returns-in_default : goal.returns-in_default

@@ -2,7 +2,7 @@ use Rattle.std.proofs.Common.{◌≡◌, ◌≤◌, true, length, sym, subst, �
 use Rattle.job_language.specs.Splitting.{words_in}
 use Rattle.job_language.specs.Shapes.{begins_job}
 use Rattle.job_language.proofs.WordLists.{length_words}
-use Rattle.job_language.proofs.Shaping.{reads_all, no_end}
+use Rattle.job_language.proofs.ShapeLemmas.{reads_all, no_end}
 use Rattle.job_language.proofs.shape.read_calls.Goals as goal
 
 pub returns-then-is_last : goal.returns-then-is_last

@@ -2,7 +2,7 @@ use Rattle.std.proofs.Common.{◌≡◌, ◌<◌, ◌≤◌, true, false, sym, s
 use Rattle.lambda_expr.specs.Words.{words_of}
 use Rattle.job_language.specs.Splitting.{word_of}
 use Rattle.job_language.specs.Grammar.{is_sound}
-use Rattle.job_language.proofs.Sounding.{length_texts, read_on, unsound, all_read}
+use Rattle.job_language.proofs.SoundWordLemmas.{length_texts, read_on, unsound, all_read}
 use Rattle.job_language.proofs.sound.sound_words.Goals as goal
 
 pub returns-then-not-is_sound : goal.returns-then-not-is_sound

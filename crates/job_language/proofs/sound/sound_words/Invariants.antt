@@ -1,5 +1,5 @@
 use Rattle.lambda_expr.specs.Words.{words_of}
-use Rattle.job_language.proofs.Sounding.{AreRead}
+use Rattle.job_language.proofs.SoundWordLemmas.{AreRead}
 use Rattle.job_language.proofs.sound.sound_words.Given as goal
 
 abbrev pub invariant-loop-place : goal.invariant-loop-place

@@ -2,7 +2,7 @@ use Rattle.std.proofs.Common.{get_or, ap, sym, ◌∙◌}
 use Rattle.stream_tokens.specs.declared.token.Token.{Token}
 use Rattle.stream_tokens.specs.declared.token.TokenKind.TheVariants.{Name}
 use Rattle.lambda_expr.specs.Words.{word_for}
-use Rattle.job_language.proofs.Sounding.{word_there}
+use Rattle.job_language.proofs.SoundWordLemmas.{word_there}
 use Rattle.job_language.proofs.sound.word_at.Goals as goal
 
 abbrev any : Token

@@ -1,7 +1,7 @@
 use Rattle.std.proofs.Common.{◌≡◌, ℤ, pos, get_or, w64, to_z, of_z, sym, ap, ◌∙◌, rules}
 use Rattle.reduce_ops.specs.Operators.{value_of}
 use Rattle.job_plan.specs.Batches.{each_one}
-use Rattle.job_plan.proofs.Batching.{one_more_folded}
+use Rattle.job_plan.proofs.BatchLemmas.{one_more_folded}
 use Rattle.job_plan.proofs.folding.fold_from.Goals as goal
 
 pub loop-value-preserved : goal.loop-value-preserved

@@ -1,7 +1,7 @@
 use Rattle.std.proofs.Common.{◌≡◌, Some, sym, ap, ◌∙◌, rules, w64, to_z, of_z}
 use Rattle.reduce_ops.specs.Operators.{value_of}
 use Rattle.job_plan.specs.Batches.{folded_values}
-use Rattle.job_plan.proofs.Batching.{batch_stands}
+use Rattle.job_plan.proofs.BatchLemmas.{batch_stands}
 use Rattle.job_plan.proofs.folding.folded.Goals as goal
 
 pub returns-in-Some-clause-stands : goal.returns-in-Some-clause-stands

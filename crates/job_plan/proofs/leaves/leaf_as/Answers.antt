@@ -7,8 +7,8 @@ use Rattle.job_plan.specs.declared.part.Part.{Part}
 use Rattle.job_plan.specs.Parts.{EndsFor, StandsFor, end_in, is_settled, segment_in, walk_in}
 use Rattle.job_plan.specs.Pieces.{elements, piece_of}
 use Rattle.job_plan.specs.Plans.{last_stage, walk_of}
-use Rattle.job_plan.proofs.Parting.{length-stages_of}
-use Rattle.job_plan.proofs.Walking.{after_enough, after_fault, after_more, enough_is_settled, same_ending, settled_first, unpinned}
+use Rattle.job_plan.proofs.PartLemmas.{length-stages_of}
+use Rattle.job_plan.proofs.WalkLemmas.{after_enough, after_fault, after_more, enough_is_settled, same_ending, settled_first, unpinned}
 use Rattle.job_plan.proofs.leaves.leaf_as.Goals.{in-More, in-Fault, in-Enough}
 use Rattle.job_plan.proofs.leaves.leaf_as.Goals as goal
 

@@ -3,7 +3,7 @@ use Rattle.job_plan.specs.declared.part.Part.{Part}
 use Rattle.job_plan.specs.declared.part.Part.TheVariants as part
 use Rattle.job_plan.specs.Parts.{StandsFor}
 use Rattle.job_plan.specs.Plans.{walk_of, last_stage}
-use Rattle.job_plan.proofs.Parting.{on_walks, slices_merge}
+use Rattle.job_plan.proofs.PartLemmas.{on_walks, slices_merge}
 use Rattle.job_plan.proofs.part.merge_slices.Goals as goal
 
 pub returns-in-Ok-clause-ok : goal.returns-in-Ok-clause-ok

@@ -3,8 +3,8 @@ use Rattle.std.specs.Vec.Iter.{into_iter_items}
 use Rattle.trace.specs.Stages.{stages_of}
 use Rattle.job_language.specs.Jobs.{job_stage_of, job_stages_of, terminal_of}
 use Rattle.job_plan.specs.Parts.{segments_in}
-use Rattle.job_plan.specs.Plans.{EndTerm, segments_from}
-use Rattle.job_plan.proofs.Parting.{length-stages_of, no_items, stages_more, segments_more, segment_on}
+use Rattle.job_plan.specs.Plans.{AbstractEnd, segments_from}
+use Rattle.job_plan.proofs.PartLemmas.{length-stages_of, no_items, stages_more, segments_more, segment_on}
 use Rattle.job_plan.proofs.plan.cut.Goals as goal
 
 pub loop-stage-preserved-in-Continue-1 : goal.loop-stage-preserved-in-Continue-1
@@ -59,6 +59,6 @@ returns c =
     let last = c.loop-stage.invariant.5 in
     record {
       ok = segments_more c.push-2.new.self.items c.loop-stage.segments.items _ c.in_ok-push.ensures.items
-          ∙ ap (λ (e : EndTerm). segments ++ record { first = n; stages = stages_of old; ending = e } ∷ []) last
+          ∙ ap (λ (e : AbstractEnd). segments ++ record { first = n; stages = stages_of old; ending = e } ∷ []) last
           ∙ sym (ap (λ js. segments ++ segments_from n (stages_of old) (job_stages_of js) d) none) ∙ c.loop-stage.invariant.2;
     }

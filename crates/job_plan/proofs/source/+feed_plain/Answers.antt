@@ -7,8 +7,8 @@ use Rattle.job_plan.specs.Pieces.{elements}
 use Rattle.job_plan.specs.Spans.{after}
 use Rattle.job_plan.specs.Walks.{plain_values, values_of}
 use Rattle.job_plan.proofs.Elements.{elements_none, placed_positions}
-use Rattle.job_plan.proofs.Feeding.{fed_none, fed_both, fed_stopped}
-use Rattle.job_plan.proofs.Parting.{no_items}
+use Rattle.job_plan.proofs.FeedLemmas.{fed_none, fed_both, fed_stopped}
+use Rattle.job_plan.proofs.PartLemmas.{no_items}
 use Rattle.job_plan.proofs.source.+feed_plain.Goals as goal
 
 pub returns-in-None-clause-fed : goal.returns-in-None-clause-fed

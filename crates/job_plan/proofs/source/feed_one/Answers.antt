@@ -11,7 +11,7 @@ use Rattle.job_plan.specs.Parts.{segment_in}
 use Rattle.job_plan.specs.Plans.{walk_of}
 use Rattle.job_plan.specs.Walks.{plain_values}
 use Rattle.job_plan.proofs.Elements.{counted_piece, less_one_fits, take_none}
-use Rattle.job_plan.proofs.Feeding.{fed_none}
+use Rattle.job_plan.proofs.FeedLemmas.{fed_none}
 use Rattle.job_plan.proofs.source.feed_one.Goals as goal
 
 pub returns-then-count-eq0-clause-fed : goal.returns-then-count-eq0-clause-fed

@@ -2,7 +2,7 @@ use Rattle.std.proofs.Common.{◌≡◌, ◌∷◌, None, sym, ap, ◌∙◌, ru
 use Rattle.job_plan.specs.Parts.{segment_in, segments_in, walk_in}
 use Rattle.job_plan.specs.Pieces.{piece_of}
 use Rattle.job_plan.specs.Plans.{segments_answer}
-use Rattle.job_plan.proofs.Walking.{answered, same_answer, went_on}
+use Rattle.job_plan.proofs.WalkLemmas.{answered, same_answer, went_on}
 use Rattle.job_plan.proofs.walks.+walk_segments.Goals as goal
 
 pub returns-in-Answer : goal.returns-in-Answer

@@ -3,7 +3,7 @@ use Rattle.trace.specs.Trace.{Trace}
 use Rattle.lambda_expr.specs.Earlier.{Numbers}
 use Rattle.job_plan.specs.declared.segment.Segment.{Segment}
 use Rattle.job_plan.specs.Parts.{StandsFor, plan_in, segments_in}
-use Rattle.job_plan.specs.Plans.{SegmentTerm, outcome_of}
+use Rattle.job_plan.specs.Plans.{AbstractSegment, outcome_of}
 use Rattle.job_table.specs.PlanSegments.{slices_first}
 use Rattle.job_table.proofs.PlanAnswers.{given_answer, no_segment, some_segment}
 use Rattle.job_table.proofs.PlanParts.{last_answer, no_answer}
@@ -33,8 +33,8 @@ returns-in-Answer c =
     let low : slices_first plan.segments < length ss = omega (arith, c.if-last-len.false) in
     let s = some_segment ss (slices_first plan.segments) low in
     let o = c.in_ok-answer.field-0 in
-    let ends : (s : SegmentTerm) (t : Trace) → StandsFor s [] c.args.part t → o ≡ outcome_of s [] t =
-    subst (λ (e : Numbers). (s : SegmentTerm) (t : Trace) → StandsFor s e c.args.part t → o ≡ outcome_of s e t) c.requires.alone c.in_ok-answer.ensures in
+    let ends : (s : AbstractSegment) (t : Trace) → StandsFor s [] c.args.part t → o ≡ outcome_of s [] t =
+    subst (λ (e : Numbers). (s : AbstractSegment) (t : Trace) → StandsFor s e c.args.part t → o ≡ outcome_of s e t) c.requires.alone c.in_ok-answer.ensures in
     sym (ap given_answer c.in-Answer.is) ∙ last_answer plan (slices_first plan.segments) c.args.part o ends refl s.0 s.1 c.requires.part
 
 pub returns : goal.returns
@@ -50,6 +50,6 @@ returns c =
     let low : slices_first plan.segments < length ss = omega (arith, c.if-last-len.false) in
     let s = some_segment ss (slices_first plan.segments) low in
     let o = c.in_ok-answer.field-0 in
-    let ends : (s : SegmentTerm) (t : Trace) → StandsFor s [] c.args.part t → o ≡ outcome_of s [] t =
-    subst (λ (e : Numbers). (s : SegmentTerm) (t : Trace) → StandsFor s e c.args.part t → o ≡ outcome_of s e t) c.requires.alone c.in_ok-answer.ensures in
+    let ends : (s : AbstractSegment) (t : Trace) → StandsFor s [] c.args.part t → o ≡ outcome_of s [] t =
+    subst (λ (e : Numbers). (s : AbstractSegment) (t : Trace) → StandsFor s e c.args.part t → o ≡ outcome_of s e t) c.requires.alone c.in_ok-answer.ensures in
     sym (ap given_answer c.in-Source.is) ∙ last_answer plan (slices_first plan.segments) c.args.part o ends refl s.0 s.1 c.requires.part

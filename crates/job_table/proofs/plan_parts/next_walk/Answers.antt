@@ -2,7 +2,7 @@ use Rattle.std.proofs.Common.{◌∙◌, ◌≡◌, ◌+◌, [], ap, sym, subst,
 use Rattle.trace.specs.Trace.{Trace}
 use Rattle.lambda_expr.specs.Earlier.{Numbers}
 use Rattle.job_plan.specs.Parts.{StandsFor}
-use Rattle.job_plan.specs.Plans.{SegmentTerm, outcome_of}
+use Rattle.job_plan.specs.Plans.{AbstractSegment, outcome_of}
 use Rattle.job_table.specs.PlanSegments.{given_walk, walk_at}
 use Rattle.job_table.proofs.PlanParts.{goes_over}
 use Rattle.job_table.proofs.plan_parts.next_walk.Goals as goal
@@ -10,15 +10,15 @@ use Rattle.job_table.proofs.plan_parts.next_walk.Goals as goal
 pub returns-in-Source : goal.returns-in-Source
 returns-in-Source c = λ plan segment before stands.
     let o = c.in_ok-chunk.field-0 in
-    let ends : (s : SegmentTerm) (t : Trace) → StandsFor s [] c.args.part t → o ≡ outcome_of s [] t =
-    subst (λ (e : Numbers). (s : SegmentTerm) (t : Trace) → StandsFor s e c.args.part t → o ≡ outcome_of s e t) c.requires.alone c.in_ok-chunk.ensures in
+    let ends : (s : AbstractSegment) (t : Trace) → StandsFor s [] c.args.part t → o ≡ outcome_of s [] t =
+    subst (λ (e : Numbers). (s : AbstractSegment) (t : Trace) → StandsFor s e c.args.part t → o ≡ outcome_of s e t) c.requires.alone c.in_ok-chunk.ensures in
     let next : suc segment ≡ segment + 1 = omega arith in
     sym (ap given_walk c.in-Source.is) ∙ goes_over plan segment c.args.part o ends before stands ∙ ap (walk_at plan) next
 
 pub returns : goal.returns
 returns c = λ plan segment before stands.
     let o = c.in_ok-chunk.field-0 in
-    let ends : (s : SegmentTerm) (t : Trace) → StandsFor s [] c.args.part t → o ≡ outcome_of s [] t =
-    subst (λ (e : Numbers). (s : SegmentTerm) (t : Trace) → StandsFor s e c.args.part t → o ≡ outcome_of s e t) c.requires.alone c.in_ok-chunk.ensures in
+    let ends : (s : AbstractSegment) (t : Trace) → StandsFor s [] c.args.part t → o ≡ outcome_of s [] t =
+    subst (λ (e : Numbers). (s : AbstractSegment) (t : Trace) → StandsFor s e c.args.part t → o ≡ outcome_of s e t) c.requires.alone c.in_ok-chunk.ensures in
     let next : suc segment ≡ segment + 1 = omega arith in
     c.ending.ensures ∙ sym (ap given_walk c.in-Answer.is) ∙ goes_over plan segment c.args.part o ends before stands ∙ ap (walk_at plan) next

@@ -6,7 +6,7 @@ use denote.Param.{param}
 use denote.Param.Send.{arg_send, arg_sync, param_send, param_sync}
 use mir.Syntax.{named}
 use Rattle.job_table.specs.contracts.planned.PlanJobs as plan_jobs
-use Rattle.job_table.proofs.Sending.{jobs_send, jobs_sync}
+use Rattle.job_table.proofs.SharedPlanLemmas.{jobs_send, jobs_sync}
 use Rattle.job_table.proofs.planned.run_as.Goals as goal
 
 pub returns : goal.returns

@@ -1,5 +1,5 @@
 use Rattle.std.proofs.Common.{length}
-use Rattle.stream_tokens.proofs.Cutting.{order_in_range}
+use Rattle.stream_tokens.proofs.CutLemmas.{order_in_range}
 use Rattle.lambda_expr.proofs.number.read_number.Goals as goal
 
 pub parse_number-requires : goal.parse_number-requires

@@ -1,5 +1,5 @@
 use Rattle.std.proofs.Common.{◌∙◌}
-use Rattle.lambda_expr.proofs.Exact.{ok_or_exact}
+use Rattle.lambda_expr.proofs.ExactLemmas.{ok_or_exact}
 use Rattle.lambda_expr.proofs.operator.or_overflow.Goals as goal
 
 pub returns : goal.returns

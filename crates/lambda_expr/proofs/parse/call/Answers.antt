@@ -3,7 +3,7 @@ use Rattle.lambda_expr.specs.declared.step.Step.TheVariants as step
 use Rattle.lambda_expr.specs.Grammar.{constant}
 use Rattle.lambda_expr.specs.Reader.{follows, alone}
 use Rattle.lambda_expr.specs.Codes.{Turns, frames_of, run}
-use Rattle.lambda_expr.proofs.Joining.{leaf_at, top_is, called_next}
+use Rattle.lambda_expr.proofs.JoinLemmas.{leaf_at, top_is, called_next}
 use Rattle.lambda_expr.proofs.parse.call.Goals as goal
 
 pub follow-requires : goal.follow-requires

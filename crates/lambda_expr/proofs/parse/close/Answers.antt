@@ -1,6 +1,6 @@
 use Rattle.std.proofs.Common.{◌≡◌, ◌∷◌, rules}
 use Rattle.lambda_expr.specs.declared.parse.Pending.TheVariants as pending
-use Rattle.lambda_expr.proofs.Joining.{closes_at}
+use Rattle.lambda_expr.proofs.JoinLemmas.{closes_at}
 use Rattle.lambda_expr.proofs.parse.close.Goals as goal
 
 pub returns-in_ok-push-in-Some-Opened : goal.returns-in_ok-push-in-Some-Opened

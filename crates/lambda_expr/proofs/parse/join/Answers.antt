@@ -1,5 +1,5 @@
 use Rattle.std.proofs.Common.{◌≡◌, ◌∷◌, sym, ◌∙◌, rules}
-use Rattle.lambda_expr.proofs.Joining.{joining_on}
+use Rattle.lambda_expr.proofs.JoinLemmas.{joining_on}
 use Rattle.lambda_expr.proofs.parse.join.Goals as goal
 
 pub loop-top-preserved : goal.loop-top-preserved

@@ -1,7 +1,7 @@
 use Rattle.std.proofs.Common.{length}
 use Rattle.lambda_expr.specs.Reader.{joins}
 use Rattle.lambda_expr.specs.Codes.{top_of}
-use Rattle.lambda_expr.proofs.Joining.{IsJoining}
+use Rattle.lambda_expr.proofs.JoinLemmas.{IsJoining}
 use Rattle.lambda_expr.proofs.parse.join.Given as goal
 
 abbrev pub invariant-loop-top : goal.invariant-loop-top

@@ -1,7 +1,7 @@
 use Rattle.std.proofs.Common.{◌≡◌, ◌≢◌, [], ◌∷◌, get_or, refl, subst, rules, Ok}
 use Rattle.lambda_expr.specs.declared.lexeme.Lexeme.TheVariants.{Open}
 use Rattle.lambda_expr.specs.Codes.{state_of, IsSettled}
-use Rattle.lambda_expr.proofs.Parsing.{goes_on, stops_here, at_end, ends_early, ends_open, ends_whole}
+use Rattle.lambda_expr.proofs.ParseLemmas.{goes_on, stops_here, at_end, ends_early, ends_open, ends_whole}
 use Rattle.lambda_expr.proofs.parse.parse.Goals as goal
 
 pub returns-in-Err : goal.returns-in-Err

@@ -5,7 +5,7 @@ use Rattle.lambda_expr.specs.declared.step.Step.TheVariants as step
 use Rattle.lambda_expr.specs.Grammar.{constant}
 use Rattle.lambda_expr.specs.Reader.{settled}
 use Rattle.lambda_expr.specs.Codes.{IsAt, IsCoded, state_of}
-use Rattle.lambda_expr.proofs.Joining.{leaf_at}
+use Rattle.lambda_expr.proofs.JoinLemmas.{leaf_at}
 use Rattle.lambda_expr.proofs.parse.settle.Goals as goal
 
 pub returns-in_ok-push-in-Long : goal.returns-in_ok-push-in-Long

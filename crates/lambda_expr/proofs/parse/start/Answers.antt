@@ -4,7 +4,7 @@ use Rattle.lambda_expr.specs.declared.step.Step.TheVariants as step
 use Rattle.lambda_expr.specs.Grammar.{number, reference}
 use Rattle.lambda_expr.specs.Reader.{starts}
 use Rattle.lambda_expr.specs.Codes.{IsAt, frames_of, run}
-use Rattle.lambda_expr.proofs.Joining.{leaf_at}
+use Rattle.lambda_expr.proofs.JoinLemmas.{leaf_at}
 use Rattle.lambda_expr.proofs.parse.start.Goals as goal
 
 pub returns-in_ok-push-in-Number : goal.returns-in_ok-push-in-Number

@@ -5,7 +5,7 @@ use Rattle.lambda_expr.specs.declared.step.Step.TheVariants as step
 use Rattle.lambda_expr.specs.Grammar.{name, truth}
 use Rattle.lambda_expr.specs.Reader.{starts}
 use Rattle.lambda_expr.specs.Codes.{IsAt, frames_of, run}
-use Rattle.lambda_expr.proofs.Joining.{leaf_at}
+use Rattle.lambda_expr.proofs.JoinLemmas.{leaf_at}
 use Rattle.lambda_expr.proofs.parse.start_name.Goals as goal
 
 pub returns-in_ok-push-in-Plain : goal.returns-in_ok-push-in-Plain

@@ -9,7 +9,7 @@ use Rattle.lambda_expr.specs.Elaborating.{typed_of}
 use Rattle.lambda_expr.specs.Heads.{parameters}
 use Rattle.lambda_expr.specs.Judging.{IsJudged}
 use Rattle.lambda_expr.specs.Lexemes.{names_in}
-use Rattle.lambda_expr.specs.Refusals.{LambdaTerm, body_of, wanted}
+use Rattle.lambda_expr.specs.Refusals.{AbstractLambda, body_of, wanted}
 use Rattle.lambda_expr.specs.Summaries.{summary_steps, top_summary}
 use Rattle.lambda_expr.specs.Typing.{Typed}
 use Rattle.std.specs.Prelude.{Err, IfErr, IfOk, Ok, Result}
@@ -54,7 +54,7 @@ returns-then-not-summary c = λ e is.
     let on : fit s.literals ≡ true = sym c.fit.ensures ∙ c.if-not-fit.false in
     unknown w h e s same on (λ more. let low = c.if-summary-gt-MAX_DEPTH.false in omega arith) (not_true s.known c.if-not-summary.true)
 
-answered : (v : Result LambdaTerm ReadFault) (w : Want) (t : Typed) (f : PairForm) (r : Result Lambda ReadFault) → v ≡ wanted w t f → IfOk r (λ l. wanted w t f ≡ Ok (body_of l.body)) → IfErr r (λ k. (k ≡ fault.WrongType) × (wanted w t f ≡ Err fault.WrongType)) → IsJudged v r
+answered : (v : Result AbstractLambda ReadFault) (w : Want) (t : Typed) (f : PairForm) (r : Result Lambda ReadFault) → v ≡ wanted w t f → IfOk r (λ l. wanted w t f ≡ Ok (body_of l.body)) → IfErr r (λ k. (k ≡ fault.WrongType) × (wanted w t f ≡ Err fault.WrongType)) → IsJudged v r
 answered v w t f (Ok l) same ok refused = same ∙ ok
 answered v w t f (Err k) same ok refused = subst (λ k. IsJudged v (Err k)) (sym refused.0) (same ∙ refused.1)
 

@@ -5,7 +5,7 @@ use Rattle.lambda_expr.specs.Codes.{IsStop}
 use Rattle.lambda_expr.specs.Heads.{ALambda}
 use Rattle.lambda_expr.specs.Refusals.{column, IsNoLambda}
 use Rattle.lambda_expr.specs.Stops.{StopsAt}
-use Rattle.lambda_expr.proofs.Answering.{IsRead, judged_ok, judged_refused, stopped}
+use Rattle.lambda_expr.proofs.AnswerLemmas.{IsRead, judged_ok, judged_refused, stopped}
 use Rattle.lambda_expr.proofs.Lambdas.{stops_empty}
 use Rattle.lambda_expr.proofs.read.read_lambda_of.Goals as goal
 

@@ -2,7 +2,7 @@ use Rattle.std.proofs.Common.{◌≡◌, ◌++◌, w64}
 use Rattle.std.proofs.lemmas.Int.{to_z-of_z}
 use Rattle.std.specs.Prelude.{codes}
 use Rattle.std.specs.Fmt.{signed_decimal}
-use Rattle.report.proofs.Written.{appended_three}
+use Rattle.report.proofs.WrittenTextLemmas.{appended_three}
 use Rattle.report.proofs.as_text.write_present.Goals as goal
 
 pub returns : goal.returns

@@ -1,5 +1,5 @@
 use Rattle.std.proofs.Common.{arith}
-use Rattle.spliterator.proofs.Parted.{part_size}
+use Rattle.spliterator.proofs.PartLemmas.{part_size}
 use Rattle.spliterator.proofs.concat_split.total_size.Goals as goal
 
 pub returns-then-size-total-clause-none : goal.returns-then-size-total-clause-none

@@ -4,7 +4,7 @@ use Rattle.std.proofs.lemmas.List.Folds.{list_all_at}
 use Rattle.std.specs.List.{list_all}
 use Rattle.stream_tokens.specs.Bytes.{is_blank}
 use Rattle.stream_tokens.specs.Tokens.{StandInOrder}
-use Rattle.stream_tokens.proofs.Cutting.{OnErr-all, cut_blank, cut_next, next_within, cut_in_order, order_in_range}
+use Rattle.stream_tokens.proofs.CutLemmas.{OnErr-all, cut_blank, cut_next, next_within, cut_in_order, order_in_range}
 use Rattle.stream_tokens.proofs.scanner.cut.Goals as goal
 
 pub loop-at-preserved-then-is_blank : goal.loop-at-preserved-then-is_blank

@@ -1,5 +1,5 @@
 use Rattle.std.proofs.Common.{length}
-use Rattle.stream_tokens.proofs.Cutting.{same_tokens}
+use Rattle.stream_tokens.proofs.CutLemmas.{same_tokens}
 use Rattle.stream_tokens.proofs.scanner.one_cut.Goals as goal
 
 pub returns : goal.returns

@@ -1,5 +1,5 @@
 use Rattle.std.proofs.Common.{length}
-use Rattle.stream_tokens.proofs.Cutting.{cut_in_order}
+use Rattle.stream_tokens.proofs.CutLemmas.{cut_in_order}
 use Rattle.stream_tokens.proofs.scanner.tokens_stand_in_order.Goals as goal
 
 pub returns : goal.returns

@@ -4,8 +4,8 @@ use Rattle.lambda_expr.specs.Streams.{inner_values}
 use Rattle.trace.specs.declared.item.End.TheVariants as end
 use Rattle.trace.specs.declared.feeding.Fed.TheVariants as fed
 use Rattle.trace.specs.Stages.{at_place, stages_of}
-use Rattle.trace.proofs.Joining.{pipe_ended}
-use Rattle.trace.proofs.Walking.{IsFed_none, IsFed_next, IsFed_whole, IsFed_all}
+use Rattle.trace.proofs.JoinLemmas.{pipe_ended}
+use Rattle.trace.proofs.WalkLemmas.{IsFed_none, IsFed_next, IsFed_whole, IsFed_all}
 use Rattle.trace.proofs.feeding.+feed.Goals as goal
 
 pub feed-returns-in-Err-clause-fed : goal.feed-returns-in-Err-clause-fed

@@ -3,7 +3,7 @@ use Rattle.std.proofs.lemmas.Result.{err_from_is_err_and}
 use Rattle.trace.specs.declared.item.End.TheVariants as end
 use Rattle.trace.specs.declared.feeding.Fed.TheVariants as fed
 use Rattle.trace.specs.Stages.{stages_of}
-use Rattle.trace.proofs.Walking.{IsFed_none, IsFed_next, IsFed_whole, IsFed_all}
+use Rattle.trace.proofs.WalkLemmas.{IsFed_none, IsFed_next, IsFed_whole, IsFed_all}
 use Rattle.trace.proofs.feeding.feed_all.Goals as goal
 
 pub loop-position-init : goal.loop-position-init

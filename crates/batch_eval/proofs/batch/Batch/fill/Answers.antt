@@ -7,7 +7,7 @@ use Rattle.batch_eval.specs.Lanes.{at}
 use Rattle.batch_eval.specs.Batches.{item_at}
 use Rattle.batch_eval.specs.Places.{HasValue}
 use Rattle.batch_eval.proofs.Items.{lanes_taken}
-use Rattle.batch_eval.proofs.Placing.{counted_item}
+use Rattle.batch_eval.proofs.PlaceLemmas.{counted_item}
 use Rattle.batch_eval.proofs.batch.Batch.fill.Goals as goal
 
 pub returns-in-Some-clause-items : goal.returns-in-Some-clause-items

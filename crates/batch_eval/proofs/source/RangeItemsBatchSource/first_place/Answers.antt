@@ -1,7 +1,7 @@
 use Rattle.std.proofs.Common.{arith}
 use Rattle.trace.specs.Cover.{counted}
 use Rattle.trace.proofs.Sources.{length-counted}
-use Rattle.batch_eval.proofs.Placing.{placed_counts}
+use Rattle.batch_eval.proofs.PlaceLemmas.{placed_counts}
 use Rattle.batch_eval.proofs.source.RangeItemsBatchSource.first_place.Goals as goal
 
 pub returns : goal.returns

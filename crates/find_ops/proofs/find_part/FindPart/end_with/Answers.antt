@@ -1,6 +1,6 @@
 use Rattle.std.proofs.Common.{refl, ap, ◌∙◌}
 use Rattle.std.specs.Option.{option_or}
-use Rattle.find_ops.proofs.Deciding.{ended}
+use Rattle.find_ops.proofs.DecisionLemmas.{ended}
 use Rattle.find_ops.proofs.find_part.FindPart.end_with.Goals as goal
 
 pub returns : goal.returns

@@ -1,7 +1,7 @@
 use Rattle.std.proofs.Common.{refl, sym, ap, ◌∙◌}
 use Rattle.find_ops.specs.Finds.{find_of, decision}
 use Rattle.std.specs.Option.{option_or}
-use Rattle.find_ops.proofs.Deciding.{looked}
+use Rattle.find_ops.proofs.DecisionLemmas.{looked}
 use Rattle.find_ops.proofs.find_part.FindPart.look_at.Goals as goal
 
 pub returns-in-Some : goal.returns-in-Some

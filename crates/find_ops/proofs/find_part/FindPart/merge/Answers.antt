@@ -1,5 +1,5 @@
 use Rattle.std.proofs.Common.{refl}
-use Rattle.find_ops.proofs.Deciding.{merged}
+use Rattle.find_ops.proofs.DecisionLemmas.{merged}
 use Rattle.find_ops.proofs.find_part.FindPart.merge.Goals as goal
 
 pub returns : goal.returns

@@ -2,7 +2,7 @@ use Rattle.std.proofs.Common.{◌∷◌, [], sym, ap, ◌∙◌}
 use Rattle.job_language.specs.Jobs.{sources_of, job_stages_of, terminal_of}
 use Rattle.job_language.specs.Verdicts.{added}
 use Rattle.job_language.specs.Parts.{job_so_far, part_in}
-use Rattle.job_language.proofs.Turns.{sources_push, stages_push}
+use Rattle.job_language.proofs.CallTurnLemmas.{sources_push, stages_push}
 use Rattle.job_language.proofs.parts.Parts.add.Goals as goal
 
 pub returns-in_ok-push-in-Source : goal.returns-in_ok-push-in-Source

@@ -4,7 +4,7 @@ use Rattle.job_language.specs.Splitting.{words_in}
 use Rattle.job_language.specs.Reading.{moved}
 use Rattle.job_language.specs.Shapes.{IsNoPiece, IsPieceRead, piece_of}
 use Rattle.job_language.proofs.WordLists.{length_words}
-use Rattle.job_language.proofs.Shaping.{no_piece_there, no_move, reading_on}
+use Rattle.job_language.proofs.ShapeLemmas.{no_piece_there, no_move, reading_on}
 use Rattle.job_language.proofs.shape.Reader.advance.Goals as goal
 
 pub returns-in_default : goal.returns-in_default

@@ -2,7 +2,7 @@ use Rattle.std.proofs.Common.{[], refl, subst}
 use Rattle.trace.specs.Trace.{Trace, trace, append}
 use Rattle.reduce_ops.specs.Parts.{StandsFor}
 use Rattle.job_plan.specs.declared.part.FoldPart.{FoldPart}
-use Rattle.job_plan.proofs.Parting.{as_counted, end_counted, fold_on}
+use Rattle.job_plan.proofs.PartLemmas.{as_counted, end_counted, fold_on}
 use Rattle.std.proofs.Common.{sym}
 use Rattle.job_plan.proofs.part.FoldPart.end_with.Goals as goal
 

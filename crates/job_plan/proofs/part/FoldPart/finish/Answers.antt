@@ -5,7 +5,7 @@ use Rattle.reduce_ops.specs.Operators.{value_of}
 use Rattle.job_plan.specs.Plans.{counted_as, folded}
 use Rattle.job_plan.specs.Walks.{unless_fault}
 use Rattle.job_plan.specs.declared.answer.Answer.TheVariants as answer
-use Rattle.job_plan.proofs.Parting.{as_counted, number_of, number_fault, optional_of, optional_fault}
+use Rattle.job_plan.proofs.PartLemmas.{as_counted, number_of, number_fault, optional_of, optional_fault}
 use Rattle.job_plan.proofs.part.FoldPart.finish.Goals as goal
 
 pub returns-in-Ok : goal.returns-in-Ok

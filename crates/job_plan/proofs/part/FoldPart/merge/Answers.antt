@@ -1,6 +1,6 @@
 use Rattle.std.proofs.Common.{refl, sym, ◌∙◌}
 use Rattle.job_plan.specs.declared.part.FoldPart.{FoldPart}
-use Rattle.job_plan.proofs.Parting.{as_counted, fold_on}
+use Rattle.job_plan.proofs.PartLemmas.{as_counted, fold_on}
 use Rattle.job_plan.proofs.part.FoldPart.merge.Goals as goal
 
 pub returns : goal.returns

@@ -4,7 +4,7 @@ use Rattle.trace.specs.Trace.{Trace, trace, append}
 use Rattle.reduce_ops.specs.Parts.{StandsFor}
 use Rattle.job_plan.specs.declared.part.FoldPart.{FoldPart}
 use Rattle.job_plan.specs.Plans.{counted_as}
-use Rattle.job_plan.proofs.Parting.{as_counted, one_counted, fold_on}
+use Rattle.job_plan.proofs.PartLemmas.{as_counted, one_counted, fold_on}
 use Rattle.job_plan.proofs.part.FoldPart.push.Goals as goal
 
 pub returns : goal.returns

@@ -4,8 +4,8 @@ use Rattle.trace.specs.Trace.{trace}
 use Rattle.reduce_ops.specs.Parts.{StandsFor}
 use Rattle.job_plan.specs.declared.part.FoldPart.{FoldPart}
 use Rattle.job_plan.specs.Plans.{counted_as}
-use Rattle.job_plan.proofs.Batching.{merged_end}
-use Rattle.job_plan.proofs.Parting.{as_counted, fold_on}
+use Rattle.job_plan.proofs.BatchLemmas.{merged_end}
+use Rattle.job_plan.proofs.PartLemmas.{as_counted, fold_on}
 use Rattle.job_plan.proofs.part.FoldPart.push_all.Goals as goal
 
 pub returns-clause-fold : goal.returns-clause-fold

@@ -2,7 +2,7 @@ use Rattle.std.proofs.Common.{subst}
 use Rattle.job_plan.specs.declared.part.Part.{Part}
 use Rattle.job_plan.specs.Parts.{StandsFor}
 use Rattle.job_plan.specs.Plans.{walk_of, last_stage}
-use Rattle.job_plan.proofs.Parting.{array_ends}
+use Rattle.job_plan.proofs.PartLemmas.{array_ends}
 use Rattle.job_plan.proofs.part.Part.finish.Goals as goal
 
 pub returns-in_ok-values_of-in-Array : goal.returns-in_ok-values_of-in-Array

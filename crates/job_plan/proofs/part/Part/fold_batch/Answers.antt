@@ -3,7 +3,7 @@ use Rattle.trace.specs.declared.item.End.TheVariants as end
 use Rattle.trace.specs.Trace.{trace}
 use Rattle.job_plan.specs.declared.part.Part.{Part}
 use Rattle.job_plan.specs.Parts.{EndsFor, is_fault, is_settled}
-use Rattle.job_plan.proofs.Parting.{fold_goes_on}
+use Rattle.job_plan.proofs.PartLemmas.{fold_goes_on}
 use Rattle.job_plan.proofs.part.Part.fold_batch.Goals as goal
 
 pub returns-in-Fold-clause-folded : goal.returns-in-Fold-clause-folded

@@ -1,4 +1,4 @@
-use Rattle.batch_eval.proofs.Placing.{placed_counts}
+use Rattle.batch_eval.proofs.PlaceLemmas.{placed_counts}
 use Rattle.job_plan.proofs.pieces.ValuePieceBatchSource.first_place.Goals as goal
 
 pub returns : goal.returns

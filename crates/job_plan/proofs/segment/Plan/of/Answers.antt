@@ -3,7 +3,7 @@ use Rattle.std.specs.Vec.Iter.{into_iter_items}
 use Rattle.job_language.specs.Jobs.{jobs_of}
 use Rattle.job_plan.specs.Parts.{plans_in}
 use Rattle.job_plan.specs.Plans.{plans_of}
-use Rattle.job_plan.proofs.Parting.{plans_more}
+use Rattle.job_plan.proofs.PartLemmas.{plans_more}
 use Rattle.job_plan.proofs.segment.Plan.of.Goals as goal
 
 pub loop-job-preserved : goal.loop-job-preserved

@@ -7,7 +7,7 @@ use Rattle.job_plan.specs.Parts.{segment_in, walk_in}
 use Rattle.job_plan.specs.Pieces.{elements}
 use Rattle.job_plan.specs.Walks.{values_of}
 use Rattle.job_plan.proofs.Elements.{elements_none}
-use Rattle.job_plan.proofs.Feeding.{fed_none}
+use Rattle.job_plan.proofs.FeedLemmas.{fed_none}
 use Rattle.job_plan.proofs.source.Source.feed.Goals as goal
 
 pub returns-then-plain-clause-fed : goal.returns-then-plain-clause-fed

@@ -1,7 +1,7 @@
 use Rattle.std.proofs.Common.{sym, ap, ◌∙◌, Ok, rules, FitsSigned, w64}
 use Rattle.std.proofs.lemmas.Int.{to_z-of_z}
 use Rattle.reduce_ops.specs.Operators.{value_of}
-use Rattle.reduce_ops.proofs.Folding.{finished, started}
+use Rattle.reduce_ops.proofs.FoldLemmas.{finished, started}
 use Rattle.reduce_ops.proofs.partial.Partial.finish_from.Goals as goal
 
 pub returns-in-Some : goal.returns-in-Some

@@ -2,7 +2,7 @@ use Rattle.std.proofs.Common.{refl, sym, ap, ◌∙◌, rules, FitsSigned, w64}
 use Rattle.std.proofs.lemmas.Int.{to_z-of_z}
 use Rattle.reduce_ops.specs.Operators.{value_of}
 use Rattle.reduce_ops.specs.Folds.{onto}
-use Rattle.reduce_ops.proofs.Folding.{beside, merged}
+use Rattle.reduce_ops.proofs.FoldLemmas.{beside, merged}
 use Rattle.reduce_ops.proofs.partial.Partial.merge.Goals as goal
 
 pub returns-in-Some-clause-stands : goal.returns-in-Some-clause-stands

@@ -4,7 +4,7 @@ use Rattle.trace.specs.Trace.{trace}
 use Rattle.trace.specs.declared.item.End.TheVariants as end
 use Rattle.reduce_ops.specs.Operators.{value_of}
 use Rattle.reduce_ops.specs.Folds.{onto}
-use Rattle.reduce_ops.proofs.Folding.{merged}
+use Rattle.reduce_ops.proofs.FoldLemmas.{merged}
 use Rattle.reduce_ops.proofs.partial.Partial.push.Goals as goal
 
 pub returns-clause-stands : goal.returns-clause-stands

@@ -3,7 +3,7 @@ use Rattle.trace.specs.Trace.{Trace}
 use Rattle.slice_ops.specs.declared.slice_part.SlicePart.{SlicePart}
 use Rattle.slice_ops.specs.Slices.{slice_of}
 use Rattle.slice_ops.specs.Parts.{IsJoined}
-use Rattle.slice_ops.proofs.Joining.{stays, joined}
+use Rattle.slice_ops.proofs.JoinLemmas.{stays, joined}
 use Rattle.slice_ops.proofs.slice_part.SlicePart.join.Goals as goal
 
 pub returns-then-self-clause-ok : goal.returns-then-self-clause-ok

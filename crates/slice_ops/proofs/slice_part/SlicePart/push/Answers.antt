@@ -1,6 +1,6 @@
 use Rattle.std.proofs.Common.{refl}
 use Rattle.slice_ops.specs.declared.slice_part.SlicePart.{SlicePart}
-use Rattle.slice_ops.proofs.Adding.{goes_on, added}
+use Rattle.slice_ops.proofs.GrownPartLemmas.{goes_on, added}
 use Rattle.slice_ops.proofs.slice_part.SlicePart.push.Goals as goal
 
 pub returns-clause-ok : goal.returns-clause-ok

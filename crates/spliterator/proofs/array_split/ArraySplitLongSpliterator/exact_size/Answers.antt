@@ -1,5 +1,5 @@
 use Rattle.std.proofs.Common.{sym}
-use Rattle.spliterator.proofs.Splitting.{length-placed}
+use Rattle.spliterator.proofs.SplitLemmas.{length-placed}
 use Rattle.spliterator.proofs.array_split.ArraySplitLongSpliterator.exact_size.Goals as goal
 
 pub returns : goal.returns

@@ -1,7 +1,7 @@
 use Rattle.std.proofs.Common.{◌≡◌, ◌+◌, ◌/◌, ◌<◌, length, subst, arith, ℕ}
 use Rattle.trace.specs.Cover.{placed}
 use Rattle.spliterator.specs.Splits.{IsSplit}
-use Rattle.spliterator.proofs.Splitting.{is_cut, length-placed}
+use Rattle.spliterator.proofs.SplitLemmas.{is_cut, length-placed}
 use Rattle.spliterator.proofs.array_split.ArraySplitLongSpliterator.try_split.Goals as goal
 
 pub returns-clause-some : goal.returns-clause-some

@@ -1,6 +1,6 @@
 use Rattle.std.proofs.Common.{◌≡◌, length, ◌∙◌, ◌++◌, [], arith}
 use Rattle.spliterator.specs.Parts.{plain_values, plain_items, all_values}
-use Rattle.spliterator.proofs.Parted.{empty_plain}
+use Rattle.spliterator.proofs.PartLemmas.{empty_plain}
 use Rattle.spliterator.proofs.concat_split.ConcatSplit.skip_empty_parts.Goals as goal
 
 pub invariant_of-self : goal.invariant_of-self

@@ -1,6 +1,6 @@
 use Rattle.std.proofs.Common.{◌++◌, sym, ◌∙◌}
 use Rattle.spliterator.specs.Parts.{plain_values, all_values}
-use Rattle.spliterator.proofs.Splitting.{length-placed}
+use Rattle.spliterator.proofs.SplitLemmas.{length-placed}
 use Rattle.spliterator.proofs.concat_split.ConcatSplitLongSpliterator.exact_size.Goals as goal
 
 pub returns : goal.returns

@@ -2,7 +2,7 @@ use Rattle.std.proofs.Common.{◌≡◌, ◌+◌, suc, length, ap, sym, ◌∙�
 use Rattle.std.proofs.lemmas.Int.{to_z-of_z}
 use Rattle.trace.specs.Cover.{placed}
 use Rattle.spliterator.specs.Parts.{plain_values, all_values}
-use Rattle.spliterator.proofs.Parted.{nothing_left, advanced}
+use Rattle.spliterator.proofs.PartLemmas.{nothing_left, advanced}
 use Rattle.spliterator.proofs.concat_split.ConcatSplitLongSpliterator.try_advance.Goals as goal
 
 pub returns-in_default : goal.returns-in_default

@@ -1,8 +1,8 @@
 use Rattle.std.proofs.Common.{◌+◌, ◌<◌, length, length-append, ap, sym, ◌∙◌, ◌++◌, arith}
 use Rattle.trace.specs.Cover.{placed}
 use Rattle.spliterator.specs.Parts.{plain_values, all_values}
-use Rattle.spliterator.proofs.Splitting.{length-placed}
-use Rattle.spliterator.proofs.Parted.{length-plain, split_values, same_split, split_off, split_front}
+use Rattle.spliterator.proofs.SplitLemmas.{length-placed}
+use Rattle.spliterator.proofs.PartLemmas.{length-plain, split_values, same_split, split_off, split_front}
 use Rattle.spliterator.proofs.concat_split.ConcatSplitLongSpliterator.try_split.Goals as goal
 
 pub hand_out-requires-clause-size : goal.hand_out-requires-clause-size

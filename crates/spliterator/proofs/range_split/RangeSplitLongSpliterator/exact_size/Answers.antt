@@ -1,5 +1,5 @@
 use Rattle.std.proofs.Common.{sym}
-use Rattle.spliterator.proofs.Splitting.{length-split_items}
+use Rattle.spliterator.proofs.SplitLemmas.{length-split_items}
 use Rattle.spliterator.proofs.range_split.RangeSplitLongSpliterator.exact_size.Goals as goal
 
 pub returns : goal.returns

@@ -1,5 +1,5 @@
 use Rattle.std.proofs.Common.{◌<◌, ◌^◌, ◌+ℤ◌, arith, rules, to_z, of_z, FitsSigned, w64}
-use Rattle.spliterator.proofs.Splitting.{first_item, value_at}
+use Rattle.spliterator.proofs.SplitLemmas.{first_item, value_at}
 use Rattle.spliterator.proofs.range_split.RangeSplitLongSpliterator.try_advance.Goals as goal
 
 pub returns : goal.returns

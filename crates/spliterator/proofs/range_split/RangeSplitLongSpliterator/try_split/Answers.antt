@@ -1,7 +1,7 @@
 use Rattle.std.proofs.Common.{◌+◌, ◌-◌, ◌/◌, ◌<◌, subst, sym, arith, rules, ℤ, FitsSigned, w64}
 use Rattle.std.proofs.lemmas.Int.{to_z-of_z}
 use Rattle.spliterator.specs.Splits.{IsSplit, split_items}
-use Rattle.spliterator.proofs.Splitting.{is_split}
+use Rattle.spliterator.proofs.SplitLemmas.{is_split}
 use Rattle.spliterator.proofs.range_split.RangeSplitLongSpliterator.try_split.Goals as goal
 
 pub returns-clause-some : goal.returns-clause-some

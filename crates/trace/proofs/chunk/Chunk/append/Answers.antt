@@ -1,7 +1,7 @@
 use Rattle.std.proofs.Common.{◌≡◌, ◌<◌, length, true, Result, Ok, Err, OnErr, sym, ap, ◌∙◌, arith, rules}
 use Rattle.std.specs.Result.{is_err}
 use Rattle.trace.specs.Trace.{Trace}
-use Rattle.trace.proofs.InPieces.{some_item}
+use Rattle.trace.proofs.PieceLemmas.{some_item}
 use Rattle.trace.proofs.chunk.Chunk.append.Goals as goal
 
 at_err : {T E P : Type 0} (r : Result T E) → is_err r ≡ true → OnErr r P → P

@@ -4,7 +4,7 @@ use Rattle.trace.specs.declared.item.Item.{Item}
 use Rattle.trace.specs.declared.item.End.{End}
 use Rattle.trace.specs.declared.item.End.TheVariants as end
 use Rattle.trace.specs.Trace.{Trace, trace}
-use Rattle.trace.proofs.InPieces.{read_grows, read_stays}
+use Rattle.trace.proofs.PieceLemmas.{read_grows, read_stays}
 use Rattle.trace.proofs.chunk.Chunk.push.Goals as goal
 
 trace_grows : (xs ys more : List Item) (e : End) (t : Trace) → ys ≡ xs ++ more → trace xs e ≡ t → t.ending ≡ end.Done → trace ys e ≡ trace (t.items ++ more) end.Done

@@ -1,7 +1,7 @@
 use Rattle.std.proofs.Common.{◌+◌, length, take, flat_map, sym, ap, ◌∙◌, Vec, Global}
 use Rattle.trace.specs.declared.item.Item.{Item}
 use Rattle.trace.specs.Stops.{stop_at}
-use Rattle.trace.proofs.Stopping.{pieces_stop, pieces_pass, stop_within, cut_here}
+use Rattle.trace.proofs.StopLemmas.{pieces_stop, pieces_pass, stop_within, cut_here}
 use Rattle.trace.proofs.chunk.searching.first_stop.Goals as goal
 
 pub returns-in-Some-clause-some : goal.returns-in-Some-clause-some

@@ -1,6 +1,6 @@
 use Rattle.std.proofs.Common.{Vec, Global}
 use Rattle.trace.specs.declared.item.Item.{Item}
-use Rattle.trace.proofs.Stopping.{StopsLater}
+use Rattle.trace.proofs.StopLemmas.{StopsLater}
 use Rattle.trace.proofs.chunk.searching.first_stop.Given as goal
 
 abbrev pub invariant-loop-whole : goal.invariant-loop-whole

@@ -1,6 +1,6 @@
 use Rattle.std.proofs.Common.{Vec, Global}
 use Rattle.trace.specs.declared.item.Item.{Item}
-use Rattle.trace.proofs.Cutting.{Passed}
+use Rattle.trace.proofs.CutLemmas.{Passed}
 use Rattle.trace.proofs.chunk.shortening.cut_at.Given as goal
 
 abbrev pub invariant-loop-whole : goal.invariant-loop-whole

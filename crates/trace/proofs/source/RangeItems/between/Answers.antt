@@ -3,7 +3,7 @@ use Rattle.std.proofs.lemmas.Int.{to_z-of_z}
 use Rattle.trace.specs.Cover.{counted, distance, placed}
 use Rattle.trace.specs.Trace.{trace}
 use Rattle.trace.specs.declared.item.End.TheVariants as end
-use Rattle.trace.proofs.Covering.{range_long, range_short}
+use Rattle.trace.proofs.CoverLemmas.{range_long, range_short}
 use Rattle.trace.proofs.source.RangeItems.between.Goals as goal
 
 pub returns-then-count-gt-MAX_SOURCE_SIZE-clause-none : goal.returns-then-count-gt-MAX_SOURCE_SIZE-clause-none

@@ -18,8 +18,8 @@ use Rattle.job_language.specs.Reading.{Place, State, wants, owns, bare, has, ask
 use Rattle.job_language.specs.Shapes.{begins_job, IsNotSpelled, AreCallsOf, AreCallsIn, IsNoPiece, Begins, is_last, call_in, all_placed, placed_in, piece_from, sign_piece, IsReading, StandIn, StandsIn}
 use Rattle.job_language.specs.Arguments.{PlacedCall}
 use Rattle.job_language.specs.Verdicts.{placed}
-use Rattle.job_language.proofs.Standing.{Stands, keeps, reads_append, reads_job, stuck_stays, follows, last_state}
-use Rattle.job_language.proofs.Piecing.{pieces_append, calls_append, are_append, next_piece, no_pieces}
+use Rattle.job_language.proofs.JobReaderLemmas.{Stands, keeps, reads_append, reads_job, stuck_stays, follows, last_state}
+use Rattle.job_language.proofs.PieceLemmas.{pieces_append, calls_append, are_append, next_piece, no_pieces}
 
 stands_from : (ps qs : List Piece) (s : State) → ArePieces qs → Stands ps s → Stands (ps ++ qs) (reads s qs)
 stands_from ps [] s k h = subst (λ v. Stands v s) (sym (append-nil ps)) h

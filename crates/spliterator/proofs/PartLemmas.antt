@@ -7,7 +7,7 @@ use Rattle.spliterator.specs.declared.plain_split.PlainSplit.{PlainSplit}
 use Rattle.spliterator.specs.declared.plain_split.PlainSplit.TheVariants.{Range, Array}
 use Rattle.spliterator.specs.Splits.{IsSplit}
 use Rattle.spliterator.specs.Parts.{plain_values, plain_items, all_values}
-use Rattle.spliterator.proofs.Splitting.{length-placed, is_cut}
+use Rattle.spliterator.proofs.SplitLemmas.{length-placed, is_cut}
 
 abbrev pub item_values : List Item → List ℤ
 item_values [] = []

@@ -4,7 +4,7 @@ use Rattle.lambda_expr.specs.Earlier.{Numbers}
 use Rattle.trace.specs.declared.item.Fault.{Fault}
 use Rattle.trace.specs.declared.item.End.TheVariants as end
 use Rattle.trace.specs.Trace.{Trace, trace, nothing, append}
-use Rattle.trace.proofs.Joining.{pipe_append}
+use Rattle.trace.proofs.JoinLemmas.{pipe_append}
 use Rattle.job_plan.specs.declared.answer.Answer.{Answer}
 use Rattle.job_plan.specs.declared.outcome.Outcome.{Outcome}
 use Rattle.job_plan.specs.declared.outcome.Outcome.TheVariants as outcome
@@ -13,10 +13,10 @@ use Rattle.std.specs.declared.alloc.AllocError.{AllocError}
 use Rattle.trace.specs.declared.sink.Flow.TheVariants as flow
 use Rattle.job_plan.specs.Parts.{EndsFor, StandsFor, flow_of, is_settled}
 use Rattle.job_plan.specs.Pieces.{elements, piece_of}
-use Rattle.job_plan.specs.Plans.{EndTerm, SegmentTerm, last_stage, on_outcome, outcome_of, segments_answer, walk_of}
+use Rattle.job_plan.specs.Plans.{AbstractEnd, AbstractSegment, last_stage, on_outcome, outcome_of, segments_answer, walk_of}
 use Rattle.job_plan.specs.Spans.{IsNotAfter}
-use Rattle.job_plan.proofs.Feeding.{piece_in_two, stands_more, stands_fault, stands_enough}
-use Rattle.job_plan.proofs.Parting.{settled}
+use Rattle.job_plan.proofs.FeedLemmas.{piece_in_two, stands_more, stands_fault, stands_enough}
+use Rattle.job_plan.proofs.PartLemmas.{settled}
 use Rattle.job_plan.proofs.SideBySide.{pieces_joined, whole_piece}
 
 pub not_after : (m : ℕ) (to : Option ℕ) → IfSome to (λ last. m ≤ last) → IsNotAfter m to
@@ -24,7 +24,7 @@ not_after m None h = tt
 not_after m (Some t) h = h
 
 -- a part that is settled stands for all that follows
-pub settled_piece : (s : SegmentTerm) (env : Numbers) (p : Part) (t : Trace) (from middle : ℕ) (to : Option ℕ) → from ≤ middle → IsNotAfter middle to → is_settled p ≡ true
+pub settled_piece : (s : AbstractSegment) (env : Numbers) (p : Part) (t : Trace) (from middle : ℕ) (to : Option ℕ) → from ≤ middle → IsNotAfter middle to → is_settled p ≡ true
     → StandsFor s env p (piece_of from (Some middle) t) → StandsFor s env p (piece_of from to t)
 settled_piece s env p t from middle to h k is x =
     let a : Trace = piece_of from (Some middle) t in
@@ -33,23 +33,23 @@ settled_piece s env p t from middle to h k is x =
     subst (λ (u : Trace). StandsFor s env p u) (pieces_joined t from middle to h k) (subst (λ (u : Trace). EndsFor s.ending (last_stage s) env p u) (sym (pipe_append s.first s.stages env a b)) on)
 
 -- two parts side by side
-pub merged_piece : (s : SegmentTerm) (env : Numbers) (p : Part) (t : Trace) (from middle : ℕ) (to : Option ℕ) → from ≤ middle → IsNotAfter middle to
+pub merged_piece : (s : AbstractSegment) (env : Numbers) (p : Part) (t : Trace) (from middle : ℕ) (to : Option ℕ) → from ≤ middle → IsNotAfter middle to
     → StandsFor s env p (append (piece_of from (Some middle) t) (piece_of middle to t)) → StandsFor s env p (piece_of from to t)
 merged_piece s env p t from middle to h k x = subst (λ (u : Trace). StandsFor s env p u) (pieces_joined t from middle to h k) x
 
 -- the last segment
-pub answered : (s : SegmentTerm) (ss : List SegmentTerm) (env : Numbers) (t : Trace) (o : Outcome) (a : Answer) → o ≡ outcome_of s env (piece_of 0 None t) → o ≡ outcome.Answer a → a ≡ segments_answer (s ∷ ss) env t
+pub answered : (s : AbstractSegment) (ss : List AbstractSegment) (env : Numbers) (t : Trace) (o : Outcome) (a : Answer) → o ≡ outcome_of s env (piece_of 0 None t) → o ≡ outcome.Answer a → a ≡ segments_answer (s ∷ ss) env t
 answered s ss env t o a e is = ap (λ x. on_outcome x (segments_answer ss env)) (sym is ∙ e ∙ ap (outcome_of s env) (whole_piece t))
 
 -- a segment before others
-pub went_on : (s : SegmentTerm) (ss : List SegmentTerm) (env : Numbers) (t u : Trace) (o : Outcome) (a : Answer) → o ≡ outcome_of s env (piece_of 0 None t) → o ≡ outcome.Source u → a ≡ segments_answer ss env u → a ≡ segments_answer (s ∷ ss) env t
+pub went_on : (s : AbstractSegment) (ss : List AbstractSegment) (env : Numbers) (t u : Trace) (o : Outcome) (a : Answer) → o ≡ outcome_of s env (piece_of 0 None t) → o ≡ outcome.Source u → a ≡ segments_answer ss env u → a ≡ segments_answer (s ∷ ss) env t
 went_on s ss env t u o a e is later = later ∙ ap (λ x. on_outcome x (segments_answer ss env)) (sym is ∙ e ∙ ap (outcome_of s env) (whole_piece t))
 
 -- the part of no item, if nothing more matters
-pub settled_first : (s : SegmentTerm) (env : Numbers) (p : Part) (t : Trace) (from : ℕ) (to : Option ℕ) → is_settled p ≡ true → EndsFor s.ending (last_stage s) env p nothing → StandsFor s env p (piece_of from to t)
+pub settled_first : (s : AbstractSegment) (env : Numbers) (p : Part) (t : Trace) (from : ℕ) (to : Option ℕ) → is_settled p ≡ true → EndsFor s.ending (last_stage s) env p nothing → StandsFor s env p (piece_of from to t)
 settled_first s env p t from to is x = settled s.ending (last_stage s) env p nothing (walk_of s env (piece_of from to t)) is x
 
-module _ (s : SegmentTerm) (env : Numbers) (p : Part) (t : Trace) (from : ℕ) (to : Option ℕ) where
+module _ (s : AbstractSegment) (env : Numbers) (p : Part) (t : Trace) (from : ℕ) (to : Option ℕ) where
   abbrev walked : Trace
   walked = walk_of s env (trace (elements from to t.items) end.Done)
 
@@ -80,9 +80,9 @@ enough_is_settled true h = refl
 enough_is_settled false h = cc
 
 -- the same end, stage and numbers
-pub unpinned : (e f : EndTerm) (m n : ℕ) (env named : Numbers) (p : Part) (t : Trace) → e ≡ f → m ≡ n → env ≡ named → EndsFor f n named p t → EndsFor e m env p t
+pub unpinned : (e f : AbstractEnd) (m n : ℕ) (env named : Numbers) (p : Part) (t : Trace) → e ≡ f → m ≡ n → env ≡ named → EndsFor f n named p t → EndsFor e m env p t
 unpinned e f m n env named p t a b c h =
-    subst (λ (x : EndTerm). EndsFor x m env p t) (sym a) (subst (λ (x : ℕ). EndsFor f x env p t) (sym b) (subst (λ (x : Numbers). EndsFor f n x p t) (sym c) h))
+    subst (λ (x : AbstractEnd). EndsFor x m env p t) (sym a) (subst (λ (x : ℕ). EndsFor f x env p t) (sym b) (subst (λ (x : Numbers). EndsFor f n x p t) (sym c) h))
 
 -- an answer, if there is one
 pub same_answer : (r : Result Answer AllocError) (x y : Answer) → x ≡ y → IfOk r (λ a. a ≡ x) → IfOk r (λ a. a ≡ y)

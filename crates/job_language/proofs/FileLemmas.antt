@@ -20,7 +20,7 @@ use Rattle.job_language.specs.Files.{AreJobsLeft, AreJobsRead, IsNext, fault_at}
 use Rattle.job_language.specs.FileSteps.{IsNextJob, IsNextFault}
 use Rattle.job_language.specs.declared.scope.EarlierJob as code
 use Rattle.job_language.specs.declared.scope.Gives.{Gives}
-use Rattle.job_language.specs.Jobs.{JobTerm, job_of, jobs_of, names_of, terminal_of}
+use Rattle.job_language.specs.Jobs.{AbstractJob, job_of, jobs_of, names_of, terminal_of}
 use Rattle.job_language.specs.Scopes as scopes
 
 pub jobs_length : (jobs : List Job) → length (jobs_of jobs) ≡ length jobs
@@ -29,21 +29,21 @@ jobs_length (j ∷ jobs) = ap suc (jobs_length jobs)
 
 pub jobs_push : (jobs : List Job) (j : Job) → jobs_of (jobs ++ j ∷ []) ≡ jobs_of jobs ++ job_of j ∷ []
 jobs_push [] j = refl
-jobs_push (k ∷ jobs) j = ap (λ (js : List JobTerm). job_of k ∷ js) (jobs_push jobs j)
+jobs_push (k ∷ jobs) j = ap (λ (js : List AbstractJob). job_of k ∷ js) (jobs_push jobs j)
 
-pub names_push : (jobs : List JobTerm) (j : JobTerm) → names_of (jobs ++ j ∷ []) ≡ names_of jobs ++ j.name ∷ []
+pub names_push : (jobs : List AbstractJob) (j : AbstractJob) → names_of (jobs ++ j ∷ []) ≡ names_of jobs ++ j.name ∷ []
 names_push [] j = refl
 names_push (k ∷ jobs) j = ap (λ (ns : List (List ℕ)). k.name ∷ ns) (names_push jobs j)
 
 -- these jobs were read, and with the texts that are left they are the file
-pub record FileSoFar (columns : List NamedColumn) (all left : Texts) (jobs : List JobTerm) : Type 0 where
-  pub goes : (r : Result (List JobTerm) JobFault) → AreJobsLeft columns jobs left r → AreJobsLeft columns [] all r
+pub record FileSoFar (columns : List NamedColumn) (all left : Texts) (jobs : List AbstractJob) : Type 0 where
+  pub goes : (r : Result (List AbstractJob) JobFault) → AreJobsLeft columns jobs left r → AreJobsLeft columns [] all r
   pub here : HasText left → HasText all
 
-pub file_none : (columns : List NamedColumn) (all left : Texts) (jobs : List JobTerm) → left ≡ all → jobs ≡ [] → FileSoFar columns all left jobs
+pub file_none : (columns : List NamedColumn) (all left : Texts) (jobs : List AbstractJob) → left ≡ all → jobs ≡ [] → FileSoFar columns all left jobs
 file_none columns all left jobs same none_yet = record { goes = λ r h. rw (none_yet, same) at h; here = λ h. rw same at h }
 
-pub file_more : (columns : List NamedColumn) (all left next : Texts) (more : List JobText) (jobs js : List JobTerm) (t : JobText) → left ≡ Ok (t ∷ more) → next ≡ Ok more
+pub file_more : (columns : List NamedColumn) (all left next : Texts) (more : List JobText) (jobs js : List AbstractJob) (t : JobText) → left ≡ Ok (t ∷ more) → next ≡ Ok more
     → FileSoFar columns all left jobs → IsNextJob columns jobs t js → FileSoFar columns all next js
 file_more columns all left next more jobs js t before after h step = record {
   goes = λ r k.
@@ -53,19 +53,19 @@ file_more columns all left next more jobs js t before after h step = record {
   here = λ _. h.here (t, more, before);
 }
 
-pub file_refused : (columns : List NamedColumn) (all left : Texts) (more : List JobText) (jobs : List JobTerm) (t : JobText) (fault : JobFault) → left ≡ Ok (t ∷ more)
+pub file_refused : (columns : List NamedColumn) (all left : Texts) (more : List JobText) (jobs : List AbstractJob) (t : JobText) (fault : JobFault) → left ≡ Ok (t ∷ more)
     → FileSoFar columns all left jobs → IsNextFault columns jobs t fault → AreJobsLeft columns [] all (Err fault)
 file_refused columns all left more jobs t fault before h next =
     let same : fault ≡ fault_at t fault.cause = ap (λ (l : ℕ). record { line = l; cause = fault.cause }) next.at in
     let here : AreJobsRead columns jobs (t ∷ more) (Err fault) = inl (fault.cause, next.read, ap (λ (f : JobFault). Err f) same) in
     h.goes (Err fault) (rw before here)
 
-pub file_stops : (columns : List NamedColumn) (all left : Texts) (jobs : List JobTerm) (fault : TextFault) → left ≡ Err fault → (fault_of fault).cause ≢ NoMemory
+pub file_stops : (columns : List NamedColumn) (all left : Texts) (jobs : List AbstractJob) (fault : TextFault) → left ≡ Err fault → (fault_of fault).cause ≢ NoMemory
     → FileSoFar columns all left jobs → AreJobsLeft columns [] all (Err (fault_of fault))
 file_stops columns all left jobs (text.Syntax line) stops solid h = h.goes (Err (fault_of (text.Syntax line))) (rw stops refl)
 file_stops columns all left jobs text.NoMemory stops solid h = absurd (solid refl)
 
-pub file_all : (columns : List NamedColumn) (all left : Texts) (jobs : List JobTerm) → left ≡ Ok [] → FileSoFar columns all left jobs → AreJobsLeft columns [] all (Ok jobs)
+pub file_all : (columns : List NamedColumn) (all left : Texts) (jobs : List AbstractJob) → left ≡ Ok [] → FileSoFar columns all left jobs → AreJobsLeft columns [] all (Ok jobs)
 file_all columns all left jobs ends h = h.goes (Ok jobs) (rw ends refl)
 
 -- ---- one text
@@ -73,23 +73,23 @@ file_all columns all left jobs ends h = h.goes (Ok jobs) (rw ends refl)
 pub one_too_many : (columns : List NamedColumn) (jobs : List Job) (text : List ℕ) → 256 ≤ length jobs → IsNext columns (jobs_of jobs) text (Err TooLong)
 one_too_many columns jobs text many = inl (subst (λ (n : ℕ). 256 ≤ n) (sym (jobs_length jobs)) many, refl)
 
-pub read_there : (columns : List NamedColumn) (jobs : List Job) (earlier : List Earlier) (text : List ℕ) (r : Result JobTerm Cause) → earlier ≡ map earlier_of (jobs_of jobs) → length jobs < 256
+pub read_there : (columns : List NamedColumn) (jobs : List Job) (earlier : List Earlier) (text : List ℕ) (r : Result AbstractJob Cause) → earlier ≡ map earlier_of (jobs_of jobs) → length jobs < 256
     → IsRead (record { jobs = earlier; columns = columns }) text r → IsNext columns (jobs_of jobs) text r
 read_there columns jobs earlier text r same few read =
     inr (subst (λ (n : ℕ). n < 256) (sym (jobs_length jobs)) few, subst (λ (js : List Earlier). IsRead (record { jobs = js; columns = columns }) text r) same read)
 
 -- what a text says below jobs that are known by another name
-pub text_same : (columns : List NamedColumn) (js ks : List Job) (a b : List ℕ) (r : Result JobTerm Cause) → js ≡ ks → a ≡ b → IsNext columns (jobs_of js) a r → IsNext columns (jobs_of ks) b r
+pub text_same : (columns : List NamedColumn) (js ks : List Job) (a b : List ℕ) (r : Result AbstractJob Cause) → js ≡ ks → a ≡ b → IsNext columns (jobs_of js) a r → IsNext columns (jobs_of ks) b r
 text_same columns js ks a b r p q h = subst (λ (t : List ℕ). IsNext columns (jobs_of ks) t r) q (subst (λ (ls : List Job). IsNext columns (jobs_of ls) a r) p h)
 
 -- ---- names
 
-pub names_more : (jobs : List JobTerm) (j : JobTerm) → All IsName (names_of jobs) → IsName j.name → All IsName (names_of (jobs ++ j ∷ []))
+pub names_more : (jobs : List AbstractJob) (j : AbstractJob) → All IsName (names_of jobs) → IsName j.name → All IsName (names_of (jobs ++ j ∷ []))
 names_more jobs j all is = subst (λ (ns : List (List ℕ)). All IsName ns) (sym (names_push jobs j)) (All-append IsName (names_of jobs) (j.name ∷ []) all (All-from_recursion IsName (j.name ∷ []) (is, tt)))
 
 pub names_after : (before after : List Job) (j : Job) → after ≡ before ++ j ∷ [] → IsName j.name → All IsName (names_of (jobs_of before)) → All IsName (names_of (jobs_of after))
 names_after before after j put is all =
-    subst (λ (js : List JobTerm). All IsName (names_of js)) (sym (ap jobs_of put ∙ jobs_push before j)) (names_more (jobs_of before) (job_of j) all is)
+    subst (λ (js : List AbstractJob). All IsName (names_of js)) (sym (ap jobs_of put ∙ jobs_push before j)) (names_more (jobs_of before) (job_of j) all is)
 
 -- ---- answers in other words
 
@@ -107,7 +107,7 @@ scopes_push : (es : List code.EarlierJob) (e : code.EarlierJob) → scopes.jobs_
 scopes_push [] e = refl
 scopes_push (f ∷ es) e = ap (λ (js : List Earlier). record { name = f.name.now; gives = f.gives } ∷ js) (scopes_push es e)
 
-earlier_push : (jobs : List JobTerm) (j : JobTerm) → map earlier_of (jobs ++ j ∷ []) ≡ map earlier_of jobs ++ earlier_of j ∷ []
+earlier_push : (jobs : List AbstractJob) (j : AbstractJob) → map earlier_of (jobs ++ j ∷ []) ≡ map earlier_of jobs ++ earlier_of j ∷ []
 earlier_push [] j = refl
 earlier_push (k ∷ jobs) j = ap (λ (js : List Earlier). earlier_of k ∷ js) (earlier_push jobs j)
 

@@ -9,11 +9,11 @@ use Rattle.trace.specs.declared.item.End.{End}
 use Rattle.trace.specs.declared.item.End.TheVariants as end
 use Rattle.trace.specs.Stops.{shift, stop_or, stop_at, kept_before}
 use Rattle.trace.specs.Trace.{Trace, trace, then_on, append}
-use Rattle.trace.proofs.Joining.{append_faulted}
+use Rattle.trace.proofs.JoinLemmas.{append_faulted}
 use Rattle.slice_ops.specs.declared.slice_part.SlicePart.{SlicePart}
-use Rattle.slice_ops.specs.Slices.{SliceTerm, limit, skip, take_while, drop_while, slice_of, limited, taken, front_ends}
+use Rattle.slice_ops.specs.Slices.{AbstractSlice, limit, skip, take_while, drop_while, slice_of, limited, taken, front_ends}
 use Rattle.slice_ops.specs.Parts.{kept_of, stops, StandsFor, IsJoined, IsTaken, IsAdded, is_settled, is_settled_by}
-use Rattle.slice_ops.proofs.Joining.{limited_few, limited_enough, not_false, whole, stays, joined}
+use Rattle.slice_ops.proofs.JoinLemmas.{limited_few, limited_enough, not_false, whole, stays, joined}
 
 above_zero : (m k : ℕ) → nat_lt m k ≡ true → 1 ≤ k
 above_zero m k h = grind (arith, nat_tests)
@@ -47,14 +47,14 @@ goes_on p h = by_end p.chunk.ending refl
     by_end (end.Fault f) k = absurd (let z : true ≡ false = sym (ap (λ (e : End). is_settled_by e p.stopped) k) ∙ h in cc)
 
 module _ (n : ℕ) (env : Numbers) (a : Trace) where
-  fault_stays : (b : Trace) (d : SliceTerm) (p : SlicePart) (f : Fault) → p.stopped ≡ false → p.chunk.ending ≡ end.Fault f → StandsFor d n env p a → StandsFor d n env p (append a b)
+  fault_stays : (b : Trace) (d : AbstractSlice) (p : SlicePart) (f : Fault) → p.stopped ≡ false → p.chunk.ending ≡ end.Fault f → StandsFor d n env p a → StandsFor d n env p (append a b)
   fault_stays b d p f goes_on h s =
       let left : p.chunk ≡ a = s.chunk ∙ whole n env a b d (sym s.stopped ∙ goes_on) in
       let last : a.ending ≡ end.Fault f = sym (ap (λ (u : Trace). u.ending) left) ∙ h in
       subst (λ (t : Trace). StandsFor d n env p t) (sym (append_faulted a b f last)) s
 
   -- after what settles a piece, nothing matters
-  pub settled : (b : Trace) (d : SliceTerm) (p : SlicePart) → is_settled p ≡ true → StandsFor d n env p a → StandsFor d n env p (append a b)
+  pub settled : (b : Trace) (d : AbstractSlice) (p : SlicePart) → is_settled p ≡ true → StandsFor d n env p a → StandsFor d n env p (append a b)
   settled b d p h s = by_end p.stopped refl p.chunk.ending refl
     where
       by_end : (w : Bool) → p.stopped ≡ w → (e : End) → p.chunk.ending ≡ e → StandsFor d n env p (append a b)
@@ -63,7 +63,7 @@ module _ (n : ℕ) (env : Numbers) (a : Trace) where
       by_end false w (end.Fault f) k = fault_stays b d p f w k s
 
   -- what is added, as a piece of its own
-  as_joined : (d : SliceTerm) (x : Item) (c kept : Trace) (stopped : Bool) → stops d n env a ≡ false → c.ending ≡ end.Done → IsAdded d n env x c kept stopped
+  as_joined : (d : AbstractSlice) (x : Item) (c kept : Trace) (stopped : Bool) → stops d n env a ≡ false → c.ending ≡ end.Done → IsAdded d n env x c kept stopped
       → IsJoined d (append c (kept_of d n env (trace (x ∷ []) end.Done))) (stops d n env (trace (x ∷ []) end.Done)) kept stopped
   as_joined (limit k) x c kept stopped h done j =
       let one = limited_one k x (above_zero (length a.items) k (not_false (nat_lt (length a.items) k) h)) in
@@ -74,19 +74,19 @@ module _ (n : ℕ) (env : Numbers) (a : Trace) where
   as_joined (drop_while f) x c kept stopped h done j = (j.0 ∙ sym (done_on c (trace (x ∷ []) end.Done) done), j.1)
 
   -- one more item
-  pub added : (d : SliceTerm) (p r : SlicePart) (x : Item) → p.stopped ≡ false → p.chunk.ending ≡ end.Done → r.slice.now ≡ p.slice.now → r.stage ≡ p.stage → StandsFor d n env p a
+  pub added : (d : AbstractSlice) (p r : SlicePart) (x : Item) → p.stopped ≡ false → p.chunk.ending ≡ end.Done → r.slice.now ≡ p.slice.now → r.stage ≡ p.stage → StandsFor d n env p a
       → IsAdded (slice_of p.slice.now) p.stage env x p.chunk r.chunk r.stopped → StandsFor d n env r (append a (trace (x ∷ []) end.Done))
   added d p r x goes_on done slice stage s j =
       let b : Trace = trace (x ∷ []) end.Done in
       let q : SlicePart = record { slice = p.slice; stage = p.stage; chunk = kept_of d n env b; stopped = stops d n env b } in
-      let as_d : IsAdded d p.stage env x p.chunk r.chunk r.stopped = subst (λ (e : SliceTerm). IsAdded e p.stage env x p.chunk r.chunk r.stopped) s.slice j in
+      let as_d : IsAdded d p.stage env x p.chunk r.chunk r.stopped = subst (λ (e : AbstractSlice). IsAdded e p.stage env x p.chunk r.chunk r.stopped) s.slice j in
       let here : IsAdded d n env x p.chunk r.chunk r.stopped = subst (λ (m : ℕ). IsAdded d m env x p.chunk r.chunk r.stopped) s.stage as_d in
       let on = as_joined d x p.chunk r.chunk r.stopped (sym s.stopped ∙ goes_on) done here in
       joined n env a b p q r goes_on done d s (record { slice = s.slice; stage = s.stage; chunk = refl; stopped = refl }) (ap slice_of slice) stage
-      (subst (λ (e : SliceTerm). IsJoined e (append p.chunk q.chunk) q.stopped r.chunk r.stopped) (sym s.slice) on)
+      (subst (λ (e : AbstractSlice). IsJoined e (append p.chunk q.chunk) q.stopped r.chunk r.stopped) (sym s.slice) on)
 
   -- a piece of no item that ends so, after a piece that goes on
-  as_ended : (d : SliceTerm) (c kept : Trace) (stopped : Bool) (e : End) → stops d n env a ≡ false → c ≡ a → c.ending ≡ end.Done → stopped ≡ false → kept ≡ append c (trace [] e)
+  as_ended : (d : AbstractSlice) (c kept : Trace) (stopped : Bool) (e : End) → stops d n env a ≡ false → c ≡ a → c.ending ≡ end.Done → stopped ≡ false → kept ≡ append c (trace [] e)
       → IsJoined d (append c (kept_of d n env (trace [] e))) (stops d n env (trace [] e)) kept stopped
   as_ended (limit k) c kept stopped e h left done goes_on j =
       let few : length a.items < k = is_above (length a.items) k (not_false (nat_lt (length a.items) k) h) in
@@ -104,7 +104,7 @@ module _ (n : ℕ) (env : Numbers) (a : Trace) where
   as_ended (drop_while f) c kept stopped e h left done goes_on j = (j, goes_on)
 
   -- the piece ends
-  pub ended : (d : SliceTerm) (p r : SlicePart) (e : End) → p.stopped ≡ false → r.slice.now ≡ p.slice.now → r.stage ≡ p.stage → r.stopped ≡ p.stopped → r.chunk ≡ append p.chunk (trace [] e)
+  pub ended : (d : AbstractSlice) (p r : SlicePart) (e : End) → p.stopped ≡ false → r.slice.now ≡ p.slice.now → r.stage ≡ p.stage → r.stopped ≡ p.stopped → r.chunk ≡ append p.chunk (trace [] e)
       → StandsFor d n env p a → StandsFor d n env r (append a (trace [] e))
   ended d p r e goes_on slice stage stopped chunk s = by_end p.chunk.ending refl
     where
@@ -117,7 +117,7 @@ module _ (n : ℕ) (env : Numbers) (a : Trace) where
           let left : p.chunk ≡ a = s.chunk ∙ whole n env a b d (sym s.stopped ∙ goes_on) in
           let on = as_ended d p.chunk r.chunk r.stopped e (sym s.stopped ∙ goes_on) left k (stopped ∙ goes_on) chunk in
           joined n env a b p q r goes_on k d s (record { slice = s.slice; stage = s.stage; chunk = refl; stopped = refl }) (ap slice_of slice) stage
-          (subst (λ (x : SliceTerm). IsJoined x (append p.chunk q.chunk) q.stopped r.chunk r.stopped) (sym s.slice) on)
+          (subst (λ (x : AbstractSlice). IsJoined x (append p.chunk q.chunk) q.stopped r.chunk r.stopped) (sym s.slice) on)
       by_end (end.Fault f) k =
           let t = fault_stays b d p f goes_on k s in
           record { slice = ap slice_of slice ∙ t.slice; stage = stage ∙ t.stage; chunk = chunk ∙ append_faulted p.chunk b f k ∙ t.chunk; stopped = stopped ∙ t.stopped }

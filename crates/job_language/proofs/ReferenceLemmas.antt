@@ -1,7 +1,7 @@
 -- Lambdas and their references.
 use Rattle.std.proofs.Common.{◌≡◌, ℕ, ◌+◌, ◌<◌, ◌≤◌, List, ◌∷◌, length, drop, get_or, Some, None, Result, Ok, Err, ap, ◌∙◌}
 use Rattle.std.proofs.lemmas.List.{drop_more, drop_all}
-use Rattle.lambda_expr.specs.Refusals.{LambdaTerm, Judged}
+use Rattle.lambda_expr.specs.Refusals.{AbstractLambda, Judged}
 use Rattle.lambda_expr.specs.declared.lambda.Want.{Want}
 use Rattle.job_language.specs.declared.argument.Argument as code
 use Rattle.job_language.specs.declared.fault.Cause.{Cause}
@@ -9,7 +9,7 @@ use Rattle.job_language.specs.Causes.{Scope, given, first_cause}
 use Rattle.job_language.specs.Arguments.{reference_cause, reference_causes, lambda_answer, IsLambdaRead}
 use Rattle.job_language.specs.Parts.{argument_in, Answers}
 
-pub lambda_read : (s : Scope) (text : List ℕ) (w : Want) (l : LambdaTerm) (r : Result code.Argument Cause) → Judged text w (Ok l) → Answers argument_in (λ x. lambda_answer s (Ok l) ≡ x) r → Answers argument_in (IsLambdaRead s text w) r
+pub lambda_read : (s : Scope) (text : List ℕ) (w : Want) (l : AbstractLambda) (r : Result code.Argument Cause) → Judged text w (Ok l) → Answers argument_in (λ x. lambda_answer s (Ok l) ≡ x) r → Answers argument_in (IsLambdaRead s text w) r
 lambda_read s text w l (Ok a) j h = (Ok l, j, h)
 lambda_read s text w l (Err e) j h = λ other. (Ok l, j, h other)
 

@@ -6,27 +6,27 @@ use Rattle.trace.specs.declared.item.Fault.{Fault}
 use Rattle.trace.specs.declared.item.End.{End}
 use Rattle.trace.specs.declared.item.End.TheVariants as end
 use Rattle.trace.specs.declared.stage.Stage.{Stage}
-use Rattle.trace.specs.Stages.{StageTerm, stage_of, stages_of}
+use Rattle.trace.specs.Stages.{AbstractStage, stage_of, stages_of}
 use Rattle.trace.specs.Trace.{Trace, trace, nothing, then_on, append}
-use Rattle.trace.proofs.Joining.{append_faulted, pipe_append}
+use Rattle.trace.proofs.JoinLemmas.{append_faulted, pipe_append}
 use Rattle.reduce_ops.specs.declared.op.Op.{Op}
 use Rattle.reduce_ops.specs.Folds.{ones, unless_faulted}
 use Rattle.reduce_ops.specs.Parts.{StandsFor as FoldStands}
 use Rattle.slice_ops.specs.declared.slice_part.SlicePart.{SlicePart}
-use Rattle.slice_ops.proofs.Adding.{settled as slice_settled}
+use Rattle.slice_ops.proofs.GrownPartLemmas.{settled as slice_settled}
 use Rattle.find_ops.specs.declared.find_part.FindPart.{FindPart}
-use Rattle.find_ops.proofs.Deciding.{settled as find_settled}
+use Rattle.find_ops.proofs.DecisionLemmas.{settled as find_settled}
 use Rattle.job_plan.specs.declared.answer.Answer.{Answer}
 use Rattle.job_plan.specs.declared.answer.Answer.TheVariants as answer
 use Rattle.job_plan.specs.declared.part.FoldPart.{FoldPart}
 use Rattle.job_plan.specs.declared.part.Part.{Part}
 use Rattle.job_plan.specs.declared.part.Part.TheVariants as part
-use Rattle.job_language.specs.Jobs.{JobStageTerm, TerminalTerm}
+use Rattle.job_language.specs.Jobs.{AbstractJobStage, AbstractTerminal}
 use Rattle.job_plan.specs.declared.outcome.Outcome.TheVariants as outcome
 use Rattle.job_plan.specs.declared.segment.Segment.{Segment}
 use Rattle.job_plan.specs.declared.segment.JobPlan.{JobPlan}
 use Rattle.job_plan.specs.Parts.{IsFold, EndsFor, StandsFor, is_settled, is_fault, segment_in, segments_in, plan_in, plans_in}
-use Rattle.job_plan.specs.Plans.{EndTerm, slicing, folding, finding, collecting, SegmentTerm, PlanTerm, counted_as, ended, segments_from, walk_of, last_stage}
+use Rattle.job_plan.specs.Plans.{AbstractEnd, slicing, folding, finding, collecting, AbstractSegment, AbstractPlan, counted_as, ended, segments_from, walk_of, last_stage}
 use Rattle.job_plan.specs.Walks.{unless_fault}
 
 -- ---- folds
@@ -113,7 +113,7 @@ faulted_stays : (a b : Trace) → is_fault a.ending ≡ true → append a b ≡ 
 faulted_stays a b h = let f = the_fault a.ending h in append_faulted a b f.0 f.1
 
 -- after what settles a piece, nothing matters
-pub settled : (e : EndTerm) (n : ℕ) (env : Numbers) (p : Part) (a b : Trace) → is_settled p ≡ true → EndsFor e n env p a → EndsFor e n env p (append a b)
+pub settled : (e : AbstractEnd) (n : ℕ) (env : Numbers) (p : Part) (a b : Trace) → is_settled p ≡ true → EndsFor e n env p a → EndsFor e n env p (append a b)
 settled (slicing d) n env (part.Slice p) a b h s = slice_settled n env a b d p h s
 settled (slicing d) n env (part.Fold p) a b h s = s
 settled (slicing d) n env (part.Find p) a b h s = s
@@ -134,17 +134,17 @@ settled collecting n env (part.Array p) a b h s = s ∙ sym (faulted_stays a b (
 -- ---- two parts
 
 -- of a segment, from what holds of its end
-pub on_walks : (s : SegmentTerm) (env : Numbers) (p q r : Part) (a b : Trace)
+pub on_walks : (s : AbstractSegment) (env : Numbers) (p q r : Part) (a b : Trace)
     → (EndsFor s.ending (last_stage s) env p (walk_of s env a) → EndsFor s.ending (last_stage s) env q (walk_of s env b) → EndsFor s.ending (last_stage s) env r (append (walk_of s env a) (walk_of s env b)))
     → StandsFor s env p a → StandsFor s env q b → StandsFor s env r (append a b)
 on_walks s env p q r a b merged x y = subst (λ (t : Trace). EndsFor s.ending (last_stage s) env r t) (sym (pipe_append s.first s.stages env a b)) (merged x y)
 
-module _ (e : EndTerm) (n : ℕ) (env : Numbers) (a b : Trace) where
+module _ (e : AbstractEnd) (n : ℕ) (env : Numbers) (a b : Trace) where
   -- of one end, parts have one kind
   pub only_slices : (p : SlicePart) (q : Part) → ((x : SlicePart) → q ≡ part.Slice x → ⊥) → EndsFor e n env (part.Slice p) a → EndsFor e n env q b → ⊥
   only_slices p q other s t = by e q s t other
     where
-      by : (e : EndTerm) (q : Part) → EndsFor e n env (part.Slice p) a → EndsFor e n env q b → ((x : SlicePart) → q ≡ part.Slice x → ⊥) → ⊥
+      by : (e : AbstractEnd) (q : Part) → EndsFor e n env (part.Slice p) a → EndsFor e n env q b → ((x : SlicePart) → q ≡ part.Slice x → ⊥) → ⊥
       by (slicing d) (part.Slice q) s t h = h q refl
       by (slicing d) (part.Fold q) s t h = t
       by (slicing d) (part.Find q) s t h = t
@@ -156,7 +156,7 @@ module _ (e : EndTerm) (n : ℕ) (env : Numbers) (a b : Trace) where
   pub only_folds : (p : FoldPart) (q : Part) → ((x : FoldPart) → q ≡ part.Fold x → ⊥) → EndsFor e n env (part.Fold p) a → EndsFor e n env q b → ⊥
   only_folds p q other s t = by e q s t other
     where
-      by : (e : EndTerm) (q : Part) → EndsFor e n env (part.Fold p) a → EndsFor e n env q b → ((x : FoldPart) → q ≡ part.Fold x → ⊥) → ⊥
+      by : (e : AbstractEnd) (q : Part) → EndsFor e n env (part.Fold p) a → EndsFor e n env q b → ((x : FoldPart) → q ≡ part.Fold x → ⊥) → ⊥
       by (slicing d) q s t h = s
       by (folding f i c) (part.Slice q) s t h = t
       by (folding f i c) (part.Fold q) s t h = h q refl
@@ -168,7 +168,7 @@ module _ (e : EndTerm) (n : ℕ) (env : Numbers) (a b : Trace) where
   pub only_finds : (p : FindPart) (q : Part) → ((x : FindPart) → q ≡ part.Find x → ⊥) → EndsFor e n env (part.Find p) a → EndsFor e n env q b → ⊥
   only_finds p q other s t = by e q s t other
     where
-      by : (e : EndTerm) (q : Part) → EndsFor e n env (part.Find p) a → EndsFor e n env q b → ((x : FindPart) → q ≡ part.Find x → ⊥) → ⊥
+      by : (e : AbstractEnd) (q : Part) → EndsFor e n env (part.Find p) a → EndsFor e n env q b → ((x : FindPart) → q ≡ part.Find x → ⊥) → ⊥
       by (slicing d) q s t h = s
       by (folding f i c) q s t h = s
       by (finding d) (part.Slice q) s t h = t
@@ -180,7 +180,7 @@ module _ (e : EndTerm) (n : ℕ) (env : Numbers) (a b : Trace) where
   pub only_arrays : (p : Trace) (q : Part) → ((x : Trace) → q ≡ part.Array x → ⊥) → EndsFor e n env (part.Array p) a → EndsFor e n env q b → ⊥
   only_arrays p q other s t = by e q s t other
     where
-      by : (e : EndTerm) (q : Part) → EndsFor e n env (part.Array p) a → EndsFor e n env q b → ((x : Trace) → q ≡ part.Array x → ⊥) → ⊥
+      by : (e : AbstractEnd) (q : Part) → EndsFor e n env (part.Array p) a → EndsFor e n env q b → ((x : Trace) → q ≡ part.Array x → ⊥) → ⊥
       by (slicing d) q s t h = s
       by (folding f i c) q s t h = s
       by (finding d) q s t h = s
@@ -194,7 +194,7 @@ module _ (e : EndTerm) (n : ℕ) (env : Numbers) (a b : Trace) where
       → EndsFor e n env (part.Slice p) a → EndsFor e n env (part.Slice q) b → EndsFor e n env (part.Slice r) (append a b)
   slices_merge p q r merged = by e
     where
-      by : (e : EndTerm) → EndsFor e n env (part.Slice p) a → EndsFor e n env (part.Slice q) b → EndsFor e n env (part.Slice r) (append a b)
+      by : (e : AbstractEnd) → EndsFor e n env (part.Slice p) a → EndsFor e n env (part.Slice q) b → EndsFor e n env (part.Slice r) (append a b)
       by (slicing d) s t = merged d s t
       by (folding f i c) s t = s
       by (finding d) s t = s
@@ -204,7 +204,7 @@ module _ (e : EndTerm) (n : ℕ) (env : Numbers) (a b : Trace) where
       → EndsFor e n env (part.Fold p) a → EndsFor e n env (part.Fold q) b → EndsFor e n env (part.Fold r) (append a b)
   folds_merge p q r merged = by e
     where
-      by : (e : EndTerm) → EndsFor e n env (part.Fold p) a → EndsFor e n env (part.Fold q) b → EndsFor e n env (part.Fold r) (append a b)
+      by : (e : AbstractEnd) → EndsFor e n env (part.Fold p) a → EndsFor e n env (part.Fold q) b → EndsFor e n env (part.Fold r) (append a b)
       by (slicing d) s t = s
       by (folding f i c) s t = merged f i c s t
       by (finding d) s t = s
@@ -214,7 +214,7 @@ module _ (e : EndTerm) (n : ℕ) (env : Numbers) (a b : Trace) where
       → EndsFor e n env (part.Find p) a → EndsFor e n env (part.Find q) b → EndsFor e n env (part.Find r) (append a b)
   finds_merge p q r merged = by e
     where
-      by : (e : EndTerm) → EndsFor e n env (part.Find p) a → EndsFor e n env (part.Find q) b → EndsFor e n env (part.Find r) (append a b)
+      by : (e : AbstractEnd) → EndsFor e n env (part.Find p) a → EndsFor e n env (part.Find q) b → EndsFor e n env (part.Find r) (append a b)
       by (slicing d) s t = s
       by (folding f i c) s t = s
       by (finding d) s t = merged d s t
@@ -223,7 +223,7 @@ module _ (e : EndTerm) (n : ℕ) (env : Numbers) (a b : Trace) where
   pub arrays_merge : (p q r : Trace) → r ≡ append p q → EndsFor e n env (part.Array p) a → EndsFor e n env (part.Array q) b → EndsFor e n env (part.Array r) (append a b)
   arrays_merge p q r is = by e
     where
-      by : (e : EndTerm) → EndsFor e n env (part.Array p) a → EndsFor e n env (part.Array q) b → EndsFor e n env (part.Array r) (append a b)
+      by : (e : AbstractEnd) → EndsFor e n env (part.Array p) a → EndsFor e n env (part.Array q) b → EndsFor e n env (part.Array r) (append a b)
       by (slicing d) s t = s
       by (folding f i c) s t = s
       by (finding d) s t = s
@@ -237,37 +237,37 @@ length-stages_of (g ∷ gs) = ap suc (length-stages_of gs)
 -- one more of several
 pub stages_more : (gs : List Stage) (g : Stage) → stages_of (gs ++ g ∷ []) ≡ stages_of gs ++ stage_of g ∷ []
 stages_more [] g = refl
-stages_more (f ∷ gs) g = ap (λ (hs : List StageTerm). stage_of f ∷ hs) (stages_more gs g)
+stages_more (f ∷ gs) g = ap (λ (hs : List AbstractStage). stage_of f ∷ hs) (stages_more gs g)
 
 segments_snoc : (ss : List Segment) (s : Segment) → segments_in (ss ++ s ∷ []) ≡ segments_in ss ++ segment_in s ∷ []
 segments_snoc [] s = refl
-segments_snoc (r ∷ ss) s = ap (λ (rs : List SegmentTerm). segment_in r ∷ rs) (segments_snoc ss s)
+segments_snoc (r ∷ ss) s = ap (λ (rs : List AbstractSegment). segment_in r ∷ rs) (segments_snoc ss s)
 
 pub segments_more : (new ss : List Segment) (s : Segment) → new ≡ ss ++ s ∷ [] → segments_in new ≡ segments_in ss ++ segment_in s ∷ []
 segments_more new ss s e = ap segments_in e ∙ segments_snoc ss s
 
 plans_snoc : (js : List JobPlan) (j : JobPlan) → plans_in (js ++ j ∷ []) ≡ plans_in js ++ plan_in j ∷ []
 plans_snoc [] j = refl
-plans_snoc (k ∷ js) j = ap (λ (ks : List PlanTerm). plan_in k ∷ ks) (plans_snoc js j)
+plans_snoc (k ∷ js) j = ap (λ (ks : List AbstractPlan). plan_in k ∷ ks) (plans_snoc js j)
 
-pub plans_more : (new js : List JobPlan) (j : JobPlan) (rest : List PlanTerm) → new ≡ js ++ j ∷ [] → plans_in new ++ rest ≡ plans_in js ++ plan_in j ∷ rest
+pub plans_more : (new js : List JobPlan) (j : JobPlan) (rest : List AbstractPlan) → new ≡ js ++ j ∷ [] → plans_in new ++ rest ≡ plans_in js ++ plan_in j ∷ rest
 plans_more new js j rest e = ap (λ ks. plans_in ks ++ rest) e ∙ ap (λ ks. ks ++ rest) (plans_snoc js j) ∙ append_assoc (plans_in js) (plan_in j ∷ []) rest
 
 -- a segment that ends here, and those after it
-pub segment_on : (new ss : List Segment) (s : Segment) (m n : ℕ) (gs fresh : List StageTerm) (later : List SegmentTerm) (rest : List JobStageTerm) (d : TerminalTerm)
+pub segment_on : (new ss : List Segment) (s : Segment) (m n : ℕ) (gs fresh : List AbstractStage) (later : List AbstractSegment) (rest : List AbstractJobStage) (d : AbstractTerminal)
     → new ≡ ss ++ s ∷ [] → m ≡ n → fresh ≡ [] → later ≡ segment_in s ∷ segments_from n [] rest d → segments_in new ++ segments_from m fresh rest d ≡ segments_in ss ++ later
 segment_on new ss s m n gs fresh later rest d e k f l =
     (λ i. segments_more new ss s e i ++ segments_from (k i) (f i) rest d) ∙ append_assoc (segments_in ss) (segment_in s ∷ []) (segments_from n [] rest d) ∙ ap (λ rs. segments_in ss ++ rs) (sym l)
 
 -- what an array answers
-pub array_ends : (e : EndTerm) (n : ℕ) (env : Numbers) (c w : Trace) (a : Answer) → EndsFor e n env (part.Array c) w → a ≡ unless_fault c.ending (answer.Array (each_of (λ (x : Item). x.value) c.items)) → outcome.Answer a ≡ ended e n env w
+pub array_ends : (e : AbstractEnd) (n : ℕ) (env : Numbers) (c w : Trace) (a : Answer) → EndsFor e n env (part.Array c) w → a ≡ unless_fault c.ending (answer.Array (each_of (λ (x : Item). x.value) c.items)) → outcome.Answer a ≡ ended e n env w
 array_ends (slicing d) n env c w a s is = absurd s
 array_ends (folding f i k) n env c w a s is = absurd s
 array_ends (finding d) n env c w a s is = absurd s
 array_ends collecting n env c w a s is = ap outcome.Answer (is ∙ ap (λ (t : Trace). unless_fault t.ending (answer.Array (each_of (λ (x : Item). x.value) t.items))) s)
 
 -- a fold goes on
-pub fold_goes_on : (e : EndTerm) (n : ℕ) (env : Numbers) (p r : FoldPart) (t u : Trace) → ((f : Op) (i : Option ℤ) (c : Bool) → IsFold f i c p t → IsFold f i c r (append t u))
+pub fold_goes_on : (e : AbstractEnd) (n : ℕ) (env : Numbers) (p r : FoldPart) (t u : Trace) → ((f : Op) (i : Option ℤ) (c : Bool) → IsFold f i c p t → IsFold f i c r (append t u))
     → EndsFor e n env (part.Fold p) t → EndsFor e n env (part.Fold r) (append t u)
 fold_goes_on (slicing d) n env p r t u go s = s
 fold_goes_on (folding f i c) n env p r t u go s = go f i c s

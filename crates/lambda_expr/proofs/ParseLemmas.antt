@@ -15,7 +15,7 @@ use Rattle.lambda_expr.specs.Stops.{StopsAt}
 use Rattle.lambda_expr.specs.Reader.{State, wants, stuck, read, reads, settled, only, whole, result_of, result_at, joins}
 use Rattle.lambda_expr.specs.Codes.{state_of, top_of, frames_of, shape_on, run, IsAt, IsCoded, Turns, IsStop, ArePostfix}
 use Rattle.lambda_expr.proofs.Leads.{reads_append}
-use Rattle.lambda_expr.proofs.Standing.{stops_at, stops_end, reads_expression}
+use Rattle.lambda_expr.proofs.ReaderStateLemmas.{stops_at, stops_end, reads_expression}
 
 -- after the words up to a place and with it
 next : (ws : List Lexeme) (at : ℕ) (w : Lexeme) → at < length ws → get_or ws at word.Open ≡ w → reads (wants []) (take (at + 1) ws) ≡ read (reads (wants []) (take at ws)) w

@@ -16,7 +16,7 @@ use Rattle.reduce_ops.specs.Operators.{value_of, identity_of, IsAssociative}
 use Rattle.std.specs.Option.{unwrap_or}
 use Rattle.reduce_ops.specs.Folds.{fold_from, fold_items, onto, unless_faulted, reduced, reduced_from, total, ones}
 use Rattle.reduce_ops.specs.Parts.{StandsFor}
-use Rattle.reduce_ops.proofs.Associative.{all_associative}
+use Rattle.reduce_ops.proofs.Associativity.{all_associative}
 use Rattle.reduce_ops.proofs.Identities.{all_identities}
 
 fold_more : (f : ℤ → ℤ → ℤ) (a : ℤ) (xs ys : List Item) → fold_from f a (xs ++ ys) ≡ fold_from f (fold_from f a xs) ys

@@ -15,10 +15,10 @@ use Rattle.job_language.specs.Table.{role_of}
 use Rattle.job_language.specs.declared.operation.Operation.{Operation}
 use Rattle.job_language.specs.declared.job.JobStage.{JobStage}
 use Rattle.job_language.specs.declared.job.PlainSource.{PlainSource}
-use Rattle.job_language.specs.Jobs.{JobTerm, source_of, sources_of, job_stage_of, job_stages_of}
+use Rattle.job_language.specs.Jobs.{AbstractJob, source_of, sources_of, job_stage_of, job_stages_of}
 use Rattle.job_language.specs.Causes.{Scope, first_cause, when, stage_cause, early_causes, numbers_of}
 use Rattle.job_language.specs.Arguments.{Argument, PlacedCall, IsArgumentRead}
-use Rattle.job_language.specs.Verdicts.{CallTerm, call_term, stage_term, call_answer, identity_cause, unless, added, IsReadAfter, IsCallRead, IsReadInTurn, AreRead}
+use Rattle.job_language.specs.Verdicts.{AbstractCall, abstract_call, abstract_stage, call_answer, identity_cause, unless, added, IsReadAfter, IsCallRead, IsReadInTurn, AreRead}
 use Rattle.job_language.specs.Shapes.{placed_in, all_placed}
 use Rattle.job_language.specs.Parts.{part_in, answer_in, Answers}
 
@@ -37,33 +37,33 @@ whole s t c ks a (Err e) h k arg eq = λ other. subst (λ f. IsReadAfter f s t c
 below : (n : ℕ) → when (nat_le 32 n) cause.TooLong ≡ None → n < 32
 below n h = grind (arith, common_steps)
 
-grown : (j : JobTerm) (r : Role) (o : Operation) (ks : List ℤ) (a : Argument) → stage_cause (length j.stages) r ≡ None → length j.stages ≤ 32 → length (added j (call_term r o ks a)).stages ≤ 32
-grown j role.Stage o ks a h le = let lt = below (length j.stages) h in let one = length-append j.stages (stage_term o ks a ∷ []) in omega arith
+grown : (j : AbstractJob) (r : Role) (o : Operation) (ks : List ℤ) (a : Argument) → stage_cause (length j.stages) r ≡ None → length j.stages ≤ 32 → length (added j (abstract_call r o ks a)).stages ≤ 32
+grown j role.Stage o ks a h le = let lt = below (length j.stages) h in let one = length-append j.stages (abstract_stage o ks a ∷ []) in omega arith
 grown j role.Source o ks a h le = le
 grown j role.Concatenation o ks a h le = le
 grown j role.Terminal o ks a h le = le
 
-kept : (j : JobTerm) (r : Role) (o : Operation) (ks : List ℤ) (a : Argument) (i : Option Cause) (g : CallTerm) → unless i (call_term r o ks a) ≡ Ok g → stage_cause (length j.stages) r ≡ None → length j.stages ≤ 32 → length (added j g).stages ≤ 32
-kept j r o ks a None g e h le = let same : call_term r o ks a ≡ g = cc in subst (λ v. length (added j v).stages ≤ 32) same (grown j r o ks a h le)
+kept : (j : AbstractJob) (r : Role) (o : Operation) (ks : List ℤ) (a : Argument) (i : Option Cause) (g : AbstractCall) → unless i (abstract_call r o ks a) ≡ Ok g → stage_cause (length j.stages) r ≡ None → length j.stages ≤ 32 → length (added j g).stages ≤ 32
+kept j r o ks a None g e h le = let same : abstract_call r o ks a ≡ g = cc in subst (λ v. length (added j v).stages ≤ 32) same (grown j r o ks a h le)
 kept j r o ks a (Some x) g e h le = absurd cc
 
-after_call : (j : JobTerm) (s : Scope) (t : TokenizedText) (c : PlacedCall) (g : CallTerm) (f : Option Cause) → IsReadAfter f s t c (Ok g) → stage_cause (length j.stages) (role_of c.call.operation) ≡ None → length j.stages ≤ 32 → length (added j g).stages ≤ 32
+after_call : (j : AbstractJob) (s : Scope) (t : TokenizedText) (c : PlacedCall) (g : AbstractCall) (f : Option Cause) → IsReadAfter f s t c (Ok g) → stage_cause (length j.stages) (role_of c.call.operation) ≡ None → length j.stages ≤ 32 → length (added j g).stages ≤ 32
 after_call j s t c g (Some e) r h le = absurd cc
 after_call j s t c g None (Ok a, arg, eq) h le = let o = c.call.operation in let ks = numbers_of o (length c.call.parts) 0 c.call.parts in kept j (role_of o) o ks a (identity_cause o ks a) g eq h le
 after_call j s t c g None (Err e, arg, eq) h le = absurd cc
 
-in_turn : (j : JobTerm) (s : Scope) (t : TokenizedText) (c : PlacedCall) (g : CallTerm) (late : Option Cause) → stage_cause (length j.stages) (role_of c.call.operation) ≡ late → IsReadInTurn late s t c (Ok g) → length j.stages ≤ 32 → length (added j g).stages ≤ 32
+in_turn : (j : AbstractJob) (s : Scope) (t : TokenizedText) (c : PlacedCall) (g : AbstractCall) (late : Option Cause) → stage_cause (length j.stages) (role_of c.call.operation) ≡ late → IsReadInTurn late s t c (Ok g) → length j.stages ≤ 32 → length (added j g).stages ≤ 32
 in_turn j s t c g (Some e) h r le = absurd cc
 in_turn j s t c g None h r le = after_call j s t c g (first_cause (early_causes c.call)) r h le
 
-pub few_after : (j : JobTerm) (s : Scope) (t : TokenizedText) (c : PlacedCall) (g : CallTerm) → IsReadInTurn (stage_cause (length j.stages) (role_of c.call.operation)) s t c (Ok g) → length j.stages ≤ 32 → length (added j g).stages ≤ 32
+pub few_after : (j : AbstractJob) (s : Scope) (t : TokenizedText) (c : PlacedCall) (g : AbstractCall) → IsReadInTurn (stage_cause (length j.stages) (role_of c.call.operation)) s t c (Ok g) → length j.stages ≤ 32 → length (added j g).stages ≤ 32
 few_after j s t c g r le = in_turn j s t c g (stage_cause (length j.stages) (role_of c.call.operation)) refl r le
 
 -- the calls from a place on
-pub turn_here : (s : Scope) (t : TokenizedText) (j : JobTerm) (ws : List Word) (cs : List written.WrittenCall) (i : ℕ) (x : written.WrittenCall) (e : Cause) → i < length cs → x ≡ get_or cs i x → IsReadInTurn (stage_cause (length j.stages) (role_of x.operation)) s t (placed_in ws x) (Err e) → AreRead s t j (all_placed ws (drop i cs)) (Err e)
+pub turn_here : (s : Scope) (t : TokenizedText) (j : AbstractJob) (ws : List Word) (cs : List written.WrittenCall) (i : ℕ) (x : written.WrittenCall) (e : Cause) → i < length cs → x ≡ get_or cs i x → IsReadInTurn (stage_cause (length j.stages) (role_of x.operation)) s t (placed_in ws x) (Err e) → AreRead s t j (all_placed ws (drop i cs)) (Err e)
 turn_here s t j ws cs i x e lt is h = subst (λ v. AreRead s t j (all_placed ws v) (Err e)) (sym (drop_more cs i x lt ∙ ap (λ y. y ∷ drop (i + 1) cs) (sym is))) (inl (e, h, refl))
 
-pub turn_more : (s : Scope) (t : TokenizedText) (j k : JobTerm) (ws : List Word) (cs : List written.WrittenCall) (i : ℕ) (x : written.WrittenCall) (g : CallTerm) (r : Result JobTerm Cause) → i < length cs → x ≡ get_or cs i x → IsReadInTurn (stage_cause (length j.stages) (role_of x.operation)) s t (placed_in ws x) (Ok g) → k ≡ added j g → AreRead s t k (all_placed ws (drop (i + 1) cs)) r → AreRead s t j (all_placed ws (drop i cs)) r
+pub turn_more : (s : Scope) (t : TokenizedText) (j k : AbstractJob) (ws : List Word) (cs : List written.WrittenCall) (i : ℕ) (x : written.WrittenCall) (g : AbstractCall) (r : Result AbstractJob Cause) → i < length cs → x ≡ get_or cs i x → IsReadInTurn (stage_cause (length j.stages) (role_of x.operation)) s t (placed_in ws x) (Ok g) → k ≡ added j g → AreRead s t k (all_placed ws (drop (i + 1) cs)) r → AreRead s t j (all_placed ws (drop i cs)) r
 turn_more s t j k ws cs i x g r lt is h same rest = subst (λ v. AreRead s t j (all_placed ws v) r) (sym (drop_more cs i x lt ∙ ap (λ y. y ∷ drop (i + 1) cs) (sym is))) (inr (g, h, subst (λ v. AreRead s t v (all_placed ws (drop (i + 1) cs)) r) same rest))
 
 pub length_stages : (gs : List JobStage) → length (job_stages_of gs) ≡ length gs
@@ -78,5 +78,5 @@ pub stages_push : (xs ys : List JobStage) → job_stages_of (xs ++ ys) ≡ job_s
 stages_push [] ys = refl
 stages_push (x ∷ xs) ys = ap (λ v. job_stage_of x ∷ v) (stages_push xs ys)
 
-pub none_left : (s : Scope) (t : TokenizedText) (j : JobTerm) (ws : List Word) (cs : List written.WrittenCall) (i : ℕ) → length cs ≤ i → AreRead s t j (all_placed ws (drop i cs)) (Ok j)
+pub none_left : (s : Scope) (t : TokenizedText) (j : AbstractJob) (ws : List Word) (cs : List written.WrittenCall) (i : ℕ) → length cs ≤ i → AreRead s t j (all_placed ws (drop i cs)) (Ok j)
 none_left s t j ws cs i far = subst (λ v. AreRead s t j (all_placed ws v) (Ok j)) (sym (drop_all i cs far)) refl

@@ -13,7 +13,7 @@ use Rattle.lambda_expr.specs.BodyReading.{AreSteps}
 use Rattle.lambda_expr.specs.Heads.{ALambda, BodyShape, IsLambda}
 use Rattle.lambda_expr.specs.Judging.{IsJudged, IsWritten}
 use Rattle.lambda_expr.specs.Lexemes.{lexemes_of, names_in}
-use Rattle.lambda_expr.specs.Refusals.{column, verdict, IsNoLambda, IsRefused, IsSpelled, Spells}
+use Rattle.lambda_expr.specs.Refusals.{column, verdict, IsNoLambda, IsRefused, IsSpelled, SpellsLambda}
 use Rattle.lambda_expr.specs.Stops.{StopsAt}
 
 -- the text, with its tokens, that is read
@@ -28,7 +28,7 @@ IsVerdict text ts w ss r = (b : BodyShape) → AreSteps b ss → IsJudged (verdi
 abbrev spelled : (text : List ℕ) (ts : List Token) (ws : List Lexeme) (w : Want) (e : BodyShape) → IsRead text ts ws → IsLambda w ws e → IsSpelled text w e
 spelled text ts ws w e r l = record { tokens = ts; cut = r.cut; few = r.few; lambda = subst (λ ws. IsLambda w ws e) r.words l }
 
-pub judged_ok : (text : List ℕ) (ts : List Token) (ws : List Lexeme) (w : Want) (ss : BodySteps) (r : Result Lambda ReadFault) → IsRead text ts ws → IsWritten w ws ss → IsVerdict text ts w ss r → IfOk r (λ l. Spells text w l)
+pub judged_ok : (text : List ℕ) (ts : List Token) (ws : List Lexeme) (w : Want) (ss : BodySteps) (r : Result Lambda ReadFault) → IsRead text ts ws → IsWritten w ws ss → IsVerdict text ts w ss r → IfOk r (λ l. SpellsLambda text w l)
 judged_ok text ts ws w ss (Ok l) is x v = record { body = x.0; spelled = spelled text ts ws w x.0 is x.1; gives = v x.0 x.2 }
 judged_ok text ts ws w ss (Err f) is x v = tt
 

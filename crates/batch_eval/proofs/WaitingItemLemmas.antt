@@ -13,12 +13,12 @@ use Rattle.trace.specs.declared.feeding.Fed.{Fed}
 use Rattle.trace.specs.declared.feeding.Fed.TheVariants as fed
 use Rattle.trace.specs.Trace.{Trace, trace, then_on, append, each}
 use Rattle.trace.specs.Sinks.{IsFed}
-use Rattle.trace.specs.Stages.{StageTerm, pipe}
-use Rattle.trace.proofs.Joining.{append_nothing, append_faulted, each_append, pipe_append, pipe_more}
-use Rattle.trace.proofs.Walking.{IsFed_on, IsFed_none, IsFed_stopped, IsFed_ended}
+use Rattle.trace.specs.Stages.{AbstractStage, pipe}
+use Rattle.trace.proofs.JoinLemmas.{append_nothing, append_faulted, each_append, pipe_append, pipe_more}
+use Rattle.trace.proofs.WalkLemmas.{IsFed_on, IsFed_none, IsFed_stopped, IsFed_ended}
 use Rattle.batch_eval.specs.Pours.{Holds, Poured}
 
-module _ {S : Type 0} (h : S → List Item → Type 0) (n : ℕ) (gs : List StageTerm) (env : Numbers) (xs : List Item) where
+module _ {S : Type 0} (h : S → List Item → Type 0) (n : ℕ) (gs : List AbstractStage) (env : Numbers) (xs : List Item) where
   pub holds_none : (s : S) → h s xs → Holds h n gs env xs [] [] s
   holds_none s took = ([], refl, IsFed_none h n gs env xs s took)
 
@@ -110,7 +110,7 @@ each_whole f os i e past done =
     two ∙ ap (λ (d : End). then_on (each f os end.Done).items d (trace [] e)) ended ∙ ap (λ (ys : List Item). trace ys e) (append-nil (each f os end.Done).items) ∙ ap (λ (ys : List Item). trace (each f ys end.Done).items e) (sym same)
 
 -- a walk that was stopped at one of the inner items is the walk of all outer items
-pub inner_stopped : {S : Type 0} (h : S → List Item → Type 0) (n : ℕ) (gs : List StageTerm) (env : Numbers) (xs : List Item) (f : Item → Trace) (os : List Item) (p : ℕ) (y : Item) (zs : List Item) (e : End) (r : Result Fed AllocError) (pending : List Item) (s : S) → slice_get os p ≡ Some y → (each f (take p os) end.Done).ending ≡ end.Done → f y ≡ trace zs end.Done → (r ≡ Ok fed.More → ⊥) → Poured h n gs env xs ((each f (take p os) end.Done).items ++ zs) r pending s → IsFed h xs (pipe n gs env (each f os e)) r s
+pub inner_stopped : {S : Type 0} (h : S → List Item → Type 0) (n : ℕ) (gs : List AbstractStage) (env : Numbers) (xs : List Item) (f : Item → Trace) (os : List Item) (p : ℕ) (y : Item) (zs : List Item) (e : End) (r : Result Fed AllocError) (pending : List Item) (s : S) → slice_get os p ≡ Some y → (each f (take p os) end.Done).ending ≡ end.Done → f y ≡ trace zs end.Done → (r ≡ Ok fed.More → ⊥) → Poured h n gs env xs ((each f (take p os) end.Done).items ++ zs) r pending s → IsFed h xs (pipe n gs env (each f os e)) r s
 inner_stopped h n gs env xs f os p y zs e r pending s here done gives stopped poured =
     let whole : List Item = (each f (take p os) end.Done).items ++ zs in
     let later : Trace = each f (drop (p + 1) os) e in

@@ -9,7 +9,7 @@ use Rattle.trace.specs.declared.item.Item.{Item}
 use Rattle.trace.specs.declared.item.End.{End}
 use Rattle.trace.specs.Cuts.{IsCut}
 use Rattle.trace.specs.Stops.{shift, stop_or, stop_at}
-use Rattle.trace.proofs.Cutting.{take_on, drop_on, first_of}
+use Rattle.trace.proofs.CutLemmas.{take_on, drop_on, first_of}
 
 pub shift_twice : (j k : ℕ) (o : Option (ℕ × End)) → shift j (shift k o) ≡ shift (j + k) o
 shift_twice j k None = refl

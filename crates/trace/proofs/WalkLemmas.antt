@@ -13,8 +13,8 @@ use Rattle.trace.specs.declared.feeding.Fed.{Fed}
 use Rattle.trace.specs.declared.feeding.Fed.TheVariants as fed
 use Rattle.trace.specs.Trace.{Trace, trace, then_on, append}
 use Rattle.trace.specs.Sinks.{IsFed}
-use Rattle.trace.specs.Stages.{StageTerm, pipe}
-use Rattle.trace.proofs.Joining.{append_faulted, pipe_ended, pipe_more}
+use Rattle.trace.specs.Stages.{AbstractStage, pipe}
+use Rattle.trace.proofs.JoinLemmas.{append_faulted, pipe_ended, pipe_more}
 
 -- a beginning of what comes after ys, with ys before it
 behind : (xs ys zs : List Item) (k : ℕ) → (xs ++ ys) ++ take k zs ≡ xs ++ take (length ys + k) (ys ++ zs)
@@ -53,31 +53,31 @@ module _ {S : Type 0} (h : S → List Item → Type 0) where
       (p.0, omega (arith, longer a.items a.ending b, p.1), subst (λ (zs : List Item). h s (xs ++ zs)) (sym (front a.items a.ending b p.0 (omega (arith, p.1)))) p.2)
 
   -- a walk of items through stages, before its first item
-  pub IsFed_none : (n : ℕ) (gs : List StageTerm) (env : Numbers) (xs : List Item) (s : S) → h s xs → IsFed h xs (pipe n gs env (trace [] end.Done)) (Ok fed.More) s
+  pub IsFed_none : (n : ℕ) (gs : List AbstractStage) (env : Numbers) (xs : List Item) (s : S) → h s xs → IsFed h xs (pipe n gs env (trace [] end.Done)) (Ok fed.More) s
   IsFed_none n gs env xs s took = rw pipe_ended (subst (h s) (sym (append-nil xs)) took, refl)
 
   -- one item more
-  pub IsFed_one_more : (n : ℕ) (gs : List StageTerm) (env : Numbers) (xs ys : List Item) (y : Item) (r : Result Fed AllocError) (s s' : S) → IsFed h xs (pipe n gs env (trace ys end.Done)) (Ok fed.More) s → ((vs : List Item) → h s vs → IsFed h vs (pipe n gs env (trace (y ∷ []) end.Done)) r s') → IsFed h xs (pipe n gs env (trace (ys ++ y ∷ []) end.Done)) r s'
+  pub IsFed_one_more : (n : ℕ) (gs : List AbstractStage) (env : Numbers) (xs ys : List Item) (y : Item) (r : Result Fed AllocError) (s s' : S) → IsFed h xs (pipe n gs env (trace ys end.Done)) (Ok fed.More) s → ((vs : List Item) → h s vs → IsFed h vs (pipe n gs env (trace (y ∷ []) end.Done)) r s') → IsFed h xs (pipe n gs env (trace (ys ++ y ∷ []) end.Done)) r s'
   IsFed_one_more n gs env xs ys y r s s' before one =
       let a : Trace = pipe n gs env (trace ys end.Done) in
       let b : Trace = pipe n gs env (trace (y ∷ []) end.Done) in
       subst (λ (t : Trace). IsFed h xs t r s') (sym (pipe_more n gs env ys (y ∷ []) end.Done)) (IsFed_on xs a b r s' before.1 (one (xs ++ a.items) before.0))
 
   -- a walk that was stopped at one of the items is the walk of them all
-  pub IsFed_ended : (n : ℕ) (gs : List StageTerm) (env : Numbers) (xs ys zs : List Item) (e : End) (r : Result Fed AllocError) (s : S) → (r ≡ Ok fed.More → ⊥) → IsFed h xs (pipe n gs env (trace ys end.Done)) r s → IsFed h xs (pipe n gs env (trace (ys ++ zs) e)) r s
+  pub IsFed_ended : (n : ℕ) (gs : List AbstractStage) (env : Numbers) (xs ys zs : List Item) (e : End) (r : Result Fed AllocError) (s : S) → (r ≡ Ok fed.More → ⊥) → IsFed h xs (pipe n gs env (trace ys end.Done)) r s → IsFed h xs (pipe n gs env (trace (ys ++ zs) e)) r s
   IsFed_ended n gs env xs ys zs e r s stopped p =
       subst (λ (t : Trace). IsFed h xs t r s) (sym (pipe_more n gs env ys zs e)) (IsFed_stopped xs (pipe n gs env (trace ys end.Done)) (pipe n gs env (trace zs e)) r s stopped p)
 
   -- the same of the items of a list, by their position
-  pub IsFed_next : (n : ℕ) (gs : List StageTerm) (env : Numbers) (xs items : List Item) (i : ℕ) (y : Item) (r : Result Fed AllocError) (s s' : S) → slice_get items i ≡ Some y → IsFed h xs (pipe n gs env (trace (take i items) end.Done)) (Ok fed.More) s → ((vs : List Item) → h s vs → IsFed h vs (pipe n gs env (trace (y ∷ []) end.Done)) r s') → IsFed h xs (pipe n gs env (trace (take (i + 1) items) end.Done)) r s'
+  pub IsFed_next : (n : ℕ) (gs : List AbstractStage) (env : Numbers) (xs items : List Item) (i : ℕ) (y : Item) (r : Result Fed AllocError) (s s' : S) → slice_get items i ≡ Some y → IsFed h xs (pipe n gs env (trace (take i items) end.Done)) (Ok fed.More) s → ((vs : List Item) → h s vs → IsFed h vs (pipe n gs env (trace (y ∷ []) end.Done)) r s') → IsFed h xs (pipe n gs env (trace (take (i + 1) items) end.Done)) r s'
   IsFed_next n gs env xs items i y r s s' here before one =
       let more : take (i + 1) items ≡ take i items ++ y ∷ [] = take_more items i y (slice_get_within items i y here) ∙ ap (λ (z : Item). take i items ++ z ∷ []) (get_or_from_slice_get items i y y here) in
       subst (λ (zs : List Item). IsFed h xs (pipe n gs env (trace zs end.Done)) r s') (sym more) (IsFed_one_more n gs env xs (take i items) y r s s' before one)
 
-  pub IsFed_whole : (n : ℕ) (gs : List StageTerm) (env : Numbers) (xs items : List Item) (i : ℕ) (e : End) (r : Result Fed AllocError) (s : S) → (r ≡ Ok fed.More → ⊥) → IsFed h xs (pipe n gs env (trace (take i items) end.Done)) r s → IsFed h xs (pipe n gs env (trace items e)) r s
+  pub IsFed_whole : (n : ℕ) (gs : List AbstractStage) (env : Numbers) (xs items : List Item) (i : ℕ) (e : End) (r : Result Fed AllocError) (s : S) → (r ≡ Ok fed.More → ⊥) → IsFed h xs (pipe n gs env (trace (take i items) end.Done)) r s → IsFed h xs (pipe n gs env (trace items e)) r s
   IsFed_whole n gs env xs items i e r s stopped p =
       subst (λ (zs : List Item). IsFed h xs (pipe n gs env (trace zs e)) r s) (take-append-drop i items) (IsFed_ended n gs env xs (take i items) (drop i items) e r s stopped p)
 
   -- all items of a list went through
-  pub IsFed_all : (n : ℕ) (gs : List StageTerm) (env : Numbers) (xs items : List Item) (i : ℕ) (r : Result Fed AllocError) (s : S) → length items ≤ i → IsFed h xs (pipe n gs env (trace (take i items) end.Done)) r s → IsFed h xs (pipe n gs env (trace items end.Done)) r s
+  pub IsFed_all : (n : ℕ) (gs : List AbstractStage) (env : Numbers) (xs items : List Item) (i : ℕ) (r : Result Fed AllocError) (s : S) → length items ≤ i → IsFed h xs (pipe n gs env (trace (take i items) end.Done)) r s → IsFed h xs (pipe n gs env (trace items end.Done)) r s
   IsFed_all n gs env xs items i r s past = subst (λ (zs : List Item). IsFed h xs (pipe n gs env (trace zs end.Done)) r s) (take_all i items past)

@@ -2,11 +2,11 @@
 use Rattle.std.proofs.Common.{◌≡◌, ℕ, suc, ◌+◌, Bool, true, false, List, [], ◌∷◌, ◌++◌, length, length-append, refl, ap, ◌∙◌, arith}
 use Rattle.std.specs.Prelude.{◌&&◌}
 use Rattle.lambda_expr.specs.Earlier.{Numbers}
-use Rattle.trace.specs.Stages.{StageTerm, through, pipe}
+use Rattle.trace.specs.Stages.{AbstractStage, through, pipe}
 use Rattle.trace.specs.Trace.{Trace}
-use Rattle.reduce_ops.proofs.Folding.{wrapped_sum, counted}
+use Rattle.reduce_ops.proofs.FoldLemmas.{wrapped_sum, counted}
 use Rattle.slice_ops.specs.Slices.{sliced}
-use Rattle.job_language.specs.Jobs.{JobStageTerm, item, slice, prefix, prefix_range, TerminalTerm, sum, count, min, max, to_array, reduce, reduce_from, find, JobTerm}
+use Rattle.job_language.specs.Jobs.{AbstractJobStage, item, slice, prefix, prefix_range, AbstractTerminal, sum, count, min, max, to_array, reduce, reduce_from, find, AbstractJob}
 use Rattle.job_plan.specs.declared.answer.Answer.{Answer}
 use Rattle.job_plan.specs.declared.answer.Answer.TheVariants as answer
 use Rattle.job_plan.specs.Supported.{is_supported, sources_are_supported, stage_is_supported, stages_are_supported, terminal_is_supported}
@@ -22,14 +22,14 @@ and_right true b h = h
 and_right false b h = absurd (let z : false ≡ true = h in cc)
 
 -- one stage more
-pipe_then : (n : ℕ) (gs : List StageTerm) (g : StageTerm) (env : Numbers) (t : Trace) → pipe n (gs ++ g ∷ []) env t ≡ through (n + length gs) g env (pipe n gs env t)
+pipe_then : (n : ℕ) (gs : List AbstractStage) (g : AbstractStage) (env : Numbers) (t : Trace) → pipe n (gs ++ g ∷ []) env t ≡ through (n + length gs) g env (pipe n gs env t)
 pipe_then n [] g env t = let e : n ≡ n + 0 = omega arith in ap (λ (m : ℕ). through m g env t) e
 pipe_then n (f ∷ gs) g env t =
     let e : suc n + length gs ≡ n + suc (length gs) = omega arith in
     pipe_then (suc n) gs g env (through n f env t) ∙ ap (λ (m : ℕ). through m g env (pipe (suc n) gs env (through n f env t))) e
 
 -- the end of the last segment is the terminal
-terminal_ends : (d : TerminalTerm) (n : ℕ) (env : Numbers) (t : Trace) (later : Trace → Answer) → on_outcome (ended (end_of d) n env t) later ≡ answer_of n env d t
+terminal_ends : (d : AbstractTerminal) (n : ℕ) (env : Numbers) (t : Trace) (later : Trace → Answer) → on_outcome (ended (end_of d) n env t) later ≡ answer_of n env d t
 terminal_ends sum n env t later = ap (λ z. unless_fault t.ending (answer.Number z)) (wrapped_sum t.items)
 terminal_ends count n env t later = ap (λ z. unless_fault t.ending (answer.Number z)) (counted t.items)
 terminal_ends min n env t later = refl
@@ -39,7 +39,7 @@ terminal_ends (reduce f) n env t later = refl
 terminal_ends (reduce_from a f) n env t later = refl
 terminal_ends (find d) n env t later = refl
 
-in_turn : (n : ℕ) (gs : List StageTerm) (rest : List JobStageTerm) (d : TerminalTerm) (env : Numbers) (t : Trace) → stages_are_supported rest ≡ true
+in_turn : (n : ℕ) (gs : List AbstractStage) (rest : List AbstractJobStage) (d : AbstractTerminal) (env : Numbers) (t : Trace) → stages_are_supported rest ≡ true
     → segments_answer (segments_from n gs rest d) env t ≡ answer_of (n + length gs + length rest) env d (after_stages (n + length gs) rest env (pipe n gs env t))
 in_turn n gs [] d env t h =
     let e : n + length gs ≡ n + length gs + 0 = omega arith in
@@ -60,7 +60,7 @@ in_turn n gs (slice s ∷ rest) d env t h =
 in_turn n gs (prefix f ∷ rest) d env t h = absurd (let z : false ≡ true = h in cc)
 in_turn n gs (prefix_range a b f ∷ rest) d env t h = absurd (let z : false ≡ true = h in cc)
 
-pub planned : (env : Numbers) (job : JobTerm) → is_supported job ≡ true → planned_answer env (plan_of job) ≡ answer_of_job env job
+pub planned : (env : Numbers) (job : AbstractJob) → is_supported job ≡ true → planned_answer env (plan_of job) ≡ answer_of_job env job
 planned env job h =
     let stages = and_left (stages_are_supported job.stages) (terminal_is_supported job.terminal) (and_right (sources_are_supported job.sources) (stages_are_supported job.stages && terminal_is_supported job.terminal) h) in
     let one : 1 + 0 ≡ 1 = omega arith in

@@ -6,7 +6,7 @@ use Rattle.trace.specs.declared.item.Fault.{Fault}
 use Rattle.trace.specs.declared.item.End.{End}
 use Rattle.trace.specs.declared.item.End.TheVariants as end
 use Rattle.trace.specs.Trace.{Trace, trace, nothing, then_on, append, each}
-use Rattle.trace.specs.Stages.{StageTerm, of_item, pipe}
+use Rattle.trace.specs.Stages.{AbstractStage, of_item, pipe}
 
 then_on_nothing : (xs : List Item) (e : End) → then_on xs e nothing ≡ trace xs e
 then_on_nothing xs end.Done = search rules
@@ -42,28 +42,28 @@ pub each_append : (f : Item → Trace) (a b : Trace) → each f (append a b).ite
 each_append f a b = each_joined f a.items a.ending b
 
 -- without an item the stages change nothing
-pub pipe_ended : (n : ℕ) (gs : List StageTerm) (env : Numbers) (e : End) → pipe n gs env (trace [] e) ≡ trace [] e
+pub pipe_ended : (n : ℕ) (gs : List AbstractStage) (env : Numbers) (e : End) → pipe n gs env (trace [] e) ≡ trace [] e
 pipe_ended n [] env e = refl
 pipe_ended n (g ∷ gs) env e = pipe_ended (suc n) gs env e
 
 -- the stages keep walks joined
-pub pipe_append : (n : ℕ) (gs : List StageTerm) (env : Numbers) (a b : Trace) → pipe n gs env (append a b) ≡ append (pipe n gs env a) (pipe n gs env b)
+pub pipe_append : (n : ℕ) (gs : List AbstractStage) (env : Numbers) (a b : Trace) → pipe n gs env (append a b) ≡ append (pipe n gs env a) (pipe n gs env b)
 pipe_append n [] env a b = refl
 pipe_append n (g ∷ gs) env a b =
     let f : Item → Trace = of_item n g env in
     ap (pipe (suc n) gs env) (each_append f a b) ∙ pipe_append (suc n) gs env (each f a.items a.ending) (each f b.items b.ending)
 
 -- the same of one list of items, cut anywhere
-pub pipe_more : (n : ℕ) (gs : List StageTerm) (env : Numbers) (xs ys : List Item) (e : End) → pipe n gs env (trace (xs ++ ys) e) ≡ append (pipe n gs env (trace xs end.Done)) (pipe n gs env (trace ys e))
+pub pipe_more : (n : ℕ) (gs : List AbstractStage) (env : Numbers) (xs ys : List Item) (e : End) → pipe n gs env (trace (xs ++ ys) e) ≡ append (pipe n gs env (trace xs end.Done)) (pipe n gs env (trace ys e))
 pipe_more n gs env xs ys e = pipe_append n gs env (trace xs end.Done) (trace ys e)
 
 -- a fault that a beginning meets is the whole's, and nothing comes out after it
-pub pipe_faulted : (n : ℕ) (gs : List StageTerm) (env : Numbers) (a b : Trace) (f : Fault) → (pipe n gs env a).ending ≡ end.Fault f → pipe n gs env (append a b) ≡ pipe n gs env a
+pub pipe_faulted : (n : ℕ) (gs : List AbstractStage) (env : Numbers) (a b : Trace) (f : Fault) → (pipe n gs env a).ending ≡ end.Fault f → pipe n gs env (append a b) ≡ pipe n gs env a
 pipe_faulted n gs env a b f h = pipe_append n gs env a b ∙ append_faulted (pipe n gs env a) (pipe n gs env b) f h
 
 -- what the stages make of the whole, one stage after the other, is joined of what they make of each item: a walk that
 -- takes each item through all stages before the next one gives the same
-pub pipe_each : (n : ℕ) (gs : List StageTerm) (env : Numbers) (xs : List Item) (e : End) → pipe n gs env (trace xs e) ≡ each (λ (x : Item). pipe n gs env (trace (x ∷ []) end.Done)) xs e
+pub pipe_each : (n : ℕ) (gs : List AbstractStage) (env : Numbers) (xs : List Item) (e : End) → pipe n gs env (trace xs e) ≡ each (λ (x : Item). pipe n gs env (trace (x ∷ []) end.Done)) xs e
 pipe_each n gs env [] e = pipe_ended n gs env e
 pipe_each n gs env (x ∷ xs) e =
     pipe_more n gs env (x ∷ []) xs e ∙ ap (append (pipe n gs env (trace (x ∷ []) end.Done))) (pipe_each n gs env xs e)

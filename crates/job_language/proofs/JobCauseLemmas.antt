@@ -12,9 +12,9 @@ use Rattle.job_language.specs.Verdicts.{placed}
 use Rattle.job_language.specs.Grammar.{Source, Sources, plain, concat, two, more, Job, Piece, call, begin_concat, owner, close, comma, dot, semicolon, piece_words, job_pieces, calls_of, source_pieces, sources_pieces, plain_sources, job_calls, IsSource, AreSources, AreStages, IsSpelled, IsJob}
 use Rattle.job_language.specs.Shapes.{call_in, calls_in, all_placed, StandsIn, StandIn, AreCallsIn, one_if_source, sources_in, first_name}
 use Rattle.job_language.specs.Causes.{Scope, first_cause, when, name_causes, sources_cause}
-use Rattle.job_language.proofs.Piecing.{calls_append}
-use Rattle.job_language.proofs.Causing.{first_append, first_stays}
-use Rattle.job_language.proofs.Shaping.{one_spelled, calls_job}
+use Rattle.job_language.proofs.PieceLemmas.{calls_append}
+use Rattle.job_language.proofs.CauseLemmas.{first_append, first_stays}
+use Rattle.job_language.proofs.ShapeLemmas.{one_spelled, calls_job}
 use Rattle.std.specs.Prelude.{nat_lt}
 use Rattle.std.proofs.lemmas.Grind.{common_steps}
 

@@ -11,12 +11,12 @@ use Rattle.trace.specs.declared.feeding.Fed.{Fed}
 use Rattle.trace.specs.declared.feeding.Fed.TheVariants as fed
 use Rattle.trace.specs.Sinks.{IsFed}
 use Rattle.trace.specs.Trace.{Trace, trace, append}
-use Rattle.trace.proofs.Joining.{append_faulted, append_grouped, pipe_ended, pipe_more}
-use Rattle.trace.proofs.Walking.{IsFed_on, IsFed_ended}
+use Rattle.trace.proofs.JoinLemmas.{append_faulted, append_grouped, pipe_ended, pipe_more}
+use Rattle.trace.proofs.WalkLemmas.{IsFed_on, IsFed_ended}
 use Rattle.job_plan.specs.Pieces.{elements, piece_of}
-use Rattle.job_plan.specs.Plans.{SegmentTerm, walk_of}
+use Rattle.job_plan.specs.Plans.{AbstractSegment, walk_of}
 
-module _ {S : Type 0} (h : S → List Item → Type 0) (g : SegmentTerm) (env : Numbers) where
+module _ {S : Type 0} (h : S → List Item → Type 0) (g : AbstractSegment) (env : Numbers) where
   -- some items, and then others
   pub fed_both : (xs ys zs all : List Item) (r : Result Fed AllocError) (s s' : S) → all ≡ ys ++ zs → IsFed h xs (walk_of g env (trace ys end.Done)) (Ok fed.More) s
       → ((vs : List Item) → h s vs → IsFed h vs (walk_of g env (trace zs end.Done)) r s') → IsFed h xs (walk_of g env (trace all end.Done)) r s'
@@ -39,7 +39,7 @@ module _ {S : Type 0} (h : S → List Item → Type 0) (g : SegmentTerm) (env : 
       (subst (h s) (sym (append-nil xs)) took, refl)
 
 -- a piece: its items, and then its end
-pub piece_in_two : (g : SegmentTerm) (env : Numbers) (from : ℕ) (to : Option ℕ) (t : Trace)
+pub piece_in_two : (g : AbstractSegment) (env : Numbers) (from : ℕ) (to : Option ℕ) (t : Trace)
     → walk_of g env (piece_of from to t) ≡ append (walk_of g env (trace (elements from to t.items) end.Done)) (trace [] (piece_of from to t).ending)
 piece_in_two g env from to t =
     let xs = elements from to t.items in

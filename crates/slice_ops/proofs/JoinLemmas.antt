@@ -11,9 +11,9 @@ use Rattle.trace.specs.declared.item.End.{End}
 use Rattle.trace.specs.declared.item.End.TheVariants as end
 use Rattle.trace.specs.Stops.{shift, stop_at, kept_before}
 use Rattle.trace.specs.Trace.{Trace, trace, then_on, append}
-use Rattle.trace.proofs.Stopping.{stop_joined, stop_within}
+use Rattle.trace.proofs.StopLemmas.{stop_joined, stop_within}
 use Rattle.slice_ops.specs.declared.slice_part.SlicePart.{SlicePart}
-use Rattle.slice_ops.specs.Slices.{SliceTerm, limit, skip, take_while, drop_while, slice_of, limited, taken, front_ends}
+use Rattle.slice_ops.specs.Slices.{AbstractSlice, limit, skip, take_while, drop_while, slice_of, limited, taken, front_ends}
 use Rattle.slice_ops.specs.Parts.{kept_of, stops, StandsFor, IsJoined}
 
 -- ---- limit
@@ -128,23 +128,23 @@ not_false false h = absurd (let k : true ≡ false = h in cc)
 
 module _ (n : ℕ) (env : Numbers) (a b : Trace) where
   -- after a piece that stops, nothing matters
-  kept_stays : (d : SliceTerm) → stops d n env a ≡ true → kept_of d n env (append a b) ≡ kept_of d n env a
+  kept_stays : (d : AbstractSlice) → stops d n env a ≡ true → kept_of d n env (append a b) ≡ kept_of d n env a
   kept_stays (limit k) h = limit_stays k a.items a.ending b (at_least (length a.items) k (not_true (nat_lt (length a.items) k) h))
   kept_stays (skip k) h = absurd (let z : false ≡ true = h in cc)
   kept_stays (take_while p) h = let s = the_some (stop_at (front_ends p n env) a.items) h in front_stays (front_ends p n env) a.items a.ending b s.0 s.1
   kept_stays (drop_while p) h = absurd (let z : false ≡ true = h in cc)
 
-  stop_stays : (d : SliceTerm) → stops d n env a ≡ true → stops d n env (append a b) ≡ true
+  stop_stays : (d : AbstractSlice) → stops d n env a ≡ true → stops d n env (append a b) ≡ true
   stop_stays (limit k) h = ap not (is_enough (length (append a b).items) k (longer a.items a.ending b k (at_least (length a.items) k (not_true (nat_lt (length a.items) k) h))))
   stop_stays (skip k) h = absurd (let z : false ≡ true = h in cc)
   stop_stays (take_while p) h = let s = the_some (stop_at (front_ends p n env) a.items) h in ap is_some (still_stops (front_ends p n env) a.items a.ending b s.0 s.1)
   stop_stays (drop_while p) h = absurd (let z : false ≡ true = h in cc)
 
-  pub stays : (d : SliceTerm) (p : SlicePart) → p.stopped ≡ true → StandsFor d n env p a → StandsFor d n env p (append a b)
+  pub stays : (d : AbstractSlice) (p : SlicePart) → p.stopped ≡ true → StandsFor d n env p a → StandsFor d n env p (append a b)
   stays d p h s = let k = sym s.stopped ∙ h in record { slice = s.slice; stage = s.stage; chunk = s.chunk ∙ sym (kept_stays d k); stopped = h ∙ sym (stop_stays d k) }
 
   -- before that, a piece is kept whole
-  pub whole : (d : SliceTerm) → stops d n env a ≡ false → kept_of d n env a ≡ a
+  pub whole : (d : AbstractSlice) → stops d n env a ≡ false → kept_of d n env a ≡ a
   whole (limit k) h = limited_few k a (not_false (nat_lt (length a.items) k) h)
   whole (skip k) h = refl
   whole (take_while p) h = ap (λ o. kept_before o a) (not_some (stop_at (front_ends p n env) a.items) h)
@@ -173,7 +173,7 @@ module _ (n : ℕ) (env : Numbers) (a b : Trace) where
       sym (ap (λ (t : Trace). is_some (stop_at g t.items)) (done_joined b done) ∙ ap is_some (after_front g a.items b.items h) ∙ shifted_is (length a.items) (stop_at g b.items))
 
   module _ (p q r : SlicePart) (goes_on : p.stopped ≡ false) (done : p.chunk.ending ≡ end.Done) where
-    joined_as : (d : SliceTerm) → StandsFor d n env p a → StandsFor d n env q b → IsJoined d (append p.chunk q.chunk) q.stopped r.chunk r.stopped → (r.chunk ≡ kept_of d n env (append a b)) × (r.stopped ≡ stops d n env (append a b))
+    joined_as : (d : AbstractSlice) → StandsFor d n env p a → StandsFor d n env q b → IsJoined d (append p.chunk q.chunk) q.stopped r.chunk r.stopped → (r.chunk ≡ kept_of d n env (append a b)) × (r.stopped ≡ stops d n env (append a b))
     joined_as (limit k) s t j =
         let left : p.chunk ≡ a = s.chunk ∙ whole (limit k) (sym s.stopped ∙ goes_on) in
         let last : a.ending ≡ end.Done = sym (ap (λ (u : Trace). u.ending) left) ∙ done in (
@@ -188,8 +188,8 @@ module _ (n : ℕ) (env : Numbers) (a b : Trace) where
         (j.0 ∙ (λ i. append (left i) (t.chunk i)) ∙ fronts_join f last none, j.1 ∙ t.stopped ∙ stops_join f last none)
     joined_as (drop_while f) s t j = let left : p.chunk ≡ a = s.chunk in (j.0 ∙ (λ i. append (left i) (t.chunk i)), j.1 ∙ t.stopped)
 
-    pub joined : (d : SliceTerm) → StandsFor d n env p a → StandsFor d n env q b → slice_of r.slice.now ≡ slice_of p.slice.now → r.stage ≡ p.stage
+    pub joined : (d : AbstractSlice) → StandsFor d n env p a → StandsFor d n env q b → slice_of r.slice.now ≡ slice_of p.slice.now → r.stage ≡ p.stage
         → IsJoined (slice_of p.slice.now) (append p.chunk q.chunk) q.stopped r.chunk r.stopped → StandsFor d n env r (append a b)
     joined d s t slice stage j =
-        let k = joined_as d s t (subst (λ (e : SliceTerm). IsJoined e (append p.chunk q.chunk) q.stopped r.chunk r.stopped) s.slice j) in
+        let k = joined_as d s t (subst (λ (e : AbstractSlice). IsJoined e (append p.chunk q.chunk) q.stopped r.chunk r.stopped) s.slice j) in
         record { slice = slice ∙ s.slice; stage = stage ∙ s.stage; chunk = k.0; stopped = k.1 }

@@ -12,12 +12,12 @@ use Rattle.trace.specs.declared.feeding.Fed.{Fed}
 use Rattle.trace.specs.declared.feeding.Fed.TheVariants as fed
 use Rattle.trace.specs.Trace.{Trace, trace, append}
 use Rattle.trace.specs.Sinks.{IsFed}
-use Rattle.trace.specs.Stages.{StageTerm, pipe}
-use Rattle.trace.proofs.Joining.{pipe_ended, pipe_more}
-use Rattle.trace.proofs.Walking.{IsFed_on, IsFed_ended}
+use Rattle.trace.specs.Stages.{AbstractStage, pipe}
+use Rattle.trace.proofs.JoinLemmas.{pipe_ended, pipe_more}
+use Rattle.trace.proofs.WalkLemmas.{IsFed_on, IsFed_ended}
 use Rattle.batch_eval.specs.Batches.{fed_of}
 
-module _ {S : Type 0} (h : S → List Item → Type 0) (n : ℕ) (gs : List StageTerm) (env : Numbers) (xs : List Item) where
+module _ {S : Type 0} (h : S → List Item → Type 0) (n : ℕ) (gs : List AbstractStage) (env : Numbers) (xs : List Item) where
   -- more items
   pub IsFed_more : (before part whole : List Item) (r : Result Fed AllocError) (s s' : S) → whole ≡ before ++ part → IsFed h xs (pipe n gs env (trace before end.Done)) (Ok fed.More) s → ((vs : List Item) → h s vs → IsFed h vs (pipe n gs env (trace part end.Done)) r s') → IsFed h xs (pipe n gs env (trace whole end.Done)) r s'
   IsFed_more before part whole r s s' is so_far here =

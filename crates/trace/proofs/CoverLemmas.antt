@@ -2,7 +2,7 @@
 use Rattle.std.proofs.Common.{◌≡◌, ℕ, ◌<◌, ◌≤◌, ◌^◌, true, false, nat_lt, ℤ, length, refl, sym, subst, ◌∙◌, arith}
 use Rattle.std.proofs.lemmas.Grind.{common_steps}
 use Rattle.trace.specs.declared.item.End.TheVariants as end
-use Rattle.trace.specs.Cover.{SourceTerm, range, values_of, counted, distance, placed, too_long, cover}
+use Rattle.trace.specs.Cover.{AbstractSource, range, values_of, counted, distance, placed, too_long, cover}
 use Rattle.trace.specs.Trace.{trace}
 use Rattle.trace.proofs.Sources.{length-counted}
 
@@ -12,10 +12,10 @@ above_test n m more = grind (arith, common_steps)
 below_test : (n m : ℕ) → n ≤ m → nat_lt m n ≡ false
 below_test n m fits = grind (arith, common_steps)
 
-pub cover_long : (s : SourceTerm) → 2 ^ 62 < length (values_of s) → cover s ≡ too_long
+pub cover_long : (s : AbstractSource) → 2 ^ 62 < length (values_of s) → cover s ≡ too_long
 cover_long s more = rw (above_test (length (values_of s)) (2 ^ 62) more) refl
 
-pub cover_short : (s : SourceTerm) → length (values_of s) ≤ 2 ^ 62 → cover s ≡ trace (placed 0 (values_of s)) end.Done
+pub cover_short : (s : AbstractSource) → length (values_of s) ≤ 2 ^ 62 → cover s ≡ trace (placed 0 (values_of s)) end.Done
 cover_short s fits = rw (below_test (length (values_of s)) (2 ^ 62) fits) refl
 
 pub range_long : (a b : ℤ) → 2 ^ 62 < distance a b → cover (range a b) ≡ too_long
