@@ -1,12 +1,12 @@
 -- A batch of items in a fold.
-use Rattle.std.proofs.Common.{◌≡◌, ◌+◌, ◌<◌, ℕ, length, take, get_or, ℤ, pos, Bool, true, false, List, [], ◌∷◌, ◌++◌, Option, Some, None, fold, map, refl, sym, ap, subst, ◌∙◌}
+use Rattle.std.proofs.Common.{◌≡◌, ◌+◌, ◌<◌, ℕ, length, take, get_or, ℤ, pos, Bool, true, false, List, [], ◌∷◌, Option, Some, None, fold, map, refl, sym, ap, ◌∙◌}
 use Rattle.std.proofs.lemmas.List.Sums.{fold_more}
 use Rattle.trace.specs.declared.item.Item.{Item}
 use Rattle.trace.specs.declared.item.End.{End}
 use Rattle.trace.specs.declared.item.End.TheVariants as end
 use Rattle.trace.specs.Trace.{Trace, trace, then_on, append}
 use Rattle.reduce_ops.specs.declared.partial.Partial.{Partial}
-use Rattle.reduce_ops.specs.Folds.{fold_from, fold_items, ones}
+use Rattle.reduce_ops.specs.Folds.{fold_from, fold_items}
 use Rattle.reduce_ops.specs.Operators.{value_of}
 use Rattle.reduce_ops.specs.Parts.{StandsFor as FoldStands}
 use Rattle.job_plan.specs.Batches.{each_one, folded_values}

@@ -2,6 +2,7 @@
 use Rattle.std.proofs.Common.{get_or, FitsSigned, w64, int_lt, unsigned_abs, ◌-ℤ◌, Bool, true, false, if◌then◌else◌, subst, ◌≡◌, ℕ, zero, suc, ◌+◌, ◌-◌, ◌<◌, ◌≤◌, min, ℤ, pos, ◌+ℤ◌, List, [], ◌∷◌, ◌++◌, length, take, drop, Option, Some, None, refl, sym, ap, ◌∙◌, arith}
 use Rattle.std.proofs.lemmas.Int.{ints}
 use Rattle.std.specs.List.{flat_map}
+use Rattle.std.proofs.lemmas.List.Concat.{flat_map-append}
 use Rattle.trace.proofs.CutLemmas.{drop_on}
 use borrow.Author.Differences.{fits_in, fits_out}
 use Rattle.trace.specs.declared.item.Item.{Item}
@@ -210,3 +211,23 @@ none_after f ps w from to h = ap (λ qs. elements from to (flat_map f qs)) (past
     past [] (suc w) h = refl
     past (p ∷ ps) zero h = absurd (omega arith)
     past (p ∷ ps) (suc w) h = past ps w (omega arith)
+
+-- positions after the first of two lists
+past_first : {A : Type 0} (from : ℕ) (to : Option ℕ) (xs : List A) → length xs ≤ from → elements from to xs ≡ []
+past_first from None xs h = let e : length xs - from ≡ 0 = omega arith in clamped from None xs ∙ ap (λ n. take n (drop (min from (length xs)) xs)) e ∙ take_none (drop (min from (length xs)) xs)
+past_first from (Some to) xs h = let e : min to (length xs) - from ≡ 0 = omega arith in clamped from (Some to) xs ∙ ap (λ n. take n (drop (min from (length xs)) xs)) e ∙ take_none (drop (min from (length xs)) xs)
+
+-- positions after the items of whole pieces
+pub elements_after : {X A : Type 0} (f : X → List A) (ps : List X) (w n from : ℕ) (to : Option ℕ) → n ≡ length (flat_map f (take w ps)) → n ≤ from
+    → elements from to (flat_map f ps) ≡ elements (from - n) (after to n) (flat_map f (drop w ps))
+elements_after f ps w n from to e h =
+    let xs = flat_map f (take w ps) in
+    let ys = flat_map f (drop w ps) in
+    let few : length xs ≤ from = omega (arith, e, h) in
+    ap (λ qs. elements from to (flat_map f qs)) (sym (front_back w ps)) ∙ ap (elements from to) (flat_map-append f (take w ps) (drop w ps))
+    ∙ elements_both from to xs ys ∙ ap (λ zs. zs ++ elements (from - length xs) (after to (length xs)) ys) (past_first from to xs few)
+    ∙ (λ i. elements (from - sym e i) (after to (sym e i)) ys)
+
+-- all that is left of a list
+pub rest_of : {A : Type 0} (n : ℕ) (xs : List A) → take (length xs - n) (drop n xs) ≡ drop n xs
+rest_of n xs = let l = length_dropped n xs in take_whole (length xs - n) (drop n xs) (omega arith)

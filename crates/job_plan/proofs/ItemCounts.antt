@@ -1,5 +1,5 @@
 -- How many items a walk over sources has.
-use Rattle.std.proofs.Common.{◌≡◌, ℕ, ◌^◌, Bool, true, false, if◌then◌else◌, nat_lt, List, length, ap, sym, ◌∙◌}
+use Rattle.std.proofs.Common.{◌≡◌, ◌^◌, Bool, false, if◌then◌else◌, nat_lt, List, length, ap, sym, ◌∙◌}
 use Rattle.trace.specs.Cover.{placed, too_long}
 use Rattle.trace.specs.declared.item.End.TheVariants as end
 use Rattle.trace.specs.Trace.{trace}

@@ -52,7 +52,7 @@ plans_in (j ∷ js) = plan_in j ∷ plans_in js
 -- the walk over a source of the program
 abbrev pub walk_in : Source → Trace
 walk_in (source.Plain p) = source_walk (sources_of p.sources.now)
-walk_in (source.Chunk c) = c.now
+walk_in (source.Given w) = w.now
 
 -- a fold with this operator and start has the fold of this walk, and its end
 pub record IsFold (f : Op) (a : Option ℤ) (counts : Bool) (p : FoldPart) (t : Trace) : Type 0 where

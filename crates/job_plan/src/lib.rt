@@ -12,6 +12,8 @@
 
 mod answer;
 mod folding;
+mod given;
+mod item_pieces;
 mod leaves;
 mod outcome;
 mod part;
@@ -23,11 +25,13 @@ mod settings;
 mod sizes;
 mod source;
 mod sources;
+mod spans;
 mod supported;
 mod values;
 mod walks;
 
 pub use answer::Answer;
+pub use given::GivenWalk;
 pub use leaves::{leaf, leaf_with};
 pub use outcome::Outcome;
 pub use part::{FoldPart, Part};

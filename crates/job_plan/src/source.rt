@@ -14,13 +14,16 @@ ghost use Rattle.job_plan.specs.Plans.{walk_of};
 ghost use Rattle.job_plan.specs.Spans.{after, span};
 ghost use Rattle.job_plan.specs.Walks.{plain_values, source_walk, values_of};
 
-use crate::pieces::{ItemPiece, RangePiece, ValuePiece};
+use crate::given::GivenWalk;
+use crate::item_pieces::feed_pieces;
+use crate::pieces::{RangePiece, ValuePiece};
 use crate::segment::{JobPlan, Segment};
 use crate::sources::{PlainSources, plain_size};
+use crate::spans::{end_after, within};
 use batch_eval::{BatchSink, Registers, feed_batches};
 use job_language::PlainSource;
 use lambda_expr::{Env, FaultKind};
-use trace::{Chunk, End, Fault, Fed, Flow, Item, NoMemory};
+use trace::{End, Fault, Fed, Flow, NoMemory};
 
 /// The fault of sources of more than 2^62 values.
 const TOO_LONG: Fault = Fault {
@@ -34,8 +37,8 @@ const TOO_LONG: Fault = Fault {
 pub enum Source<'a, 'c> {
     /// Of the first segment: the sources of the job.
     Plain(PlainSources<'a, 'c>),
-    /// Of a later segment: the outcome of the segment before it.
-    Chunk(&'a Chunk),
+    /// Of a later segment: what the segment before it gave.
+    Given(&'a GivenWalk),
 }
 
 impl<'a, 'c> Source<'a, 'c> {
@@ -47,10 +50,10 @@ impl<'a, 'c> Source<'a, 'c> {
     }
 
     /// The source of a later segment.
-    pub fn of_chunk(chunk: &'a Chunk) -> Source<'a, 'c>
-        ensures { walk_in result ≡ chunk.now }
+    pub fn of_given(given: &'a GivenWalk) -> Source<'a, 'c>
+        ensures { walk_in result ≡ given.now }
     {
-        Source::Chunk(chunk)
+        Source::Given(given)
     }
 
     /// How the walk over the source ends.
@@ -65,7 +68,7 @@ impl<'a, 'c> Source<'a, 'c> {
                     End::Done
                 }
             }
-            Source::Chunk(chunk) => chunk.end(),
+            Source::Given(given) => given.end(),
         }
     }
 
@@ -92,10 +95,10 @@ impl<'a, 'c> Source<'a, 'c> {
                 }
                 feed_plain(segment, env, plain.sources, 0, from, to, registers, sink)
             }
-            Source::Chunk(chunk) => feed_pieces(
+            Source::Given(given) => feed_pieces(
                 segment,
                 env,
-                chunk.pieces(),
+                given.pieces(),
                 from,
                 to,
                 registers,
@@ -103,25 +106,6 @@ impl<'a, 'c> Source<'a, 'c> {
             ),
         }
     }
-}
-
-/// The first of these positions within a list of this size, and how many there are.
-fn within(from: u64, to: Option<u64>, size: u64) -> (u64, u64)
-    ensures start { result.0 ≡ min from size }
-    ensures count { result.1 ≡ span from to size }
-{
-    let end = match to {
-        Some(to) => to.min(size),
-        None => size,
-    };
-    (from.min(size), end.saturating_sub(from))
-}
-
-/// The end of positions, counted after this number of elements.
-fn end_after(to: Option<u64>, size: u64) -> Option<u64>
-    ensures { result ≡ after to size }
-{
-    Some(to?.saturating_sub(size))
 }
 
 /// Takes the items at these positions of sources, of which the first item has the place `origin`.
@@ -305,62 +289,4 @@ fn range_piece(origin: u64, from: i64, start: u64, count: u64) -> RangePiece
         first: from + start as i64,
         count,
     }
-}
-
-/// Takes the items at these positions of pieces.
-fn feed_pieces<S: BatchSink>(
-    segment: &Segment,
-    env: &Env,
-    pieces: &[Vec<Item>],
-    from: u64,
-    to: Option<u64>,
-    registers: &mut Registers,
-    sink: &mut S,
-) -> Result<Fed, NoMemory>
-    requires wants { S.flow sink.old ≡ Flow.More }
-    ensures fed { (xs : List item) → S.has_taken sink.old xs → IsFed S.has_taken xs
-        (walk_of (segment_in segment.now) env.now (trace (elements from to (flat_map (λ piece. piece.items) pieces.now)) end.Done)) result sink.new }
-    ensures flow { S.flow sink.new ≡ flow_after result }
-    ensures refused { OnErr result S.takes_memory }
-{
-    let mut next = from;
-    let mut last = to;
-    for piece in pieces {
-        let size = piece.len() as u64;
-        match feed_items(segment, env, piece, next, last, registers, sink)? {
-            Fed::More => {}
-            stopped => return Ok(stopped),
-        }
-        next = next.saturating_sub(size);
-        last = end_after(last, size);
-    }
-    Ok(Fed::More)
-}
-
-/// Takes the items at these positions of one piece.
-fn feed_items<S: BatchSink>(
-    segment: &Segment,
-    env: &Env,
-    items: &[Item],
-    from: u64,
-    to: Option<u64>,
-    registers: &mut Registers,
-    sink: &mut S,
-) -> Result<Fed, NoMemory>
-    requires wants { S.flow sink.old ≡ Flow.More }
-    ensures fed { (xs : List item) → S.has_taken sink.old xs → IsFed S.has_taken xs
-        (walk_of (segment_in segment.now) env.now (trace (elements from to items.now) end.Done)) result sink.new }
-    ensures flow { S.flow sink.new ≡ flow_after result }
-    ensures refused { OnErr result S.takes_memory }
-{
-    let (start, count) = within(from, to, items.len() as u64);
-    let items = &items[start as usize..(start + count) as usize];
-    feed_batches(
-        &segment.stages,
-        segment.first_stage,
-        env,
-        &ItemPiece { items },
-        registers,
-        sink,
-    )
 }

@@ -7,6 +7,7 @@ ghost use Rattle.job_plan.specs.Pieces.{piece_of};
 ghost use Rattle.job_plan.specs.Plans.{planned_answer, segments_answer};
 
 use crate::answer::Answer;
+use crate::given::GivenWalk;
 use crate::leaves::leaf_with;
 use crate::outcome::Outcome;
 use crate::part::Part;
@@ -73,10 +74,11 @@ fn walk_segments(
     match part.finish(alloc, env)? {
         Outcome::Answer(answer) => Ok(answer),
         Outcome::Source(chunk) => {
+            let given = GivenWalk::of(alloc, chunk);
             walk_segments(
                 alloc,
                 later,
-                &Source::of_chunk(&chunk),
+                &Source::of_given(&given),
                 tree,
                 env,
                 registers,

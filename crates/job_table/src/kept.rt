@@ -1,6 +1,6 @@
 //! What the segments of a plan go over, as it is kept between them.
 
-use trace::Chunk;
+use job_plan::GivenWalk;
 
 /// What a segment goes over.
 #[derive(Drop)]
@@ -8,5 +8,5 @@ pub(crate) enum SegmentSource {
     /// The sources of the job.
     Own,
     /// What the segment before it gave.
-    Kept(Chunk),
+    Kept(GivenWalk),
 }

@@ -5,7 +5,7 @@ ghost use Rattle.job_plan.specs.Plans.{AbstractPlan, planned_answer};
 ghost use Rattle.job_table.specs.PlanSegments.{PartStands, end_divides, segment_divides, slices_first, walk_at, walk_size};
 
 use crate::NoMemory;
-use job_plan::{Answer, JobPlan, Outcome, Part, Segment, SegmentEnd, Source, leaf};
+use job_plan::{Answer, GivenWalk, JobPlan, Outcome, Part, Segment, SegmentEnd, Source, leaf};
 use lambda_expr::Env;
 use slice_ops::Slice;
 use std::alloc::Global;
@@ -69,14 +69,14 @@ pub(crate) fn piece<'a>(
 }
 
 /// What the next segment goes over, of the part of a whole segment.
-pub(crate) fn next_walk(alloc: Global, part: Part<'_>, env: &Env) -> Result<Chunk, NoMemory>
+pub(crate) fn next_walk(alloc: Global, part: Part<'_>, env: &Env) -> Result<GivenWalk, NoMemory>
     requires alone { env.now ≡ [] }
-    ensures { IfOk result (λ chunk. (plan : AbstractPlan) (segment : ℕ) → segment < slices_first plan.segments
-        → PartStands plan segment 0 (walk_size (walk_at plan segment)) part.entry → chunk ≡ walk_at plan (segment + 1)) }
+    ensures { IfOk result (λ given. (plan : AbstractPlan) (segment : ℕ) → segment < slices_first plan.segments
+        → PartStands plan segment 0 (walk_size (walk_at plan segment)) part.entry → given ≡ walk_at plan (segment + 1)) }
 {
     match part.finish(alloc, env)? {
-        Outcome::Source(chunk) => Ok(chunk),
-        Outcome::Answer(_) => Ok(Chunk::ending(alloc, End::Done)),
+        Outcome::Source(chunk) => Ok(GivenWalk::of(alloc, chunk)),
+        Outcome::Answer(_) => Ok(GivenWalk::of(alloc, Chunk::ending(alloc, End::Done))),
     }
 }
 

@@ -92,7 +92,7 @@ impl<'a, 'c, P: Planned> Segments for PlanJobs<'a, 'c, P> {
     fn size(&self, job: usize, _segment: usize, source: &SegmentSource) -> u64 {
         match source {
             SegmentSource::Own => Source::of_job(self.job(job)).size(),
-            SegmentSource::Kept(chunk) => Source::of_chunk(chunk).size(),
+            SegmentSource::Kept(given) => Source::of_given(given).size(),
         }
     }
 
@@ -115,8 +115,8 @@ impl<'a, 'c, P: Planned> Segments for PlanJobs<'a, 'c, P> {
                 let source = Source::of_job(plan);
                 piece(alloc, plan, segment, &source, from, to, &self.env)
             }
-            SegmentSource::Kept(chunk) => {
-                let source = Source::of_chunk(chunk);
+            SegmentSource::Kept(given) => {
+                let source = Source::of_given(given);
                 piece(alloc, plan, segment, &source, from, to, &self.env)
             }
         }

@@ -166,3 +166,32 @@ fn pieces_without_items_change_nothing(rt: HostRuntime) -> Result<(), Fail> {
     }
     Ok(())
 }
+
+/// The tree that halves this many items down to pieces of one.
+fn finest_tree(alloc: Global, items: u64) -> Result<SplitTree, AllocError> {
+    if items < 2 {
+        return Ok(SplitTree::Leaf);
+    }
+    let half = items / 2;
+    let left = finest_tree(alloc, half)?;
+    let right = finest_tree(alloc, items - half)?;
+    Ok(SplitTree::Node(half, Box::new(alloc, left)?, Box::new(alloc, right)?))
+}
+
+/// A job whose first segment gives a walk of 13,328 pieces, and its answer, worked out by hand: of the 13,333 integers below
+/// 20,000 that 3 doesn't divide, which sum to 133,326,667, the first five are 1, 2, 4, 5 and 7, and each other one is raised
+/// by 1.
+const MANY_PIECES: &str =
+    "q = range(0, 20000).filter(x -> x % 3 != 0).skip(5).map(x -> x + 1).sum()";
+
+#[test]
+fn a_walk_of_many_pieces_gives_its_items_by_position(rt: HostRuntime) -> Result<(), Fail> {
+    let alloc = rt.alloc();
+    let columns = Columns::none();
+    let plan = plan_of(alloc, MANY_PIECES, &columns)?;
+    let tree = finest_tree(alloc, 20_000)?;
+    for job in &plan.jobs {
+        assert!(rt; gives(alloc, job, &tree, "133339976")?);
+    }
+    Ok(())
+}

@@ -13,7 +13,7 @@ returns-in-Source c = λ plan segment before stands.
     let ends : (s : AbstractSegment) (t : Trace) → StandsFor s [] c.args.part t → o ≡ outcome_of s [] t =
     subst (λ (e : Numbers). (s : AbstractSegment) (t : Trace) → StandsFor s e c.args.part t → o ≡ outcome_of s e t) c.requires.alone c.in_ok-chunk.ensures in
     let next : suc segment ≡ segment + 1 = omega arith in
-    sym (ap given_walk c.in-Source.is) ∙ goes_over plan segment c.args.part o ends before stands ∙ ap (walk_at plan) next
+    c.of.ensures ∙ sym (ap given_walk c.in-Source.is) ∙ goes_over plan segment c.args.part o ends before stands ∙ ap (walk_at plan) next
 
 pub returns : goal.returns
 returns c = λ plan segment before stands.
@@ -21,4 +21,4 @@ returns c = λ plan segment before stands.
     let ends : (s : AbstractSegment) (t : Trace) → StandsFor s [] c.args.part t → o ≡ outcome_of s [] t =
     subst (λ (e : Numbers). (s : AbstractSegment) (t : Trace) → StandsFor s e c.args.part t → o ≡ outcome_of s e t) c.requires.alone c.in_ok-chunk.ensures in
     let next : suc segment ≡ segment + 1 = omega arith in
-    c.ending.ensures ∙ sym (ap given_walk c.in-Answer.is) ∙ goes_over plan segment c.args.part o ends before stands ∙ ap (walk_at plan) next
+    c.of-in-Answer.ensures ∙ c.ending.ensures ∙ sym (ap given_walk c.in-Answer.is) ∙ goes_over plan segment c.args.part o ends before stands ∙ ap (walk_at plan) next

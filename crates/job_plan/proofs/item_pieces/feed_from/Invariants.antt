@@ -8,7 +8,7 @@ use Rattle.trace.specs.Trace.{trace}
 use Rattle.job_plan.specs.Parts.{segment_in}
 use Rattle.job_plan.specs.Pieces.{elements}
 use Rattle.job_plan.specs.Plans.{walk_of}
-use Rattle.job_plan.proofs.source.feed_pieces.Given as goal
+use Rattle.job_plan.proofs.item_pieces.feed_from.Given as goal
 
 abbrev pub invariant-loop-piece : goal.invariant-loop-piece
 invariant-loop-piece g l = (g.S.LongSink.flow l.sink ≡ flow.More)

@@ -12,7 +12,7 @@ use Rattle.job_plan.specs.Plans.{walk_of}
 use Rattle.job_plan.specs.Spans.{after}
 use Rattle.job_plan.proofs.Elements.{next_elements, none_after}
 use Rattle.job_plan.proofs.FeedLemmas.{fed_none, fed_both, fed_stopped}
-use Rattle.job_plan.proofs.source.feed_pieces.Goals as goal
+use Rattle.job_plan.proofs.item_pieces.feed_from.Goals as goal
 
 pub loop-piece-init : goal.loop-piece-init
 loop-piece-init g c =

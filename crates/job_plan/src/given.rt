@@ -1,0 +1,103 @@
+//! The walk that a segment gave, kept as the source of the next one.
+
+ghost use Rattle.std.specs.Prelude.{◌≡◌, ◌-◌, ◌^◌, min, length, flat_map, IfOk};
+
+use std::alloc::Global;
+use std::marker::Model;
+use trace::{Chunk, End, Item, NoMemory};
+
+/// In how many pieces a given walk is kept at most. Whoever looks for a position goes over them.
+const MOST_PIECES: usize = 8_192;
+
+/// The walk that a segment gave, as the source of the next one, in which any number of leaves look for their positions.
+///
+/// Contracts see the trace of that walk. It has at most 8,192 pieces if there was memory to make it so, and knows how many
+/// items it has.
+#[derive(Drop)]
+pub struct GivenWalk {
+    chunk: Chunk,
+    size: u64,
+}
+
+impl Model for GivenWalk {
+    ghost use Rattle.std.specs.Prelude.{◌≡◌, ◌-◌, ◌^◌, min, length};
+    ghost use Rattle.trace.specs.Trace.{Trace};
+
+    ghost Value = { Trace };
+
+    ghost view = { λ given. given.chunk };
+
+    ghost invariant = { λ given. given.size ≡ min (length given.chunk.items) (2 ^ 64 - 1) };
+}
+
+impl GivenWalk {
+    /// Keeps a chunk. The items of more than 8,192 pieces are copied into one, 16 bytes each; if the allocation fails, they
+    /// stay as they are.
+    pub fn of(alloc: Global, chunk: Chunk) -> GivenWalk
+        ensures { result ≡ chunk }
+    {
+        let chunk = in_few_pieces(alloc, chunk);
+        let size = items_in(chunk.pieces());
+        GivenWalk { chunk, size }
+    }
+
+    /// The pieces: the items of the first, then those of the second, and so on.
+    pub(crate) fn pieces(&self) -> &[Vec<Item>]
+        ensures { flat_map (λ piece. piece.items) result.now ≡ self.now.items }
+    {
+        self.chunk.pieces()
+    }
+
+    /// How the walk ended.
+    pub(crate) fn end(&self) -> End
+        ensures { result ≡ self.now.ending }
+    {
+        self.chunk.end()
+    }
+
+    /// How many items the walk has, or the greatest `u64` if there are more.
+    pub(crate) fn size(&self) -> u64
+        ensures { result ≡ min (length self.now.items) (2 ^ 64 - 1) }
+    {
+        self.size
+    }
+}
+
+/// The same walk. Of many pieces it makes one, if there is memory for it.
+fn in_few_pieces(alloc: Global, chunk: Chunk) -> Chunk
+    ensures { result ≡ chunk }
+{
+    if chunk.pieces().len() <= MOST_PIECES {
+        return chunk;
+    }
+    match joined(alloc, &chunk) {
+        Ok(joined) => joined,
+        Err(_) => chunk,
+    }
+}
+
+/// The same walk in one piece, each item copied.
+fn joined(alloc: Global, chunk: &Chunk) -> Result<Chunk, NoMemory>
+    ensures { IfOk result (λ joined. joined ≡ chunk.now) }
+{
+    let mut joined = Chunk::ending(alloc, End::Done);
+    let pieces = chunk.pieces();
+    for piece in pieces {
+        for item in piece {
+            joined.push(*item)?;
+        }
+    }
+    joined.end_with(chunk.end());
+    Ok(joined)
+}
+
+/// How many items there are in pieces, or the greatest `u64` if there are more.
+fn items_in(pieces: &[Vec<Item>]) -> u64
+    ensures { result ≡ min (length (flat_map (λ piece. piece.items) pieces.now)) (2 ^ 64 - 1) }
+{
+    let mut items = 0u64;
+    for piece in pieces {
+        items = items.saturating_add(piece.len() as u64);
+    }
+    items
+}

@@ -1,0 +1,23 @@
+//! Positions within the first of two lists, and after it.
+
+ghost use Rattle.std.specs.Prelude.{◌≡◌, min};
+ghost use Rattle.job_plan.specs.Spans.{after, span};
+
+/// The first of these positions within a list of this size, and how many there are.
+pub(crate) fn within(from: u64, to: Option<u64>, size: u64) -> (u64, u64)
+    ensures start { result.0 ≡ min from size }
+    ensures count { result.1 ≡ span from to size }
+{
+    let end = match to {
+        Some(to) => to.min(size),
+        None => size,
+    };
+    (from.min(size), end.saturating_sub(from))
+}
+
+/// The end of positions, counted after this number of elements.
+pub(crate) fn end_after(to: Option<u64>, size: u64) -> Option<u64>
+    ensures { result ≡ after to size }
+{
+    Some(to?.saturating_sub(size))
+}
