@@ -13,6 +13,7 @@ fn walk_whole<S: Segments>(
     job: usize,
     segment: usize,
     source: &S::Source,
+    scratch: &mut S::Scratch,
 ) -> Result<S::Part, NoMemory>
     requires job { job < S.job_count }
     requires segment { segment ≤ S.last_of job }
@@ -20,7 +21,7 @@ fn walk_whole<S: Segments>(
     ensures { IfOk result (λ part. S.stands_for job segment 0 (S.size_of job segment) part) }
 {
     let size = jobs.size(job, segment, source);
-    jobs.leaf(alloc, job, segment, source, 0, size)
+    jobs.leaf(alloc, job, segment, source, 0, size, scratch)
 }
 
 /// Works a job out, segment after segment, each as one piece. It enters the gate once, for all of the job's source.
@@ -36,10 +37,11 @@ pub(crate) fn answer_alone<S: Segments, G: Gate>(
     let mut source = jobs.first_source(job);
     gate.at_leaf(job, 0, jobs.size(job, 0, &source));
     let last = jobs.last_segment(job);
+    let mut scratch = jobs.scratch(alloc);
     for segment in 0..last {
-        let part = walk_whole(alloc, jobs, job, segment, &source)?;
+        let part = walk_whole(alloc, jobs, job, segment, &source, &mut scratch)?;
         source = jobs.next_source(alloc, job, segment, part)?;
     }
-    let part = walk_whole(alloc, jobs, job, last, &source)?;
+    let part = walk_whole(alloc, jobs, job, last, &source, &mut scratch)?;
     jobs.answer(alloc, job, part)
 }

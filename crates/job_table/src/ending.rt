@@ -17,6 +17,7 @@ impl<'a, S: Segments, R: Running> JobWork<'a, S, TablePart<S>, TableKept<S>, R> 
         gate: &G,
         whole: TableWhole<S, R>,
         spawn: &mut P,
+        scratch: &mut S::Scratch,
     ) -> Option<TableWhole<S, R>>
         requires { StandsWhole S.stands_for S.size_of whole.job whole.segment (λ x. x.part) whole.part }
         ensures { IfSome result (λ whole. StandsWhole S.stands_for S.size_of whole.job whole.segment (λ x. x.part) whole.part) }
@@ -38,7 +39,7 @@ impl<'a, S: Segments, R: Running> JobWork<'a, S, TablePart<S>, TableKept<S>, R> 
             }
             let credit = seat.credit();
             let (_rest, seat) = self.counts.split(seat, END, 1, credit);
-            return self.begin(gate, seat, job, segment + 1, spawn);
+            return self.begin(gate, seat, job, segment + 1, spawn, scratch);
         }
         if let Ok(answer) = self.jobs.answer(self.alloc, job, part) {
             keep_answer(&self.places, job, answer);
@@ -55,6 +56,7 @@ impl<'a, S: Segments, R: Running> JobWork<'a, S, TablePart<S>, TableKept<S>, R> 
         gate: &G,
         first: Option<TableWhole<S, R>>,
         spawn: &mut P,
+        scratch: &mut S::Scratch,
     )
         requires { IfSome first (λ whole. StandsWhole S.stands_for S.size_of whole.job whole.segment (λ x. x.part) whole.part) }
     {
@@ -63,7 +65,7 @@ impl<'a, S: Segments, R: Running> JobWork<'a, S, TablePart<S>, TableKept<S>, R> 
             let Some(whole) = left.take() else {
                 break;
             };
-            left = self.end_segment(gate, whole, spawn);
+            left = self.end_segment(gate, whole, spawn, scratch);
         }
     }
 }
@@ -75,15 +77,16 @@ impl<'a, S: Segments, R: Running> JobWork<'a, S, TablePart<S>, TableKept<S>, R> 
         gate: &G,
         task: TableTask<S, R>,
         spawn: &mut P,
+        scratch: &mut S::Scratch,
     ) {
         match task {
             Task::Open(opening) => {
-                let whole = self.open(gate, opening, spawn);
-                self.go_on(gate, whole, spawn);
+                let whole = self.open(gate, opening, spawn, scratch);
+                self.go_on(gate, whole, spawn, scratch);
             }
             Task::Walk(piece) => {
-                let whole = self.walk(gate, piece, spawn);
-                self.go_on(gate, whole, spawn);
+                let whole = self.walk(gate, piece, spawn, scratch);
+                self.go_on(gate, whole, spawn, scratch);
             }
         }
     }

@@ -63,6 +63,7 @@ fn open_one<S: Segments, R: Running>(
 /// The openings of all jobs that get a start node, the last job first, and a seat without credit for each worker.
 pub(crate) fn open_all<S: Segments, R: Running>(
     alloc: Global,
+    jobs: &S,
     counts: &TableCounts<S>,
     purse: TablePurse<S, R>,
     workers: u64,
@@ -72,9 +73,9 @@ pub(crate) fn open_all<S: Segments, R: Running>(
     ensures idles { IfOk result (λ made. length made.1.items ≡ workers) }
 {
     let mut tasks = Vec::new(alloc);
-    let jobs = purse.jobs;
+    let unopened = purse.jobs;
     let mut left = Some(purse);
-    for _opened in 0..jobs {
+    for _opened in 0..unopened {
         let Some(purse) = left.take() else {
             break;
         };
@@ -89,19 +90,28 @@ pub(crate) fn open_all<S: Segments, R: Running>(
         }
     }
     let Some(purse) = left else { unreachable!() };
-    let idles = idle_seats(alloc, counts, empty(purse), workers)?;
+    let idles = idle_seats(alloc, jobs, counts, empty(alloc, jobs, purse), workers)?;
     Ok((tasks, idles))
 }
 
 /// What is left of a purse whose jobs are opened.
-fn empty<S: Segments, R: Running>(purse: TablePurse<S, R>) -> TableIdle<S, R> {
+fn empty<S: Segments, R: Running>(
+    alloc: Global,
+    jobs: &S,
+    purse: TablePurse<S, R>,
+) -> TableIdle<S, R> {
     let Purse { seat, jobs: _, of } = purse;
-    Idle { seat, of }
+    Idle {
+        seat,
+        scratch: jobs.scratch(alloc),
+        of,
+    }
 }
 
 /// This many seats without credit, split off the first one.
 fn idle_seats<S: Segments, R: Running>(
     alloc: Global,
+    jobs: &S,
     counts: &TableCounts<S>,
     first: TableIdle<S, R>,
     workers: u64,
@@ -115,7 +125,7 @@ fn idle_seats<S: Segments, R: Running>(
         let Some(from) = left.take() else {
             break;
         };
-        let (rest, part) = idle_one(counts, from);
+        let (rest, part) = idle_one(alloc, jobs, counts, from);
         left = Some(rest);
         idles.push(part)?;
     }
@@ -124,17 +134,20 @@ fn idle_seats<S: Segments, R: Running>(
 
 /// A seat without credit, and the one that it was split off from.
 fn idle_one<S: Segments, R: Running>(
+    alloc: Global,
+    jobs: &S,
     counts: &TableCounts<S>,
     from: TableIdle<S, R>,
 ) -> (TableIdle<S, R>, TableIdle<S, R>)
     requires table { table_id_of counts.now ≡ R.table }
 {
-    let Idle { seat, of } = from;
+    let Idle { seat, scratch, of } = from;
     let (seat, part) = counts.split(seat, END, 0, 0);
     (
-        Idle { seat, of },
+        Idle { seat, scratch, of },
         Idle {
             seat: part,
+            scratch: jobs.scratch(alloc),
             of: PhantomData,
         },
     )
@@ -166,11 +179,12 @@ impl<'a, S: Segments, R: Running> JobWork<'a, S, TablePart<S>, TableKept<S>, R> 
         gate: &G,
         opening: TableOpening<S, R>,
         spawn: &mut P,
+        scratch: &mut S::Scratch,
     ) -> Option<TableWhole<S, R>>
         ensures { IfSome result (λ whole. StandsWhole S.stands_for S.size_of whole.job whole.segment (λ x. x.part) whole.part) }
     {
         let job = opening.job;
         let seat = started(self, opening)?;
-        self.begin(gate, seat, job, 0, spawn)
+        self.begin(gate, seat, job, 0, spawn, scratch)
     }
 }

@@ -5,7 +5,8 @@ ghost use Rattle.job_plan.specs.Plans.{AbstractPlan, planned_answer};
 ghost use Rattle.job_table.specs.PlanSegments.{PartStands, end_divides, segment_divides, slices_first, walk_at, walk_size};
 
 use crate::NoMemory;
-use job_plan::{Answer, GivenWalk, JobPlan, Outcome, Part, Segment, SegmentEnd, Source, leaf};
+use batch_eval::Registers;
+use job_plan::{Answer, GivenWalk, JobPlan, Outcome, Part, Segment, SegmentEnd, Source, leaf_with};
 use lambda_expr::Env;
 use slice_ops::Slice;
 use std::alloc::Global;
@@ -56,6 +57,7 @@ pub(crate) fn piece<'a>(
     from: u64,
     to: u64,
     env: &Env,
+    registers: &mut Registers,
 ) -> Result<Part<'a>, NoMemory>
     requires source { walk_in source.now ≡ walk_at (plan_in plan.now) segment }
     requires alone { env.now ≡ [] }
@@ -65,7 +67,7 @@ pub(crate) fn piece<'a>(
         return Ok(Part::Array(Chunk::ending(alloc, End::Done)));
     };
     let upto = if to == source.size() { None } else { Some(to) };
-    leaf(alloc, of, source, from, upto, env)
+    leaf_with(alloc, of, source, from, upto, env, registers)
 }
 
 /// What the next segment goes over, of the part of a whole segment.

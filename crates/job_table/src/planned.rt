@@ -14,6 +14,7 @@ use crate::kept::SegmentSource;
 use crate::plan_parts::{is_divided, last_answer, next_walk, piece, slices_first};
 use crate::run::run_all;
 use crate::segments::Segments;
+use batch_eval::Registers;
 use job_plan::{Answer, JobPlan, Part, Plan, Settings, Source};
 use lambda_expr::Env;
 use std::alloc::Global;
@@ -59,6 +60,8 @@ impl<'a, 'c, P: Planned> Segments for PlanJobs<'a, 'c, P> {
 
     type Answer = Answer;
 
+    type Scratch = Registers;
+
     ghost job_count = { length P.jobs };
 
     ghost last_of = { λ job. slices_first (plan_at (plans_in P.jobs) job).segments };
@@ -100,6 +103,10 @@ impl<'a, 'c, P: Planned> Segments for PlanJobs<'a, 'c, P> {
         is_divided(self.job(job), segment)
     }
 
+    fn scratch(&self, alloc: Global) -> Registers {
+        Registers::new(alloc)
+    }
+
     fn leaf(
         &self,
         alloc: Global,
@@ -108,16 +115,21 @@ impl<'a, 'c, P: Planned> Segments for PlanJobs<'a, 'c, P> {
         source: &SegmentSource,
         from: u64,
         to: u64,
+        registers: &mut Registers,
     ) -> Result<Part<'a>, NoMemory> {
         let plan = self.job(job);
         match source {
             SegmentSource::Own => {
                 let source = Source::of_job(plan);
-                piece(alloc, plan, segment, &source, from, to, &self.env)
+                piece(
+                    alloc, plan, segment, &source, from, to, &self.env, registers,
+                )
             }
             SegmentSource::Kept(given) => {
                 let source = Source::of_given(given);
-                piece(alloc, plan, segment, &source, from, to, &self.env)
+                piece(
+                    alloc, plan, segment, &source, from, to, &self.env, registers,
+                )
             }
         }
     }

@@ -72,6 +72,7 @@ where
     S::Part: Send,
     S::Source: Send + Sync,
     S::Answer: Send + Sync,
+    S::Scratch: Send,
     requires ends { opened.jobs ≡ S.job_count }
     requires table { table_id_of opened.counts ≡ R.table }
     requires planned { (R.jobs ≡ S.job_count) × ((j : ℕ) → R.last j ≡ S.last_of j) × ((j k : ℕ) → R.size j k ≡ S.size_of j k) }
@@ -99,6 +100,7 @@ where
     S::Part: Send,
     S::Source: Send + Sync,
     S::Answer: Send + Sync,
+    S::Scratch: Send,
     ensures count { IfOk result (λ answers. length answers.items ≡ S.job_count) }
     ensures each { IfOk result (λ answers. AreAnswers S.is_answer 0 answers.items) }
 {

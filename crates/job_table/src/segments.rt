@@ -19,6 +19,9 @@ pub trait Segments {
     /// What a job gives.
     type Answer: Drop;
 
+    /// What a worker keeps from one leaf to the next, such as room to compute in. No part depends on what it holds.
+    type Scratch: Drop;
+
     // How many jobs there are.
     ghost job_count: { ℕ };
 
@@ -72,6 +75,9 @@ pub trait Segments {
         requires segment { segment ≤ last_of job }
         ensures { result ≡ divided job segment };
 
+    /// What a worker begins with.
+    fn scratch(&self, alloc: Global) -> Self::Scratch;
+
     /// Walks a piece.
     fn leaf(
         &self,
@@ -81,6 +87,7 @@ pub trait Segments {
         source: &Self::Source,
         from: u64,
         to: u64,
+        scratch: &mut Self::Scratch,
     ) -> Result<Self::Part, NoMemory>
         requires piece { IsPiece job_count last_of size_of job segment from to }
         requires source { is_source job segment source.now }

@@ -7,6 +7,7 @@ ghost use Rattle.job_table.specs.Cuts.{IsPiece, begins, ends_at};
 ghost use Rattle.job_table.specs.Tasks.{HasEnds, CanOpen, HasEnd, KnowsEnd};
 
 use crate::cut::{Cut, TableKept, TablePart};
+use crate::segments::Segments;
 use completer_tree::Half;
 use pending_count::{Fits, Node, Seat};
 use std::marker::{Brand, PhantomData};
@@ -62,10 +63,11 @@ pub enum Task<V, K: Fits<V, Tag = Cut>, R: Running> {
     Walk(Piece<V, K, R>),
 }
 
-/// A worker's right to ask how many jobs are left.
+/// A worker's right to ask how many jobs are left, and what it keeps from one leaf to the next.
 #[derive(Drop)]
-pub struct Idle<V, K: Fits<V, Tag = Cut>, R: Running> {
+pub struct Idle<V, K: Fits<V, Tag = Cut>, R: Running, T> {
     pub(crate) seat: Seat<V, K>,
+    pub(crate) scratch: T,
     pub(crate) of: PhantomData<R>,
     ghost table: { table_of seat ≡ R.table },
 }
@@ -98,7 +100,7 @@ pub type TablePiece<S, R> = Piece<TablePart<S>, TableKept<S>, R>;
 
 pub type TableTask<S, R> = Task<TablePart<S>, TableKept<S>, R>;
 
-pub type TableIdle<S, R> = Idle<TablePart<S>, TableKept<S>, R>;
+pub type TableIdle<S, R> = Idle<TablePart<S>, TableKept<S>, R, <S as Segments>::Scratch>;
 
 pub type TablePurse<S, R> = Purse<TablePart<S>, TableKept<S>, R>;
 

@@ -19,6 +19,7 @@ fn leaf<S: Segments, R: Running, G: Gate>(
     work: &TableWork<S, R>,
     gate: &G,
     half: Half<TablePart<S>, TableKept<S>>,
+    scratch: &mut S::Scratch,
 ) -> Option<TableWhole<S, R>>
     requires can { CanHand R.table half.place half.seat }
     requires top { KnowsEnd half.place.root half.seat }
@@ -28,7 +29,7 @@ fn leaf<S: Segments, R: Running, G: Gate>(
     let Half { seat, place } = half;
     let cut = place.tag;
     let (from, to) = range_of(&place);
-    let value = part_of(work, gate, cut.job, cut.segment, from, to);
+    let value = part_of(work, gate, cut.job, cut.segment, from, to, scratch);
     let tree = Tree::new(&work.counts, &[END]);
     let (seat, found) = tree.try_complete(seat, Some(place), value);
     let part = found?;
@@ -51,13 +52,14 @@ impl<'a, S: Segments, R: Running> JobWork<'a, S, TablePart<S>, TableKept<S>, R> 
         gate: &G,
         piece: TablePiece<S, R>,
         spawn: &mut P,
+        scratch: &mut S::Scratch,
     ) -> Option<TableWhole<S, R>>
         ensures { IfSome result (λ whole. StandsWhole S.stands_for S.size_of whole.job whole.segment (λ x. x.part) whole.part) }
     {
         let Piece { half, of: _ } = piece;
         let (from, to) = range_of(&half.place);
         if to - from <= self.threshold {
-            return leaf(self, gate, half);
+            return leaf(self, gate, half, scratch);
         }
         let Half { seat, place } = half;
         let run = Join {
@@ -67,7 +69,7 @@ impl<'a, S: Segments, R: Running> JobWork<'a, S, TablePart<S>, TableKept<S>, R> 
         };
         let tree = Tree::new(&self.counts, &[END]);
         match tree.fork(seat, Some(place), run) {
-            Forked::Whole(seat, _run) => leaf(self, gate, Half { seat, place }),
+            Forked::Whole(seat, _run) => leaf(self, gate, Half { seat, place }, scratch),
             Forked::Split(left, right) => {
                 let own = Piece {
                     half: left,
@@ -78,11 +80,11 @@ impl<'a, S: Segments, R: Running> JobWork<'a, S, TablePart<S>, TableKept<S>, R> 
                     of: PhantomData,
                 };
                 let pushed = spawn.push(Task::Walk(other));
-                let first = self.walk(gate, own, spawn);
+                let first = self.walk(gate, own, spawn, scratch);
                 let Err(Task::Walk(other)) = pushed else {
                     return first;
                 };
-                let second = self.walk(gate, other, spawn);
+                let second = self.walk(gate, other, spawn, scratch);
                 if first.is_some() { first } else { second }
             }
         }
@@ -98,13 +100,14 @@ fn walk_whole<S: Segments, R: Running, G: Gate>(
     job: usize,
     segment: usize,
     size: u64,
+    scratch: &mut S::Scratch,
 ) -> TableWhole<S, R>
     requires has { HasEnds R.table 1 seat }
     requires known { (job < R.jobs) × (segment ≤ R.last job) }
     requires size { size ≡ R.size job segment }
     ensures { StandsWhole S.stands_for S.size_of result.job result.segment (λ x. x.part) result.part }
 {
-    let part = part_of(work, gate, job, segment, 0, size);
+    let part = part_of(work, gate, job, segment, 0, size, scratch);
     Whole {
         seat,
         job,
@@ -124,6 +127,7 @@ impl<'a, S: Segments, R: Running> JobWork<'a, S, TablePart<S>, TableKept<S>, R> 
         job: usize,
         segment: usize,
         spawn: &mut P,
+        scratch: &mut S::Scratch,
     ) -> Option<TableWhole<S, R>>
         requires has { HasEnds R.table 1 seat }
         requires known { (job < R.jobs) × (segment ≤ R.last job) }
@@ -134,7 +138,7 @@ impl<'a, S: Segments, R: Running> JobWork<'a, S, TablePart<S>, TableKept<S>, R> 
             return None;
         };
         if size <= self.threshold || !self.jobs.is_divided(job, segment) {
-            return Some(walk_whole(self, gate, seat, job, segment, size));
+            return Some(walk_whole(self, gate, seat, job, segment, size, scratch));
         }
         let run = Join {
             cut: Cut::halves(job, segment, 0, size),
@@ -143,7 +147,9 @@ impl<'a, S: Segments, R: Running> JobWork<'a, S, TablePart<S>, TableKept<S>, R> 
         };
         let tree = Tree::new(&self.counts, &[END]);
         match tree.fork(seat, None, run) {
-            Forked::Whole(seat, _run) => Some(walk_whole(self, gate, seat, job, segment, size)),
+            Forked::Whole(seat, _run) => Some(walk_whole(
+                self, gate, seat, job, segment, size, scratch,
+            )),
             Forked::Split(left, right) => {
                 let own = Piece {
                     half: left,
@@ -154,11 +160,11 @@ impl<'a, S: Segments, R: Running> JobWork<'a, S, TablePart<S>, TableKept<S>, R> 
                     of: PhantomData,
                 };
                 let pushed = spawn.push(Task::Walk(other));
-                let first = self.walk(gate, own, spawn);
+                let first = self.walk(gate, own, spawn, scratch);
                 let Err(Task::Walk(other)) = pushed else {
                     return first;
                 };
-                let second = self.walk(gate, other, spawn);
+                let second = self.walk(gate, other, spawn, scratch);
                 if first.is_some() { first } else { second }
             }
         }

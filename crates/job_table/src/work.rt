@@ -85,6 +85,7 @@ pub(crate) fn part_of<S: Segments, R: Running, G: Gate>(
     segment: usize,
     from: u64,
     to: u64,
+    scratch: &mut S::Scratch,
 ) -> TablePart<S>
     requires piece { IsPiece S.job_count S.last_of S.size_of job segment from to }
     ensures { Stands S.stands_for job segment from to (λ x. x.part) result }
@@ -92,12 +93,14 @@ pub(crate) fn part_of<S: Segments, R: Running, G: Gate>(
     gate.at_leaf(job, from, to);
     let walked = if segment == 0 {
         let source = work.jobs.first_source(job);
-        work.jobs.leaf(work.alloc, job, 0, &source, from, to)
+        work.jobs
+            .leaf(work.alloc, job, 0, &source, from, to, scratch)
     } else {
         let Some(source) = kept_source(&work.places, job, segment) else {
             return Err(Failure::NoMemory);
         };
-        work.jobs.leaf(work.alloc, job, segment, source, from, to)
+        work.jobs
+            .leaf(work.alloc, job, segment, source, from, to, scratch)
     };
     match walked {
         Ok(part) => Ok(SegmentPart {
@@ -147,7 +150,7 @@ impl<'a, S: Segments, R: Running> JobWork<'a, S, TablePart<S>, TableKept<S>, R> 
             jobs: ends,
             of: PhantomData,
         };
-        let (tasks, idles) = open_all(alloc, &work.counts, purse, settings.workers())?;
+        let (tasks, idles) = open_all(alloc, jobs, &work.counts, purse, settings.workers())?;
         Ok((work, tasks, idles))
     }
 
@@ -165,6 +168,7 @@ where
     S::Part: Send,
     S::Source: Send + Sync,
     S::Answer: Send + Sync,
+    S::Scratch: Send,
 {
     type Task = TableTask<S, R>;
 
@@ -173,9 +177,9 @@ where
     ghost is_over = { λ _ idle. (view_of idle.seat).seen ≡ Some 0 };
 
     fn left<H: Wait>(&self, _rt: &H, idle: TableIdle<S, R>) -> (TableIdle<S, R>, u64) {
-        let Idle { seat, of } = idle;
+        let Idle { seat, scratch, of } = idle;
         let (seat, left) = self.counts.left(seat);
-        (Idle { seat, of }, left)
+        (Idle { seat, scratch, of }, left)
     }
 
     fn run<H: Wait, G: Gate, P: Spawn<TableTask<S, R>>>(
@@ -187,7 +191,12 @@ where
         task: TableTask<S, R>,
         spawn: &mut P,
     ) -> TableIdle<S, R> {
-        self.take(gate, task, spawn);
-        idle
+        let Idle {
+            seat,
+            mut scratch,
+            of,
+        } = idle;
+        self.take(gate, task, spawn, &mut scratch);
+        Idle { seat, scratch, of }
     }
 }

@@ -80,6 +80,8 @@ impl<'a, P: Planned + Sync> Segments for Lists<'a, P> {
 
     type Answer = Vec<i64>;
 
+    type Scratch = ();
+
     ghost job_count = { P.jobs };
 
     ghost last_of = { λ job. JobLast job };
@@ -118,6 +120,8 @@ impl<'a, P: Planned + Sync> Segments for Lists<'a, P> {
         true
     }
 
+    fn scratch(&self, _alloc: Global) {}
+
     fn leaf(
         &self,
         alloc: Global,
@@ -126,6 +130,7 @@ impl<'a, P: Planned + Sync> Segments for Lists<'a, P> {
         source: &ListSource,
         from: u64,
         to: u64,
+        _scratch: &mut (),
     ) -> Result<Vec<i64>, NoMemory> {
         if self.refuses() {
             return Err(NoMemory);

@@ -28,4 +28,4 @@ returns c =
     let at : s ≡ get_or ss k s = subst (λ (xs : List Segment). s ≡ get_or xs k s) d h.1 in
     let ends : c.if-to-size.upto ≡ upto (walk_size w) c.args.to =
     elim c.if-to-size.branch [ then-to-size v ↦ upto_all w c.size.result c.args.to c.if-to-size.upto c.size.ensures v.if-to-size.true v.upto-is | else-to-size v ↦ upto_some w c.size.result c.args.to c.if-to-size.upto c.size.ensures v.if-to-size.false v.upto-is ] in
-    piece_stands (plan_in c.args.plan.now) k c.args.from c.args.to (segment_in s) w c.args.env.now c.if-to-size.upto c.leaf.result (segment_got ss k s lt at) c.requires.alone c.requires.source ends c.leaf.ensures
+    piece_stands (plan_in c.args.plan.now) k c.args.from c.args.to (segment_in s) w c.args.env.now c.if-to-size.upto c.leaf_with.result (segment_got ss k s lt at) c.requires.alone c.requires.source ends c.leaf_with.ensures
