@@ -1,7 +1,7 @@
 -- Items whose places count up.
-use Rattle.std.proofs.Common.{◌≡◌, ℕ, ◌+◌, ◌<◌, ◌≤◌, ◌^◌, ℤ, pos, List, length, Some, sym, ap, subst, ◌∙◌, arith}
-use Rattle.std.proofs.lemmas.List.{get_or-set_same, get_or-set_other}
-use Rattle.std.proofs.lemmas.Option.{slice_get_within, get_or_from_slice_get}
+use Rattle.std.proofs.Common.{◌≡◌, ℕ, ◌+◌, ◌<◌, ◌≤◌, ◌^◌, ℤ, pos, List, [], ◌++◌, length, map, take, get_or, Some, refl, sym, ap, subst, ◌∙◌, arith, add-zero, suc, ◌∷◌}
+use Rattle.std.proofs.lemmas.List.{get_or-set_same, get_or-set_other, take_all}
+use Rattle.std.proofs.lemmas.Option.{slice_get_within, get_or_from_slice_get, slice_get-get_or}
 use Rattle.std.specs.List.{slice_get}
 use lib.ListN.{set}
 use mathlib.Core.Logic.{dite}
@@ -10,7 +10,8 @@ use Rattle.trace.specs.declared.item.Item.{Item}
 use Rattle.trace.specs.Cover.{placed}
 use Rattle.trace.proofs.Sources.{length-placed, placed_at}
 use Rattle.batch_eval.specs.Lanes.{at}
-use Rattle.batch_eval.specs.Batches.{item_at}
+use Rattle.batch_eval.specs.Batches.{item_at, lanes}
+use Rattle.batch_eval.proofs.Items.{lanes_taken}
 use Rattle.batch_eval.specs.Places.{CountsFrom, HasValue}
 
 -- values at places that count up
@@ -39,3 +40,33 @@ one_value_more items p lane values x v within here is before k below =
     (λ other.
     let h : HasValue items (p + k) (at values k) = before k (omega arith) in
     (h.0, h.1, h.2 ∙ sym (get_or-set_other values lane k v (pos 0) other)))
+
+-- the item at a position of values at places
+pub placed_get : (o : ℕ) (vs : List ℤ) (n : ℕ) (z v : ℤ) → n < length vs → get_or vs n z ≡ v → slice_get (placed o vs) n ≡ Some (record { origin = o + n; value = v })
+placed_get o vs n z v within is =
+    let x : Item = record { origin = n; value = v } in
+    slice_get-get_or (placed o vs) n x (rw (length-placed o vs) within) ∙ ap (λ (y : Item). Some y) (placed_at o vs n x z within) ∙ ap (λ (u : ℤ). let y : Item = record { origin = o + n; value = u } in Some y) is
+
+-- the items of lanes that hold values at places that count up
+pub lanes_placed : (o : ℕ) (origins : List ℕ) (vs : List ℤ) → o + length vs ≤ 2 ^ 62 → lanes (length vs) (item_at (Some o) origins vs) ≡ placed o vs
+lanes_placed o origins vs few =
+    let items = placed o vs in
+    let n = length vs in
+    let counts = placed_counts o vs few in
+    let taken = lanes_taken items 0 n (item_at (Some (o + 0)) origins vs) (λ k below.
+    let here : 0 + k ≡ k = omega arith in
+    counted_item items o 0 k origins vs counts (record { origin = o + k; value = at vs k }, ap (slice_get items) here ∙ placed_get o vs k (pos 0) (at vs k) below refl, refl)) in
+    let all : take n items ≡ items = take_all n items (omega (arith, length-placed o vs)) in
+    let on : 0 + n ≡ n = omega arith in
+    ap (λ (m : ℕ). lanes n (item_at (Some m) origins vs)) (sym (add-zero o)) ∙ sym taken ∙ ap (λ (m : ℕ). take m items) on ∙ all
+
+-- items of a source that lie side by side, after those before them
+pub placed_taken : (items : List Item) (first p n : ℕ) (vs : List ℤ) → CountsFrom first items → length vs ≡ n → p + n ≤ length items → ((k : ℕ) → k < n → HasValue items (p + k) (at vs k)) → take (p + n) items ≡ take p items ++ placed (first + p) vs
+placed_taken items first p n vs counts same within values =
+    let few : first + p + length vs ≤ 2 ^ 62 = let c = counts.few in omega arith in
+    lanes_taken items p n (item_at (Some (first + p)) [] vs) (λ k below. counted_item items first p k [] vs counts (values k below)) ∙ ap (λ (m : ℕ). take p items ++ lanes m (item_at (Some (first + p)) [] vs)) (sym same) ∙ ap (λ (xs : List Item). take p items ++ xs) (lanes_placed (first + p) [] vs few)
+
+-- the values of items at places that count up
+pub placed_values : (o : ℕ) (vs : List ℤ) → map (λ (x : Item). x.value) (placed o vs) ≡ vs
+placed_values o [] = refl
+placed_values o (v ∷ vs) = ap (λ (ws : List ℤ). v ∷ ws) (placed_values (suc o) vs)

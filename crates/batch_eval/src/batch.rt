@@ -8,10 +8,12 @@ ghost use Rattle.lambda_expr.specs.Term.{long_of, truth_of};
 ghost use Rattle.std.specs.Prelude.{◌≡◌, ℕ, ◌+◌, ◌<◌, ◌≤◌, ◌^◌, List, [], ◌++◌, IfOk, None, Some, length, map, slice_get, slice_index, take};
 ghost use Rattle.trace.specs.Stages.{filter, of_item};
 ghost use Rattle.trace.specs.Stages.{map as abstract_map};
+ghost use Rattle.trace.specs.Cover.{placed};
 ghost use Rattle.trace.specs.Trace.{each, trace};
 ghost use Rattle.trace.specs.declared.item.Item.{Item};
 
-use crate::keep::keep_lanes;
+use crate::keep::{keep_from, keep_lanes};
+use crate::placed::PlacedValues;
 use crate::reached::Reached;
 use crate::register::{LANES, eval_bool, eval_long};
 use crate::source::BatchSource;
@@ -119,6 +121,54 @@ impl Batch {
             &self.spare,
             reached.live,
             self.start,
+            &mut self.values,
+            &mut self.origins,
+        );
+        self.start = None;
+    }
+
+    /// Starts again with the images of values that lie elsewhere.
+    pub(crate) fn map_run(
+        &mut self,
+        run: PlacedValues<'_>,
+        image: &LongExpr,
+        stage: u32,
+        env: &Env,
+        room: &mut [i64],
+    )
+        requires lanes { length run.values.now ≤ 1024 }
+        requires room { Fits (long_of image.now) (length room.old) }
+        ensures { self.new ≡ each (of_item stage (abstract_map (long_of image.now)) env.now) (placed run.entry.origin run.entry.values.now) End.Done }
+    {
+        let live = run.values.len();
+        let start = Some(run.origin);
+        let reached = eval_long(image, env, run.values, live, &mut self.values, room);
+        self.end = stopped(End::Done, stage, start, &self.origins, reached);
+        self.live = reached.live;
+        self.start = start;
+    }
+
+    /// Starts again with those of the values that lie elsewhere at which the test is true.
+    pub(crate) fn filter_run(
+        &mut self,
+        run: PlacedValues<'_>,
+        test: &BoolExpr,
+        stage: u32,
+        env: &Env,
+        room: &mut [i64],
+    )
+        requires lanes { length run.values.now ≤ 1024 }
+        requires room { FitsTest (truth_of test.now) (length room.old) }
+        ensures { self.new ≡ each (of_item stage (filter (truth_of test.now)) env.now) (placed run.entry.origin run.entry.values.now) End.Done }
+    {
+        let live = run.values.len();
+        let reached = eval_bool(test, env, run.values, live, &mut self.spare, room);
+        self.end = stopped(End::Done, stage, Some(run.origin), &self.origins, reached);
+        self.live = keep_from(
+            &self.spare,
+            reached.live,
+            run.origin,
+            run.values,
             &mut self.values,
             &mut self.origins,
         );

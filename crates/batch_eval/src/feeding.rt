@@ -2,6 +2,7 @@
 
 ghost use Rattle.batch_eval.specs.Rooms.{FitsStages};
 ghost use Rattle.std.specs.Prelude.{◌≡◌, ◌+◌, ◌<◌, ◌≤◌, ◌^◌, List, Ok, OnErr, length, take};
+ghost use Rattle.trace.specs.Cover.{placed};
 ghost use Rattle.trace.specs.Sinks.{IsFed, flow_after};
 ghost use Rattle.trace.specs.Stages.{pipe, stages_of};
 ghost use Rattle.trace.specs.Trace.{trace};
@@ -10,6 +11,7 @@ ghost use Rattle.trace.specs.declared.item.End.TheVariants as end;
 ghost use Rattle.trace.specs.declared.item.Item.{Item};
 
 use crate::batch::Batch;
+use crate::placed::PlacedValues;
 use crate::register::LANES;
 use crate::registers::Registers;
 use crate::sink::BatchSink;
@@ -132,6 +134,54 @@ fn feed_piece<I: BatchSource, S: BatchSink>(
     ensures flow { S.flow sink.new ≡ flow_after result }
     ensures refused { OnErr result S.takes_memory }
 {
+    if let Some(first) = source.first_place() {
+        if let Some(values) = source.values_at(position, count) {
+            let run = PlacedValues {
+                origin: first + position,
+                values,
+            };
+            return feed_run(stages, first_stage, env, run, batch, nested, room, sink);
+        }
+    }
     batch.fill(source, position, count);
     feed_batch(stages, first_stage, env, batch, nested, room, sink)
+}
+
+/// Takes up to 1,024 values that lie side by side. A `map` or a `filter` that comes first, and a sink, read them there.
+fn feed_run<S: BatchSink>(
+    stages: &[Stage],
+    first_stage: u32,
+    env: &Env,
+    run: PlacedValues<'_>,
+    batch: &mut Batch,
+    nested: &mut [Batch],
+    room: &mut [i64],
+    sink: &mut S,
+) -> Result<Fed, NoMemory>
+    requires numbered { first_stage + length stages.now < 2 ^ 32 }
+    requires wants { S.flow sink.old ≡ Flow.More }
+    requires room { FitsStages (stages_of stages.now) (length room.old) }
+    requires lanes { length run.values.now ≤ 1024 }
+    ensures fed { (xs : List Item) → S.has_taken sink.old xs → IsFed S.has_taken xs
+        (pipe first_stage (stages_of stages.now) env.now (trace (placed run.entry.origin run.entry.values.now) end.Done)) result sink.new }
+    ensures flow { S.flow sink.new ≡ flow_after result }
+    ensures refused { OnErr result S.takes_memory }
+{
+    let Some((stage, later)) = stages.split_first() else {
+        return sink.accept_run(run);
+    };
+    match stage {
+        Stage::Map(image) => {
+            batch.map_run(run, image, first_stage, env, room);
+            feed_batch(later, first_stage + 1, env, batch, nested, room, sink)
+        }
+        Stage::Filter(test) => {
+            batch.filter_run(run, test, first_stage, env, room);
+            feed_batch(later, first_stage + 1, env, batch, nested, room, sink)
+        }
+        Stage::FlatMap(_) => {
+            batch.fill(&run, 0, run.values.len() as u64);
+            feed_batch(stages, first_stage, env, batch, nested, room, sink)
+        }
+    }
 }

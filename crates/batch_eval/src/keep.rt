@@ -77,3 +77,34 @@ fn keep_counted(
     }
     kept
 }
+
+/// The items of the lanes whose flag is set, of values that lie elsewhere, at places that count up from `first`: puts
+/// them to the front of registers, with their places listed, and answers how many they are.
+pub(crate) fn keep_from(
+    flags: &[i64],
+    live: usize,
+    first: u64,
+    xs: &[i64],
+    values: &mut [i64],
+    origins: &mut [u64],
+) -> usize
+    requires flags { live ≤ length flags.now }
+    requires xs { live ≤ length xs.now }
+    requires values { live ≤ length values.old }
+    requires origins { live ≤ length origins.old }
+    requires counts { first + live < 2 ^ 64 }
+    ensures count { result ≡ length (passing flags.now live) }
+    ensures within { result ≤ live }
+    ensures values { (j : ℕ) → j < result → at values.new j ≡ at xs.now (slice_index (passing flags.now live) j) }
+    ensures origins { (j : ℕ) → j < result → slice_index origins.new j ≡ first + slice_index (passing flags.now live) j }
+{
+    let mut kept = 0;
+    for i in 0..live {
+        values[kept] = xs[i];
+        origins[kept] = first + i as u64;
+        if is_set(flags[i]) {
+            kept += 1;
+        }
+    }
+    kept
+}

@@ -20,6 +20,7 @@ mod flag;
 mod keep;
 mod kernel;
 mod loops;
+mod placed;
 mod reached;
 mod register;
 mod registers;
@@ -30,6 +31,7 @@ mod staging;
 
 pub use batch::Batch;
 pub use feeding::feed_batches;
+pub use placed::PlacedValues;
 pub use registers::Registers;
 pub use sink::{BatchSink, accept_each};
 pub use source::BatchSource;

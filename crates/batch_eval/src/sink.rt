@@ -1,12 +1,14 @@
 //! Sinks that take the items of a batch at once.
 
 ghost use Rattle.std.specs.Prelude.{◌≡◌, List, OnErr};
+ghost use Rattle.trace.specs.Cover.{placed};
 ghost use Rattle.trace.specs.Sinks.{IsFed, flow_after};
 ghost use Rattle.trace.specs.Trace.{trace};
 ghost use Rattle.trace.specs.declared.item.End.TheVariants as end;
 ghost use Rattle.trace.specs.declared.item.Item.{Item};
 
 use crate::batch::Batch;
+use crate::placed::PlacedValues;
 use trace::{Fed, Flow, LongSink, NoMemory, SourceItems};
 
 /// A sink that takes the items of a batch at once.
@@ -20,17 +22,27 @@ pub trait BatchSink: LongSink {
         ensures fed { (xs : List Item) → Self.has_taken self.old xs → IsFed Self.has_taken xs (trace batch.now.items end.Done) result self.new }
         ensures flow { Self.flow self.new ≡ flow_after result }
         ensures refused { OnErr result Self.takes_memory };
+
+    /// The same of values that lie side by side. Unless a sink does better, it takes them one by one.
+    fn accept_run(&mut self, run: PlacedValues<'_>) -> Result<Fed, NoMemory>
+        requires wants { Self.flow self.old ≡ Flow.More }
+        ensures fed { (xs : List Item) → Self.has_taken self.old xs → IsFed Self.has_taken xs (trace (placed run.entry.origin run.entry.values.now) end.Done) result self.new }
+        ensures flow { Self.flow self.new ≡ flow_after result }
+        ensures refused { OnErr result Self.takes_memory }
+    {
+        accept_each(&run, self)
+    }
 }
 
-/// Gives a sink the items of a batch one after the other, until it has enough.
-pub fn accept_each<S: LongSink>(batch: &Batch, sink: &mut S) -> Result<Fed, NoMemory>
+/// Gives a sink items one after the other, until it has enough.
+pub fn accept_each<I: SourceItems, S: LongSink>(source: &I, sink: &mut S) -> Result<Fed, NoMemory>
     requires wants { S.flow sink.old ≡ Flow.More }
-    ensures fed { (xs : List Item) → S.has_taken sink.old xs → IsFed S.has_taken xs (trace batch.now.items end.Done) result sink.new }
+    ensures fed { (xs : List Item) → S.has_taken sink.old xs → IsFed S.has_taken xs (trace (I.items source.now) end.Done) result sink.new }
     ensures flow { S.flow sink.new ≡ flow_after result }
     ensures refused { OnErr result S.takes_memory }
 {
-    for position in 0..batch.count() {
-        match sink.accept(batch.item_at(position))? {
+    for position in 0..source.count() {
+        match sink.accept(source.item_at(position))? {
             Flow::More => {}
             Flow::Enough => return Ok(Fed::Enough),
         }

@@ -1,8 +1,10 @@
 //! Walks by batches against walks item by item, and with faults that were placed by hand.
-ghost use Rattle.std.specs.Prelude.{◌≡◌, ◌+◌, ◌<◌, ◌^◌, ⊤, length, if◌then◌else◌, ◌==◌};
+ghost use Rattle.std.specs.Prelude.{◌≡◌, ◌+◌, ◌<◌, ◌≤◌, ◌^◌, ⊤, length, if◌then◌else◌, ◌==◌};
 ghost use Rattle.trace.specs.declared.sink.Flow.TheVariants as flow;
 
-use batch_eval::{Batch, BatchSink, BatchSource, Registers, accept_each, feed_batches};
+use batch_eval::{
+    Batch, BatchSink, BatchSource, PlacedValues, Registers, accept_each, feed_batches,
+};
 use lambda_expr::{Body, Env, FaultKind, InnerExpr, LongExpr, Want, read_lambda};
 use std::alloc::{AllocError, Global};
 use std::test::Fail;
@@ -145,6 +147,20 @@ fn agree<I: BatchSource>(
     Ok(found_end == end && found.items.as_slice() == expected.items.as_slice())
 }
 
+/// The same of values that lie in a slice, at the places from 7 on.
+fn agree_in_place(
+    alloc: Global,
+    stages: &[Stage],
+    values: &[i64],
+    registers: &mut Registers,
+) -> Result<bool, NoMemory>
+    requires numbered { 1 + length stages.now < 2 ^ 32 }
+    requires few { 7 + length values.now ≤ 2 ^ 62 }
+{
+    let source = PlacedValues { origin: 7, values };
+    agree(alloc, stages, &source, registers)
+}
+
 #[test]
 fn batches_give_what_a_walk_item_by_item_gives(rt: HostRuntime) -> Result<(), Fail> {
     let alloc = rt.alloc();
@@ -153,7 +169,8 @@ fn batches_give_what_a_walk_item_by_item_gives(rt: HostRuntime) -> Result<(), Fa
     for size in [2384, 0, 1, 2, 15, 16, 17, 79, 80, 81, 336, 1359, 1360, 1361] {
         for _ in 0..30 {
             seed = next(seed);
-            let items = items_of(alloc, &any_values(alloc, seed, size)?)?;
+            let values = any_values(alloc, seed, size)?;
+            let items = items_of(alloc, &values)?;
             let stages = [
                 any_stage(alloc, next(seed ^ 1))?,
                 any_stage(alloc, next(seed ^ 2))?,
@@ -162,6 +179,12 @@ fn batches_give_what_a_walk_item_by_item_gives(rt: HostRuntime) -> Result<(), Fa
             assert!(rt;
                 agree(alloc, &stages, &items, &mut registers)?,
                 "{seed}, {size}"
+            );
+            let stages = &stages[..];
+            let later = &stages[(seed % 4) as usize..];
+            assert!(rt;
+                agree_in_place(alloc, later, &values, &mut registers)?,
+                "values in a slice, {seed}, {size}"
             );
         }
     }

@@ -4,16 +4,10 @@ use Rattle.std.specs.List.{slice_get}
 use Rattle.std.proofs.lemmas.Option.{slice_get-get_or}
 use Rattle.trace.specs.declared.item.Item.{Item}
 use Rattle.trace.specs.Cover.{counted, placed}
+use Rattle.batch_eval.proofs.PlaceLemmas.{placed_get}
 use Rattle.trace.proofs.Sources.{counted_at, placed_at, length-placed, length-counted}
 
--- the item at a position of values at places
-pub placed_get : (o : ℕ) (vs : List ℤ) (n : ℕ) (z v : ℤ) → n < length vs → get_or vs n z ≡ v → slice_get (placed o vs) n ≡ Some (record { origin = o + n; value = v })
-placed_get o vs n z v within is =
-    let x : Item = record { origin = n; value = v } in
-    slice_get-get_or (placed o vs) n x (rw (length-placed o vs) within) ∙ ap (λ (y : Item). Some y) (placed_at o vs n x z within)
-    ∙ ap (λ (u : ℤ). let y : Item = record { origin = o + n; value = u } in Some y) is
-
--- the same of integers that count up
+-- the item at a position of integers that count up, at places
 pub counted_get : (o : ℕ) (a : ℤ) (c n : ℕ) → n < c → slice_get (placed o (counted a c)) n ≡ Some (record { origin = o + n; value = a +ℤ pos n })
 counted_get o a c n within =
     let v : ℤ = a +ℤ pos n in

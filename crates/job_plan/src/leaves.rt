@@ -13,7 +13,7 @@ ghost use Rattle.job_plan.specs.declared.segment.SegmentEnd.TheVariants as ends;
 use crate::part::Part;
 use crate::segment::Segment;
 use crate::source::Source;
-use batch_eval::{Batch, BatchSink, Registers, accept_each};
+use batch_eval::{Batch, BatchSink, PlacedValues, Registers, accept_each};
 use lambda_expr::Env;
 use std::alloc::Global;
 use std::marker::{Brand, PhantomData};
@@ -70,6 +70,13 @@ impl<K: Ending> BatchSink for PartSink<'_, '_, K> {
             return Ok(Fed::More);
         }
         accept_each(batch, self)
+    }
+
+    fn accept_run(&mut self, run: PlacedValues<'_>) -> Result<Fed, NoMemory> {
+        if self.part.fold_batch(run.values) {
+            return Ok(Fed::More);
+        }
+        accept_each(&run, self)
     }
 }
 

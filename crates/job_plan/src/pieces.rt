@@ -38,35 +38,6 @@ impl BatchSource for RangePiece {
     }
 }
 
-/// Values in a slice, at places that count up from `origin`.
-#[derive(Clone, Copy)]
-pub(crate) struct ValuePiece<'a> {
-    pub(crate) origin: u64,
-    pub(crate) values: &'a [i64],
-    ghost few: { origin + length values.now ≤ 2 ^ 62 },
-}
-
-impl SourceItems for ValuePiece<'_> {
-    ghost items = { λ piece. placed piece.origin piece.values.now };
-
-    fn count(&self) -> u64 {
-        self.values.len() as u64
-    }
-
-    fn item_at(&self, position: u64) -> Item {
-        Item {
-            origin: self.origin + position,
-            value: self.values[position as usize],
-        }
-    }
-}
-
-impl BatchSource for ValuePiece<'_> {
-    fn first_place(&self) -> Option<u64> {
-        Some(self.origin)
-    }
-}
-
 /// Items that already have their places.
 #[derive(Clone, Copy)]
 pub(crate) struct ItemPiece<'a> {

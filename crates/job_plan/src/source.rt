@@ -16,11 +16,11 @@ ghost use Rattle.job_plan.specs.Walks.{plain_values, source_walk, values_of};
 
 use crate::given::GivenWalk;
 use crate::item_pieces::feed_pieces;
-use crate::pieces::{RangePiece, ValuePiece};
+use crate::pieces::RangePiece;
 use crate::segment::{JobPlan, Segment};
 use crate::sources::{PlainSources, plain_size};
 use crate::spans::{end_after, within};
-use batch_eval::{BatchSink, Registers, feed_batches};
+use batch_eval::{BatchSink, PlacedValues, Registers, feed_batches};
 use job_language::PlainSource;
 use lambda_expr::{Env, FaultKind};
 use trace::{End, Fault, Fed, Flow, NoMemory};
@@ -229,7 +229,7 @@ fn feed_values<S: BatchSink>(
     ensures flow { S.flow sink.new ≡ flow_after result }
     ensures refused { OnErr result S.takes_memory }
 {
-    let items = ValuePiece { origin, values };
+    let items = PlacedValues { origin, values };
     feed_batches(
         &segment.stages,
         segment.first_stage,
