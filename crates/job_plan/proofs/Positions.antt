@@ -1,11 +1,9 @@
 -- The items of pieces, by their position.
-use Rattle.std.proofs.Common.{◌≡◌, ℕ, ◌+◌, ◌<◌, ℤ, pos, ◌+ℤ◌, Some, List, length, get_or, ap, ◌∙◌}
+use Rattle.std.proofs.Common.{◌≡◌, ℕ, ◌+◌, ◌<◌, ℤ, pos, ◌+ℤ◌, Some}
 use Rattle.std.specs.List.{slice_get}
-use Rattle.std.proofs.lemmas.Option.{slice_get-get_or}
-use Rattle.trace.specs.declared.item.Item.{Item}
 use Rattle.trace.specs.Cover.{counted, placed}
 use Rattle.batch_eval.proofs.PlaceLemmas.{placed_get}
-use Rattle.trace.proofs.Sources.{counted_at, placed_at, length-placed, length-counted}
+use Rattle.trace.proofs.Sources.{counted_at, length-counted}
 
 -- the item at a position of integers that count up, at places
 pub counted_get : (o : ℕ) (a : ℤ) (c n : ℕ) → n < c → slice_get (placed o (counted a c)) n ≡ Some (record { origin = o + n; value = a +ℤ pos n })
