@@ -36,6 +36,10 @@ static int64_t fifteen(int64_t x) {
         printf(name " c %lld %lld\n", (long long)taken, (long long)(result)); \
     }
 
+#define MAP(name, image) TIME(name, int64_t s = 0, s = plus(s, image), s)
+#define FILTER(name, test) TIME(name, int64_t s = 0, if (test) s = plus(s, x), s)
+#define EXACT(name, overflows) TIME(name, int64_t s = 0; int64_t v, if (overflows) break; s = plus(s, v), s)
+
 int main(int argc, char **argv) {
     (void)argv;
     const int64_t count = COUNT + argc - 1;
@@ -46,5 +50,41 @@ int main(int argc, char **argv) {
     TIME("and", int64_t s = 0, if (x % 3 == 0 && x % 5 == 0) s = plus(s, x), s)
     TIME("division", int64_t s = 0, s = plus(s, x / 7 + 100 / (x + 1)), s)
     TIME("exact", int64_t s = 0; int64_t v, if (__builtin_add_overflow(x, 5, &v)) break; s = plus(s, v), s)
+    TIME("flat_map", int64_t s = 0, for (int64_t y = 0; y < (x & 3); y++) s = plus(s, y), s)
+    MAP("add", plus(x, 5))
+    MAP("subtract", minus(5, x))
+    MAP("multiply", times(x, x))
+    MAP("shift_left", left(x, 3))
+    MAP("shift_right", x >> 3)
+    MAP("shift_right_unsigned", right(x, 3))
+    MAP("bit_and", x & 255)
+    MAP("bit_or", x | 255)
+    MAP("bit_xor", x ^ 255)
+    MAP("negate", minus(0, x))
+    MAP("complement", ~x)
+    MAP("min", x < 999 ? x : 999)
+    MAP("max", x > 999 ? x : 999)
+    MAP("abs", x < 0 ? minus(0, x) : x)
+    MAP("divide", x / 7)
+    MAP("remainder", x % 7)
+    MAP("floor_div", x / 7 - (x % 7 < 0))
+    MAP("floor_mod", x % 7 < 0 ? x % 7 + 7 : x % 7)
+    EXACT("subtract_exact", __builtin_sub_overflow(x, 5, &v))
+    EXACT("multiply_exact", __builtin_mul_overflow(x, 5, &v))
+    EXACT("negate_exact", __builtin_sub_overflow(0, x, &v))
+    FILTER("equal", x == 999)
+    FILTER("not_equal", x != 999)
+    FILTER("less", x < 25000)
+    FILTER("less_or_equal", x <= 25000)
+    FILTER("greater", x > 25000)
+    FILTER("greater_or_equal", x >= 25000)
+    FILTER("or", x < 999 || x > 25000)
+    FILTER("not", !(x < 25000))
+    int64_t *values = malloc(8 * count);
+    if (!values) return 1;
+    for (int64_t x = 0; x < count; x++) values[x] = x;
+    TIME("slice_sum", int64_t s = 0, s = plus(s, values[x]), s)
+    TIME("slice_map", int64_t s = 0, s = plus(s, plus(values[x], 5)), s)
+    TIME("slice_filter", int64_t s = 0, if (values[x] < 25000) s = plus(s, values[x]), s)
     return 0;
 }
