@@ -16,6 +16,7 @@ use Rattle.slice_ops.specs.declared.slice_part.SlicePart.{SlicePart}
 use Rattle.slice_ops.proofs.GrownPartLemmas.{settled as slice_settled}
 use Rattle.find_ops.specs.declared.find_part.FindPart.{FindPart}
 use Rattle.find_ops.proofs.DecisionLemmas.{settled as find_settled}
+use Rattle.job_plan.specs.Arrays.{AbstractArray, array, array_of, values_then, array_append}
 use Rattle.job_plan.specs.declared.answer.Answer.{Answer}
 use Rattle.job_plan.specs.declared.answer.Answer.TheVariants as answer
 use Rattle.job_plan.specs.declared.part.FoldPart.{FoldPart}
@@ -101,7 +102,7 @@ optional_fault (end.Fault g) v f a h = let k : f ≡ g = cc in ap answer.Fault k
 
 -- ---- what settles a piece
 
-is_done : (e : End) → is_fault e ≡ false → e ≡ end.Done
+pub is_done : (e : End) → is_fault e ≡ false → e ≡ end.Done
 is_done end.Done h = refl
 is_done (end.Fault f) h = absurd (let z : true ≡ false = h in cc)
 
@@ -129,7 +130,21 @@ settled (finding d) n env (part.Array p) a b h s = s
 settled collecting n env (part.Slice p) a b h s = s
 settled collecting n env (part.Fold p) a b h s = s
 settled collecting n env (part.Find p) a b h s = s
-settled collecting n env (part.Array p) a b h s = s ∙ sym (faulted_stays a b (ap (λ (t : Trace). is_fault t.ending) (sym s) ∙ h))
+settled collecting n env (part.Array p) a b h s = s ∙ ap array_of (sym (faulted_stays a b (ap (λ (k : AbstractArray). is_fault k.ending) (sym s) ∙ h)))
+
+-- ---- arrays
+
+values_joined : (xs ys : List Item) → each_of (λ (x : Item). x.value) (xs ++ ys) ≡ each_of (λ (x : Item). x.value) xs ++ each_of (λ (x : Item). x.value) ys
+values_joined [] ys = refl
+values_joined (x ∷ xs) ys = ap (λ (vs : List ℤ). x.value ∷ vs) (values_joined xs ys)
+
+array_on : (xs : List Item) (e : End) (u : Trace) → array_of (then_on xs e u) ≡ values_then (each_of (λ (x : Item). x.value) xs) e (array_of u)
+array_on xs end.Done u = ap (λ (vs : List ℤ). array vs u.ending) (values_joined xs u.items)
+array_on xs (end.Fault f) u = refl
+
+-- the values of two walks
+pub array_joined : (t u : Trace) → array_of (append t u) ≡ array_append (array_of t) (array_of u)
+array_joined t u = array_on t.items t.ending u
 
 -- ---- two parts
 
@@ -177,10 +192,10 @@ module _ (e : AbstractEnd) (n : ℕ) (env : Numbers) (a b : Trace) where
       by (finding d) (part.Array q) s t h = t
       by collecting q s t h = s
 
-  pub only_arrays : (p : Trace) (q : Part) → ((x : Trace) → q ≡ part.Array x → ⊥) → EndsFor e n env (part.Array p) a → EndsFor e n env q b → ⊥
+  pub only_arrays : (p : AbstractArray) (q : Part) → ((x : AbstractArray) → q ≡ part.Array x → ⊥) → EndsFor e n env (part.Array p) a → EndsFor e n env q b → ⊥
   only_arrays p q other s t = by e q s t other
     where
-      by : (e : AbstractEnd) (q : Part) → EndsFor e n env (part.Array p) a → EndsFor e n env q b → ((x : Trace) → q ≡ part.Array x → ⊥) → ⊥
+      by : (e : AbstractEnd) (q : Part) → EndsFor e n env (part.Array p) a → EndsFor e n env q b → ((x : AbstractArray) → q ≡ part.Array x → ⊥) → ⊥
       by (slicing d) q s t h = s
       by (folding f i c) q s t h = s
       by (finding d) q s t h = s
@@ -220,14 +235,14 @@ module _ (e : AbstractEnd) (n : ℕ) (env : Numbers) (a b : Trace) where
       by (finding d) s t = merged d s t
       by collecting s t = s
 
-  pub arrays_merge : (p q r : Trace) → r ≡ append p q → EndsFor e n env (part.Array p) a → EndsFor e n env (part.Array q) b → EndsFor e n env (part.Array r) (append a b)
+  pub arrays_merge : (p q r : AbstractArray) → r ≡ array_append p q → EndsFor e n env (part.Array p) a → EndsFor e n env (part.Array q) b → EndsFor e n env (part.Array r) (append a b)
   arrays_merge p q r is = by e
     where
       by : (e : AbstractEnd) → EndsFor e n env (part.Array p) a → EndsFor e n env (part.Array q) b → EndsFor e n env (part.Array r) (append a b)
       by (slicing d) s t = s
       by (folding f i c) s t = s
       by (finding d) s t = s
-      by collecting s t = is ∙ (λ i. append (s i) (t i))
+      by collecting s t = is ∙ (λ i. array_append (s i) (t i)) ∙ sym (array_joined a b)
 
 -- the number of the stage that ends a segment
 pub length-stages_of : (gs : List Stage) → length (stages_of gs) ≡ length gs
@@ -260,11 +275,22 @@ segment_on new ss s m n gs fresh later rest d e k f l =
     (λ i. segments_more new ss s e i ++ segments_from (k i) (f i) rest d) ∙ append_assoc (segments_in ss) (segment_in s ∷ []) (segments_from n [] rest d) ∙ ap (λ rs. segments_in ss ++ rs) (sym l)
 
 -- what an array answers
-pub array_ends : (e : AbstractEnd) (n : ℕ) (env : Numbers) (c w : Trace) (a : Answer) → EndsFor e n env (part.Array c) w → a ≡ unless_fault c.ending (answer.Array (each_of (λ (x : Item). x.value) c.items)) → outcome.Answer a ≡ ended e n env w
+pub array_ends : (e : AbstractEnd) (n : ℕ) (env : Numbers) (c : AbstractArray) (w : Trace) (a : Answer) → EndsFor e n env (part.Array c) w → a ≡ unless_fault c.ending (answer.Array c.values) → outcome.Answer a ≡ ended e n env w
 array_ends (slicing d) n env c w a s is = absurd s
 array_ends (folding f i k) n env c w a s is = absurd s
 array_ends (finding d) n env c w a s is = absurd s
-array_ends collecting n env c w a s is = ap outcome.Answer (is ∙ ap (λ (t : Trace). unless_fault t.ending (answer.Array (each_of (λ (x : Item). x.value) t.items))) s)
+array_ends collecting n env c w a s is = ap outcome.Answer (is ∙ ap (λ (k : AbstractArray). unless_fault k.ending (answer.Array k.values)) s)
+
+-- an array goes on
+pub array_goes_on : (e : AbstractEnd) (n : ℕ) (env : Numbers) (p r : AbstractArray) (t u : Trace) → r ≡ array_append p (array_of u) → EndsFor e n env (part.Array p) t → EndsFor e n env (part.Array r) (append t u)
+array_goes_on (slicing d) n env p r t u is s = s
+array_goes_on (folding f i c) n env p r t u is s = s
+array_goes_on (finding d) n env p r t u is s = s
+array_goes_on collecting n env p r t u is s = is ∙ ap (λ (k : AbstractArray). array_append k (array_of u)) s ∙ sym (array_joined t u)
+
+-- values after those of an array that is done
+pub values_added : (p : AbstractArray) (vs ws : List ℤ) (r : AbstractArray) → is_fault p.ending ≡ false → vs ≡ ws → r ≡ array (p.values ++ vs) end.Done → r ≡ array_append p (array ws end.Done)
+values_added p vs ws r going same is = is ∙ ap (λ (us : List ℤ). array (p.values ++ us) end.Done) same ∙ sym (ap (λ (x : End). values_then p.values x (array ws end.Done)) (is_done p.ending going))
 
 -- a fold goes on
 pub fold_goes_on : (e : AbstractEnd) (n : ℕ) (env : Numbers) (p r : FoldPart) (t u : Trace) → ((f : Op) (i : Option ℤ) (c : Bool) → IsFold f i c p t → IsFold f i c r (append t u))

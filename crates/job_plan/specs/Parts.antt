@@ -14,6 +14,7 @@ use Rattle.slice_ops.specs.Parts.{StandsFor as SliceStands, is_settled as slice_
 use Rattle.find_ops.specs.Finds.{find_of}
 use Rattle.find_ops.specs.Parts.{StandsFor as FindStands}
 use Rattle.job_language.specs.Jobs.{sources_of}
+use Rattle.job_plan.specs.Arrays.{array_of}
 use Rattle.job_plan.specs.declared.part.FoldPart.{FoldPart}
 use Rattle.job_plan.specs.declared.part.Part.{Part}
 use Rattle.job_plan.specs.declared.part.Part.TheVariants as part
@@ -78,7 +79,7 @@ EndsFor (finding d) n env (part.Array c) t = ⊥
 EndsFor collecting n env (part.Slice p) t = ⊥
 EndsFor collecting n env (part.Fold p) t = ⊥
 EndsFor collecting n env (part.Find p) t = ⊥
-EndsFor collecting n env (part.Array c) t = c ≡ t
+EndsFor collecting n env (part.Array c) t = c ≡ array_of t
 
 -- a part stands for a piece of a segment's source
 abbrev pub StandsFor : AbstractSegment → Numbers → Part → Trace → Type 0

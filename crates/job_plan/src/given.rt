@@ -92,7 +92,7 @@ fn joined(alloc: Global, chunk: &Chunk) -> Result<Chunk, NoMemory>
 }
 
 /// How many items there are in pieces, or the greatest `u64` if there are more.
-fn items_in(pieces: &[Vec<Item>]) -> u64
+pub(crate) fn items_in<T: Drop>(pieces: &[Vec<T>]) -> u64
     ensures { result ≡ min (length (flat_map (λ piece. piece.items) pieces.now)) (2 ^ 64 - 1) }
 {
     let mut items = 0u64;

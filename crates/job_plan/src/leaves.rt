@@ -66,14 +66,16 @@ impl<K: Ending> LongSink for PartSink<'_, '_, K> {
 
 impl<K: Ending> BatchSink for PartSink<'_, '_, K> {
     fn accept_batch(&mut self, batch: &Batch) -> Result<Fed, NoMemory> {
-        if self.part.fold_batch(batch.values()) {
+        let taken = self.part.push_values(batch.values())?;
+        if taken {
             return Ok(Fed::More);
         }
         accept_each(batch, self)
     }
 
     fn accept_run(&mut self, run: PlacedValues<'_>) -> Result<Fed, NoMemory> {
-        if self.part.fold_batch(run.values) {
+        let taken = self.part.push_values(run.values)?;
+        if taken {
             return Ok(Fed::More);
         }
         accept_each(&run, self)

@@ -11,6 +11,7 @@
 #![tactic(auto)]
 
 mod answer;
+mod array_part;
 mod folding;
 mod given;
 mod item_pieces;
@@ -31,6 +32,7 @@ mod values;
 mod walks;
 
 pub use answer::Answer;
+pub use array_part::ArrayPart;
 pub use given::GivenWalk;
 pub use leaves::{leaf, leaf_with};
 pub use outcome::Outcome;

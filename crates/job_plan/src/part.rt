@@ -1,6 +1,6 @@
 //! What a piece of a segment's source gives to the end of the segment.
 
-ghost use Rattle.std.specs.Prelude.{◌≡◌, ℕ, ℤ, Bool, false, true, List, [], ◌∷◌, map, Option, IfOk, IfErr, OnOk, OnErr};
+ghost use Rattle.std.specs.Prelude.{◌≡◌, ◌<◌, ℕ, ℤ, Bool, false, true, List, [], ◌∷◌, length, map, Option, IfOk, IfErr, OnOk, OnErr};
 ghost use Rattle.lambda_expr.specs.Earlier.{Numbers};
 ghost use Rattle.trace.specs.Trace.{Trace, trace, nothing, append};
 ghost use Rattle.trace.specs.declared.item.End.TheVariants as end;
@@ -11,10 +11,10 @@ ghost use Rattle.job_plan.specs.Plans.{AbstractEnd, AbstractSegment, counted_as,
 ghost use Rattle.job_plan.specs.Walks.{found_answer, unless_fault};
 
 use crate::answer::Answer;
+use crate::array_part::ArrayPart;
 use crate::folding::folded;
 use crate::outcome::Outcome;
 use crate::segment::{Fold, SegmentEnd};
-use crate::values::Values;
 use find_ops::{FindPart, Found};
 use lambda_expr::Env;
 use reduce_ops::Partial;
@@ -39,7 +39,7 @@ pub enum Part<'p> {
     Slice(SlicePart<'p>),
     Fold(FoldPart),
     Find(FindPart),
-    Array(Chunk),
+    Array(ArrayPart),
 }
 
 impl FoldPart {
@@ -123,7 +123,7 @@ impl<'p> Part<'p> {
             }
             SegmentEnd::Fold(fold) => Part::Fold(FoldPart::none(*fold)),
             SegmentEnd::Find(find) => Part::Find(FindPart::none(find, End::Done)),
-            SegmentEnd::Array => Part::Array(Chunk::ending(alloc, End::Done)),
+            SegmentEnd::Array => Part::Array(ArrayPart::none(alloc)),
         }
     }
 
@@ -154,23 +154,32 @@ impl<'p> Part<'p> {
                 }
                 Ok(())
             }
-            Part::Array(chunk) => chunk.push(item),
+            Part::Array(part) => part.push_all(&[item.value]),
         }
     }
 
-    /// Adds the values of several items, if the end is a fold, and answers whether it is.
-    pub(crate) fn fold_batch(&mut self, values: &[i64]) -> bool
-        ensures folded { result ≡ true → (e : AbstractEnd) (stage : ℕ) (env : Numbers) (t : Trace) (xs : List item)
-            → map (λ x. x.value) xs ≡ values.now → EndsFor e stage env self.old t → EndsFor e stage env self.new (append t (trace xs end.Done)) }
-        ensures open { result ≡ true → is_settled self.new ≡ is_settled self.old }
-        ensures other { result ≡ false → self.new ≡ self.old }
+    /// Adds the values of several items, if the end looks at values alone, and answers whether it does: a fold or `toArray`.
+    ///
+    /// If the allocation fails, the part stays as it was. Without items it takes no memory.
+    pub(crate) fn push_values(&mut self, values: &[i64]) -> Result<bool, NoMemory>
+        requires { is_settled self.old ≡ false }
+        ensures taken { IfOk result (λ taken. taken ≡ true → (e : AbstractEnd) (stage : ℕ) (env : Numbers) (t : Trace) (xs : List item)
+            → map (λ x. x.value) xs ≡ values.now → EndsFor e stage env self.old t → EndsFor e stage env self.new (append t (trace xs end.Done))) }
+        ensures open { is_settled self.new ≡ false }
+        ensures other { IfOk result (λ taken. taken ≡ false → self.new ≡ self.old) }
+        ensures err { OnErr result (self.new ≡ self.old) }
+        ensures refused { OnErr result (0 < length values.now) }
     {
         match self {
             Part::Fold(part) => {
                 part.push_all(values);
-                true
+                Ok(true)
             }
-            _ => false,
+            Part::Array(part) => {
+                part.push_all(values)?;
+                Ok(true)
+            }
+            Part::Slice(_) | Part::Find(_) => Ok(false),
         }
     }
 
@@ -183,7 +192,7 @@ impl<'p> Part<'p> {
             Part::Slice(part) => part.end_with(ending),
             Part::Fold(part) => part.end_with(ending),
             Part::Find(part) => *part = part.end_with(ending),
-            Part::Array(chunk) => chunk.end_with(ending),
+            Part::Array(part) => part.end_with(ending),
         }
     }
 
@@ -195,7 +204,7 @@ impl<'p> Part<'p> {
             Part::Slice(part) => part.is_settled(),
             Part::Fold(part) => is_fault(part.partial.end()),
             Part::Find(part) => part.is_decided(),
-            Part::Array(chunk) => is_fault(chunk.end()),
+            Part::Array(part) => is_fault(part.end()),
         }
     }
 
@@ -232,7 +241,7 @@ impl<'p> Part<'p> {
             Part::Slice(part) => Ok(Outcome::Source(part.finish(env))),
             Part::Fold(part) => Ok(Outcome::Answer(part.finish())),
             Part::Find(part) => Ok(Outcome::Answer(answer_of(part.finish()))),
-            Part::Array(chunk) => Ok(Outcome::Answer(values_of(alloc, chunk)?)),
+            Part::Array(part) => Ok(Outcome::Answer(part.finish(alloc)?)),
         }
     }
 }
@@ -253,7 +262,7 @@ fn merge_slices<'p>(left: SlicePart<'p>, right: Part<'p>) -> Result<Part<'p>, (P
 }
 
 /// The part of two pieces side by side, the left one of an array.
-fn merge_arrays<'p>(mut left: Chunk, right: Part<'p>) -> Result<Part<'p>, (Part<'p>, Part<'p>)>
+fn merge_arrays<'p>(mut left: ArrayPart, right: Part<'p>) -> Result<Part<'p>, (Part<'p>, Part<'p>)>
     ensures ok { IfOk result (λ part. (s : AbstractSegment) (env : Numbers) (a b : Trace) → StandsFor s env (Part.Array left) a
         → StandsFor s env right.entry b → StandsFor s env part (append a b)) }
     ensures err { IfErr result (λ parts. (parts.0 ≡ Part.Array left) × (parts.1 ≡ right.entry)) }
@@ -295,18 +304,5 @@ fn answer_of(found: Result<Found, Fault>) -> Answer
         Ok(Found::Value(value)) => Answer::Optional(value),
         Ok(Found::Truth(truth)) => Answer::Truth(truth),
         Err(fault) => Answer::Fault(fault),
-    }
-}
-
-/// The values of a walk, or the fault that ended it.
-fn values_of(alloc: Global, chunk: Chunk) -> Result<Answer, NoMemory>
-    ensures { IfOk result (λ answer. answer ≡ unless_fault chunk.ending (Answer.Array (map (λ (x : item). x.value) chunk.items))) }
-{
-    if let End::Fault(fault) = chunk.end() {
-        return Ok(Answer::Fault(fault));
-    }
-    match chunk.into_values(alloc) {
-        Ok(values) => Ok(Answer::Array(Values::from_vec(values))),
-        Err(_) => Err(NoMemory),
     }
 }

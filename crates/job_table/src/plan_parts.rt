@@ -6,7 +6,9 @@ ghost use Rattle.job_table.specs.PlanSegments.{PartStands, end_divides, segment_
 
 use crate::NoMemory;
 use batch_eval::Registers;
-use job_plan::{Answer, GivenWalk, JobPlan, Outcome, Part, Segment, SegmentEnd, Source, leaf_with};
+use job_plan::{
+    Answer, ArrayPart, GivenWalk, JobPlan, Outcome, Part, Segment, SegmentEnd, Source, leaf_with,
+};
 use lambda_expr::Env;
 use slice_ops::Slice;
 use std::alloc::Global;
@@ -64,7 +66,7 @@ pub(crate) fn piece<'a>(
     ensures { IfOk result (λ part. PartStands (plan_in plan.now) segment from to part) }
 {
     let Some(of) = plan.segments.get(segment) else {
-        return Ok(Part::Array(Chunk::ending(alloc, End::Done)));
+        return Ok(Part::Array(ArrayPart::none(alloc)));
     };
     let upto = if to == source.size() { None } else { Some(to) };
     leaf_with(alloc, of, source, from, upto, env, registers)

@@ -56,7 +56,8 @@ of(2, 0, 3, 1, 0, 2).flatMap(x -> range(0, x)).skip(1).limit(5).toArray() => [1,
 range(0, 6).flatMap(x -> of(x, -x)).filter(x -> x != 0).findFirst() => OptionalLong[1]
 range(0, 6).flatMap(x -> rangeClosed(x, 3)).map(x -> x * x).sum() => 50
 range(0, 6).flatMap(x -> empty()).count() => 0
-of(2, 0, 3).flatMap(x -> range(0, x)).toArray() => [0, 1, 0, 1, 2]";
+of(2, 0, 3).flatMap(x -> range(0, x)).toArray() => [0, 1, 0, 1, 2]
+range(0, 100).filter(x -> x % 7 == 0).toArray() => [0, 7, 14, 21, 28, 35, 42, 49, 56, 63, 70, 77, 84, 91, 98]";
 
 /// Jobs whose walks meet a fault, or end before one, and operators of this project; worked out by hand.
 const BY_HAND: &str = "\
@@ -101,7 +102,8 @@ of(1, 0).skip(0).map(x -> 1 / x).limit(1).toArray() => [1]
 of(2, 1).flatMap(x -> range(0, x)).map(x -> 1 / (1 - x)).toArray() => fault divide-by-zero stage 2 item 0
 of(3, 1, 2, 0, 1, 5).flatMap(x -> of(x, 6 / x)).toArray() => fault divide-by-zero stage 1 item 3
 of(3, 1, 2, 0, 1, 5).flatMap(x -> of(x, 6 / x)).limit(6).toArray() => [3, 2, 1, 6, 2, 3]
-of(1, 2).flatMap(x -> range(-9223372036854775808, 9223372036854775807)).count() => fault source-too-long stage 1 item 0";
+of(1, 2).flatMap(x -> range(-9223372036854775808, 9223372036854775807)).count() => fault source-too-long stage 1 item 0
+range(0, 100).map(x -> 100 / (x - 90)).toArray() => fault divide-by-zero stage 1 item 90";
 
 /// Jobs over sources that no walk ever comes to the end of.
 const ENDLESS: &str = "\

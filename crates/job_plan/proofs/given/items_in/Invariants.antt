@@ -2,4 +2,4 @@ use Rattle.std.proofs.Common.{◌≡◌, ◌-◌, ◌^◌, min, length, take, fl
 use Rattle.job_plan.proofs.given.items_in.Given as goal
 
 abbrev pub invariant-loop-piece : goal.invariant-loop-piece
-invariant-loop-piece l = l.items ≡ min (length (flat_map (λ piece. piece.items) (take l.piece-index l.pieces))) (2 ^ 64 - 1)
+invariant-loop-piece g l = l.items ≡ min (length (flat_map (λ piece. piece.items) (take l.piece-index l.pieces))) (2 ^ 64 - 1)

@@ -14,7 +14,7 @@ returns-in_default c =
     let ss = c.args.plan.now.segments.items in
     let k = c.args.segment in
     let le : length ss ≤ k = subst (λ (xs : List Segment). length xs ≤ k) c.deref.ensures.value h.3 in
-    any_part (plan_in c.args.plan.now) k c.args.from c.args.to (part.Array c.ending.result) (no_segment ss k le)
+    any_part (plan_in c.args.plan.now) k c.args.from c.args.to (part.Array c.none.result) (no_segment ss k le)
 
 pub returns : goal.returns
 returns c =

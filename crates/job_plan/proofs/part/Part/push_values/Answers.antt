@@ -4,12 +4,12 @@ use Rattle.trace.specs.Trace.{trace}
 use Rattle.job_plan.specs.declared.part.Part.{Part}
 use Rattle.job_plan.specs.Parts.{EndsFor, is_fault, is_settled}
 use Rattle.job_plan.proofs.PartLemmas.{fold_goes_on}
-use Rattle.job_plan.proofs.part.Part.fold_batch.Goals as goal
+use Rattle.job_plan.proofs.part.Part.push_values.Goals as goal
 
-pub returns-in-Fold-clause-folded : goal.returns-in-Fold-clause-folded
-returns-in-Fold-clause-folded c = λ yes e n env t xs same h.
+pub returns-in-Fold-clause-taken : goal.returns-in-Fold-clause-taken
+returns-in-Fold-clause-taken c = λ yes e n env t xs same h.
     fold_goes_on e n env c.in-Fold.part c.push_all.new.self t (trace xs end.Done)
     (λ f i k s. c.push_all.ensures.fold f i k t xs same s) (subst (λ (p : Part). EndsFor e n env p t) c.in-Fold.is h)
 
 pub returns-in-Fold-clause-open : goal.returns-in-Fold-clause-open
-returns-in-Fold-clause-open c = λ yes. ap is_fault c.push_all.ensures.ending ∙ sym (ap is_settled c.in-Fold.is)
+returns-in-Fold-clause-open c = ap is_fault c.push_all.ensures.ending ∙ sym (ap is_settled c.in-Fold.is) ∙ c.requires

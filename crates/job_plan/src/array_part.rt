@@ -1,0 +1,144 @@
+//! The values of a piece, for `toArray`.
+
+ghost use Rattle.std.specs.Prelude.{◌≡◌, ◌<◌, ◌++◌, [], length, flat_map, OnOk, OnErr, IfErr, IfOk};
+ghost use Rattle.trace.specs.declared.item.End.TheVariants as end;
+ghost use Rattle.job_plan.specs.Arrays.{array, array_append};
+ghost use Rattle.job_plan.specs.Walks.{unless_fault};
+
+use crate::answer::Answer;
+use crate::given::items_in;
+use crate::values::Values;
+use std::alloc::Global;
+use std::marker::Model;
+use trace::{End, NoMemory};
+
+/// The values of a piece, without the places of its items, and how the walk ended. Contracts see just that.
+///
+/// The values are stored in pieces: those of a batch are copied at once, and joining two parts moves the pieces and no value.
+#[derive(Drop)]
+pub struct ArrayPart {
+    pieces: Vec<Vec<i64>>,
+    end: End,
+}
+
+impl Model for ArrayPart {
+    ghost use Rattle.std.specs.Prelude.{flat_map};
+    ghost use Rattle.job_plan.specs.Arrays.{AbstractArray, array};
+
+    ghost Value = { AbstractArray };
+
+    ghost view = { λ part. array (flat_map (λ piece. piece.items) part.pieces.items) part.end };
+}
+
+impl ArrayPart {
+    /// The part of no item. It takes no memory.
+    pub fn none(alloc: Global) -> ArrayPart
+        ensures { result ≡ array [] end.Done }
+    {
+        ArrayPart {
+            pieces: Vec::new(alloc),
+            end: End::Done,
+        }
+    }
+
+    /// Adds values after the others, in amortized constant time for each.
+    ///
+    /// If the allocation fails, the part stays as it was.
+    pub(crate) fn push_all(&mut self, values: &[i64]) -> Result<(), NoMemory>
+        requires { self.old.ending ≡ end.Done }
+        ensures ok { OnOk result (self.new ≡ array (self.old.values ++ values.now) end.Done) }
+        ensures err { OnErr result (self.new ≡ self.old) }
+        ensures refused { OnErr result (0 < length values.now) }
+    {
+        if values.is_empty() {
+            return Ok(());
+        }
+        add_values(&mut self.pieces, values)
+    }
+
+    /// Ends so, unless a fault has ended the part. It takes no memory.
+    pub(crate) fn end_with(&mut self, end: End)
+        ensures { self.new ≡ array_append self.old (array [] end) }
+    {
+        if let End::Done = self.end {
+            self.end = end;
+        }
+    }
+
+    /// How the walk ended.
+    pub(crate) fn end(&self) -> End
+        ensures { result ≡ self.now.ending }
+    {
+        self.end
+    }
+
+    /// Goes on with another part. It moves the pieces of `right` and no value.
+    ///
+    /// A part that ends in a fault stays as it is. If the allocation fails, `right` comes back and the part stays as it was.
+    pub(crate) fn append(&mut self, mut right: ArrayPart) -> Result<(), ArrayPart>
+        ensures ok { OnOk result (self.new ≡ array_append self.old right) }
+        ensures err { OnErr result (self.new ≡ self.old) }
+        ensures right_returned { IfErr result (λ part. part ≡ right) }
+    {
+        if let End::Fault(_) = self.end {
+            return Ok(());
+        }
+        if self.pieces.append(&mut right.pieces).is_err() {
+            return Err(right);
+        }
+        self.end = right.end;
+        Ok(())
+    }
+
+    /// The values, or the fault that ended the walk. The values of several pieces are copied once, 8 bytes each; those of a
+    /// single piece are moved.
+    pub(crate) fn finish(self, alloc: Global) -> Result<Answer, NoMemory>
+        ensures { IfOk result (λ answer. answer ≡ unless_fault self.ending (Answer.Array self.values)) }
+    {
+        if let End::Fault(fault) = self.end {
+            return Ok(Answer::Fault(fault));
+        }
+        let values = in_one(alloc, self.pieces)?;
+        Ok(Answer::Array(Values::from_vec(values)))
+    }
+}
+
+/// Adds values to the last piece, or as the first one.
+fn add_values(pieces: &mut Vec<Vec<i64>>, values: &[i64]) -> Result<(), NoMemory>
+    ensures ok { OnOk result (flat_map (λ piece. piece.items) pieces.new.items ≡ flat_map (λ piece. piece.items) pieces.old.items ++ values.now) }
+    ensures err { OnErr result (flat_map (λ piece. piece.items) pieces.new.items ≡ flat_map (λ piece. piece.items) pieces.old.items) }
+{
+    match pieces.last_mut() {
+        Some(piece) => piece.extend_from_slice(values)?,
+        None => {
+            let mut piece = Vec::new(*pieces.allocator());
+            piece.extend_from_slice(values)?;
+            pieces.push(piece)?;
+        }
+    }
+    Ok(())
+}
+
+/// The values of pieces in one vector.
+fn in_one(alloc: Global, mut pieces: Vec<Vec<i64>>) -> Result<Vec<i64>, NoMemory>
+    ensures { IfOk result (λ values. values.items ≡ flat_map (λ piece. piece.items) pieces.items) }
+{
+    if pieces.len() == 1 {
+        if let Some(only) = pieces.pop() {
+            return Ok(only);
+        }
+    }
+    copied(alloc, &pieces)
+}
+
+/// The values of pieces, copied.
+fn copied(alloc: Global, pieces: &[Vec<i64>]) -> Result<Vec<i64>, NoMemory>
+    ensures { IfOk result (λ values. values.items ≡ flat_map (λ piece. piece.items) pieces.now) }
+{
+    let mut values = Vec::new(alloc);
+    values.reserve(items_in(pieces) as usize)?;
+    for piece in pieces {
+        values.extend_from_slice(piece)?;
+    }
+    Ok(values)
+}
