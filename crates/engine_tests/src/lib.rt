@@ -9,9 +9,13 @@ mod answers;
 #[cfg(test)]
 mod fixture;
 #[cfg(test)]
+mod random_jobs;
+#[cfg(test)]
 mod refusals;
 #[cfg(test)]
 mod reports;
+#[cfg(test)]
+mod settings;
 #[cfg(test)]
 mod streams;
 #[cfg(test)]

@@ -1,8 +1,7 @@
 //! Whole runs over memory: the bytes of the report, worked out by hand and by Java 17.
 
-use crate::fixture::{halves, is_line, reports, run_over, run_set, run_with};
-use job_plan::{Form, Settings};
-use std::test::Fail;
+use crate::fixture::{halves, is_line, reports, run_over, run_with};
+use job_plan::Form;
 
 const FIRST_FAULTS: &str = "\
 q = range(0, 10).map(x -> 10 / (x - 7)).toArray() => q = fault divide-by-zero stage 1 item 7
@@ -62,57 +61,6 @@ fn each_operation_has_the_answer_of_java(rt: HostRuntime) {
     let jobs =
         "# squares\r\ns = LongStream.rangeClosed(1, 4)\r\n  .map((x) -> x * x)\r\n  .sum();\r\n";
     assert!(rt; reports(&rt, jobs, "s = 30"), "one job on several lines");
-}
-
-/// A table of two columns.
-const TABLE: &[u8] = b"a,b\n3,10\n0,20\n-5,30\n";
-
-/// Jobs whose sources are cut into pieces if the threshold is small, each with its line of the report.
-const IN_PIECES: &str = "\
-s = column(\"a\").sum() => s = -2
-t = column(\"b\").map(x -> x / -2).toArray() => t = [-5, -10, -15]
-u = concat(of(1), column(\"a\")).map(x -> 6 / x).toArray() => u = fault divide-by-zero stage 1 item 2
-v = column(\"b\").filter(x -> x > 10).findFirst() => v = OptionalLong[20]
-q = range(0, 10).map(x -> 10 / (x - 7)).toArray() => q = fault divide-by-zero stage 1 item 7
-f = of(1, 0).map(x -> 1 / x).map(x -> 1 / (x - 1)).toArray() => f = fault divide-by-zero stage 2 item 0
-g = of(1, 0).map(x -> 1 / x).limit(5).map(x -> 1 / (x - 1)).toArray() => g = fault divide-by-zero stage 3 item 0
-l = range(0, 3000).reduce((a, b) -> b) => l = OptionalLong[2999]
-k = range(0, 3000).map(x -> x * x).filter(x -> x % 3 == 1).count() => k = 2000
-m = range(0, 3000).map(x -> x * 7 % 3001).max() => m = OptionalLong[3000]
-h = of(8589934595, 21474836487).reduce(4294967296, affine) => h = 42949672982
-w = range(0, 3000).skip(2997).toArray() => w = [2997, 2998, 2999]
-d = range(0, 4611686018427387904).map(x -> x * 2).limit(3).toArray() => d = [0, 2, 4]
-e = range(0, 3000).dropWhile(x -> x < 2990).limit(4).map(x -> x - 2990).toArray() => e = [0, 1, 2, 3]
-y = range(0, 3000).anyMatch(x -> x == 2500) => y = true
-z = range(0, 2001).sum() => z = 2001000";
-
-#[test]
-fn settings_change_no_byte_of_a_report(rt: HostRuntime) -> Result<(), Fail> {
-    let mut jobs = Vec::new(rt.alloc());
-    let mut report = Vec::new(rt.alloc());
-    for row in IN_PIECES.lines() {
-        let (job, line) = halves(row);
-        jobs.extend_from_slice(job.as_bytes())?;
-        jobs.push(b'\n')?;
-        report.extend_from_slice(line.as_bytes())?;
-        report.push(b'\n')?;
-    }
-    for workers in [1, 2, 8] {
-        for threshold in [1, 1_000] {
-            for nodes in [0, 4_096] {
-                let Some(settings) = Settings::of(workers, threshold, nodes, Form::Text) else {
-                    assert!(rt; false, "settings");
-                    return Ok(());
-                };
-                let outcome = run_set(&rt, TABLE, &jobs, &settings);
-                assert!(rt;
-                    outcome.answer.is_ok() && outcome.written.as_slice() == report.as_slice(),
-                    "{workers} {threshold} {nodes}"
-                );
-            }
-        }
-    }
-    Ok(())
 }
 
 const ARITHMETIC: &str = "\
@@ -182,25 +130,6 @@ fn a_report_as_json_is_one_array_on_one_line(rt: HostRuntime) {
         assert!(rt;
             outcome.answer.is_ok() && is_line(&outcome.written, report),
             "{row}"
-        );
-    }
-}
-
-#[test]
-fn settings_are_taken_exactly_within_their_limits(rt: HostRuntime) {
-    for (workers, threshold, nodes, taken) in [
-        (1, 1, 0, true),
-        (64, 1_048_576, 1_048_576, true),
-        (0, 1, 0, false),
-        (65, 1, 0, false),
-        (1, 0, 0, false),
-        (1, 1_048_577, 0, false),
-        (1, 1, 1_048_577, false),
-    ] {
-        let settings = Settings::of(workers, threshold, nodes, Form::Text);
-        assert!(rt;
-            settings.is_some() == taken,
-            "{workers} {threshold} {nodes}"
         );
     }
 }

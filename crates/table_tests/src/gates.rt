@@ -6,7 +6,8 @@ use worker_pool::Gate;
 
 pub(crate) const TURNS: u64 = 100_000_000;
 
-/// Holds the leaf at position 0 until another leaf is entered. It counts the leaves, and keeps how many turns that took.
+/// Holds the leaf at position 0 until another leaf is entered. It counts the leaves, and keeps how many turns that took: `TURNS` if
+/// no leaf was held, or none was entered meanwhile.
 #[derive(Drop)]
 pub(crate) struct Holding {
     pub(crate) entered: AtomicBool,
@@ -20,7 +21,7 @@ impl Holding {
         Holding {
             entered: AtomicBool::new(false),
             leaves: AtomicU64::new(0),
-            turns: AtomicU64::new(0),
+            turns: AtomicU64::new(TURNS),
         }
     }
 

@@ -1,5 +1,6 @@
 //! Jobs of job files on workers: the answers of Java, and the leaves that they were walked in.
-use crate::gates::Counted;
+use crate::driven::Open;
+use crate::gates::{Counted, Holding, TURNS};
 use columns::Columns;
 use job_language::read_jobs;
 use job_plan::{Answer, Form, Plan, Settings};
@@ -9,6 +10,7 @@ use std::sync::Wait;
 use std::sync::atomic::Ordering::SeqCst;
 use std::test::Fail;
 use std::thread::Threads;
+use worker_pool::Gate;
 
 /// Jobs with their answers. `reference/jobs` has those of Java; the faults and `unended` are worked out by hand.
 const JOBS: &str = "\
@@ -62,23 +64,23 @@ fn file_of(alloc: Global, table: &str) -> Result<Vec<u8>, AllocError> {
     Ok(bytes)
 }
 
-/// The answers of the jobs of a table, with the leaves that entered the gate.
-fn run<H: Threads + Wait + Sync>(
+/// The answers of the jobs of a table, whose leaves enter this gate.
+fn run<H: Threads + Wait + Sync, G: Gate + Sync>(
     rt: &H,
     alloc: Global,
     table: &str,
     workers: u64,
     threshold: u64,
     nodes: u64,
-) -> Result<(Vec<Answer>, u64), Fail> {
+    gate: &G,
+) -> Result<Vec<Answer>, Fail> {
     let settings = Settings::of(workers, threshold, nodes, Form::Text).ok_or(AllocError)?;
     let columns = Columns::none();
     let file = file_of(alloc, table)?;
     let jobs = read_jobs(alloc, &file, &columns).map_err(|_fault| AllocError)?;
     let plan = Plan::of(alloc, jobs)?;
-    let gate = Counted::new();
-    let answers = run_jobs(rt, alloc, &plan, &settings, &gate).map_err(|_fault| AllocError)?;
-    Ok((answers, gate.leaves.load(SeqCst)))
+    let answers = run_jobs(rt, alloc, &plan, &settings, gate).map_err(|_fault| AllocError)?;
+    Ok(answers)
 }
 
 /// The first row of the table whose job has another answer, or the number of its rows.
@@ -98,7 +100,7 @@ fn jobs_have_the_answers_of_java_with_any_settings(rt: HostRuntime) -> Result<()
     for workers in [1, 2, 8] {
         for threshold in [1, 1000] {
             for nodes in [0, 4096] {
-                let (answers, _leaves) = run(&rt, alloc, JOBS, workers, threshold, nodes)?;
+                let answers = run(&rt, alloc, JOBS, workers, threshold, nodes, &Open)?;
                 let row = first_difference(alloc, JOBS, &answers)?;
                 assert!(rt;
                     row == 21,
@@ -128,12 +130,26 @@ fn long_pieces_are_walked_by_tasks_and_each_leaf_enters_the_gate(
     for row in LEAVES.lines() {
         let (_job, want) = row.split_once(" => ").unwrap_or((row, ""));
         for workers in [1, 8] {
-            let (_answers, leaves) = run(&rt, alloc, row, workers, 1000, 4096)?;
-            let leaves = format!(in alloc; "{leaves}")?;
+            let gate = Counted::new();
+            run(&rt, alloc, row, workers, 1000, 4096, &gate)?;
+            let leaves = format!(in alloc; "{}", gate.leaves.load(SeqCst))?;
             assert!(rt; leaves.as_str() == want, "{row}");
         }
-        let (_answers, leaves) = run(&rt, alloc, row, 2, 1000, 0)?;
-        assert!(rt; leaves <= 3, "without nodes: {row}");
+        let gate = Counted::new();
+        run(&rt, alloc, row, 2, 1000, 0, &gate)?;
+        assert!(rt; gate.leaves.load(SeqCst) <= 3, "without nodes: {row}");
     }
+    Ok(())
+}
+
+#[test]
+fn two_workers_have_two_leaves_of_one_job_open_at_once(rt: HostRuntime) -> Result<(), Fail> {
+    let alloc = rt.alloc();
+    let gate = Holding::new();
+    let row = "s = of(1, 2).sum() => 3";
+    let answers = run(&rt, alloc, row, 2, 1, 4096, &gate)?;
+    assert!(rt; first_difference(alloc, row, &answers)? == 1);
+    // One leaf was held, and let go by another one, so each of the two was entered once.
+    assert!(rt; gate.leaves.load(SeqCst) == 2 && gate.turns.load(SeqCst) < TURNS);
     Ok(())
 }

@@ -1,0 +1,107 @@
+//! What workers, thresholds and nodes change of a report: nothing.
+
+use crate::fixture::{halves, run_set};
+use job_plan::{Form, Settings};
+use std::alloc::AllocError;
+use std::sync::Wait;
+use std::test::Fail;
+use std::thread::Threads;
+
+const COLUMNS: &str = "a,b\n3,10\n0,20\n-5,30\n";
+
+/// Jobs, each with its line of the report. The sources of some are cut into pieces by any threshold.
+const JOBS: &str = r#"s = column("a").sum() => s = -2
+t = column("b").map(x -> x / -2).toArray() => t = [-5, -10, -15]
+u = concat(of(1), column("a")).map(x -> 6 / x).toArray() => u = fault divide-by-zero stage 1 item 2
+v = column("b").filter(x -> x > 10).findFirst() => v = OptionalLong[20]
+q = range(0, 10).map(x -> 10 / (x - 7)).toArray() => q = fault divide-by-zero stage 1 item 7
+f = of(1, 0).map(x -> 1 / x).map(x -> 1 / (x - 1)).toArray() => f = fault divide-by-zero stage 2 item 0
+g = of(1, 0).map(x -> 1 / x).limit(5).map(x -> 1 / (x - 1)).toArray() => g = fault divide-by-zero stage 3 item 0
+l = range(0, 3000).reduce((a, b) -> b) => l = OptionalLong[2999]
+k = range(0, 3000).map(x -> x * x).filter(x -> x % 3 == 1).count() => k = 2000
+m = range(0, 3000).map(x -> x * 7 % 3001).max() => m = OptionalLong[3000]
+h = of(8589934595, 21474836487).reduce(4294967296, affine) => h = 42949672982
+w = range(0, 3000).skip(2997).toArray() => w = [2997, 2998, 2999]
+d = range(0, 4611686018427387904).map(x -> x * 2).limit(3).toArray() => d = [0, 2, 4]
+e = range(0, 3000).dropWhile(x -> x < 2990).limit(4).map(x -> x - 2990).toArray() => e = [0, 1, 2, 3]
+y = range(0, 3000).anyMatch(x -> x == 2500) => y = true
+z = range(0, 2001).sum() => z = 2001000
+e2 = range(5, 5).toArray() => e2 = []
+m2 = range(5, 5).min() => m2 = OptionalLong.empty
+q7 = range(0, 10).map(x -> 10 / (x - 7)).limit(7).toArray() => q7 = [-1, -1, -2, -2, -3, -5, -10]
+q8 = range(0, 10).map(x -> 10 / (x - 7)).limit(8).toArray() => q8 = fault divide-by-zero stage 1 item 7
+g1 = of(1, 0).map(x -> 1 / x).findFirst() => g1 = OptionalLong[1]
+w1 = of(9223372036854775807, 1).sum() => w1 = -9223372036854775808
+d1 = of(-9223372036854775808).map(x -> x / -1).toArray() => d1 = [-9223372036854775808]
+l1 = range(0, 5).reduce((a, b) -> b) => l1 = OptionalLong[4]
+t1 = of(1, 3, 0).takeWhile(x -> 6 / x > 2).toArray() => t1 = [1]
+t2 = of(1, 2, 0, 3).takeWhile(x -> 6 / x > 2).toArray() => t2 = fault divide-by-zero stage 1 item 2
+c1 = concat(range(0, 3), of(7, 8)).skip(2).toArray() => c1 = [2, 7, 8]
+k1 = of(2, 0, 3).flatMap(x -> range(0, x)).toArray() => k1 = [0, 1, 0, 1, 2]
+z1 = of(0).map(x -> 1 / x).sum() => z1 = fault divide-by-zero stage 1 item 0
+b1 = of(0).map(x -> 1 / x).limit(0).toArray() => b1 = []
+v1 = of(0, 1).map(x -> 1 / x).skip(1).toArray() => v1 = fault divide-by-zero stage 1 item 0
+j1 = of(5, 0).anyMatch(x -> 10 / x > 1) => j1 = true
+j2 = of(0, 5).anyMatch(x -> 10 / x > 1) => j2 = fault divide-by-zero stage 1 item 0
+n1 = range(-9223372036854775808, 9223372036854775807).count() => n1 = fault source-too-long stage 0 item -
+i1 = of(2, 1).flatMap(x -> range(0, x)).map(x -> 1 / (1 - x)).toArray() => i1 = fault divide-by-zero stage 2 item 0
+a1 = of(-7).map(x -> Math.floorMod(x, 3) * 100 + x % 3 + (x >>> 62)).toArray() => a1 = [202]
+r1 = of(1).map(x -> x << 65).sum() => r1 = 2
+x1 = of(9223372036854775807).map(x -> Math.addExact(x, 1)).sum() => x1 = fault overflow stage 1 item 0
+e3 = empty().anyMatch(x -> true) => e3 = false
+f3 = empty().allMatch(x -> false) => f3 = true
+g3 = of(3, 1, 4).dropWhile(x -> x > 2).toArray() => g3 = [1, 4]"#;
+
+/// A job on several lines, which end in CR LF.
+const LINES: &[u8] =
+    b"# squares\r\ns = LongStream.rangeClosed(1, 4)\r\n  .map((x) -> x * x)\r\n  .sum();\r\n";
+
+/// The number of the first row of a table of jobs whose line of the report is another one, if there is such a row.
+pub fn first_change<H: AllocGlobal + Threads + Wait + Sync>(
+    rt: &H,
+    columns: &str,
+    table: &str,
+    settings: &Settings,
+) -> Result<Option<usize>, AllocError> {
+    let mut jobs = Vec::new(rt.alloc());
+    let mut report = Vec::new(rt.alloc());
+    for row in table.lines() {
+        let (job, line) = halves(row);
+        jobs.extend_from_slice(job.as_bytes())?;
+        jobs.push(b'\n')?;
+        report.extend_from_slice(line.as_bytes())?;
+        report.push(b'\n')?;
+    }
+    let outcome = run_set(rt, columns.as_bytes(), &jobs, settings);
+    if outcome.answer.is_ok() && outcome.written.as_slice() == report.as_slice() {
+        return Ok(None);
+    }
+    let same = outcome.written.iter().zip(report.iter());
+    let rows = same
+        .take_while(|pair| pair.0 == pair.1)
+        .filter(|pair| *pair.0 == b'\n')
+        .count();
+    Ok(Some(rows))
+}
+
+#[test]
+fn settings_change_no_byte_of_a_report(rt: HostRuntime) -> Result<(), Fail> {
+    for workers in [1, 2, 8, 64] {
+        for (threshold, nodes) in [(1, 0), (1, 4_096), (1_000, 0), (1_000, 4_096)] {
+            let settings = Settings::of(workers, threshold, nodes, Form::Text).ok_or(AllocError)?;
+            let change = first_change(&rt, COLUMNS, JOBS, &settings)?;
+            assert!(rt;
+                change.is_none(),
+                "{workers} {threshold} {nodes}: {change:?}"
+            );
+            for (jobs, report) in [(LINES, "s = 30\n"), (b"".as_slice(), "")] {
+                let outcome = run_set(&rt, b"a\n", jobs, &settings);
+                assert!(rt;
+                    outcome.answer.is_ok() && outcome.written.as_slice() == report.as_bytes(),
+                    "{workers} {threshold} {nodes}: {report}"
+                );
+            }
+        }
+    }
+    Ok(())
+}
