@@ -4,7 +4,7 @@ use job_plan::GivenWalk;
 
 /// What a segment goes over.
 #[derive(Drop)]
-pub(crate) enum SegmentSource {
+pub enum SegmentSource {
     /// The sources of the job.
     Own,
     /// What the segment before it gave.

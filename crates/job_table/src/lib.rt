@@ -31,7 +31,7 @@ mod work;
 
 pub use cut::{Cut, Join, SegmentPart, TableCounts, TableKept, TablePart, TableSeat};
 pub use places::{JobPlaces, KeptAnswer, KeptSource};
-pub use planned::{RunFault, run_jobs};
+pub use planned::{PlanJobs, Planned, RunFault, run_jobs};
 pub use run::run_all;
 pub use segments::Segments;
 pub use std::alloc::AllocError as NoMemory;

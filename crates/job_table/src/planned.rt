@@ -23,8 +23,8 @@ use std::sync::Wait;
 use std::thread::Threads;
 use worker_pool::Gate;
 
-/// The jobs that a run is over, as they are kept. `run_jobs` picks them.
-pub(crate) trait Planned {
+/// The jobs that a run is over, as they are kept. Whoever makes `PlanJobs` picks them: `run_jobs`, or a caller with a pool of its own.
+pub trait Planned {
     ghost jobs: { List job_plan };
 }
 
@@ -32,9 +32,9 @@ impl Planned for Brand {
     ghost jobs = { [] };
 }
 
-/// The jobs of a plan.
+/// The jobs of a plan, as a run takes them. No job may name another one.
 #[derive(Drop)]
-pub(crate) struct PlanJobs<'a, 'c, P: Planned> {
+pub struct PlanJobs<'a, 'c, P: Planned> {
     plan: &'a Plan<'c>,
     /// Without numbers: no supported job names another one.
     env: Env,
@@ -44,6 +44,17 @@ pub(crate) struct PlanJobs<'a, 'c, P: Planned> {
 }
 
 impl<'a, 'c, P: Planned> PlanJobs<'a, 'c, P> {
+    /// The jobs of this plan. It takes no memory.
+    pub fn of(alloc: Global, plan: &'a Plan<'c>) -> PlanJobs<'a, 'c, P>
+        requires planned { plan.now.jobs.items ≡ P.jobs }
+    {
+        PlanJobs {
+            plan,
+            env: Env::empty(alloc),
+            of: PhantomData,
+        }
+    }
+
     /// The job with this number.
     fn job(&self, job: usize) -> &'a JobPlan<'c>
         requires { job < length P.jobs }
@@ -173,11 +184,7 @@ fn run_as<P: Planned + Send + Sync, H: Threads + Wait + Sync, G: Gate + Sync>(
     requires planned { plan.now.jobs.items ≡ P.jobs }
     ensures { IfOk result (λ answers. answers.items ≡ map (planned_answer []) (plans_in plan.now.jobs.items)) }
 {
-    let jobs = PlanJobs::<P> {
-        plan,
-        env: Env::empty(alloc),
-        of: PhantomData,
-    };
+    let jobs = PlanJobs::<P>::of(alloc, plan);
     run_all(rt, alloc, &jobs, settings, gate)
 }
 

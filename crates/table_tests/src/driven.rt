@@ -3,8 +3,8 @@ ghost use Rattle.std.specs.Prelude.{◌≡◌, ℕ, ℤ, List, [], length, map, 
 ghost use Rattle.completer_tree.specs.Trees.{table_id_of};
 
 use crate::lists::{Lists, Planned};
-use job_plan::Settings;
-use job_table::{NoMemory, Running, Segments, TableOpened, TableWork};
+use job_plan::{Plan, Settings};
+use job_table::{NoMemory, PlanJobs, Running, Segments, TableOpened, TableWork};
 use std::alloc::Global;
 use std::marker::{Brand, PhantomData};
 use std::sync::Wait;
@@ -70,6 +70,24 @@ where
     )
 }
 
+/// How many answers of these jobs are found after such a run.
+fn found<S: Segments + Send + Sync, H: Wait>(
+    rt: &H,
+    alloc: Global,
+    jobs: &S,
+    settings: Settings,
+    drops: u64,
+) -> Result<usize, NoMemory>
+where
+    S::Part: Send,
+    S::Source: Send + Sync,
+    S::Answer: Send + Sync,
+    S::Scratch: Send,
+{
+    let opened = TableOpened::<S>::new(alloc, jobs, settings)?;
+    answers_found::<S, Brand, H>(rt, alloc, jobs, settings, opened, drops)
+}
+
 fn lists_found_as<P: Planned + Send + Sync, H: Wait>(
     rt: &H,
     alloc: Global,
@@ -84,8 +102,7 @@ fn lists_found_as<P: Planned + Send + Sync, H: Wait>(
         refusals: AtomicU64::new(0),
         of: PhantomData,
     };
-    let opened = TableOpened::<Lists<'_, P>>::new(alloc, &jobs, settings)?;
-    answers_found::<Lists<'_, P>, Brand, H>(rt, alloc, &jobs, settings, opened, drops)
+    found(rt, alloc, &jobs, settings, drops)
 }
 
 /// How many of the lists are found after a run whose tasks are all run here, but for those that are dropped.
@@ -97,4 +114,28 @@ pub(crate) fn lists_found<H: Wait>(
     drops: u64,
 ) -> Result<usize, NoMemory> {
     lists_found_as::<Brand, H>(rt, alloc, lists, settings, drops)
+}
+
+fn plan_found_as<P: job_table::Planned + Send + Sync, H: Wait>(
+    rt: &H,
+    alloc: Global,
+    plan: &Plan<'_>,
+    settings: Settings,
+    drops: u64,
+) -> Result<usize, NoMemory>
+    requires planned { plan.now.jobs.items ≡ P.jobs }
+{
+    let jobs = PlanJobs::<P>::of(alloc, plan);
+    found(rt, alloc, &jobs, settings, drops)
+}
+
+/// How many answers of a plan are found after such a run.
+pub(crate) fn plan_found<H: Wait>(
+    rt: &H,
+    alloc: Global,
+    plan: &Plan<'_>,
+    settings: Settings,
+    drops: u64,
+) -> Result<usize, NoMemory> {
+    plan_found_as::<Brand, H>(rt, alloc, plan, settings, drops)
 }

@@ -1,5 +1,5 @@
 //! Jobs of job files on workers: the answers of Java, and the leaves that they were walked in.
-use crate::driven::Open;
+use crate::driven::{Open, plan_found};
 use crate::gates::{Counted, Holding, TURNS};
 use columns::Columns;
 use job_language::read_jobs;
@@ -64,6 +64,13 @@ fn file_of(alloc: Global, table: &str) -> Result<Vec<u8>, AllocError> {
     Ok(bytes)
 }
 
+/// The plan of the jobs of a table.
+fn plan_of<'c>(alloc: Global, columns: &'c Columns, table: &str) -> Result<Plan<'c>, AllocError> {
+    let file = file_of(alloc, table)?;
+    let jobs = read_jobs(alloc, &file, columns).map_err(|_fault| AllocError)?;
+    Plan::of(alloc, jobs)
+}
+
 /// The answers of the jobs of a table, whose leaves enter this gate.
 fn run<H: Threads + Wait + Sync, G: Gate + Sync>(
     rt: &H,
@@ -76,9 +83,7 @@ fn run<H: Threads + Wait + Sync, G: Gate + Sync>(
 ) -> Result<Vec<Answer>, Fail> {
     let settings = Settings::of(workers, threshold, nodes, Form::Text).ok_or(AllocError)?;
     let columns = Columns::none();
-    let file = file_of(alloc, table)?;
-    let jobs = read_jobs(alloc, &file, &columns).map_err(|_fault| AllocError)?;
-    let plan = Plan::of(alloc, jobs)?;
+    let plan = plan_of(alloc, &columns, table)?;
     let answers = run_jobs(rt, alloc, &plan, &settings, gate).map_err(|_fault| AllocError)?;
     Ok(answers)
 }
@@ -151,5 +156,26 @@ fn two_workers_have_two_leaves_of_one_job_open_at_once(rt: HostRuntime) -> Resul
     assert!(rt; first_difference(alloc, row, &answers)? == 1);
     // One leaf was held, and let go by another one, so each of the two was entered once.
     assert!(rt; gate.leaves.load(SeqCst) == 2 && gate.turns.load(SeqCst) < TURNS);
+    Ok(())
+}
+
+#[test]
+fn answers_of_a_plan_are_found_exactly_when_no_task_is_dropped(
+    rt: HostRuntime,
+) -> Result<(), Fail> {
+    let alloc = rt.alloc();
+    let columns = Columns::none();
+    let plan = plan_of(alloc, &columns, JOBS)?;
+    for nodes in [0, 1, 2, 3, 4096] {
+        let settings = Settings::of(1, 1, nodes, Form::Text).ok_or(AllocError)?;
+        let found = plan_found(&rt, alloc, &plan, settings, 0)?;
+        assert!(rt; found == 21, "{found} with {nodes} nodes");
+    }
+    let settings = Settings::of(1, 1, 4096, Form::Text).ok_or(AllocError)?;
+    let found = plan_found(&rt, alloc, &plan, settings, 1)?;
+    assert!(rt; found == 20, "{found} of 21");
+    let plan = plan_of(alloc, &columns, "s = of(1, 2).sum()")?;
+    let found = plan_found(&rt, alloc, &plan, settings, 1)?;
+    assert!(rt; found == 0, "{found} of 1");
     Ok(())
 }

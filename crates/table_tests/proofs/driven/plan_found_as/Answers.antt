@@ -1,0 +1,17 @@
+use denote.Exit.{no}
+use denote.Param.{param}
+use denote.Param.Send.{arg_send, arg_sync, param_send, param_sync}
+use mir.Syntax.{named}
+use Rattle.job_table.specs.contracts.planned.PlanJobs as plan_jobs
+use Rattle.job_table.proofs.SharedPlanLemmas.{jobs_send, jobs_sync}
+use Rattle.table_tests.proofs.driven.plan_found_as.Goals as goal
+
+pub found-requires-send-S : goal.found-requires-send-S
+found-requires-send-S g c = λ κs within.
+    param_send 0 _ (arg_send _ no (plan_jobs.the_row (record { mir = named 4; lft = κs.1.1.1.1.0 }) (record { mir = named 8; lft = κs.1.1.1.1.1.1.1.1.0 }) (param 0 g.row.P) g.P.Planned)
+    (jobs_send _ _ _ _ (param_send 0 _ c.type_bounds.send-P)))
+
+pub found-requires-sync-S : goal.found-requires-sync-S
+found-requires-sync-S g c = λ κs within.
+    param_sync 0 _ (arg_sync _ no (plan_jobs.the_row (record { mir = named 4; lft = κs.1.1.1.1.0 }) (record { mir = named 8; lft = κs.1.1.1.1.1.1.1.1.0 }) (param 0 g.row.P) g.P.Planned)
+    (jobs_sync _ _ _ _ (param_sync 0 _ c.type_bounds.sync-P)))
