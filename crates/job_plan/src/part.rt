@@ -33,7 +33,7 @@ pub struct FoldPart {
 /// What a piece of a segment's source gives to the end of the segment.
 ///
 /// A fold and a find have a constant size, `limit(n)` keeps `n` items at most, `takeWhile` those before the first at
-/// which its test isn't true. The other slices and `toArray` keep all items.
+/// which its test isn't true. The other slices keep all items, and `toArray` all values.
 #[derive(Drop)]
 pub enum Part<'p> {
     Slice(SlicePart<'p>),
@@ -232,7 +232,7 @@ impl<'p> Part<'p> {
         }
     }
 
-    /// What the segment gives. Only the values of an array take memory, 8 bytes each.
+    /// What the segment gives. Only the values of an array in several pieces take memory, 8 bytes each.
     pub fn finish(self, alloc: Global, env: &Env) -> Result<Outcome, NoMemory>
         ensures { IfOk result (λ outcome. (s : AbstractSegment) (t : Trace) → StandsFor s env.now self.entry t
             → outcome ≡ outcome_of s env.now t) }
