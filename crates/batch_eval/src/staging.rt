@@ -4,7 +4,7 @@
 ghost use Rattle.batch_eval.specs.Batches.{fed_of};
 ghost use Rattle.batch_eval.specs.Pours.{Holds, Poured};
 ghost use Rattle.batch_eval.specs.Rooms.{FitsStages};
-ghost use Rattle.lambda_expr.specs.Streams.{inner_of, inner_values};
+ghost use Rattle.lambda_expr.specs.Streams.{inner_of, run_or_listed};
 ghost use Rattle.std.specs.Prelude.{◌≡◌, ◌+◌, ◌<◌, ◌^◌, List, ◌++◌, Ok, OnErr, Some, length};
 ghost use Rattle.trace.specs.Sinks.{IsFed, flow_after};
 ghost use Rattle.trace.specs.Stages.{at_place, flat_map, of_item, pipe, stages_of};
@@ -15,7 +15,7 @@ ghost use Rattle.trace.specs.declared.item.Item.{Item};
 use crate::batch::Batch;
 use crate::register::LANES;
 use crate::sink::BatchSink;
-use lambda_expr::{Env, FaultKind, InnerExpr};
+use lambda_expr::{Env, FaultKind, InnerExpr, ListedValues};
 use trace::{End, Fault, Fed, Flow, InnerItems, Item, NoMemory, SourceItems, Stage, feed_all};
 
 /// Takes a batch through all stages, and gives the sink what comes out.
@@ -89,13 +89,15 @@ pub(crate) fn feed_inner<S: BatchSink>(
     ensures refused { OnErr result S.takes_memory }
 {
     pending.clear();
+    let mut listed = ListedValues::new();
     for position in 0..batch.count() {
         let item = batch.item_at(position);
-        match inner.eval(item.value, env) {
-            Ok(values) => {
+        match inner.eval_into(item.value, env, &mut listed) {
+            Ok(run) => {
                 let values = InnerItems {
                     origin: item.origin,
-                    values,
+                    run,
+                    listed: listed.as_slice(),
                 };
                 match pour(later, stage + 1, env, &values, pending, rest, room, sink)? {
                     Fed::More => {}
@@ -127,7 +129,7 @@ fn pour<S: BatchSink>(
     stages: &[Stage],
     first_stage: u32,
     env: &Env,
-    values: &InnerItems,
+    values: &InnerItems<'_>,
     pending: &mut Batch,
     rest: &mut [Batch],
     room: &mut [i64],
@@ -137,7 +139,7 @@ fn pour<S: BatchSink>(
     requires wants { S.flow sink.old ≡ Flow.More }
     requires room { FitsStages (stages_of stages.now) (length room.old) }
     ensures poured { (xs whole : List Item) → Holds S.has_taken first_stage (stages_of stages.now) env.now xs whole pending.old.items sink.old
-        → Poured S.has_taken first_stage (stages_of stages.now) env.now xs (whole ++ at_place values.now.origin (inner_values values.now.values)) result pending.new.items sink.new }
+        → Poured S.has_taken first_stage (stages_of stages.now) env.now xs (whole ++ at_place values.now.origin (run_or_listed values.now.run values.now.listed.now)) result pending.new.items sink.new }
     ensures flow { S.flow sink.new ≡ flow_after result }
     ensures refused { OnErr result S.takes_memory }
 {

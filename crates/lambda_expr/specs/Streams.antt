@@ -1,5 +1,5 @@
 -- Meaning: the values of an inner stream.
-use Rattle.std.specs.Prelude.{ℕ, zero, suc, ◌^◌, ℤ, pos, ◌+ℤ◌, ◌-ℤ◌, int_lt, nat_lt, unsigned_abs, if◌then◌else◌, List, [], ◌∷◌, Result, Ok, Err}
+use Rattle.std.specs.Prelude.{ℕ, zero, suc, ◌^◌, ℤ, pos, ◌+ℤ◌, ◌-ℤ◌, int_lt, nat_lt, unsigned_abs, if◌then◌else◌, List, [], ◌∷◌, Option, Some, None, Result, Ok, Err}
 use Rattle.lambda_expr.specs.declared.fault.FaultKind.{FaultKind}
 use Rattle.lambda_expr.specs.declared.fault.FaultKind.TheVariants.{SourceTooLong}
 use Rattle.lambda_expr.specs.declared.expr.LongExpr.{LongExpr}
@@ -64,3 +64,8 @@ run_values run = counted run.first run.count
 abbrev pub inner_values : Values → List ℤ
 inner_values (given.Range run) = run_values run
 inner_values (given.Values vs) = vs.items
+
+-- the integers in a row, or without them the values in a list
+abbrev pub run_or_listed : Option Run → List ℤ → List ℤ
+run_or_listed (Some run) vs = run_values run
+run_or_listed None vs = vs

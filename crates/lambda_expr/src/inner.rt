@@ -1,6 +1,6 @@
 //! Inner streams: what `flatMap` puts in the place of an item.
 
-ghost use Rattle.lambda_expr.specs.Streams.{distance, each_value, exprs_of, inner_of, inner_value, inner_values, through, run_values, up_from};
+ghost use Rattle.lambda_expr.specs.Streams.{distance, each_value, exprs_of, inner_of, inner_value, inner_values, through, run_or_listed, run_values, up_from};
 ghost use Rattle.lambda_expr.specs.Term.{long_of};
 ghost use Rattle.std.specs.Prelude.{◌≡◌, ◌+◌, ◌<◌, ◌≤◌, ◌^◌, ℕ, Err, IfErr, IfNone, IfOk, IfSome, Ok, length, nat_le};
 
@@ -25,12 +25,15 @@ pub enum InnerExpr {
     Of(Operands),
 }
 
+/// The values of `LongStream.of` in an inner stream: up to 64.
+pub type ListedValues = ArrayVec<i64, 64>;
+
 /// The values of an inner stream.
 #[derive(Drop)]
 pub enum Inner {
     /// Integers in a row; at most 2^62.
     Range(Run),
-    Values(ArrayVec<i64, 64>),
+    Values(ListedValues),
 }
 
 // The integers from the first up to, not with, the second one.
@@ -66,16 +69,21 @@ fn closed_range(from: i64, to: i64) -> Result<Run, FaultKind>
     })
 }
 
-// The values of expressions, or the first fault.
-fn values(operands: &Operands, x: i64, env: &Env) -> Result<ArrayVec<i64, 64>, FaultKind>
-    ensures ok { IfOk result (λ values. each_value (exprs_of operands.now.exprs.items) x env.now ≡ Ok values.items) }
+// The values of expressions in a list, or the first fault.
+fn list_values(
+    operands: &Operands,
+    x: i64,
+    env: &Env,
+    listed: &mut ListedValues,
+) -> Result<(), FaultKind>
+    ensures ok { IfOk result (λ _. each_value (exprs_of operands.now.exprs.items) x env.now ≡ Ok listed.new.items) }
     ensures fault { IfErr result (λ kind. each_value (exprs_of operands.now.exprs.items) x env.now ≡ Err kind) }
 {
-    let mut values = ArrayVec::new();
+    listed.clear();
     for expr in operands.exprs() {
-        values.push(expr.eval(x, env)?);
+        listed.push(expr.eval(x, env)?);
     }
-    Ok(values)
+    Ok(())
 }
 
 impl InnerExpr {
@@ -85,18 +93,39 @@ impl InnerExpr {
         ensures ok { IfOk result (λ inner. inner_value (inner_of self.now) x env.now ≡ Ok (inner_values inner)) }
         ensures fault { IfErr result (λ kind. inner_value (inner_of self.now) x env.now ≡ Err kind) }
     {
+        let mut listed = ArrayVec::new();
+        match self.eval_into(x, env, &mut listed)? {
+            Some(run) => Ok(Inner::Range(run)),
+            None => Ok(Inner::Values(listed)),
+        }
+    }
+
+    /// The same for a caller that keeps a list from item to item: the integers in a row, or none if the values are in
+    /// the list.
+    pub fn eval_into(
+        &self,
+        x: i64,
+        env: &Env,
+        listed: &mut ListedValues,
+    ) -> Result<Option<Run>, FaultKind>
+        ensures ok { IfOk result (λ run. inner_value (inner_of self.now) x env.now ≡ Ok (run_or_listed run listed.new.items)) }
+        ensures fault { IfErr result (λ kind. inner_value (inner_of self.now) x env.now ≡ Err kind) }
+    {
         match self {
             InnerExpr::Range(from, to) => {
                 let from = from.eval(x, env)?;
                 let to = to.eval(x, env)?;
-                Ok(Inner::Range(range(from, to)?))
+                Ok(Some(range(from, to)?))
             }
             InnerExpr::RangeClosed(from, to) => {
                 let from = from.eval(x, env)?;
                 let to = to.eval(x, env)?;
-                Ok(Inner::Range(closed_range(from, to)?))
+                Ok(Some(closed_range(from, to)?))
             }
-            InnerExpr::Of(operands) => Ok(Inner::Values(values(operands, x, env)?)),
+            InnerExpr::Of(operands) => {
+                list_values(operands, x, env, listed)?;
+                Ok(None)
+            }
         }
     }
 }

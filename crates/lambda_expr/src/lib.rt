@@ -47,7 +47,7 @@ mod wrapping;
 pub use env::{Env, NamedNumber};
 pub use expr::{BoolExpr, LongExpr};
 pub use fault::{FaultKind, ReadFault};
-pub use inner::{Inner, InnerExpr};
+pub use inner::{Inner, InnerExpr, ListedValues};
 pub use lambda::{Body, Lambda, PairForm, Want};
 pub use laws::{each_text_has_an_answer, one_answer, one_number, one_reading, one_stop};
 pub use names::references_decide;

@@ -2,7 +2,7 @@
 
 ghost use Rattle.std.specs.Prelude.{◌≡◌, ◌+◌, ◌<◌, ◌^◌, List, [], ◌∷◌, length, OnErr};
 ghost use Rattle.trace.specs.Trace.{trace};
-ghost use Rattle.lambda_expr.specs.Streams.{inner_values};
+ghost use Rattle.lambda_expr.specs.Streams.{run_or_listed};
 ghost use Rattle.trace.specs.Stages.{at_place, pipe, stages_of};
 ghost use Rattle.trace.specs.Sinks.{IsFed, flow_after};
 ghost use Rattle.trace.specs.declared.item.Item.{Item};
@@ -13,7 +13,7 @@ use crate::item::{Fault, Item};
 use crate::sink::{Flow, LongSink};
 use crate::source::{InnerItems, SourceItems};
 use crate::stage::Stage;
-use lambda_expr::{Env, FaultKind};
+use lambda_expr::{Env, FaultKind, ListedValues};
 
 /// What became of the items that were taken through the stages.
 #[derive(Clone, Copy, Debug, PartialEq, Eq)]
@@ -68,16 +68,20 @@ pub fn feed<S: LongSink>(
             Ok(false) => Ok(Fed::More),
             Err(kind) => Ok(Fed::Fault(fault_at(first_stage, item, kind))),
         },
-        Stage::FlatMap(inner) => match inner.eval(item.value, env) {
-            Ok(values) => {
-                let values = InnerItems {
-                    origin: item.origin,
-                    values,
-                };
-                feed_inner(later, first_stage + 1, env, &values, sink)
+        Stage::FlatMap(inner) => {
+            let mut listed = ListedValues::new();
+            match inner.eval_into(item.value, env, &mut listed) {
+                Ok(run) => {
+                    let values = InnerItems {
+                        origin: item.origin,
+                        run,
+                        listed: listed.as_slice(),
+                    };
+                    feed_inner(later, first_stage + 1, env, &values, sink)
+                }
+                Err(kind) => Ok(Fed::Fault(fault_at(first_stage, item, kind))),
             }
-            Err(kind) => Ok(Fed::Fault(fault_at(first_stage, item, kind))),
-        },
+        }
     }
 }
 
@@ -113,13 +117,13 @@ fn feed_inner<S: LongSink>(
     stages: &[Stage],
     first_stage: u32,
     env: &Env,
-    values: &InnerItems,
+    values: &InnerItems<'_>,
     sink: &mut S,
 ) -> Result<Fed, NoMemory>
     requires numbered { first_stage + length stages.now < 2 ^ 32 }
     requires wants { S.flow sink.old ≡ Flow.More }
     ensures fed { (xs : List Item) → S.has_taken sink.old xs → IsFed S.has_taken xs
-        (pipe first_stage (stages_of stages.now) env.now (trace (at_place values.now.origin (inner_values values.now.values)) end.Done)) result sink.new }
+        (pipe first_stage (stages_of stages.now) env.now (trace (at_place values.now.origin (run_or_listed values.now.run values.now.listed.now)) end.Done)) result sink.new }
     ensures flow { S.flow sink.new ≡ flow_after result }
     ensures refused { OnErr result S.takes_memory }
 {

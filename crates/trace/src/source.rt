@@ -3,14 +3,14 @@
 ghost use Rattle.std.specs.Prelude.{◌≡◌, ◌<◌, ◌≤◌, ◌^◌, ℕ, pos, ◌+ℤ◌, List, length, FitsSigned, IfNone, IfSome, Some, slice_get};
 ghost use Rattle.std.specs.Int.{w64};
 ghost use Rattle.trace.specs.Cover.{counted, cover, placed, range, too_long, values as listed};
-ghost use Rattle.lambda_expr.specs.Streams.{inner_values};
+ghost use Rattle.lambda_expr.specs.Streams.{run_or_listed};
 ghost use Rattle.trace.specs.Stages.{at_place};
 ghost use Rattle.trace.specs.Trace.{trace};
 ghost use Rattle.trace.specs.declared.item.End.TheVariants as end;
 ghost use Rattle.trace.specs.declared.item.Item.{Item};
 
 use crate::item::Item;
-use lambda_expr::Inner;
+use lambda_expr::Run;
 
 /// The largest number of values that a source may have: 2^62.
 pub const MAX_SOURCE_SIZE: u64 = 1 << 62;
@@ -100,28 +100,30 @@ impl SourceItems for ValueItems<'_> {
 }
 
 /// The items of an inner stream, all at the place of the outer item: what `flatMap` makes of that item.
-#[derive(Drop)]
-pub struct InnerItems {
+#[derive(Clone, Copy)]
+pub struct InnerItems<'a> {
     pub origin: u64,
-    pub values: Inner,
+    /// Integers in a row; without them the values of the list.
+    pub run: Option<Run>,
+    pub listed: &'a [i64],
 }
 
-impl SourceItems for InnerItems {
-    ghost items = { λ source. at_place source.origin (inner_values source.values) };
+impl SourceItems for InnerItems<'_> {
+    ghost items = { λ source. at_place source.origin (run_or_listed source.run source.listed.now) };
 
     fn count(&self) -> u64 {
-        match &self.values {
-            Inner::Range(run) => run.count,
-            Inner::Values(values) => values.len() as u64,
+        match self.run {
+            Some(run) => run.count,
+            None => self.listed.len() as u64,
         }
     }
 
     fn item_at(&self, position: u64) -> Item {
         Item {
             origin: self.origin,
-            value: match &self.values {
-                Inner::Range(run) => run.first + position as i64,
-                Inner::Values(values) => values[position as usize],
+            value: match self.run {
+                Some(run) => run.first + position as i64,
+                None => self.listed[position as usize],
             },
         }
     }

@@ -8,7 +8,7 @@ use Rattle.trace.specs.declared.item.Fault.{Fault}
 use Rattle.trace.specs.Trace.{Trace, trace, each}
 use Rattle.trace.specs.Sinks.{IsFed}
 use Rattle.trace.specs.Stages.{at_place, flat_map, flattened, of_item, pipe, stages_of}
-use Rattle.lambda_expr.specs.Streams.{inner_of, inner_value, inner_values}
+use Rattle.lambda_expr.specs.Streams.{inner_of, inner_value, run_or_listed}
 use Rattle.batch_eval.specs.Pours.{Holds}
 use Rattle.batch_eval.proofs.WaitingItemLemmas.{holds_none, holds_ended, holds_added, flushed, poured_rest, inner_stopped, each_next, each_fault, each_whole}
 use Rattle.batch_eval.proofs.staging.+batches.Goals as goal
@@ -66,7 +66,7 @@ pour-loop-position-preserved g t c =
     let n = c.args.first_stage in
     let gs = stages_of c.args.stages.now in
     let env = c.args.env.now in
-    let zs = at_place c.args.values.now.origin (inner_values c.args.values.now.values) in
+    let zs = at_place c.args.values.now.origin (run_or_listed c.args.values.now.run c.args.values.now.listed.now) in
     let p = c.loop-position.position in
     let poured = rw c.in-More.is at c.in_ok-stopped.ensures.poured in
     record {
@@ -78,20 +78,20 @@ pour-loop-position-preserved g t c =
 
 pub pour-returns-in_default-clause-poured : goal.pour-returns-in_default-clause-poured
 pour-returns-in_default-clause-poured g t c = λ xs whole held.
-    let zs = at_place c.args.values.now.origin (inner_values c.args.values.now.values) in
+    let zs = at_place c.args.values.now.origin (run_or_listed c.args.values.now.run c.args.values.now.listed.now) in
     let p = c.loop-position.position in
     poured_rest g.S.LongSink.has_taken c.args.first_stage (stages_of c.args.stages.now) c.args.env.now xs whole zs p (Ok c.in_ok-stopped.stopped) c.make_space.new.pending.items c.make_space.new.sink (λ e. c.in_default.not-More cc) (c.in_ok-stopped.ensures.poured xs (whole ++ take p zs) (c.loop-position.invariant.held xs whole held))
 
 pub pour-returns-in_err-stopped-clause-poured : goal.pour-returns-in_err-stopped-clause-poured
 pour-returns-in_err-stopped-clause-poured g t c = λ xs whole held.
     let e = err_from_is_err_and c.from_residual.result c.from_residual.ensures.1 in
-    let zs = at_place c.args.values.now.origin (inner_values c.args.values.now.values) in
+    let zs = at_place c.args.values.now.origin (run_or_listed c.args.values.now.run c.args.values.now.listed.now) in
     let p = c.loop-position.position in
     rw e.1 (poured_rest g.S.LongSink.has_taken c.args.first_stage (stages_of c.args.stages.now) c.args.env.now xs whole zs p (Err c.in_err-stopped.field-0.0) c.make_space.new.pending.items c.make_space.new.sink (λ e. cc) (c.in_err-stopped.ensures.poured xs (whole ++ take p zs) (c.loop-position.invariant.held xs whole held)))
 
 pub pour-returns-clause-poured : goal.pour-returns-clause-poured
 pour-returns-clause-poured g t c = λ xs whole held.
-    let zs = at_place c.args.values.now.origin (inner_values c.args.values.now.values) in
+    let zs = at_place c.args.values.now.origin (run_or_listed c.args.values.now.run c.args.values.now.listed.now) in
     let past : length zs ≤ c.loop-position.position = omega (arith, c.loop-position-test.false, c.count-count.ensures) in
     subst (λ (ys : List Item). Holds g.S.LongSink.has_taken c.args.first_stage (stages_of c.args.stages.now) c.args.env.now xs (whole ++ ys) c.loop-position.pending.items c.loop-position.sink) (take_all c.loop-position.position zs past) (c.loop-position.invariant.held xs whole held)
 
@@ -119,10 +119,10 @@ feed_inner-loop-position-preserved g t c =
     let p = c.loop-position.position in
     let y = c.item_at-item.result in
     let f : Item → Trace = of_item c.args.stage (flat_map (inner_of c.args.inner.now)) env in
-    let zs = at_place y.origin (inner_values c.in-Ok.values) in
+    let zs = at_place y.origin (run_or_listed c.in-Ok.run' c.as_slice.result.now) in
     let front : Trace = each f (take p os) end.Done in
     let same : to_z w64 (of_z w64 c.item_at-item.result.value) ≡ c.item_at-item.result.value = search rules in
-    let gives : f y ≡ trace zs end.Done = ap (λ (v : ℤ). flattened c.args.stage y (inner_value (inner_of c.args.inner.now) v env)) (sym same) ∙ ap (flattened c.args.stage y) c.in-Ok.ensures.ok in
+    let gives : f y ≡ trace zs end.Done = ap (λ (v : ℤ). flattened c.args.stage y (inner_value (inner_of c.args.inner.now) v env)) (sym same) ∙ ap (flattened c.args.stage y) (c.in-Ok.ensures.ok ∙ ap (λ (vs : List ℤ). Ok (run_or_listed c.in-Ok.run' vs)) (sym c.as_slice.ensures.value)) in
     let next : each f (take (p + 1) os) end.Done ≡ trace (front.items ++ zs) end.Done = each_next f os p y zs c.item_at-item.ensures c.loop-position.invariant.done gives in
     let poured = rw c.in-More.is at c.in_ok-stopped-in-Ok.ensures.poured in
     record {
@@ -143,10 +143,10 @@ feed_inner-returns-in_default-clause-fed g t c = λ xs took.
     let p = c.loop-position.position in
     let y = c.item_at-item.result in
     let f : Item → Trace = of_item c.args.stage (flat_map (inner_of c.args.inner.now)) env in
-    let zs = at_place y.origin (inner_values c.in-Ok.values) in
+    let zs = at_place y.origin (run_or_listed c.in-Ok.run' c.as_slice.result.now) in
     let front : Trace = each f (take p os) end.Done in
     let same : to_z w64 (of_z w64 c.item_at-item.result.value) ≡ c.item_at-item.result.value = search rules in
-    let gives : f y ≡ trace zs end.Done = ap (λ (v : ℤ). flattened c.args.stage y (inner_value (inner_of c.args.inner.now) v env)) (sym same) ∙ ap (flattened c.args.stage y) c.in-Ok.ensures.ok in
+    let gives : f y ≡ trace zs end.Done = ap (λ (v : ℤ). flattened c.args.stage y (inner_value (inner_of c.args.inner.now) v env)) (sym same) ∙ ap (flattened c.args.stage y) (c.in-Ok.ensures.ok ∙ ap (λ (vs : List ℤ). Ok (run_or_listed c.in-Ok.run' vs)) (sym c.as_slice.ensures.value)) in
     inner_stopped h n gs env xs f os p y zs e (Ok c.in_ok-stopped-in-Ok.stopped) c.pour.new.pending.items c.pour.new.sink c.item_at-item.ensures c.loop-position.invariant.done gives (λ e. c.in_default.not-More cc) (c.in_ok-stopped-in-Ok.ensures.poured xs front.items (c.loop-position.invariant.held xs took))
 
 pub feed_inner-returns-in_err-stopped-in-Ok-clause-fed : goal.feed_inner-returns-in_err-stopped-in-Ok-clause-fed
@@ -161,10 +161,10 @@ feed_inner-returns-in_err-stopped-in-Ok-clause-fed g t c = λ xs took.
     let p = c.loop-position.position in
     let y = c.item_at-item.result in
     let f : Item → Trace = of_item c.args.stage (flat_map (inner_of c.args.inner.now)) env in
-    let zs = at_place y.origin (inner_values c.in-Ok.values) in
+    let zs = at_place y.origin (run_or_listed c.in-Ok.run' c.as_slice.result.now) in
     let front : Trace = each f (take p os) end.Done in
     let same : to_z w64 (of_z w64 c.item_at-item.result.value) ≡ c.item_at-item.result.value = search rules in
-    let gives : f y ≡ trace zs end.Done = ap (λ (v : ℤ). flattened c.args.stage y (inner_value (inner_of c.args.inner.now) v env)) (sym same) ∙ ap (flattened c.args.stage y) c.in-Ok.ensures.ok in
+    let gives : f y ≡ trace zs end.Done = ap (λ (v : ℤ). flattened c.args.stage y (inner_value (inner_of c.args.inner.now) v env)) (sym same) ∙ ap (flattened c.args.stage y) (c.in-Ok.ensures.ok ∙ ap (λ (vs : List ℤ). Ok (run_or_listed c.in-Ok.run' vs)) (sym c.as_slice.ensures.value)) in
     rw q.1 (inner_stopped h n gs env xs f os p y zs e (Err c.in_err-stopped-in-Ok.field-0.0) c.pour.new.pending.items c.pour.new.sink c.item_at-item.ensures c.loop-position.invariant.done gives (λ e. cc) (c.in_err-stopped-in-Ok.ensures.poured xs front.items (c.loop-position.invariant.held xs took)))
 
 pub feed_inner-returns-in-Err-clause-fed : goal.feed_inner-returns-in-Err-clause-fed

@@ -1,5 +1,5 @@
 use Rattle.std.proofs.Common.{◌≡◌, ◌+◌, ◌*◌, ◌-◌, ◌≤◌, ◌++◌, List, length, take}
-use Rattle.lambda_expr.specs.Streams.{inner_of, inner_values}
+use Rattle.lambda_expr.specs.Streams.{inner_of, run_or_listed}
 use Rattle.trace.specs.declared.item.Item.{Item}
 use Rattle.trace.specs.declared.item.End.TheVariants as end
 use Rattle.trace.specs.declared.sink.Flow.TheVariants as flow
@@ -33,7 +33,7 @@ invariant-pour-loop-position g l =
       within : l.position ≤ l.count;
       room : FitsStages (stages_of l.stages) (length l.room);
       wants : g.S.LongSink.flow l.sink ≡ flow.More;
-      held : (xs whole : List Item) → Holds g.S.LongSink.has_taken l.first_stage (stages_of l.stages) l.env xs whole l.initial.pending.items l.initial.sink → Holds g.S.LongSink.has_taken l.first_stage (stages_of l.stages) l.env xs (whole ++ take l.position (at_place l.values.origin (inner_values l.values.values))) l.pending.items l.sink;
+      held : (xs whole : List Item) → Holds g.S.LongSink.has_taken l.first_stage (stages_of l.stages) l.env xs whole l.initial.pending.items l.initial.sink → Holds g.S.LongSink.has_taken l.first_stage (stages_of l.stages) l.env xs (whole ++ take l.position (at_place l.values.origin (run_or_listed l.values.run l.values.listed.now))) l.pending.items l.sink;
     }
 
 abbrev pub invariant-feed_inner-loop-position : goal.invariant-feed_inner-loop-position
