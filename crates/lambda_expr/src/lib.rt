@@ -6,7 +6,7 @@
 //!   that it spells, or the first refusal that applies, a syntax fault with its column.
 //!   `each_text_has_an_answer`, `one_answer` and `one_number` say that there is one answer and no
 //!   other. `Lambda::names` lists the `$` names;
-//! - `trace` evaluates by `LongExpr::eval`, `BoolExpr::eval` and `InnerExpr::eval`: the value over
+//! - `trace` evaluates by `LongExpr::eval`, `BoolExpr::eval` and `InnerExpr::eval_into`: the value over
 //!   unbounded integers, cut to 64 bits where Java does it (JLS 17, chapter 15), or the first fault
 //!   from left to right.
 //!
