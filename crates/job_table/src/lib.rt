@@ -2,8 +2,9 @@
 //!
 //! `run_jobs` works out the jobs of a plan. What a job is, the table doesn't know: a type that implements `Segments` says how many jobs
 //! there are, how a piece of a segment is walked, how two parts are merged, and what comes of a whole segment. Each job has a start
-//! node. A piece longer than the threshold is cut in two, if a node can be claimed; parts climb in trees of completers. Whoever gets
-//! the part of a whole segment leaves its outcome in a `OnceLock`, and begins the next segment or settles the job.
+//! node. A piece longer than the threshold, or with few nodes than an even share of all positions, is cut in two if a node can be
+//! claimed; parts climb in trees of completers. Whoever gets the part of a whole segment leaves its outcome in a `OnceLock`, and
+//! begins the next segment or settles the job.
 //!
 //! Stands on `job_plan`, `completer_tree` and `worker_pool`. Used by `engine`.
 //! What it promises to its callers: `run_jobs`: the answers of a plan's jobs by their definition, in order, with any settings and in

@@ -36,3 +36,25 @@ pub(crate) fn node_count<S: Segments>(jobs: &S, settings: Settings) -> u32
         .saturating_add(jobs.jobs() as u64);
     all.min(u64::from(u32::MAX)) as u32
 }
+
+/// How many positions the first segments have that are walked in pieces, in all jobs together.
+fn divided_positions<S: Segments>(jobs: &S) -> u64 {
+    let mut positions = 0u64;
+    for job in 0..jobs.jobs() {
+        if jobs.is_divided(job, 0) {
+            let size = jobs.size(job, 0, &jobs.first_source(job));
+            positions = positions.saturating_add(size);
+        }
+    }
+    positions
+}
+
+/// The most positions of a piece that isn't cut: the threshold, or more if there are too few nodes for pieces as short as that. All
+/// nodes are then used for cuts of long pieces, and no piece is left long because others were cut small before it.
+pub(crate) fn most_positions<S: Segments>(jobs: &S, settings: Settings) -> u64
+    ensures { 0 < result }
+{
+    let pieces = settings.nodes().saturating_add(jobs.jobs() as u64);
+    let length = divided_positions(jobs).checked_div(pieces).unwrap_or(0);
+    settings.threshold().max(length)
+}

@@ -8,7 +8,7 @@ ghost use Rattle.job_table.specs.Cuts.{IsPiece, Stands};
 
 use crate::NoMemory;
 use crate::cut::{Cut, SegmentPart, TableCounts, TableKept, TablePart};
-use crate::nodes::node_count;
+use crate::nodes::{most_positions, node_count};
 use crate::opening::open_all;
 use crate::places::{JobPlaces, empty_places, kept_answer, kept_source};
 use crate::segments::Segments;
@@ -141,7 +141,7 @@ impl<'a, S: Segments, R: Running> JobWork<'a, S, TablePart<S>, TableKept<S>, R> 
             alloc,
             counts,
             jobs,
-            threshold: settings.threshold(),
+            threshold: most_positions(jobs, settings),
             places: empty_places(alloc, jobs)?,
             of: PhantomData,
         };

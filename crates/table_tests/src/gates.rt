@@ -52,10 +52,11 @@ impl Gate for Holding {
     }
 }
 
-/// Counts the leaves.
+/// Counts the leaves, and keeps the length of the longest.
 #[derive(Drop)]
 pub(crate) struct Counted {
     pub(crate) leaves: AtomicU64,
+    pub(crate) longest: AtomicU64,
 }
 
 impl Counted {
@@ -63,12 +64,14 @@ impl Counted {
     pub(crate) fn new() -> Counted {
         Counted {
             leaves: AtomicU64::new(0),
+            longest: AtomicU64::new(0),
         }
     }
 }
 
 impl Gate for Counted {
-    fn at_leaf(&self, _job: usize, _from: u64, _to: u64) {
+    fn at_leaf(&self, _job: usize, from: u64, to: u64) {
         self.leaves.fetch_add(1, SeqCst);
+        self.longest.fetch_max(to.saturating_sub(from), SeqCst);
     }
 }

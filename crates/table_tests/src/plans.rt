@@ -179,3 +179,21 @@ fn answers_of_a_plan_are_found_exactly_when_no_task_is_dropped(
     assert!(rt; found == 0, "{found} of 1");
     Ok(())
 }
+
+#[test]
+fn few_nodes_cut_the_longest_pieces_first(rt: HostRuntime) -> Result<(), Fail> {
+    let alloc = rt.alloc();
+    for (nodes, leaves, longest) in [
+        (0, 1, 4096),
+        (1, 2, 2048),
+        (3, 4, 1024),
+        (15, 16, 256),
+        (63, 64, 64),
+    ] {
+        let gate = Counted::new();
+        run(&rt, alloc, "s = range(0, 4096).sum()", 1, 1, nodes, &gate)?;
+        assert!(rt; gate.leaves.load(SeqCst) == leaves, "{nodes} nodes");
+        assert!(rt; gate.longest.load(SeqCst) == longest, "{nodes} nodes");
+    }
+    Ok(())
+}
