@@ -1,6 +1,6 @@
 //! How many nodes a run can use.
 ghost use Rattle.std.specs.Prelude.{◌+◌, ◌-◌, ◌^◌, ◌<◌, ◌≤◌, min, ℕ};
-ghost use Rattle.job_plan.specs.SettingsParts.{nodes_of};
+ghost use Rattle.job_plan.specs.SettingsParts.{nodes_of, threshold_of};
 
 use crate::segments::Segments;
 use job_plan::Settings;
@@ -52,7 +52,8 @@ fn divided_positions<S: Segments>(jobs: &S) -> u64 {
 /// The most positions of a piece that isn't cut: the threshold, or more if there are too few nodes for pieces as short as that. All
 /// nodes are then used for cuts of long pieces, and no piece is left long because others were cut small before it.
 pub(crate) fn most_positions<S: Segments>(jobs: &S, settings: Settings) -> u64
-    ensures { 0 < result }
+    ensures some { 0 < result }
+    ensures threshold { threshold_of settings ≤ result }
 {
     let pieces = settings.nodes().saturating_add(jobs.jobs() as u64);
     let length = divided_positions(jobs).checked_div(pieces).unwrap_or(0);

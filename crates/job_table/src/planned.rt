@@ -197,7 +197,7 @@ pub enum RunFault {
 
 /// The answers of the jobs of a plan, in file order, worked out by as many workers as the settings say.
 ///
-/// Each leaf of at most `threshold` items is entered at the gate. An answer that no task left is worked out by the caller, which enters
+/// Each leaf is entered at the gate. A piece of at most `threshold` items is never cut. An answer that no task left is worked out by the caller, which enters
 /// the gate once, for all of the job's source. No job may name another one: a name has no number here.
 pub fn run_jobs<H: Threads + Wait + Sync, G: Gate + Sync>(
     rt: &H,
