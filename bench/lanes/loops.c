@@ -72,6 +72,12 @@ int main(int argc, char **argv) {
     EXACT("subtract_exact", __builtin_sub_overflow(x, 5, &v))
     EXACT("multiply_exact", __builtin_mul_overflow(x, 5, &v))
     EXACT("negate_exact", __builtin_sub_overflow(0, x, &v))
+    MAP("times_number", times(x, 31))
+    MAP("divide_power", x / 8)
+    MAP("remainder_power", x % 8)
+    MAP("floor_div_power", x >> 3)
+    MAP("floor_mod_power", x & 7)
+    MAP("choose_sign", x < 25000 ? minus(0, x) : x)
     FILTER("equal", x == 999)
     FILTER("not_equal", x != 999)
     FILTER("less", x < 25000)
@@ -80,6 +86,8 @@ int main(int argc, char **argv) {
     FILTER("greater_or_equal", x >= 25000)
     FILTER("or", x < 999 || x > 25000)
     FILTER("not", !(x < 25000))
+    FILTER("both", x > 999 && x < 25000)
+    FILTER("even", x % 2 == 0)
     int64_t *values = malloc(8 * count);
     if (!values) return 1;
     for (int64_t x = 0; x < count; x++) values[x] = x;

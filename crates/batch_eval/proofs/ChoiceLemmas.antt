@@ -8,7 +8,8 @@ use Rattle.lambda_expr.specs.declared.fault.FaultKind.{FaultKind}
 use Rattle.lambda_expr.specs.Operators.{on}
 use Rattle.batch_eval.specs.declared.reached.Reached.{Reached}
 use Rattle.batch_eval.specs.Lanes.{after, at, flagged, is_set, Reaches, StopsAt}
-use Rattle.batch_eval.specs.Choices.{chosen_value}
+use Rattle.lambda_expr.specs.Value.{chosen}
+use Rattle.batch_eval.specs.Choices.{by_flag, chosen_value}
 use Rattle.batch_eval.specs.Batches.{wanted, picked, wants}
 use Rattle.batch_eval.proofs.Steps.{Reaches_same, Reaches_on}
 
@@ -71,25 +72,37 @@ not_true : (b : Bool) → not b ≡ true → b ≡ false
 not_true true is = cc
 not_true false is = refl
 
-abbrev one_of : Bool → Result ℤ FaultKind → Result ℤ FaultKind → Result ℤ FaultKind
-one_of b x y = if b then x else y
-
--- a test, and at each lane the one of two expressions that the test wants
-pub chosen_reaches : (t : ℕ → Result Bool FaultKind) (a b : ℕ → Result ℤ FaultKind) (flags ones others out : List ℤ) (live y n : ℕ) (tested first second last : Reached) (ya na : ℕ → Result ℤ FaultKind) → Reaches (λ k. flagged (t k)) (at flags) live tested → y ≡ length (wanted true flags tested.live) → ((j : ℕ) → j < y → ya j ≡ a (get_or (wanted true flags tested.live) j 0)) → Reaches ya (at ones) y first → n ≡ length (wanted false flags tested.live) → ((j : ℕ) → j < n → na j ≡ b (get_or (wanted false flags tested.live) j 0)) → Reaches na (at others) n second → ((f : ℕ → Result ℤ FaultKind) → Reaches (λ j. f (get_or (wanted true flags tested.live) j 0)) (at ones) (length (wanted true flags tested.live)) first → Reaches (λ j. f (get_or (wanted false flags tested.live) j 0)) (at others) (length (wanted false flags tested.live)) second → Reaches f (at out) tested.live last) → Reaches (λ k. chosen_value (t k) (a k) (b k)) (at out) live (after last tested)
-chosen_reaches t a b flags ones others out live y n tested first second last ya na test y_is ya_is yes_reached n_is na_is no_reached merged =
-    let f : ℕ → Result ℤ FaultKind = λ k. one_of (is_set (at flags k)) (a k) (b k) in
-    let g : ℕ → ℤ → Result ℤ FaultKind = λ k z. one_of (is_set z) (a k) (b k) in
+-- at each lane the one of two expressions that the flag wants
+pub parted_reaches : (a b : ℕ → Result ℤ FaultKind) (flags ones others out : List ℤ) (l y n : ℕ) (first second last : Reached) (ya na : ℕ → Result ℤ FaultKind) → y ≡ length (wanted true flags l) → ((j : ℕ) → j < y → ya j ≡ a (get_or (wanted true flags l) j 0)) → Reaches ya (at ones) y first → n ≡ length (wanted false flags l) → ((j : ℕ) → j < n → na j ≡ b (get_or (wanted false flags l) j 0)) → Reaches na (at others) n second → ((f : ℕ → Result ℤ FaultKind) → Reaches (λ j. f (get_or (wanted true flags l) j 0)) (at ones) (length (wanted true flags l)) first → Reaches (λ j. f (get_or (wanted false flags l) j 0)) (at others) (length (wanted false flags l)) second → Reaches f (at out) l last) → Reaches (λ k. by_flag (at flags k) (a k) (b k)) (at out) l last
+parted_reaches a b flags ones others out l y n first second last ya na y_is ya_is yes_reached n_is na_is no_reached merged =
+    let f : ℕ → Result ℤ FaultKind = λ k. by_flag (at flags k) (a k) (b k) in
     let p : ℕ → Bool = λ k. wants true (at flags k) in
     let q : ℕ → Bool = λ k. wants false (at flags k) in
-    let l = tested.live in
-    let yes_here = Reaches_same ya (λ j. f (get_or (picked p l) j 0)) (at ones) y first (λ j below. ya_is j below ∙ sym (ap (λ (c : Bool). one_of c (a (get_or (picked p l) j 0)) (b (get_or (picked p l) j 0))) (picked_pass p l j (subst (λ (m : ℕ). j < m) y_is below)))) yes_reached in
-    let no_here = Reaches_same na (λ j. f (get_or (picked q l) j 0)) (at others) n second (λ j below. na_is j below ∙ sym (ap (λ (c : Bool). one_of c (a (get_or (picked q l) j 0)) (b (get_or (picked q l) j 0))) (not_true (is_set (at flags (get_or (picked q l) j 0))) (picked_pass q l j (subst (λ (m : ℕ). j < m) n_is below))))) no_reached in
-    let both = merged f
+    let yes_here = Reaches_same ya (λ j. f (get_or (picked p l) j 0)) (at ones) y first (λ j below. ya_is j below ∙ sym (ap (λ (c : Bool). chosen c (a (get_or (picked p l) j 0)) (b (get_or (picked p l) j 0))) (picked_pass p l j (subst (λ (m : ℕ). j < m) y_is below)))) yes_reached in
+    let no_here = Reaches_same na (λ j. f (get_or (picked q l) j 0)) (at others) n second (λ j below. na_is j below ∙ sym (ap (λ (c : Bool). chosen c (a (get_or (picked q l) j 0)) (b (get_or (picked q l) j 0))) (not_true (is_set (at flags (get_or (picked q l) j 0))) (picked_pass q l j (subst (λ (m : ℕ). j < m) n_is below))))) no_reached in
+    merged f
     (subst (λ (m : ℕ). Reaches (λ j. f (get_or (picked p l) j 0)) (at ones) m first) y_is yes_here)
-    (subst (λ (m : ℕ). Reaches (λ j. f (get_or (picked q l) j 0)) (at others) m second) n_is no_here) in
+    (subst (λ (m : ℕ). Reaches (λ j. f (get_or (picked q l) j 0)) (at others) m second) n_is no_here)
+
+-- a test, and then what its flags choose
+pub chosen_reaches : (t : ℕ → Result Bool FaultKind) (a b : ℕ → Result ℤ FaultKind) (flags out : List ℤ) (live : ℕ) (tested last : Reached) → Reaches (λ k. flagged (t k)) (at flags) live tested → Reaches (λ k. by_flag (at flags k) (a k) (b k)) (at out) tested.live last → Reaches (λ k. chosen_value (t k) (a k) (b k)) (at out) live (after last tested)
+chosen_reaches t a b flags out live tested last test both =
+    let g : ℕ → ℤ → Result ℤ FaultKind = λ k z. by_flag z (a k) (b k) in
     Reaches_same (λ k. on (flagged (t k)) (g k)) (λ k. chosen_value (t k) (a k) (b k)) (at out) live (after last tested) (λ k below. chosen_is (t k) (a k) (b k)) (Reaches_on (λ k. flagged (t k)) g (at flags) (at out) live tested last test both)
   where
-    chosen_is : (r : Result Bool FaultKind) (x y : Result ℤ FaultKind) → on (flagged r) (λ z. one_of (is_set z) x y) ≡ chosen_value r x y
+    chosen_is : (r : Result Bool FaultKind) (x y : Result ℤ FaultKind) → on (flagged r) (λ z. by_flag z x y) ≡ chosen_value r x y
     chosen_is (Ok true) x y = refl
     chosen_is (Ok false) x y = refl
     chosen_is (Err kind) x y = refl
+
+-- the same where each lane has a value
+pub chosen_everywhere : (t : ℕ → Result Bool FaultKind) (a b : ℕ → Result ℤ FaultKind) (flags out : List ℤ) (live : ℕ) (tested : Reached) → Reaches (λ k. flagged (t k)) (at flags) live tested → ((k : ℕ) → k < tested.live → by_flag (at flags k) (a k) (b k) ≡ Ok (at out k)) → Reaches (λ k. chosen_value (t k) (a k) (b k)) (at out) live (after (record { live = tested.live; fault = None }) tested)
+chosen_everywhere t a b flags out live tested test values = chosen_reaches t a b flags out live tested (record { live = tested.live; fault = None }) test (record { within = omega arith; values = values; stop = refl })
+
+chosen_ok : (c : Bool) (x y : ℤ) → chosen {A = Result ℤ FaultKind} c (Ok x) (Ok y) ≡ Ok (if c then x else y)
+chosen_ok true x y = refl
+chosen_ok false x y = refl
+
+-- the one of two values that the flag wants, where both are known
+pub by_flag_ones : (z x y w : ℤ) (a b : Result ℤ FaultKind) → w ≡ (if is_set z then x else y) → a ≡ Ok x → b ≡ Ok y → by_flag z a b ≡ Ok w
+by_flag_ones z x y w a b is a_is b_is = rw (is, a_is, b_is) (chosen_ok (is_set z) x y)

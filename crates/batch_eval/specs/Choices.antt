@@ -7,7 +7,7 @@ use Rattle.lambda_expr.specs.Term.{long_of, truth_of}
 use Rattle.lambda_expr.specs.Value.{chosen, long_value, truth_value}
 use Rattle.batch_eval.specs.declared.register.Operand.{Operand}
 use Rattle.batch_eval.specs.declared.register.Operand.TheVariants as operand
-use Rattle.batch_eval.specs.Lanes.{flag_of, flagged}
+use Rattle.batch_eval.specs.Lanes.{flag_of, flagged, is_set}
 
 -- both operands, from left to right, and then the operator
 abbrev pub between : (ℤ → ℤ → Result ℤ FaultKind) → Result ℤ FaultKind → Result ℤ FaultKind → Result ℤ FaultKind
@@ -16,6 +16,10 @@ between f a b = on a (λ v. on b (λ w. f v w))
 -- one of two operands, by a condition; the other one is not looked at
 abbrev pub chosen_value : Result Bool FaultKind → Result ℤ FaultKind → Result ℤ FaultKind → Result ℤ FaultKind
 chosen_value c a b = on c (λ t. chosen t a b)
+
+-- one of two values, by a flag
+abbrev pub by_flag : ℤ → Result ℤ FaultKind → Result ℤ FaultKind → Result ℤ FaultKind
+by_flag z a b = chosen (is_set z) a b
 
 -- the value of an operand at an item
 abbrev pub operand_value : Operand → ℤ → Numbers → Result ℤ FaultKind

@@ -35,6 +35,10 @@ FitsOperand (operand.Flag b) room = Unit {0}
 abbrev pub FitsChosen : Truth → Operand → Operand → ℕ → Type 0
 FitsChosen c a b room = (4096 ≤ room) × FitsTest c (room - 1024) × FitsOperand a (room - 4096) × FitsOperand b (room - 4096)
 
+-- what is left for two operands after the flags that choose between them
+abbrev pub FitsParted : Operand → Operand → ℕ → Type 0
+FitsParted a b room = (3072 ≤ room) × FitsOperand a (room - 3072) × FitsOperand b (room - 3072)
+
 abbrev pub FitsStage : AbstractStage → ℕ → Type 0
 FitsStage (map e) room = Fits e room
 FitsStage (filter p) room = FitsTest p room

@@ -1,9 +1,9 @@
 //! Lanes by their flags: those of one kind in a register of their own, and two such registers as one again.
 
 ghost use Rattle.batch_eval.specs.Batches.{wanted, wants};
-ghost use Rattle.batch_eval.specs.Lanes.{Reaches, at};
+ghost use Rattle.batch_eval.specs.Lanes.{Reaches, at, is_set as is_set_flag};
 ghost use Rattle.lambda_expr.specs.declared.fault.FaultKind.{FaultKind};
-ghost use Rattle.std.specs.Prelude.{◌≡◌, ℕ, ℤ, ◌<◌, ◌≤◌, Result, false, length, slice_index, true};
+ghost use Rattle.std.specs.Prelude.{◌≡◌, ℕ, ℤ, ◌<◌, ◌≤◌, Result, false, length, slice_index, true, if◌then◌else◌};
 
 use crate::flag::is_set;
 use crate::reached::{Reached, all};
@@ -78,4 +78,38 @@ pub(crate) fn merge(
         }
     }
     all(live)
+}
+
+/// The lanes of a register whose flag is set, into another register.
+pub(crate) fn select(flags: &[i64], ones: &[i64], live: usize, out: &mut [i64])
+    requires flags { live ≤ length flags.now }
+    requires ones { live ≤ length ones.now }
+    requires out { live ≤ length out.old }
+    ensures { (k : ℕ) → k < live → at out.new k ≡ (if is_set_flag (at flags.now k) then at ones.now k else at out.old k) }
+{
+    for i in 0..live {
+        out[i] = if is_set(flags[i]) { ones[i] } else { out[i] };
+    }
+}
+
+/// One number into the lanes whose flag is set.
+pub(crate) fn set_ones(flags: &[i64], number: i64, live: usize, out: &mut [i64])
+    requires flags { live ≤ length flags.now }
+    requires out { live ≤ length out.old }
+    ensures { (k : ℕ) → k < live → at out.new k ≡ (if is_set_flag (at flags.now k) then number else at out.old k) }
+{
+    for i in 0..live {
+        out[i] = if is_set(flags[i]) { number } else { out[i] };
+    }
+}
+
+/// One number into the lanes whose flag isn't set.
+pub(crate) fn set_others(flags: &[i64], number: i64, live: usize, out: &mut [i64])
+    requires flags { live ≤ length flags.now }
+    requires out { live ≤ length out.old }
+    ensures { (k : ℕ) → k < live → at out.new k ≡ (if is_set_flag (at flags.now k) then at out.old k else number) }
+{
+    for i in 0..live {
+        out[i] = if is_set(flags[i]) { out[i] } else { number };
+    }
 }

@@ -13,6 +13,7 @@
 #![tactic(auto)]
 
 mod batch;
+mod cheap;
 mod choose;
 mod dispatch;
 mod feeding;

@@ -1,13 +1,15 @@
 //! The values of an expression at the lanes of a batch: one loop per operator of the expression.
 
 ghost use Rattle.batch_eval.specs.Lanes.{Reaches, at, flagged, infix_value, left_at};
-ghost use Rattle.batch_eval.specs.Rooms.{Fits, FitsBoth, FitsChosen, FitsOperand, FitsTest};
-ghost use Rattle.batch_eval.specs.Choices.{between, chosen_value, operand_value};
+ghost use Rattle.batch_eval.specs.Rooms.{Fits, FitsBoth, FitsChosen, FitsOperand, FitsParted, FitsTest};
+ghost use Rattle.batch_eval.specs.Choices.{between, by_flag, chosen_value, operand_value};
+ghost use Rattle.lambda_expr.specs.Earlier.{Numbers};
 ghost use Rattle.lambda_expr.specs.Term.{long_of, truth_of};
 ghost use Rattle.lambda_expr.specs.Value.{long_value, truth_value};
-ghost use Rattle.std.specs.Prelude.{◌≡◌, ◌≤◌, IsTrue, Ok, length};
+ghost use Rattle.std.specs.Prelude.{◌≡◌, ◌<◌, ◌≤◌, ℕ, ℤ, IfSome, IsTrue, Ok, length};
 
-use crate::choose::{gather, merge};
+use crate::cheap::is_cheap;
+use crate::choose::{gather, merge, select, set_ones, set_others};
 use crate::dispatch::{Infix, by_number, by_register, by_unary};
 use crate::flag::flag;
 use crate::kernel::Opposite;
@@ -137,8 +139,19 @@ fn eval_operand(
     }
 }
 
-/// Puts `condition ? a : b` at the numbers `xs` into a register, up to its first fault. Each of `a`
-/// and `b` is evaluated at the lanes that need it only.
+/// The number of an operand that is one.
+fn number_of(operand: Operand<'_>) -> Option<i64>
+    ensures { IfSome result (λ z. (x : ℤ) (env : Numbers) → operand_value operand.entry x env ≡ Ok z) }
+{
+    match operand {
+        Operand::Long(LongExpr::Number(number)) => Some(*number),
+        Operand::Flag(value) => Some(flag(value)),
+        _ => None,
+    }
+}
+
+/// Puts `condition ? a : b` at the numbers `xs` into a register, up to its first fault. Where `a` and
+/// `b` are cheap and have no fault, both are evaluated at all lanes.
 #[cycle(register)]
 fn eval_chosen(
     condition: &BoolExpr,
@@ -158,14 +171,79 @@ fn eval_chosen(
 {
     let (flags, rest) = room.split_at_mut(LANES);
     let tested = eval_bool(condition, env, xs, live, flags, rest);
-    let (items, rest) = rest.split_at_mut(LANES);
+    if eval_both(flags, a, b, env, xs, tested.live, out, rest) {
+        return all(tested.live).after(tested);
+    }
+    eval_parted(flags, a, b, env, xs, tested.live, out, rest).after(tested)
+}
+
+/// Puts the one of two operands that each flag chooses into a register, up to the first fault. Each is
+/// evaluated at the lanes that need it only.
+#[cycle(register)]
+fn eval_parted(
+    flags: &[i64],
+    a: Operand<'_>,
+    b: Operand<'_>,
+    env: &Env,
+    xs: &[i64],
+    live: usize,
+    out: &mut [i64],
+    room: &mut [i64],
+) -> Reached
+    requires lanes { live ≤ 1024 }
+    requires flags { live ≤ length flags.now }
+    requires xs { live ≤ length xs.now }
+    requires out { live ≤ length out.old }
+    requires room { FitsParted a b (length room.old) }
+    ensures { Reaches (λ k. by_flag (at flags.now k) (operand_value a.entry (at xs.now k) env.now) (operand_value b.entry (at xs.now k) env.now)) (at out.new) live result }
+{
+    let (items, rest) = room.split_at_mut(LANES);
     let (ones, rest) = rest.split_at_mut(LANES);
     let (others, rest) = rest.split_at_mut(LANES);
-    let count = gather(flags, true, tested.live, xs, items);
+    let count = gather(flags, true, live, xs, items);
     let first = eval_operand(a, env, items, count, ones, rest);
-    let count = gather(flags, false, tested.live, xs, items);
+    let count = gather(flags, false, live, xs, items);
     let second = eval_operand(b, env, items, count, others, rest);
-    merge(flags, tested.live, ones, first, others, second, out).after(tested)
+    merge(flags, live, ones, first, others, second, out)
+}
+
+/// The same where both operands are cheap and have a value at each lane, and else false. Both are
+/// evaluated at all lanes.
+#[cycle(register)]
+fn eval_both(
+    flags: &[i64],
+    a: Operand<'_>,
+    b: Operand<'_>,
+    env: &Env,
+    xs: &[i64],
+    live: usize,
+    out: &mut [i64],
+    room: &mut [i64],
+) -> bool
+    requires lanes { live ≤ 1024 }
+    requires flags { live ≤ length flags.now }
+    requires xs { live ≤ length xs.now }
+    requires out { live ≤ length out.old }
+    requires room { FitsParted a b (length room.old) }
+    ensures { IsTrue result → (k : ℕ) → k < live → by_flag (at flags.now k) (operand_value a.entry (at xs.now k) env.now) (operand_value b.entry (at xs.now k) env.now) ≡ Ok (at out.new k) }
+{
+    if !is_cheap(a) || !is_cheap(b) {
+        return false;
+    }
+    let (ones, rest) = room.split_at_mut(3 * LANES);
+    if let Some(number) = number_of(b) {
+        let first = eval_operand(a, env, xs, live, out, rest);
+        set_others(flags, number, live, out);
+        return first.live == live;
+    }
+    let second = eval_operand(b, env, xs, live, out, rest);
+    if let Some(number) = number_of(a) {
+        set_ones(flags, number, live, out);
+        return second.live == live;
+    }
+    let first = eval_operand(a, env, xs, live, ones, rest);
+    select(flags, ones, live, out);
+    first.live == live && second.live == live
 }
 
 /// Two operands from left to right, and an operator between them.

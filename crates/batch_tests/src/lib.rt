@@ -7,4 +7,6 @@
 #![tactic(auto)]
 
 #[cfg(test)]
+mod edges;
+#[cfg(test)]
 mod walks;

@@ -28,8 +28,8 @@ const ENDS: &str = "x -> x & 3; x -> 6 / x; x -> x % (x - 5)";
 
 /// The items that came, in order.
 #[derive(Drop)]
-struct Items {
-    items: Vec<Item>,
+pub(crate) struct Items {
+    pub(crate) items: Vec<Item>,
 }
 
 impl LongSink for Items {
@@ -60,7 +60,7 @@ const fn division_by_zero(stage: u32, origin: u64) -> Fault {
 }
 
 /// The values at the places 0, 1, 2 and so on.
-fn items_of(alloc: Global, values: &[i64]) -> Result<Vec<Item>, NoMemory> {
+pub(crate) fn items_of(alloc: Global, values: &[i64]) -> Result<Vec<Item>, NoMemory> {
     (0..)
         .zip(values)
         .map(|(origin, value)| Item {
@@ -71,7 +71,7 @@ fn items_of(alloc: Global, values: &[i64]) -> Result<Vec<Item>, NoMemory> {
 }
 
 /// `map` or `filter` by a lambda.
-fn stage(alloc: Global, text: &str, want: Want) -> Result<Stage, NoMemory> {
+pub(crate) fn stage(alloc: Global, text: &str, want: Want) -> Result<Stage, NoMemory> {
     match read_lambda(alloc, text.trim().as_bytes(), want) {
         Ok(lambda) => match lambda.body {
             Body::Long(image) => Ok(Stage::Map(image)),
@@ -127,7 +127,7 @@ fn any_values(alloc: Global, seed: u64, count: u64) -> Result<Vec<i64>, NoMemory
 }
 
 /// Whether both ways give the same items and the same end.
-fn agree<I: BatchSource>(
+pub(crate) fn agree<I: BatchSource>(
     alloc: Global,
     stages: &[Stage],
     items: &I,
@@ -192,7 +192,7 @@ fn batches_give_what_a_walk_item_by_item_gives(rt: HostRuntime) -> Result<(), Fa
 }
 
 /// Registers that are there already, so that a short source goes by batches too.
-fn used_registers(alloc: Global) -> Result<Registers, NoMemory> {
+pub(crate) fn used_registers(alloc: Global) -> Result<Registers, NoMemory> {
     let mut registers = Registers::new(alloc);
     let items = items_of(alloc, &[0; 64])?;
     agree(alloc, &[], &items, &mut registers)?;
@@ -200,7 +200,7 @@ fn used_registers(alloc: Global) -> Result<Registers, NoMemory> {
 }
 
 /// The values 1, but for a 0 at one place.
-fn ones_and_a_zero(alloc: Global, count: u64, place: u64) -> Result<Vec<i64>, NoMemory> {
+pub(crate) fn ones_and_a_zero(alloc: Global, count: u64, place: u64) -> Result<Vec<i64>, NoMemory> {
     (0..count)
         .map(|at| if at == place { 0 } else { 1 })
         .collect(alloc)

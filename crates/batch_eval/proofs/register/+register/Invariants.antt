@@ -13,19 +13,25 @@ size (operand.Flag b) = 0
 
 -- an operator's operands are called between it and them
 abbrev pub decreases-eval_long : goal.decreases-eval_long
-decreases-eval_long l = 3 * size-LongExpr l.expr.now
+decreases-eval_long l = 4 * size-LongExpr l.expr.now
 
 abbrev pub decreases-eval_bool : goal.decreases-eval_bool
-decreases-eval_bool l = 3 * size-BoolExpr l.test.now
+decreases-eval_bool l = 4 * size-BoolExpr l.test.now
 
 abbrev pub decreases-eval_left : goal.decreases-eval_left
-decreases-eval_left l = 3 * size-LongExpr l.expr.now + 1
+decreases-eval_left l = 4 * size-LongExpr l.expr.now + 1
 
 abbrev pub decreases-eval_operand : goal.decreases-eval_operand
-decreases-eval_operand l = 3 * size l.operand + 1
+decreases-eval_operand l = 4 * size l.operand + 1
 
 abbrev pub decreases-eval_between : goal.decreases-eval_between
-decreases-eval_between l = 3 * max (size-LongExpr l.a.now) (size-LongExpr l.b.now) + 2
+decreases-eval_between l = 4 * max (size-LongExpr l.a.now) (size-LongExpr l.b.now) + 2
 
 abbrev pub decreases-eval_chosen : goal.decreases-eval_chosen
-decreases-eval_chosen l = 3 * max (size-BoolExpr l.condition.now) (max (size l.a) (size l.b)) + 2
+decreases-eval_chosen l = 4 * max (size-BoolExpr l.condition.now) (max (size l.a) (size l.b)) + 3
+
+abbrev pub decreases-eval_parted : goal.decreases-eval_parted
+decreases-eval_parted l = 4 * max (size l.a) (size l.b) + 2
+
+abbrev pub decreases-eval_both : goal.decreases-eval_both
+decreases-eval_both l = 4 * max (size l.a) (size l.b) + 2

@@ -1,0 +1,72 @@
+//! Which expressions are worth evaluating at lanes that may not need them.
+//!
+//! Nothing here has a contract: either answer is right, since who asks goes another way where a lane has a fault.
+
+use crate::register::Operand;
+use lambda_expr::{BinaryOperator, BoolExpr, LongExpr, UnaryOperator};
+
+/// To gather the lanes that need an operand and to merge them again takes about as long as this many operators.
+const FEW_OPERATORS: u32 = 8;
+
+/// Whether an operand has a few operators, none of which is expensive or may have a fault.
+pub(crate) fn is_cheap(operand: Operand<'_>) -> bool {
+    match operand {
+        Operand::Long(expr) => after_long(expr, FEW_OPERATORS).is_some(),
+        Operand::Bool(test) => after_test(test, FEW_OPERATORS).is_some(),
+        Operand::Flag(_) => true,
+    }
+}
+
+/// How many of these operators an expression leaves, if it is cheap.
+#[cycle(cheap)]
+fn after_long(expr: &LongExpr, operators: u32) -> Option<u32> {
+    match expr {
+        LongExpr::Number(_) | LongExpr::Parameter(_) | LongExpr::Reference(_) => Some(operators),
+        LongExpr::Unary(UnaryOperator::NegateExact, _) => None,
+        LongExpr::Unary(_, operand) => after_long(operand, operators.checked_sub(1)?),
+        LongExpr::Binary(operator, a, b) => {
+            let left = after_long(a, operators.checked_sub(cost(*operator)?)?)?;
+            after_long(b, left)
+        }
+        LongExpr::Choose(condition, a, b) => {
+            let left = after_test(condition, operators.checked_sub(1)?)?;
+            after_long(b, after_long(a, left)?)
+        }
+    }
+}
+
+/// The same of a test.
+#[cycle(cheap)]
+fn after_test(test: &BoolExpr, operators: u32) -> Option<u32> {
+    match test {
+        BoolExpr::Literal(_) => Some(operators),
+        BoolExpr::Compare(_, a, b) => {
+            let left = after_long(a, operators.checked_sub(1)?)?;
+            after_long(b, left)
+        }
+        BoolExpr::Not(operand) => after_test(operand, operators.checked_sub(1)?),
+        BoolExpr::Connect(_, a, b) => {
+            let left = after_test(a, operators.checked_sub(1)?)?;
+            after_test(b, left)
+        }
+        BoolExpr::Choose(condition, a, b) => {
+            let left = after_test(condition, operators.checked_sub(1)?)?;
+            after_test(b, after_test(a, left)?)
+        }
+    }
+}
+
+/// How many additions an operator costs, if it is cheap.
+fn cost(operator: BinaryOperator) -> Option<u32> {
+    match operator {
+        BinaryOperator::Multiply => Some(2),
+        BinaryOperator::Divide
+        | BinaryOperator::Remainder
+        | BinaryOperator::FloorDivide
+        | BinaryOperator::FloorRemainder
+        | BinaryOperator::AddExact
+        | BinaryOperator::SubtractExact
+        | BinaryOperator::MultiplyExact => None,
+        _ => Some(1),
+    }
+}
