@@ -4,6 +4,7 @@ pub mod Flags
 pub mod Items
 pub mod KeptLaneLemmas
 pub mod PlaceLemmas
+pub mod PowerLemmas
 pub mod Steps
 pub mod WaitingItemLemmas
 pub mod Walks

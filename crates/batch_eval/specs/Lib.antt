@@ -4,4 +4,5 @@ pub mod Choices
 pub mod Lanes
 pub mod Places
 pub mod Pours
+pub mod Powers
 pub mod Rooms

@@ -2,6 +2,7 @@
 //!
 //! Nothing here has a contract: either answer is right, since who asks goes another way where a lane has a fault.
 
+use crate::power::exponent_of;
 use crate::register::Operand;
 use lambda_expr::{BinaryOperator, BoolExpr, LongExpr, UnaryOperator};
 
@@ -25,7 +26,7 @@ fn after_long(expr: &LongExpr, operators: u32) -> Option<u32> {
         LongExpr::Unary(UnaryOperator::NegateExact, _) => None,
         LongExpr::Unary(_, operand) => after_long(operand, operators.checked_sub(1)?),
         LongExpr::Binary(operator, a, b) => {
-            let left = after_long(a, operators.checked_sub(cost(*operator)?)?)?;
+            let left = after_long(a, operators.checked_sub(cost(*operator, b)?)?)?;
             after_long(b, left)
         }
         LongExpr::Choose(condition, a, b) => {
@@ -56,17 +57,19 @@ fn after_test(test: &BoolExpr, operators: u32) -> Option<u32> {
     }
 }
 
-/// How many additions an operator costs, if it is cheap.
-fn cost(operator: BinaryOperator) -> Option<u32> {
+/// How many additions an operator with this right operand costs, if it is cheap.
+fn cost(operator: BinaryOperator, right: &LongExpr) -> Option<u32> {
     match operator {
         BinaryOperator::Multiply => Some(2),
         BinaryOperator::Divide
         | BinaryOperator::Remainder
         | BinaryOperator::FloorDivide
-        | BinaryOperator::FloorRemainder
-        | BinaryOperator::AddExact
-        | BinaryOperator::SubtractExact
-        | BinaryOperator::MultiplyExact => None,
+        | BinaryOperator::FloorRemainder => match right {
+            LongExpr::Number(number) if exponent_of(*number).is_some() => Some(3),
+            _ => None,
+        },
+        BinaryOperator::AddExact | BinaryOperator::SubtractExact | BinaryOperator::MultiplyExact =>
+            None,
         _ => Some(1),
     }
 }

@@ -1,8 +1,9 @@
 //! An operator over lanes: the loop that is compiled for it.
 
 ghost use Rattle.batch_eval.specs.Lanes.{Reaches, at, compared, first_only, infix_value, left_at};
+ghost use Rattle.batch_eval.specs.Powers.{power};
 ghost use Rattle.lambda_expr.specs.Operators.{binary_value, unary_value};
-ghost use Rattle.std.specs.Prelude.{◌≤◌, length};
+ghost use Rattle.std.specs.Prelude.{◌≡◌, ◌≤◌, length, pos};
 
 use crate::kernel::{
     Absolute, Add, AddExact, And, Complement, Divide, Equal, FloorDivide, FloorRemainder, Greater,
@@ -11,6 +12,9 @@ use crate::kernel::{
     SubtractExact, Swapped, Xor,
 };
 use crate::loops::{each_in, each_to, fill, zip_in, zip_to};
+use crate::power::{
+    DivideByPower, FloorDivideByPower, FloorRemainderByPower, RemainderByPower, exponent_of,
+};
 use crate::reached::{Left, Reached};
 use lambda_expr::{BinaryOperator, Comparison, UnaryOperator};
 
@@ -177,7 +181,56 @@ pub(crate) fn by_number(
     }
 }
 
+/// Division by a power of two needs no division of the processor.
 fn by_number_computed(
+    operator: BinaryOperator,
+    left: Left,
+    xs: &[i64],
+    y: i64,
+    live: usize,
+    out: &mut [i64],
+) -> Reached
+    requires xs { live ≤ length xs.now }
+    requires out { live ≤ length out.old }
+    ensures { Reaches (λ k. binary_value operator (left_at left out.old xs.now k) y) (at out.new) live result }
+{
+    match exponent_of(y) {
+        Some(exponent) => by_power(operator, left, xs, y, exponent, live, out),
+        None => by_any_number(operator, left, xs, y, live, out),
+    }
+}
+
+/// An operator between a left operand and a power of two.
+fn by_power(
+    operator: BinaryOperator,
+    left: Left,
+    xs: &[i64],
+    y: i64,
+    exponent: i64,
+    live: usize,
+    out: &mut [i64],
+) -> Reached
+    requires power { y ≡ pos (power exponent) }
+    requires xs { live ≤ length xs.now }
+    requires out { live ≤ length out.old }
+    ensures { Reaches (λ k. binary_value operator (left_at left out.old xs.now k) y) (at out.new) live result }
+{
+    match operator {
+        BinaryOperator::Divide => by_left_number::<DivideByPower>(left, xs, exponent, live, out),
+        BinaryOperator::Remainder => {
+            by_left_number::<RemainderByPower>(left, xs, exponent, live, out)
+        }
+        BinaryOperator::FloorDivide => {
+            by_left_number::<FloorDivideByPower>(left, xs, exponent, live, out)
+        }
+        BinaryOperator::FloorRemainder => {
+            by_left_number::<FloorRemainderByPower>(left, xs, exponent, live, out)
+        }
+        _ => by_any_number(operator, left, xs, y, live, out),
+    }
+}
+
+fn by_any_number(
     operator: BinaryOperator,
     left: Left,
     xs: &[i64],

@@ -22,6 +22,7 @@ mod keep;
 mod kernel;
 mod loops;
 mod placed;
+mod power;
 mod reached;
 mod register;
 mod registers;
