@@ -23,6 +23,10 @@ m = range(0, 3000).map(x -> x * 7 % 3001).max() => m = OptionalLong[3000]
 h = of(8589934595, 21474836487).reduce(4294967296, affine) => h = 42949672982
 w = range(0, 3000).skip(2997).toArray() => w = [2997, 2998, 2999]
 d = range(0, 4611686018427387904).map(x -> x * 2).limit(3).toArray() => d = [0, 2, 4]
+d2 = range(0, 4611686018427387904).skip(3).findFirst() => d2 = OptionalLong[3]
+d3 = range(0, 4611686018427387904).skip(5).limit(4).toArray() => d3 = [5, 6, 7, 8]
+d4 = range(0, 4611686018427387904).skip(4611686018427386904).sum() => d4 = -500500
+d5 = column("a").skip(1).limit(1).map(x -> 6 / x).toArray() => d5 = fault divide-by-zero stage 3 item 1
 e = range(0, 3000).dropWhile(x -> x < 2990).limit(4).map(x -> x - 2990).toArray() => e = [0, 1, 2, 3]
 y = range(0, 3000).anyMatch(x -> x == 2500) => y = true
 z = range(0, 2001).sum() => z = 2001000

@@ -92,7 +92,7 @@ module _ {A : Type 0} where
   elements_none from None = drop_of_none from
   elements_none from (Some to) = ap (take (to - from)) (drop_of_none from) ∙ take_of_none (to - from)
 
-  drop_twice : (m n : ℕ) (xs : List A) → drop m (drop n xs) ≡ drop (n + m) xs
+  pub drop_twice : (m n : ℕ) (xs : List A) → drop m (drop n xs) ≡ drop (n + m) xs
   drop_twice m n [] = ap (drop m) (drop_of_none n) ∙ drop_of_none m ∙ sym (drop_of_none (n + m))
   drop_twice m zero (x ∷ xs) = let e : m ≡ 0 + m = omega arith in ap (λ k. drop k (x ∷ xs)) e
   drop_twice m (suc n) (x ∷ xs) = drop_twice m n xs ∙ (let e : suc (n + m) ≡ suc n + m = omega arith in ap (λ k. drop k (x ∷ xs)) e)
@@ -103,13 +103,13 @@ module _ {A : Type 0} where
   front_back (suc n) [] = refl
   front_back (suc n) (x ∷ xs) = ap (λ (zs : List A). x ∷ zs) (front_back n xs)
 
-  take_twice : (m n : ℕ) (xs : List A) → m ≤ n → take m (take n xs) ≡ take m xs
+  pub take_twice : (m n : ℕ) (xs : List A) → m ≤ n → take m (take n xs) ≡ take m xs
   take_twice m n [] h = ap (take m) (take_of_none n)
   take_twice zero n (x ∷ xs) h = take_none (take n (x ∷ xs)) ∙ sym (take_none (x ∷ xs))
   take_twice (suc m) zero (x ∷ xs) h = absurd (omega arith)
   take_twice (suc m) (suc n) (x ∷ xs) h = ap (λ (zs : List A). x ∷ zs) (take_twice m n xs (omega arith))
 
-  drop_taken : (m n : ℕ) (xs : List A) → drop m (take n xs) ≡ take (n - m) (drop m xs)
+  pub drop_taken : (m n : ℕ) (xs : List A) → drop m (take n xs) ≡ take (n - m) (drop m xs)
   drop_taken m n [] = ap (drop m) (take_of_none n) ∙ drop_of_none m ∙ sym (ap (take (n - m)) (drop_of_none m) ∙ take_of_none (n - m))
   drop_taken zero n (x ∷ xs) = drop_none (take n (x ∷ xs)) ∙ (let e : n ≡ n - 0 = omega arith in ap (λ k. take k (x ∷ xs)) e)
   drop_taken (suc m) zero (x ∷ xs) = let e : 0 - suc m ≡ 0 = omega arith in sym (ap (λ k. take k (drop m xs)) e ∙ take_none (drop m xs))

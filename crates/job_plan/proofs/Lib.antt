@@ -9,3 +9,4 @@ pub mod Positions
 pub mod SegmentLemmas
 pub mod SideBySide
 pub mod WalkLemmas
+pub mod WindowLemmas

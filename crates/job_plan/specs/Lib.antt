@@ -10,3 +10,4 @@ pub mod SettingsParts
 pub mod Spans
 pub mod Supported
 pub mod Walks
+pub mod Windows

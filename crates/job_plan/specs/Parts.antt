@@ -26,6 +26,7 @@ use Rattle.job_plan.specs.declared.source.Source.{Source}
 use Rattle.job_plan.specs.declared.source.Source.TheVariants as source
 use Rattle.job_plan.specs.Plans.{AbstractEnd, slicing, folding, finding, collecting, AbstractSegment, AbstractPlan, counted_as, walk_of, last_stage}
 use Rattle.job_plan.specs.Walks.{source_walk}
+use Rattle.job_plan.specs.Windows.{windowed}
 
 -- the end of a segment of the program
 abbrev pub end_in : SegmentEnd → AbstractEnd
@@ -52,7 +53,7 @@ plans_in (j ∷ js) = plan_in j ∷ plans_in js
 
 -- the walk over a source of the program
 abbrev pub walk_in : Source → Trace
-walk_in (source.Plain p) = source_walk (sources_of p.sources.now)
+walk_in (source.Plain p) = windowed p.window.from p.window.to (source_walk (sources_of p.sources.now))
 walk_in (source.Given w) = w.now
 
 -- a fold with this operator and start has the fold of this walk, and its end

@@ -1,5 +1,5 @@
 -- Condition: positions within the first of two lists, and after it.
-use Rattle.std.specs.Prelude.{ℕ, ◌-◌, ◌≤◌, min, Option, Some, None, ⊤}
+use Rattle.std.specs.Prelude.{ℕ, ◌+◌, ◌-◌, ◌^◌, ◌≤◌, min, Option, Some, None, ⊤}
 
 -- how many elements stand at these positions, of a list of this size
 abbrev pub span : ℕ → Option ℕ → ℕ → ℕ
@@ -15,3 +15,14 @@ after (Some to) size = Some (to - size)
 abbrev pub IsNotAfter : ℕ → Option ℕ → Type 0
 IsNotAfter middle None = ⊤
 IsNotAfter middle (Some to) = middle ≤ to
+
+-- the end of positions that are counted from this one on; no more than 2^64 - 1
+abbrev pub moved : Option ℕ → ℕ → Option ℕ
+moved None from = None
+moved (Some to) from = Some (min (from + to) (2 ^ 64 - 1))
+
+-- the first of two ends
+abbrev pub earlier : Option ℕ → Option ℕ → Option ℕ
+earlier None other = other
+earlier (Some to) None = Some to
+earlier (Some to) (Some other) = Some (min to other)

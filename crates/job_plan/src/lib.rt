@@ -30,6 +30,7 @@ mod spans;
 mod supported;
 mod values;
 mod walks;
+mod windows;
 
 pub use answer::Answer;
 pub use array_part::ArrayPart;
@@ -37,7 +38,10 @@ pub use given::GivenWalk;
 pub use leaves::{leaf, leaf_with};
 pub use outcome::Outcome;
 pub use part::{FoldPart, Part};
-pub use plan_laws::{pieces_join, plans_give_the_answers, supported_jobs_stand_alone};
+pub use plan_laws::{
+    later_segments_give_the_answers, pieces_join, plans_give_the_answers,
+    supported_jobs_stand_alone,
+};
 pub use segment::{Fold, JobPlan, Plan, Segment, SegmentEnd};
 pub use settings::{Form, Settings};
 pub use source::Source;

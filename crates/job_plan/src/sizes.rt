@@ -4,9 +4,11 @@ ghost use Rattle.std.specs.Prelude.{◌≡◌, ◌-◌, ◌^◌, min, length};
 ghost use Rattle.job_language.specs.Jobs.{sources_of};
 ghost use Rattle.job_plan.specs.Parts.{walk_in};
 ghost use Rattle.job_plan.specs.Walks.{source_walk};
+ghost use Rattle.job_plan.specs.Windows.{windowed};
 
 use crate::source::Source;
 use crate::sources::{PlainSources, total_size};
+use crate::spans::within;
 
 impl Source<'_, '_> {
     /// How many items the source has, or the greatest `u64` if there are more. It takes constant time after a given walk, else it goes over the sources.
@@ -21,14 +23,14 @@ impl Source<'_, '_> {
 }
 
 impl PlainSources<'_, '_> {
-    /// How many items they have: none, if there are more than 2^62 values.
+    /// How many items there are at these positions: none, if the sources have more than 2^62 values.
     fn size(&self) -> u64
-        ensures { result ≡ min (length (source_walk (sources_of self.now.sources.now)).items) (2 ^ 64 - 1) }
+        ensures { result ≡ min (length (windowed self.now.window.from self.now.window.to (source_walk (sources_of self.now.sources.now))).items) (2 ^ 64 - 1) }
     {
         if self.is_too_long {
-            0
-        } else {
-            total_size(self.sources)
+            return 0;
         }
+        let (_, count) = within(self.window.from, self.window.to, total_size(self.sources));
+        count
     }
 }

@@ -13,6 +13,7 @@ ghost use Rattle.job_plan.specs.Pieces.{elements, piece_of};
 ghost use Rattle.job_plan.specs.Plans.{walk_of};
 ghost use Rattle.job_plan.specs.Spans.{after, span};
 ghost use Rattle.job_plan.specs.Walks.{plain_values, source_walk, values_of};
+ghost use Rattle.job_plan.specs.Windows.{selected_source};
 
 use crate::given::GivenWalk;
 use crate::item_pieces::feed_pieces;
@@ -20,6 +21,7 @@ use crate::pieces::RangePiece;
 use crate::segment::{JobPlan, Segment};
 use crate::sources::{PlainSources, plain_size};
 use crate::spans::{end_after, within};
+use crate::windows::{Window, selected_window};
 use batch_eval::{BatchSink, PlacedValues, Registers, feed_batches};
 use job_language::PlainSource;
 use lambda_expr::{Env, FaultKind};
@@ -35,21 +37,30 @@ const TOO_LONG: Fault = Fault {
 /// What a segment walks over. It borrows the values and copies none.
 #[derive(Clone, Copy)]
 pub enum Source<'a, 'c> {
-    /// Of the first segment: the sources of the job.
+    /// Of the first segment: the sources of the job, or positions of them.
     Plain(PlainSources<'a, 'c>),
     /// Of a later segment: what the segment before it gave.
     Given(&'a GivenWalk),
 }
 
 impl<'a, 'c> Source<'a, 'c> {
-    /// The source of the first segment of a job.
+    /// The source of the first segment of a job, also if that only selects positions.
     pub fn of_job(job: &'a JobPlan<'c>) -> Source<'a, 'c>
         ensures { walk_in result ≡ source_walk (plan_in job.now).sources }
     {
         Source::Plain(PlainSources::of(&job.sources))
     }
 
-    /// The source of a later segment.
+    /// The source of the first of a job's `later_segments`: the positions of its sources that the slices before it select. It
+    /// takes no memory.
+    pub fn of_selected(job: &'a JobPlan<'c>) -> Source<'a, 'c>
+        ensures { walk_in result ≡ selected_source (plan_in job.now) }
+    {
+        let window = selected_window(&job.segments, Window::all());
+        Source::Plain(PlainSources::within(&job.sources, window))
+    }
+
+    /// The source of a segment after another one that was walked.
     pub fn of_given(given: &'a GivenWalk) -> Source<'a, 'c>
         ensures { walk_in result ≡ given.now }
     {
@@ -93,6 +104,7 @@ impl<'a, 'c> Source<'a, 'c> {
                 if plain.is_too_long {
                     return Ok(Fed::More);
                 }
+                let Window { from, to } = plain.window.within(from, to);
                 feed_plain(segment, env, plain.sources, 0, from, to, registers, sink)
             }
             Source::Given(given) => feed_pieces(

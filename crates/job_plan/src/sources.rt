@@ -1,29 +1,40 @@
 //! The plain sources of a job, and how many values they have.
 
-ghost use Rattle.std.specs.Prelude.{◌≡◌, ◌-◌, ◌<◌, ◌^◌, min, length, nat_lt, pos, ◌+ℤ◌};
+ghost use Rattle.std.specs.Prelude.{◌≡◌, ◌-◌, ◌<◌, ◌^◌, min, length, nat_lt, pos, ◌+ℤ◌, None};
 ghost use Rattle.trace.specs.Cover.{distance};
 ghost use Rattle.job_language.specs.Jobs.{source_of, sources_of};
 ghost use Rattle.job_plan.specs.Walks.{plain_values, values_of};
 
+use crate::windows::Window;
 use job_language::PlainSource;
 use trace::MAX_SOURCE_SIZE;
 
-/// The plain sources of a job, one after the other, and whether they have more than 2^62 values.
+/// Positions of the plain sources of a job, one source after the other, and whether these have more than 2^62 values.
 #[derive(Clone, Copy)]
 pub struct PlainSources<'a, 'c> {
     pub(crate) sources: &'a [PlainSource<'c>],
     pub(crate) is_too_long: bool,
+    pub(crate) window: Window,
     ghost measured: { is_too_long ≡ nat_lt (2 ^ 62) (length (values_of (sources_of sources.now))) },
 }
 
 impl<'a, 'c> PlainSources<'a, 'c> {
-    /// These sources.
+    /// All positions of these sources.
     pub fn of(sources: &'a [PlainSource<'c>]) -> PlainSources<'a, 'c>
-        ensures { result.sources.now ≡ sources.now }
+        ensures sources { result.sources.now ≡ sources.now }
+        ensures all { (result.window.from ≡ 0) × (result.window.to ≡ None) }
+    {
+        PlainSources::within(sources, Window::all())
+    }
+
+    /// These positions of the sources.
+    pub(crate) fn within(sources: &'a [PlainSource<'c>], window: Window) -> PlainSources<'a, 'c>
+        ensures { (result.sources.now ≡ sources.now) × (result.window ≡ window) }
     {
         PlainSources {
             sources,
             is_too_long: total_size(sources) > MAX_SOURCE_SIZE,
+            window,
         }
     }
 }

@@ -1,7 +1,7 @@
 //! Positions within the first of two lists, and after it.
 
 ghost use Rattle.std.specs.Prelude.{◌≡◌, min};
-ghost use Rattle.job_plan.specs.Spans.{after, span};
+ghost use Rattle.job_plan.specs.Spans.{after, earlier, moved, span};
 
 /// The first of these positions within a list of this size, and how many there are.
 pub(crate) fn within(from: u64, to: Option<u64>, size: u64) -> (u64, u64)
@@ -20,4 +20,22 @@ pub(crate) fn end_after(to: Option<u64>, size: u64) -> Option<u64>
     ensures { result ≡ after to size }
 {
     Some(to?.saturating_sub(size))
+}
+
+/// The end of positions that are counted from this one on.
+pub(crate) fn moved(to: Option<u64>, from: u64) -> Option<u64>
+    ensures { result ≡ moved to from }
+{
+    Some(from.saturating_add(to?))
+}
+
+/// The first of two ends.
+pub(crate) fn earlier(to: Option<u64>, other: Option<u64>) -> Option<u64>
+    ensures { result ≡ earlier to other }
+{
+    match (to, other) {
+        (Some(to), Some(other)) => Some(to.min(other)),
+        (Some(to), None) => Some(to),
+        (None, other) => other,
+    }
 }

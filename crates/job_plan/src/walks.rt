@@ -27,7 +27,7 @@ pub enum SplitTree {
     Node(u64, Box<SplitTree>, Box<SplitTree>),
 }
 
-/// The answer of a job. The tree is laid over the source of each segment.
+/// The answer of a job. The tree is laid over the source of each segment that is walked.
 ///
 /// A piece after one that settles the answer isn't walked.
 pub fn walk_tree(
@@ -41,8 +41,8 @@ pub fn walk_tree(
     let mut registers = Registers::new(alloc);
     walk_segments(
         alloc,
-        &job.segments,
-        &Source::of_job(job),
+        job.later_segments(),
+        &Source::of_selected(job),
         tree,
         env,
         &mut registers,

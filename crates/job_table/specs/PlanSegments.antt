@@ -8,11 +8,23 @@ use Rattle.job_plan.specs.Parts.{StandsFor}
 use Rattle.job_plan.specs.Pieces.{piece_of}
 use Rattle.job_plan.specs.Plans.{AbstractEnd, slicing, folding, finding, collecting, AbstractSegment, AbstractPlan, outcome_of}
 use Rattle.slice_ops.specs.Slices.{AbstractSlice, limit, skip, take_while, drop_while}
-use Rattle.job_plan.specs.Walks.{source_walk}
+use Rattle.job_plan.specs.Windows.{later_segments, selected_source}
+
+-- what a run walks of a job: the segments after the slices that select positions of its sources, and what the first of them
+-- goes over
+pub record AbstractChain : Type 0 where
+  pub segments : List AbstractSegment
+  pub source : Trace
+
+abbrev pub chain_of : AbstractPlan → AbstractChain
+chain_of plan = record { segments = later_segments plan.segments; source = selected_source plan }
 
 -- the job with this number
 abbrev pub plan_at : List AbstractPlan → ℕ → AbstractPlan
 plan_at plans job = slice_index_or plans job (record { name = []; sources = []; segments = [] })
+
+abbrev pub chain_at : List AbstractPlan → ℕ → AbstractChain
+chain_at plans job = chain_of (plan_at plans job)
 
 -- one more, if it ends in a stage that looks at a whole walk
 abbrev pub one_more : AbstractEnd → ℕ → ℕ
@@ -38,8 +50,8 @@ source_at (suc k) [] t = t
 source_at (suc k) (s ∷ ss) t = source_at k ss (given_walk (outcome_of s [] t))
 
 -- what the segment of a job with this number goes over
-abbrev pub walk_at : AbstractPlan → ℕ → Trace
-walk_at plan segment = source_at segment plan.segments (source_walk plan.sources)
+abbrev pub walk_at : AbstractChain → ℕ → Trace
+walk_at chain segment = source_at segment chain.segments chain.source
 
 -- how many positions a walk has; a run knows no more than 2^64 - 1
 abbrev pub walk_size : Trace → ℕ
@@ -54,9 +66,9 @@ abbrev pub piece_between : ℕ → ℕ → Trace → Trace
 piece_between from to t = piece_of from (upto (walk_size t) to) t
 
 -- a part of a job's segment for these positions; a segment that isn't there has any part
-abbrev pub PartStands : AbstractPlan → ℕ → ℕ → ℕ → Part → Type 0
-PartStands plan segment from to part =
-    IfSome (slice_get plan.segments segment) (λ s. StandsFor s [] part (piece_between from to (walk_at plan segment)))
+abbrev pub PartStands : AbstractChain → ℕ → ℕ → ℕ → Part → Type 0
+PartStands chain segment from to part =
+    IfSome (slice_get chain.segments segment) (λ s. StandsFor s [] part (piece_between from to (walk_at chain segment)))
 
 -- whether a segment is walked in pieces: not if its end may want no more items before the last one
 abbrev pub slice_divides : AbstractSlice → Bool

@@ -5,7 +5,7 @@ use job_plan::GivenWalk;
 /// What a segment goes over.
 #[derive(Drop)]
 pub enum SegmentSource {
-    /// The sources of the job.
+    /// The sources of the job, or the positions of them that slices before every other stage select.
     Own,
     /// What the segment before it gave.
     Kept(GivenWalk),

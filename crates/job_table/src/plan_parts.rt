@@ -1,8 +1,8 @@
 //! The segments of one job of a plan: how a piece is walked, and what comes of a whole segment.
 ghost use Rattle.std.specs.Prelude.{◌≡◌, ◌+◌, ◌<◌, ◌≤◌, ℕ, [], length, slice_get, IfOk};
 ghost use Rattle.job_plan.specs.Parts.{end_in, plan_in, segments_in, walk_in};
-ghost use Rattle.job_plan.specs.Plans.{AbstractPlan, planned_answer};
-ghost use Rattle.job_table.specs.PlanSegments.{PartStands, end_divides, segment_divides, slices_first, walk_at, walk_size};
+ghost use Rattle.job_plan.specs.Plans.{planned_answer};
+ghost use Rattle.job_table.specs.PlanSegments.{AbstractChain, PartStands, chain_of, end_divides, segment_divides, slices_first, walk_at, walk_size};
 
 use crate::NoMemory;
 use batch_eval::Registers;
@@ -40,11 +40,11 @@ fn end_divides(end: &SegmentEnd) -> bool
     }
 }
 
-/// Whether a segment of a job is walked in pieces.
+/// Whether a segment of a job is walked in pieces. Segments are numbered from the first of its `later_segments`.
 pub(crate) fn is_divided(plan: &JobPlan, segment: usize) -> bool
-    ensures { result ≡ segment_divides (slice_get (plan_in plan.now).segments segment) }
+    ensures { result ≡ segment_divides (slice_get (chain_of (plan_in plan.now)).segments segment) }
 {
-    match plan.segments.get(segment) {
+    match plan.later_segments().get(segment) {
         Some(of) => end_divides(&of.end),
         None => false,
     }
@@ -61,11 +61,11 @@ pub(crate) fn piece<'a>(
     env: &Env,
     registers: &mut Registers,
 ) -> Result<Part<'a>, NoMemory>
-    requires source { walk_in source.now ≡ walk_at (plan_in plan.now) segment }
+    requires source { walk_in source.now ≡ walk_at (chain_of (plan_in plan.now)) segment }
     requires alone { env.now ≡ [] }
-    ensures { IfOk result (λ part. PartStands (plan_in plan.now) segment from to part) }
+    ensures { IfOk result (λ part. PartStands (chain_of (plan_in plan.now)) segment from to part) }
 {
-    let Some(of) = plan.segments.get(segment) else {
+    let Some(of) = plan.later_segments().get(segment) else {
         return Ok(Part::Array(ArrayPart::none(alloc)));
     };
     let upto = if to == source.size() { None } else { Some(to) };
@@ -75,8 +75,8 @@ pub(crate) fn piece<'a>(
 /// What the next segment goes over, of the part of a whole segment.
 pub(crate) fn next_walk(alloc: Global, part: Part<'_>, env: &Env) -> Result<GivenWalk, NoMemory>
     requires alone { env.now ≡ [] }
-    ensures { IfOk result (λ given. (plan : AbstractPlan) (segment : ℕ) → segment < slices_first plan.segments
-        → PartStands plan segment 0 (walk_size (walk_at plan segment)) part.entry → given ≡ walk_at plan (segment + 1)) }
+    ensures { IfOk result (λ given. (chain : AbstractChain) (segment : ℕ) → segment < slices_first chain.segments
+        → PartStands chain segment 0 (walk_size (walk_at chain segment)) part.entry → given ≡ walk_at chain (segment + 1)) }
 {
     match part.finish(alloc, env)? {
         Outcome::Source(chunk) => Ok(GivenWalk::of(alloc, chunk)),
@@ -92,12 +92,13 @@ pub(crate) fn last_answer(
     env: &Env,
 ) -> Result<Answer, NoMemory>
     requires alone { env.now ≡ [] }
-    requires part { PartStands (plan_in plan.now) (slices_first (plan_in plan.now).segments) 0
-        (walk_size (walk_at (plan_in plan.now) (slices_first (plan_in plan.now).segments))) part }
+    requires part { PartStands (chain_of (plan_in plan.now)) (slices_first (chain_of (plan_in plan.now)).segments) 0
+        (walk_size (walk_at (chain_of (plan_in plan.now)) (slices_first (chain_of (plan_in plan.now)).segments))) part }
     ensures { IfOk result (λ answer. answer ≡ planned_answer [] (plan_in plan.now)) }
 {
-    let last = slices_first(&plan.segments);
-    if last == plan.segments.len() {
+    let segments = plan.later_segments();
+    let last = slices_first(segments);
+    if last == segments.len() {
         return Ok(Answer::Number(0));
     }
     match part.finish(alloc, env)? {

@@ -4,7 +4,7 @@ ghost use Rattle.job_plan.specs.declared.segment.JobPlan.{JobPlan as job_plan};
 ghost use Rattle.job_plan.specs.Parts.{plan_in, plans_in};
 ghost use Rattle.job_plan.specs.Plans.{planned_answer};
 ghost use Rattle.job_table.specs.Cuts.{IsPiece};
-ghost use Rattle.job_table.specs.PlanSegments.{PartStands, plan_at, segment_divides, slices_first, walk_at, walk_size};
+ghost use Rattle.job_table.specs.PlanSegments.{PartStands, chain_at, plan_at, segment_divides, slices_first, walk_at, walk_size};
 ghost use Rattle.job_table.specs.Sources.{IsKept, one_kept};
 ghost use Rattle.job_table.specs.PlanLaws.{one_answer, one_plan};
 
@@ -75,19 +75,19 @@ impl<'a, 'c, P: Planned> Segments for PlanJobs<'a, 'c, P> {
 
     ghost job_count = { length P.jobs };
 
-    ghost last_of = { λ job. slices_first (plan_at (plans_in P.jobs) job).segments };
+    ghost last_of = { λ job. slices_first (chain_at (plans_in P.jobs) job).segments };
 
-    ghost size_of = { λ job segment. walk_size (walk_at (plan_at (plans_in P.jobs) job) segment) };
+    ghost size_of = { λ job segment. walk_size (walk_at (chain_at (plans_in P.jobs) job) segment) };
 
-    ghost divided = { λ job segment. segment_divides (slice_get (plan_at (plans_in P.jobs) job).segments segment) };
+    ghost divided = { λ job segment. segment_divides (slice_get (chain_at (plans_in P.jobs) job).segments segment) };
 
-    ghost stands_for = { λ job segment from to part. PartStands (plan_at (plans_in P.jobs) job) segment from to part };
+    ghost stands_for = { λ job segment from to part. PartStands (chain_at (plans_in P.jobs) job) segment from to part };
 
-    ghost is_source = { λ job segment source. IsKept (plan_at (plans_in P.jobs) job) segment source };
+    ghost is_source = { λ job segment source. IsKept (chain_at (plans_in P.jobs) job) segment source };
 
     ghost is_answer = { λ job answer. answer ≡ planned_answer [] (plan_at (plans_in P.jobs) job) };
 
-    ghost one_source = { λ job segment source. one_kept (plan_at (plans_in P.jobs) job) segment source };
+    ghost one_source = { λ job segment source. one_kept (chain_at (plans_in P.jobs) job) segment source };
 
     ghost one_answer = { λ job answer. one_answer answer (planned_answer [] (plan_at (plans_in P.jobs) job)) };
 
@@ -96,7 +96,7 @@ impl<'a, 'c, P: Planned> Segments for PlanJobs<'a, 'c, P> {
     }
 
     fn last_segment(&self, job: usize) -> usize {
-        slices_first(&self.job(job).segments)
+        slices_first(self.job(job).later_segments())
     }
 
     fn first_source(&self, _job: usize) -> SegmentSource {
@@ -105,7 +105,7 @@ impl<'a, 'c, P: Planned> Segments for PlanJobs<'a, 'c, P> {
 
     fn size(&self, job: usize, _segment: usize, source: &SegmentSource) -> u64 {
         match source {
-            SegmentSource::Own => Source::of_job(self.job(job)).size(),
+            SegmentSource::Own => Source::of_selected(self.job(job)).size(),
             SegmentSource::Kept(given) => Source::of_given(given).size(),
         }
     }
@@ -131,7 +131,7 @@ impl<'a, 'c, P: Planned> Segments for PlanJobs<'a, 'c, P> {
         let plan = self.job(job);
         match source {
             SegmentSource::Own => {
-                let source = Source::of_job(plan);
+                let source = Source::of_selected(plan);
                 piece(
                     alloc, plan, segment, &source, from, to, &self.env, registers,
                 )
@@ -146,11 +146,11 @@ impl<'a, 'c, P: Planned> Segments for PlanJobs<'a, 'c, P> {
     }
 
     fn merge(cut: Cut, left: Part<'a>, right: Part<'a>) -> Result<Part<'a>, NoMemory>
-        requires piece { IsPiece (length P.jobs) (λ job. slices_first (plan_at (plans_in P.jobs) job).segments) (λ job segment. walk_size (walk_at (plan_at (plans_in P.jobs) job) segment)) cut.job cut.segment cut.from cut.to }
+        requires piece { IsPiece (length P.jobs) (λ job. slices_first (chain_at (plans_in P.jobs) job).segments) (λ job segment. walk_size (walk_at (chain_at (plans_in P.jobs) job) segment)) cut.job cut.segment cut.from cut.to }
         requires within { (cut.from < cut.middle) × (cut.middle < cut.to) }
-        requires left { PartStands (plan_at (plans_in P.jobs) cut.job) cut.segment cut.from cut.middle left }
-        requires right { PartStands (plan_at (plans_in P.jobs) cut.job) cut.segment cut.middle cut.to right }
-        ensures { IfOk result (λ part. PartStands (plan_at (plans_in P.jobs) cut.job) cut.segment cut.from cut.to part) }
+        requires left { PartStands (chain_at (plans_in P.jobs) cut.job) cut.segment cut.from cut.middle left }
+        requires right { PartStands (chain_at (plans_in P.jobs) cut.job) cut.segment cut.middle cut.to right }
+        ensures { IfOk result (λ part. PartStands (chain_at (plans_in P.jobs) cut.job) cut.segment cut.from cut.to part) }
     {
         match left.merge(right) {
             Ok(part) => Ok(part),

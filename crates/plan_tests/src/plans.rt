@@ -12,13 +12,19 @@ const FILE: &str = "\
 s = column(\"b\").skip(1).toArray()
 t = concat(column(\"a\"), column(\"b\")).map(x -> x - 1).sum()
 u = rangeClosed(9223372036854775806, 9223372036854775807).max()
-v = rangeClosed(-9223372036854775808, -9223372036854775807).limit(9).toArray()";
+v = rangeClosed(-9223372036854775808, -9223372036854775807).limit(9).toArray()
+w = column(\"a\").skip(1).limit(1).map(x -> x + 7).toArray()
+x = concat(column(\"a\"), column(\"b\")).skip(2).limit(2).toArray()
+y = column(\"a\").skip(1).map(x -> 6 / x).toArray()";
 
-const ANSWERS: [(&str, &str); 4] = [
+const ANSWERS: [(&str, &str); 7] = [
     ("s", "[20, 30]"),
     ("t", "52"),
     ("u", "OptionalLong[9223372036854775807]"),
     ("v", "[-9223372036854775808, -9223372036854775807]"),
+    ("w", "[7]"),
+    ("x", "[-5, 10]"),
+    ("y", "fault divide-by-zero stage 2 item 1"),
 ];
 
 #[test]
@@ -40,6 +46,34 @@ fn a_plan_has_each_job_of_a_file_in_order(rt: HostRuntime) -> Result<(), Fail> {
         assert!(rt; shown(alloc, &answer)?.as_str() == want, "{name}");
     }
     assert!(rt; jobs.next().is_none());
+    Ok(())
+}
+
+/// Jobs, each with how many segments are walked, and the number of the first stage of the first of them.
+const WALKED: &str = "\
+range(0, 9).sum() => 1 from 1
+range(0, 9).skip(1).sum() => 1 from 2
+range(0, 9).skip(1).limit(2).map(x -> x).sum() => 1 from 3
+range(0, 9).limit(2).skip(0).map(x -> x).skip(1).sum() => 2 from 3
+range(0, 9).map(x -> x).skip(1).sum() => 2 from 1
+range(0, 9).limit(1).limit(0).skip(1).sum() => 3 from 2
+range(0, 9).skip(1).takeWhile(x -> true).skip(1).sum() => 3 from 2
+range(0, 9).dropWhile(x -> true).skip(1).sum() => 3 from 1";
+
+#[test]
+fn slices_before_every_other_stage_are_not_walked(rt: HostRuntime) -> Result<(), Fail> {
+    let alloc = rt.alloc();
+    let columns = Columns::none();
+    for row in WALKED.lines() {
+        let (job, want) = row.split_once(" => ").unwrap_or((row, ""));
+        let plan = plan_of(alloc, format!(in alloc; "q = {job}")?.as_str(), &columns)?;
+        for job in &plan.jobs {
+            let walked = job.later_segments();
+            let first = walked.first().map_or(0, |segment| segment.first_stage);
+            let shown = format!(in alloc; "{} from {first}", walked.len())?;
+            assert!(rt; shown.as_str() == want, "{row}");
+        }
+    }
     Ok(())
 }
 

@@ -28,6 +28,14 @@ of(1, 2, 9, 3, 9, 4).takeWhile(x -> x < 5).toArray() => [1, 2]
 of(1, 2, 9, 3, 9, 4).dropWhile(x -> x < 5).toArray() => [9, 3, 9, 4]
 of(1, 2, 3, 4, 5, 6).dropWhile(x -> x < 3).takeWhile(x -> x < 6).map(x -> x * 10).toArray() => [30, 40, 50]
 range(0, 6).skip(1).limit(4).skip(1).limit(2).reduce((a, b) -> b) => OptionalLong[3]
+range(0, 9).skip(2).limit(6).map(x -> x * x).toArray() => [4, 9, 16, 25, 36, 49]
+of(9, 8, 7, 6, 5, 4, 3, 2).skip(1).limit(6).reduce((a, b) -> a) => OptionalLong[8]
+of(9, 8, 7, 6, 5, 4, 3, 2).limit(7).skip(1).filter(x -> x % 2 == 0).toArray() => [8, 6, 4]
+concat(concat(range(0, 3), of(7, 8, 9)), rangeClosed(20, 22)).skip(2).limit(6).toArray() => [2, 7, 8, 9, 20, 21]
+range(0, 20).skip(3).limit(12).skip(4).limit(6).max() => OptionalLong[12]
+range(0, 6).skip(4).limit(9).count() => 2
+range(0, 4611686018427387904).skip(3).findFirst() => OptionalLong[3]
+range(0, 4611686018427387904).skip(5).limit(4).toArray() => [5, 6, 7, 8]
 of(7, 3, 8, 1, 8, 2).filter(x -> x % 2 == 0).findFirst() => OptionalLong[8]
 of(7, 3, 9, 1, 9, 5).filter(x -> x % 2 == 0).findFirst() => OptionalLong.empty
 of(7, 3, 9, 1, 8, 5).anyMatch(x -> x % 2 == 0) => true
@@ -61,6 +69,16 @@ range(0, 100).filter(x -> x % 7 == 0).toArray() => [0, 7, 14, 21, 28, 35, 42, 49
 
 /// Jobs whose walks meet a fault, or end before one, and operators of this project; worked out by hand.
 const BY_HAND: &str = "\
+of(1, 0).skip(1).map(x -> 1 / x).toArray() => fault divide-by-zero stage 2 item 1
+of(4, 3, 2, 1, 0, 5, 6, 0).skip(2).limit(5).map(x -> 6 / x).sum() => fault divide-by-zero stage 3 item 4
+of(4, 3, 2, 1, 0, 5, 6, 0).skip(5).limit(2).map(x -> 6 / x).toArray() => [1, 1]
+concat(of(1, 2), of(3, 0), of(5, 0)).skip(3).map(x -> 6 / x).min() => fault divide-by-zero stage 2 item 3
+range(0, 4611686018427387904).skip(4611686018427387901).toArray() => [4611686018427387901, 4611686018427387902, 4611686018427387903]
+range(0, 4611686018427387904).skip(4611686018427387900).map(x -> 1 / (4611686018427387902 - x)).toArray() => fault divide-by-zero stage 2 item 4611686018427387902
+range(0, 4611686018427387905).skip(5).limit(3).toArray() => fault source-too-long stage 0 item -
+range(0, 4611686018427387905).limit(5).skip(5).sum() => fault source-too-long stage 0 item -
+range(0, 4611686018427387905).limit(5).skip(5).limit(0).sum() => 0
+range(0, 4611686018427387905).limit(0).toArray() => []
 of(1, 0, 2, 0, 3, 1).map(x -> 6 / x).toArray() => fault divide-by-zero stage 1 item 1
 of(1, 2, 3, 0, 5, 0).map(x -> 6 / x).sum() => fault divide-by-zero stage 1 item 3
 of(1, 2, 3, 4, 5, 0).map(x -> 6 / x).reduce((a, b) -> b) => fault divide-by-zero stage 1 item 5

@@ -122,9 +122,11 @@ const LEAVES: &str = "\
 s = range(0, 1000).sum() => 1
 s = range(0, 1001).sum() => 2
 s = range(0, 4096).sum() => 8
-s = range(0, 4096).skip(96).sum() => 12
+s = range(0, 4096).map(x -> x).skip(96).sum() => 12
+s = range(0, 4096).skip(96).sum() => 4
 s = range(0, 4096).dropWhile(x -> x < 96).skip(3000).sum() => 13
-s = range(0, 4096).limit(4000).sum() => 5
+s = range(0, 4096).map(x -> x).limit(4000).sum() => 5
+s = range(0, 4096).limit(4000).sum() => 4
 s = range(0, 4096).anyMatch(x -> x > 4000) => 1";
 
 #[test]

@@ -1,0 +1,143 @@
+-- Slices that select positions: windows of a walk, and what the segments after them make of it.
+use Rattle.std.proofs.Common.{◌≡◌, ℕ, zero, suc, ◌+◌, ◌-◌, ◌^◌, ◌≤◌, min, nat_lt, if◌then◌else◌, Bool, true, false, List, [], ◌∷◌, length, take, drop, Option, Some, None, refl, sym, ap, subst, ◌∙◌, arith}
+use Rattle.std.proofs.lemmas.Bool.{ltb-false, ltb-true, lt-ltb}
+use Rattle.lambda_expr.specs.Earlier.{Numbers}
+use Rattle.trace.specs.Cover.{placed, too_long}
+use Rattle.trace.specs.Stages.{AbstractStage}
+use Rattle.trace.specs.Trace.{Trace, trace}
+use Rattle.trace.specs.declared.item.Item.{Item}
+use Rattle.trace.specs.declared.item.End.{End}
+use Rattle.trace.specs.declared.item.End.TheVariants as end
+use Rattle.trace.proofs.Sources.{length-placed}
+use Rattle.slice_ops.specs.Slices.{limit, skip, take_while, drop_while, limited, skipped}
+use Rattle.job_language.specs.Jobs.{AbstractPlainSource}
+use Rattle.job_plan.specs.Pieces.{elements}
+use Rattle.job_plan.specs.Plans.{AbstractEnd, slicing, folding, finding, collecting, AbstractSegment, segments_answer}
+use Rattle.job_plan.specs.Spans.{earlier, moved, span}
+use Rattle.job_plan.specs.Walks.{source_walk, values_of}
+use Rattle.job_plan.specs.Windows.{end_selected, end_selects, later_segments, selected_walk, selects, windowed}
+use Rattle.job_plan.proofs.Elements.{clamped, drop_none, drop_taken, drop_twice, elements_none, length_dropped, take_none, take_of_none, take_whole}
+
+-- the end of positions within others
+abbrev inner_end : ℕ → Option ℕ → Option ℕ → Option ℕ
+inner_end f None None = None
+inner_end f None (Some b) = Some (f + b)
+inner_end f (Some t) None = Some t
+inner_end f (Some t) (Some b) = Some (min t (f + b))
+
+module _ {A : Type 0} where
+  take_of_taken : (m n : ℕ) (xs : List A) → take m (take n xs) ≡ take (min m n) xs
+  take_of_taken m n [] = ap (take m) (take_of_none n) ∙ take_of_none m ∙ sym (take_of_none (min m n))
+  take_of_taken zero n (x ∷ xs) = let e : min 0 n ≡ 0 = omega arith in take_none (take n (x ∷ xs)) ∙ sym (ap (λ k. take k (x ∷ xs)) e)
+  take_of_taken (suc m) zero (x ∷ xs) = let e : min (suc m) 0 ≡ 0 = omega arith in sym (ap (λ k. take k (x ∷ xs)) e)
+  take_of_taken (suc m) (suc n) (x ∷ xs) = let e : suc (min m n) ≡ min (suc m) (suc n) = omega arith in ap (λ (zs : List A). x ∷ zs) (take_of_taken m n xs) ∙ ap (λ k. take k (x ∷ xs)) e
+
+  -- positions of the elements at positions
+  elements_within : (a f : ℕ) (p o : Option ℕ) (xs : List A) → elements a p (elements f o xs) ≡ elements (f + a) (inner_end f o p) xs
+  elements_within a f None None xs = drop_twice a f xs
+  elements_within a f None (Some t) xs =
+      let e : (t - f) - a ≡ t - (f + a) = omega arith in
+      drop_taken a (t - f) (drop f xs) ∙ ap (take ((t - f) - a)) (drop_twice a f xs) ∙ ap (λ k. take k (drop (f + a) xs)) e
+  elements_within a f (Some b) None xs =
+      let e : b - a ≡ (f + b) - (f + a) = omega arith in
+      ap (take (b - a)) (drop_twice a f xs) ∙ ap (λ k. take k (drop (f + a) xs)) e
+  elements_within a f (Some b) (Some t) xs =
+      let e : min (b - a) ((t - f) - a) ≡ min t (f + b) - (f + a) = omega arith in
+      ap (take (b - a)) (drop_taken a (t - f) (drop f xs) ∙ ap (take ((t - f) - a)) (drop_twice a f xs))
+      ∙ take_of_taken (b - a) ((t - f) - a) (drop (f + a) xs) ∙ ap (λ k. take k (drop (f + a) xs)) e
+
+  same_elements : (f g : ℕ) (o p : Option ℕ) (xs : List A) → min f (length xs) ≡ min g (length xs) → span f o (length xs) ≡ span g p (length xs) → elements f o xs ≡ elements g p xs
+  same_elements f g o p xs e k = clamped f o xs ∙ (λ i. take (k i) (drop (e i) xs)) ∙ sym (clamped g p xs)
+
+  -- the same, of positions that are numbers of 64 bits
+  window_within : (a f : ℕ) (p o : Option ℕ) (xs : List A) → length xs ≤ 4611686018427387904
+      → elements a p (elements f o xs) ≡ elements (min (f + a) 18446744073709551615) (earlier o (moved p f)) xs
+  window_within a f None None xs h = elements_within a f None None xs ∙ same_elements (f + a) (min (f + a) 18446744073709551615) None None xs (omega arith) (omega arith)
+  window_within a f None (Some t) xs h = elements_within a f None (Some t) xs ∙ same_elements (f + a) (min (f + a) 18446744073709551615) (Some t) (Some t) xs (omega arith) (omega arith)
+  window_within a f (Some b) None xs h =
+      elements_within a f (Some b) None xs ∙ same_elements (f + a) (min (f + a) 18446744073709551615) (Some (f + b)) (Some (min (f + b) 18446744073709551615)) xs (omega arith) (omega arith)
+  window_within a f (Some b) (Some t) xs h =
+      elements_within a f (Some b) (Some t) xs ∙ same_elements (f + a) (min (f + a) 18446744073709551615) (Some (min t (f + b))) (Some (min t (min (f + b) 18446744073709551615))) xs (omega arith) (omega arith)
+
+  -- as many elements as there are positions within the list
+  length_elements : (from : ℕ) (to : Option ℕ) (xs : List A) → length (elements from to xs) ≡ span from to (length xs)
+  length_elements from None xs = length_dropped from xs
+  length_elements from (Some to) xs = let l = length_dropped from xs in length_taken (to - from) (drop from xs) ∙ omega arith
+    where
+      length_taken : (n : ℕ) (ys : List A) → length (take n ys) ≡ min n (length ys)
+      length_taken n [] = ap length (take_of_none n) ∙ omega arith
+      length_taken zero (y ∷ ys) = omega arith
+      length_taken (suc n) (y ∷ ys) = let l = length_taken n ys in omega arith
+
+-- how many items there are at positions of a walk
+pub window_size : (f : ℕ) (o : Option ℕ) (xs : List Item) (n count : ℕ) → n ≡ length xs → length xs ≤ 4611686018427387904 → count ≡ span f o n → count ≡ min (length (elements f o xs)) 18446744073709551615
+window_size f None xs n count e h k = let l = length_elements f None xs in omega arith
+window_size f (Some t) xs n count e h k = let l = length_elements f (Some t) xs in omega arith
+
+-- the code's window, by what it is made of
+pub window_positions : (a f g : ℕ) (p o q r : Option ℕ) (xs : List Item) → length xs ≤ 4611686018427387904 → g ≡ min (f + a) 18446744073709551615 → r ≡ moved p f → q ≡ earlier o r
+    → elements a p (elements f o xs) ≡ elements g q xs
+window_positions a f g p o q r xs h e d k = window_within a f p o xs h ∙ (λ i. elements (sym e i) ((ap (earlier o) (sym d) ∙ sym k) i) xs)
+
+-- a walk over sources has at most 2^62 items
+pub few_items : (ss : List AbstractPlainSource) → length (source_walk ss).items ≤ 4611686018427387904
+few_items ss = by (nat_lt (2 ^ 62) (length (values_of ss))) refl
+  where
+    by : (b : Bool) → nat_lt (2 ^ 62) (length (values_of ss)) ≡ b → length (if b then too_long else trace (placed 0 (values_of ss)) end.Done).items ≤ 4611686018427387904
+    by true e = omega arith
+    by false e = let l = length-placed 0 (values_of ss) in let h : length (values_of ss) ≤ 4611686018427387904 = ltb-false 4611686018427387904 (length (values_of ss)) e in omega arith
+
+abbrev no_items : List Item
+no_items = []
+
+-- `limit` of at least one item leaves the end of a walk over sources as it is
+limited_window : (ss : List AbstractPlainSource) (f : ℕ) (o : Option ℕ) (n : ℕ) → limited (suc n) (windowed f o (source_walk ss)) ≡ trace (elements 0 (Some (suc n)) (elements f o (source_walk ss).items)) (source_walk ss).ending
+limited_window ss f o n = by (nat_lt (2 ^ 62) (length (values_of ss)))
+  where
+    none_there : (ys : List Item) (e : End) → ys ≡ [] → limited (suc n) (trace ys e) ≡ trace (elements 0 (Some (suc n)) ys) e
+    none_there ys e z =
+        subst (λ (zs : List Item). limited (suc n) (trace zs e) ≡ trace (elements 0 (Some (suc n)) zs) e) (sym z)
+        (ap (λ (b : Bool). if b then trace no_items e else trace (take (suc n) no_items) end.Done) (lt-ltb 0 (suc n) (omega arith)) ∙ sym (ap (λ zs. trace zs e) (elements_none 0 (Some (suc n)))))
+
+    whole : (ys : List Item) (b : Bool) → nat_lt (length ys) (suc n) ≡ b → (if b then trace ys end.Done else trace (take (suc n) ys) end.Done) ≡ trace (take (suc n) ys) end.Done
+    whole ys true e = let l = ltb-true (length ys) (suc n) e in ap (λ zs. trace zs end.Done) (sym (take_whole (suc n) ys (omega (arith, l))))
+    whole ys false e = refl
+
+    by : (b : Bool) → limited (suc n) (windowed f o (if b then too_long else trace (placed 0 (values_of ss)) end.Done))
+        ≡ trace (elements 0 (Some (suc n)) (elements f o (if b then too_long else trace (placed 0 (values_of ss)) end.Done).items)) (if b then too_long else trace (placed 0 (values_of ss)) end.Done).ending
+    by true = none_there (elements f o []) too_long.ending (elements_none f o)
+    by false =
+        let ys = elements f o (placed 0 (values_of ss)) in
+        let e : suc n ≡ suc n - 0 = omega arith in
+        whole ys (nat_lt (length ys) (suc n)) refl ∙ (λ i. trace (take (e i) (sym (drop_none ys) i)) end.Done)
+
+-- what a slice makes of a window
+pub skips : (ss : List AbstractPlainSource) (f : ℕ) (o : Option ℕ) (n g : ℕ) (q : Option ℕ)
+    → ((xs : List Item) → length xs ≤ 4611686018427387904 → elements n None (elements f o xs) ≡ elements g q xs) → skipped n (windowed f o (source_walk ss)) ≡ windowed g q (source_walk ss)
+skips ss f o n g q h = ap (λ xs. trace xs (source_walk ss).ending) (h (source_walk ss).items (few_items ss))
+
+pub limits : (ss : List AbstractPlainSource) (f : ℕ) (o : Option ℕ) (n g : ℕ) (q : Option ℕ) → end_selects (slicing (limit n)) ≡ true
+    → ((xs : List Item) → length xs ≤ 4611686018427387904 → elements 0 (Some n) (elements f o xs) ≡ elements g q xs) → limited n (windowed f o (source_walk ss)) ≡ windowed g q (source_walk ss)
+limits ss f o zero g q no_item h = absurd (let z : false ≡ true = no_item in cc)
+limits ss f o (suc n) g q some_there h = limited_window ss f o n ∙ ap (λ xs. trace xs (source_walk ss).ending) (h (source_walk ss).items (few_items ss))
+
+-- a window of all positions
+pub all_positions : (t : Trace) → windowed 0 None t ≡ t
+all_positions t = ap (λ xs. trace xs t.ending) (drop_none t.items)
+
+-- the segments after those that select positions give the answer
+pub later_answer : (env : Numbers) (ss : List AbstractSegment) (t : Trace) → segments_answer (later_segments ss) env (selected_walk ss t) ≡ segments_answer ss env t
+later_answer env [] t = refl
+later_answer env (s ∷ ss) t = by (λ u. later_answer env ss u) s.first s.stages s.ending
+  where
+    by : ((u : Trace) → segments_answer (later_segments ss) env (selected_walk ss u) ≡ segments_answer ss env u) → (n : ℕ) (gs : List AbstractStage) (e : AbstractEnd) → segments_answer (if selects gs e then later_segments ss else record { first = n; stages = gs; ending = e } ∷ ss) env (if selects gs e then selected_walk ss (end_selected e t) else t)
+        ≡ segments_answer (record { first = n; stages = gs; ending = e } ∷ ss) env t
+    by later n (g ∷ gs) e = refl
+    by later n [] (slicing (limit zero)) = refl
+    by later n [] (slicing (limit (suc k))) = later (limited (suc k) t)
+    by later n [] (slicing (skip k)) = later (skipped k t)
+    by later n [] (slicing (take_while p)) = refl
+    by later n [] (slicing (drop_while p)) = refl
+    by later n [] (folding f a counts) = refl
+    by later n [] (finding d) = refl
+    by later n [] collecting = refl

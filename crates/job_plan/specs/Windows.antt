@@ -1,0 +1,59 @@
+-- Meaning: slices before every other stage of a job, which select positions of its sources.
+use Rattle.std.specs.Prelude.{ℕ, zero, suc, Bool, true, false, List, [], ◌∷◌, Option, if◌then◌else◌}
+use Rattle.trace.specs.Stages.{AbstractStage}
+use Rattle.trace.specs.Trace.{Trace, trace}
+use Rattle.slice_ops.specs.Slices.{AbstractSlice, limit, skip, take_while, drop_while, limited, skipped}
+use Rattle.job_plan.specs.Pieces.{elements}
+use Rattle.job_plan.specs.Plans.{AbstractEnd, slicing, folding, finding, collecting, AbstractSegment, AbstractPlan}
+use Rattle.job_plan.specs.Walks.{source_walk}
+
+-- whether a stage selects positions, and leaves the end of the walk over a job's sources as it is: `skip`, and `limit` of at
+-- least one item. `limit(0)` takes the fault of sources that are too long away
+abbrev pub slice_selects : AbstractSlice → Bool
+slice_selects (limit zero) = false
+slice_selects (limit (suc n)) = true
+slice_selects (skip n) = true
+slice_selects (take_while p) = false
+slice_selects (drop_while p) = false
+
+abbrev pub end_selects : AbstractEnd → Bool
+end_selects (slicing d) = slice_selects d
+end_selects (folding f a counts) = false
+end_selects (finding d) = false
+end_selects collecting = false
+
+-- whether a segment with these stages and this end does that and nothing else
+abbrev pub selects : List AbstractStage → AbstractEnd → Bool
+selects [] e = end_selects e
+selects (g ∷ gs) e = false
+
+-- the segments after the first ones that select positions
+abbrev pub later_segments : List AbstractSegment → List AbstractSegment
+later_segments [] = []
+later_segments (s ∷ ss) = if selects s.stages s.ending then later_segments ss else s ∷ ss
+
+-- what such a segment makes of a walk
+abbrev pub slice_selected : AbstractSlice → Trace → Trace
+slice_selected (limit n) t = limited n t
+slice_selected (skip n) t = skipped n t
+slice_selected (take_while p) t = t
+slice_selected (drop_while p) t = t
+
+abbrev pub end_selected : AbstractEnd → Trace → Trace
+end_selected (slicing d) t = slice_selected d t
+end_selected (folding f a counts) t = t
+end_selected (finding d) t = t
+end_selected collecting t = t
+
+-- what the first ones, one after the other, make of a walk
+abbrev pub selected_walk : List AbstractSegment → Trace → Trace
+selected_walk [] t = t
+selected_walk (s ∷ ss) t = if selects s.stages s.ending then selected_walk ss (end_selected s.ending t) else t
+
+-- what the first of the later segments of a job goes over
+abbrev pub selected_source : AbstractPlan → Trace
+selected_source plan = selected_walk plan.segments (source_walk plan.sources)
+
+-- the items of a walk at these positions, with its end
+abbrev pub windowed : ℕ → Option ℕ → Trace → Trace
+windowed from to t = trace (elements from to t.items) t.ending

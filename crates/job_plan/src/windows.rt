@@ -1,0 +1,130 @@
+//! Slices before every other stage of a job: the positions of its sources that they select.
+//!
+//! Such a slice keeps no items. The first segment after it goes over a window of the sources.
+
+ghost use Rattle.std.specs.Prelude.{◌≡◌, ◌<◌, ◌≤◌, ◌+◌, ◌-◌, ◌^◌, min, length, List, None, true};
+ghost use Rattle.trace.specs.declared.item.Item.{Item as item};
+ghost use Rattle.slice_ops.specs.Slices.{slice_of};
+ghost use Rattle.job_language.specs.Jobs.{AbstractPlainSource};
+ghost use Rattle.job_plan.specs.Parts.{end_in, plan_in, segment_in, segments_in};
+ghost use Rattle.job_plan.specs.Pieces.{elements};
+ghost use Rattle.job_plan.specs.Spans.{earlier, moved};
+ghost use Rattle.job_plan.specs.Walks.{source_walk};
+ghost use Rattle.job_plan.specs.Windows.{end_selected, end_selects, later_segments, selected_walk, selects, slice_selected, slice_selects, windowed};
+
+use crate::segment::{JobPlan, Segment, SegmentEnd};
+use crate::spans::{earlier, moved};
+use slice_ops::Slice;
+
+/// Positions of the sources of a job: from one on, up to, not with, a second one, if there is one.
+#[derive(Clone, Copy)]
+pub(crate) struct Window {
+    pub(crate) from: u64,
+    pub(crate) to: Option<u64>,
+}
+
+impl Window {
+    /// All positions.
+    pub(crate) fn all() -> Window
+        ensures { (result.from ≡ 0) × (result.to ≡ None) }
+    {
+        Window { from: 0, to: None }
+    }
+
+    /// These positions of the window, as positions of the sources.
+    pub(crate) fn within(self, from: u64, to: Option<u64>) -> Window
+        ensures { (xs : List item) → length xs ≤ 2 ^ 62 → elements from to (elements self.from self.to xs) ≡ elements result.from result.to xs }
+    {
+        Window {
+            from: self.from.saturating_add(from),
+            to: earlier(self.to, moved(to, self.from)),
+        }
+    }
+
+    /// The positions of the window that a slice selects.
+    fn sliced(self, slice: &Slice) -> Window
+        requires { slice_selects (slice_of slice.now) ≡ true }
+        ensures { (ss : List AbstractPlainSource) → slice_selected (slice_of slice.now) (windowed self.from self.to (source_walk ss))
+            ≡ windowed result.from result.to (source_walk ss) }
+    {
+        match slice {
+            Slice::Skip(count) => self.within(*count, None),
+            Slice::Limit(count) => self.within(0, Some(*count)),
+            Slice::TakeWhile(_) | Slice::DropWhile(_) => self,
+        }
+    }
+
+    /// The positions of the window that the end of a segment selects.
+    fn selected(self, end: &SegmentEnd) -> Window
+        requires { end_selects (end_in end.now) ≡ true }
+        ensures { (ss : List AbstractPlainSource) → end_selected (end_in end.now) (windowed self.from self.to (source_walk ss))
+            ≡ windowed result.from result.to (source_walk ss) }
+    {
+        match end {
+            SegmentEnd::Slice(slice) => self.sliced(slice),
+            SegmentEnd::Fold(_) | SegmentEnd::Find(_) | SegmentEnd::Array => self,
+        }
+    }
+}
+
+/// Whether a segment selects positions and does nothing else.
+fn selects(segment: &Segment) -> bool
+    ensures { result ≡ selects (segment_in segment.now).stages (segment_in segment.now).ending }
+{
+    match segment.stages.split_first() {
+        Some(_) => false,
+        None => end_selects(&segment.end),
+    }
+}
+
+fn end_selects(end: &SegmentEnd) -> bool
+    ensures { result ≡ end_selects (end_in end.now) }
+{
+    match end {
+        SegmentEnd::Slice(Slice::Skip(_)) => true,
+        SegmentEnd::Slice(Slice::Limit(count)) => *count > 0,
+        SegmentEnd::Slice(Slice::TakeWhile(_) | Slice::DropWhile(_))
+        | SegmentEnd::Fold(_)
+        | SegmentEnd::Find(_)
+        | SegmentEnd::Array => false,
+    }
+}
+
+/// The segments after the first ones that select positions.
+fn later_segments(segments: &[Segment]) -> &[Segment]
+    ensures { segments_in result.now ≡ later_segments (segments_in segments.now) }
+{
+    let Some((segment, later)) = segments.split_first() else {
+        return segments;
+    };
+    if selects(segment) {
+        later_segments(later)
+    } else {
+        segments
+    }
+}
+
+/// The positions of a window that the first segments select.
+pub(crate) fn selected_window(segments: &[Segment], window: Window) -> Window
+    ensures { (ss : List AbstractPlainSource) → selected_walk (segments_in segments.now) (windowed window.from window.to (source_walk ss))
+        ≡ windowed result.from result.to (source_walk ss) }
+{
+    let Some((segment, later)) = segments.split_first() else {
+        return window;
+    };
+    if selects(segment) {
+        selected_window(later, window.selected(&segment.end))
+    } else {
+        window
+    }
+}
+
+impl<'c> JobPlan<'c> {
+    /// The segments that are walked: those after the first ones that select positions of the job's sources, and do nothing
+    /// else. `Source::of_selected` is what the first of them goes over. It takes constant time for each segment left out.
+    pub fn later_segments(&self) -> &[Segment]
+        ensures { segments_in result.now ≡ later_segments (plan_in self.now).segments }
+    {
+        later_segments(&self.segments)
+    }
+}
