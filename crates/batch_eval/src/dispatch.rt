@@ -3,8 +3,9 @@
 ghost use Rattle.batch_eval.specs.Lanes.{Reaches, at, compared, first_only, infix_value, left_at};
 ghost use Rattle.batch_eval.specs.Powers.{power};
 ghost use Rattle.lambda_expr.specs.Operators.{binary_value, unary_value};
-ghost use Rattle.std.specs.Prelude.{◌≡◌, ◌≤◌, length, pos};
+ghost use Rattle.std.specs.Prelude.{◌≡◌, ◌≤◌, ◌≤ℤ◌, ℤ, length, pos};
 
+use crate::exact::{differences_within, left_within, sums_within};
 use crate::kernel::{
     Absolute, Add, AddExact, And, Complement, Divide, Equal, FloorDivide, FloorRemainder, Greater,
     GreaterOrEqual, Kernel, Less, LessOrEqual, Max, Min, Multiply, MultiplyExact, Negate,
@@ -67,16 +68,46 @@ fn by_left_number<K: Kernel>(
     }
 }
 
-/// An operator on each lane, in place.
-pub(crate) fn by_unary(operator: UnaryOperator, live: usize, out: &mut [i64]) -> Reached
-    requires { live ≤ length out.old }
-    ensures { Reaches (λ k. unary_value operator (at out.old k)) (at out.new) live result }
+/// An exact operator and a number: the wrapping operator, where no left operand is out of these bounds.
+fn by_exact_number<K: Kernel, W: Kernel>(
+    bounds: (i64, i64),
+    left: Left,
+    xs: &[i64],
+    y: i64,
+    live: usize,
+    out: &mut [i64],
+) -> Reached
+    requires wraps { (x : ℤ) → bounds.0 ≤ℤ x → x ≤ℤ bounds.1 → W.value x y ≡ K.value x y }
+    requires xs { live ≤ length xs.now }
+    requires out { live ≤ length out.old }
+    ensures { Reaches (λ k. K.value (left_at left out.old xs.now k) y) (at out.new) live result }
+{
+    if left_within(left, xs, out, bounds, live) {
+        by_left_number::<W>(left, xs, y, live, out)
+    } else {
+        by_left_number::<K>(left, xs, y, live, out)
+    }
+}
+
+/// An operator on a left operand.
+pub(crate) fn by_unary(
+    operator: UnaryOperator,
+    left: Left,
+    xs: &[i64],
+    live: usize,
+    out: &mut [i64],
+) -> Reached
+    requires xs { live ≤ length xs.now }
+    requires out { live ≤ length out.old }
+    ensures { Reaches (λ k. unary_value operator (left_at left out.old xs.now k)) (at out.new) live result }
 {
     match operator {
-        UnaryOperator::Negate => each_in::<Negate>(0, live, out),
-        UnaryOperator::Complement => each_in::<Complement>(0, live, out),
-        UnaryOperator::Absolute => each_in::<Absolute>(0, live, out),
-        UnaryOperator::NegateExact => each_in::<NegateExact>(0, live, out),
+        UnaryOperator::Negate => by_left_number::<Negate>(left, xs, 0, live, out),
+        UnaryOperator::Complement => by_left_number::<Complement>(left, xs, 0, live, out),
+        UnaryOperator::Absolute => by_left_number::<Absolute>(left, xs, 0, live, out),
+        UnaryOperator::NegateExact => {
+            by_exact_number::<NegateExact, Negate>((-i64::MAX, i64::MAX), left, xs, 0, live, out)
+        }
     }
 }
 
@@ -260,8 +291,19 @@ fn by_any_number(
         BinaryOperator::Max => by_left_number::<Max>(left, xs, y, live, out),
         BinaryOperator::FloorDivide => by_left_number::<FloorDivide>(left, xs, y, live, out),
         BinaryOperator::FloorRemainder => by_left_number::<FloorRemainder>(left, xs, y, live, out),
-        BinaryOperator::AddExact => by_left_number::<AddExact>(left, xs, y, live, out),
-        BinaryOperator::SubtractExact => by_left_number::<SubtractExact>(left, xs, y, live, out),
+        BinaryOperator::AddExact => {
+            by_exact_number::<AddExact, Add>(sums_within(y), left, xs, y, live, out)
+        }
+        BinaryOperator::SubtractExact => {
+            by_exact_number::<SubtractExact, Subtract>(
+                differences_within(y),
+                left,
+                xs,
+                y,
+                live,
+                out,
+            )
+        }
         BinaryOperator::MultiplyExact => by_left_number::<MultiplyExact>(left, xs, y, live, out),
     }
 }

@@ -16,6 +16,7 @@ mod batch;
 mod cheap;
 mod choose;
 mod dispatch;
+mod exact;
 mod feeding;
 mod flag;
 mod keep;

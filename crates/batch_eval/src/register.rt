@@ -50,8 +50,8 @@ pub(crate) fn eval_long(
         LongExpr::Parameter(_) => copy(xs, live, out),
         LongExpr::Reference(name) => fill(env.number(name.as_slice()).unwrap_or(0), live, out),
         LongExpr::Unary(operator, operand) => {
-            let first = eval_long(operand, env, xs, live, out, room);
-            by_unary(*operator, first.live, out).after(first)
+            let (left, first) = eval_left(operand, env, xs, live, out, room);
+            by_unary(*operator, left, xs, first.live, out).after(first)
         }
         LongExpr::Binary(operator, a, b) => {
             eval_between(Infix::Compute(*operator), a, b, env, xs, live, out, room)

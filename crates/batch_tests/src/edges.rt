@@ -99,9 +99,10 @@ fn images_of_extreme_numbers_are_those_of_java(rt: HostRuntime) -> Result<(), Fa
 }
 
 /// Images that have a value at 1 and overflow at 0.
-const OVERFLOWING: &str = "x -> Math.addExact(9223372036854775807L - x, 1); \
-    x -> Math.subtractExact(x + -9223372036854775808L, 1); x -> Math.negateExact(x + -9223372036854775808L); \
-    x -> Math.addExact(9223372036854775807L - x, 2 - x)";
+const OVERFLOWING: &str =
+    "x -> Math.addExact(9223372036854775807L - x, 1); x -> Math.addExact(x + -9223372036854775808L, -1); \
+    x -> Math.subtractExact(x + -9223372036854775808L, 1); x -> Math.subtractExact(9223372036854775807L - x, -1); \
+    x -> Math.negateExact(x + -9223372036854775808L); x -> Math.addExact(9223372036854775807L - x, 2 - x)";
 
 /// Whether a walk over 2,000 ones ends at the one place that has a 0.
 fn ends_at(

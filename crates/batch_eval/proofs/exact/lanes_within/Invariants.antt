@@ -1,0 +1,6 @@
+use Rattle.std.proofs.Common.{ℕ, ◌<◌, ◌≤ℤ◌, IsTrue}
+use Rattle.batch_eval.specs.Lanes.{at}
+use Rattle.batch_eval.proofs.exact.lanes_within.Given as goal
+
+abbrev pub invariant-loop-i : goal.invariant-loop-i
+invariant-loop-i l = IsTrue l.within → (k : ℕ) → k < l.i → (l.least ≤ℤ at l.xs k) × (at l.xs k ≤ℤ l.greatest)
