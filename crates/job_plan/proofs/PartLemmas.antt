@@ -22,12 +22,11 @@ use Rattle.job_plan.specs.declared.answer.Answer.TheVariants as answer
 use Rattle.job_plan.specs.declared.part.FoldPart.{FoldPart}
 use Rattle.job_plan.specs.declared.part.Part.{Part}
 use Rattle.job_plan.specs.declared.part.Part.TheVariants as part
-use Rattle.job_language.specs.Jobs.{AbstractJobStage, AbstractTerminal}
 use Rattle.job_plan.specs.declared.outcome.Outcome.TheVariants as outcome
 use Rattle.job_plan.specs.declared.segment.Segment.{Segment}
 use Rattle.job_plan.specs.declared.segment.JobPlan.{JobPlan}
 use Rattle.job_plan.specs.Parts.{IsFold, EndsFor, StandsFor, is_settled, is_fault, segment_in, segments_in, plan_in, plans_in}
-use Rattle.job_plan.specs.Plans.{AbstractEnd, slicing, folding, finding, collecting, AbstractSegment, AbstractPlan, counted_as, ended, segments_from, walk_of, last_stage}
+use Rattle.job_plan.specs.Plans.{AbstractEnd, slicing, folding, finding, collecting, AbstractSegment, AbstractPlan, counted_as, ended, walk_of, last_stage}
 use Rattle.job_plan.specs.Walks.{unless_fault}
 
 -- ---- folds
@@ -267,12 +266,6 @@ plans_snoc (k ∷ js) j = ap (λ (ks : List AbstractPlan). plan_in k ∷ ks) (pl
 
 pub plans_more : (new js : List JobPlan) (j : JobPlan) (rest : List AbstractPlan) → new ≡ js ++ j ∷ [] → plans_in new ++ rest ≡ plans_in js ++ plan_in j ∷ rest
 plans_more new js j rest e = ap (λ ks. plans_in ks ++ rest) e ∙ ap (λ ks. ks ++ rest) (plans_snoc js j) ∙ append_assoc (plans_in js) (plan_in j ∷ []) rest
-
--- a segment that ends here, and those after it
-pub segment_on : (new ss : List Segment) (s : Segment) (m n : ℕ) (gs fresh : List AbstractStage) (later : List AbstractSegment) (rest : List AbstractJobStage) (d : AbstractTerminal)
-    → new ≡ ss ++ s ∷ [] → m ≡ n → fresh ≡ [] → later ≡ segment_in s ∷ segments_from n [] rest d → segments_in new ++ segments_from m fresh rest d ≡ segments_in ss ++ later
-segment_on new ss s m n gs fresh later rest d e k f l =
-    (λ i. segments_more new ss s e i ++ segments_from (k i) (f i) rest d) ∙ append_assoc (segments_in ss) (segment_in s ∷ []) (segments_from n [] rest d) ∙ ap (λ rs. segments_in ss ++ rs) (sym l)
 
 -- what an array answers
 pub array_ends : (e : AbstractEnd) (n : ℕ) (env : Numbers) (c : AbstractArray) (w : Trace) (a : Answer) → EndsFor e n env (part.Array c) w → a ≡ unless_fault c.ending (answer.Array c.values) → outcome.Answer a ≡ ended e n env w

@@ -1,15 +1,17 @@
 //! How jobs are cut into segments.
 
-ghost use Rattle.std.specs.Prelude.{◌≡◌, ◌≤◌, [], length, IfOk};
-ghost use Rattle.job_language.specs.Jobs.{job_of, jobs_of, job_stages_of, terminal_of};
-ghost use Rattle.job_plan.specs.Parts.{end_in, plan_in, plans_in, segments_in};
+ghost use Rattle.std.specs.Prelude.{◌≡◌, ◌≤◌, ◌+◌, List, [], ◌∷◌, ◌++◌, length, IfOk, OnOk};
+ghost use Rattle.trace.specs.Stages.{stages_of};
+ghost use Rattle.job_language.specs.Jobs.{AbstractJobStage, AbstractTerminal, job_of, jobs_of, job_stage_of, job_stages_of, terminal_of};
+ghost use Rattle.job_plan.specs.Parts.{end_in, plan_in, plans_in, segment_in, segments_in};
 ghost use Rattle.job_plan.specs.Plans.{end_of, plan_of, plans_of, segments_from};
 
 use crate::segment::{Fold, JobPlan, Plan, Segment, SegmentEnd};
 use job_language::{Job, JobStage, Terminal};
 use reduce_ops::Op;
 use std::alloc::Global;
-use trace::NoMemory;
+use std::mem;
+use trace::{NoMemory, Stage};
 
 impl<'c> Plan<'c> {
     /// Cuts each job into segments. The jobs are moved; after a refused allocation they are dropped.
@@ -69,35 +71,85 @@ fn folding(op: Op, start: Option<i64>, counts: bool) -> SegmentEnd
     SegmentEnd::Fold(Fold { op, start, counts })
 }
 
+/// Segments that are cut, and the stages after the last of them.
+#[derive(Drop)]
+struct Begun {
+    alloc: Global,
+    segments: Vec<Segment>,
+    /// The number of the first stage after the segments.
+    first_stage: u32,
+    stages: Vec<Stage>,
+}
+
+impl Begun {
+    /// No stages yet.
+    fn none(alloc: Global) -> Begun
+        ensures { (result.segments.items ≡ []) × (result.first_stage ≡ 1) × (result.stages.items ≡ []) }
+    {
+        Begun {
+            alloc,
+            segments: Vec::new(alloc),
+            first_stage: 1,
+            stages: Vec::new(alloc),
+        }
+    }
+
+    /// Takes the segment of the stages, which ends so, and begins the next one.
+    fn next_segment(&mut self, end: SegmentEnd) -> Segment
+        requires few { self.old.first_stage + length self.old.stages.items ≤ 33 }
+        ensures segment { segment_in result ≡ record { first = self.old.first_stage; stages = stages_of self.old.stages.items; ending = end_in end } }
+        ensures kept { self.new.segments.items ≡ self.old.segments.items }
+        ensures next { (self.new.first_stage ≡ self.old.first_stage + length self.old.stages.items + 1) × (self.new.stages.items ≡ []) }
+    {
+        let first_stage = self.first_stage;
+        let stages = mem::replace(&mut self.stages, Vec::new(self.alloc));
+        self.first_stage = first_stage + stages.len() as u32 + 1;
+        Segment {
+            first_stage,
+            stages,
+            end,
+        }
+    }
+
+    /// Adds the segment of the stages, which ends so.
+    fn end(&mut self, end: SegmentEnd) -> Result<(), NoMemory>
+        requires few { self.old.first_stage + length self.old.stages.items ≤ 33 }
+        ensures segments { OnOk result (segments_in self.new.segments.items
+            ≡ segments_in self.old.segments.items ++ record { first = self.old.first_stage; stages = stages_of self.old.stages.items; ending = end_in end } ∷ []) }
+        ensures next { (self.new.first_stage ≡ self.old.first_stage + length self.old.stages.items + 1) × (self.new.stages.items ≡ []) }
+    {
+        let segment = self.next_segment(end);
+        self.segments.push(segment)?;
+        Ok(())
+    }
+
+    /// Adds a stage. A prefix, which stands in no supported job, is left out.
+    fn add(&mut self, stage: JobStage) -> Result<(), NoMemory>
+        requires few { self.old.first_stage + length self.old.stages.items ≤ 32 }
+        ensures cut { OnOk result ((later : List AbstractJobStage) (d : AbstractTerminal)
+            → segments_in self.new.segments.items ++ segments_from self.new.first_stage (stages_of self.new.stages.items) later d
+            ≡ segments_in self.old.segments.items ++ segments_from self.old.first_stage (stages_of self.old.stages.items) (job_stage_of stage ∷ later) d) }
+        ensures few { OnOk result (self.new.first_stage + length self.new.stages.items ≤ self.old.first_stage + length self.old.stages.items + 1) }
+    {
+        match stage {
+            JobStage::Item(stage) => self.stages.push(stage)?,
+            JobStage::Slice(slice) => self.end(SegmentEnd::Slice(slice))?,
+            JobStage::Prefix(_) | JobStage::PrefixRange { .. } => {}
+        }
+        Ok(())
+    }
+}
+
 /// The segments of stages and a terminal. A prefix, which stands in no supported job, is left out.
 fn cut(alloc: Global, stages: Vec<JobStage>, terminal: Terminal) -> Result<Vec<Segment>, NoMemory>
     requires few { length stages.items ≤ 32 }
     ensures ok { IfOk result (λ segments. segments_in segments.items ≡ segments_from 1 [] (job_stages_of stages.items) (terminal_of terminal)) }
 {
     let last = SegmentEnd::of(terminal);
-    let mut segments = Vec::new(alloc);
-    let mut first_stage = 1;
-    let mut item_stages = Vec::new(alloc);
+    let mut begun = Begun::none(alloc);
     for stage in stages {
-        match stage {
-            JobStage::Item(item_stage) => item_stages.push(item_stage)?,
-            JobStage::Slice(slice) => {
-                let next_stage = first_stage + item_stages.len() as u32 + 1;
-                segments.push(Segment {
-                    first_stage,
-                    stages: item_stages,
-                    end: SegmentEnd::Slice(slice),
-                })?;
-                item_stages = Vec::new(alloc);
-                first_stage = next_stage;
-            }
-            JobStage::Prefix(_) | JobStage::PrefixRange { .. } => {}
-        }
+        begun.add(stage)?;
     }
-    segments.push(Segment {
-        first_stage,
-        stages: item_stages,
-        end: last,
-    })?;
-    Ok(segments)
+    begun.end(last)?;
+    Ok(begun.segments)
 }

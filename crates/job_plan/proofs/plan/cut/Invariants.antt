@@ -10,7 +10,7 @@ abbrev pub invariant-loop-stage : goal.invariant-loop-stage
 invariant-loop-stage l =
     (goal.iterator-loop-stage).can_next l.stage-iterator ×
     (goal.iterator-loop-stage).is_finite l.stage-iterator ×
-    (segments_in l.segments.items ++ segments_from l.first_stage (stages_of l.item_stages.items) (job_stages_of (into_iter_items l.stage-iterator)) (terminal_of l.fn.terminal) ≡ segments_from 1 [] (job_stages_of l.fn.stages.items) (terminal_of l.fn.terminal)) ×
-    (l.first_stage + length l.item_stages.items + length (into_iter_items l.stage-iterator) ≤ 33) ×
+    (segments_in l.begun.segments.items ++ segments_from l.begun.first_stage (stages_of l.begun.stages.items) (job_stages_of (into_iter_items l.stage-iterator)) (terminal_of l.fn.terminal) ≡ segments_from 1 [] (job_stages_of l.fn.stages.items) (terminal_of l.fn.terminal)) ×
+    (l.begun.first_stage + length l.begun.stages.items + length (into_iter_items l.stage-iterator) ≤ 33) ×
     (into_iter_len l.stage-iterator ≡ length (into_iter_items l.stage-iterator)) ×
     (end_in l.last ≡ end_of (terminal_of l.fn.terminal))
