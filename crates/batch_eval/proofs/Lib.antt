@@ -1,6 +1,7 @@
 pub mod BatchWalkLemmas
 pub mod ChoiceLemmas
 pub mod Flags
+pub mod FlaggedLemmas
 pub mod Items
 pub mod KeptLaneLemmas
 pub mod PlaceLemmas

@@ -27,7 +27,7 @@ pub lanes_same : (n : ℕ) (f g : ℕ → Item) → ((k : ℕ) → k < n → f k
 lanes_same n f g same = gathered_same n (λ k. f k ∷ []) (λ k. g k ∷ []) (λ k below. ap (λ (x : Item). x ∷ []) (same k below))
 
 -- what comes after the first n lanes
-later : (n m : ℕ) (g : ℕ → List Item) → n ≤ m → (rest : List Item) × (gathered m g ≡ gathered n g ++ rest)
+pub later : (n m : ℕ) (g : ℕ → List Item) → n ≤ m → (rest : List Item) × (gathered m g ≡ gathered n g ++ rest)
 later n zero g within = let none_left : n ≡ 0 = omega arith in ([], subst (λ (k : ℕ). gathered zero g ≡ gathered k g ++ []) (sym none_left) refl)
 later n (suc m) g within =
     dite (ℕ_discrete n (suc m))

@@ -50,6 +50,15 @@ CountsUp None n = Unit {0}
 abbrev pub passing : List ℤ → ℕ → List ℕ
 passing flags n = picked (λ k. is_set (at flags k)) n
 
+-- the items of lanes whose flag is set, one after the other
+abbrev pub flagged_items : Option ℕ → List ℕ → List ℤ → List ℤ → List Item
+flagged_items start origins values flags = gathered (length flags) (λ k. if is_set (at flags k) then item_at start origins values k ∷ [] else [])
+
+-- the values of the first n lanes whose flag is set, one after the other
+abbrev pub flagged_values : List ℤ → List ℤ → ℕ → List ℤ
+flagged_values values flags zero = []
+flagged_values values flags (suc n) = flagged_values values flags n ++ (if is_set (at flags n) then at values n ∷ [] else [])
+
 -- whether a flag is as it is wanted
 abbrev pub wants : Bool → ℤ → Bool
 wants true z = is_set z

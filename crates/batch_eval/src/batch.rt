@@ -5,23 +5,26 @@ ghost use Rattle.batch_eval.specs.Lanes.{at};
 ghost use Rattle.batch_eval.specs.Places.{HasValue};
 ghost use Rattle.batch_eval.specs.Rooms.{Fits, FitsTest};
 ghost use Rattle.lambda_expr.specs.Term.{long_of, truth_of};
-ghost use Rattle.std.specs.Prelude.{◌≡◌, ℕ, ◌+◌, ◌<◌, ◌≤◌, ◌^◌, List, [], ◌++◌, IfOk, None, Some, length, map, slice_get, slice_index, take};
+ghost use Rattle.std.specs.Prelude.{◌≡◌, ℕ, ◌+◌, ◌<◌, ◌≤◌, ◌^◌, List, [], ◌++◌, IfOk, None, OnErr, Some, length, map, slice_get, slice_index, take};
 ghost use Rattle.trace.specs.Stages.{filter, of_item};
 ghost use Rattle.trace.specs.Stages.{map as abstract_map};
 ghost use Rattle.trace.specs.Cover.{placed};
+ghost use Rattle.trace.specs.Sinks.{IsFed, flow_after};
 ghost use Rattle.trace.specs.Trace.{each, trace};
 ghost use Rattle.trace.specs.declared.item.Item.{Item};
 
+use crate::flagged::give_passing;
 use crate::keep::{keep_from, keep_lanes};
 use crate::placed::PlacedValues;
 use crate::reached::Reached;
 use crate::register::{LANES, eval_bool, eval_long};
+use crate::sink::BatchSink;
 use crate::source::BatchSource;
 use lambda_expr::{BoolExpr, Env, LongExpr};
 use std::alloc::Global;
 use std::marker::Model;
 use std::mem;
-use trace::{End, Fault, Item, NoMemory, SourceItems};
+use trace::{End, Fault, Fed, Flow, Item, NoMemory, SourceItems};
 
 /// Up to 1,024 items in registers, and how the walk ends after them.
 ///
@@ -69,7 +72,13 @@ fn value_of(values: &[i64], lane: usize) -> i64
 }
 
 /// How a batch ends after a stage: as before, or by the fault of the lane after those that went on.
-fn stopped(end: End, stage: u32, start: Option<u64>, origins: &[u64], reached: Reached) -> End
+pub(crate) fn stopped(
+    end: End,
+    stage: u32,
+    start: Option<u64>,
+    origins: &[u64],
+    reached: Reached,
+) -> End
     requires counts { CountsUp start (length origins.now) }
     requires inside { StopsInside reached.fault reached.live (length origins.now) }
     ensures { result ≡ end_after end stage (origin_at start origins.now reached.live) reached.fault }
@@ -173,6 +182,70 @@ impl Batch {
             &mut self.origins,
         );
         self.start = None;
+    }
+
+    /// `filter` as the last stage: gives a sink the items at which the test is true, where they lie.
+    pub(crate) fn give_passing<S: BatchSink>(
+        &mut self,
+        test: &BoolExpr,
+        stage: u32,
+        env: &Env,
+        room: &mut [i64],
+        sink: &mut S,
+    ) -> Result<Fed, NoMemory>
+        requires room { FitsTest (truth_of test.now) (length room.old) }
+        requires wants { S.flow sink.old ≡ Flow.More }
+        ensures fed { (xs : List Item) → S.has_taken sink.old xs → IsFed S.has_taken xs
+            (each (of_item stage (filter (truth_of test.now)) env.now) self.old.items self.old.ending) result sink.new }
+        ensures flow { S.flow sink.new ≡ flow_after result }
+        ensures refused { OnErr result S.takes_memory }
+    {
+        give_passing(
+            test,
+            stage,
+            env,
+            self.live,
+            self.start,
+            &self.origins,
+            &self.values,
+            self.end,
+            &mut self.spare,
+            room,
+            sink,
+        )
+    }
+
+    /// The same of values that lie elsewhere.
+    pub(crate) fn give_passing_run<S: BatchSink>(
+        &mut self,
+        run: PlacedValues<'_>,
+        test: &BoolExpr,
+        stage: u32,
+        env: &Env,
+        room: &mut [i64],
+        sink: &mut S,
+    ) -> Result<Fed, NoMemory>
+        requires lanes { length run.values.now ≤ 1024 }
+        requires room { FitsTest (truth_of test.now) (length room.old) }
+        requires wants { S.flow sink.old ≡ Flow.More }
+        ensures fed { (xs : List Item) → S.has_taken sink.old xs → IsFed S.has_taken xs
+            (each (of_item stage (filter (truth_of test.now)) env.now) (placed run.entry.origin run.entry.values.now) End.Done) result sink.new }
+        ensures flow { S.flow sink.new ≡ flow_after result }
+        ensures refused { OnErr result S.takes_memory }
+    {
+        give_passing(
+            test,
+            stage,
+            env,
+            run.values.len(),
+            Some(run.origin),
+            &self.origins,
+            run.values,
+            End::Done,
+            &mut self.spare,
+            room,
+            sink,
+        )
     }
 
     /// No items, and a walk that is done.

@@ -176,6 +176,9 @@ fn feed_run<S: BatchSink>(
             feed_batch(later, first_stage + 1, env, batch, nested, room, sink)
         }
         Stage::Filter(test) => {
+            if later.is_empty() && sink.takes_flags() {
+                return batch.give_passing_run(run, test, first_stage, env, room, sink);
+            }
             batch.filter_run(run, test, first_stage, env, room);
             feed_batch(later, first_stage + 1, env, batch, nested, room, sink)
         }

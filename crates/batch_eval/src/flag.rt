@@ -11,8 +11,8 @@ pub(crate) fn flag(value: bool) -> i64
     if value { 1 } else { 0 }
 }
 
-/// Whether a flag is set.
-pub(crate) fn is_set(flag: i64) -> bool
+/// Whether a flag is set: it is not 0.
+pub fn is_set(flag: i64) -> bool
     ensures { result ≡ is_set_flag flag }
 {
     flag != 0

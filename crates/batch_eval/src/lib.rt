@@ -19,6 +19,7 @@ mod dispatch;
 mod exact;
 mod feeding;
 mod flag;
+mod flagged;
 mod keep;
 mod kernel;
 mod loops;
@@ -34,6 +35,8 @@ mod staging;
 
 pub use batch::Batch;
 pub use feeding::feed_batches;
+pub use flag::is_set;
+pub use flagged::{FlaggedLanes, accept_each_flagged};
 pub use placed::PlacedValues;
 pub use registers::Registers;
 pub use sink::{BatchSink, accept_each};

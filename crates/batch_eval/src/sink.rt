@@ -1,5 +1,6 @@
 //! Sinks that take the items of a batch at once.
 
+ghost use Rattle.batch_eval.specs.Batches.{flagged_items};
 ghost use Rattle.std.specs.Prelude.{◌≡◌, List, OnErr};
 ghost use Rattle.trace.specs.Cover.{placed};
 ghost use Rattle.trace.specs.Sinks.{IsFed, flow_after};
@@ -8,6 +9,7 @@ ghost use Rattle.trace.specs.declared.item.End.TheVariants as end;
 ghost use Rattle.trace.specs.declared.item.Item.{Item};
 
 use crate::batch::Batch;
+use crate::flagged::{FlaggedLanes, accept_each_flagged};
 use crate::placed::PlacedValues;
 use trace::{Fed, Flow, LongSink, NoMemory, SourceItems};
 
@@ -31,6 +33,23 @@ pub trait BatchSink: LongSink {
         ensures refused { OnErr result Self.takes_memory }
     {
         accept_each(&run, self)
+    }
+
+    /// Whether a `filter` that comes last is to give its lanes with their flags, by `accept_flagged`, and not the items
+    /// that pass as a batch of their own, by `accept_batch`. The sink gets the same items either way.
+    fn takes_flags(&self) -> bool {
+        false
+    }
+
+    /// The same of the items of lanes whose flag is set. Unless a sink does better, it takes them one by one.
+    fn accept_flagged(&mut self, lanes: FlaggedLanes<'_>) -> Result<Fed, NoMemory>
+        requires wants { Self.flow self.old ≡ Flow.More }
+        ensures fed { (xs : List Item) → Self.has_taken self.old xs → IsFed Self.has_taken xs
+            (trace (flagged_items lanes.entry.start lanes.entry.origins.now lanes.entry.values.now lanes.entry.flags.now) end.Done) result self.new }
+        ensures flow { Self.flow self.new ≡ flow_after result }
+        ensures refused { OnErr result Self.takes_memory }
+    {
+        accept_each_flagged(lanes, self)
     }
 }
 

@@ -46,6 +46,9 @@ pub(crate) fn feed_batch<S: BatchSink>(
             feed_batch(later, first_stage + 1, env, batch, nested, room, sink)
         }
         Stage::Filter(test) => {
+            if later.is_empty() && sink.takes_flags() {
+                return batch.give_passing(test, first_stage, env, room, sink);
+            }
             batch.filter(test, first_stage, env, room);
             feed_batch(later, first_stage + 1, env, batch, nested, room, sink)
         }
@@ -256,7 +259,7 @@ fn give<S: BatchSink>(batch: &Batch, sink: &mut S) -> Result<Fed, NoMemory>
 }
 
 /// What becomes of items after which the walk ends so.
-fn fed_by(end: End) -> Fed
+pub(crate) fn fed_by(end: End) -> Fed
     ensures { result ≡ fed_of end }
 {
     match end {

@@ -1,6 +1,9 @@
-//! Operators that batches evaluate in a way of their own: at the least and the greatest numbers, and where they overflow.
+//! Operators that batches evaluate in a way of their own: at the least and the greatest numbers, and where they overflow;
+//! and an earlier fault of a later stage.
 
-use crate::walks::{Items, agree, items_of, ones_and_a_zero, stage, used_registers};
+use crate::walks::{
+    agree, division_by_zero, items_of, no_items, ones_and_a_zero, stage, used_registers,
+};
 use batch_eval::{Registers, feed_batches};
 use lambda_expr::{Env, FaultKind, Want};
 use std::alloc::Global;
@@ -68,9 +71,7 @@ fn hash_of(alloc: Global, image: &str, registers: &mut Registers) -> Result<i64,
     let stages = [stage(alloc, image, Want::Long)?];
     let items = items_of(alloc, &VALUES)?;
     let env = Env::empty(alloc);
-    let mut sink = Items {
-        items: Vec::new(alloc),
-    };
+    let mut sink = no_items(alloc, true);
     feed_batches(&stages, 1, &env, &items, registers, &mut sink)?;
     Ok(
         sink.items.iter().fold(
@@ -114,9 +115,7 @@ fn ends_at(
     let stages = [stage(alloc, image, Want::Long)?];
     let items = items_of(alloc, &ones_and_a_zero(alloc, 2000, place)?)?;
     let env = Env::empty(alloc);
-    let mut sink = Items {
-        items: Vec::new(alloc),
-    };
+    let mut sink = no_items(alloc, true);
     let fed = feed_batches(&stages, 1, &env, &items, registers, &mut sink)?;
     let overflow = Fault {
         kind: FaultKind::Overflow,
@@ -138,5 +137,21 @@ fn an_overflow_is_met_at_the_first_a_middle_and_the_last_lane(rt: HostRuntime) -
             );
         }
     }
+    Ok(())
+}
+
+#[test]
+fn an_earlier_item_s_later_fault_comes_first(rt: HostRuntime) -> Result<(), Fail> {
+    let alloc = rt.alloc();
+    let env = Env::empty(alloc);
+    let mut registers = used_registers(alloc)?;
+    let stages = [
+        stage(alloc, "x -> 6 / x", Want::Long)?,
+        stage(alloc, "x -> 1 / (x - 2) > 0", Want::Bool)?,
+    ];
+    let items = items_of(alloc, &[1, 2, 3, 0])?;
+    let mut sink = no_items(alloc, true);
+    let fed = feed_batches(&stages, 1, &env, &items, &mut registers, &mut sink)?;
+    assert!(rt; fed == Fed::Fault(division_by_zero(2, 2)) && sink.items.len() == 1);
     Ok(())
 }

@@ -1,5 +1,5 @@
 //! Walks by batches against walks item by item, and with faults that were placed by hand.
-ghost use Rattle.std.specs.Prelude.{◌≡◌, ◌+◌, ◌<◌, ◌≤◌, ◌^◌, ⊤, length, if◌then◌else◌, ◌==◌};
+ghost use Rattle.std.specs.Prelude.{◌≡◌, ◌+◌, ◌<◌, ◌≤◌, ◌^◌, ⊤, [], length, if◌then◌else◌, ◌==◌};
 ghost use Rattle.trace.specs.declared.sink.Flow.TheVariants as flow;
 
 use batch_eval::{
@@ -26,10 +26,11 @@ const TESTS: &str =
 /// The ends of inner streams that begin with 0, none of them above 6.
 const ENDS: &str = "x -> x & 3; x -> 6 / x; x -> x % (x - 5)";
 
-/// The items that came, in order.
+/// The items that came, in order, and whether the sink takes them from lanes with flags.
 #[derive(Drop)]
 pub(crate) struct Items {
     pub(crate) items: Vec<Item>,
+    flags: bool,
 }
 
 impl LongSink for Items {
@@ -49,9 +50,23 @@ impl BatchSink for Items {
     fn accept_batch(&mut self, batch: &Batch) -> Result<Fed, NoMemory> {
         accept_each(batch, self)
     }
+
+    fn takes_flags(&self) -> bool {
+        self.flags
+    }
 }
 
-const fn division_by_zero(stage: u32, origin: u64) -> Fault {
+/// A sink that has no items yet.
+pub(crate) fn no_items(alloc: Global, flags: bool) -> Items
+    ensures { (result.items.items ≡ []) × (result.flags ≡ flags) }
+{
+    Items {
+        items: Vec::new(alloc),
+        flags,
+    }
+}
+
+pub(crate) const fn division_by_zero(stage: u32, origin: u64) -> Fault {
     Fault {
         kind: FaultKind::DivideByZero,
         stage,
@@ -126,7 +141,7 @@ fn any_values(alloc: Global, seed: u64, count: u64) -> Result<Vec<i64>, NoMemory
     Ok(values)
 }
 
-/// Whether both ways give the same items and the same end.
+/// Whether all ways give the same items and the same end.
 pub(crate) fn agree<I: BatchSource>(
     alloc: Global,
     stages: &[Stage],
@@ -136,15 +151,16 @@ pub(crate) fn agree<I: BatchSource>(
     requires { 1 + length stages.now < 2 ^ 32 }
 {
     let env = Env::empty(alloc);
-    let mut expected = Items {
-        items: Vec::new(alloc),
-    };
+    let mut expected = no_items(alloc, false);
     let end = feed_all(stages, 1, &env, items, &mut expected)?;
-    let mut found = Items {
-        items: Vec::new(alloc),
-    };
-    let found_end = feed_batches(stages, 1, &env, items, registers, &mut found)?;
-    Ok(found_end == end && found.items.as_slice() == expected.items.as_slice())
+    for flags in [false, true] {
+        let mut found = no_items(alloc, flags);
+        let found_end = feed_batches(stages, 1, &env, items, registers, &mut found)?;
+        if found_end != end || found.items.as_slice() != expected.items.as_slice() {
+            return Ok(false);
+        }
+    }
+    Ok(true)
 }
 
 /// The same of values that lie in a slice, at the places from 7 on.
@@ -211,39 +227,27 @@ fn a_fault_is_met_at_its_place_and_later_ones_never(rt: HostRuntime) -> Result<(
     let alloc = rt.alloc();
     let env = Env::empty(alloc);
     let mut registers = Registers::new(alloc);
-    let stages = [
-        stage(alloc, "x -> x + 1", Want::Long)?,
-        stage(alloc, "x -> 6 / (x - 1)", Want::Long)?,
-    ];
-    for place in [
-        0, 1, 14, 15, 16, 17, 78, 79, 80, 335, 336, 1359, 1360, 1361, 1999,
+    for (later, want) in [
+        ("x -> 6 / (x - 1)", Want::Long),
+        ("x -> 6 / (x - 1) > 5", Want::Bool),
     ] {
-        let items = items_of(alloc, &ones_and_a_zero(alloc, 2000, place)?)?;
-        let mut sink = Items {
-            items: Vec::new(alloc),
-        };
-        let fed = feed_batches(&stages, 1, &env, &items, &mut registers, &mut sink)?;
-        assert!(rt; fed == Fed::Fault(division_by_zero(2, place)), "{place}");
-        assert!(rt; sink.items.len() as u64 == place, "{place}");
+        let stages = [
+            stage(alloc, "x -> x + 1", Want::Long)?,
+            stage(alloc, later, want)?,
+        ];
+        for place in [
+            0, 1, 14, 15, 16, 17, 78, 79, 80, 335, 336, 1359, 1360, 1361, 1999,
+        ] {
+            let items = items_of(alloc, &ones_and_a_zero(alloc, 2000, place)?)?;
+            let mut sink = no_items(alloc, true);
+            let fed = feed_batches(&stages, 1, &env, &items, &mut registers, &mut sink)?;
+            assert!(rt;
+                fed == Fed::Fault(division_by_zero(2, place)),
+                "{later}, {place}"
+            );
+            assert!(rt; sink.items.len() as u64 == place, "{later}, {place}");
+        }
     }
-    Ok(())
-}
-
-#[test]
-fn an_earlier_item_s_later_fault_comes_first(rt: HostRuntime) -> Result<(), Fail> {
-    let alloc = rt.alloc();
-    let env = Env::empty(alloc);
-    let mut registers = used_registers(alloc)?;
-    let stages = [
-        stage(alloc, "x -> 6 / x", Want::Long)?,
-        stage(alloc, "x -> 1 / (x - 2) > 0", Want::Bool)?,
-    ];
-    let items = items_of(alloc, &[1, 2, 3, 0])?;
-    let mut sink = Items {
-        items: Vec::new(alloc),
-    };
-    let fed = feed_batches(&stages, 1, &env, &items, &mut registers, &mut sink)?;
-    assert!(rt; fed == Fed::Fault(division_by_zero(2, 2)) && sink.items.len() == 1);
     Ok(())
 }
 
@@ -280,9 +284,7 @@ fn a_fault_at_an_inner_value_is_that_of_its_item(rt: HostRuntime) -> Result<(), 
         ("x -> 6 / (x - 3000)", Fed::More, 5052),
     ] {
         let stages = [flat_map(alloc, "x -> x")?, stage(alloc, image, Want::Long)?];
-        let mut sink = Items {
-            items: Vec::new(alloc),
-        };
+        let mut sink = no_items(alloc, true);
         let fed = feed_batches(&stages, 1, &env, &items, &mut registers, &mut sink)?;
         assert!(rt; fed == answer && sink.items.len() == count, "{image}");
     }
@@ -302,9 +304,7 @@ fn places_that_count_up_stay_with_their_items(rt: HostRuntime) -> Result<(), Fai
         stage(alloc, "x -> 4992 / (x - 1010)", Want::Long)?,
     ];
     assert!(rt; agree(alloc, &stages, &source, &mut registers)?);
-    let mut sink = Items {
-        items: Vec::new(alloc),
-    };
+    let mut sink = no_items(alloc, true);
     let fed = feed_batches(&stages, 1, &env, &source, &mut registers, &mut sink)?;
     assert!(rt; fed == Fed::Fault(division_by_zero(2, 1000)));
     assert!(rt; sink.items.len() == 500);

@@ -18,8 +18,8 @@ returns-in-Map-clause-fed g c = λ xs took.
     let here = rw (c.map_run.ensures, add-one) at (c.feed_batch.ensures.fed xs took) in
     rw (split, c.in-Map.is) here
 
-pub returns-in-Filter-clause-fed : goal.returns-in-Filter-clause-fed
-returns-in-Filter-clause-fed g c = λ xs took.
+pub returns-else-is_empty-clause-fed : goal.returns-else-is_empty-clause-fed
+returns-else-is_empty-clause-fed g c = λ xs took.
     let split : c.args.stages.now ≡ c.in-Some.stage.now ∷ c.in-Some.later.now = search rules in
     let here = rw (c.filter_run.ensures, add-one) at (c.feed_batch-in-Filter.ensures.fed xs took) in
     rw (split, c.in-Filter.is) here

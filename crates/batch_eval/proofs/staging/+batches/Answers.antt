@@ -19,8 +19,8 @@ feed_batch-returns-in-Map-clause-fed g t c = λ xs took.
     let here = rw (c.map.ensures, add-one) at (c.feed_batch.ensures.fed xs took) in
     rw (split, c.in-Map.is) here
 
-pub feed_batch-returns-in-Filter-clause-fed : goal.feed_batch-returns-in-Filter-clause-fed
-feed_batch-returns-in-Filter-clause-fed g t c = λ xs took.
+pub feed_batch-returns-else-is_empty-clause-fed : goal.feed_batch-returns-else-is_empty-clause-fed
+feed_batch-returns-else-is_empty-clause-fed g t c = λ xs took.
     let split : c.args.stages.now ≡ c.in-Some.stage.now ∷ c.in-Some.later.now = search rules in
     let here = rw (c.filter.ensures, add-one) at (c.feed_batch-in-Filter.ensures.fed xs took) in
     rw (split, c.in-Filter.is) here

@@ -1,0 +1,82 @@
+-- The items of lanes whose flag is set, lane by lane.
+use Rattle.std.proofs.Common.{◌≡◌, ℕ, zero, suc, ◌+◌, ◌<◌, ◌≤◌, ℤ, Bool, true, false, List, [], ◌∷◌, ◌++◌, length, map, take, Option, Some, Ok, Err, if◌then◌else◌, refl, sym, ap, subst, ◌∙◌, arith, add-one, append_assoc, length-append}
+use Rattle.std.proofs.lemmas.List.{append-nil, get_or_at, get_or-take, length-take-le, map-append}
+use Rattle.std.proofs.Math.Seq.{take-append_seam}
+use Rattle.std.proofs.lemmas.Option.{slice_get-get_or}
+use Rattle.std.specs.List.{slice_get}
+use Rattle.std.specs.declared.alloc.AllocError.{AllocError}
+use Rattle.trace.specs.declared.item.Item.{Item}
+use Rattle.trace.specs.declared.item.End.TheVariants as end
+use Rattle.trace.specs.declared.feeding.Fed.TheVariants as fed
+use Rattle.trace.specs.Trace.{trace}
+use Rattle.trace.specs.Sinks.{IsFed}
+use Rattle.batch_eval.specs.Lanes.{at, is_set}
+use Rattle.batch_eval.specs.Batches.{flagged_items, flagged_values, gathered, item_at}
+use Rattle.batch_eval.proofs.BatchWalkLemmas.{IsFed_enough, IsFed_refused}
+use Rattle.batch_eval.proofs.Walks.{gathered_same, later}
+
+abbrev item_if : Bool → Item → List Item
+item_if b x = if b then x ∷ [] else []
+
+-- an item of a list, after those before it
+at_seam : (xs ys : List Item) (y : Item) → slice_get (xs ++ y ∷ ys) (length xs) ≡ Some y
+at_seam xs ys y =
+    slice_get-get_or (xs ++ y ∷ ys) (length xs) y (omega (arith, length-append xs (y ∷ ys))) ∙ ap (λ (x : Item). Some x) (get_or_at xs y ys y (length xs) refl)
+
+module _ (start : Option ℕ) (origins : List ℕ) (values flags : List ℤ) where
+  -- the items of the first n lanes
+  abbrev pub front : ℕ → List Item
+  front n = gathered n (λ k. if is_set (at flags k) then item_at start origins values k ∷ [] else [])
+
+  -- a lane more
+  pub front_set : (n : ℕ) → is_set (at flags n) ≡ true → front (n + 1) ≡ front n ++ item_at start origins values n ∷ []
+  front_set n set = rw (add-one, set) refl
+
+  pub front_unset : (n : ℕ) → is_set (at flags n) ≡ false → front (n + 1) ≡ front n
+  front_unset n unset = rw (add-one, unset) (append-nil (front n))
+
+  -- all items are those before a lane that is set, its own, and those after it
+  around : (n : ℕ) → n < length flags → is_set (at flags n) ≡ true → (rest : List Item) × (flagged_items start origins values flags ≡ front n ++ item_at start origins values n ∷ rest)
+  around n within set =
+      let x = item_at start origins values n in
+      let all = later (n + 1) (length flags) (λ k. if is_set (at flags k) then item_at start origins values k ∷ [] else []) (omega arith) in
+      (all.0, all.1 ∙ ap (λ (ys : List Item). ys ++ all.0) (front_set n set) ∙ append_assoc (front n) (x ∷ []) all.0)
+
+  module _ {S : Type 0} (h : S → List Item → Type 0) (xs : List Item) (n : ℕ) (s : S) where
+    pub flagged_enough : n < length flags → is_set (at flags n) ≡ true → h s ((xs ++ front n) ++ item_at start origins values n ∷ []) → IsFed h xs (trace (flagged_items start origins values flags) end.Done) (Ok fed.Enough) s
+    flagged_enough within set took =
+        let x = item_at start origins values n in
+        let all = around n within set in
+        let whole : List Item = front n ++ x ∷ all.0 in
+        let before : take (length (front n)) whole ≡ front n = take-append_seam (front n) (x ∷ all.0) in
+        let given = subst (λ (ys : List Item). h s ((xs ++ ys) ++ x ∷ [])) (sym before) took in
+        subst (λ (ys : List Item). IsFed h xs (trace ys end.Done) (Ok fed.Enough) s) (sym all.1)
+        (IsFed_enough h xs (trace whole end.Done) (length (front n)) x s (at_seam (front n) all.0 x) given)
+
+    pub flagged_refused : n < length flags → is_set (at flags n) ≡ true → (e : AllocError) → h s (xs ++ front n) → IsFed h xs (trace (flagged_items start origins values flags) end.Done) (Err e) s
+    flagged_refused within set e took =
+        let x = item_at start origins values n in
+        let all = around n within set in
+        let whole : List Item = front n ++ x ∷ all.0 in
+        let before : take (length (front n)) whole ≡ front n = take-append_seam (front n) (x ∷ all.0) in
+        let given = subst (λ (ys : List Item). h s (xs ++ ys)) (sym before) took in
+        subst (λ (ys : List Item). IsFed h xs (trace ys end.Done) (Err e) s) (sym all.1)
+        (IsFed_refused h xs (trace whole end.Done) (length (front n)) x e s (at_seam (front n) all.0 x) given)
+
+  -- the values of the items of the first n lanes
+  front_values : (n : ℕ) → map (λ (x : Item). x.value) (front n) ≡ flagged_values values flags n
+  front_values zero = refl
+  front_values (suc n) = by_flag (is_set (at flags n)) (front_values n) where
+    by_flag : (b : Bool) → map (λ (x : Item). x.value) (front n) ≡ flagged_values values flags n → map (λ (x : Item). x.value) (front n ++ item_if b (item_at start origins values n)) ≡ flagged_values values flags n ++ (if b then at values n ∷ [] else [])
+    by_flag true before = map-append (λ (x : Item). x.value) (front n) (item_at start origins values n ∷ []) ∙ ap (λ (vs : List ℤ). vs ++ at values n ∷ []) before
+    by_flag false before = ap (λ (ys : List Item). map (λ (x : Item). x.value) ys) (append-nil (front n)) ∙ before ∙ sym (append-nil (flagged_values values flags n))
+
+  pub values_flagged : map (λ (x : Item). x.value) (flagged_items start origins values flags) ≡ flagged_values values flags (length flags)
+  values_flagged = front_values (length flags)
+
+-- flags that were cut to the lanes that go on
+pub flags_cut : (start : Option ℕ) (origins : List ℕ) (values flags : List ℤ) (n : ℕ) → n ≤ length flags → flagged_items start origins values (take n flags) ≡ gathered n (λ k. if is_set (at flags k) then item_at start origins values k ∷ [] else [])
+flags_cut start origins values flags n within =
+    let f : ℕ → List Item = λ k. item_if (is_set (at (take n flags) k)) (item_at start origins values k) in
+    let g : ℕ → List Item = λ k. item_if (is_set (at flags k)) (item_at start origins values k) in
+    ap (λ (m : ℕ). gathered m f) (length-take-le n flags within) ∙ gathered_same n f g (λ k below. ap (λ (z : ℤ). item_if (is_set z) (item_at start origins values k)) (get_or-take n flags k _ below))

@@ -1,0 +1,21 @@
+use Rattle.std.proofs.Common.{◌≤◌, length, sym, subst, arith}
+use Rattle.lambda_expr.specs.Term.{truth_of}
+use Rattle.trace.specs.Trace.{Trace}
+use Rattle.trace.specs.Sinks.{IsFed}
+use Rattle.batch_eval.specs.Lanes.{at}
+use Rattle.batch_eval.specs.Batches.{item_at}
+use Rattle.batch_eval.proofs.FlaggedLemmas.{flags_cut}
+use Rattle.batch_eval.proofs.Walks.{each_filtered}
+use Rattle.batch_eval.proofs.flagged.give_passing.Goals as goal
+
+pub returns-clause-fed : goal.returns-clause-fed
+returns-clause-fed g c = λ xs took.
+    let r = c.eval_bool-reached.result in
+    let out = c.eval_bool-reached.new.out in
+    let h = g.S.LongSink.has_taken in
+    let lane = item_at c.args.start c.args.origins.now c.args.values.now in
+    let whole = each_filtered (truth_of c.args.test.now) c.args.env.now c.args.stage c.args.live lane (at out) r c.args.end c.eval_bool-reached.ensures in
+    let within : r.live ≤ length out = omega (arith, c.eval_bool-reached.ensures.within, c.requires.flags, c.eval_bool-reached.auto.out) in
+    let cut = flags_cut c.args.start c.args.origins.now c.args.values.now out r.live within in
+    let fed = rw (cut, c.stopped-end.ensures) at (c.give_flagged.ensures.fed xs took) in
+    subst (λ (t : Trace). IsFed h xs t c.give_flagged.result c.give_flagged.new.sink) (sym whole) fed
