@@ -3,6 +3,7 @@ pub mod Alone
 pub mod BatchLemmas
 pub mod Elements
 pub mod FeedLemmas
+pub mod FlaggedFolds
 pub mod ItemCounts
 pub mod PartLemmas
 pub mod Positions

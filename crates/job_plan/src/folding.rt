@@ -1,14 +1,17 @@
-//! Folds of the values of a batch: one loop, compiled for each operator that is used often.
+//! Folds of the values of a batch, or of those whose flag is set: one loop each, compiled for each operator that is used
+//! often.
 
-ghost use Rattle.std.specs.Prelude.{◌≡◌, List, Option, Some, fold, map};
+ghost use Rattle.batch_eval.specs.Batches.{flagged_values};
+ghost use Rattle.std.specs.Prelude.{◌≡◌, ◌≤◌, IfSome, List, Option, Some, fold, length, map};
 ghost use Rattle.trace.specs.declared.item.End.TheVariants as end;
 ghost use Rattle.trace.specs.declared.item.Item.{Item as item};
 ghost use Rattle.trace.specs.Trace.{trace};
-ghost use Rattle.reduce_ops.specs.Operators.{value_of};
+ghost use Rattle.reduce_ops.specs.Operators.{identity_of, value_of};
 ghost use Rattle.reduce_ops.specs.Parts.{StandsFor};
 ghost use Rattle.job_plan.specs.Batches.{each_one, folded_values};
 ghost use Rattle.job_plan.specs.Plans.{counted_as};
 
+use batch_eval::is_set;
 use reduce_ops::{Op, Partial};
 use trace::{End, Item};
 
@@ -47,6 +50,61 @@ fn fold_from(op: Op, counts: bool, start: i64, values: &[i64]) -> i64
         folded = op.apply(folded, counted_value(counts, *value));
     }
     folded
+}
+
+/// The fold of the values whose flag isn't 0, or of a 1 for each of them. `None` if the operator has no identity, which
+/// the fold puts in the place of the other values.
+pub(crate) fn folded_flagged(op: Op, counts: bool, values: &[i64], flags: &[i64]) -> Option<Partial>
+    requires { length flags.now ≤ length values.now }
+    ensures op { IfSome result (λ right. right.op ≡ op) }
+    ensures ending { IfSome result (λ right. right.end ≡ end.Done) }
+    ensures stands { IfSome result (λ right. (xs : List item) → map (λ x. x.value) xs ≡ flagged_values values.now flags.now (length flags.now)
+        → StandsFor right (trace (counted_as counts xs) end.Done)) }
+{
+    let identity = op.identity()?;
+    Some(match fold_flagged(op, counts, identity, values, flags) {
+        Some(value) => Partial::of(op, Item { origin: 0, value }),
+        None => Partial::none(op, End::Done),
+    })
+}
+
+/// The same as a number; `None` if no flag is set.
+fn fold_flagged(op: Op, counts: bool, identity: i64, values: &[i64], flags: &[i64]) -> Option<i64>
+    requires identity { identity_of op ≡ Some identity }
+    requires values { length flags.now ≤ length values.now }
+    ensures { result ≡ folded_values (value_of op) counts (flagged_values values.now flags.now (length flags.now)) }
+{
+    match op {
+        Op::Sum => fold_each_flagged(Op::Sum, counts, identity, values, flags),
+        Op::Min => fold_each_flagged(Op::Min, counts, identity, values, flags),
+        Op::Max => fold_each_flagged(Op::Max, counts, identity, values, flags),
+        other => fold_each_flagged(other, counts, identity, values, flags),
+    }
+}
+
+/// The same by one operator. In the place of a value whose flag isn't set it folds the identity, and it reads each value
+/// before it looks at the flag: so no lane needs a branch.
+fn fold_each_flagged(
+    op: Op,
+    counts: bool,
+    identity: i64,
+    values: &[i64],
+    flags: &[i64],
+) -> Option<i64>
+    requires identity { identity_of op ≡ Some identity }
+    requires values { length flags.now ≤ length values.now }
+    ensures { result ≡ folded_values (value_of op) counts (flagged_values values.now flags.now (length flags.now)) }
+{
+    let mut passed: usize = 0;
+    let mut folded = identity;
+    for lane in 0..flags.len() {
+        let passes = is_set(flags[lane]);
+        passed += if passes { 1 } else { 0 };
+        let taken = counted_value(counts, values[lane]);
+        let value = if passes { taken } else { identity };
+        folded = op.apply(folded, value);
+    }
+    if passed == 0 { None } else { Some(folded) }
 }
 
 /// The value, or a 1 in its place.

@@ -13,7 +13,9 @@ ghost use Rattle.job_plan.specs.declared.segment.SegmentEnd.TheVariants as ends;
 use crate::part::Part;
 use crate::segment::Segment;
 use crate::source::Source;
-use batch_eval::{Batch, BatchSink, PlacedValues, Registers, accept_each};
+use batch_eval::{
+    Batch, BatchSink, FlaggedLanes, PlacedValues, Registers, accept_each, accept_each_flagged,
+};
 use lambda_expr::Env;
 use std::alloc::Global;
 use std::marker::{Brand, PhantomData};
@@ -79,6 +81,17 @@ impl<K: Ending> BatchSink for PartSink<'_, '_, K> {
             return Ok(Fed::More);
         }
         accept_each(&run, self)
+    }
+
+    fn takes_flags(&self) -> bool {
+        self.part.takes_flags(&self.segment.end)
+    }
+
+    fn accept_flagged(&mut self, lanes: FlaggedLanes<'_>) -> Result<Fed, NoMemory> {
+        if self.part.push_flagged(lanes.values, lanes.flags) {
+            return Ok(Fed::More);
+        }
+        accept_each_flagged(lanes, self)
     }
 }
 

@@ -1,6 +1,7 @@
 //! What a piece of a segment's source gives to the end of the segment.
 
-ghost use Rattle.std.specs.Prelude.{◌≡◌, ◌<◌, ℕ, ℤ, Bool, false, true, List, [], ◌∷◌, length, map, Option, IfOk, IfErr, OnOk, OnErr};
+ghost use Rattle.batch_eval.specs.Batches.{flagged_values};
+ghost use Rattle.std.specs.Prelude.{◌≡◌, ◌<◌, ◌≤◌, ℕ, ℤ, Bool, false, true, List, [], ◌∷◌, length, map, Option, IfOk, IfErr, OnOk, OnErr};
 ghost use Rattle.lambda_expr.specs.Earlier.{Numbers};
 ghost use Rattle.trace.specs.Trace.{Trace, trace, nothing, append};
 ghost use Rattle.trace.specs.declared.item.End.TheVariants as end;
@@ -12,10 +13,10 @@ ghost use Rattle.job_plan.specs.Walks.{found_answer, unless_fault};
 
 use crate::answer::Answer;
 use crate::array_part::ArrayPart;
-use crate::folding::folded;
+use crate::folding::{folded, folded_flagged};
 use crate::outcome::Outcome;
 use crate::segment::{Fold, SegmentEnd};
-use find_ops::{FindPart, Found};
+use find_ops::{FindPart, FindTerminal, Found};
 use lambda_expr::Env;
 use reduce_ops::Partial;
 use slice_ops::SlicePart;
@@ -71,6 +72,25 @@ impl FoldPart {
     {
         let right = folded(self.partial.op(), self.counts, values);
         self.partial = self.partial.merge(right);
+    }
+
+    /// Folds the values whose flag isn't 0 in, or a 1 for each, and answers whether it does: not by an operator that has
+    /// no identity.
+    fn push_flagged(&mut self, values: &[i64], flags: &[i64]) -> bool
+        requires { length flags.now ≤ length values.now }
+        ensures taken { result ≡ true → (f : Op) (a : Option ℤ) (counts : Bool) (t : Trace) (xs : List item)
+            → map (λ x. x.value) xs ≡ flagged_values values.now flags.now (length flags.now)
+            → IsFold f a counts self.old t → IsFold f a counts self.new (append t (trace xs end.Done)) }
+        ensures ending { self.new.partial.end ≡ self.old.partial.end }
+        ensures other { result ≡ false → self.new ≡ self.old }
+    {
+        match folded_flagged(self.partial.op(), self.counts, values, flags) {
+            Some(right) => {
+                self.partial = self.partial.merge(right);
+                true
+            }
+            None => false,
+        }
     }
 
     /// Ends the piece so, unless a fault has ended it.
@@ -180,6 +200,32 @@ impl<'p> Part<'p> {
                 Ok(true)
             }
             Part::Slice(_) | Part::Find(_) => Ok(false),
+        }
+    }
+
+    /// Whether the items of lanes with flags are to be given with their flags: to a fold, which then moves no value, and to
+    /// `findFirst`, which the first flag decides.
+    pub(crate) fn takes_flags(&self, close: &SegmentEnd) -> bool {
+        match self {
+            Part::Fold(part) => part.partial.op().identity().is_some(),
+            Part::Find(_) => matches!(close, SegmentEnd::Find(FindTerminal::First)),
+            Part::Slice(_) | Part::Array(_) => false,
+        }
+    }
+
+    /// Adds the values whose flag isn't 0, if the end is a fold by an operator that has an identity, and answers whether it is.
+    pub(crate) fn push_flagged(&mut self, values: &[i64], flags: &[i64]) -> bool
+        requires open { is_settled self.old ≡ false }
+        requires flagged { length flags.now ≤ length values.now }
+        ensures taken { result ≡ true → (e : AbstractEnd) (stage : ℕ) (env : Numbers) (t : Trace) (xs : List item)
+            → map (λ x. x.value) xs ≡ flagged_values values.now flags.now (length flags.now)
+            → EndsFor e stage env self.old t → EndsFor e stage env self.new (append t (trace xs end.Done)) }
+        ensures open { is_settled self.new ≡ false }
+        ensures other { result ≡ false → self.new ≡ self.old }
+    {
+        match self {
+            Part::Fold(part) => part.push_flagged(values, flags),
+            Part::Slice(_) | Part::Find(_) | Part::Array(_) => false,
         }
     }
 

@@ -65,6 +65,16 @@ range(0, 6).flatMap(x -> of(x, -x)).filter(x -> x != 0).findFirst() => OptionalL
 range(0, 6).flatMap(x -> rangeClosed(x, 3)).map(x -> x * x).sum() => 50
 range(0, 6).flatMap(x -> empty()).count() => 0
 of(2, 0, 3).flatMap(x -> range(0, x)).toArray() => [0, 1, 0, 1, 2]
+range(0, 100).filter(x -> x % 7 == 3).sum() => 679
+range(-50, 50).filter(x -> x % 7 == 3).count() => 7
+range(-50, 50).filter(x -> x % 7 == -3).max() => OptionalLong[-3]
+range(0, 100).filter(x -> x > 40).min() => OptionalLong[41]
+range(0, 100).filter(x -> x > 100).max() => OptionalLong.empty
+range(1, 80).filter(x -> x % 25 == 2).reduce(1, (a, b) -> a * b) => 216216
+range(0, 100).filter(x -> (x & 12) == 12).reduce(-1, (a, b) -> a & b) => 12
+range(0, 100).filter(x -> x % 33 == 1).reduce((a, b) -> a ^ b) => OptionalLong[96]
+range(0, 100).filter(x -> x % 33 == 1).reduce((a, b) -> b) => OptionalLong[67]
+range(0, 100).map(x -> x + 1).filter(x -> x > 70).findFirst() => OptionalLong[71]
 range(0, 100).filter(x -> x % 7 == 0).toArray() => [0, 7, 14, 21, 28, 35, 42, 49, 56, 63, 70, 77, 84, 91, 98]";
 
 /// Jobs whose walks meet a fault, or end before one, and operators of this project; worked out by hand.
@@ -121,6 +131,7 @@ of(2, 1).flatMap(x -> range(0, x)).map(x -> 1 / (1 - x)).toArray() => fault divi
 of(3, 1, 2, 0, 1, 5).flatMap(x -> of(x, 6 / x)).toArray() => fault divide-by-zero stage 1 item 3
 of(3, 1, 2, 0, 1, 5).flatMap(x -> of(x, 6 / x)).limit(6).toArray() => [3, 2, 1, 6, 2, 3]
 of(1, 2).flatMap(x -> range(-9223372036854775808, 9223372036854775807)).count() => fault source-too-long stage 1 item 0
+range(0, 100).filter(x -> 100 / (90 - x) > 10).findFirst() => OptionalLong[81]
 range(0, 100).map(x -> 100 / (x - 90)).toArray() => fault divide-by-zero stage 1 item 90";
 
 /// Jobs over sources that no walk ever comes to the end of.
@@ -156,6 +167,27 @@ fn any_tree_gives_the_first_fault_that_the_walk_meets(rt: HostRuntime) -> Result
 fn a_walk_ends_as_soon_as_nothing_more_matters(rt: HostRuntime) -> Result<(), Fail> {
     let found = first_false_row(rt.alloc(), ENDLESS)?;
     assert!(rt; found.is_none(), "{found:?}");
+    Ok(())
+}
+
+#[test]
+fn a_filter_that_comes_last_ends_at_its_fault(rt: HostRuntime) -> Result<(), Fail> {
+    let alloc = rt.alloc();
+    let columns = Columns::none();
+    for place in 0..100 {
+        let want = format!(in alloc; "fault divide-by-zero stage 1 item {place}")?;
+        for end in ["sum", "count", "max", "findFirst"] {
+            // Only the item after the one of the fault passes.
+            let text = format!(in alloc;
+                "q = range(0, 100).filter(x -> 100 / (x - {place}) > 50).{end}()"
+            )?;
+            let plan = plan_of(alloc, &text, &columns)?;
+            for job in &plan.jobs {
+                let leaf = SplitTree::Leaf;
+                assert!(rt; gives(alloc, job, &leaf, want.as_str())?, "{place}, {end}");
+            }
+        }
+    }
     Ok(())
 }
 

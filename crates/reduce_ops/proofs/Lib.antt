@@ -2,5 +2,5 @@ mod Bits
 mod Products
 mod Affine
 mod Associativity
-mod Identities
+pub mod Identities
 pub mod FoldLemmas
