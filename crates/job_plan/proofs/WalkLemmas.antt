@@ -17,7 +17,7 @@ use Rattle.job_plan.specs.Plans.{AbstractEnd, AbstractSegment, last_stage, on_ou
 use Rattle.job_plan.specs.Spans.{IsNotAfter}
 use Rattle.job_plan.proofs.FeedLemmas.{piece_in_two, stands_more, stands_fault, stands_enough}
 use Rattle.job_plan.proofs.PartLemmas.{settled}
-use Rattle.job_plan.proofs.SideBySide.{pieces_joined, whole_piece}
+use Rattle.job_plan.proofs.SideBySide.{pieces_joined}
 
 pub not_after : (m : ℕ) (to : Option ℕ) → IfSome to (λ last. m ≤ last) → IsNotAfter m to
 not_after m None h = tt
@@ -38,12 +38,12 @@ pub merged_piece : (s : AbstractSegment) (env : Numbers) (p : Part) (t : Trace) 
 merged_piece s env p t from middle to h k x = subst (λ (u : Trace). StandsFor s env p u) (pieces_joined t from middle to h k) x
 
 -- the last segment
-pub answered : (s : AbstractSegment) (ss : List AbstractSegment) (env : Numbers) (t : Trace) (o : Outcome) (a : Answer) → o ≡ outcome_of s env (piece_of 0 None t) → o ≡ outcome.Answer a → a ≡ segments_answer (s ∷ ss) env t
-answered s ss env t o a e is = ap (λ x. on_outcome x (segments_answer ss env)) (sym is ∙ e ∙ ap (outcome_of s env) (whole_piece t))
+pub answered : (s : AbstractSegment) (ss : List AbstractSegment) (env : Numbers) (t : Trace) (o : Outcome) (a : Answer) → o ≡ outcome_of s env t → o ≡ outcome.Answer a → a ≡ segments_answer (s ∷ ss) env t
+answered s ss env t o a e is = ap (λ x. on_outcome x (segments_answer ss env)) (sym is ∙ e)
 
 -- a segment before others
-pub went_on : (s : AbstractSegment) (ss : List AbstractSegment) (env : Numbers) (t u : Trace) (o : Outcome) (a : Answer) → o ≡ outcome_of s env (piece_of 0 None t) → o ≡ outcome.Source u → a ≡ segments_answer ss env u → a ≡ segments_answer (s ∷ ss) env t
-went_on s ss env t u o a e is later = later ∙ ap (λ x. on_outcome x (segments_answer ss env)) (sym is ∙ e ∙ ap (outcome_of s env) (whole_piece t))
+pub went_on : (s : AbstractSegment) (ss : List AbstractSegment) (env : Numbers) (t u : Trace) (o : Outcome) (a : Answer) → o ≡ outcome_of s env t → o ≡ outcome.Source u → a ≡ segments_answer ss env u → a ≡ segments_answer (s ∷ ss) env t
+went_on s ss env t u o a e is later = later ∙ ap (λ x. on_outcome x (segments_answer ss env)) (sym is ∙ e)
 
 -- the part of no item, if nothing more matters
 pub settled_first : (s : AbstractSegment) (env : Numbers) (p : Part) (t : Trace) (from : ℕ) (to : Option ℕ) → is_settled p ≡ true → EndsFor s.ending (last_stage s) env p nothing → StandsFor s env p (piece_of from to t)

@@ -4,7 +4,7 @@ ghost use Rattle.std.specs.Prelude.{◌≡◌, ◌≤◌, ◌<◌, length, pos, 
 ghost use Rattle.trace.specs.Trace.{Trace};
 ghost use Rattle.job_plan.specs.Parts.{StandsFor, plan_in, plans_in, segment_in, segments_in, walk_in};
 ghost use Rattle.job_plan.specs.Pieces.{piece_of};
-ghost use Rattle.job_plan.specs.Plans.{planned_answer, segments_answer};
+ghost use Rattle.job_plan.specs.Plans.{outcome_of, planned_answer, segments_answer};
 
 use crate::answer::Answer;
 use crate::given::GivenWalk;
@@ -70,8 +70,7 @@ fn walk_segments(
     let Some((segment, later)) = segments.split_first() else {
         return Ok(Answer::Number(0));
     };
-    let part = walk_piece(alloc, segment, source, 0, None, tree, env, registers)?;
-    match part.finish(alloc, env)? {
+    match walk_segment(alloc, segment, source, tree, env, registers)? {
         Outcome::Answer(answer) => Ok(answer),
         Outcome::Source(chunk) => {
             let given = GivenWalk::of(alloc, chunk);
@@ -85,6 +84,22 @@ fn walk_segments(
             )
         }
     }
+}
+
+/// What a segment makes of its source, in the pieces of a tree.
+fn walk_segment(
+    alloc: Global,
+    segment: &Segment,
+    source: &Source,
+    tree: &SplitTree,
+    env: &Env,
+    registers: &mut Registers,
+) -> Result<Outcome, NoMemory>
+    ensures { IfOk result (λ outcome. outcome ≡ outcome_of (segment_in segment.now) env.now (walk_in source.now)) }
+{
+    let part = walk_piece(alloc, segment, source, 0, None, tree, env, registers)?;
+    let outcome = part.finish(alloc, env)?;
+    Ok(outcome)
 }
 
 /// The part of the items at these positions, in the pieces of a tree.

@@ -1,0 +1,12 @@
+use Rattle.std.proofs.Common.{None, ap, ◌∙◌}
+use Rattle.job_plan.specs.Parts.{segment_in, walk_in}
+use Rattle.job_plan.specs.Pieces.{piece_of}
+use Rattle.job_plan.specs.Plans.{outcome_of}
+use Rattle.job_plan.proofs.SideBySide.{whole_piece}
+use Rattle.job_plan.proofs.walks.walk_segment.Goals as goal
+
+pub returns : goal.returns
+returns c =
+    let s = segment_in c.args.segment.now in
+    let source = walk_in c.args.source.now in
+    c.in_ok-outcome.ensures s (piece_of 0 None source) c.in_ok-part.ensures ∙ ap (outcome_of s c.args.env.now) (whole_piece source)
