@@ -47,7 +47,7 @@ pub fn feed_batches<I: BatchSource, S: BatchSink>(
     ensures flow { S.flow sink.new ≡ flow_after result }
     ensures refused { OnErr result S.takes_memory }
 {
-    let Some(mut space) = registers.take_for(stages, source.count()) else {
+    let Some(mut space) = registers.take_for(stages, sink.test(), source.count()) else {
         return feed_all(stages, first_stage, env, source, sink);
     };
     let fed = feed_pieces(
@@ -168,7 +168,7 @@ fn feed_run<S: BatchSink>(
     ensures refused { OnErr result S.takes_memory }
 {
     let Some((stage, later)) = stages.split_first() else {
-        return sink.accept_run(run);
+        return sink.accept_run(run, room);
     };
     match stage {
         Stage::Map(image) => {

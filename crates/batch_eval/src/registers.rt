@@ -6,12 +6,13 @@ ghost use Rattle.trace.specs.Stages.{stages_of};
 
 use crate::batch::Batch;
 use crate::register::LANES;
-use crate::room::stages_fit;
+use crate::room::{flags_fit, stages_fit};
+use lambda_expr::BoolExpr;
 use std::alloc::Global;
 use trace::{NoMemory, Stage};
 
 /// How many registers expressions may take while they are evaluated: at first, and at most.
-const FEW_REGISTERS: usize = 4 * LANES;
+const FEW_REGISTERS: usize = 5 * LANES;
 
 const MOST_REGISTERS: usize = 32 * LANES;
 
@@ -23,7 +24,7 @@ const FEW_ITEMS: u64 = 64;
 
 /// What walks by batches of up to 1,024 items keep their values in.
 ///
-/// A worker has one and uses it for each walk. The first walk that needs registers allocates 56 KB, one with larger
+/// A worker has one and uses it for each walk. The first walk that needs registers allocates 64 KB, one with larger
 /// expressions up to 280 KB. Nothing is kept from one walk to the next.
 #[derive(Drop)]
 pub struct Registers {
@@ -48,33 +49,37 @@ impl Registers {
         Registers { alloc, space: None }
     }
 
-    /// Registers that these stages can use for a walk over this number of items, moved out. There are none if the stages need
-    /// more than 32 of them, if the items are few and an allocation would be needed, or if it failed.
-    pub(crate) fn take_for(&mut self, stages: &[Stage], count: u64) -> Option<Space>
+    /// Registers that these stages can use for a walk over this number of items, moved out; a sink's test as well, unless it
+    /// needs more than 31 of them. There are none if the stages need more than 32, if the items are few and an allocation
+    /// would be needed, or if it failed.
+    pub(crate) fn take_for(
+        &mut self,
+        stages: &[Stage],
+        test: Option<&BoolExpr>,
+        count: u64,
+    ) -> Option<Space>
         ensures { IfSome result (λ space. FitsStages (stages_of stages.now) (length space.room.items)) }
     {
-        let mut space = self.take_room(stages, count)?;
+        let mut space = self.take_room(stages, test, count)?;
         space.nest(self.alloc, stages);
         Some(space)
     }
 
     /// The same, perhaps without batches for inner values.
-    fn take_room(&mut self, stages: &[Stage], count: u64) -> Option<Space>
+    fn take_room(&mut self, stages: &[Stage], test: Option<&BoolExpr>, count: u64) -> Option<Space>
         ensures { IfSome result (λ space. FitsStages (stages_of stages.now) (length space.room.items)) }
     {
         if let Some(space) = self.space.take() {
-            if stages_fit(stages, space.room.len()) {
+            let room = space.room.len();
+            if stages_fit(stages, room) && (flags_fit(test, room) || room >= MOST_REGISTERS) {
                 return Some(space);
             }
         }
         if count < FEW_ITEMS {
             return None;
         }
-        let room = if stages_fit(stages, FEW_REGISTERS) {
-            FEW_REGISTERS
-        } else {
-            MOST_REGISTERS
-        };
+        let few = stages_fit(stages, FEW_REGISTERS) && flags_fit(test, FEW_REGISTERS);
+        let room = if few { FEW_REGISTERS } else { MOST_REGISTERS };
         if !stages_fit(stages, room) {
             return None;
         }

@@ -37,7 +37,7 @@ fn both_fit(a: &LongExpr, b: &LongExpr, room: usize) -> bool
 
 /// Whether it is enough for a test.
 #[cycle(fits)]
-fn test_fits(test: &BoolExpr, room: usize) -> bool
+pub(crate) fn test_fits(test: &BoolExpr, room: usize) -> bool
     ensures { IsTrue result → FitsTest (truth_of test.now) room }
 {
     match test {
@@ -69,4 +69,12 @@ pub(crate) fn stages_fit(stages: &[Stage], room: usize) -> bool
         Stage::FlatMap(_) => true,
     };
     here && stages_fit(later, room)
+}
+
+/// Whether it is enough for a test and a register of its flags, if there is a test.
+pub(crate) fn flags_fit(test: Option<&BoolExpr>, room: usize) -> bool {
+    match test {
+        Some(test) => room >= LANES && test_fits(test, room - LANES),
+        None => true,
+    }
 }

@@ -11,22 +11,24 @@ ghost use Rattle.trace.specs.declared.item.Item.{Item};
 use crate::batch::Batch;
 use crate::flagged::{FlaggedLanes, accept_each_flagged};
 use crate::placed::PlacedValues;
+use lambda_expr::BoolExpr;
 use trace::{Fed, Flow, LongSink, NoMemory, SourceItems};
 
 /// A sink that takes the items of a batch at once.
 pub trait BatchSink: LongSink {
     /// Takes the items one after the other until it has enough, as `accept` takes one, and answers `More` or `Enough`.
-    /// How the walk ends after them is not the sink's matter.
+    /// How the walk ends after them is not the sink's matter. What the sink puts into the room isn't read by others:
+    /// `count_passing` tests the values of a batch in it.
     ///
     /// `accept_each` is such a call for any sink.
-    fn accept_batch(&mut self, batch: &Batch) -> Result<Fed, NoMemory>
+    fn accept_batch(&mut self, batch: &Batch, room: &mut [i64]) -> Result<Fed, NoMemory>
         requires wants { Self.flow self.old ≡ Flow.More }
         ensures fed { (xs : List Item) → Self.has_taken self.old xs → IsFed Self.has_taken xs (trace batch.now.items end.Done) result self.new }
         ensures flow { Self.flow self.new ≡ flow_after result }
         ensures refused { OnErr result Self.takes_memory };
 
     /// The same of values that lie side by side. Unless a sink does better, it takes them one by one.
-    fn accept_run(&mut self, run: PlacedValues<'_>) -> Result<Fed, NoMemory>
+    fn accept_run(&mut self, run: PlacedValues<'_>, room: &mut [i64]) -> Result<Fed, NoMemory>
         requires wants { Self.flow self.old ≡ Flow.More }
         ensures fed { (xs : List Item) → Self.has_taken self.old xs → IsFed Self.has_taken xs (trace (placed run.entry.origin run.entry.values.now) end.Done) result self.new }
         ensures flow { Self.flow self.new ≡ flow_after result }
@@ -50,6 +52,11 @@ pub trait BatchSink: LongSink {
         ensures refused { OnErr result Self.takes_memory }
     {
         accept_each_flagged(lanes, self)
+    }
+
+    /// The test that the sink asks of items, if it asks one. A walk then looks for room that is enough for it as well.
+    fn test(&self) -> Option<&BoolExpr> {
+        None
     }
 }
 

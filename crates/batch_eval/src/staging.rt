@@ -38,7 +38,7 @@ pub(crate) fn feed_batch<S: BatchSink>(
     ensures refused { OnErr result S.takes_memory }
 {
     let Some((stage, later)) = stages.split_first() else {
-        return give(batch, sink);
+        return give(batch, room, sink);
     };
     match stage {
         Stage::Map(image) => {
@@ -246,13 +246,13 @@ fn feed_lanes<S: BatchSink>(
 }
 
 /// Gives the sink the items of a batch.
-fn give<S: BatchSink>(batch: &Batch, sink: &mut S) -> Result<Fed, NoMemory>
+fn give<S: BatchSink>(batch: &Batch, room: &mut [i64], sink: &mut S) -> Result<Fed, NoMemory>
     requires wants { S.flow sink.old ≡ Flow.More }
     ensures fed { (xs : List Item) → S.has_taken sink.old xs → IsFed S.has_taken xs batch.now result sink.new }
     ensures flow { S.flow sink.new ≡ flow_after result }
     ensures refused { OnErr result S.takes_memory }
 {
-    match sink.accept_batch(batch)? {
+    match sink.accept_batch(batch, room)? {
         Fed::More => Ok(fed_by(batch.end())),
         stopped => Ok(stopped),
     }

@@ -9,4 +9,6 @@
 #[cfg(test)]
 mod edges;
 #[cfg(test)]
+mod passing;
+#[cfg(test)]
 mod walks;

@@ -19,7 +19,7 @@ const IMAGES: &str =
     x -> Math.multiplyExact(x << 59, 3); x -> -x; x -> ~x; x -> Math.abs(x); x -> Math.negateExact(x << 60); \
     x -> x > 2 ? 10 / (x - 4) : 10 / (x + 6); x -> x < 0 ? x : x == 3 ? 1 / (x - 3) : 8; x -> (x + 2) * (x - 1) * (x + x); x -> 4";
 
-const TESTS: &str =
+pub(crate) const TESTS: &str =
     "x -> x > -2; x -> x % 2 == 0; x -> x != 0 && 12 / x > 2; x -> x == 0 || 12 / x < 3; x -> !(x <= 1); \
     x -> 5 / x >= 1; x -> x < 0 ? x < -4 : 6 / (x - 3) != 2; x -> true; x -> x == 1 || x > 2 && 9 / (x - 5) < 0";
 
@@ -47,7 +47,7 @@ impl LongSink for Items {
 }
 
 impl BatchSink for Items {
-    fn accept_batch(&mut self, batch: &Batch) -> Result<Fed, NoMemory> {
+    fn accept_batch(&mut self, batch: &Batch, _room: &mut [i64]) -> Result<Fed, NoMemory> {
         accept_each(batch, self)
     }
 
@@ -131,7 +131,7 @@ fn any_stage(alloc: Global, seed: u64) -> Result<Stage, NoMemory> {
 }
 
 /// Values from -8 to 7, `count` of them.
-fn any_values(alloc: Global, seed: u64, count: u64) -> Result<Vec<i64>, NoMemory> {
+pub(crate) fn any_values(alloc: Global, seed: u64, count: u64) -> Result<Vec<i64>, NoMemory> {
     let mut values = Vec::new(alloc);
     let mut seed = seed;
     for _ in 0..count {
@@ -342,7 +342,7 @@ impl LongSink for Few {
 }
 
 impl BatchSink for Few {
-    fn accept_batch(&mut self, batch: &Batch) -> Result<Fed, NoMemory> {
+    fn accept_batch(&mut self, batch: &Batch, _room: &mut [i64]) -> Result<Fed, NoMemory> {
         accept_each(batch, self)
     }
 }

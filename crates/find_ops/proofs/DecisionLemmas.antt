@@ -1,6 +1,8 @@
 -- What joined walks decide.
-use Rattle.std.proofs.Common.{◌≡◌, ◌≢◌, ℕ, List, [], ◌∷◌, ◌++◌, Bool, true, false, is_some, drop, flat_map, length, Result, get_or, Option, Some, None, refl, sym, ap, ◌∙◌, arith, ◌<◌, ◌+◌, suc}
+use Rattle.std.proofs.Common.{◌≡◌, ◌≢◌, ℕ, List, [], ◌∷◌, ◌++◌, true, false, is_some, drop, flat_map, length, Result, get_or, Option, Some, None, refl, sym, ap, ◌∙◌, arith, ◌<◌, ◌≤◌, ◌+◌, suc, slice_get, take}
+use Rattle.std.proofs.lemmas.List.{take-append-drop, drop_all}
 use Rattle.std.specs.Option.{option_or}
+use Rattle.std.proofs.lemmas.Option.{slice_get_within, get_or_from_slice_get}
 use Rattle.std.proofs.Math.Seq.{drop-cons}
 use Rattle.trace.specs.declared.item.Item.{Item}
 use Rattle.trace.specs.declared.item.Fault.{Fault}
@@ -24,6 +26,10 @@ or_none None = refl
 some_kept : {A : Type 0} → (u v : Option A) → is_some u ≡ true → option_or u v ≡ u
 some_kept (Some a) v h = refl
 some_kept None v h = absurd (let z : false ≡ true = h in cc)
+
+pub open_or : {A : Type 0} → (u v : Option A) → is_some u ≡ false → option_or u v ≡ v
+open_or (Some a) v h = absurd (let z : true ≡ false = h in cc)
+open_or None v h = refl
 
 module _ (d : Find) (n : ℕ) (env : Numbers) where
   pub first_joined : (xs ys : List Item) → first_decision d n env (xs ++ ys) ≡ option_or (first_decision d n env xs) (first_decision d n env ys)
@@ -93,3 +99,18 @@ module _ (d : Find) (n : ℕ) (env : Numbers) where
   pub piece_passed : {X : Type 0} (f : X → List Item) (ps : List X) (i : ℕ) (p : X) → i < length ps → p ≡ get_or ps i p → first_decision d n env (f p) ≡ None
       → first_decision d n env (flat_map f (drop i ps)) ≡ first_decision d n env (flat_map f (drop (i + 1) ps))
   piece_passed f ps i p h e k = piece_step f ps i p h e ∙ ap (λ o. option_or o (first_decision d n env (flat_map f (drop (i + 1) ps)))) k
+
+  -- items of which the first ones decide nothing, and a loop over the others
+  pub decided_later : (xs : List Item) (i : ℕ) → first_decision d n env (take i xs) ≡ None → first_decision d n env (drop i xs) ≡ first_decision d n env xs
+  decided_later xs i h =
+      ap (λ o. option_or o (first_decision d n env (drop i xs))) (sym h) ∙ sym (first_joined (take i xs) (drop i xs)) ∙ ap (first_decision d n env) (take-append-drop i xs)
+
+  pub later_step : (xs : List Item) (i : ℕ) (x : Item) → slice_get xs i ≡ Some x → first_decision d n env (drop i xs) ≡ option_or (decision d n env x) (first_decision d n env (drop (i + 1) xs))
+  later_step xs i x here = first_step xs i x (slice_get_within xs i x here) (sym (get_or_from_slice_get xs i x x here))
+
+  pub none_later : (xs : List Item) (i : ℕ) → length xs ≤ i → first_decision d n env (drop i xs) ≡ None
+  none_later xs i h = ap (first_decision d n env) (drop_all i xs h)
+
+  -- the items of a whole source are looked at
+  pub looked_on : (p r : FindPart) (t : Trace) (xs : List Item) → StandsFor d n env p t → r.decision ≡ option_or p.decision (first_decision d n env xs) → r.otherwise ≡ p.otherwise → StandsFor d n env r (append t (trace xs end.Done))
+  looked_on p r t xs s e o = merged p (record { decision = first_decision d n env xs; otherwise = answer_of_none d }) r t (trace xs end.Done) s (record { decision = sym (or_none (first_decision d n env xs)); otherwise = refl }) e o

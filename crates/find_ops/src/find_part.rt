@@ -1,15 +1,15 @@
 // What the pieces of a stream decide, and how they merge in encounter order.
 
-ghost use Rattle.std.specs.Prelude.{◌≡◌, ℕ, [], ◌∷◌, is_some};
+ghost use Rattle.std.specs.Prelude.{◌≡◌, ℕ, [], ◌∷◌, is_some, None, take};
 ghost use Rattle.trace.specs.declared.item.End.TheVariants as end;
 ghost use Rattle.trace.specs.Trace.{Trace, trace, append};
 ghost use Rattle.lambda_expr.specs.Earlier.{Numbers};
-ghost use Rattle.find_ops.specs.Finds.{Find, find_of, find_answer, decision_at_end};
+ghost use Rattle.find_ops.specs.Finds.{Find, find_of, find_answer, first_decision, decision_at_end};
 ghost use Rattle.find_ops.specs.Parts.{StandsFor};
 
 use super::terminal::FindTerminal;
 use lambda_expr::Env;
-use trace::{Chunk, End, Fault, Item};
+use trace::{Chunk, End, Fault, Item, SourceItems};
 
 /// The answer of a find or a match.
 #[derive(Clone, Copy, PartialEq, Eq)]
@@ -64,6 +64,29 @@ impl FindPart {
                 decision: terminal.decision(stage, env, item),
                 otherwise: self.otherwise,
             },
+        }
+    }
+
+    /// The part of this piece and the items of a source after it, of which the first ones, up to this position, decide
+    /// nothing. It looks at the others until one decides.
+    pub fn look_after<I: SourceItems>(
+        self,
+        terminal: &FindTerminal,
+        stage: u32,
+        env: &Env,
+        source: &I,
+        position: u64,
+    ) -> FindPart
+        requires undecided { first_decision (find_of terminal.now) stage env.now (take position (I.items source.now)) ≡ None }
+        ensures stands { (t : Trace) → StandsFor (find_of terminal.now) stage env.now self t
+            → StandsFor (find_of terminal.now) stage env.now result (append t (trace (I.items source.now) end.Done)) }
+    {
+        if self.decision.is_some() {
+            return self;
+        }
+        FindPart {
+            decision: terminal.first_decision_after(stage, env, source, position),
+            otherwise: self.otherwise,
         }
     }
 

@@ -1,11 +1,11 @@
 // The terminals that look for an item, and what one item decides.
 
-ghost use Rattle.std.specs.Prelude.{◌≡◌, flat_map};
+ghost use Rattle.std.specs.Prelude.{◌≡◌, flat_map, take};
 ghost use Rattle.find_ops.specs.Finds.{find_of, answer_of_none, decision, first_decision};
 
 use super::find_part::Found;
 use lambda_expr::{BoolExpr, Env, FaultKind};
-use trace::{Fault, Item};
+use trace::{Fault, Item, SourceItems};
 
 /// A terminal that looks for an item.
 #[derive(Drop)]
@@ -84,6 +84,25 @@ impl FindTerminal {
     {
         for piece in pieces {
             if let Some(decision) = self.first_decision(stage, env, piece) {
+                return Some(decision);
+            }
+        }
+        None
+    }
+
+    /// The same over the items of a source, of which the first ones, up to this position, decide nothing: they aren't read.
+    pub fn first_decision_after<I: SourceItems>(
+        &self,
+        stage: u32,
+        env: &Env,
+        source: &I,
+        position: u64,
+    ) -> Option<Result<Found, Fault>>
+        requires undecided { first_decision (find_of self.now) stage env.now (take position (I.items source.now)) ≡ None }
+        ensures { result ≡ first_decision (find_of self.now) stage env.now (I.items source.now) }
+    {
+        for next in position..source.count() {
+            if let Some(decision) = self.decision(stage, env, source.item_at(next)) {
                 return Some(decision);
             }
         }

@@ -4,6 +4,7 @@ pub mod BatchLemmas
 pub mod Elements
 pub mod FeedLemmas
 pub mod FlaggedFolds
+pub mod FrontLemmas
 pub mod ItemCounts
 pub mod PartLemmas
 pub mod Positions

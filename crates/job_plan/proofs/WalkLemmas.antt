@@ -1,6 +1,8 @@
 -- Walks of segments in pieces.
-use Rattle.std.proofs.Common.{◌≡◌, ℕ, ◌≤◌, Bool, true, false, List, [], ◌∷◌, ◌++◌, take, Option, Some, None, IfSome, IfOk, Result, refl, sym, ap, subst, ◌∙◌}
+use Rattle.std.proofs.Common.{◌≡◌, ℕ, suc, ◌≤◌, ◌<◌, length, arith, Bool, true, false, List, [], ◌∷◌, ◌++◌, take, Option, Some, None, IfSome, IfOk, Result, refl, sym, ap, subst, ◌∙◌}
+use Rattle.std.proofs.lemmas.List.{take_all}
 use Rattle.lambda_expr.specs.Earlier.{Numbers}
+use Rattle.trace.specs.declared.item.Item.{Item}
 use Rattle.trace.specs.declared.item.Fault.{Fault}
 use Rattle.trace.specs.declared.item.End.TheVariants as end
 use Rattle.trace.specs.Trace.{Trace, trace, nothing, append}
@@ -83,6 +85,11 @@ enough_is_settled false h = cc
 pub unpinned : (e f : AbstractEnd) (m n : ℕ) (env named : Numbers) (p : Part) (t : Trace) → e ≡ f → m ≡ n → env ≡ named → EndsFor f n named p t → EndsFor e m env p t
 unpinned e f m n env named p t a b c h =
     subst (λ (x : AbstractEnd). EndsFor x m env p t) (sym a) (subst (λ (x : ℕ). EndsFor f x env p t) (sym b) (subst (λ (x : Numbers). EndsFor f n x p t) (sym c) h))
+
+-- all of these items were taken, and nothing more matters: the last one is the one after which it did not
+pub enough_at_last : (h : List Item → Type 0) (xs items : List Item) → 0 < length items → h (xs ++ items) → (k : ℕ) × (k < length items) × h (xs ++ take (suc k) items)
+enough_at_last h xs [] some_item took = absurd (omega (arith, some_item))
+enough_at_last h xs (y ∷ ys) some_item took = (length ys, omega arith, subst (λ (zs : List Item). h (xs ++ y ∷ zs)) (sym (take_all (length ys) ys (omega arith))) took)
 
 -- an answer, if there is one
 pub same_answer : (r : Result Answer AllocError) (x y : Answer) → x ≡ y → IfOk r (λ a. a ≡ x) → IfOk r (λ a. a ≡ y)

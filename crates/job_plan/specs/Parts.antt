@@ -1,6 +1,7 @@
 -- Condition: what the parts, segments and sources of the program stand for.
 use Rattle.std.specs.Prelude.{◌≡◌, ℕ, ℤ, Bool, true, false, List, [], ◌∷◌, Option, is_some}
 use Rattle.lambda_expr.specs.Earlier.{Numbers}
+use Rattle.trace.specs.declared.item.Item.{Item}
 use Rattle.trace.specs.declared.item.End.{End}
 use Rattle.trace.specs.declared.item.End.TheVariants as end
 use Rattle.trace.specs.declared.sink.Flow.{Flow}
@@ -81,6 +82,10 @@ EndsFor collecting n env (part.Slice p) t = ⊥
 EndsFor collecting n env (part.Fold p) t = ⊥
 EndsFor collecting n env (part.Find p) t = ⊥
 EndsFor collecting n env (part.Array c) t = c ≡ array_of t
+
+-- a part has taken these items
+abbrev pub HasTaken : AbstractEnd → ℕ → Numbers → Part → List Item → Type 0
+HasTaken e n env p xs = EndsFor e n env p (trace xs end.Done)
 
 -- a part stands for a piece of a segment's source
 abbrev pub StandsFor : AbstractSegment → Numbers → Part → Trace → Type 0

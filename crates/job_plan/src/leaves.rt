@@ -1,25 +1,26 @@
 //! A piece of a segment's source, taken through the segment's stages to the part that its end wants.
 
-ghost use Rattle.std.specs.Prelude.{◌≡◌, ◌+◌, ◌<◌, ◌^◌, ℕ, [], length, IfOk, ⊤};
+ghost use Rattle.std.specs.Prelude.{◌≡◌, ◌+◌, ◌<◌, ◌^◌, ℕ, List, [], false, length, map, IfOk, ⊤};
 ghost use Rattle.lambda_expr.specs.Earlier.{Numbers};
+ghost use Rattle.trace.specs.Sinks.{IsFed, flow_after};
 ghost use Rattle.trace.specs.Trace.{trace};
 ghost use Rattle.trace.specs.declared.item.End.TheVariants as end;
-ghost use Rattle.job_plan.specs.Parts.{EndsFor, StandsFor, end_in, flow_of, is_settled, segment_in, walk_in};
+ghost use Rattle.trace.specs.declared.item.Item.{Item as item};
+ghost use Rattle.job_plan.specs.Parts.{EndsFor, HasTaken, StandsFor, end_in, flow_of, is_settled, segment_in, walk_in};
 ghost use Rattle.job_plan.specs.Pieces.{piece_of};
 ghost use Rattle.job_plan.specs.Plans.{last_stage};
 ghost use Rattle.job_plan.specs.declared.segment.SegmentEnd.{SegmentEnd};
 ghost use Rattle.job_plan.specs.declared.segment.SegmentEnd.TheVariants as ends;
 
+use crate::fronts::test_of;
 use crate::part::Part;
-use crate::segment::Segment;
+use crate::segment::{Segment, SegmentEnd};
 use crate::source::Source;
-use batch_eval::{
-    Batch, BatchSink, FlaggedLanes, PlacedValues, Registers, accept_each, accept_each_flagged,
-};
-use lambda_expr::Env;
+use batch_eval::{Batch, BatchSink, FlaggedLanes, PlacedValues, Registers, accept_each_flagged};
+use lambda_expr::{BoolExpr, Env};
 use std::alloc::Global;
 use std::marker::{Brand, PhantomData};
-use trace::{End, Fed, Flow, Item, LongSink, NoMemory};
+use trace::{End, Fed, Flow, Item, LongSink, NoMemory, SourceItems};
 
 /// The end of a walk, as contracts see it. No value has this type.
 pub(crate) trait Ending {
@@ -67,20 +68,31 @@ impl<K: Ending> LongSink for PartSink<'_, '_, K> {
 }
 
 impl<K: Ending> BatchSink for PartSink<'_, '_, K> {
-    fn accept_batch(&mut self, batch: &Batch) -> Result<Fed, NoMemory> {
-        let taken = self.part.push_values(batch.values())?;
-        if taken {
-            return Ok(Fed::More);
-        }
-        accept_each(batch, self)
+    fn accept_batch(&mut self, batch: &Batch, room: &mut [i64]) -> Result<Fed, NoMemory> {
+        let values = batch.values();
+        let close = &self.segment.end;
+        accept_all(
+            &mut self.part,
+            close,
+            self.stage,
+            self.env,
+            batch,
+            values,
+            room,
+        )
     }
 
-    fn accept_run(&mut self, run: PlacedValues<'_>) -> Result<Fed, NoMemory> {
-        let taken = self.part.push_values(run.values)?;
-        if taken {
-            return Ok(Fed::More);
-        }
-        accept_each(&run, self)
+    fn accept_run(&mut self, run: PlacedValues<'_>, room: &mut [i64]) -> Result<Fed, NoMemory> {
+        let close = &self.segment.end;
+        accept_all(
+            &mut self.part,
+            close,
+            self.stage,
+            self.env,
+            &run,
+            run.values,
+            room,
+        )
     }
 
     fn takes_flags(&self) -> bool {
@@ -93,6 +105,36 @@ impl<K: Ending> BatchSink for PartSink<'_, '_, K> {
         }
         accept_each_flagged(lanes, self)
     }
+
+    fn test(&self) -> Option<&BoolExpr> {
+        test_of(&self.segment.end)
+    }
+}
+
+/// Puts the items of a source, which have these values, into a part, and answers whether it takes more.
+fn accept_all<I: SourceItems>(
+    part: &mut Part<'_>,
+    close: &SegmentEnd,
+    stage: u32,
+    env: &Env,
+    source: &I,
+    values: &[i64],
+    room: &mut [i64],
+) -> Result<Fed, NoMemory>
+    requires wants { is_settled part.old ≡ false }
+    requires values { map (λ x. x.value) (I.items source.now) ≡ values.now }
+    ensures fed { (xs : List item) → HasTaken (end_in close.now) stage env.now part.old xs
+        → IsFed (HasTaken (end_in close.now) stage env.now) xs (trace (I.items source.now) end.Done) result part.new }
+    ensures flow { flow_of (is_settled part.new) ≡ flow_after result }
+{
+    if values.is_empty() {
+        return Ok(Fed::More);
+    }
+    part.push_all(close, stage, env, source, values, room)?;
+    if part.is_settled() {
+        return Ok(Fed::Enough);
+    }
+    Ok(Fed::More)
 }
 
 /// The part of the items at positions from `from` on, up to, not with, `to`, if there is one, of the source of a segment.

@@ -13,6 +13,7 @@
 mod answer;
 mod array_part;
 mod folding;
+mod fronts;
 mod given;
 mod item_pieces;
 mod leaves;

@@ -14,6 +14,7 @@ ghost use Rattle.job_plan.specs.Walks.{found_answer, unless_fault};
 use crate::answer::Answer;
 use crate::array_part::ArrayPart;
 use crate::folding::{folded, folded_flagged};
+use crate::fronts::{front, undecided};
 use crate::outcome::Outcome;
 use crate::segment::{Fold, SegmentEnd};
 use find_ops::{FindPart, FindTerminal, Found};
@@ -21,7 +22,7 @@ use lambda_expr::Env;
 use reduce_ops::Partial;
 use slice_ops::SlicePart;
 use std::alloc::Global;
-use trace::{Chunk, End, Fault, Item, NoMemory};
+use trace::{Chunk, End, Fault, Item, NoMemory, SourceItems};
 
 /// The fold of a piece.
 #[derive(Clone, Copy)]
@@ -178,28 +179,43 @@ impl<'p> Part<'p> {
         }
     }
 
-    /// Adds the values of several items, if the end looks at values alone, and answers whether it does: a fold or `toArray`.
+    /// Adds the items of a source, which have these values, after the others.
     ///
-    /// If the allocation fails, the part stays as it was. Without items it takes no memory.
-    pub(crate) fn push_values(&mut self, values: &[i64]) -> Result<bool, NoMemory>
-        requires { is_settled self.old ≡ false }
-        ensures taken { IfOk result (λ taken. taken ≡ true → (e : AbstractEnd) (stage : ℕ) (env : Numbers) (t : Trace) (xs : List item)
-            → map (λ x. x.value) xs ≡ values.now → EndsFor e stage env self.old t → EndsFor e stage env self.new (append t (trace xs end.Done))) }
-        ensures open { is_settled self.new ≡ false }
-        ensures other { IfOk result (λ taken. taken ≡ false → self.new ≡ self.old) }
+    /// The test of a match or a `takeWhile` goes over all values first, as far as the room is enough for it. If the
+    /// allocation fails, the part stays as it was. Without items it takes no memory.
+    pub(crate) fn push_all<I: SourceItems>(
+        &mut self,
+        close: &SegmentEnd,
+        stage: u32,
+        env: &Env,
+        source: &I,
+        values: &[i64],
+        room: &mut [i64],
+    ) -> Result<(), NoMemory>
+        requires going { is_settled self.old ≡ false }
+        requires values { map (λ x. x.value) (I.items source.now) ≡ values.now }
+        ensures ok { OnOk result ((t : Trace) → EndsFor (end_in close.now) stage env.now self.old t
+            → EndsFor (end_in close.now) stage env.now self.new (append t (trace (I.items source.now) end.Done))) }
         ensures err { OnErr result (self.new ≡ self.old) }
-        ensures refused { OnErr result (0 < length values.now) }
+        ensures refused { OnErr result (0 < length (I.items source.now)) }
     {
         match self {
+            Part::Slice(part) => {
+                let front = front(part.slice(), env, values, room);
+                part.push_all(env, source, front)
+            }
             Part::Fold(part) => {
                 part.push_all(values);
-                Ok(true)
+                Ok(())
             }
-            Part::Array(part) => {
-                part.push_all(values)?;
-                Ok(true)
+            Part::Find(part) => {
+                if let SegmentEnd::Find(find) = close {
+                    let first = undecided(find, env, values, room);
+                    *part = part.look_after(find, stage, env, source, first);
+                }
+                Ok(())
             }
-            Part::Slice(_) | Part::Find(_) => Ok(false),
+            Part::Array(part) => part.push_all(values),
         }
     }
 

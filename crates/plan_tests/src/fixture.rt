@@ -42,6 +42,15 @@ fn chosen_tree(alloc: Global, items: u64, choice: &mut u64) -> Result<SplitTree,
     Ok(SplitTree::Node(front, Box::new(alloc, left)?, Box::new(alloc, right)?))
 }
 
+/// A node of two leaves.
+pub(crate) fn cut_at(alloc: Global, items: u64) -> Result<SplitTree, AllocError> {
+    Ok(SplitTree::Node(
+        items,
+        Box::new(alloc, SplitTree::Leaf)?,
+        Box::new(alloc, SplitTree::Leaf)?,
+    ))
+}
+
 /// A fault as the report prints it.
 fn shown_fault(alloc: Global, fault: &Fault) -> Result<String, Fail> {
     let kind = match fault.kind {

@@ -5,11 +5,13 @@
 //! a call succeeds if there is memory. A table is one text: that costs the least to check.
 //!
 //! `fixture.rt` has the reader of the tables, the trees and the texts of answers; `trees.rt` walks each job of a table on
-//! each tree over six items, `plans.rt` is for plans of several jobs and for the jobs that can be run.
+//! each tree over six items, `ends.rt` ends that ask a test of items, `plans.rt` is for plans of several jobs and for the jobs that can be run.
 //!
 //! Nothing stands on this crate, and it promises nothing.
 #![tactic(auto)]
 
+#[cfg(test)]
+mod ends;
 #[cfg(test)]
 mod fixture;
 #[cfg(test)]

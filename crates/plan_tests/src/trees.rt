@@ -1,6 +1,6 @@
 //! Each job of a table on each tree over six items, the tree of one leaf among them.
 
-use crate::fixture::{first_false_row, gives, plan_of};
+use crate::fixture::{cut_at, first_false_row, gives, plan_of};
 use columns::Columns;
 use job_plan::SplitTree;
 use std::alloc::{AllocError, Global};
@@ -189,15 +189,6 @@ fn a_filter_that_comes_last_ends_at_its_fault(rt: HostRuntime) -> Result<(), Fai
         }
     }
     Ok(())
-}
-
-/// A node of two leaves.
-fn cut_at(alloc: Global, items: u64) -> Result<SplitTree, AllocError> {
-    Ok(SplitTree::Node(
-        items,
-        Box::new(alloc, SplitTree::Leaf)?,
-        Box::new(alloc, SplitTree::Leaf)?,
-    ))
 }
 
 #[test]

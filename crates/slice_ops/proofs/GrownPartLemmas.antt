@@ -2,18 +2,17 @@
 use Rattle.std.proofs.Common.{◌≡◌, ℕ, zero, suc, ◌≤◌, ◌<◌, Bool, true, false, not, nat_lt, is_some, List, [], ◌∷◌, ◌++◌, length, length-append, Option, Some, None, refl, sym, ap, subst, ◌∙◌, arith}
 use Rattle.std.proofs.lemmas.Bool.Decides.{nat_tests}
 use Rattle.lambda_expr.specs.Earlier.{Numbers}
-use Rattle.lambda_expr.specs.Term.{Truth}
 use Rattle.trace.specs.declared.item.Item.{Item}
 use Rattle.trace.specs.declared.item.Fault.{Fault}
 use Rattle.trace.specs.declared.item.End.{End}
 use Rattle.trace.specs.declared.item.End.TheVariants as end
-use Rattle.trace.specs.Stops.{shift, stop_or, stop_at, kept_before}
+use Rattle.trace.specs.Stops.{stop_or, kept_before}
 use Rattle.trace.specs.Trace.{Trace, trace, then_on, append}
 use Rattle.trace.proofs.JoinLemmas.{append_faulted}
 use Rattle.slice_ops.specs.declared.slice_part.SlicePart.{SlicePart}
-use Rattle.slice_ops.specs.Slices.{AbstractSlice, limit, skip, take_while, drop_while, slice_of, limited, taken, front_ends}
-use Rattle.slice_ops.specs.Parts.{kept_of, stops, StandsFor, IsJoined, IsTaken, IsAdded, is_settled, is_settled_by}
-use Rattle.slice_ops.proofs.JoinLemmas.{limited_few, limited_enough, not_false, whole, stays, joined}
+use Rattle.slice_ops.specs.Slices.{AbstractSlice, limit, skip, take_while, drop_while, slice_of, limited, front_ends}
+use Rattle.slice_ops.specs.Parts.{kept_of, stops, StandsFor, IsJoined, IsTaken, IsAdded, AreAdded, is_settled, is_settled_by}
+use Rattle.slice_ops.proofs.JoinLemmas.{limited_few, limited_enough, limits_join, sizes_join, not_false, whole, stays, joined}
 
 above_zero : (m k : ℕ) → nat_lt m k ≡ true → 1 ≤ k
 above_zero m k h = grind (arith, nat_tests)
@@ -82,6 +81,30 @@ module _ (n : ℕ) (env : Numbers) (a : Trace) where
       let as_d : IsAdded d p.stage env x p.chunk r.chunk r.stopped = subst (λ (e : AbstractSlice). IsAdded e p.stage env x p.chunk r.chunk r.stopped) s.slice j in
       let here : IsAdded d n env x p.chunk r.chunk r.stopped = subst (λ (m : ℕ). IsAdded d m env x p.chunk r.chunk r.stopped) s.stage as_d in
       let on = as_joined d x p.chunk r.chunk r.stopped (sym s.stopped ∙ goes_on) done here in
+      joined n env a b p q r goes_on done d s (record { slice = s.slice; stage = s.stage; chunk = refl; stopped = refl }) (ap slice_of slice) stage
+      (subst (λ (e : AbstractSlice). IsJoined e (append p.chunk q.chunk) q.stopped r.chunk r.stopped) (sym s.slice) on)
+
+  -- what several items add, as a piece of their own
+  are_joined : (d : AbstractSlice) (xs : List Item) (c kept : Trace) (stopped : Bool) → c.ending ≡ end.Done → AreAdded d n env xs c kept stopped
+      → IsJoined d (append c (kept_of d n env (trace xs end.Done))) (stops d n env (trace xs end.Done)) kept stopped
+  are_joined (limit k) xs c kept stopped done j =
+      let b : Trace = trace xs end.Done in (
+        j.0 ∙ ap (limited k) (sym (done_on c b done)) ∙ sym (limits_join n env c b k done),
+        j.1 ∙ ap (λ (t : Trace). not (nat_lt (length t.items) k)) (sym (done_on c b done)) ∙ sym (ap not (sizes_join n env c b k done)),
+      )
+  are_joined (skip k) xs c kept stopped done j = (j.0 ∙ sym (done_on c (trace xs end.Done) done), j.1)
+  are_joined (take_while f) xs c kept stopped done j = j
+  are_joined (drop_while f) xs c kept stopped done j = (j.0 ∙ sym (done_on c (trace xs end.Done) done), j.1)
+
+  -- several items more
+  pub all_added : (d : AbstractSlice) (p r : SlicePart) (xs : List Item) → p.stopped ≡ false → p.chunk.ending ≡ end.Done → r.slice.now ≡ p.slice.now → r.stage ≡ p.stage → StandsFor d n env p a
+      → AreAdded (slice_of p.slice.now) p.stage env xs p.chunk r.chunk r.stopped → StandsFor d n env r (append a (trace xs end.Done))
+  all_added d p r xs goes_on done slice stage s j =
+      let b : Trace = trace xs end.Done in
+      let q : SlicePart = record { slice = p.slice; stage = p.stage; chunk = kept_of d n env b; stopped = stops d n env b } in
+      let as_d : AreAdded d p.stage env xs p.chunk r.chunk r.stopped = subst (λ (e : AbstractSlice). AreAdded e p.stage env xs p.chunk r.chunk r.stopped) s.slice j in
+      let here : AreAdded d n env xs p.chunk r.chunk r.stopped = subst (λ (m : ℕ). AreAdded d m env xs p.chunk r.chunk r.stopped) s.stage as_d in
+      let on = are_joined d xs p.chunk r.chunk r.stopped done here in
       joined n env a b p q r goes_on done d s (record { slice = s.slice; stage = s.stage; chunk = refl; stopped = refl }) (ap slice_of slice) stage
       (subst (λ (e : AbstractSlice). IsJoined e (append p.chunk q.chunk) q.stopped r.chunk r.stopped) (sym s.slice) on)
 

@@ -1,5 +1,5 @@
 -- Condition: what the part of a slice stands for.
-use Rattle.std.specs.Prelude.{◌≡◌, ℕ, Bool, true, false, not, nat_lt, [], ◌∷◌, ◌++◌, length, Option, Some, None, is_some}
+use Rattle.std.specs.Prelude.{◌≡◌, ℕ, Bool, true, false, not, nat_lt, List, [], ◌∷◌, ◌++◌, length, Option, Some, None, is_some}
 use Rattle.lambda_expr.specs.Earlier.{Numbers}
 use Rattle.trace.specs.declared.item.Item.{Item}
 use Rattle.trace.specs.declared.item.End.{End}
@@ -57,3 +57,22 @@ IsAdded (limit k) n env x t kept stopped = (kept ≡ limited k (trace (t.items +
 IsAdded (skip k) n env x t kept stopped = (kept ≡ trace (t.items ++ x ∷ []) end.Done) × (stopped ≡ false)
 IsAdded (take_while p) n env x t kept stopped = IsTaken (front_ends p n env x) x t kept stopped
 IsAdded (drop_while p) n env x t kept stopped = (kept ≡ trace (t.items ++ x ∷ []) end.Done) × (stopped ≡ false)
+
+-- how many items come before the first one that ends the front
+abbrev pub before_stop : Option (ℕ × End) → List Item → ℕ
+before_stop None xs = length xs
+before_stop (Some p) xs = p.0
+
+-- as many of the items come before the first one at which the test of a `takeWhile` isn't true; the other slices ask nothing
+abbrev pub IsFront : AbstractSlice → ℕ → Numbers → List Item → ℕ → Type 0
+IsFront (limit k) n env xs front = Unit {0}
+IsFront (skip k) n env xs front = Unit {0}
+IsFront (take_while p) n env xs front = front ≡ before_stop (stop_at (front_ends p n env) xs) xs
+IsFront (drop_while p) n env xs front = Unit {0}
+
+-- what a chunk that goes on becomes to which these items are added, and whether the piece stops
+abbrev pub AreAdded : AbstractSlice → ℕ → Numbers → List Item → Trace → Trace → Bool → Type 0
+AreAdded (limit k) n env xs t kept stopped = (kept ≡ limited k (trace (t.items ++ xs) end.Done)) × (stopped ≡ not (nat_lt (length (t.items ++ xs)) k))
+AreAdded (skip k) n env xs t kept stopped = (kept ≡ trace (t.items ++ xs) end.Done) × (stopped ≡ false)
+AreAdded (take_while p) n env xs t kept stopped = (kept ≡ append t (taken p n env (trace xs end.Done))) × (stopped ≡ is_some (stop_at (front_ends p n env) xs))
+AreAdded (drop_while p) n env xs t kept stopped = (kept ≡ trace (t.items ++ xs) end.Done) × (stopped ≡ false)

@@ -3,6 +3,10 @@ use Rattle.std.proofs.Common.{◌≡◌, ◌≢◌, ℕ, zero, suc, ◌+◌, ◌
 use Rattle.std.specs.List.{flat_map}
 use Rattle.std.proofs.lemmas.List.{append-nil, map-append, take_more}
 use Rattle.std.proofs.lemmas.List.Elements.{All-head}
+use Rattle.trace.specs.declared.item.Item.{Item}
+use Rattle.trace.specs.declared.item.End.{End}
+use Rattle.trace.specs.declared.item.End.TheVariants as end
+use Rattle.trace.specs.Trace.{Trace, trace}
 
 -- the last piece grows
 last_grows : {X A : Type 0} (f : X → List A) (xs : List X) (i : ℕ) (x y : X) (more : List A) → suc i ≡ length xs → f y ≡ f (get_or xs i x) ++ more → flat_map f (set xs i y) ≡ flat_map f xs ++ more
@@ -37,3 +41,11 @@ map_more f xs ys i d within =
 
 pub pushed_is : {B : Type 0} (new old vs : List B) (written v : B) → new ≡ old ++ written ∷ [] → old ≡ vs → written ≡ v → new ≡ vs ++ v ∷ []
 pushed_is new old vs written v is same at_v = is ∙ ap (λ us. us ++ written ∷ []) same ∙ ap (λ w. vs ++ w ∷ []) at_v
+
+-- the trace of pieces that grew, and of pieces that are as they were
+pub trace_grows : (xs ys more : List Item) (e : End) (t : Trace) → ys ≡ xs ++ more → trace xs e ≡ t → t.ending ≡ end.Done → trace ys e ≡ trace (t.items ++ more) end.Done
+trace_grows xs ys more e t grown is done =
+    ap (λ zs. trace zs e) grown ∙ ap (λ (u : Trace). trace (u.items ++ more) u.ending) is ∙ ap (trace (t.items ++ more)) done
+
+pub same_trace : (xs ys : List Item) (e : End) (t : Trace) → ys ≡ xs → trace xs e ≡ t → trace ys e ≡ t
+same_trace xs ys e t same is = ap (λ zs. trace zs e) same ∙ is

@@ -1,18 +1,7 @@
-use Rattle.std.proofs.Common.{◌≡◌, suc, ◌-◌, ◌<◌, List, [], ◌∷◌, ◌++◌, length, refl, ap, ◌∙◌, arith}
+use Rattle.std.proofs.Common.{◌≡◌, suc, ◌-◌, ◌<◌, [], ◌∷◌, length, refl, arith}
 use Rattle.std.proofs.lemmas.Result.{err_from_is_err_and}
-use Rattle.trace.specs.declared.item.Item.{Item}
-use Rattle.trace.specs.declared.item.End.{End}
-use Rattle.trace.specs.declared.item.End.TheVariants as end
-use Rattle.trace.specs.Trace.{Trace, trace}
-use Rattle.trace.proofs.PieceLemmas.{read_grows, read_stays}
+use Rattle.trace.proofs.PieceLemmas.{read_grows, read_stays, same_trace, trace_grows}
 use Rattle.trace.proofs.chunk.Chunk.push.Goals as goal
-
-trace_grows : (xs ys more : List Item) (e : End) (t : Trace) → ys ≡ xs ++ more → trace xs e ≡ t → t.ending ≡ end.Done → trace ys e ≡ trace (t.items ++ more) end.Done
-trace_grows xs ys more e t grown is done =
-    ap (λ zs. trace zs e) grown ∙ ap (λ (u : Trace). trace (u.items ++ more) u.ending) is ∙ ap (trace (t.items ++ more)) done
-
-same_trace : (xs ys : List Item) (e : End) (t : Trace) → ys ≡ xs → trace xs e ≡ t → trace ys e ≡ t
-same_trace xs ys e t same is = ap (λ zs. trace zs e) same ∙ is
 
 pub returns-in_ok-push-in-Some-clause-ok : goal.returns-in_ok-push-in-Some-clause-ok
 returns-in_ok-push-in-Some-clause-ok c =

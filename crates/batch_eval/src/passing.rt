@@ -1,0 +1,64 @@
+//! How many values pass a test, from the first one on.
+
+ghost use Rattle.batch_eval.specs.Lanes.{at, is_set as is_set_flag};
+ghost use Rattle.lambda_expr.specs.Term.{truth_of};
+ghost use Rattle.lambda_expr.specs.Value.{truth_value};
+ghost use Rattle.std.specs.Prelude.{◌≡◌, ◌≢◌, ◌<◌, ◌≤◌, ℕ, Ok, length};
+
+use crate::flag::is_set;
+use crate::register::{LANES, eval_bool};
+use crate::room::test_fits;
+use lambda_expr::{BoolExpr, Env};
+
+/// How many values come before the first one at which the test isn't `wanted`, or faults.
+///
+/// Up to 1,024 values are tested at once, by one loop per operator, if the room is enough for the test and a register
+/// more; else one by one. It takes no memory.
+pub fn count_passing(
+    test: &BoolExpr,
+    wanted: bool,
+    env: &Env,
+    values: &[i64],
+    room: &mut [i64],
+) -> usize
+    ensures within { result ≤ length values.now }
+    ensures passed { (k : ℕ) → k < result → truth_value (truth_of test.now) (at values.now k) env.now ≡ Ok wanted }
+    ensures stop { result < length values.now → truth_value (truth_of test.now) (at values.now result) env.now ≢ Ok wanted }
+{
+    let live = values.len();
+    if live > LANES || room.len() < LANES || !test_fits(test, room.len() - LANES) {
+        return count_one_by_one(test, wanted, env, values);
+    }
+    let (flags, rest) = room.split_at_mut(LANES);
+    let reached = eval_bool(test, env, values, live, flags, rest);
+    count_flags(flags, wanted, reached.live)
+}
+
+/// The same by a walk over the tree of the test for each value.
+fn count_one_by_one(test: &BoolExpr, wanted: bool, env: &Env, values: &[i64]) -> usize
+    ensures within { result ≤ length values.now }
+    ensures passed { (k : ℕ) → k < result → truth_value (truth_of test.now) (at values.now k) env.now ≡ Ok wanted }
+    ensures stop { result < length values.now → truth_value (truth_of test.now) (at values.now result) env.now ≢ Ok wanted }
+{
+    for position in 0..values.len() {
+        if test.eval(values[position], env) != Ok(wanted) {
+            return position;
+        }
+    }
+    values.len()
+}
+
+/// How many of the first `live` flags come before the first one that is not as it is wanted.
+fn count_flags(flags: &[i64], wanted: bool, live: usize) -> usize
+    requires { live ≤ length flags.now }
+    ensures within { result ≤ live }
+    ensures passed { (k : ℕ) → k < result → is_set_flag (at flags.now k) ≡ wanted }
+    ensures stop { result < live → is_set_flag (at flags.now result) ≢ wanted }
+{
+    for lane in 0..live {
+        if is_set(flags[lane]) != wanted {
+            return lane;
+        }
+    }
+    live
+}

@@ -1,0 +1,46 @@
+//! The tests that ends of segments ask of items, for many values at once.
+
+ghost use Rattle.std.specs.Prelude.{◌≡◌, ℕ, List, None, map, take};
+ghost use Rattle.trace.specs.declared.item.Item.{Item as item};
+ghost use Rattle.find_ops.specs.Finds.{find_of, first_decision};
+ghost use Rattle.slice_ops.specs.Parts.{IsFront};
+ghost use Rattle.slice_ops.specs.Slices.{slice_of};
+
+use crate::segment::SegmentEnd;
+use batch_eval::count_passing;
+use find_ops::FindTerminal;
+use lambda_expr::{BoolExpr, Env};
+use slice_ops::Slice;
+
+/// The test that an end asks of items while it takes them, if it asks one.
+pub(crate) fn test_of(end: &SegmentEnd) -> Option<&BoolExpr> {
+    match end {
+        SegmentEnd::Find(FindTerminal::AnyMatch(test)) => Some(test),
+        SegmentEnd::Find(FindTerminal::AllMatch(test)) => Some(test),
+        SegmentEnd::Find(FindTerminal::NoneMatch(test)) => Some(test),
+        SegmentEnd::Slice(Slice::TakeWhile(test)) => Some(test),
+        _ => None,
+    }
+}
+
+/// How many items with these values, from the first on, decide nothing.
+pub(crate) fn undecided(find: &FindTerminal, env: &Env, values: &[i64], room: &mut [i64]) -> u64
+    ensures { (stage : ℕ) (xs : List item) → map (λ x. x.value) xs ≡ values.now → first_decision (find_of find.now) stage env.now (take result xs) ≡ None }
+{
+    match find {
+        FindTerminal::First => 0,
+        FindTerminal::AnyMatch(test) => count_passing(test, false, env, values, room) as u64,
+        FindTerminal::AllMatch(test) => count_passing(test, true, env, values, room) as u64,
+        FindTerminal::NoneMatch(test) => count_passing(test, false, env, values, room) as u64,
+    }
+}
+
+/// How many items with these values come before the first one at which the test of a `takeWhile` isn't true.
+pub(crate) fn front(slice: &Slice, env: &Env, values: &[i64], room: &mut [i64]) -> u64
+    ensures { (stage : ℕ) (xs : List item) → map (λ x. x.value) xs ≡ values.now → IsFront (slice_of slice.now) stage env.now xs result }
+{
+    match slice {
+        Slice::TakeWhile(test) => count_passing(test, true, env, values, room) as u64,
+        Slice::Limit(_) | Slice::Skip(_) | Slice::DropWhile(_) => 0,
+    }
+}
