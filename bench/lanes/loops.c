@@ -51,6 +51,7 @@ int main(int argc, char **argv) {
     TIME("division", int64_t s = 0, s = plus(s, x / 7 + 100 / (x + 1)), s)
     TIME("exact", int64_t s = 0; int64_t v, if (__builtin_add_overflow(x, 5, &v)) break; s = plus(s, v), s)
     TIME("any_match", int64_t n = 0, if (times(x, 3) > 1000000) break; n++, n)
+    TIME("take_while", int64_t s = 0, if (times(x, 3) >= 1000000) break; s = plus(s, x), s)
     TIME("flat_map", int64_t s = 0, for (int64_t y = 0; y < (x & 3); y++) s = plus(s, y), s)
     MAP("add", plus(x, 5))
     MAP("subtract", minus(5, x))
