@@ -1,5 +1,10 @@
 pub mod CellLemmas
+pub mod CsvLemmas
 pub mod FileLemmas
+pub mod FirstRecord
+pub mod PieceLemmas
+pub mod PlainLemmas
+pub mod PlainRowLemmas
 pub mod RecordLemmas
 pub mod RowLemmas
 pub mod SpelledNumbers

@@ -13,7 +13,7 @@ use Rattle.csv.specs.declared.parser.State.{State}
 use Rattle.csv.specs.declared.parser.State.TheVariants as st
 
 -- at the end of a text a record leaves nothing
-next_record-end : (cfg : Config) (s : State) (fields : List (List ℕ)) (field : List ℕ) (p : Read) → next_record cfg s fields field [] ≡ Some p
+pub next_record-end : (cfg : Config) (s : State) (fields : List (List ℕ)) (field : List ℕ) (p : Read) → next_record cfg s fields field [] ≡ Some p
     → (p.1 ≡ st.StartRecord) × (p.2 ≡ [])
 unfolding next_record
 next_record-end cfg s fields field p h = elim (cases_Bool (ends_at_end s)) [

@@ -16,7 +16,7 @@ cells_named-map name (c ∷ columns) = elim (cases_Bool (bytes_eq c.name.items n
   | inr other ↦ rw other (cells_named-map name columns)
 ]
 
-length-columns_under : (names : List (List ℕ)) (rows : List (List (List ℕ))) → length (columns_under names rows) ≡ length names
+pub length-columns_under : (names : List (List ℕ)) (rows : List (List (List ℕ))) → length (columns_under names rows) ≡ length names
 length-columns_under [] rows = refl
 length-columns_under (name ∷ names) rows = ap suc (length-columns_under names (map (drop 1) rows))
 

@@ -2,6 +2,9 @@
 pub mod Cell
 pub mod Cells
 pub mod Number
+pub mod Pieces
+pub mod Places
+pub mod PlainRows
 pub mod Records
 pub mod Refusals
 pub mod Table

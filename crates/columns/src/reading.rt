@@ -1,18 +1,26 @@
 //! Column files, read whole.
-ghost use Rattle.std.specs.Prelude.{◌≡◌, ◌≢◌, ◌≤◌, ℕ, List, IfErr, IfSome, OnOk};
+ghost use Rattle.std.specs.Prelude.{◌≡◌, ◌≢◌, ◌<◌, ◌≤◌, ◌⊎◌, [], ℕ, List, Ok, IfErr, IfOk, IfSome, OnOk, drop, length, map};
 ghost use Rattle.std.specs.Io.KnownBytes.{IsAtEnd};
 ghost use Rattle.counted_io.specs.CountedRead.{GaveSome};
 ghost use Rattle.counted_io.specs.FailureCounts.{HasRisen};
-ghost use Rattle.columns.specs.Cells.{IsAnswerTo, records_of};
+ghost use Rattle.columns.specs.Cells.{IsAnswerTo, cells_of, records_of};
+ghost use Rattle.columns.specs.PlainRows.{AreRead};
 ghost use Rattle.columns.specs.Records.{IsReading};
+ghost use Rattle.columns.specs.Table.{NamedColumn};
+ghost use Rattle.columns.specs.TableOfColumns.{named};
+ghost use Rattle.csv.specs.Reading.{strip_bom};
 
 use crate::fault::ColumnFault;
+use crate::header::{first_record_end, without_mark};
+use crate::pieces::read_plain_rows_by;
+use crate::plain::read_plain_rows;
 use crate::records::{next_record, reader_of};
 use crate::rows::{columns_of_header, read_rows};
-use crate::table::Columns;
+use crate::table::{Column, Columns};
 use counted_io::{CountedRead, ReadAllFault, read_all_of};
 use csv::{ByteRecord, Reader};
 use std::alloc::Global;
+use std::thread::Threads;
 
 /// The columns of a file of comma-separated integers.
 ///
@@ -20,7 +28,8 @@ use std::alloc::Global;
 /// the names as they stand, and each one after it is a row of numbers, counted from 1. One byte
 /// order mark at the start is skipped, fields may be quoted, a record ends with LF, CR or CR LF,
 /// and empty lines are no records. The whole file is held while it is read, and beside it 8 bytes
-/// for each cell. A read that fails otherwise than by an interruption is `Read`.
+/// for each cell. Rows of numbers, bare or whole in quotes, are read where they stand; from the first other row on, the
+/// file is read again by its records. A read that fails otherwise than by an interruption is `Read`.
 pub fn read_columns<R: CountedRead>(alloc: Global, reader: &mut R) -> Result<Columns, ColumnFault>
     // Of a reader whose bytes are known.
     ensures cells { IfSome (R.remaining reader.old) (λ bytes. IsAnswerTo bytes result) }
@@ -33,14 +42,62 @@ pub fn read_columns<R: CountedRead>(alloc: Global, reader: &mut R) -> Result<Col
         → HasRisen (R.failures reader.old) (R.failures reader.new)) }
     ensures counts { R.failures reader.old ≤ R.failures reader.new }
 {
+    let bytes = bytes_of(alloc, reader)?;
+    match plain_columns(alloc, &bytes) {
+        Some(columns) => Ok(columns),
+        None => columns_in(alloc, &bytes),
+    }
+}
+
+/// The same columns or the same fault as `read_columns` gives. Pieces of at least `piece` bytes are cut after line
+/// feeds and read on threads, as many at a time as there are workers.
+///
+/// A thread is started for each worker but one whenever that many pieces are read. With one worker, and for a file of one
+/// piece, none is. If a row isn't plain, the whole file is read again on one thread: if it is refused, or a number is
+/// quoted in part. Beside what `read_columns` holds, the cells of the pieces in hand are held.
+pub fn read_columns_by<H: Threads + Sync, R: CountedRead>(
+    rt: &H,
+    alloc: Global,
+    reader: &mut R,
+    workers: usize,
+    piece: usize,
+) -> Result<Columns, ColumnFault>
+    // Of a reader whose bytes are known.
+    ensures cells { IfSome (R.remaining reader.old) (λ bytes. IsAnswerTo bytes result) }
+    ensures end { OnOk result (IsAtEnd (R.remaining reader.new)) }
+    ensures gave { GaveSome (R.remaining reader.old) (R.remaining reader.new) }
+
+    // Of every reader.
+    ensures some_bytes { (bytes : List ℕ) × IsAnswerTo bytes result }
+    ensures read { IfErr result (λ fault. fault ≡ ColumnFault.Read
+        → HasRisen (R.failures reader.old) (R.failures reader.new)) }
+    ensures counts { R.failures reader.old ≤ R.failures reader.new }
+{
+    let bytes = bytes_of(alloc, reader)?;
+    match plain_columns_by(rt, alloc, &bytes, workers, piece) {
+        Some(columns) => Ok(columns),
+        None => columns_in(alloc, &bytes),
+    }
+}
+
+/// The bytes that a reader has left.
+fn bytes_of<R: CountedRead>(alloc: Global, reader: &mut R) -> Result<Vec<u8>, ColumnFault>
+    ensures bytes { IfOk result (λ all. IfSome (R.remaining reader.old) (λ left. all.items ≡ left)) }
+    ensures end { OnOk result (IsAtEnd (R.remaining reader.new)) }
+    ensures gave { GaveSome (R.remaining reader.old) (R.remaining reader.new) }
+    ensures refused { IfErr result (λ fault. (fault ≡ ColumnFault.Read) ⊎ (fault ≡ ColumnFault.NoMemory)) }
+    ensures read { IfErr result (λ fault. fault ≡ ColumnFault.Read
+        → HasRisen (R.failures reader.old) (R.failures reader.new)) }
+    ensures counts { R.failures reader.old ≤ R.failures reader.new }
+{
     match read_all_of(alloc, reader) {
-        Ok(bytes) => columns_in(alloc, bytes.as_slice()),
+        Ok(bytes) => Ok(bytes),
         Err(ReadAllFault::Failed) => Err(ColumnFault::Read),
         Err(ReadAllFault::NoMemory) => Err(ColumnFault::NoMemory),
     }
 }
 
-/// The columns of some bytes.
+/// The columns of some bytes by their records, whatever these are.
 fn columns_in(alloc: Global, bytes: &[u8]) -> Result<Columns, ColumnFault>
     ensures tells { IsAnswerTo bytes.now result }
     ensures unread { IfErr result (λ fault. fault ≢ ColumnFault.Read) }
@@ -70,12 +127,82 @@ fn columns_from(
     Ok(Columns::of(columns))
 }
 
+/// The columns of some bytes, if all rows are plain.
+fn plain_columns(alloc: Global, bytes: &[u8]) -> Option<Columns>
+    ensures { IfSome result (λ columns. cells_of bytes.now ≡ Ok columns) }
+{
+    let text = without_mark(bytes);
+    let (mut columns, from) = plain_header(alloc, bytes)?;
+    if !read_plain_rows(text, from, text.len(), columns.as_mut_slice()) {
+        return None;
+    }
+    Some(Columns::of(columns))
+}
+
+/// The same, read in pieces.
+fn plain_columns_by<H: Threads + Sync>(
+    rt: &H,
+    alloc: Global,
+    bytes: &[u8],
+    workers: usize,
+    piece: usize,
+) -> Option<Columns>
+    ensures { IfSome result (λ columns. cells_of bytes.now ≡ Ok columns) }
+{
+    let text = without_mark(bytes);
+    let (mut columns, from) = plain_header(alloc, bytes)?;
+    let slice = columns.as_mut_slice();
+    if !read_plain_rows_by(rt, alloc, text, from, workers, piece, slice) {
+        return None;
+    }
+    Some(Columns::of(columns))
+}
+
+/// The columns under the header of some bytes, without cells, and where the first row may start in what follows a byte
+/// order mark.
+fn plain_header(alloc: Global, bytes: &[u8]) -> Option<(Vec<Column>, usize)>
+    ensures given { IfSome result (λ header. (columns : List NamedColumn)
+        → AreRead (drop header.1 (strip_bom bytes.now)) [] (map named header.0.items) columns → cells_of bytes.now ≡ Ok columns) }
+    ensures some_column { IfSome result (λ header. 0 < length header.0.items) }
+    ensures within { IfSome result (λ header. header.1 ≤ length (strip_bom bytes.now)) }
+{
+    let mut reader = reader_of(alloc, bytes);
+    let mut row = ByteRecord::new(alloc);
+    plain_header_from(alloc, bytes, &mut reader, &mut row)
+}
+
+/// The same, by a reader of the records.
+fn plain_header_from(
+    alloc: Global,
+    bytes: &[u8],
+    reader: &mut Reader<&[u8]>,
+    row: &mut ByteRecord,
+) -> Option<(Vec<Column>, usize)>
+    requires { IsReading reader.old (records_of bytes.now) }
+    ensures given { IfSome result (λ header. (columns : List NamedColumn)
+        → AreRead (drop header.1 (strip_bom bytes.now)) [] (map named header.0.items) columns → cells_of bytes.now ≡ Ok columns) }
+    ensures some_column { IfSome result (λ header. 0 < length header.0.items) }
+    ensures within { IfSome result (λ header. header.1 ≤ length (strip_bom bytes.now)) }
+{
+    let Ok(true) = next_record(reader, row) else {
+        return None;
+    };
+    let rows = rows_to_expect(bytes, row.len());
+    let Ok(columns) = columns_of_header(alloc, row, rows) else {
+        return None;
+    };
+    if columns.is_empty() {
+        return None;
+    }
+    Some((columns, first_record_end(without_mark(bytes))))
+}
+
 /// How many bytes at the start of a file its row count is estimated from.
 const SAMPLE: usize = 64 * 1024;
 
 /// How many rows to expect: as many as there are if all lines are as long as the first ones, and no
 /// more than a file of numbers can have, whose rows take two bytes or more for each cell.
-fn rows_to_expect(bytes: &[u8], columns: usize) -> usize {
+pub(crate) fn rows_to_expect(bytes: &[u8], columns: usize) -> usize {
     let sample = &bytes[..bytes.len().min(SAMPLE)];
     let line_feeds = sample.iter().filter(|byte| **byte == b'\n').count();
     let returns = sample.iter().filter(|byte| **byte == b'\r').count();

@@ -1,5 +1,5 @@
 -- Condition: what the notes of a seat say of the top of a tree, and of what the top keeps.
-use Rattle.std.specs.Prelude.{◌≡◌, ◌≢◌, ℕ, ◌+◌, ◌≤◌, List, [], ◌∷◌, Option, Some, None}
+use Rattle.std.specs.Prelude.{◌≡◌, ◌≢◌, ℕ, ◌+◌, ◌<◌, ◌≤◌, List, [], ◌∷◌, Option, Some, None}
 use Rattle.completion_core.specs.Legal.{count}
 use Rattle.pending_count.specs.declared.view.View.{View}
 use Rattle.pending_count.specs.declared.place.Place.{Place}
@@ -39,6 +39,7 @@ module _ {T : Type 0} where
   -- what a seat has noted of the top of the tree that was forked at this place, which is now at the other place
   pub record KnowsTop (at : Option (Place T)) (onward : List ℕ) (p : Place T) (v w : View T) : Type 0 where
     pub root : p.root ≡ root_of at p.node
+    pub above : (i : ℕ) (given : List ℕ) → note_of i v.noted ≡ Some given → i < p.node
     pub noted : (given : List ℕ) → root_note at onward v.noted ≡ Some given → note_of p.root w.noted ≡ Some given
     pub noted_sides : (given : List ℕ) → root_note at (sides_of onward v.sides) v.noted_sides ≡ Some given → note_of p.root w.noted_sides ≡ Some given
     pub only_own : (k : ℕ) → count k w.sides ≤ count k (left_slot p.node ∷ right_slot p.node ∷ []) + count k v.sides

@@ -41,6 +41,20 @@ pub enum Next<V, K: Fits<V>> {
     Whole(Seat<V, K>, V),
 }
 
+/// Looks at each value before it is handed in: at the one that a caller hands in, and at the answers of the nodes that this completes.
+pub trait Looker<T: Part> {
+    fn look(&mut self, at: &Place<T::Tag>, value: &Handed<T>)
+        requires fits { T.fits at.now.tag at.now.side value.now };
+}
+
+/// Looks at nothing.
+#[derive(Clone, Copy)]
+pub struct Unwatched;
+
+impl<T: Part> Looker<T> for Unwatched {
+    fn look(&mut self, _at: &Place<T::Tag>, _value: &Handed<T>) {}
+}
+
 impl<T: Part, C: Continuation<T>> Finisher<Handed<T>, Completer<T, C>> {
     /// Runs one of the node's two continuations. The place is the one at which the answer is to be handed in; none at the top of a tree.
     pub fn finish(self) -> (Handed<T>, Option<Place<T::Tag>>)
@@ -111,10 +125,27 @@ impl<'a, T: Part, C: Continuation<T>> Tree<'a, Handed<T>, Completer<T, C>> {
         ensures last { IfNextLast result (λ later next. (p : Place T.Tag) × (place_by finisher.finish.kept.parent finisher.finish.kept.root (C.goes_to finisher.finish.kept.run) ≡ Some p) × HasArrived self.now.counts.now p seat later next) }
         ensures whole { IfWhole result (λ later v. (C.goes_to finisher.finish.kept.run ≡ None) × (later ≡ seat) × T.fits (C.tag_of finisher.finish.kept.run) Whole v × T.result (C.tag_of finisher.finish.kept.run) v) }
     {
+        self.next_complete_with(seat, finisher, &mut Unwatched)
+    }
+
+    /// The same; the answer is looked at before it is handed in.
+    pub fn next_complete_with<L: Looker<T>>(
+        &self,
+        seat: TreeSeat<T, C>,
+        finisher: Finisher<Handed<T>, Completer<T, C>>,
+        looker: &mut L,
+    ) -> Next<Handed<T>, Completer<T, C>>
+        requires can { CanFinish (table_id_of self.now.counts.now) seat finisher }
+        ensures seat { IsSameSeat seat (next_seat result) }
+        ensures handed { IfHandedOn result (λ later reply. (p : Place T.Tag) × (place_by finisher.finish.kept.parent finisher.finish.kept.root (C.goes_to finisher.finish.kept.run) ≡ Some p) × (n : ℕ) × (reply ≡ reply_of_arrival (n - 1)) × IsHandedAt self.now.counts.now p seat n later) }
+        ensures last { IfNextLast result (λ later next. (p : Place T.Tag) × (place_by finisher.finish.kept.parent finisher.finish.kept.root (C.goes_to finisher.finish.kept.run) ≡ Some p) × HasArrived self.now.counts.now p seat later next) }
+        ensures whole { IfWhole result (λ later v. (C.goes_to finisher.finish.kept.run ≡ None) × (later ≡ seat) × T.fits (C.tag_of finisher.finish.kept.run) Whole v × T.result (C.tag_of finisher.finish.kept.run) v) }
+    {
         let (answer, onward) = finisher.finish();
         let Some(place) = onward else {
             return Next::Whole(seat, answer);
         };
+        looker.look(&place, &answer);
         match self.first_complete(seat, place, answer) {
             First::Pending(seat, pending) => Next::Pending(seat, pending),
             First::Last(seat, finisher) => Next::Last(seat, finisher),
@@ -138,12 +169,33 @@ impl<'a, T: Part, C: Continuation<T>> Tree<'a, Handed<T>, Completer<T, C>> {
         ensures handed { IfSome at (λ p. WasHanded self.now.counts.now p seat) }
         ensures pending { IfSome at (λ _. IfNone result.1 (WasPending self.now.counts.now seat result.0)) }
     {
+        self.try_complete_with(seat, at, value, &mut Unwatched)
+    }
+
+    /// The same; each value is looked at before it is handed in, this one and each answer on the way up.
+    pub fn try_complete_with<L: Looker<T>>(
+        &self,
+        seat: TreeSeat<T, C>,
+        at: Option<Place<T::Tag>>,
+        value: Handed<T>,
+        looker: &mut L,
+    ) -> (TreeSeat<T, C>, Option<Handed<T>>)
+        requires can { IfSome at (λ p. CanHand (table_id_of self.now.counts.now) p seat × T.fits p.tag p.side value) }
+        ensures seat { IsSameSeat seat result.0 }
+        ensures none { at ≡ None → (result.0 ≡ seat) × (result.1 ≡ Some value) }
+        ensures found { IfSome at (λ p. IfSome result.1 (λ v. T.result p.tag v)) }
+        ensures ran { IfSome at (λ p. IfSome result.1 (λ _. RanBy self.now.counts.now seat p.root)) }
+        ensures kept { IfSome at (λ p. IfSome result.1 (λ _. HasKept p (view_of seat) (view_of result.0))) }
+        ensures handed { IfSome at (λ p. WasHanded self.now.counts.now p seat) }
+        ensures pending { IfSome at (λ _. IfNone result.1 (WasPending self.now.counts.now seat result.0)) }
+    {
         let Some(place) = at else {
             return (seat, Some(value));
         };
+        looker.look(&place, &value);
         match self.first_complete(seat, place, value) {
             First::Pending(seat, _pending) => (seat, None),
-            First::Last(seat, finisher) => climb(self, seat, finisher),
+            First::Last(seat, finisher) => climb(self, seat, finisher, looker),
         }
     }
 
@@ -169,10 +221,11 @@ impl<'a, T: Part, C: Continuation<T>> Tree<'a, Handed<T>, Completer<T, C>> {
 
 // Finishes node after node upwards, while each arrival is the last.
 #[cycle(climb)]
-fn climb<T: Part, C: Continuation<T>>(
+fn climb<T: Part, C: Continuation<T>, L: Looker<T>>(
     tree: &CompleterTree<T, C>,
     seat: TreeSeat<T, C>,
     finisher: Finisher<Handed<T>, Completer<T, C>>,
+    looker: &mut L,
 ) -> (TreeSeat<T, C>, Option<Handed<T>>)
     requires can { CanFinish (table_id_of tree.now.counts.now) seat finisher }
     ensures seat { IsSameSeat seat result.0 }
@@ -182,9 +235,9 @@ fn climb<T: Part, C: Continuation<T>>(
     ensures top { C.goes_to finisher.finish.kept.run ≡ None → result.0 ≡ seat }
     ensures pending { IfNone result.1 (WasPending tree.now.counts.now seat result.0) }
 {
-    match tree.next_complete(seat, finisher) {
+    match tree.next_complete_with(seat, finisher, looker) {
         Next::Pending(seat, _pending) => (seat, None),
         Next::Whole(seat, value) => (seat, Some(value)),
-        Next::Last(seat, finisher) => climb(tree, seat, finisher),
+        Next::Last(seat, finisher) => climb(tree, seat, finisher, looker),
     }
 }

@@ -18,7 +18,7 @@ mod part;
 mod path;
 mod tree;
 
-pub use climbing::{Finisher, First, Next};
+pub use climbing::{Finisher, First, Looker, Next, Unwatched};
 pub use completer::{Completer, place_at};
 pub use continuation::Continuation;
 pub use part::{Failure, Handed, Part};

@@ -8,7 +8,7 @@ use Rattle.columns.specs.Cells.{IsAnswerTo, cells_of}
 use Rattle.columns.specs.Table.{NamedColumn}
 use Rattle.job_plan.specs.declared.settings.Form.{Form}
 use Rattle.engine.specs.declared.running.EngineFault.{EngineFault}
-use Rattle.engine.specs.declared.running.EngineFault.TheVariants.{Columns, Jobs, JobsRead, NoMemory, Write, NotYet}
+use Rattle.engine.specs.declared.running.EngineFault.TheVariants.{Columns, Jobs, JobsRead, NoMemory, Write}
 use Rattle.engine.specs.Given.{IsFile, IsGiven, IsWhole}
 use Rattle.engine.specs.Refused.{IsEarly}
 use Rattle.engine.specs.Run.{Input, IsReport, Faulted, columns_of}
@@ -80,9 +80,6 @@ early_fault remaining columns jobs wanted before after table NoMemory t early ke
 early_fault remaining columns jobs wanted before after table (Jobs f) t early keeps =
     let (bytes, whole, says) = early (λ same. let e = same in cc) in
     (record { columns = t.file; jobs = bytes; form = wanted }, record { columns_file = t.is; jobs_file = whole; form = refl }, (says t.file t.gives, keeps))
-early_fault remaining columns jobs wanted before after table (NotYet n) t early keeps =
-    let (bytes, whole, says) = early (λ same. let e = same in cc) in
-    (record { columns = t.file; jobs = bytes; form = wanted }, record { columns_file = t.is; jobs_file = whole; form = refl }, (says t.file t.gives, keeps))
 early_fault remaining columns jobs wanted before after table (Columns f) t early keeps =
     let (bytes, whole, says) = early (λ same. let e = same in cc) in absurd (says t.file t.gives)
 early_fault remaining columns jobs wanted before after table (Write n) t early keeps =
@@ -96,7 +93,6 @@ early_no_columns remaining columns jobs wanted table JobsRead t early is = let e
 early_no_columns remaining columns jobs wanted table NoMemory t early is = let e = is in cc
 early_no_columns remaining columns jobs wanted table (Jobs f) t early is = let e = is in cc
 early_no_columns remaining columns jobs wanted table (Write n) t early is = let e = is in cc
-early_no_columns remaining columns jobs wanted table (NotYet n) t early is = let e = is in cc
 
 pub early_no_write : {C : Type 0} (remaining : C → Option (List ℕ)) (columns : Option (MutBor C)) (jobs : Option (List ℕ)) (wanted : Form) (table : List NamedColumn) (f : EngineFault) (n : ℕ)
     → HasTable remaining columns table → IsEarlyFault table jobs wanted f → f ≡ Write n → ⊥
@@ -106,7 +102,6 @@ early_no_write remaining columns jobs wanted table JobsRead n t early is = let e
 early_no_write remaining columns jobs wanted table NoMemory n t early is = let e = is in cc
 early_no_write remaining columns jobs wanted table (Jobs f) n t early is = let e = is in cc
 early_no_write remaining columns jobs wanted table (Columns f) n t early is = let e = is in cc
-early_no_write remaining columns jobs wanted table (NotYet k) n t early is = let e = is in cc
 
 -- ---- the report
 

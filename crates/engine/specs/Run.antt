@@ -5,7 +5,7 @@
 --   jobs                  → answers            job_plan/specs/FileAnswers, Walks; their walks: trace/specs/Cover, Stages, Trace
 --   answers               → bytes of the report     report/specs/Text, Json
 -- Reports of small files, worked out: report/specs/Worked.
-use Rattle.std.specs.Prelude.{◌≡◌, ◌≢◌, ℕ, ◌<◌, List, [], length, not, position, take, Option, Some, None, Result, Ok, Err}
+use Rattle.std.specs.Prelude.{◌≡◌, ◌≢◌, ℕ, ◌<◌, List, [], length, take, Option, Some, None, Result, Ok, Err}
 use Rattle.std.specs.Io.KnownBytes.{Appends, Keeps}
 use Rattle.columns.specs.declared.fault.ColumnFault.{ColumnFault}
 use Rattle.columns.specs.declared.fault.ColumnFault.TheVariants as column
@@ -19,11 +19,10 @@ use Rattle.job_language.specs.declared.fault.JobFault.{JobFault}
 use Rattle.job_language.specs.Files.{SpellsJobs, IsRefused}
 use Rattle.job_language.specs.Jobs.{AbstractJob, names_of}
 use Rattle.job_plan.specs.FileAnswers.{meaning_of}
-use Rattle.job_plan.specs.Supported.{is_supported}
 use Rattle.report.specs.Json.{report_json}
 use Rattle.report.specs.Text.{report_text}
 use Rattle.engine.specs.declared.running.EngineFault.{EngineFault}
-use Rattle.engine.specs.declared.running.EngineFault.TheVariants.{Columns, Jobs, JobsRead, NoMemory, Write, NotYet}
+use Rattle.engine.specs.declared.running.EngineFault.TheVariants.{Columns, Jobs, JobsRead, NoMemory, Write}
 
 -- what a run is given: the bytes of the column file, if there is one, those of the job file, and the form of the report
 pub record Input : Type 0 where
@@ -41,18 +40,13 @@ abbrev pub report_in : Form → List (List ℕ) → List Answer → List ℕ
 report_in form.Text names answers = report_text names answers
 report_in form.Json names answers = report_json names answers
 
--- the place of the first job that isn't supported, if there is one
-abbrev pub first_unsupported : List AbstractJob → Option ℕ
-first_unsupported jobs = position (λ job. not (is_supported job)) jobs
-
--- the report of the jobs that the input spells, all of which are supported: what one thread writes that takes the jobs in file order and each
--- source in encounter order, with the first fault that it meets in place of the job's answer
+-- the report of the jobs that the input spells: what one thread writes that takes the jobs in file order and each source in
+-- encounter order, with the first fault that it meets in place of the job's answer
 pub record IsReport (input : Input) (report : List ℕ) : Type 0 where
   pub columns : List NamedColumn
   pub given : columns_of input.columns ≡ Ok columns
   pub jobs : List AbstractJob
   pub spelled : SpellsJobs input.jobs columns jobs
-  pub supported : first_unsupported jobs ≡ None
   pub written : report ≡ report_in input.form (names_of jobs) (meaning_of jobs)
 
 -- a writer that held these bytes before and those after took the report and nothing else
@@ -75,14 +69,6 @@ pub record IsJobFault (input : Input) (f : JobFault) : Type 0 where
   pub refused : f.cause ≢ cause.NoMemory → IsRefused input.jobs columns f
   pub memory : f.cause ≡ cause.NoMemory → f.line ≡ 0
 
--- the input spells jobs, of which this is the first that isn't supported
-pub record IsNotYet (input : Input) (n : ℕ) : Type 0 where
-  pub columns : List NamedColumn
-  pub given : columns_of input.columns ≡ Ok columns
-  pub jobs : List AbstractJob
-  pub spelled : SpellsJobs input.jobs columns jobs
-  pub unsupported : first_unsupported jobs ≡ Some n
-
 -- what a fault other than a failed write says of the input
 abbrev pub Says : Input → EngineFault → Type 0
 Says input (Columns f) = IsColumnFault input.columns f
@@ -90,7 +76,6 @@ Says input (Jobs f) = IsJobFault input f
 Says input JobsRead = HasColumns input
 Says input NoMemory = HasColumns input
 Says input (Write n) = ⊥
-Says input (NotYet n) = IsNotYet input n
 
 -- what a fault says of the input, and what the writer then holds: after a failed write the first bytes of the report
 -- went out and no others; otherwise nothing was written

@@ -1,7 +1,7 @@
 -- Meaning: the exit status of the program for each fault of a run.
 use Rattle.std.specs.Prelude.{ℕ}
 use Rattle.engine.specs.declared.running.EngineFault.{EngineFault}
-use Rattle.engine.specs.declared.running.EngineFault.TheVariants.{Columns, Jobs, JobsRead, NoMemory, Write, NotYet}
+use Rattle.engine.specs.declared.running.EngineFault.TheVariants.{Columns, Jobs, JobsRead, NoMemory, Write}
 use Rattle.columns.specs.declared.fault.ColumnFault.{ColumnFault}
 use Rattle.columns.specs.declared.fault.ColumnFault.TheVariants as column
 use Rattle.job_language.specs.declared.fault.Cause.{Cause}
@@ -18,11 +18,10 @@ status_of_columns column.NoMemory = 3
 status_of_columns column.Read = 4
 status_of_columns f = 1
 
--- 1 for a refused file and for a job that isn't supported yet, 3 for out of memory, 4 for a file that can't be read or written
+-- 1 for a refused file, 3 for out of memory, 4 for a file that can't be read or written
 abbrev pub status_of : EngineFault → ℕ
 status_of (Columns f) = status_of_columns f
 status_of (Jobs f) = status_of_cause f.cause
 status_of JobsRead = 4
 status_of NoMemory = 3
 status_of (Write n) = 4
-status_of (NotYet n) = 1

@@ -3,7 +3,7 @@
 ghost use Rattle.counted_io.specs.FailureCounts.{HasRisen};
 ghost use Rattle.engine.specs.Refused.{IsEarly};
 ghost use Rattle.engine.specs.Given.{HasRisenThere, IsGiven, IsWhole};
-ghost use Rattle.engine.specs.Run.{Faulted, Input, IsReport, Reported, columns_of, first_unsupported, report_in};
+ghost use Rattle.engine.specs.Run.{Faulted, Input, IsReport, Reported, columns_of, report_in};
 ghost use Rattle.job_language.specs.Jobs.{jobs_of, names_of};
 ghost use Rattle.job_plan.specs.FileAnswers.{meaning_of};
 ghost use Rattle.job_plan.specs.Parts.{plans_in};
@@ -11,12 +11,12 @@ ghost use Rattle.job_plan.specs.Plans.{AbstractPlan};
 ghost use Rattle.job_plan.specs.SettingsParts.{form_of};
 ghost use Rattle.report.specs.Named.{IsNamed, IsText};
 ghost use Rattle.std.specs.Io.KnownBytes.{Keeps};
-ghost use Rattle.std.specs.Prelude.{◌≡◌, ◌≢◌, ℕ, All, List, length, map, Option, None, Ok, IfErr, IfOk, OnOk};
+ghost use Rattle.std.specs.Prelude.{◌≡◌, ◌≢◌, ℕ, All, List, length, map, Option, Ok, IfErr, IfOk, OnOk};
 ghost use Rattle.stream_tokens.specs.Forms.{IsName};
 
-use columns::{ColumnFault, Columns, CountedRead, ReadAllFault, read_all_of, read_columns};
+use columns::{ColumnFault, Columns, CountedRead, ReadAllFault, read_all_of, read_columns_by};
 use job_language::{Job, JobFault, read_jobs};
-use job_plan::{Answer, Form, JobPlan, Plan, Settings, is_supported};
+use job_plan::{Answer, Form, JobPlan, Plan, Settings};
 use job_table::{RunFault, run_jobs};
 use report::{CountedWrite, WriteFault, json, text, write_all_of};
 use std::alloc::Global;
@@ -28,7 +28,7 @@ use worker_pool::Gate;
 
 /// Why a run gives no report, or only a part of it. Unless it is `Write`, nothing was written.
 ///
-/// The numbers are stable; there is no 6. The text is the program's line on standard error, without the program's name.
+/// The numbers are stable; there is no 6 and no 7. The text is the program's line on standard error, without the program's name.
 #[derive(Clone, Copy, Debug, PartialEq, Eq, Error)]
 pub enum EngineFault {
     /// 1: the column file is refused, a read of it failed, or memory for it was refused.
@@ -46,19 +46,18 @@ pub enum EngineFault {
     /// 5: a write failed; the first `written` bytes of the report went out, and no others.
     #[error("write failed after {written} bytes")]
     Write { written: u64 },
-    /// 7: the files are as they should be, but this job, counted from 0, has an operation that isn't supported
-    /// yet. It is the first such job, and no job was run. The line counts from 1.
-    #[error("job {} not served yet", .job.saturating_add(1))]
-    NotYet { job: usize },
 }
+
+/// How many bytes of a column file one thread reads at a time.
+const PIECE: usize = 4 * 1024 * 1024;
 
 /// Reads the columns, if there is a reader of them, then the job file whole; checks the jobs, runs them,
 /// builds the report whole and writes it.
 ///
-/// The jobs run on as many threads as the settings say, in pieces of at most their threshold; the gate is called before
-/// each piece, and one that lets all pass will do. Neither changes the report. The cells of the columns, the job file and
-/// the report are each held in memory once, and the column file while its cells are read. If the column file is refused,
-/// the job file isn't read; if one job isn't supported, none is run.
+/// The columns are read and the jobs run on as many threads as the settings say, the jobs in pieces of at most their
+/// threshold; the gate is called before each of these, and one that lets all pass will do. Neither changes the report.
+/// The cells of the columns, the job file and the report are each held in memory once, and while the cells are read the
+/// column file and the cells of one piece for each thread. If the column file is refused, the job file isn't read.
 pub fn run<
     H: Threads + Wait + Sync,
     C: CountedRead,
@@ -95,7 +94,13 @@ pub fn run<
         HasRisen (W.failures writer.old) (W.failures writer.new)) }
 {
     let table = match columns {
-        Some(reader) => match read_columns(alloc, reader) {
+        Some(reader) => match read_columns_by(
+            rt,
+            alloc,
+            reader,
+            settings.workers() as usize,
+            PIECE,
+        ) {
             Ok(table) => table,
             Err(fault) => return Err(EngineFault::Columns(fault)),
         },
@@ -157,23 +162,13 @@ fn report_of<H: Threads + Wait + Sync, G: Gate + Sync>(
         Ok(jobs) => jobs,
         Err(fault) => return Err(EngineFault::Jobs(fault)),
     };
-    if let Some(job) = first_unsupported(&jobs) {
-        return Err(EngineFault::NotYet { job });
-    }
     match written(rt, alloc, jobs, settings, gate) {
         Ok(report) => Ok(report),
         Err(_) => Err(EngineFault::NoMemory),
     }
 }
 
-/// The place of the first job that isn't supported.
-fn first_unsupported(jobs: &[Job]) -> Option<usize>
-    ensures { result ≡ first_unsupported (jobs_of jobs.now) }
-{
-    jobs.iter().position(|job| !is_supported(job))
-}
-
-/// The report of jobs, all of which are supported.
+/// The report of jobs.
 fn written<H: Threads + Wait + Sync, G: Gate + Sync>(
     rt: &H,
     alloc: Global,
@@ -181,7 +176,6 @@ fn written<H: Threads + Wait + Sync, G: Gate + Sync>(
     settings: &Settings,
     gate: &G,
 ) -> Result<Vec<u8>, NoMemory>
-    requires supported { first_unsupported (jobs_of jobs.items) ≡ None }
     requires names { All IsName (names_of (jobs_of jobs.items)) }
     ensures { IfOk result (λ report. report.items
         ≡ report_in (form_of settings.now) (names_of (jobs_of jobs.entry.items)) (meaning_of (jobs_of jobs.entry.items))) }

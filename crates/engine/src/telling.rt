@@ -8,7 +8,7 @@ use columns::ColumnFault;
 use job_language::Cause;
 use std::io::Write;
 
-/// Writes the fault's line and answers the program's exit status: 1 for input that is refused or not supported yet,
+/// Writes the fault's line and answers the program's exit status: 1 for input that is refused,
 /// 3 for out of memory, 4 for a file that can't be read or written.
 ///
 /// If the line can't be written, it is skipped: the status still says what went wrong.
@@ -21,7 +21,7 @@ pub fn tell<W: Write>(fault: &EngineFault, writer: &mut W) -> u8
         EngineFault::Columns(ColumnFault::Read) => 4,
         EngineFault::Columns(_) => 1,
         EngineFault::Jobs(refused) if refused.cause == Cause::NoMemory => 3,
-        EngineFault::Jobs(_) | EngineFault::NotYet { .. } => 1,
+        EngineFault::Jobs(_) => 1,
         EngineFault::NoMemory => 3,
         EngineFault::JobsRead | EngineFault::Write { .. } => 4,
     }

@@ -11,6 +11,8 @@ mod fixture;
 #[cfg(test)]
 mod random_jobs;
 #[cfg(test)]
+mod references;
+#[cfg(test)]
 mod refusals;
 #[cfg(test)]
 mod reports;

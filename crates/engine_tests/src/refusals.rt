@@ -122,45 +122,6 @@ fn the_first_faulty_job_is_reported_with_its_line(rt: HostRuntime) -> Result<(),
     Ok(())
 }
 
-#[test]
-fn a_job_that_is_not_supported_is_named_after_every_refusal(rt: HostRuntime) -> Result<(), Fail> {
-    for (jobs, line) in [
-        (
-            "p = of(0).map(x -> 1 / x).prefix(sum).sum()",
-            "job 1 not served yet",
-        ),
-        (
-            "a = of(1).sum()\n\np = of(2, 1).limit(1).prefix(0, 1, max).sum()\nq = of(1).prefix(sum).sum()",
-            "job 2 not served yet",
-        ),
-        (
-            "a = of(2).toArray()\nb = concat(of(1), result(a)).sum()",
-            "job 2 not served yet",
-        ),
-        (
-            "a = of(2).sum()\nb = of(1).sum()\nc = of(1).takeWhile(x -> x < $a).sum()",
-            "job 3 not served yet",
-        ),
-        (
-            "a = of(2).sum()\nb = of(1).anyMatch(x -> x == -$a)",
-            "job 2 not served yet",
-        ),
-        (
-            "p = of(1).prefix(sum).sum()\n\nq = of(1).average()",
-            "jobs: line 3: syntax",
-        ),
-        (
-            "p = of(1).prefix(sum).sum()\np = of(1).sum()",
-            "jobs: line 2: same name",
-        ),
-    ] {
-        let text = format!(in rt.alloc(); "streamrun: {line}")?;
-        let refused = is_refused(&rt, Some(b"a\n1\n"), jobs.as_bytes(), text.as_str());
-        assert!(rt; refused, "{jobs}");
-    }
-    Ok(())
-}
-
 /// A header of 257 empty names: 256 commas.
 const COMMAS: &str = "\
 ,,,,,,,,,,,,,,,,,,,,,,,,,,,,,,,,,,,,,,,,,,,,,,,,,,,,,,,,,,,,,,,,\
@@ -234,9 +195,6 @@ fn each_fault_has_its_line_and_status(rt: HostRuntime) {
     assert!(rt; has_line(alloc, &columns, "streamrun: columns: read failed", 4));
     let columns = EngineFault::Columns(ColumnFault::NoMemory);
     assert!(rt; has_line(alloc, &columns, "streamrun: out of memory", 3));
-    let last = EngineFault::NotYet { job: usize::MAX };
-    let line = "streamrun: job 18446744073709551615 not served yet";
-    assert!(rt; has_line(alloc, &last, line, 1));
     let write = EngineFault::Write { written: 4 };
     assert!(rt; has_line(alloc, &write, "streamrun: write failed after 4 bytes", 4));
 }

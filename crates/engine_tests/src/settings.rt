@@ -54,7 +54,20 @@ r1 = of(1).map(x -> x << 65).sum() => r1 = 2
 x1 = of(9223372036854775807).map(x -> Math.addExact(x, 1)).sum() => x1 = fault overflow stage 1 item 0
 e3 = empty().anyMatch(x -> true) => e3 = false
 f3 = empty().allMatch(x -> false) => f3 = true
-g3 = of(3, 1, 4).dropWhile(x -> x > 2).toArray() => g3 = [1, 4]"#;
+g3 = of(3, 1, 4).dropWhile(x -> x > 2).toArray() => g3 = [1, 4]
+h3 = of(5, 0, 7).dropWhile(x -> 10 / x > 3).toArray() => h3 = [5, 0, 7]
+f4 = range(0, 4611686018427387904).map(x -> 1 / (x - 5)).sum() => f4 = fault divide-by-zero stage 1 item 5
+f5 = range(0, 4611686018427387904).filter(x -> x > 70000).findFirst() => f5 = OptionalLong[70001]
+p1 = of(2, 1, 0, 3).prefix(Long::sum).toArray() => p1 = [2, 3, 3, 6]
+p2 = of(1, 0).map(x -> 1 / x).prefix(Long::sum).findFirst() => p2 = fault divide-by-zero stage 1 item 1
+p3 = of(1, 2, 3, 4).prefix(1, 3, Long::sum).toArray() => p3 = [1, 2, 5, 4]
+p4 = of(1, 2, 3, 4).prefix(1, 5, Long::sum).toArray() => p4 = fault out-of-array stage 1 item -
+p5 = of(8589934595, 21474836487).prefix(affine).toArray() => p5 = [8589934595, 42949672982]
+p6 = of(4, 5, 6).prefix(first).toArray() => p6 = [4, 4, 4]
+p7 = empty().prefix(0, 0, Long::sum).toArray() => p7 = []
+p8 = of(2, 1, 0).prefix(Long::sum).map(x -> 1 / (x - 3)).toArray() => p8 = fault divide-by-zero stage 2 item 1
+p9 = of(1, 0).map(x -> 1 / x).prefix(0, 9, Long::sum).count() => p9 = fault divide-by-zero stage 1 item 1
+n2 = range(0, 100000).filter(x -> x % 3 == 0).prefix(Long::sum).skip(33333).toArray() => n2 = [1666683333]"#;
 
 /// A job on several lines, which end in CR LF.
 const LINES: &[u8] =

@@ -213,7 +213,7 @@ none_after f ps w from to h = ap (λ qs. elements from to (flat_map f qs)) (past
     past (p ∷ ps) (suc w) h = past ps w (omega arith)
 
 -- positions after the first of two lists
-past_first : {A : Type 0} (from : ℕ) (to : Option ℕ) (xs : List A) → length xs ≤ from → elements from to xs ≡ []
+pub past_first : {A : Type 0} (from : ℕ) (to : Option ℕ) (xs : List A) → length xs ≤ from → elements from to xs ≡ []
 past_first from None xs h = let e : length xs - from ≡ 0 = omega arith in clamped from None xs ∙ ap (λ n. take n (drop (min from (length xs)) xs)) e ∙ take_none (drop (min from (length xs)) xs)
 past_first from (Some to) xs h = let e : min to (length xs) - from ≡ 0 = omega arith in clamped from (Some to) xs ∙ ap (λ n. take n (drop (min from (length xs)) xs)) e ∙ take_none (drop (min from (length xs)) xs)
 

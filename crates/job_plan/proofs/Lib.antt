@@ -1,14 +1,21 @@
 -- The lemmas of this crate; the first line of each file says what they are about.
-pub mod Alone
 pub mod BatchLemmas
 pub mod Elements
+pub mod EnoughLemmas
 pub mod FeedLemmas
 pub mod FlaggedFolds
 pub mod FrontLemmas
 pub mod ItemCounts
+pub mod LentLemmas
+pub mod MeaningLemmas
+pub mod NameLemmas
 pub mod PartLemmas
 pub mod Positions
+pub mod RunLemmas
+pub mod ScanLemmas
 pub mod SegmentLemmas
+pub mod SettleLemmas
 pub mod SideBySide
+pub mod StretchLemmas
 pub mod WalkLemmas
 pub mod WindowLemmas

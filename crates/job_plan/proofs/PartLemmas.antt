@@ -1,5 +1,5 @@
 -- Parts of no item, of one more item, of pieces side by side.
-use Rattle.std.proofs.Common.{◌≡◌, ℕ, ℤ, pos, suc, Bool, true, false, List, [], ◌∷◌, ◌++◌, length, map as each_of, Option, Ok, Err, refl, sym, ap, subst, ◌∙◌, append_assoc, arith}
+use Rattle.std.proofs.Common.{◌≡◌, ℕ, ℤ, pos, suc, Bool, true, false, List, [], ◌∷◌, ◌++◌, length, map as each_of, Option, Result, Ok, Err, OnOk, refl, sym, ap, subst, ◌∙◌, append_assoc, arith}
 use Rattle.lambda_expr.specs.Earlier.{Numbers}
 use Rattle.trace.specs.declared.item.Item.{Item}
 use Rattle.trace.specs.declared.item.Fault.{Fault}
@@ -17,6 +17,11 @@ use Rattle.slice_ops.proofs.GrownPartLemmas.{settled as slice_settled}
 use Rattle.find_ops.specs.declared.find_part.FindPart.{FindPart}
 use Rattle.find_ops.proofs.DecisionLemmas.{settled as find_settled}
 use Rattle.job_plan.specs.Arrays.{AbstractArray, array, array_of, values_then, array_append}
+use Rattle.reduce_ops.specs.Operators.{value_of}
+use Rattle.slice_ops.specs.Parts.{StandsFor as SliceStands}
+use Rattle.slice_ops.specs.Slices.{sliced}
+use Rattle.prefix_scan.specs.Prefixes.{prefixed}
+use Rattle.job_plan.specs.Scans.{AbstractScan, scan, scan_append}
 use Rattle.job_plan.specs.declared.answer.Answer.{Answer}
 use Rattle.job_plan.specs.declared.answer.Answer.TheVariants as answer
 use Rattle.job_plan.specs.declared.part.FoldPart.{FoldPart}
@@ -26,7 +31,7 @@ use Rattle.job_plan.specs.declared.outcome.Outcome.TheVariants as outcome
 use Rattle.job_plan.specs.declared.segment.Segment.{Segment}
 use Rattle.job_plan.specs.declared.segment.JobPlan.{JobPlan}
 use Rattle.job_plan.specs.Parts.{IsFold, EndsFor, StandsFor, is_settled, is_fault, segment_in, segments_in, plan_in, plans_in}
-use Rattle.job_plan.specs.Plans.{AbstractEnd, slicing, folding, finding, collecting, AbstractSegment, AbstractPlan, counted_as, ended, walk_of, last_stage}
+use Rattle.job_plan.specs.Plans.{AbstractEnd, slicing, folding, finding, collecting, scanning, AbstractSegment, AbstractPlan, counted_as, ended, walk_of, last_stage}
 use Rattle.job_plan.specs.Walks.{unless_fault}
 
 -- ---- folds
@@ -118,18 +123,27 @@ settled (slicing d) n env (part.Slice p) a b h s = slice_settled n env a b d p h
 settled (slicing d) n env (part.Fold p) a b h s = s
 settled (slicing d) n env (part.Find p) a b h s = s
 settled (slicing d) n env (part.Array p) a b h s = s
+settled (slicing d) n env (part.Prefix p) a b h s = s
 settled (folding f i c) n env (part.Slice p) a b h s = s
 settled (folding f i c) n env (part.Fold p) a b h s = subst (λ (t : Trace). IsFold f i c p t) (sym (faulted_stays a b (ap is_fault (sym s.stands.ending) ∙ h))) s
 settled (folding f i c) n env (part.Find p) a b h s = s
 settled (folding f i c) n env (part.Array p) a b h s = s
+settled (folding f i c) n env (part.Prefix p) a b h s = s
 settled (finding d) n env (part.Slice p) a b h s = s
 settled (finding d) n env (part.Fold p) a b h s = s
 settled (finding d) n env (part.Find p) a b h s = find_settled d n env p a b h s
 settled (finding d) n env (part.Array p) a b h s = s
+settled (finding d) n env (part.Prefix p) a b h s = s
 settled collecting n env (part.Slice p) a b h s = s
 settled collecting n env (part.Fold p) a b h s = s
 settled collecting n env (part.Find p) a b h s = s
 settled collecting n env (part.Array p) a b h s = s ∙ ap array_of (sym (faulted_stays a b (ap (λ (k : AbstractArray). is_fault k.ending) (sym s) ∙ h)))
+settled collecting n env (part.Prefix p) a b h s = s
+settled (scanning f r) n env (part.Slice p) a b h s = s
+settled (scanning f r) n env (part.Fold p) a b h s = s
+settled (scanning f r) n env (part.Find p) a b h s = s
+settled (scanning f r) n env (part.Array p) a b h s = s
+settled (scanning f r) n env (part.Prefix p) a b h s = s ∙ ap (scan f r n) (sym (faulted_stays a b (ap (λ (k : AbstractScan). is_fault k.walk.ending) (sym s) ∙ h)))
 
 -- ---- arrays
 
@@ -163,9 +177,11 @@ module _ (e : AbstractEnd) (n : ℕ) (env : Numbers) (a b : Trace) where
       by (slicing d) (part.Fold q) s t h = t
       by (slicing d) (part.Find q) s t h = t
       by (slicing d) (part.Array q) s t h = t
+      by (slicing d) (part.Prefix q) s t h = t
       by (folding f i c) q s t h = s
       by (finding d) q s t h = s
       by collecting q s t h = s
+      by (scanning f r) q s t h = s
 
   pub only_folds : (p : FoldPart) (q : Part) → ((x : FoldPart) → q ≡ part.Fold x → ⊥) → EndsFor e n env (part.Fold p) a → EndsFor e n env q b → ⊥
   only_folds p q other s t = by e q s t other
@@ -176,8 +192,10 @@ module _ (e : AbstractEnd) (n : ℕ) (env : Numbers) (a b : Trace) where
       by (folding f i c) (part.Fold q) s t h = h q refl
       by (folding f i c) (part.Find q) s t h = t
       by (folding f i c) (part.Array q) s t h = t
+      by (folding f i c) (part.Prefix q) s t h = t
       by (finding d) q s t h = s
       by collecting q s t h = s
+      by (scanning f r) q s t h = s
 
   pub only_finds : (p : FindPart) (q : Part) → ((x : FindPart) → q ≡ part.Find x → ⊥) → EndsFor e n env (part.Find p) a → EndsFor e n env q b → ⊥
   only_finds p q other s t = by e q s t other
@@ -189,7 +207,9 @@ module _ (e : AbstractEnd) (n : ℕ) (env : Numbers) (a b : Trace) where
       by (finding d) (part.Fold q) s t h = t
       by (finding d) (part.Find q) s t h = h q refl
       by (finding d) (part.Array q) s t h = t
+      by (finding d) (part.Prefix q) s t h = t
       by collecting q s t h = s
+      by (scanning f r) q s t h = s
 
   pub only_arrays : (p : AbstractArray) (q : Part) → ((x : AbstractArray) → q ≡ part.Array x → ⊥) → EndsFor e n env (part.Array p) a → EndsFor e n env q b → ⊥
   only_arrays p q other s t = by e q s t other
@@ -202,6 +222,8 @@ module _ (e : AbstractEnd) (n : ℕ) (env : Numbers) (a b : Trace) where
       by collecting (part.Fold q) s t h = t
       by collecting (part.Find q) s t h = t
       by collecting (part.Array q) s t h = h q refl
+      by collecting (part.Prefix q) s t h = t
+      by (scanning f r) q s t h = s
 
   -- parts of one kind side by side
   pub slices_merge : (p q r : SlicePart) → ((d : _) → EndsFor (slicing d) n env (part.Slice p) a → EndsFor (slicing d) n env (part.Slice q) b → EndsFor (slicing d) n env (part.Slice r) (append a b))
@@ -213,6 +235,7 @@ module _ (e : AbstractEnd) (n : ℕ) (env : Numbers) (a b : Trace) where
       by (folding f i c) s t = s
       by (finding d) s t = s
       by collecting s t = s
+      by (scanning f r) s t = s
 
   pub folds_merge : (p q r : FoldPart) → ((f : Op) (i : Option ℤ) (c : Bool) → IsFold f i c p a → IsFold f i c q b → IsFold f i c r (append a b))
       → EndsFor e n env (part.Fold p) a → EndsFor e n env (part.Fold q) b → EndsFor e n env (part.Fold r) (append a b)
@@ -223,6 +246,7 @@ module _ (e : AbstractEnd) (n : ℕ) (env : Numbers) (a b : Trace) where
       by (folding f i c) s t = merged f i c s t
       by (finding d) s t = s
       by collecting s t = s
+      by (scanning g r) s t = s
 
   pub finds_merge : (p q r : FindPart) → ((d : _) → EndsFor (finding d) n env (part.Find p) a → EndsFor (finding d) n env (part.Find q) b → EndsFor (finding d) n env (part.Find r) (append a b))
       → EndsFor e n env (part.Find p) a → EndsFor e n env (part.Find q) b → EndsFor e n env (part.Find r) (append a b)
@@ -233,6 +257,7 @@ module _ (e : AbstractEnd) (n : ℕ) (env : Numbers) (a b : Trace) where
       by (folding f i c) s t = s
       by (finding d) s t = merged d s t
       by collecting s t = s
+      by (scanning f r) s t = s
 
   pub arrays_merge : (p q r : AbstractArray) → r ≡ array_append p q → EndsFor e n env (part.Array p) a → EndsFor e n env (part.Array q) b → EndsFor e n env (part.Array r) (append a b)
   arrays_merge p q r is = by e
@@ -242,6 +267,33 @@ module _ (e : AbstractEnd) (n : ℕ) (env : Numbers) (a b : Trace) where
       by (folding f i c) s t = s
       by (finding d) s t = s
       by collecting s t = is ∙ (λ i. array_append (s i) (t i)) ∙ sym (array_joined a b)
+      by (scanning f r) s t = s
+
+  -- of one end, parts have one kind
+  pub only_prefixes : (p : AbstractScan) (q : Part) → ((x : AbstractScan) → q ≡ part.Prefix x → ⊥) → EndsFor e n env (part.Prefix p) a → EndsFor e n env q b → ⊥
+  only_prefixes p q other s t = by e q s t other
+    where
+      by : (e : AbstractEnd) (q : Part) → EndsFor e n env (part.Prefix p) a → EndsFor e n env q b → ((x : AbstractScan) → q ≡ part.Prefix x → ⊥) → ⊥
+      by (slicing d) q s t h = s
+      by (folding f i c) q s t h = s
+      by (finding d) q s t h = s
+      by collecting q s t h = s
+      by (scanning f r) (part.Slice q) s t h = t
+      by (scanning f r) (part.Fold q) s t h = t
+      by (scanning f r) (part.Find q) s t h = t
+      by (scanning f r) (part.Array q) s t h = t
+      by (scanning f r) (part.Prefix q) s t h = h q refl
+
+  -- prefixes of pieces side by side
+  pub prefixes_merge : (p q r : AbstractScan) → (q.op ≡ p.op → r ≡ scan_append p q.walk) → EndsFor e n env (part.Prefix p) a → EndsFor e n env (part.Prefix q) b → EndsFor e n env (part.Prefix r) (append a b)
+  prefixes_merge p q r is = by e
+    where
+      by : (e : AbstractEnd) → EndsFor e n env (part.Prefix p) a → EndsFor e n env (part.Prefix q) b → EndsFor e n env (part.Prefix r) (append a b)
+      by (slicing d) s t = s
+      by (folding f i c) s t = s
+      by (finding d) s t = s
+      by collecting s t = s
+      by (scanning f g) s t = is (ap (λ (x : AbstractScan). x.op) t ∙ sym (ap (λ (x : AbstractScan). x.op) s)) ∙ (λ i. scan_append (s i) (t i).walk)
 
 -- the number of the stage that ends a segment
 pub length-stages_of : (gs : List Stage) → length (stages_of gs) ≡ length gs
@@ -272,6 +324,7 @@ pub array_ends : (e : AbstractEnd) (n : ℕ) (env : Numbers) (c : AbstractArray)
 array_ends (slicing d) n env c w a s is = absurd s
 array_ends (folding f i k) n env c w a s is = absurd s
 array_ends (finding d) n env c w a s is = absurd s
+array_ends (scanning f r) n env c w a s is = absurd s
 array_ends collecting n env c w a s is = ap outcome.Answer (is ∙ ap (λ (k : AbstractArray). unless_fault k.ending (answer.Array k.values)) s)
 
 -- an array goes on
@@ -279,6 +332,7 @@ pub array_goes_on : (e : AbstractEnd) (n : ℕ) (env : Numbers) (p r : AbstractA
 array_goes_on (slicing d) n env p r t u is s = s
 array_goes_on (folding f i c) n env p r t u is s = s
 array_goes_on (finding d) n env p r t u is s = s
+array_goes_on (scanning f g) n env p r t u is s = s
 array_goes_on collecting n env p r t u is s = is ∙ ap (λ (k : AbstractArray). array_append k (array_of u)) s ∙ sym (array_joined t u)
 
 -- values after those of an array that is done
@@ -292,7 +346,37 @@ fold_goes_on (slicing d) n env p r t u go s = s
 fold_goes_on (folding f i c) n env p r t u go s = go f i c s
 fold_goes_on (finding d) n env p r t u go s = s
 fold_goes_on collecting n env p r t u go s = s
+fold_goes_on (scanning f g) n env p r t u go s = s
 
 pub no_items : {A : Type 0} (xs : List A) → length xs ≡ 0 → xs ≡ []
 no_items [] h = refl
 no_items (x ∷ xs) h = absurd (omega arith)
+
+-- a prefix goes on
+pub scan_goes_on : (e : AbstractEnd) (n : ℕ) (env : Numbers) (p r : AbstractScan) (t u : Trace) → r ≡ scan_append p u → EndsFor e n env (part.Prefix p) t → EndsFor e n env (part.Prefix r) (append t u)
+scan_goes_on (slicing d) n env p r t u is s = s
+scan_goes_on (folding f i c) n env p r t u is s = s
+scan_goes_on (finding d) n env p r t u is s = s
+scan_goes_on collecting n env p r t u is s = s
+scan_goes_on (scanning f g) n env p r t u is s = is ∙ ap (λ (x : AbstractScan). scan_append x u) s
+
+-- what a prefix gives
+pub scan_ends : (e : AbstractEnd) (n : ℕ) (env : Numbers) (p : AbstractScan) (w t : Trace) → EndsFor e n env (part.Prefix p) w → t ≡ prefixed (value_of p.op) p.range p.stage p.walk → outcome.Source t ≡ ended e n env w
+scan_ends (slicing d) n env p w t s is = absurd s
+scan_ends (folding f i k) n env p w t s is = absurd s
+scan_ends (finding d) n env p w t s is = absurd s
+scan_ends collecting n env p w t s is = absurd s
+scan_ends (scanning f r) n env p w t s is = ap outcome.Source (is ∙ ap (λ (x : AbstractScan). prefixed (value_of x.op) x.range x.stage x.walk) s)
+
+-- what a slice gives
+pub slice_ends : (e : AbstractEnd) (n : ℕ) (env : Numbers) (p : SlicePart) (w t : Trace) → ((d : _) → SliceStands d n env p w → t ≡ sliced d n env w) → EndsFor e n env (part.Slice p) w → outcome.Source t ≡ ended e n env w
+slice_ends (slicing d) n env p w t is s = ap outcome.Source (is d s)
+slice_ends (folding f i k) n env p w t is s = absurd s
+slice_ends (finding d) n env p w t is s = absurd s
+slice_ends collecting n env p w t is s = absurd s
+slice_ends (scanning f r) n env p w t is s = absurd s
+
+-- what follows from a fact follows where the answer is Ok
+pub on_ok_map : {A E P Q : Type 0} (r : Result A E) → (P → Q) → OnOk r P → OnOk r Q
+on_ok_map (Ok a) f p = f p
+on_ok_map (Err e) f p = p

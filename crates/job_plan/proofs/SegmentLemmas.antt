@@ -1,25 +1,17 @@
 -- The segments of a job, in turn, give the walk by stages.
-use Rattle.std.proofs.Common.{◌≡◌, ℕ, suc, ◌+◌, Bool, true, false, List, [], ◌∷◌, ◌++◌, length, length-append, refl, ap, ◌∙◌, arith}
-use Rattle.std.specs.Prelude.{◌&&◌}
+use Rattle.std.proofs.Common.{◌≡◌, ℕ, suc, ◌+◌, List, [], ◌∷◌, ◌++◌, length, length-append, Some, None, refl, ap, ◌∙◌, arith}
 use Rattle.lambda_expr.specs.Earlier.{Numbers}
 use Rattle.trace.specs.Stages.{AbstractStage, through, pipe}
 use Rattle.trace.specs.Trace.{Trace}
 use Rattle.reduce_ops.proofs.FoldLemmas.{wrapped_sum, counted}
+use Rattle.reduce_ops.specs.Operators.{value_of}
 use Rattle.slice_ops.specs.Slices.{sliced}
-use Rattle.job_language.specs.Jobs.{AbstractJobStage, item, slice, prefix, prefix_range, AbstractTerminal, sum, count, min, max, to_array, reduce, reduce_from, find, AbstractJob}
+use Rattle.prefix_scan.specs.Prefixes.{prefixed}
+use Rattle.job_language.specs.Jobs.{AbstractPlainSource, AbstractJobStage, item, slice, prefix, prefix_range, AbstractTerminal, sum, count, min, max, to_array, reduce, reduce_from, find, AbstractJob}
 use Rattle.job_plan.specs.declared.answer.Answer.{Answer}
 use Rattle.job_plan.specs.declared.answer.Answer.TheVariants as answer
-use Rattle.job_plan.specs.Supported.{is_supported, sources_are_supported, stage_is_supported, stages_are_supported, terminal_is_supported}
 use Rattle.job_plan.specs.Walks.{after_stages, answer_of, answer_of_job, source_walk, unless_fault}
 use Rattle.job_plan.specs.Plans.{end_of, ended, on_outcome, plan_of, planned_answer, segments_answer, segments_from}
-
-pub and_left : (a b : Bool) → (a && b) ≡ true → a ≡ true
-and_left true b h = refl
-and_left false b h = absurd (let z : false ≡ true = h in cc)
-
-pub and_right : (a b : Bool) → (a && b) ≡ true → b ≡ true
-and_right true b h = h
-and_right false b h = absurd (let z : false ≡ true = h in cc)
 
 -- one stage more
 pipe_then : (n : ℕ) (gs : List AbstractStage) (g : AbstractStage) (env : Numbers) (t : Trace) → pipe n (gs ++ g ∷ []) env t ≡ through (n + length gs) g env (pipe n gs env t)
@@ -39,31 +31,46 @@ terminal_ends (reduce f) n env t later = refl
 terminal_ends (reduce_from a f) n env t later = refl
 terminal_ends (find d) n env t later = refl
 
-in_turn : (n : ℕ) (gs : List AbstractStage) (rest : List AbstractJobStage) (d : AbstractTerminal) (env : Numbers) (t : Trace) → stages_are_supported rest ≡ true
+in_turn : (n : ℕ) (gs : List AbstractStage) (rest : List AbstractJobStage) (d : AbstractTerminal) (env : Numbers) (t : Trace)
     → segments_answer (segments_from n gs rest d) env t ≡ answer_of (n + length gs + length rest) env d (after_stages (n + length gs) rest env (pipe n gs env t))
-in_turn n gs [] d env t h =
+in_turn n gs [] d env t =
     let e : n + length gs ≡ n + length gs + 0 = omega arith in
     terminal_ends d (n + length gs) env (pipe n gs env t) (segments_answer [] env) ∙ ap (λ (m : ℕ). answer_of m env d (pipe n gs env t)) e
-in_turn n gs (item g ∷ rest) d env t h =
+in_turn n gs (item g ∷ rest) d env t =
     let l = length-append gs (g ∷ []) in
     let e : n + length (gs ++ g ∷ []) ≡ suc (n + length gs) = omega arith in
     let k : n + length (gs ++ g ∷ []) + length rest ≡ n + length gs + suc (length rest) = omega arith in
-    in_turn n (gs ++ g ∷ []) rest d env t (and_right (stage_is_supported (item g)) (stages_are_supported rest) h)
+    in_turn n (gs ++ g ∷ []) rest d env t
     ∙ (λ i. answer_of (k i) env d (after_stages (e i) rest env (pipe_then n gs g env t i)))
-in_turn n gs (slice s ∷ rest) d env t h =
+in_turn n gs (slice s ∷ rest) d env t =
     let m : ℕ = suc (n + length gs) in
     let e : m + 0 ≡ suc (n + length gs) = omega arith in
     let k : m + 0 + length rest ≡ n + length gs + suc (length rest) = omega arith in
     let u : Trace = sliced s (n + length gs) env (pipe n gs env t) in
-    in_turn m [] rest d env u (and_right (stage_is_supported (slice s)) (stages_are_supported rest) h)
+    in_turn m [] rest d env u
     ∙ (λ i. answer_of (k i) env d (after_stages (e i) rest env u))
-in_turn n gs (prefix f ∷ rest) d env t h = absurd (let z : false ≡ true = h in cc)
-in_turn n gs (prefix_range a b f ∷ rest) d env t h = absurd (let z : false ≡ true = h in cc)
+in_turn n gs (prefix f ∷ rest) d env t =
+    let m : ℕ = suc (n + length gs) in
+    let e : m + 0 ≡ suc (n + length gs) = omega arith in
+    let k : m + 0 + length rest ≡ n + length gs + suc (length rest) = omega arith in
+    let u : Trace = prefixed (value_of f) None (n + length gs) (pipe n gs env t) in
+    in_turn m [] rest d env u
+    ∙ (λ i. answer_of (k i) env d (after_stages (e i) rest env u))
+in_turn n gs (prefix_range a b f ∷ rest) d env t =
+    let m : ℕ = suc (n + length gs) in
+    let e : m + 0 ≡ suc (n + length gs) = omega arith in
+    let k : m + 0 + length rest ≡ n + length gs + suc (length rest) = omega arith in
+    let u : Trace = prefixed (value_of f) (Some (a, b)) (n + length gs) (pipe n gs env t) in
+    in_turn m [] rest d env u
+    ∙ (λ i. answer_of (k i) env d (after_stages (e i) rest env u))
 
-pub planned : (env : Numbers) (job : AbstractJob) → is_supported job ≡ true → planned_answer env (plan_of job) ≡ answer_of_job env job
-planned env job h =
-    let stages = and_left (stages_are_supported job.stages) (terminal_is_supported job.terminal) (and_right (sources_are_supported job.sources) (stages_are_supported job.stages && terminal_is_supported job.terminal) h) in
+pub planned_job : (env : Numbers) (sources : List AbstractPlainSource) (stages : List AbstractJobStage) (terminal : AbstractTerminal)
+    → segments_answer (segments_from 1 [] stages terminal) env (source_walk sources) ≡ answer_of (suc (length stages)) env terminal (after_stages 1 stages env (source_walk sources))
+planned_job env sources stages terminal =
     let one : 1 + 0 ≡ 1 = omega arith in
-    let k : 1 + 0 + length job.stages ≡ suc (length job.stages) = omega arith in
-    in_turn 1 [] job.stages job.terminal env (source_walk job.sources) stages
-    ∙ (λ i. answer_of (k i) env job.terminal (after_stages (one i) job.stages env (source_walk job.sources)))
+    let k : 1 + 0 + length stages ≡ suc (length stages) = omega arith in
+    in_turn 1 [] stages terminal env (source_walk sources)
+    ∙ (λ i. answer_of (k i) env terminal (after_stages (one i) stages env (source_walk sources)))
+
+pub planned : (env : Numbers) (before : List (List ℕ)) (job : AbstractJob) → planned_answer env (plan_of before job) ≡ answer_of_job env job
+planned env before job = planned_job env job.sources job.stages job.terminal

@@ -1,10 +1,11 @@
 -- Meaning: the answers of the jobs of a file.
-use Rattle.std.specs.Prelude.{ℕ, ℤ, List, [], ◌∷◌, ◌++◌, Some, None}
+use Rattle.std.specs.Prelude.{ℕ, suc, ℤ, Bool, true, false, if◌then◌else◌, List, [], ◌∷◌, ◌++◌, Option, Some, None}
 use Rattle.lambda_expr.specs.declared.env.NamedNumber.{NamedNumber}
 use Rattle.lambda_expr.specs.Earlier.{Numbers}
-use Rattle.job_language.specs.Jobs.{AbstractJob}
+use Rattle.job_language.specs.Jobs.{AbstractPlainSource, range, range_closed, values, result, AbstractJob}
 use Rattle.job_plan.specs.declared.answer.Answer.{Answer}
 use Rattle.job_plan.specs.declared.answer.Answer.TheVariants as answer
+use Rattle.job_plan.specs.Names.{names_in_job, same_name}
 use Rattle.job_plan.specs.Walks.{answer_of_job}
 
 -- the answer of a job, under the job's name
@@ -12,44 +13,110 @@ pub record NamedAnswer : Type 0 where
   pub name : List ℕ
   pub answer : Answer
 
--- helper: a number under a name
-abbrev pub numbered : List ℕ → ℤ → NamedNumber
-numbered name z = record { name = name; number = z }
+-- helper: the same, one place later
+abbrev pub found_later : Option (ℕ × Answer) → Option (ℕ × Answer)
+found_later None = None
+found_later (Some found) = Some (suc found.0, found.1)
+
+-- the place of the first job with this name among these, counted from 0, and its answer, if there is such a job
+abbrev pub found : List NamedAnswer → List ℕ → Option (ℕ × Answer)
+found [] name = None
+found (a ∷ more) name = if same_name a.name name then Some (0, a.answer) else found_later (found more name)
+
+-- whether a job that names a job with this answer can be run: not if that is a fault, an empty optional or unusable
+abbrev pub is_usable : Answer → Bool
+is_usable (answer.Number z) = true
+is_usable (answer.Truth b) = true
+is_usable (answer.Optional None) = false
+is_usable (answer.Optional (Some z)) = true
+is_usable (answer.Array vs) = true
+is_usable (answer.Fault f) = false
+is_usable (answer.Unusable place) = false
+
+-- helper: the place of a job, if its answer can't be used
+abbrev pub unless_usable : ℕ → Answer → Option ℕ
+unless_usable place a = if is_usable a then None else Some place
+
+abbrev pub unusable_at : Option (ℕ × Answer) → Option ℕ
+unusable_at None = None
+unusable_at (Some found) = unless_usable found.0 found.1
+
+-- helper: the first of two places, if they are known
+abbrev pub or_else : Option ℕ → Option ℕ → Option ℕ
+or_else None later = later
+or_else (Some place) later = Some place
+
+-- the first job among these, in order of writing, whose answer can't be used
+abbrev pub first_unusable : List NamedAnswer → List (List ℕ) → Option ℕ
+first_unusable before [] = None
+first_unusable before (name ∷ names) = or_else (unusable_at (found before name)) (first_unusable before names)
 
 -- the number that `$name` stands for, if the answer under this name is one: a number, or the value of an optional
-abbrev pub number_in : List ℕ → Answer → Numbers
-number_in name (answer.Number z) = numbered name z ∷ []
-number_in name (answer.Truth b) = []
-number_in name (answer.Optional None) = []
-number_in name (answer.Optional (Some z)) = numbered name z ∷ []
-number_in name (answer.Array vs) = []
-number_in name (answer.Fault f) = []
-number_in name (answer.Unusable j) = []
+abbrev pub number_of : Answer → Option ℤ
+number_of (answer.Number z) = Some z
+number_of (answer.Truth b) = None
+number_of (answer.Optional v) = v
+number_of (answer.Array vs) = None
+number_of (answer.Fault f) = None
+number_of (answer.Unusable place) = None
 
--- those of several answers
-abbrev pub numbers_in : List NamedAnswer → Numbers
-numbers_in [] = []
-numbers_in (a ∷ more) = number_in a.name a.answer ++ numbers_in more
+-- helper: a number under a name, if there is one
+abbrev pub numbered : List ℕ → Option ℤ → Numbers
+numbered name None = []
+numbered name (Some z) = record { name = name; number = z } ∷ []
 
--- the answer of a job after those of the jobs before it
-abbrev pub answer_after : List NamedAnswer → AbstractJob → NamedAnswer
-answer_after before job = record { name = job.name; answer = answer_of_job (numbers_in before) job }
+abbrev pub number_found : List ℕ → Option (ℕ × Answer) → Numbers
+number_found name None = []
+number_found name (Some found) = numbered name (number_of found.1)
+
+-- the numbers that the `$` names among these stand for, in order of writing
+abbrev pub numbers_named : List NamedAnswer → List (List ℕ) → Numbers
+numbers_named before [] = []
+numbers_named before (name ∷ names) = number_found name (found before name) ++ numbers_named before names
+
+-- the values of an array; of any other answer none
+abbrev pub array_of : Answer → List ℤ
+array_of (answer.Number z) = []
+array_of (answer.Truth b) = []
+array_of (answer.Optional v) = []
+array_of (answer.Array vs) = vs
+array_of (answer.Fault f) = []
+array_of (answer.Unusable place) = []
+
+-- helper: those of the job that was found
+abbrev pub array_found : Option (ℕ × Answer) → List ℤ
+array_found None = []
+array_found (Some found) = array_of found.1
+
+-- a source, with the array in place of `result(name)`
+abbrev pub put_in : List NamedAnswer → AbstractPlainSource → AbstractPlainSource
+put_in before (range a b) = range a b
+put_in before (range_closed a b) = range_closed a b
+put_in before (values vs) = values vs
+put_in before (result name) = values (array_found (found before name))
+
+-- several sources
+abbrev pub all_put_in : List NamedAnswer → List AbstractPlainSource → List AbstractPlainSource
+all_put_in before [] = []
+all_put_in before (s ∷ ss) = put_in before s ∷ all_put_in before ss
+
+-- helper: unusable because of the job at this place, or else this answer
+abbrev pub unless_unusable : Option ℕ → Answer → Answer
+unless_unusable None a = a
+unless_unusable (Some place) a = answer.Unusable place
+
+-- the answer of a job after the jobs before it: unusable because of the first job that it names whose answer can't be used, or
+-- the answer of its walk, with the numbers and arrays of the jobs that it names
+abbrev pub answer_after : List NamedAnswer → AbstractJob → Answer
+answer_after before job =
+    unless_unusable (first_unusable before (names_in_job job))
+    (answer_of_job (numbers_named before (names_in_job job)) (record { name = job.name; sources = all_put_in before job.sources; stages = job.stages; terminal = job.terminal }))
 
 -- the answers of jobs in file order, after those of the jobs before them
-abbrev pub answers_from : List NamedAnswer → List AbstractJob → List NamedAnswer
-answers_from before [] = []
-answers_from before (job ∷ jobs) = answer_after before job ∷ answers_from (before ++ answer_after before job ∷ []) jobs
-
--- answers without their names
-abbrev pub answers_in : List NamedAnswer → List Answer
-answers_in [] = []
-answers_in (a ∷ more) = a.answer ∷ answers_in more
+abbrev pub answers_after : List NamedAnswer → List AbstractJob → List Answer
+answers_after before [] = []
+answers_after before (job ∷ jobs) = answer_after before job ∷ answers_after (before ++ record { name = job.name; answer = answer_after before job } ∷ []) jobs
 
 -- the answers of the jobs of a file, in file order
 abbrev pub meaning_of : List AbstractJob → List Answer
-meaning_of jobs = answers_in (answers_from [] jobs)
-
--- the answers of jobs, each by itself
-abbrev pub answers_alone : List AbstractJob → List Answer
-answers_alone [] = []
-answers_alone (job ∷ jobs) = answer_of_job [] job ∷ answers_alone jobs
+meaning_of jobs = answers_after [] jobs

@@ -15,7 +15,9 @@ use Rattle.slice_ops.specs.Parts.{StandsFor as SliceStands, is_settled as slice_
 use Rattle.find_ops.specs.Finds.{find_of}
 use Rattle.find_ops.specs.Parts.{StandsFor as FindStands}
 use Rattle.job_language.specs.Jobs.{sources_of}
+use Rattle.early_stop.specs.Leaving.{IsEnough}
 use Rattle.job_plan.specs.Arrays.{array_of}
+use Rattle.job_plan.specs.Scans.{scan}
 use Rattle.job_plan.specs.declared.part.FoldPart.{FoldPart}
 use Rattle.job_plan.specs.declared.part.Part.{Part}
 use Rattle.job_plan.specs.declared.part.Part.TheVariants as part
@@ -25,7 +27,7 @@ use Rattle.job_plan.specs.declared.segment.Segment.{Segment}
 use Rattle.job_plan.specs.declared.segment.JobPlan.{JobPlan}
 use Rattle.job_plan.specs.declared.source.Source.{Source}
 use Rattle.job_plan.specs.declared.source.Source.TheVariants as source
-use Rattle.job_plan.specs.Plans.{AbstractEnd, slicing, folding, finding, collecting, AbstractSegment, AbstractPlan, counted_as, walk_of, last_stage}
+use Rattle.job_plan.specs.Plans.{AbstractEnd, slicing, folding, finding, collecting, scanning, AbstractSegment, AbstractPlan, counted_as, walk_of, last_stage}
 use Rattle.job_plan.specs.Walks.{source_walk}
 use Rattle.job_plan.specs.Windows.{windowed}
 
@@ -35,6 +37,7 @@ end_in (ends.Slice d) = slicing (slice_of d)
 end_in (ends.Fold f) = folding f.op f.start f.counts
 end_in (ends.Find d) = finding (find_of d)
 end_in ends.Array = collecting
+end_in (ends.Prefix p) = scanning p.op p.range
 
 -- a segment of the program, and several
 abbrev pub segment_in : Segment → AbstractSegment
@@ -46,11 +49,16 @@ segments_in (s ∷ ss) = segment_in s ∷ segments_in ss
 
 -- a job of the program in segments, and several
 abbrev pub plan_in : JobPlan → AbstractPlan
-plan_in j = record { name = j.name; sources = sources_of j.sources.items; segments = segments_in j.segments.items }
+plan_in j = record { name = j.name; named = j.named.items; sources = sources_of j.sources.items; segments = segments_in j.segments.items }
 
 abbrev pub plans_in : List JobPlan → List AbstractPlan
 plans_in [] = []
 plans_in (j ∷ js) = plan_in j ∷ plans_in js
+
+-- the names of jobs of the program
+abbrev pub plan_names : List JobPlan → List (List ℕ)
+plan_names [] = []
+plan_names (j ∷ js) = j.name ∷ plan_names js
 
 -- the walk over a source of the program
 abbrev pub walk_in : Source → Trace
@@ -70,18 +78,27 @@ EndsFor (slicing d) n env (part.Slice p) t = SliceStands d n env p t
 EndsFor (slicing d) n env (part.Fold p) t = ⊥
 EndsFor (slicing d) n env (part.Find p) t = ⊥
 EndsFor (slicing d) n env (part.Array c) t = ⊥
+EndsFor (slicing d) n env (part.Prefix p) t = ⊥
 EndsFor (folding f a counts) n env (part.Slice p) t = ⊥
 EndsFor (folding f a counts) n env (part.Fold p) t = IsFold f a counts p t
 EndsFor (folding f a counts) n env (part.Find p) t = ⊥
 EndsFor (folding f a counts) n env (part.Array c) t = ⊥
+EndsFor (folding f a counts) n env (part.Prefix p) t = ⊥
 EndsFor (finding d) n env (part.Slice p) t = ⊥
 EndsFor (finding d) n env (part.Fold p) t = ⊥
 EndsFor (finding d) n env (part.Find p) t = FindStands d n env p t
 EndsFor (finding d) n env (part.Array c) t = ⊥
+EndsFor (finding d) n env (part.Prefix p) t = ⊥
 EndsFor collecting n env (part.Slice p) t = ⊥
 EndsFor collecting n env (part.Fold p) t = ⊥
 EndsFor collecting n env (part.Find p) t = ⊥
 EndsFor collecting n env (part.Array c) t = c ≡ array_of t
+EndsFor collecting n env (part.Prefix p) t = ⊥
+EndsFor (scanning f r) n env (part.Slice p) t = ⊥
+EndsFor (scanning f r) n env (part.Fold p) t = ⊥
+EndsFor (scanning f r) n env (part.Find p) t = ⊥
+EndsFor (scanning f r) n env (part.Array c) t = ⊥
+EndsFor (scanning f r) n env (part.Prefix p) t = p ≡ scan f r n t
 
 -- a part has taken these items
 abbrev pub HasTaken : AbstractEnd → ℕ → Numbers → Part → List Item → Type 0
@@ -90,6 +107,10 @@ HasTaken e n env p xs = EndsFor e n env p (trace xs end.Done)
 -- a part stands for a piece of a segment's source
 abbrev pub StandsFor : AbstractSegment → Numbers → Part → Trace → Type 0
 StandsFor s env p t = EndsFor s.ending (last_stage s) env p (walk_of s env t)
+
+-- a part stands for enough of the piece of a segment's source that begins at this place: all of it, or what comes before a place that decides
+abbrev pub StandsEnough : (ℕ → Type 0) → AbstractSegment → Numbers → Part → ℕ → Trace → Type 0
+StandsEnough decides s env p at piece = (t : Trace) × IsEnough decides at piece t × StandsFor s env p t
 
 -- helper: whether a walk ended in a fault
 abbrev pub is_fault : End → Bool
@@ -102,6 +123,7 @@ is_settled (part.Slice p) = slice_is_settled p
 is_settled (part.Fold p) = is_fault p.partial.end
 is_settled (part.Find p) = is_some p.decision
 is_settled (part.Array c) = is_fault c.ending
+is_settled (part.Prefix p) = is_fault p.walk.ending
 
 -- whether a part keeps items; to merge it may then take memory
 abbrev pub keeps_items : Part → Bool
@@ -109,6 +131,7 @@ keeps_items (part.Slice p) = true
 keeps_items (part.Fold p) = false
 keeps_items (part.Find p) = false
 keeps_items (part.Array c) = true
+keeps_items (part.Prefix p) = true
 
 -- whether a part takes more items
 abbrev pub flow_of : Bool → Flow

@@ -9,21 +9,25 @@ use Rattle.reduce_ops.specs.declared.op.Op.TheVariants as op
 use Rattle.reduce_ops.specs.Folds.{fold_from, fold_items, ones}
 use Rattle.reduce_ops.specs.Operators.{value_of}
 use Rattle.slice_ops.specs.Slices.{AbstractSlice, sliced}
+use Rattle.prefix_scan.specs.Prefixes.{Range, prefixed}
 use Rattle.find_ops.specs.Finds.{Find, find_answer}
 use Rattle.job_language.specs.Jobs.{AbstractPlainSource, AbstractJobStage, item, slice, prefix, prefix_range, AbstractTerminal, sum, count, min, max, to_array, reduce, reduce_from, find, AbstractJob}
 use Rattle.job_plan.specs.declared.answer.Answer.{Answer}
 use Rattle.job_plan.specs.declared.answer.Answer.TheVariants as answer
 use Rattle.job_plan.specs.declared.outcome.Outcome.{Outcome}
 use Rattle.job_plan.specs.declared.outcome.Outcome.TheVariants as outcome
+use Rattle.job_plan.specs.declared.segment.Named.{Named}
+use Rattle.job_plan.specs.Names.{names_in_job, place_of}
 use Rattle.job_plan.specs.Walks.{found_answer, source_walk, unless_fault}
 
 -- the end of a segment: a stage that looks at a whole walk, a fold (its operator, its start, and whether it counts), a
--- find or a match, or the values
+-- find or a match, the values, or a prefix (its operator and its range)
 pub data AbstractEnd : Type 0 where
   slicing : AbstractSlice → AbstractEnd
   folding : Op → Option ℤ → Bool → AbstractEnd
   finding : Find → AbstractEnd
   collecting : AbstractEnd
+  scanning : Op → Range → AbstractEnd
 
 -- stages that look at one item at a time, the first one with this number, and what ends them
 pub record AbstractSegment : Type 0 where
@@ -31,9 +35,10 @@ pub record AbstractSegment : Type 0 where
   pub stages : List AbstractStage
   pub ending : AbstractEnd
 
--- a job in segments: the outcome of each one is the source of the next
+-- a job in segments: the outcome of each one is the source of the next; and the earlier jobs that it names
 pub record AbstractPlan : Type 0 where
   pub name : List ℕ
+  pub named : List Named
   pub sources : List AbstractPlainSource
   pub segments : List AbstractSegment
 
@@ -53,17 +58,31 @@ abbrev pub segments_from : ℕ → List AbstractStage → List AbstractJobStage 
 segments_from n gs [] d = record { first = n; stages = gs; ending = end_of d } ∷ []
 segments_from n gs (item g ∷ rest) d = segments_from n (gs ++ g ∷ []) rest d
 segments_from n gs (slice s ∷ rest) d = record { first = n; stages = gs; ending = slicing s } ∷ segments_from (suc (n + length gs)) [] rest d
-segments_from n gs (prefix f ∷ rest) d = segments_from n gs rest d
-segments_from n gs (prefix_range a b f ∷ rest) d = segments_from n gs rest d
+segments_from n gs (prefix f ∷ rest) d = record { first = n; stages = gs; ending = scanning f None } ∷ segments_from (suc (n + length gs)) [] rest d
+segments_from n gs (prefix_range a b f ∷ rest) d = record { first = n; stages = gs; ending = scanning f (Some (a, b)) } ∷ segments_from (suc (n + length gs)) [] rest d
 
--- a job in segments
-abbrev pub plan_of : AbstractJob → AbstractPlan
-plan_of job = record { name = job.name; sources = job.sources; segments = segments_from 1 [] job.stages job.terminal }
+-- helper: a name with its place, if it has one
+abbrev pub placed : List ℕ → Option ℕ → List Named
+placed name None = []
+placed name (Some place) = record { name = name; job = place } ∷ []
 
--- several jobs in segments
+-- those of several names that are among the names of earlier jobs, with the place of the first job of that name
+abbrev pub all_placed : List (List ℕ) → List (List ℕ) → List Named
+all_placed before [] = []
+all_placed before (name ∷ names) = placed name (place_of before name) ++ all_placed before names
+
+-- a job in segments, after jobs with these names
+abbrev pub plan_of : List (List ℕ) → AbstractJob → AbstractPlan
+plan_of before job = record { name = job.name; named = all_placed before (names_in_job job); sources = job.sources; segments = segments_from 1 [] job.stages job.terminal }
+
+-- several jobs in segments, after jobs with these names
+abbrev pub plans_after : List (List ℕ) → List AbstractJob → List AbstractPlan
+plans_after before [] = []
+plans_after before (job ∷ jobs) = plan_of before job ∷ plans_after (before ++ job.name ∷ []) jobs
+
+-- the jobs of a file in segments
 abbrev pub plans_of : List AbstractJob → List AbstractPlan
-plans_of [] = []
-plans_of (job ∷ jobs) = plan_of job ∷ plans_of jobs
+plans_of jobs = plans_after [] jobs
 
 -- a count folds a 1 for each item
 abbrev pub counted_as : Bool → List Item → List Item
@@ -80,6 +99,7 @@ abbrev pub ended : AbstractEnd → ℕ → Numbers → Trace → Outcome
 ended (slicing d) n env t = outcome.Source (sliced d n env t)
 ended (folding f a counts) n env t = outcome.Answer (unless_fault t.ending (folded f a (counted_as counts t.items)))
 ended (finding d) n env t = outcome.Answer (found_answer (find_answer d n env t))
+ended (scanning f r) n env t = outcome.Source (prefixed (value_of f) r n t)
 ended collecting n env t = outcome.Answer (unless_fault t.ending (answer.Array (each_of (λ (x : Item). x.value) t.items)))
 
 -- the walk of a segment's source through its stages

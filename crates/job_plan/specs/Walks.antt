@@ -1,5 +1,5 @@
 -- Meaning: the walk of a job, and the answer that its terminal gives.
-use Rattle.std.specs.Prelude.{ℕ, suc, ℤ, pos, ◌+ℤ◌, List, [], ◌∷◌, ◌++◌, length, map as each_of, Result, Ok, Err}
+use Rattle.std.specs.Prelude.{ℕ, suc, ℤ, pos, ◌+ℤ◌, List, [], ◌∷◌, ◌++◌, length, map as each_of, Some, None, Result, Ok, Err}
 use Rattle.lambda_expr.specs.Earlier.{Numbers}
 use Rattle.lambda_expr.specs.Streams.{counted, distance}
 use Rattle.lambda_expr.specs.Wrap.{wrap}
@@ -14,6 +14,7 @@ use Rattle.reduce_ops.specs.declared.op.Op.TheVariants as op
 use Rattle.reduce_ops.specs.Folds.{fold_from, fold_items, total}
 use Rattle.reduce_ops.specs.Operators.{value_of}
 use Rattle.slice_ops.specs.Slices.{sliced}
+use Rattle.prefix_scan.specs.Prefixes.{prefixed}
 use Rattle.find_ops.specs.Finds.{find_answer}
 use Rattle.find_ops.specs.declared.find_part.Found.{Found}
 use Rattle.find_ops.specs.declared.find_part.Found.TheVariants as found
@@ -21,8 +22,8 @@ use Rattle.job_language.specs.Jobs.{AbstractPlainSource, range, range_closed, va
 use Rattle.job_plan.specs.declared.answer.Answer.{Answer}
 use Rattle.job_plan.specs.declared.answer.Answer.TheVariants as answer
 
--- the values of a plain source (`LongStream.range`, `rangeClosed`, `of`; the cells of a column); the array of an
--- earlier job can't be read yet
+-- the values of a plain source (`LongStream.range`, `rangeClosed`, `of`; the cells of a column). `result(name)` has none by itself:
+-- before a walk the array of that job is put in its place
 abbrev pub plain_values : AbstractPlainSource → List ℤ
 plain_values (range a b) = counted a (distance a b)
 plain_values (range_closed a b) = counted a (distance a (b +ℤ pos 1))
@@ -39,12 +40,12 @@ values_of (s ∷ ss) = plain_values s ++ values_of ss
 abbrev pub source_walk : List AbstractPlainSource → Trace
 source_walk ss = cover (listed (values_of ss))
 
--- what stage number n makes of a walk; there is no prefix yet
+-- what stage number n makes of a walk
 abbrev pub after_stage : ℕ → AbstractJobStage → Numbers → Trace → Trace
 after_stage n (item g) env t = through n g env t
 after_stage n (slice d) env t = sliced d n env t
-after_stage n (prefix f) env t = t
-after_stage n (prefix_range a b f) env t = t
+after_stage n (prefix f) env t = prefixed (value_of f) None n t
+after_stage n (prefix_range a b f) env t = prefixed (value_of f) (Some (a, b)) n t
 
 -- the stages in order of writing, the first one with this number; each takes what the one before it gives
 abbrev pub after_stages : ℕ → List AbstractJobStage → Numbers → Trace → Trace

@@ -1,5 +1,8 @@
 //! What a job gives.
 
+ghost use Rattle.std.specs.Prelude.{◌≡◌};
+ghost use Rattle.job_plan.specs.FileAnswers.{array_of, is_usable, number_of};
+
 use crate::values::Values;
 use trace::Fault;
 
@@ -19,4 +22,42 @@ pub enum Answer {
     /// The job can't be run: the earlier job at this index, from 0 in file order, gave no number or
     /// array that this job could use.
     Unusable(usize),
+}
+
+impl Answer {
+    /// Whether a job that names a job with this answer can be run: not if that is a fault, an empty optional or unusable.
+    pub fn is_usable(&self) -> bool
+        ensures { result ≡ is_usable self.now }
+    {
+        match self {
+            Answer::Number(_) | Answer::Truth(_) | Answer::Optional(Some(_)) | Answer::Array(_) =>
+                true,
+            Answer::Optional(None) | Answer::Fault(_) | Answer::Unusable(_) => false,
+        }
+    }
+
+    /// The number that a `$` name of the job stands for, if the answer is a number or an optional with a value.
+    pub fn number(&self) -> Option<i64>
+        ensures { result ≡ number_of self.now }
+    {
+        match self {
+            Answer::Number(number) => Some(*number),
+            Answer::Optional(value) => *value,
+            Answer::Truth(_) | Answer::Array(_) | Answer::Fault(_) | Answer::Unusable(_) => None,
+        }
+    }
+
+    /// The values of an array; of any other answer none.
+    pub fn array(&self) -> &[i64]
+        ensures { result.now ≡ array_of self.now }
+    {
+        match self {
+            Answer::Array(values) => values.as_slice(),
+            Answer::Number(_)
+            | Answer::Truth(_)
+            | Answer::Optional(_)
+            | Answer::Fault(_)
+            | Answer::Unusable(_) => &[],
+        }
+    }
 }

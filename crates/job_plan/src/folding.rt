@@ -37,6 +37,7 @@ fn fold_values(op: Op, counts: bool, values: &[i64]) -> Option<i64>
         Op::Sum => fold_from(Op::Sum, counts, start, later),
         Op::Min => fold_from(Op::Min, counts, start, later),
         Op::Max => fold_from(Op::Max, counts, start, later),
+        Op::Affine => fold_from(Op::Affine, counts, start, later),
         other => fold_from(other, counts, start, later),
     })
 }

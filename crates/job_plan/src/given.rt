@@ -2,6 +2,8 @@
 
 ghost use Rattle.std.specs.Prelude.{◌≡◌, ◌-◌, ◌^◌, min, length, flat_map, IfOk};
 
+use crate::kept::Kept;
+use crate::scanned::ScannedWalk;
 use std::alloc::Global;
 use std::marker::Model;
 use trace::{Chunk, End, Item, NoMemory};
@@ -12,47 +14,58 @@ const MOST_PIECES: usize = 8_192;
 /// The walk that a segment gave, as the source of the next one, in which any number of leaves look for their positions.
 ///
 /// Contracts see the trace of that walk. It has at most 8,192 pieces if there was memory to make it so, and knows how many
-/// items it has.
+/// items it has. After a prefix it may borrow the sources of the job.
 #[derive(Drop)]
-pub struct GivenWalk {
-    chunk: Chunk,
+pub struct GivenWalk<'a> {
+    pub(crate) kept: Kept<'a>,
     size: u64,
 }
 
-impl Model for GivenWalk {
+impl<'a> Model for GivenWalk<'a> {
     ghost use Rattle.std.specs.Prelude.{◌≡◌, ◌-◌, ◌^◌, min, length};
     ghost use Rattle.trace.specs.Trace.{Trace};
+    ghost use Rattle.job_plan.specs.Kept.{kept_walk};
 
     ghost Value = { Trace };
 
-    ghost view = { λ given. given.chunk };
+    ghost view = { λ given. kept_walk given.kept };
 
-    ghost invariant = { λ given. given.size ≡ min (length given.chunk.items) (2 ^ 64 - 1) };
+    ghost invariant = { λ given. given.size ≡ min (length (kept_walk given.kept).items) (2 ^ 64 - 1) };
 }
 
-impl GivenWalk {
+impl<'a> GivenWalk<'a> {
     /// Keeps a chunk. The items of more than 8,192 pieces are copied into one, 16 bytes each; if the allocation fails, they
     /// stay as they are.
-    pub fn of(alloc: Global, chunk: Chunk) -> GivenWalk
+    pub fn of(alloc: Global, chunk: Chunk) -> GivenWalk<'a>
         ensures { result ≡ chunk }
     {
         let chunk = in_few_pieces(alloc, chunk);
         let size = items_in(chunk.pieces());
-        GivenWalk { chunk, size }
+        GivenWalk {
+            kept: Kept::Items(chunk),
+            size,
+        }
     }
 
-    /// The pieces: the items of the first, then those of the second, and so on.
-    pub(crate) fn pieces(&self) -> &[Vec<Item>]
-        ensures { flat_map (λ piece. piece.items) result.now ≡ self.now.items }
+    /// Keeps what a prefix gave.
+    pub(crate) fn scanned(walk: ScannedWalk<'a>) -> GivenWalk<'a>
+        ensures { result ≡ walk.entry }
     {
-        self.chunk.pieces()
+        let size = walk.size();
+        GivenWalk {
+            kept: Kept::Scanned(walk),
+            size,
+        }
     }
 
     /// How the walk ended.
     pub(crate) fn end(&self) -> End
         ensures { result ≡ self.now.ending }
     {
-        self.chunk.end()
+        match &self.kept {
+            Kept::Items(chunk) => chunk.end(),
+            Kept::Scanned(walk) => walk.end(),
+        }
     }
 
     /// How many items the walk has, or the greatest `u64` if there are more.

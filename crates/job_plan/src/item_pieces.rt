@@ -62,7 +62,7 @@ fn piece_at(pieces: &[Vec<Item>], position: u64) -> (usize, u64)
 }
 
 /// Whether no position is left.
-fn is_over(to: Option<u64>) -> bool
+pub(crate) fn is_over(to: Option<u64>) -> bool
     ensures { result ≡ true → to ≡ Some 0 }
 {
     matches!(to, Some(0))
@@ -102,7 +102,7 @@ fn feed_from<S: BatchSink>(
 }
 
 /// Takes the items at these positions of one piece.
-fn feed_items<S: BatchSink>(
+pub(crate) fn feed_items<S: BatchSink>(
     segment: &Segment,
     env: &Env,
     items: &[Item],

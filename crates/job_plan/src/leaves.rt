@@ -1,6 +1,9 @@
 //! A piece of a segment's source, taken through the segment's stages to the part that its end wants.
 
 ghost use Rattle.std.specs.Prelude.{◌≡◌, ◌+◌, ◌<◌, ◌^◌, ℕ, List, [], false, length, map, IfOk, ⊤};
+ghost use Rattle.trace.specs.Trace.{nothing};
+ghost use Rattle.job_plan.specs.Parts.{StandsEnough};
+ghost use Rattle.job_plan.specs.Spans.{IsNotAfter};
 ghost use Rattle.lambda_expr.specs.Earlier.{Numbers};
 ghost use Rattle.trace.specs.Sinks.{IsFed, flow_after};
 ghost use Rattle.trace.specs.Trace.{trace};
@@ -13,10 +16,13 @@ ghost use Rattle.job_plan.specs.declared.segment.SegmentEnd.{SegmentEnd};
 ghost use Rattle.job_plan.specs.declared.segment.SegmentEnd.TheVariants as ends;
 
 use crate::fronts::test_of;
+use crate::lent_part::lent_part;
 use crate::part::Part;
 use crate::segment::{Segment, SegmentEnd};
 use crate::source::Source;
+use crate::stretches::feed_until;
 use batch_eval::{Batch, BatchSink, FlaggedLanes, PlacedValues, Registers, accept_each_flagged};
+use early_stop::Stop;
 use lambda_expr::{BoolExpr, Env};
 use std::alloc::Global;
 use std::marker::{Brand, PhantomData};
@@ -145,7 +151,7 @@ fn accept_all<I: SourceItems>(
 pub fn leaf<'p>(
     alloc: Global,
     segment: &'p Segment,
-    source: &Source,
+    source: &Source<'_, 'p, '_>,
     from: u64,
     to: Option<u64>,
     env: &Env,
@@ -160,7 +166,7 @@ pub fn leaf<'p>(
 pub fn leaf_with<'p>(
     alloc: Global,
     segment: &'p Segment,
-    source: &Source,
+    source: &Source<'_, 'p, '_>,
     from: u64,
     to: Option<u64>,
     env: &Env,
@@ -168,6 +174,9 @@ pub fn leaf_with<'p>(
 ) -> Result<Part<'p>, NoMemory>
     ensures { IfOk result (λ part. StandsFor (segment_in segment.now) env.now part (piece_of from to (walk_in source.now))) }
 {
+    if let Some(part) = lent_part(alloc, segment, source, from, to)? {
+        return Ok(part);
+    }
     leaf_as::<Brand>(alloc, segment, source, from, to, env, registers)
 }
 
@@ -175,7 +184,7 @@ pub fn leaf_with<'p>(
 fn leaf_as<'p, K: Ending>(
     alloc: Global,
     segment: &'p Segment,
-    source: &Source,
+    source: &Source<'_, 'p, '_>,
     from: u64,
     to: Option<u64>,
     env: &Env,
@@ -206,8 +215,95 @@ fn leaf_as<'p, K: Ending>(
     Ok(sink.part)
 }
 
+/// The same, unless `stop` names a place that decides what the segment gives: then the walk may end at that place or later. It looks for
+/// one every 65,536 positions.
+pub fn leaf_until<'p, W: Stop>(
+    alloc: Global,
+    segment: &'p Segment,
+    source: &Source<'_, 'p, '_>,
+    from: u64,
+    to: Option<u64>,
+    env: &Env,
+    registers: &mut Registers,
+    stop: &mut W,
+) -> Result<Part<'p>, NoMemory>
+    requires ordered { IsNotAfter from to }
+    ensures { IfOk result (λ part. StandsEnough (W.decides stop.old) (segment_in segment.now) env.now part from (piece_of from to (walk_in source.now))) }
+{
+    if let Some(part) = lent_part(alloc, segment, source, from, to)? {
+        return Ok(part);
+    }
+    leaf_until_as::<Brand, W>(alloc, segment, source, from, to, env, registers, stop)
+}
+
+/// The same, of a source that may be gone before the part is: the part borrows none of its values.
+pub fn leaf_stored<'p, W: Stop>(
+    alloc: Global,
+    segment: &'p Segment,
+    source: &Source,
+    from: u64,
+    to: Option<u64>,
+    env: &Env,
+    registers: &mut Registers,
+    stop: &mut W,
+) -> Result<Part<'p>, NoMemory>
+    requires ordered { IsNotAfter from to }
+    ensures { IfOk result (λ part. StandsEnough (W.decides stop.old) (segment_in segment.now) env.now part from (piece_of from to (walk_in source.now))) }
+{
+    leaf_until_as::<Brand, W>(alloc, segment, source, from, to, env, registers, stop)
+}
+
+/// The same, for an end that contracts can name.
+fn leaf_until_as<'p, K: Ending, W: Stop>(
+    alloc: Global,
+    segment: &'p Segment,
+    source: &Source,
+    from: u64,
+    to: Option<u64>,
+    env: &Env,
+    registers: &mut Registers,
+    stop: &mut W,
+) -> Result<Part<'p>, NoMemory>
+    requires last { segment.now.end ≡ K.last }
+    requires stage { last_stage (segment_in segment.now) ≡ K.stage }
+    requires env { env.now ≡ K.env }
+    requires ordered { IsNotAfter from to }
+    ensures { IfOk result (λ part. StandsEnough (W.decides stop.old) (segment_in segment.now) env.now part from (piece_of from to (walk_in source.now))) }
+{
+    let stage = segment.first_stage + segment.stages.len() as u32;
+    let part = Part::none(alloc, &segment.end, stage, env);
+    if part.is_settled() {
+        return Ok(part);
+    }
+    let mut sink = PartSink::<K> {
+        part,
+        segment,
+        stage,
+        env,
+        of: PhantomData,
+    };
+    let ended = feed_until(source, segment, env, from, to, registers, &mut sink, stop)?;
+    let Some(fed) = ended else {
+        return Ok(sink.part);
+    };
+    match fed {
+        Fed::More => sink.part.end_with(piece_end(source, to)),
+        Fed::Fault(fault) => sink.part.end_with(End::Fault(fault)),
+        Fed::Enough => {}
+    }
+    Ok(sink.part)
+}
+
+/// The part of a piece that isn't walked. It takes no memory.
+pub fn unwalked<'p>(alloc: Global, segment: &'p Segment, env: &Env) -> Part<'p>
+    ensures { StandsFor (segment_in segment.now) env.now result nothing }
+{
+    let stage = segment.first_stage + segment.stages.len() as u32;
+    Part::none(alloc, &segment.end, stage, env)
+}
+
 /// How a piece of a source ends.
-fn piece_end(source: &Source, to: Option<u64>) -> End
+pub(crate) fn piece_end(source: &Source, to: Option<u64>) -> End
     ensures { result ≡ (piece_of 0 to (walk_in source.now)).ending }
 {
     match to {

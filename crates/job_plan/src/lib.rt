@@ -4,31 +4,43 @@
 //! `find_ops`, which make of a walk what stages and terminals ask. Used by `report`, which writes answers, and by whatever
 //! runs jobs.
 //! Begin with `meaning_of` of `specs/FileAnswers.antt`, then `specs/Walks.antt` and `specs/Plans.antt`. A job is cut
-//! into segments (`Plan::of`); `leaf` takes a piece of a segment's source to a `Part`, two parts side by side merge, and
+//! into segments, and the earlier jobs that it names are found (`Plan::of`); `leaf` takes a piece of a segment's source to a `Part`, two parts side by side merge, and
 //! `Part::finish` gives the next source or the answer. `walk_tree` does all of this on one thread; `plan_laws.rt` says
-//! that it is the answer by stages. `is_supported` says which jobs can be run.
+//! that it is the answer by stages, and that the jobs of a plan have the answers of their file.
 //! Not promised: that pieces are walked at the same time, or that a piece is walked no further than needed.
 #![tactic(auto)]
 
 mod answer;
 mod array_part;
+mod folded_piece;
+mod folded_walk;
 mod folding;
 mod fronts;
 mod given;
 mod item_pieces;
+mod kept;
 mod leaves;
+mod lent_part;
+mod likely;
+mod named;
+mod names;
 mod outcome;
 mod part;
+mod piece_items;
 mod pieces;
 mod plan;
 mod plan_laws;
+mod prefix_part;
+mod run_values;
+mod scanned;
+mod scanned_pieces;
 mod segment;
 mod settings;
 mod sizes;
 mod source;
 mod sources;
 mod spans;
-mod supported;
+mod stretches;
 mod values;
 mod walks;
 mod windows;
@@ -36,17 +48,16 @@ mod windows;
 pub use answer::Answer;
 pub use array_part::ArrayPart;
 pub use given::GivenWalk;
-pub use leaves::{leaf, leaf_with};
+pub use leaves::{leaf, leaf_stored, leaf_until, leaf_with, unwalked};
 pub use outcome::Outcome;
 pub use part::{FoldPart, Part};
 pub use plan_laws::{
-    later_segments_give_the_answers, pieces_join, plans_give_the_answers,
-    supported_jobs_stand_alone,
+    later_segments_give_the_answers, pieces_join, plans_give_the_answers, plans_have_the_meaning,
 };
-pub use segment::{Fold, JobPlan, Plan, Segment, SegmentEnd};
+pub use prefix_part::PrefixPart;
+pub use segment::{Fold, JobPlan, Named, Plan, Prefix, Segment, SegmentEnd};
 pub use settings::{Form, Settings};
 pub use source::Source;
 pub use sources::PlainSources;
-pub use supported::is_supported;
 pub use values::Values;
 pub use walks::{SplitTree, walk, walk_tree};

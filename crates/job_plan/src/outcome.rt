@@ -1,14 +1,14 @@
 //! What a segment gives.
 
 use crate::answer::Answer;
-use trace::Chunk;
+use crate::given::GivenWalk;
 
 /// What a segment makes of its source.
 #[derive(Drop)]
-pub enum Outcome {
-    /// Of a segment that a slice ends: the source of the next segment. Its items keep their places, and its fault
+pub enum Outcome<'a> {
+    /// Of a segment that a slice or a prefix ends: the source of the next segment. Its items keep their places, and its fault
     /// stands after them.
-    Source(Chunk),
+    Source(GivenWalk<'a>),
     /// Of the last segment: the answer of the job.
     Answer(Answer),
 }

@@ -15,7 +15,9 @@ use crate::answer::Answer;
 use crate::array_part::ArrayPart;
 use crate::folding::{folded, folded_flagged};
 use crate::fronts::{front, undecided};
+use crate::given::GivenWalk;
 use crate::outcome::Outcome;
+use crate::prefix_part::PrefixPart;
 use crate::segment::{Fold, SegmentEnd};
 use find_ops::{FindPart, FindTerminal, Found};
 use lambda_expr::Env;
@@ -35,13 +37,15 @@ pub struct FoldPart {
 /// What a piece of a segment's source gives to the end of the segment.
 ///
 /// A fold and a find have a constant size, `limit(n)` keeps `n` items at most, `takeWhile` those before the first at
-/// which its test isn't true. The other slices keep all items, and `toArray` all values.
+/// which its test isn't true. The other slices keep all items, and `toArray` all values. A prefix keeps all items, but borrows values of the
+/// sources if no stage comes before it.
 #[derive(Drop)]
 pub enum Part<'p> {
     Slice(SlicePart<'p>),
     Fold(FoldPart),
     Find(FindPart),
     Array(ArrayPart),
+    Prefix(PrefixPart<'p>),
 }
 
 impl FoldPart {
@@ -145,6 +149,7 @@ impl<'p> Part<'p> {
             SegmentEnd::Fold(fold) => Part::Fold(FoldPart::none(*fold)),
             SegmentEnd::Find(find) => Part::Find(FindPart::none(find, End::Done)),
             SegmentEnd::Array => Part::Array(ArrayPart::none(alloc)),
+            SegmentEnd::Prefix(prefix) => Part::Prefix(PrefixPart::none(alloc, *prefix, stage)),
         }
     }
 
@@ -176,6 +181,7 @@ impl<'p> Part<'p> {
                 Ok(())
             }
             Part::Array(part) => part.push_all(&[item.value]),
+            Part::Prefix(part) => part.push(item),
         }
     }
 
@@ -216,6 +222,7 @@ impl<'p> Part<'p> {
                 Ok(())
             }
             Part::Array(part) => part.push_all(values),
+            Part::Prefix(part) => part.push_all(source, values),
         }
     }
 
@@ -225,7 +232,7 @@ impl<'p> Part<'p> {
         match self {
             Part::Fold(part) => part.partial.op().identity().is_some(),
             Part::Find(_) => matches!(close, SegmentEnd::Find(FindTerminal::First)),
-            Part::Slice(_) | Part::Array(_) => false,
+            Part::Slice(_) | Part::Array(_) | Part::Prefix(_) => false,
         }
     }
 
@@ -241,7 +248,7 @@ impl<'p> Part<'p> {
     {
         match self {
             Part::Fold(part) => part.push_flagged(values, flags),
-            Part::Slice(_) | Part::Find(_) | Part::Array(_) => false,
+            Part::Slice(_) | Part::Find(_) | Part::Array(_) | Part::Prefix(_) => false,
         }
     }
 
@@ -255,6 +262,7 @@ impl<'p> Part<'p> {
             Part::Fold(part) => part.end_with(ending),
             Part::Find(part) => *part = part.end_with(ending),
             Part::Array(part) => part.end_with(ending),
+            Part::Prefix(part) => part.end_with(ending),
         }
     }
 
@@ -267,6 +275,7 @@ impl<'p> Part<'p> {
             Part::Fold(part) => is_fault(part.partial.end()),
             Part::Find(part) => part.is_decided(),
             Part::Array(part) => is_fault(part.end()),
+            Part::Prefix(part) => is_fault(part.end()),
         }
     }
 
@@ -291,19 +300,21 @@ impl<'p> Part<'p> {
                 _ => Ok(Part::Find(left)),
             },
             Part::Array(left) => merge_arrays(left, right),
+            Part::Prefix(left) => merge_prefixes(left, right),
         }
     }
 
     /// What the segment gives. Only the values of an array in several pieces take memory, 8 bytes each.
-    pub fn finish(self, alloc: Global, env: &Env) -> Result<Outcome, NoMemory>
+    pub fn finish(self, alloc: Global, env: &Env) -> Result<Outcome<'p>, NoMemory>
         ensures { IfOk result (λ outcome. (s : AbstractSegment) (t : Trace) → StandsFor s env.now self.entry t
             → outcome ≡ outcome_of s env.now t) }
     {
         match self {
-            Part::Slice(part) => Ok(Outcome::Source(part.finish(env))),
+            Part::Slice(part) => Ok(Outcome::Source(GivenWalk::of(alloc, part.finish(env)))),
             Part::Fold(part) => Ok(Outcome::Answer(part.finish())),
             Part::Find(part) => Ok(Outcome::Answer(answer_of(part.finish()))),
             Part::Array(part) => Ok(Outcome::Answer(part.finish(alloc)?)),
+            Part::Prefix(part) => Ok(Outcome::Source(part.finish(alloc)?)),
         }
     }
 }
@@ -335,6 +346,24 @@ fn merge_arrays<'p>(mut left: ArrayPart, right: Part<'p>) -> Result<Part<'p>, (P
             Err(right) => Err((Part::Array(left), Part::Array(right))),
         },
         _ => Ok(Part::Array(left)),
+    }
+}
+
+/// The part of two pieces side by side, the left one of a prefix.
+fn merge_prefixes<'p>(
+    mut left: PrefixPart<'p>,
+    right: Part<'p>,
+) -> Result<Part<'p>, (Part<'p>, Part<'p>)>
+    ensures ok { IfOk result (λ part. (s : AbstractSegment) (env : Numbers) (a b : Trace) → StandsFor s env (Part.Prefix left.entry) a
+        → StandsFor s env right.entry b → StandsFor s env part (append a b)) }
+    ensures err { IfErr result (λ parts. (parts.0 ≡ Part.Prefix left.entry) × (parts.1 ≡ right.entry)) }
+{
+    match right {
+        Part::Prefix(right) => match left.append(right) {
+            Ok(()) => Ok(Part::Prefix(left)),
+            Err(right) => Err((Part::Prefix(left), Part::Prefix(right))),
+        },
+        _ => Ok(Part::Prefix(left)),
     }
 }
 

@@ -3,10 +3,12 @@
 ghost use Rattle.std.specs.Prelude.{◌≡◌, ◌≤◌, ◌+◌, List, [], ◌∷◌, ◌++◌, length, IfOk, OnOk};
 ghost use Rattle.trace.specs.Stages.{stages_of};
 ghost use Rattle.job_language.specs.Jobs.{AbstractJobStage, AbstractTerminal, job_of, jobs_of, job_stage_of, job_stages_of, terminal_of};
-ghost use Rattle.job_plan.specs.Parts.{end_in, plan_in, plans_in, segment_in, segments_in};
+ghost use Rattle.job_plan.specs.Parts.{end_in, plan_in, plan_names, plans_in, segment_in, segments_in};
 ghost use Rattle.job_plan.specs.Plans.{end_of, plan_of, plans_of, segments_from};
 
-use crate::segment::{Fold, JobPlan, Plan, Segment, SegmentEnd};
+use crate::likely::likely_size;
+use crate::names::named_in;
+use crate::segment::{Fold, JobPlan, Plan, Prefix, Segment, SegmentEnd};
 use job_language::{Job, JobStage, Terminal};
 use reduce_ops::Op;
 use std::alloc::Global;
@@ -14,23 +16,26 @@ use std::mem;
 use trace::{NoMemory, Stage};
 
 impl<'c> Plan<'c> {
-    /// Cuts each job into segments. The jobs are moved; after a refused allocation they are dropped.
+    /// Cuts each job into segments, and finds the earlier jobs that it names. A name that no earlier job has is left out. The jobs are
+    /// moved; after a refused allocation they are dropped. Each name that is written is compared with those of the jobs before.
     pub fn of(alloc: Global, jobs: Vec<Job<'c>>) -> Result<Plan<'c>, NoMemory>
         ensures ok { IfOk result (λ plan. plans_in plan.jobs.items ≡ plans_of (jobs_of jobs.entry.items)) }
     {
         let mut plans = Vec::new(alloc);
         for job in jobs {
-            plans.push(JobPlan::of(alloc, job)?)?;
+            let plan = JobPlan::of(alloc, job, &plans)?;
+            plans.push(plan)?;
         }
         Ok(Plan { jobs: plans })
     }
 }
 
 impl<'c> JobPlan<'c> {
-    /// Cuts a job into segments.
-    fn of(alloc: Global, job: Job<'c>) -> Result<JobPlan<'c>, NoMemory>
-        ensures ok { IfOk result (λ plan. plan_in plan ≡ plan_of (job_of job.entry)) }
+    /// Cuts a job into segments, and finds the jobs that it names among those before it.
+    fn of(alloc: Global, job: Job<'c>, before: &[JobPlan<'c>]) -> Result<JobPlan<'c>, NoMemory>
+        ensures ok { IfOk result (λ plan. plan_in plan ≡ plan_of (plan_names before.now) (job_of job.entry)) }
     {
+        let named = named_in(alloc, &job, before)?;
         let Job {
             name,
             sources,
@@ -38,8 +43,11 @@ impl<'c> JobPlan<'c> {
             terminal,
         } = job;
         let segments = cut(alloc, stages, terminal)?;
+        let likely_size = likely_size(&sources, &segments, before);
         Ok(JobPlan {
             name,
+            named,
+            likely_size,
             sources,
             segments,
         })
@@ -123,7 +131,7 @@ impl Begun {
         Ok(())
     }
 
-    /// Adds a stage. A prefix, which stands in no supported job, is left out.
+    /// Adds a stage.
     fn add(&mut self, stage: JobStage) -> Result<(), NoMemory>
         requires few { self.old.first_stage + length self.old.stages.items ≤ 32 }
         ensures cut { OnOk result ((later : List AbstractJobStage) (d : AbstractTerminal)
@@ -134,13 +142,17 @@ impl Begun {
         match stage {
             JobStage::Item(stage) => self.stages.push(stage)?,
             JobStage::Slice(slice) => self.end(SegmentEnd::Slice(slice))?,
-            JobStage::Prefix(_) | JobStage::PrefixRange { .. } => {}
+            JobStage::Prefix(op) => self.end(SegmentEnd::Prefix(Prefix { op, range: None }))?,
+            JobStage::PrefixRange { from, to, op } => self.end(SegmentEnd::Prefix(Prefix {
+                op,
+                range: Some((from, to)),
+            }))?,
         }
         Ok(())
     }
 }
 
-/// The segments of stages and a terminal. A prefix, which stands in no supported job, is left out.
+/// The segments of stages and a terminal.
 fn cut(alloc: Global, stages: Vec<JobStage>, terminal: Terminal) -> Result<Vec<Segment>, NoMemory>
     requires few { length stages.items ≤ 32 }
     ensures ok { IfOk result (λ segments. segments_in segments.items ≡ segments_from 1 [] (job_stages_of stages.items) (terminal_of terminal)) }

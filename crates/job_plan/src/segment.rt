@@ -19,6 +19,14 @@ pub struct Fold {
     pub counts: bool,
 }
 
+/// A prefix of the values of a walk: each becomes the fold of the values up to and with it.
+#[derive(Clone, Copy)]
+pub struct Prefix {
+    pub op: Op,
+    /// The positions of the walk, from the first up to, not with, the second, at which it does so; without them, all.
+    pub range: Option<(u64, u64)>,
+}
+
 /// What ends a segment.
 #[derive(Drop)]
 pub enum SegmentEnd {
@@ -30,6 +38,8 @@ pub enum SegmentEnd {
     Find(FindTerminal),
     /// `toArray`.
     Array,
+    /// `prefix`.
+    Prefix(Prefix),
 }
 
 /// Stages that look at one item at a time, and what ends them.
@@ -42,10 +52,23 @@ pub struct Segment {
     ghost numbered: { first_stage + length stages.items < 2 ^ 32 },
 }
 
+/// An earlier job that a job names.
+#[derive(Drop)]
+pub struct Named {
+    pub name: Bytes,
+    /// Its place in the file, from 0.
+    pub job: usize,
+}
+
 /// A job in segments: the outcome of each one is the source of the next, and that of the last is the answer.
 #[derive(Drop)]
 pub struct JobPlan<'c> {
     pub name: Bytes,
+    /// The earlier jobs that it names, `result(NAME)` or `$NAME`, in order of writing, each as often as it is written.
+    pub named: Vec<Named>,
+    /// How many positions the first of its `later_segments` has, as far as it is known before a run: the array of an earlier job
+    /// counts with this number of that job. No answer rests on it.
+    pub likely_size: u64,
     pub sources: Vec<PlainSource<'c>>,
     pub segments: Vec<Segment>,
 }

@@ -13,11 +13,11 @@ ghost use Rattle.job_plan.specs.Pieces.{elements, piece_of};
 ghost use Rattle.job_plan.specs.Plans.{walk_of};
 ghost use Rattle.job_plan.specs.Spans.{after, span};
 ghost use Rattle.job_plan.specs.Walks.{plain_values, source_walk, values_of};
-ghost use Rattle.job_plan.specs.Windows.{selected_source};
+ghost use Rattle.job_plan.specs.Windows.{selected_source, selected_walk};
 
 use crate::given::GivenWalk;
-use crate::item_pieces::feed_pieces;
 use crate::pieces::RangePiece;
+use crate::scanned_pieces::feed_given;
 use crate::segment::{JobPlan, Segment};
 use crate::sources::{PlainSources, plain_size};
 use crate::spans::{end_after, within};
@@ -36,16 +36,16 @@ const TOO_LONG: Fault = Fault {
 
 /// What a segment walks over. It borrows the values and copies none.
 #[derive(Clone, Copy)]
-pub enum Source<'a, 'c> {
+pub enum Source<'g, 'a, 'c> {
     /// Of the first segment: the sources of the job, or positions of them.
     Plain(PlainSources<'a, 'c>),
     /// Of a later segment: what the segment before it gave.
-    Given(&'a GivenWalk),
+    Given(&'g GivenWalk<'a>),
 }
 
-impl<'a, 'c> Source<'a, 'c> {
+impl<'g, 'a, 'c> Source<'g, 'a, 'c> {
     /// The source of the first segment of a job, also if that only selects positions.
-    pub fn of_job(job: &'a JobPlan<'c>) -> Source<'a, 'c>
+    pub fn of_job(job: &'a JobPlan<'c>) -> Source<'g, 'a, 'c>
         ensures { walk_in result ≡ source_walk (plan_in job.now).sources }
     {
         Source::Plain(PlainSources::of(&job.sources))
@@ -53,15 +53,22 @@ impl<'a, 'c> Source<'a, 'c> {
 
     /// The source of the first of a job's `later_segments`: the positions of its sources that the slices before it select. It
     /// takes no memory.
-    pub fn of_selected(job: &'a JobPlan<'c>) -> Source<'a, 'c>
+    pub fn of_selected(job: &'a JobPlan<'c>) -> Source<'g, 'a, 'c>
         ensures { walk_in result ≡ selected_source (plan_in job.now) }
     {
+        Source::of_sources(&job.sources, job)
+    }
+
+    /// The same with these sources in place of the job's own.
+    pub fn of_sources(sources: &'a [PlainSource<'c>], job: &JobPlan) -> Source<'g, 'a, 'c>
+        ensures { walk_in result ≡ selected_walk (plan_in job.now).segments (source_walk (sources_of sources.now)) }
+    {
         let window = selected_window(&job.segments, Window::all());
-        Source::Plain(PlainSources::within(&job.sources, window))
+        Source::Plain(PlainSources::within(sources, window))
     }
 
     /// The source of a segment after another one that was walked.
-    pub fn of_given(given: &'a GivenWalk) -> Source<'a, 'c>
+    pub fn of_given(given: &'g GivenWalk<'a>) -> Source<'g, 'a, 'c>
         ensures { walk_in result ≡ given.now }
     {
         Source::Given(given)
@@ -107,15 +114,7 @@ impl<'a, 'c> Source<'a, 'c> {
                 let Window { from, to } = plain.window.within(from, to);
                 feed_plain(segment, env, plain.sources, 0, from, to, registers, sink)
             }
-            Source::Given(given) => feed_pieces(
-                segment,
-                env,
-                given.pieces(),
-                from,
-                to,
-                registers,
-                sink,
-            ),
+            Source::Given(given) => feed_given(segment, env, given, from, to, registers, sink),
         }
     }
 }
@@ -226,7 +225,7 @@ fn feed_one<S: BatchSink>(
 }
 
 /// Takes values, of which the first has the place `origin`.
-fn feed_values<S: BatchSink>(
+pub(crate) fn feed_values<S: BatchSink>(
     segment: &Segment,
     env: &Env,
     origin: u64,
@@ -287,7 +286,7 @@ fn feed_range<S: BatchSink>(
 }
 
 /// `count` integers that count up, from a position on; the first of them has the place `origin`.
-fn range_piece(origin: u64, from: i64, start: u64, count: u64) -> RangePiece
+pub(crate) fn range_piece(origin: u64, from: i64, start: u64, count: u64) -> RangePiece
     requires some { 0 < count }
     requires few { origin + count ≤ 2 ^ 62 }
     requires short { start + count ≤ 2 ^ 62 }

@@ -7,7 +7,6 @@ ghost use Rattle.job_plan.specs.Pieces.{piece_of};
 ghost use Rattle.job_plan.specs.Plans.{outcome_of, planned_answer, segments_answer};
 
 use crate::answer::Answer;
-use crate::given::GivenWalk;
 use crate::leaves::leaf_with;
 use crate::outcome::Outcome;
 use crate::part::Part;
@@ -57,10 +56,10 @@ pub fn walk(alloc: Global, job: &JobPlan, env: &Env) -> Result<Answer, NoMemory>
 }
 
 /// The answer of segments, the first of which has this source.
-fn walk_segments(
+fn walk_segments<'p>(
     alloc: Global,
-    segments: &[Segment],
-    source: &Source,
+    segments: &'p [Segment],
+    source: &Source<'_, 'p, '_>,
     tree: &SplitTree,
     env: &Env,
     registers: &mut Registers,
@@ -72,29 +71,26 @@ fn walk_segments(
     };
     match walk_segment(alloc, segment, source, tree, env, registers)? {
         Outcome::Answer(answer) => Ok(answer),
-        Outcome::Source(chunk) => {
-            let given = GivenWalk::of(alloc, chunk);
-            walk_segments(
-                alloc,
-                later,
-                &Source::of_given(&given),
-                tree,
-                env,
-                registers,
-            )
-        }
+        Outcome::Source(given) => walk_segments(
+            alloc,
+            later,
+            &Source::of_given(&given),
+            tree,
+            env,
+            registers,
+        ),
     }
 }
 
 /// What a segment makes of its source, in the pieces of a tree.
-fn walk_segment(
+fn walk_segment<'p>(
     alloc: Global,
-    segment: &Segment,
-    source: &Source,
+    segment: &'p Segment,
+    source: &Source<'_, 'p, '_>,
     tree: &SplitTree,
     env: &Env,
     registers: &mut Registers,
-) -> Result<Outcome, NoMemory>
+) -> Result<Outcome<'p>, NoMemory>
     ensures { IfOk result (λ outcome. outcome ≡ outcome_of (segment_in segment.now) env.now (walk_in source.now)) }
 {
     let part = walk_piece(alloc, segment, source, 0, None, tree, env, registers)?;
@@ -106,7 +102,7 @@ fn walk_segment(
 fn walk_piece<'p>(
     alloc: Global,
     segment: &'p Segment,
-    source: &Source,
+    source: &Source<'_, 'p, '_>,
     from: u64,
     to: Option<u64>,
     tree: &SplitTree,

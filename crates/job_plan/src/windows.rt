@@ -62,7 +62,8 @@ impl Window {
     {
         match end {
             SegmentEnd::Slice(slice) => self.sliced(slice),
-            SegmentEnd::Fold(_) | SegmentEnd::Find(_) | SegmentEnd::Array => self,
+            SegmentEnd::Fold(_) | SegmentEnd::Find(_) | SegmentEnd::Array | SegmentEnd::Prefix(_) =>
+                self,
         }
     }
 }
@@ -86,7 +87,8 @@ fn end_selects(end: &SegmentEnd) -> bool
         SegmentEnd::Slice(Slice::TakeWhile(_) | Slice::DropWhile(_))
         | SegmentEnd::Fold(_)
         | SegmentEnd::Find(_)
-        | SegmentEnd::Array => false,
+        | SegmentEnd::Array
+        | SegmentEnd::Prefix(_) => false,
     }
 }
 

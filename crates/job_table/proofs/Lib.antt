@@ -1,10 +1,12 @@
 -- Lemmas of this crate.
 pub mod AnswerLemmas
+pub mod ArmLemmas
 pub mod Halves
-pub mod Openings
 pub mod PlanAnswers
 pub mod PlanParts
 pub mod PlannedAnswers
+pub mod PlanSources
 pub mod Plans
+pub mod SeatLemmas
 pub mod SharedPlanLemmas
-pub mod Tops
+pub mod StopLemmas

@@ -1,5 +1,6 @@
 -- The segments of a plan, from the first to the one that gives the answer.
 use Rattle.std.proofs.Common.{◌≡◌, ℕ, zero, suc, ◌<◌, ◌≤◌, pos, List, [], ◌∷◌, length, Option, Some, None, slice_get, get_or, ap, sym, ◌∙◌, refl, arith}
+use Rattle.lambda_expr.specs.Earlier.{Numbers}
 use Rattle.trace.specs.Trace.{Trace}
 use Rattle.job_plan.specs.declared.answer.Answer.{Answer}
 use Rattle.job_plan.specs.declared.answer.Answer.TheVariants as answer
@@ -8,7 +9,7 @@ use Rattle.job_plan.specs.declared.outcome.Outcome.TheVariants as outcome
 use Rattle.job_plan.specs.declared.segment.JobPlan.{JobPlan}
 use Rattle.job_plan.specs.declared.segment.Segment.{Segment}
 use Rattle.job_plan.specs.Parts.{plan_in, plans_in, segment_in, segments_in}
-use Rattle.job_plan.specs.Plans.{AbstractEnd, slicing, folding, finding, collecting, AbstractSegment, ended, last_stage, walk_of, on_outcome, outcome_of, segments_answer}
+use Rattle.job_plan.specs.Plans.{AbstractEnd, slicing, folding, finding, collecting, scanning, AbstractSegment, ended, last_stage, walk_of, on_outcome, outcome_of, segments_answer}
 use Rattle.job_table.specs.PlanSegments.{given_walk, one_more, plan_at, slices_first, source_at}
 
 -- the answer that a segment gives; of one that gives a walk, and of none, it is 0
@@ -16,32 +17,36 @@ abbrev pub given_answer : Outcome → Answer
 given_answer (outcome.Source t) = answer.Number (pos 0)
 given_answer (outcome.Answer a) = a
 
-abbrev pub answer_at : Option AbstractSegment → Trace → Answer
-answer_at None t = answer.Number (pos 0)
-answer_at (Some s) t = given_answer (outcome_of s [] t)
+module _ (env : Numbers) where
+  abbrev pub answer_at : Option AbstractSegment → Trace → Answer
+  answer_at None t = answer.Number (pos 0)
+  answer_at (Some s) t = given_answer (outcome_of s env t)
 
--- a segment gives its answer, or what the segments after it make of its walk
-ends_there : (e f : AbstractEnd) → f ≡ e → (n : ℕ) (w : Trace) (s : AbstractSegment) (ss : List AbstractSegment) (t : Trace) → outcome_of s [] t ≡ ended f n [] w
-    → ((u : Trace) → segments_answer ss [] u ≡ answer_at (slice_get ss (slices_first ss)) (source_at (slices_first ss) ss u))
-    → on_outcome (ended e n [] w) (segments_answer ss []) ≡ answer_at (slice_get (s ∷ ss) (one_more e (slices_first ss))) (source_at (one_more e (slices_first ss)) (s ∷ ss) t)
-ends_there (slicing d) f same n w s ss t is later =
-    let o = is ∙ ap (λ e. ended e n [] w) same in
-    later (given_walk (ended (slicing d) n [] w)) ∙ ap (λ (x : Outcome). answer_at (slice_get ss (slices_first ss)) (source_at (slices_first ss) ss (given_walk x))) (sym o)
-ends_there (folding g a counts) f same n w s ss t is later = sym (ap given_answer (is ∙ ap (λ e. ended e n [] w) same))
-ends_there (finding d) f same n w s ss t is later = sym (ap given_answer (is ∙ ap (λ e. ended e n [] w) same))
-ends_there collecting f same n w s ss t is later = sym (ap given_answer (is ∙ ap (λ e. ended e n [] w) same))
+  -- a segment gives its answer, or what the segments after it make of its walk
+  ends_there : (e f : AbstractEnd) → f ≡ e → (n : ℕ) (w : Trace) (s : AbstractSegment) (ss : List AbstractSegment) (t : Trace) → outcome_of s env t ≡ ended f n env w
+      → ((u : Trace) → segments_answer ss env u ≡ answer_at (slice_get ss (slices_first ss)) (source_at env (slices_first ss) ss u))
+      → on_outcome (ended e n env w) (segments_answer ss env) ≡ answer_at (slice_get (s ∷ ss) (one_more e (slices_first ss))) (source_at env (one_more e (slices_first ss)) (s ∷ ss) t)
+  ends_there (slicing d) f same n w s ss t is later =
+      let o = is ∙ ap (λ e. ended e n env w) same in
+      later (given_walk (ended (slicing d) n env w)) ∙ ap (λ (x : Outcome). answer_at (slice_get ss (slices_first ss)) (source_at env (slices_first ss) ss (given_walk x))) (sym o)
+  ends_there (folding g a counts) f same n w s ss t is later = sym (ap given_answer (is ∙ ap (λ e. ended e n env w) same))
+  ends_there (finding d) f same n w s ss t is later = sym (ap given_answer (is ∙ ap (λ e. ended e n env w) same))
+  ends_there collecting f same n w s ss t is later = sym (ap given_answer (is ∙ ap (λ e. ended e n env w) same))
+  ends_there (scanning g r) f same n w s ss t is later =
+      let o = is ∙ ap (λ e. ended e n env w) same in
+      later (given_walk (ended (scanning g r) n env w)) ∙ ap (λ (x : Outcome). answer_at (slice_get ss (slices_first ss)) (source_at env (slices_first ss) ss (given_walk x))) (sym o)
 
--- the answer of segments is that of the first which doesn't end in a slice
-pub answer_there : (ss : List AbstractSegment) (t : Trace) → segments_answer ss [] t ≡ answer_at (slice_get ss (slices_first ss)) (source_at (slices_first ss) ss t)
-answer_there [] t = refl
-answer_there (s ∷ ss) t = ends_there s.ending s.ending refl (last_stage s) (walk_of s [] t) s ss t refl (λ u. answer_there ss u)
+  -- the answer of segments is that of the first which doesn't end in a slice
+  pub answer_there : (ss : List AbstractSegment) (t : Trace) → segments_answer ss env t ≡ answer_at (slice_get ss (slices_first ss)) (source_at env (slices_first ss) ss t)
+  answer_there [] t = refl
+  answer_there (s ∷ ss) t = ends_there s.ending s.ending refl (last_stage s) (walk_of s env t) s ss t refl (λ u. answer_there ss u)
 
--- a segment goes over what the one before it gave
-pub goes_on : (k : ℕ) (ss : List AbstractSegment) (s : AbstractSegment) (t : Trace) → slice_get ss k ≡ Some s → source_at (suc k) ss t ≡ given_walk (outcome_of s [] (source_at k ss t))
-goes_on zero [] s t e = absurd (let z : None ≡ Some s = e in cc)
-goes_on zero (r ∷ ss) s t e = let same : r ≡ s = (let z : Some r ≡ Some s = e in cc) in ap (λ (x : AbstractSegment). given_walk (outcome_of x [] t)) same
-goes_on (suc k) [] s t e = absurd (let z : None ≡ Some s = e in cc)
-goes_on (suc k) (r ∷ ss) s t e = goes_on k ss s (given_walk (outcome_of r [] t)) e
+  -- a segment goes over what the one before it gave
+  pub goes_on : (k : ℕ) (ss : List AbstractSegment) (s : AbstractSegment) (t : Trace) → slice_get ss k ≡ Some s → source_at env (suc k) ss t ≡ given_walk (outcome_of s env (source_at env k ss t))
+  goes_on zero [] s t e = absurd (let z : None ≡ Some s = e in cc)
+  goes_on zero (r ∷ ss) s t e = let same : r ≡ s = (let z : Some r ≡ Some s = e in cc) in ap (λ (x : AbstractSegment). given_walk (outcome_of x env t)) same
+  goes_on (suc k) [] s t e = absurd (let z : None ≡ Some s = e in cc)
+  goes_on (suc k) (r ∷ ss) s t e = goes_on k ss s (given_walk (outcome_of r env t)) e
 
 -- before the answer there is a segment
 more_than : (e : AbstractEnd) (k n : ℕ) → suc k < one_more e n → k < n
@@ -49,6 +54,7 @@ more_than (slicing d) k n h = omega arith
 more_than (folding f a counts) k n h = absurd (omega arith)
 more_than (finding d) k n h = absurd (omega arith)
 more_than collecting k n h = absurd (omega arith)
+more_than (scanning g r) k n h = omega arith
 
 pub stands_there : (ss : List AbstractSegment) (k : ℕ) → k < slices_first ss → slice_get ss k ≡ None → ⊥
 stands_there [] k h e = omega arith

@@ -1,18 +1,24 @@
 -- Parts of a segment: two side by side, and the one for all positions.
-use Rattle.std.proofs.Common.{◌≡◌, ℕ, suc, ◌<◌, ◌≤◌, pos, Bool, true, false, [], Option, Some, None, IfSome, Result, Ok, Err, IfOk, slice_get, if◌then◌else◌, ◌==◌, ap, sym, subst, ◌∙◌, refl, arith, eq-eqb, ne_eqb}
-use Rattle.trace.specs.Trace.{Trace, append}
+use Rattle.std.proofs.Common.{◌≡◌, ℕ, suc, ◌+◌, ◌-◌, ◌<◌, ◌≤◌, drop, length, pos, Bool, true, false, [], Option, Some, None, IfSome, Result, Ok, Err, IfOk, slice_get, if◌then◌else◌, ◌==◌, ap, sym, subst, ◌∙◌, refl, arith, eq-eqb, ne_eqb}
+use Rattle.trace.specs.Trace.{Trace, append, nothing}
 use Rattle.lambda_expr.specs.Earlier.{Numbers}
 use Rattle.job_plan.specs.declared.answer.Answer.TheVariants as answer
 use Rattle.job_plan.specs.declared.outcome.Outcome.{Outcome}
 use Rattle.job_plan.specs.declared.part.Part.{Part}
-use Rattle.job_plan.specs.Parts.{StandsFor}
+use Rattle.std.proofs.lemmas.List.{length-take}
+use Rattle.early_stop.specs.Decisive.{Decides}
+use Rattle.early_stop.specs.Leaving.{IsEnough}
+use Rattle.early_stop.proofs.Leaving.{enough_as, enough_gives, enough_joined, enough_left}
+use Rattle.job_plan.specs.Parts.{StandsEnough, StandsFor, is_settled}
+use Rattle.job_plan.proofs.Elements.{length_dropped}
+use Rattle.job_plan.proofs.SettleLemmas.{settled_decides}
 use Rattle.job_plan.specs.Pieces.{piece_of}
 use Rattle.job_plan.specs.Plans.{AbstractSegment, AbstractPlan, outcome_of, planned_answer, segments_answer}
 use Rattle.job_plan.specs.Spans.{IsNotAfter}
 use Rattle.job_plan.specs.Walks.{source_walk}
 use Rattle.job_plan.proofs.SideBySide.{pieces_joined, whole_piece}
 use Rattle.job_plan.proofs.WindowLemmas.{later_answer}
-use Rattle.job_table.specs.PlanSegments.{AbstractChain, PartStands, chain_of, given_walk, piece_between, slices_first, upto, walk_at, walk_size}
+use Rattle.job_table.specs.PlanSegments.{AbstractChain, PartStands, chain_of, given_by, given_walk, gives_at, piece_between, slices_first, upto, walk_at, walk_size}
 use Rattle.job_table.proofs.PlanAnswers.{answer_at, answer_there, given_answer, goes_on, stands_there}
 
 upto_middle : (size middle : ℕ) → middle < size → upto size middle ≡ Some middle
@@ -33,43 +39,78 @@ between_joined t from middle to l h w =
 between_all : (t : Trace) → piece_between 0 (walk_size t) t ≡ t
 between_all t = ap (λ (o : Option ℕ). piece_of 0 o t) (upto_last (walk_size t)) ∙ whole_piece t
 
+between_long : (t : Trace) (from middle : ℕ) → from < middle → middle < walk_size t → from + length (piece_between from middle t).items ≡ middle
+between_long t from middle l w =
+    ap (λ (o : Option ℕ). from + length (piece_of from o t).items) (upto_middle (walk_size t) middle w)
+    ∙ (let a = length-take (middle - from) (drop from t.items) in let d = length_dropped from t.items in omega arith)
+
 pub merged : (chain : AbstractChain) (segment from middle to : ℕ) (p q r : Part) → from < middle → middle < to → to ≤ walk_size (walk_at chain segment)
     → PartStands chain segment from middle p → PartStands chain segment middle to q
     → ((s : AbstractSegment) (env : Numbers) (a b : Trace) → StandsFor s env p a → StandsFor s env q b → StandsFor s env r (append a b))
     → PartStands chain segment from to r
 merged chain segment from middle to p q r l h w left right merges = by (slice_get chain.segments segment) left right
   where
-    t : Trace
-    t = walk_at chain segment
+    Is : AbstractSegment → Part → ℕ → ℕ → Type 0
+    Is s p from to = StandsEnough (Decides (outcome_of s chain.numbers) (walk_at chain segment)) s chain.numbers p from (piece_between from to (walk_at chain segment))
 
-    by : (o : Option AbstractSegment) → IfSome o (λ s. StandsFor s [] p (piece_between from middle (walk_at chain segment))) → IfSome o (λ s. StandsFor s [] q (piece_between middle to (walk_at chain segment)))
-        → IfSome o (λ s. StandsFor s [] r (piece_between from to (walk_at chain segment)))
+    both : (s : AbstractSegment) → Is s p from middle → Is s q middle to → Is s r from to
+    both s (a, ea, sa) (b, eb, sb) = (
+      append a b,
+      subst (λ (u : Trace). IsEnough (Decides (outcome_of s chain.numbers) (walk_at chain segment)) from u (append a b)) (between_joined (walk_at chain segment) from middle to l h w)
+          (enough_joined (Decides (outcome_of s chain.numbers) (walk_at chain segment)) from (piece_between from middle (walk_at chain segment)) a (piece_between middle to (walk_at chain segment)) b ea
+          (subst (λ (n : ℕ). IsEnough (Decides (outcome_of s chain.numbers) (walk_at chain segment)) n (piece_between middle to (walk_at chain segment)) b) (sym (between_long (walk_at chain segment) from middle l (omega arith))) eb)),
+      merges s chain.numbers a b sa sb,
+    )
+
+    by : (o : Option AbstractSegment) → IfSome o (λ s. Is s p from middle) → IfSome o (λ s. Is s q middle to) → IfSome o (λ s. Is s r from to)
     by None a b = tt
-    by (Some s) a b = subst (λ (u : Trace). StandsFor s [] r u) (between_joined (walk_at chain segment) from middle to l h w) (merges s [] (piece_between from middle (walk_at chain segment)) (piece_between middle to (walk_at chain segment)) a b)
+    by (Some s) a b = both s a b
 
-module _ (chain : AbstractChain) (segment : ℕ) (part : Part) (o : Outcome) (ends : (s : AbstractSegment) (t : Trace) → StandsFor s [] part t → o ≡ outcome_of s [] t) where
-  outcome_all : (s : AbstractSegment) → StandsFor s [] part (piece_between 0 (walk_size (walk_at chain segment)) (walk_at chain segment)) → o ≡ outcome_of s [] (walk_at chain segment)
-  outcome_all s h = ends s (walk_at chain segment) (subst (λ (u : Trace). StandsFor s [] part u) (between_all (walk_at chain segment)) h)
+-- a piece that is left out
+pub left_stands : (chain : AbstractChain) (segment from to : ℕ) (p : Part) (c : ℕ) → c ≤ from → Decides (gives_at chain segment) (walk_at chain segment) c → IfSome (slice_get chain.segments segment) (λ s. StandsFor s chain.numbers p nothing) → PartStands chain segment from to p
+left_stands chain segment from to p c h ok stands = by (slice_get chain.segments segment) ok stands
+  where
+    by : (o : Option AbstractSegment) → Decides (given_by chain.numbers o) (walk_at chain segment) c → IfSome o (λ s. StandsFor s chain.numbers p nothing)
+        → IfSome o (λ s. StandsEnough (Decides (outcome_of s chain.numbers) (walk_at chain segment)) s chain.numbers p from (piece_between from to (walk_at chain segment)))
+    by None d a = tt
+    by (Some s) d a = (nothing, enough_left (Decides (outcome_of s chain.numbers) (walk_at chain segment)) from c (piece_between from to (walk_at chain segment)) nothing d h, a)
+
+-- after a settled part nothing matters
+pub part_decides : (chain : AbstractChain) (segment from to : ℕ) (p : Part) → from ≤ to → to < walk_size (walk_at chain segment) → is_settled p ≡ true → PartStands chain segment from to p → Decides (gives_at chain segment) (walk_at chain segment) to
+part_decides chain segment from to p h w settled stands = by (slice_get chain.segments segment) stands
+  where
+    by : (o : Option AbstractSegment) → IfSome o (λ s. StandsEnough (Decides (outcome_of s chain.numbers) (walk_at chain segment)) s chain.numbers p from (piece_between from to (walk_at chain segment))) → Decides (given_by chain.numbers o) (walk_at chain segment) to
+    by None a = λ t b. refl
+    by (Some s) a = settled_decides s chain.numbers p (walk_at chain segment) from to h (omega arith) settled
+        (subst (λ (o : Option ℕ). StandsEnough (Decides (outcome_of s chain.numbers) (walk_at chain segment)) s chain.numbers p from (piece_of from o (walk_at chain segment))) (upto_middle (walk_size (walk_at chain segment)) to w) a)
+
+module _ (chain : AbstractChain) (segment : ℕ) (part : Part) (o : Outcome) (ends : (s : AbstractSegment) (t : Trace) → StandsFor s chain.numbers part t → o ≡ outcome_of s chain.numbers t) where
+  abbrev Whole : AbstractSegment → Type 0
+  Whole s = StandsEnough (Decides (outcome_of s chain.numbers) (walk_at chain segment)) s chain.numbers part 0 (piece_between 0 (walk_size (walk_at chain segment)) (walk_at chain segment))
+
+  outcome_all : (s : AbstractSegment) → Whole s → o ≡ outcome_of s chain.numbers (walk_at chain segment)
+  outcome_all s (t, enough, h) =
+      ends s t h ∙ enough_gives (outcome_of s chain.numbers) (walk_at chain segment) t (subst (λ (u : Trace). IsEnough (Decides (outcome_of s chain.numbers) (walk_at chain segment)) 0 u t) (between_all (walk_at chain segment)) enough)
 
   -- the next segment goes over what this one gave
   pub goes_over : segment < slices_first chain.segments → PartStands chain segment 0 (walk_size (walk_at chain segment)) part → given_walk o ≡ walk_at chain (suc segment)
   goes_over before stands = by (slice_get chain.segments segment) refl stands
     where
-      by : (x : Option AbstractSegment) → slice_get chain.segments segment ≡ x → IfSome x (λ s. StandsFor s [] part (piece_between 0 (walk_size (walk_at chain segment)) (walk_at chain segment))) → given_walk o ≡ walk_at chain (suc segment)
+      by : (x : Option AbstractSegment) → slice_get chain.segments segment ≡ x → IfSome x Whole → given_walk o ≡ walk_at chain (suc segment)
       by None e h = absurd (stands_there chain.segments segment before e)
-      by (Some s) e h = ap given_walk (outcome_all s h) ∙ sym (goes_on segment chain.segments s chain.source e)
+      by (Some s) e h = ap given_walk (outcome_all s h) ∙ sym (goes_on chain.numbers segment chain.segments s chain.source e)
 
   -- the last segment gives the answer of the job
-  pub last_answer : segment ≡ slices_first chain.segments → (s : AbstractSegment) → slice_get chain.segments segment ≡ Some s → PartStands chain segment 0 (walk_size (walk_at chain segment)) part → given_answer o ≡ segments_answer chain.segments [] chain.source
+  pub last_answer : segment ≡ slices_first chain.segments → (s : AbstractSegment) → slice_get chain.segments segment ≡ Some s → PartStands chain segment 0 (walk_size (walk_at chain segment)) part → given_answer o ≡ segments_answer chain.segments chain.numbers chain.source
   last_answer last s e stands =
-      ap given_answer (outcome_all s (subst (λ (x : Option AbstractSegment). IfSome x (λ r. StandsFor r [] part (piece_between 0 (walk_size (walk_at chain segment)) (walk_at chain segment)))) e stands))
-      ∙ ap (λ (x : Option AbstractSegment). answer_at x (walk_at chain segment)) (sym e)
-      ∙ ap (λ (k : ℕ). answer_at (slice_get chain.segments k) (walk_at chain k)) last
-      ∙ sym (answer_there chain.segments chain.source)
+      ap given_answer (outcome_all s (subst (λ (x : Option AbstractSegment). IfSome x Whole) e stands))
+      ∙ ap (λ (x : Option AbstractSegment). answer_at chain.numbers x (walk_at chain segment)) (sym e)
+      ∙ ap (λ (k : ℕ). answer_at chain.numbers (slice_get chain.segments k) (walk_at chain k)) last
+      ∙ sym (answer_there chain.numbers chain.segments chain.source)
 
 -- a job whose segments end before its answer
-pub no_answer : (chain : AbstractChain) → slice_get chain.segments (slices_first chain.segments) ≡ None → answer.Number (pos 0) ≡ segments_answer chain.segments [] chain.source
-no_answer chain e = sym (answer_there chain.segments chain.source ∙ ap (λ (x : Option AbstractSegment). answer_at x (walk_at chain (slices_first chain.segments))) e)
+pub no_answer : (chain : AbstractChain) → slice_get chain.segments (slices_first chain.segments) ≡ None → answer.Number (pos 0) ≡ segments_answer chain.segments chain.numbers chain.source
+no_answer chain e = sym (answer_there chain.numbers chain.segments chain.source ∙ ap (λ (x : Option AbstractSegment). answer_at chain.numbers x (walk_at chain (slices_first chain.segments))) e)
 
 -- the end of a piece, by a test whether it is the last position
 pub upto_all : (w : Trace) (n to : ℕ) (u : Option ℕ) → n ≡ walk_size w → to ≡ n → u ≡ None → u ≡ upto (walk_size w) to
@@ -79,21 +120,23 @@ pub upto_some : (w : Trace) (n to : ℕ) (u : Option ℕ) → n ≡ walk_size w 
 upto_some w n to u size other e = e ∙ sym (ap (λ (b : Bool). if b then None else Some to) (ne_eqb to (walk_size w) (λ x. other (x ∙ sym size))))
 
 -- the part of a piece
-pub piece_stands : {F : Type 0} (chain : AbstractChain) (segment from to : ℕ) (s : AbstractSegment) (w : Trace) (env : Numbers) (u : Option ℕ) (r : Result Part F)
-    → slice_get chain.segments segment ≡ Some s → env ≡ [] → w ≡ walk_at chain segment → u ≡ upto (walk_size w) to
-    → IfOk r (λ part. StandsFor s env part (piece_of from u w)) → IfOk r (λ part. PartStands chain segment from to part)
-piece_stands chain segment from to s w env u (Ok p) got alone walks ends h =
-    let a = subst (λ (e : Numbers). StandsFor s e p (piece_of from u w)) alone h in
-    let b = subst (λ (v : Option ℕ). StandsFor s [] p (piece_of from v w)) ends a in
-    let d = subst (λ (t : Trace). StandsFor s [] p (piece_between from to t)) walks b in
-    subst (λ (o : Option AbstractSegment). IfSome o (λ s. StandsFor s [] p (piece_between from to (walk_at chain segment)))) (sym got) d
-piece_stands chain segment from to s w env u (Err e) got alone walks ends h = tt
+pub piece_stands : {F : Type 0} (chain : AbstractChain) (segment from to : ℕ) (s : AbstractSegment) (w : Trace) (env : Numbers) (u : Option ℕ) (decides : ℕ → Type 0) (r : Result Part F)
+    → slice_get chain.segments segment ≡ Some s → env ≡ chain.numbers → w ≡ walk_at chain segment → u ≡ upto (walk_size w) to → ((c : ℕ) → decides c → Decides (gives_at chain segment) (walk_at chain segment) c)
+    → IfOk r (λ part. StandsEnough decides s env part from (piece_of from u w)) → IfOk r (λ part. PartStands chain segment from to part)
+piece_stands chain segment from to s w env u decides (Ok p) got alone walks ends more h =
+    let a = subst (λ (e : Numbers). StandsEnough decides s e p from (piece_of from u w)) alone h in
+    let b = subst (λ (v : Option ℕ). StandsEnough decides s chain.numbers p from (piece_of from v w)) ends a in
+    let d = subst (λ (t : Trace). StandsEnough decides s chain.numbers p from (piece_between from to t)) walks b in
+    let m : (c : ℕ) → decides c → Decides (outcome_of s chain.numbers) (walk_at chain segment) c = subst (λ (o : Option AbstractSegment). (c : ℕ) → decides c → Decides (given_by chain.numbers o) (walk_at chain segment) c) got more in
+    subst (λ (o : Option AbstractSegment). IfSome o (λ s. StandsEnough (Decides (outcome_of s chain.numbers) (walk_at chain segment)) s chain.numbers p from (piece_between from to (walk_at chain segment)))) (sym got)
+    (d.0, enough_as decides (Decides (outcome_of s chain.numbers) (walk_at chain segment)) from (piece_between from to (walk_at chain segment)) d.0 m d.1, d.2)
+piece_stands chain segment from to s w env u decides (Err e) got alone walks ends more h = tt
 
 -- of a segment that isn't there, any part
 pub any_part : (chain : AbstractChain) (segment from to : ℕ) (p : Part) → slice_get chain.segments segment ≡ None → PartStands chain segment from to p
 any_part chain segment from to p none_there =
-    subst (λ (o : Option AbstractSegment). IfSome o (λ s. StandsFor s [] p (piece_between from to (walk_at chain segment)))) (sym none_there) tt
+    subst (λ (o : Option AbstractSegment). IfSome o (λ s. StandsEnough (Decides (outcome_of s chain.numbers) (walk_at chain segment)) s chain.numbers p from (piece_between from to (walk_at chain segment)))) (sym none_there) tt
 
 -- the segments that a run walks give the answer of the job
-pub chain_answer : (plan : AbstractPlan) → segments_answer (chain_of plan).segments [] (chain_of plan).source ≡ planned_answer [] plan
-chain_answer plan = later_answer [] plan.segments (source_walk plan.sources)
+pub chain_answer : (env : Numbers) (plan : AbstractPlan) → segments_answer (chain_of env plan).segments env (chain_of env plan).source ≡ planned_answer env plan
+chain_answer env plan = later_answer env plan.segments (source_walk plan.sources)

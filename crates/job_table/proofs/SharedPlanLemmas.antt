@@ -4,7 +4,6 @@ use denote.Ref.{NamedLft}
 use denote.RattleType.{RattleType}
 use Rattle.std.proofs.Crossing.{crosses}
 use Rattle.lambda_expr.proofs.expr.BoolExpr.TheLaws.TheKnot as exprs
-use Rattle.lambda_expr.specs.contracts.env.Env as envs
 use Rattle.lambda_expr.specs.contracts.expr.BoolExpr as truths
 use Rattle.lambda_expr.specs.contracts.expr.LongExpr as longs
 use Rattle.trace.specs.contracts.stage.Stage as stages
@@ -12,12 +11,6 @@ use Rattle.job_plan.specs.contracts.segment.Segment as segments
 use Rattle.job_plan.specs.contracts.segment.JobPlan as jobs
 use Rattle.job_plan.specs.contracts.segment.Plan as plans
 use Rattle.job_table.specs.contracts.planned.PlanJobs as plan_jobs
-
-pub env_send : IsSend envs.the_row
-env_send = search (sendable, crosses) depth 30
-
-pub env_sync : IsSync envs.the_row
-env_sync = search (sendable, crosses) depth 30
 
 -- expressions, as a field and as an element
 long_field : IsSync (longs.the_field).row
@@ -42,7 +35,7 @@ pub plan_sync : (a : NamedLft) → IsSync (plans.the_row a)
 plan_sync a = search (sendable, crosses, job_sync) depth 30
 
 pub jobs_send : (a c : NamedLft) (P : RattleType) (g : _) → IsSend P → IsSend (plan_jobs.the_row a c P g)
-jobs_send a c P g s = search (sendable, crosses, plan_sync, env_send) depth 60 fits 20000
+jobs_send a c P g s = search (sendable, crosses, plan_sync) depth 60 fits 20000
 
 pub jobs_sync : (a c : NamedLft) (P : RattleType) (g : _) → IsSync P → IsSync (plan_jobs.the_row a c P g)
-jobs_sync a c P g s = search (sendable, crosses, plan_sync, env_sync) depth 60 fits 20000
+jobs_sync a c P g s = search (sendable, crosses, plan_sync) depth 60 fits 20000

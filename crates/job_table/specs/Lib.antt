@@ -2,7 +2,12 @@
 pub mod Cuts
 pub mod CutLaws
 pub mod Tasks
+pub mod Waits
+pub mod Starts
+pub mod Begins
 pub mod Answers
 pub mod PlanSegments
 pub mod PlanLaws
 pub mod Sources
+pub mod Stops
+pub mod Takings

@@ -2,6 +2,8 @@
 use Rattle.std.proofs.Common.{◌≡◌, List, []}
 use base.Stored.{Coded-set, coded_list}
 use mir.Syntax.{static}
+use Rattle.lambda_expr.specs.Earlier.{Numbers}
+use Rattle.lambda_expr.specs.contracts.env.Env as envs
 use Rattle.trace.specs.Trace.{Trace}
 use Rattle.trace.specs.contracts.chunk.Chunk as chunks
 use Rattle.job_plan.specs.contracts.answer.Answer as answers
@@ -17,3 +19,6 @@ one_plan xs ys = Coded-set (coded_list (plans.the_row (record { mir = static; lf
 
 pub one_walk : (s t : Trace) → IsProp (s ≡ t)
 one_walk s t = Coded-set (chunks.the_row).coded s t
+
+pub one_env : (a b : Numbers) → IsProp (a ≡ b)
+one_env a b = Coded-set (envs.the_row).coded a b

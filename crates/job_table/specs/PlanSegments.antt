@@ -1,30 +1,45 @@
 -- Condition: the segments of a plan: what each goes over, and what parts of it stand for.
-use Rattle.std.specs.Prelude.{ℕ, zero, suc, ◌-◌, ◌^◌, min, Bool, true, false, List, [], ◌∷◌, length, Option, Some, None, IfSome, slice_get, slice_index_or, if◌then◌else◌, ◌==◌}
+use Rattle.std.specs.Prelude.{ℕ, zero, suc, pos, ◌-◌, ◌^◌, min, take, Bool, true, false, List, [], ◌∷◌, length, Option, Some, None, IfSome, slice_get, slice_index_or, if◌then◌else◌, ◌==◌}
+use Rattle.lambda_expr.specs.Earlier.{Numbers}
 use Rattle.trace.specs.Trace.{Trace, nothing}
+use Rattle.job_plan.specs.declared.answer.Answer.{Answer}
+use Rattle.job_plan.specs.declared.answer.Answer.TheVariants as answer
 use Rattle.job_plan.specs.declared.outcome.Outcome.{Outcome}
 use Rattle.job_plan.specs.declared.outcome.Outcome.TheVariants as outcome
 use Rattle.job_plan.specs.declared.part.Part.{Part}
-use Rattle.job_plan.specs.Parts.{StandsFor}
+use Rattle.early_stop.specs.Decisive.{Decides}
+use Rattle.job_plan.specs.Parts.{StandsEnough}
 use Rattle.job_plan.specs.Pieces.{piece_of}
-use Rattle.job_plan.specs.Plans.{AbstractEnd, slicing, folding, finding, collecting, AbstractSegment, AbstractPlan, outcome_of}
+use Rattle.job_plan.specs.PlannedAnswers.{numbers_at, planned_meaning, put_into}
+use Rattle.job_plan.specs.Plans.{AbstractEnd, slicing, folding, finding, collecting, scanning, AbstractSegment, AbstractPlan, outcome_of}
 use Rattle.slice_ops.specs.Slices.{AbstractSlice, limit, skip, take_while, drop_while}
 use Rattle.job_plan.specs.Windows.{later_segments, selected_source}
 
--- what a run walks of a job: the segments after the slices that select positions of its sources, and what the first of them
--- goes over
+-- what a run walks of a job: the segments after the slices that select positions of its sources, what the first of them goes
+-- over, and the numbers of the jobs that it names
 pub record AbstractChain : Type 0 where
   pub segments : List AbstractSegment
   pub source : Trace
+  pub numbers : Numbers
 
-abbrev pub chain_of : AbstractPlan → AbstractChain
-chain_of plan = record { segments = later_segments plan.segments; source = selected_source plan }
+abbrev pub chain_of : Numbers → AbstractPlan → AbstractChain
+chain_of env plan = record { segments = later_segments plan.segments; source = selected_source plan; numbers = env }
 
 -- the job with this number
 abbrev pub plan_at : List AbstractPlan → ℕ → AbstractPlan
-plan_at plans job = slice_index_or plans job (record { name = []; sources = []; segments = [] })
+plan_at plans job = slice_index_or plans job (record { name = []; named = []; sources = []; segments = [] })
 
+-- the answer of the job with this number
+abbrev pub answer_of : List AbstractPlan → ℕ → Answer
+answer_of plans job = slice_index_or (planned_meaning plans) job (answer.Number (pos 0))
+
+-- the answers of the jobs before the one with this number
+abbrev pub answers_before : List AbstractPlan → ℕ → List Answer
+answers_before plans job = take job (planned_meaning plans)
+
+-- what a run walks of the job with this number: with the arrays and the numbers of the jobs that it names
 abbrev pub chain_at : List AbstractPlan → ℕ → AbstractChain
-chain_at plans job = chain_of (plan_at plans job)
+chain_at plans job = chain_of (numbers_at (answers_before plans job) (plan_at plans job).named) (put_into (answers_before plans job) (plan_at plans job))
 
 -- one more, if it ends in a stage that looks at a whole walk
 abbrev pub one_more : AbstractEnd → ℕ → ℕ
@@ -32,6 +47,7 @@ one_more (slicing d) n = suc n
 one_more (folding f a counts) n = 0
 one_more (finding d) n = 0
 one_more collecting n = 0
+one_more (scanning f r) n = suc n
 
 -- how many of the first segments end in such a stage: the number of the segment that gives the answer
 abbrev pub slices_first : List AbstractSegment → ℕ
@@ -44,14 +60,14 @@ given_walk (outcome.Source t) = t
 given_walk (outcome.Answer a) = nothing
 
 -- what the segment with this number goes over, if the first one goes over this
-abbrev pub source_at : ℕ → List AbstractSegment → Trace → Trace
-source_at zero ss t = t
-source_at (suc k) [] t = t
-source_at (suc k) (s ∷ ss) t = source_at k ss (given_walk (outcome_of s [] t))
+abbrev pub source_at : Numbers → ℕ → List AbstractSegment → Trace → Trace
+source_at env zero ss t = t
+source_at env (suc k) [] t = t
+source_at env (suc k) (s ∷ ss) t = source_at env k ss (given_walk (outcome_of s env t))
 
 -- what the segment of a job with this number goes over
 abbrev pub walk_at : AbstractChain → ℕ → Trace
-walk_at chain segment = source_at segment chain.segments chain.source
+walk_at chain segment = source_at chain.numbers segment chain.segments chain.source
 
 -- how many positions a walk has; a run knows no more than 2^64 - 1
 abbrev pub walk_size : Trace → ℕ
@@ -65,12 +81,21 @@ upto size to = if to == size then None else Some to
 abbrev pub piece_between : ℕ → ℕ → Trace → Trace
 piece_between from to t = piece_of from (upto (walk_size t) to) t
 
--- a part of a job's segment for these positions; a segment that isn't there has any part
+-- what a segment would give for a walk; one that isn't there gives nothing
+abbrev pub given_by : Numbers → Option AbstractSegment → Trace → Outcome
+given_by env None t = outcome.Source nothing
+given_by env (Some s) t = outcome_of s env t
+
+-- what the segment of a job with this number would give for a walk
+abbrev pub gives_at : AbstractChain → ℕ → Trace → Outcome
+gives_at chain segment = given_by chain.numbers (slice_get chain.segments segment)
+
+-- a part of a job's segment for these positions, or for enough of them; a segment that isn't there has any part
 abbrev pub PartStands : AbstractChain → ℕ → ℕ → ℕ → Part → Type 0
 PartStands chain segment from to part =
-    IfSome (slice_get chain.segments segment) (λ s. StandsFor s [] part (piece_between from to (walk_at chain segment)))
+    IfSome (slice_get chain.segments segment) (λ s. StandsEnough (Decides (outcome_of s chain.numbers) (walk_at chain segment)) s chain.numbers part from (piece_between from to (walk_at chain segment)))
 
--- whether a segment is walked in pieces: not if its end may want no more items before the last one
+-- whether a segment is walked in pieces: not if its end keeps items and may want no more of them before the last one
 abbrev pub slice_divides : AbstractSlice → Bool
 slice_divides (limit n) = false
 slice_divides (skip n) = true
@@ -80,8 +105,9 @@ slice_divides (drop_while p) = true
 abbrev pub end_divides : AbstractEnd → Bool
 end_divides (slicing d) = slice_divides d
 end_divides (folding f a counts) = true
-end_divides (finding d) = false
+end_divides (finding d) = true
 end_divides collecting = true
+end_divides (scanning f r) = true
 
 abbrev pub segment_divides : Option AbstractSegment → Bool
 segment_divides None = false

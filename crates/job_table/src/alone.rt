@@ -2,7 +2,9 @@
 ghost use Rattle.std.specs.Prelude.{◌≡◌, ◌<◌, ◌≤◌, ℕ, IfOk};
 
 use crate::NoMemory;
-use crate::segments::Segments;
+use crate::earlier::Earlier;
+use crate::segments::{Begun, Segments};
+use early_stop::Never;
 use std::alloc::Global;
 use worker_pool::Gate;
 
@@ -13,35 +15,78 @@ fn walk_whole<S: Segments>(
     job: usize,
     segment: usize,
     source: &S::Source,
+    given: &S::Given,
+    earlier: &Earlier<'_, S>,
     scratch: &mut S::Scratch,
 ) -> Result<S::Part, NoMemory>
     requires job { job < S.job_count }
     requires segment { segment ≤ S.last_of job }
     requires source { S.is_source job segment source.now }
+    requires given { S.is_given job given.now }
     ensures { IfOk result (λ part. S.stands_for job segment 0 (S.size_of job segment) part) }
 {
-    let size = jobs.size(job, segment, source);
-    jobs.leaf(alloc, job, segment, source, 0, size, scratch)
+    let size = jobs.size(job, segment, source, given);
+    jobs.leaf(
+        alloc, job, segment, source, 0, size, given, earlier, scratch, &mut Never,
+    )
 }
 
-/// Works a job out, segment after segment, each as one piece. It enters the gate once, for all of the job's source.
+/// Walks all segments of a job, each as one piece. It enters the gate once, for all of the job's source.
+fn walk_alone<S: Segments, G: Gate>(
+    alloc: Global,
+    gate: &G,
+    jobs: &S,
+    job: usize,
+    given: &S::Given,
+    earlier: &Earlier<'_, S>,
+) -> Result<S::Answer, NoMemory>
+    requires job { job < S.job_count }
+    requires given { S.is_given job given.now }
+    ensures { IfOk result (λ answer. S.is_answer job answer) }
+{
+    let mut source = jobs.first_source(job);
+    gate.at_leaf(job, 0, jobs.size(job, 0, &source, given));
+    let last = jobs.last_segment(job);
+    let mut scratch = jobs.scratch(alloc);
+    for segment in 0..last {
+        let part = walk_whole(
+            alloc,
+            jobs,
+            job,
+            segment,
+            &source,
+            given,
+            earlier,
+            &mut scratch,
+        )?;
+        source = jobs.next_source(alloc, job, segment, part, given)?;
+    }
+    let part = walk_whole(
+        alloc,
+        jobs,
+        job,
+        last,
+        &source,
+        given,
+        earlier,
+        &mut scratch,
+    )?;
+    jobs.answer(alloc, job, part, given)
+}
+
+/// Works a job out after the jobs before it.
 pub(crate) fn answer_alone<S: Segments, G: Gate>(
     alloc: Global,
     gate: &G,
     jobs: &S,
     job: usize,
+    earlier: &Earlier<'_, S>,
 ) -> Result<S::Answer, NoMemory>
     requires job { job < S.job_count }
     ensures { IfOk result (λ answer. S.is_answer job answer) }
 {
-    let mut source = jobs.first_source(job);
-    gate.at_leaf(job, 0, jobs.size(job, 0, &source));
-    let last = jobs.last_segment(job);
-    let mut scratch = jobs.scratch(alloc);
-    for segment in 0..last {
-        let part = walk_whole(alloc, jobs, job, segment, &source, &mut scratch)?;
-        source = jobs.next_source(alloc, job, segment, part)?;
+    match jobs.given(alloc, job, earlier)? {
+        Begun::Walk(given) => walk_alone(alloc, gate, jobs, job, &given, earlier),
+        Begun::Known(answer) => Ok(answer),
     }
-    let part = walk_whole(alloc, jobs, job, last, &source, &mut scratch)?;
-    jobs.answer(alloc, job, part)
 }

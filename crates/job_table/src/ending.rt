@@ -1,76 +1,222 @@
-//! Segments that were walked whole: the next one begins, or the job ends.
-ghost use Rattle.std.specs.Prelude.{IfSome};
+//! Segments that were walked whole: the next one begins, or the job ends, and those that wait for it begin.
+ghost use Rattle.std.specs.Prelude.{◌<◌, ◌+◌, ◌++◌, ◌∷◌, [], List, ℕ, drop, length, IfSome, IfOk};
 ghost use Rattle.job_table.specs.Cuts.{StandsWhole};
+ghost use Rattle.job_table.specs.Tasks.{HasKept};
+ghost use Rattle.job_table.specs.Waits.{nodes_in};
 
-use crate::cut::{SegmentPart, TableKept, TablePart};
-use crate::places::{keep_answer, keep_source};
-use crate::segments::Segments;
-use crate::task::{Running, TableTask, TableWhole, Task, Whole};
-use crate::work::JobWork;
-use completion_core::END;
+use crate::cut::{SegmentPart, TableKept, TablePart, TableSeat};
+use crate::earlier::Earlier;
+use crate::places::{keep_answer, keep_given, keep_source, kept_given};
+use crate::segments::{Begun, Segments};
+use crate::start::Waiting;
+use crate::task::{JobSeat, Running, TableJobSeat, TableTask, TableWhole, Task, Whole};
+use crate::watch::Watch;
+use crate::work::{JobWork, size_of};
 use worker_pool::{Gate, Spawn};
 
 impl<'a, S: Segments, R: Running> JobWork<'a, S, TablePart<S>, TableKept<S>, R> {
-    /// Leaves what the segment gives in its place, and begins the next segment, or settles the job.
+    /// Leaves what a job takes of earlier answers in its place, or its answer, if there is nothing to walk.
+    fn prepare(&self, job: usize)
+        requires { job < R.jobs }
+    {
+        match self
+            .jobs
+            .given(self.alloc, job, &Earlier::in_places(&self.places))
+        {
+            Ok(Begun::Walk(given)) => keep_given(&self.places, job, given),
+            Ok(Begun::Known(answer)) => keep_answer(&self.places, job, answer),
+            Err(_refused) => {}
+        }
+    }
+
+    /// Begins a job, and walks what others don't take. `Some` if the job is over.
+    fn run_job<G: Gate, P: Spawn<TableTask<S, R>>>(
+        &self,
+        gate: &G,
+        begun: TableJobSeat<S, R>,
+        spawn: &mut P,
+        scratch: &mut S::Scratch,
+        watch: &mut Watch<'_, S, R>,
+    ) -> Option<TableJobSeat<S, R>> {
+        self.prepare(begun.job);
+        let Some(size) = size_of(self, begun.job, 0) else {
+            return Some(begun);
+        };
+        let whole = self.begin(gate, begun, 0, size, spawn, scratch, watch);
+        self.go_on(gate, whole, spawn, scratch, watch)
+    }
+
+    /// Leaves what the segment gives in its place, and begins the next segment. `Err` if the job is over.
     fn end_segment<G: Gate, P: Spawn<TableTask<S, R>>>(
         &self,
         gate: &G,
         whole: TableWhole<S, R>,
         spawn: &mut P,
         scratch: &mut S::Scratch,
-    ) -> Option<TableWhole<S, R>>
-        requires { StandsWhole S.stands_for S.size_of whole.job whole.segment (λ x. x.part) whole.part }
-        ensures { IfSome result (λ whole. StandsWhole S.stands_for S.size_of whole.job whole.segment (λ x. x.part) whole.part) }
+        watch: &mut Watch<'_, S, R>,
+    ) -> Result<Option<TableWhole<S, R>>, TableJobSeat<S, R>>
+        requires { StandsWhole S.stands_for S.size_of whole.job.job whole.segment (λ x. x.part) whole.part }
+        ensures { IfOk result (λ later. IfSome later (λ whole. StandsWhole S.stands_for S.size_of whole.job.job whole.segment (λ x. x.part) whole.part)) }
     {
         let Whole {
-            seat,
-            job,
+            job: begun,
             segment,
             part,
-            of: _,
         } = whole;
+        let job = begun.job;
         let Ok(SegmentPart { part, of: _ }) = part else {
-            let _ = self.counts.settle(seat);
-            return None;
+            return Err(begun);
+        };
+        let Some(given) = kept_given(&self.places, job) else {
+            return Err(begun);
         };
         if segment < self.jobs.last_segment(job) {
-            if let Ok(source) = self.jobs.next_source(self.alloc, job, segment, part) {
+            if let Ok(source) = self.jobs.next_source(self.alloc, job, segment, part, given) {
                 keep_source(&self.places, job, segment + 1, source);
             }
-            let credit = seat.credit();
-            let (_rest, seat) = self.counts.split(seat, END, 1, credit);
-            return self.begin(gate, seat, job, segment + 1, spawn, scratch);
+            let Some(size) = size_of(self, job, segment + 1) else {
+                return Err(begun);
+            };
+            return Ok(self.begin(gate, begun, segment + 1, size, spawn, scratch, watch));
         }
-        if let Ok(answer) = self.jobs.answer(self.alloc, job, part) {
+        if let Ok(answer) = self.jobs.answer(self.alloc, job, part, given) {
             keep_answer(&self.places, job, answer);
         }
-        let _ = self.counts.settle(seat);
-        None
+        Err(begun)
     }
-}
 
-impl<'a, S: Segments, R: Running> JobWork<'a, S, TablePart<S>, TableKept<S>, R> {
-    /// Ends one segment after the other, while this worker has the last part of one. Each is a later one of the same job.
-    pub(crate) fn go_on<G: Gate, P: Spawn<TableTask<S, R>>>(
+    /// Ends one segment after the other, while this worker has the last part of one. Each is a later one of the same job. `Some` if the
+    /// job is over.
+    fn go_on<G: Gate, P: Spawn<TableTask<S, R>>>(
         &self,
         gate: &G,
         first: Option<TableWhole<S, R>>,
         spawn: &mut P,
         scratch: &mut S::Scratch,
-    )
-        requires { IfSome first (λ whole. StandsWhole S.stands_for S.size_of whole.job whole.segment (λ x. x.part) whole.part) }
+        watch: &mut Watch<'_, S, R>,
+    ) -> Option<TableJobSeat<S, R>>
+        requires { IfSome first (λ whole. StandsWhole S.stands_for S.size_of whole.job.job whole.segment (λ x. x.part) whole.part) }
     {
         let mut left = first;
         for _ in 0..u64::MAX {
-            let Some(whole) = left.take() else {
-                break;
-            };
-            left = self.end_segment(gate, whole, spawn, scratch);
+            match self.end_segment(gate, left.take()?, spawn, scratch, watch) {
+                Ok(later) => left = later,
+                Err(over) => return Some(over),
+            }
         }
+        None
     }
 }
 
 impl<'a, S: Segments, R: Running> JobWork<'a, S, TablePart<S>, TableKept<S>, R> {
+    /// Arrives at the start node of a job that waits, with its part of the credit. `Some` if that job may begin.
+    fn free_one(
+        &self,
+        seat: TableSeat<S>,
+        waiting: Waiting,
+        parts: u64,
+    ) -> (TableSeat<S>, Option<TableJobSeat<S, R>>)
+        requires has { HasKept R.table R.jobs R.start R.keeps (waiting.node ∷ []) seat }
+        requires parts { 0 < parts }
+        ensures { (left : List ℕ) → HasKept R.table R.jobs R.start R.keeps (waiting.node ∷ left) seat → HasKept R.table R.jobs R.start R.keeps left result.0 }
+    {
+        let share = seat.credit() / parts;
+        if waiting.job >= self.starts.len() || self.start(waiting.job).node != waiting.node {
+            return (seat, None);
+        }
+        let (seat, part) = self.counts.split(seat, waiting.node, 1, share);
+        (seat, self.arrive_at(part, waiting.job))
+    }
+
+    /// The same for the one at this position of those that wait.
+    fn free_next(
+        &self,
+        seat: TableSeat<S>,
+        waiting: &[Waiting],
+        at: usize,
+    ) -> (TableSeat<S>, Option<TableJobSeat<S, R>>)
+        requires at { at < length waiting.now }
+        requires has { HasKept R.table R.jobs R.start R.keeps (nodes_in (drop at waiting.now) ++ 0 ∷ []) seat }
+        ensures { HasKept R.table R.jobs R.start R.keeps (nodes_in (drop (at + 1) waiting.now) ++ 0 ∷ []) result.0 }
+    {
+        let Some(next) = waiting.get(at) else {
+            return (seat, None);
+        };
+        self.free_one(seat, *next, (waiting.len() - at) as u64)
+    }
+
+    /// Arrives for a job that is over at the start nodes of the jobs that wait for it, and settles it. Of those that may begin now one
+    /// comes back, and the others go to the pool.
+    #[cycle(over)]
+    #[tactic(auto, using(crate::proofs::SeatLemmas::begin_waiting, crate::proofs::SeatLemmas::ends_kept))]
+    fn end_job<G: Gate, P: Spawn<TableTask<S, R>>>(
+        &self,
+        gate: &G,
+        over: TableJobSeat<S, R>,
+        spawn: &mut P,
+        scratch: &mut S::Scratch,
+        watch: &mut Watch<'_, S, R>,
+        depth: usize,
+    ) -> Option<TableJobSeat<S, R>> {
+        let JobSeat { seat, job, of: _ } = over;
+        let waiting = self.waiting_for(job);
+        let mut seat = seat;
+        let mut next = None;
+        for at in 0..waiting.len() {
+            let (rest, freed) = self.free_next(seat, waiting, at);
+            seat = rest;
+            if let Some(freed) = freed {
+                if let Some(other) = next.replace(freed) {
+                    self.hand_over(gate, other, spawn, scratch, watch, depth);
+                }
+            }
+        }
+        let _ = self.counts.settle(seat);
+        next
+    }
+
+    /// Gives a job that may begin to the pool. If the pool has no room it is run here; `depth` is how many more jobs may be.
+    #[cycle(over)]
+    fn hand_over<G: Gate, P: Spawn<TableTask<S, R>>>(
+        &self,
+        gate: &G,
+        begun: TableJobSeat<S, R>,
+        spawn: &mut P,
+        scratch: &mut S::Scratch,
+        watch: &mut Watch<'_, S, R>,
+        depth: usize,
+    ) {
+        if let Err(Task::Begin(begun)) = spawn.push(Task::Begin(begun)) {
+            if let Some(depth) = depth.checked_sub(1) {
+                let over = self.run_job(gate, begun, spawn, scratch, watch);
+                self.finish(gate, over, spawn, scratch, watch, depth);
+            }
+        }
+    }
+
+    /// Ends a job that is over, and runs the jobs that may begin then.
+    #[cycle(over)]
+    fn finish<G: Gate, P: Spawn<TableTask<S, R>>>(
+        &self,
+        gate: &G,
+        over: Option<TableJobSeat<S, R>>,
+        spawn: &mut P,
+        scratch: &mut S::Scratch,
+        watch: &mut Watch<'_, S, R>,
+        depth: usize,
+    ) {
+        let mut left = over;
+        for _ in 0..u64::MAX {
+            let Some(over) = left.take() else {
+                break;
+            };
+            let Some(next) = self.end_job(gate, over, spawn, scratch, watch, depth) else {
+                break;
+            };
+            left = self.run_job(gate, next, spawn, scratch, watch);
+        }
+    }
+
     /// Runs a task, and what comes after it on this worker.
     pub(crate) fn take<G: Gate, P: Spawn<TableTask<S, R>>>(
         &self,
@@ -78,16 +224,15 @@ impl<'a, S: Segments, R: Running> JobWork<'a, S, TablePart<S>, TableKept<S>, R> 
         task: TableTask<S, R>,
         spawn: &mut P,
         scratch: &mut S::Scratch,
+        watch: &mut Watch<'_, S, R>,
     ) {
-        match task {
-            Task::Open(opening) => {
-                let whole = self.open(gate, opening, spawn, scratch);
-                self.go_on(gate, whole, spawn, scratch);
-            }
+        let over = match task {
+            Task::Begin(begun) => self.run_job(gate, begun, spawn, scratch, watch),
             Task::Walk(piece) => {
-                let whole = self.walk(gate, piece, spawn, scratch);
-                self.go_on(gate, whole, spawn, scratch);
+                let whole = self.walk(gate, piece, spawn, scratch, watch);
+                self.go_on(gate, whole, spawn, scratch, watch)
             }
-        }
+        };
+        self.finish(gate, over, spawn, scratch, watch, self.starts.len());
     }
 }

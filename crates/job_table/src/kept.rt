@@ -1,12 +1,22 @@
-//! What the segments of a plan go over, as it is kept between them.
+//! What jobs of a plan take of others, and what their segments go over, as it is kept between them.
 
 use job_plan::GivenWalk;
+use lambda_expr::Env;
 
 /// What a segment goes over.
 #[derive(Drop)]
-pub enum SegmentSource {
+pub enum SegmentSource<'a> {
     /// The sources of the job, or the positions of them that slices before every other stage select.
     Own,
     /// What the segment before it gave.
-    Kept(GivenWalk),
+    Kept(GivenWalk<'a>),
+}
+
+/// What a job takes of the answers of the jobs that it names.
+#[derive(Drop)]
+pub struct Taken {
+    /// The numbers of its `$` names.
+    pub(crate) numbers: Env,
+    /// How many positions its first segment has.
+    pub(crate) size: u64,
 }

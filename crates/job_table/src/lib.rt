@@ -16,28 +16,38 @@
 #![tactic(auto)]
 
 mod alone;
+mod arming;
 mod cut;
+mod earlier;
 mod ending;
 mod kept;
 mod nodes;
 mod opening;
 mod places;
+mod plan_names;
 mod plan_parts;
 mod planned;
 mod run;
 mod segments;
+mod start;
+mod stopping;
 mod task;
 mod walking;
+mod watch;
+mod watching;
 mod work;
 
 pub use cut::{Cut, Join, SegmentPart, TableCounts, TableKept, TablePart, TableSeat};
-pub use places::{JobPlaces, KeptAnswer, KeptSource};
+pub use earlier::{Earlier, EarlierAnswers};
+pub use places::{JobPlaces, KeptAnswer, KeptGiven, KeptSource};
 pub use planned::{PlanJobs, Planned, RunFault, run_jobs};
 pub use run::run_all;
-pub use segments::Segments;
+pub use segments::{Begun, Segments};
+pub use start::{Start, Waiting};
 pub use std::alloc::AllocError as NoMemory;
+pub use stopping::{RunSegments, RunStops};
 pub use task::{
-    Idle, Opening, Piece, Purse, Running, TableIdle, TableOpening, TablePiece, TablePurse,
+    Idle, JobSeat, Piece, Purse, Running, TableIdle, TableJobSeat, TablePiece, TablePurse,
     TableTask, TableWhole, Task, Whole,
 };
 pub use work::{JobWork, Opened, TableOpened, TableWork};

@@ -13,7 +13,7 @@ fn most_cuts<S: Segments>(jobs: &S, job: usize, settings: Settings) -> u64
     if jobs.last_segment(job) > 0 {
         return settings.nodes();
     }
-    let size = jobs.size(job, 0, &jobs.first_source(job));
+    let size = jobs.likely_size(job);
     let threshold = settings.threshold();
     if size <= threshold || !jobs.is_divided(job, 0) {
         0
@@ -42,7 +42,7 @@ fn divided_positions<S: Segments>(jobs: &S) -> u64 {
     let mut positions = 0u64;
     for job in 0..jobs.jobs() {
         if jobs.is_divided(job, 0) {
-            let size = jobs.size(job, 0, &jobs.first_source(job));
+            let size = jobs.likely_size(job);
             positions = positions.saturating_add(size);
         }
     }

@@ -1,5 +1,6 @@
 //! The places in which tasks leave sources and answers for others.
-ghost use Rattle.std.specs.Prelude.{◌≡◌, ◌+◌, ◌<◌, ◌≤◌, ℕ, length, IfOk, IfSome};
+ghost use Rattle.std.specs.Prelude.{◌≡◌, ◌+◌, ◌-◌, ◌^◌, ◌<◌, ◌≤◌, ℕ, length, IfOk, IfSome};
+ghost use Rattle.job_table.specs.Stops.{first_word, pair_at};
 
 use crate::NoMemory;
 use crate::segments::Segments;
@@ -17,6 +18,15 @@ pub struct KeptSource<S: Segments> {
     ghost is: { S.is_source job segment source } by { S.one_source job segment source },
 }
 
+/// What a job takes of the answers that it names, with the number of the job.
+#[derive(Drop)]
+pub struct KeptGiven<S: Segments> {
+    pub(crate) job: usize,
+    pub(crate) given: S::Given,
+    pub(crate) of: PhantomData<S>,
+    ghost is: { S.is_given job given } by { S.one_given job given },
+}
+
 /// A job's answer, with the number of the job.
 #[derive(Drop)]
 pub struct KeptAnswer<S: Segments> {
@@ -26,15 +36,26 @@ pub struct KeptAnswer<S: Segments> {
     ghost is: { S.is_answer job answer } by { S.one_answer job answer },
 }
 
-/// The places of one job: for the source of each segment but the first, and for the answer.
+/// The places of one job: for what it takes of earlier answers, for the source of each segment but the first, and for the answer.
+/// `first` is the number of its first segment among all segments of the run.
 #[derive(Drop)]
 pub struct JobPlaces<S: Segments> {
+    pub(crate) job: usize,
+    pub(crate) first: u64,
+    pub(crate) given: OnceLock<KeptGiven<S>>,
     pub(crate) sources: Vec<OnceLock<KeptSource<S>>>,
     pub(crate) answer: OnceLock<KeptAnswer<S>>,
+    ghost first_is: { first < 2 ^ 64 - 1 → first ≡ first_word S.last_of job },
 }
 
 /// The empty places of a job whose last segment has this number.
-fn places_of_job<S: Segments>(alloc: Global, last: usize) -> Result<JobPlaces<S>, NoMemory>
+fn places_of_job<S: Segments>(
+    alloc: Global,
+    job: usize,
+    last: usize,
+    first: u64,
+) -> Result<JobPlaces<S>, NoMemory>
+    requires { first < 2 ^ 64 - 1 → first ≡ first_word S.last_of job }
     ensures { IfOk result (λ places. length places.sources.items ≡ last) }
 {
     let mut sources = Vec::new(alloc);
@@ -42,9 +63,45 @@ fn places_of_job<S: Segments>(alloc: Global, last: usize) -> Result<JobPlaces<S>
         sources.push(OnceLock::new())?;
     }
     Ok(JobPlaces {
+        job,
+        first,
+        given: OnceLock::new(),
         sources,
         answer: OnceLock::new(),
     })
+}
+
+/// The number of the first segment of the next job, if it is small enough; else the greatest u64.
+fn first_of_next<S: Segments>(job: usize, last: usize, first: u64) -> u64
+    requires last { last ≡ S.last_of job }
+    requires first { first < 2 ^ 64 - 1 → first ≡ first_word S.last_of job }
+    ensures { result < 2 ^ 64 - 1 → result ≡ first_word S.last_of (job + 1) }
+{
+    first.saturating_add(last as u64).saturating_add(1)
+}
+
+/// The number of a segment among all segments of the run, if it is known; else the greatest u32.
+pub(crate) fn word_of<S: Segments>(places: &[JobPlaces<S>], job: usize, segment: usize) -> u32
+    requires job { job < S.job_count }
+    requires segment { segment ≤ S.last_of job }
+    ensures { result < 2 ^ 32 - 1 → pair_at S.last_of S.job_count result ≡ (job, segment) }
+{
+    match places.get(job) {
+        Some(of_job) if of_job.job == job => word_after(of_job.first, segment),
+        _ => u32::MAX,
+    }
+}
+
+/// This number of words after the first one, if there may be such a word; else the greatest u32.
+fn word_after(first: u64, segment: usize) -> u32
+    ensures { result < 2 ^ 32 - 1 → (result ≡ first + segment) × (first < 2 ^ 64 - 1) }
+{
+    let word = first.saturating_add(segment as u64);
+    if word < u64::from(u32::MAX) {
+        word as u32
+    } else {
+        u32::MAX
+    }
 }
 
 /// The empty places of all jobs.
@@ -55,8 +112,11 @@ pub(crate) fn empty_places<S: Segments>(
     ensures { IfOk result (λ places. length places.items ≡ S.job_count) }
 {
     let mut places = Vec::new(alloc);
+    let mut first = 0;
     for job in 0..jobs.jobs() {
-        places.push(places_of_job(alloc, jobs.last_segment(job))?)?;
+        let last = jobs.last_segment(job);
+        places.push(places_of_job(alloc, job, last, first)?)?;
+        first = first_of_next::<S>(job, last, first);
     }
     Ok(places)
 }
@@ -103,6 +163,31 @@ pub(crate) fn kept_source<S: Segments>(
     }
 }
 
+/// Leaves what a job takes of earlier answers in its place.
+pub(crate) fn keep_given<S: Segments>(places: &[JobPlaces<S>], job: usize, given: S::Given)
+    requires { S.is_given job given }
+{
+    if let Some(of_job) = places.get(job) {
+        let _ = of_job.given.try_set(KeptGiven {
+            job,
+            given,
+            of: PhantomData,
+        });
+    }
+}
+
+/// What a job takes of earlier answers, if it was left in its place.
+pub(crate) fn kept_given<S: Segments>(places: &[JobPlaces<S>], job: usize) -> Option<&S::Given>
+    ensures { IfSome result (λ given. S.is_given job given.now) }
+{
+    let kept = places.get(job)?.given.get()?;
+    if kept.job == job {
+        Some(&kept.given)
+    } else {
+        None
+    }
+}
+
 /// Leaves the answer of a job in its place.
 pub(crate) fn keep_answer<S: Segments>(places: &[JobPlaces<S>], job: usize, answer: S::Answer)
     requires { S.is_answer job answer }
@@ -132,7 +217,13 @@ pub(crate) fn kept_answer<S: Segments>(places: &[JobPlaces<S>], job: usize) -> O
 pub(crate) fn answer_in<S: Segments>(places: JobPlaces<S>, job: usize) -> Option<S::Answer>
     ensures { IfSome result (λ answer. S.is_answer job answer) }
 {
-    let JobPlaces { sources: _, answer } = places;
+    let JobPlaces {
+        job: _,
+        first: _,
+        given: _,
+        sources: _,
+        answer,
+    } = places;
     let kept = answer.into_inner()?;
     let KeptAnswer {
         job: kept_job,

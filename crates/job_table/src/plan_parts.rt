@@ -1,13 +1,18 @@
 //! The segments of one job of a plan: how a piece is walked, and what comes of a whole segment.
-ghost use Rattle.std.specs.Prelude.{◌≡◌, ◌+◌, ◌<◌, ◌≤◌, ℕ, [], length, slice_get, IfOk};
-ghost use Rattle.job_plan.specs.Parts.{end_in, plan_in, segments_in, walk_in};
-ghost use Rattle.job_plan.specs.Plans.{planned_answer};
-ghost use Rattle.job_table.specs.PlanSegments.{AbstractChain, PartStands, chain_of, end_divides, segment_divides, slices_first, walk_at, walk_size};
+ghost use Rattle.std.specs.Prelude.{◌≡◌, ◌+◌, ◌<◌, ◌≤◌, ℕ, length, slice_get, IfOk, IfSome};
+ghost use Rattle.trace.specs.Trace.{nothing};
+ghost use Rattle.early_stop.specs.Decisive.{Decides};
+ghost use Rattle.job_plan.specs.Parts.{StandsFor, end_in, plan_in, segments_in, walk_in};
+ghost use Rattle.job_plan.specs.Plans.{segments_answer};
+ghost use Rattle.job_plan.specs.Windows.{later_segments};
+ghost use Rattle.job_table.specs.PlanSegments.{AbstractChain, PartStands, end_divides, gives_at, segment_divides, slices_first, walk_at, walk_size};
 
 use crate::NoMemory;
 use batch_eval::Registers;
+use early_stop::Stop;
 use job_plan::{
-    Answer, ArrayPart, GivenWalk, JobPlan, Outcome, Part, Segment, SegmentEnd, Source, leaf_with,
+    Answer, ArrayPart, GivenWalk, JobPlan, Outcome, Part, Segment, SegmentEnd, Source, leaf_stored,
+    leaf_until, unwalked,
 };
 use lambda_expr::Env;
 use slice_ops::Slice;
@@ -23,26 +28,29 @@ pub(crate) fn slices_first(segments: &[Segment]) -> usize
         return 0;
     };
     match segment.end {
-        SegmentEnd::Slice(_) => slices_first(later) + 1,
+        SegmentEnd::Slice(_) | SegmentEnd::Prefix(_) => slices_first(later) + 1,
         SegmentEnd::Fold(_) | SegmentEnd::Find(_) | SegmentEnd::Array => 0,
     }
 }
 
-/// Whether a segment with this end is walked in pieces: not if the end may want no more items before the last one.
+/// Whether a segment with this end is walked in pieces: not if `limit` or `takeWhile` ends it, since pieces after the place at which it
+/// ends would keep items for nothing.
 fn end_divides(end: &SegmentEnd) -> bool
     ensures { result ≡ end_divides (end_in end.now) }
 {
     match end {
-        SegmentEnd::Slice(Slice::Limit(_) | Slice::TakeWhile(_)) | SegmentEnd::Find(_) => false,
+        SegmentEnd::Slice(Slice::Limit(_) | Slice::TakeWhile(_)) => false,
         SegmentEnd::Slice(Slice::Skip(_) | Slice::DropWhile(_))
         | SegmentEnd::Fold(_)
-        | SegmentEnd::Array => true,
+        | SegmentEnd::Find(_)
+        | SegmentEnd::Array
+        | SegmentEnd::Prefix(_) => true,
     }
 }
 
 /// Whether a segment of a job is walked in pieces. Segments are numbered from the first of its `later_segments`.
 pub(crate) fn is_divided(plan: &JobPlan, segment: usize) -> bool
-    ensures { result ≡ segment_divides (slice_get (chain_of (plan_in plan.now)).segments segment) }
+    ensures { result ≡ segment_divides (slice_get (later_segments (plan_in plan.now).segments) segment) }
 {
     match plan.later_segments().get(segment) {
         Some(of) => end_divides(&of.end),
@@ -50,8 +58,42 @@ pub(crate) fn is_divided(plan: &JobPlan, segment: usize) -> bool
     }
 }
 
-/// Walks a piece of a segment. A segment that isn't there has a part that says nothing.
-pub(crate) fn piece<'a>(
+/// The part of a piece that isn't walked. A segment that isn't there has a part that says nothing.
+pub(crate) fn left_out<'a>(alloc: Global, plan: &'a JobPlan, segment: usize, env: &Env) -> Part<'a>
+    ensures { IfSome (slice_get (later_segments (plan_in plan.now).segments) segment) (λ s. StandsFor s env.now result nothing) }
+{
+    match plan.later_segments().get(segment) {
+        Some(of) => unwalked(alloc, of, env),
+        None => Part::Array(ArrayPart::none(alloc)),
+    }
+}
+
+/// Walks a piece of a segment, as far as it matters. A segment that isn't there has a part that says nothing.
+pub(crate) fn piece<'a, W: Stop>(
+    alloc: Global,
+    plan: &'a JobPlan,
+    segment: usize,
+    source: &Source<'_, 'a, '_>,
+    from: u64,
+    to: u64,
+    env: &Env,
+    registers: &mut Registers,
+    stop: &mut W,
+) -> Result<Part<'a>, NoMemory>
+    requires ordered { from ≤ to }
+    ensures { (chain : AbstractChain) → chain.segments ≡ later_segments (plan_in plan.now).segments → chain.numbers ≡ env.now
+        → walk_in source.now ≡ walk_at chain segment → ((c : ℕ) → W.decides stop.old c → Decides (gives_at chain segment) (walk_at chain segment) c)
+        → IfOk result (λ part. PartStands chain segment from to part) }
+{
+    let Some(of) = plan.later_segments().get(segment) else {
+        return Ok(Part::Array(ArrayPart::none(alloc)));
+    };
+    let upto = if to == source.size() { None } else { Some(to) };
+    leaf_until(alloc, of, source, from, upto, env, registers, stop)
+}
+
+/// The same, of a source that may be gone before the part is.
+pub(crate) fn stored_piece<'a, W: Stop>(
     alloc: Global,
     plan: &'a JobPlan,
     segment: usize,
@@ -60,26 +102,31 @@ pub(crate) fn piece<'a>(
     to: u64,
     env: &Env,
     registers: &mut Registers,
+    stop: &mut W,
 ) -> Result<Part<'a>, NoMemory>
-    requires source { walk_in source.now ≡ walk_at (chain_of (plan_in plan.now)) segment }
-    requires alone { env.now ≡ [] }
-    ensures { IfOk result (λ part. PartStands (chain_of (plan_in plan.now)) segment from to part) }
+    requires ordered { from ≤ to }
+    ensures { (chain : AbstractChain) → chain.segments ≡ later_segments (plan_in plan.now).segments → chain.numbers ≡ env.now
+        → walk_in source.now ≡ walk_at chain segment → ((c : ℕ) → W.decides stop.old c → Decides (gives_at chain segment) (walk_at chain segment) c)
+        → IfOk result (λ part. PartStands chain segment from to part) }
 {
     let Some(of) = plan.later_segments().get(segment) else {
         return Ok(Part::Array(ArrayPart::none(alloc)));
     };
     let upto = if to == source.size() { None } else { Some(to) };
-    leaf_with(alloc, of, source, from, upto, env, registers)
+    leaf_stored(alloc, of, source, from, upto, env, registers, stop)
 }
 
 /// What the next segment goes over, of the part of a whole segment.
-pub(crate) fn next_walk(alloc: Global, part: Part<'_>, env: &Env) -> Result<GivenWalk, NoMemory>
-    requires alone { env.now ≡ [] }
-    ensures { IfOk result (λ given. (chain : AbstractChain) (segment : ℕ) → segment < slices_first chain.segments
+pub(crate) fn next_walk<'a>(
+    alloc: Global,
+    part: Part<'a>,
+    env: &Env,
+) -> Result<GivenWalk<'a>, NoMemory>
+    ensures { IfOk result (λ given. (chain : AbstractChain) (segment : ℕ) → chain.numbers ≡ env.now → segment < slices_first chain.segments
         → PartStands chain segment 0 (walk_size (walk_at chain segment)) part.entry → given ≡ walk_at chain (segment + 1)) }
 {
     match part.finish(alloc, env)? {
-        Outcome::Source(chunk) => Ok(GivenWalk::of(alloc, chunk)),
+        Outcome::Source(given) => Ok(given),
         Outcome::Answer(_) => Ok(GivenWalk::of(alloc, Chunk::ending(alloc, End::Done))),
     }
 }
@@ -91,10 +138,9 @@ pub(crate) fn last_answer(
     part: Part<'_>,
     env: &Env,
 ) -> Result<Answer, NoMemory>
-    requires alone { env.now ≡ [] }
-    requires part { PartStands (chain_of (plan_in plan.now)) (slices_first (chain_of (plan_in plan.now)).segments) 0
-        (walk_size (walk_at (chain_of (plan_in plan.now)) (slices_first (chain_of (plan_in plan.now)).segments))) part }
-    ensures { IfOk result (λ answer. answer ≡ planned_answer [] (plan_in plan.now)) }
+    ensures { IfOk result (λ answer. (chain : AbstractChain) → chain.segments ≡ later_segments (plan_in plan.now).segments → chain.numbers ≡ env.now
+        → PartStands chain (slices_first chain.segments) 0 (walk_size (walk_at chain (slices_first chain.segments))) part.entry
+        → answer ≡ segments_answer chain.segments chain.numbers chain.source) }
 {
     let segments = plan.later_segments();
     let last = slices_first(segments);

@@ -1,22 +1,28 @@
 //! The jobs of a plan as segments of a run.
-ghost use Rattle.std.specs.Prelude.{◌≡◌, ◌<◌, ◌≤◌, ◌+◌, ℕ, List, [], length, map, slice_get, IfOk};
+ghost use Rattle.std.specs.Prelude.{◌≡◌, ◌<◌, ◌≤◌, ◌+◌, ℕ, List, [], length, slice_get, IfOk};
 ghost use Rattle.job_plan.specs.declared.segment.JobPlan.{JobPlan as job_plan};
 ghost use Rattle.job_plan.specs.Parts.{plan_in, plans_in};
-ghost use Rattle.job_plan.specs.Plans.{planned_answer};
+ghost use Rattle.job_plan.specs.PlannedAnswers.{planned_meaning};
 ghost use Rattle.job_table.specs.Cuts.{IsPiece};
-ghost use Rattle.job_table.specs.PlanSegments.{PartStands, chain_at, plan_at, segment_divides, slices_first, walk_at, walk_size};
+ghost use Rattle.early_stop.specs.Decisive.{Decides};
+ghost use Rattle.job_table.specs.PlanSegments.{PartStands, answer_of, chain_at, gives_at, plan_at, segment_divides, slices_first, walk_at, walk_size};
 ghost use Rattle.job_table.specs.Sources.{IsKept, one_kept};
 ghost use Rattle.job_table.specs.PlanLaws.{one_answer, one_plan};
+ghost use Rattle.job_table.specs.Takings.{IsTaken, one_taken};
 
 use crate::NoMemory;
 use crate::cut::Cut;
-use crate::kept::SegmentSource;
-use crate::plan_parts::{is_divided, last_answer, next_walk, piece, slices_first};
+use crate::earlier::EarlierAnswers;
+use crate::kept::{SegmentSource, Taken};
+use crate::plan_names::different;
+use crate::plan_parts::{
+    is_divided, last_answer, left_out, next_walk, piece, slices_first, stored_piece,
+};
 use crate::run::run_all;
-use crate::segments::Segments;
+use crate::segments::{Begun, Segments};
 use batch_eval::Registers;
-use job_plan::{Answer, JobPlan, Part, Plan, Settings, Source};
-use lambda_expr::Env;
+use early_stop::Stop;
+use job_plan::{Answer, JobPlan, Outcome, Part, Plan, Settings, Source};
 use std::alloc::Global;
 use std::marker::{Brand, PhantomData};
 use std::sync::Wait;
@@ -32,46 +38,54 @@ impl Planned for Brand {
     ghost jobs = { [] };
 }
 
-/// The jobs of a plan, as a run takes them. No job may name another one.
+/// The jobs of a plan, as a run takes them.
 #[derive(Drop)]
 pub struct PlanJobs<'a, 'c, P: Planned> {
     plan: &'a Plan<'c>,
-    /// Without numbers: no supported job names another one.
-    env: Env,
     of: PhantomData<P>,
     ghost planned: { plan.now.jobs.items ≡ P.jobs } by { one_plan plan.now.jobs.items P.jobs },
-    ghost alone: { env ≡ [] },
 }
 
 impl<'a, 'c, P: Planned> PlanJobs<'a, 'c, P> {
     /// The jobs of this plan. It takes no memory.
-    pub fn of(alloc: Global, plan: &'a Plan<'c>) -> PlanJobs<'a, 'c, P>
+    pub fn of(plan: &'a Plan<'c>) -> PlanJobs<'a, 'c, P>
         requires planned { plan.now.jobs.items ≡ P.jobs }
     {
         PlanJobs {
             plan,
-            env: Env::empty(alloc),
             of: PhantomData,
         }
     }
 
     /// The job with this number.
-    fn job(&self, job: usize) -> &'a JobPlan<'c>
+    pub(crate) fn job(&self, job: usize) -> &'a JobPlan<'c>
         requires { job < length P.jobs }
         ensures { plan_in result.now ≡ plan_at (plans_in P.jobs) job }
     {
         &self.plan.jobs[job]
+    }
+
+    /// The same, borrowed for as long as these jobs are.
+    fn own(&self, job: usize) -> &JobPlan<'c>
+        requires { job < length P.jobs }
+        ensures { plan_in result.now ≡ plan_at (plans_in P.jobs) job }
+    {
+        self.job(job)
     }
 }
 
 impl<'a, 'c, P: Planned> Segments for PlanJobs<'a, 'c, P> {
     type Part = Part<'a>;
 
-    type Source = SegmentSource;
+    type Source = SegmentSource<'a>;
 
     type Answer = Answer;
 
+    type Given = Taken;
+
     type Scratch = Registers;
+
+    type Outcome = Outcome<'a>;
 
     ghost job_count = { length P.jobs };
 
@@ -81,32 +95,64 @@ impl<'a, 'c, P: Planned> Segments for PlanJobs<'a, 'c, P> {
 
     ghost divided = { λ job segment. segment_divides (slice_get (chain_at (plans_in P.jobs) job).segments segment) };
 
+    ghost goes_over = { λ job segment. walk_at (chain_at (plans_in P.jobs) job) segment };
+
+    ghost gives = { λ job segment. gives_at (chain_at (plans_in P.jobs) job) segment };
+
     ghost stands_for = { λ job segment from to part. PartStands (chain_at (plans_in P.jobs) job) segment from to part };
 
     ghost is_source = { λ job segment source. IsKept (chain_at (plans_in P.jobs) job) segment source };
 
-    ghost is_answer = { λ job answer. answer ≡ planned_answer [] (plan_at (plans_in P.jobs) job) };
+    ghost is_answer = { λ job answer. answer ≡ answer_of (plans_in P.jobs) job };
+
+    ghost is_given = { λ job given. IsTaken (plans_in P.jobs) job given };
 
     ghost one_source = { λ job segment source. one_kept (chain_at (plans_in P.jobs) job) segment source };
 
-    ghost one_answer = { λ job answer. one_answer answer (planned_answer [] (plan_at (plans_in P.jobs) job)) };
+    ghost one_answer = { λ job answer. one_answer answer (answer_of (plans_in P.jobs) job) };
+
+    ghost one_given = { λ job given. one_taken (plans_in P.jobs) job given };
 
     fn jobs(&self) -> usize {
         self.plan.jobs.len()
+    }
+
+    fn names(&self, alloc: Global, job: usize) -> Result<Vec<usize>, NoMemory> {
+        different(alloc, job, &self.job(job).named)
+    }
+
+    fn likely_size(&self, job: usize) -> u64 {
+        self.job(job).likely_size
+    }
+
+    fn given<E: EarlierAnswers<Answer>>(
+        &self,
+        alloc: Global,
+        job: usize,
+        earlier: &E,
+    ) -> Result<Begun<Taken, Answer>, NoMemory> {
+        let plan = self.job(job);
+        match self.numbers(alloc, job, &plan.named, earlier)? {
+            Begun::Walk(numbers) => {
+                let size = self.first_size(alloc, job, plan, earlier)?;
+                Ok(Begun::Walk(Taken { numbers, size }))
+            }
+            Begun::Known(answer) => Ok(Begun::Known(answer)),
+        }
     }
 
     fn last_segment(&self, job: usize) -> usize {
         slices_first(self.job(job).later_segments())
     }
 
-    fn first_source(&self, _job: usize) -> SegmentSource {
+    fn first_source(&self, _job: usize) -> SegmentSource<'a> {
         SegmentSource::Own
     }
 
-    fn size(&self, job: usize, _segment: usize, source: &SegmentSource) -> u64 {
+    fn size(&self, _job: usize, _segment: usize, source: &SegmentSource<'a>, given: &Taken) -> u64 {
         match source {
-            SegmentSource::Own => Source::of_selected(self.job(job)).size(),
-            SegmentSource::Kept(given) => Source::of_given(given).size(),
+            SegmentSource::Own => given.size,
+            SegmentSource::Kept(walk) => Source::of_given(walk).size(),
         }
     }
 
@@ -118,28 +164,63 @@ impl<'a, 'c, P: Planned> Segments for PlanJobs<'a, 'c, P> {
         Registers::new(alloc)
     }
 
-    fn leaf(
+    fn left_out(
         &self,
         alloc: Global,
         job: usize,
         segment: usize,
-        source: &SegmentSource,
+        _from: u64,
+        _to: u64,
+        given: &Taken,
+    ) -> Part<'a> {
+        left_out(alloc, self.job(job), segment, &given.numbers)
+    }
+
+    fn is_settled(
+        &self,
+        _job: usize,
+        _segment: usize,
+        _from: u64,
+        _to: u64,
+        part: &Part<'a>,
+    ) -> bool {
+        part.is_settled()
+    }
+
+    fn leaf<E: EarlierAnswers<Answer>, W: Stop>(
+        &self,
+        alloc: Global,
+        job: usize,
+        segment: usize,
+        source: &SegmentSource<'a>,
         from: u64,
         to: u64,
+        given: &Taken,
+        earlier: &E,
         registers: &mut Registers,
+        stop: &mut W,
     ) -> Result<Part<'a>, NoMemory> {
         let plan = self.job(job);
+        let env = &given.numbers;
         match source {
+            SegmentSource::Own if plan.takes_arrays() => {
+                let own = self.own(job);
+                let sources = self.put_sources(alloc, job, own, earlier)?;
+                let source = Source::of_sources(&sources, own);
+                stored_piece(
+                    alloc, plan, segment, &source, from, to, env, registers, stop,
+                )
+            }
             SegmentSource::Own => {
                 let source = Source::of_selected(plan);
                 piece(
-                    alloc, plan, segment, &source, from, to, &self.env, registers,
+                    alloc, plan, segment, &source, from, to, env, registers, stop,
                 )
             }
-            SegmentSource::Kept(given) => {
-                let source = Source::of_given(given);
+            SegmentSource::Kept(walk) => {
+                let source = Source::of_given(walk);
                 piece(
-                    alloc, plan, segment, &source, from, to, &self.env, registers,
+                    alloc, plan, segment, &source, from, to, env, registers, stop,
                 )
             }
         }
@@ -164,12 +245,19 @@ impl<'a, 'c, P: Planned> Segments for PlanJobs<'a, 'c, P> {
         _job: usize,
         _segment: usize,
         part: Part<'a>,
-    ) -> Result<SegmentSource, NoMemory> {
-        Ok(SegmentSource::Kept(next_walk(alloc, part, &self.env)?))
+        given: &Taken,
+    ) -> Result<SegmentSource<'a>, NoMemory> {
+        Ok(SegmentSource::Kept(next_walk(alloc, part, &given.numbers)?))
     }
 
-    fn answer(&self, alloc: Global, job: usize, part: Part<'a>) -> Result<Answer, NoMemory> {
-        last_answer(alloc, self.job(job), part, &self.env)
+    fn answer(
+        &self,
+        alloc: Global,
+        job: usize,
+        part: Part<'a>,
+        given: &Taken,
+    ) -> Result<Answer, NoMemory> {
+        last_answer(alloc, self.job(job), part, &given.numbers)
     }
 }
 
@@ -182,9 +270,9 @@ fn run_as<P: Planned + Send + Sync, H: Threads + Wait + Sync, G: Gate + Sync>(
     gate: &G,
 ) -> Result<Vec<Answer>, NoMemory>
     requires planned { plan.now.jobs.items ≡ P.jobs }
-    ensures { IfOk result (λ answers. answers.items ≡ map (planned_answer []) (plans_in plan.now.jobs.items)) }
+    ensures { IfOk result (λ answers. answers.items ≡ planned_meaning (plans_in plan.now.jobs.items)) }
 {
-    let jobs = PlanJobs::<P>::of(alloc, plan);
+    let jobs = PlanJobs::<P>::of(plan);
     run_all(rt, alloc, &jobs, settings, gate)
 }
 
@@ -198,7 +286,7 @@ pub enum RunFault {
 /// The answers of the jobs of a plan, in file order, worked out by as many workers as the settings say.
 ///
 /// Each leaf is entered at the gate. A piece of at most `threshold` items is never cut. An answer that no task left is worked out by the caller, which enters
-/// the gate once, for all of the job's source. No job may name another one: a name has no number here.
+/// the gate once, for all of the job's source. A job begins when the jobs that it names have ended.
 pub fn run_jobs<H: Threads + Wait + Sync, G: Gate + Sync>(
     rt: &H,
     alloc: Global,
@@ -206,7 +294,7 @@ pub fn run_jobs<H: Threads + Wait + Sync, G: Gate + Sync>(
     settings: &Settings,
     gate: &G,
 ) -> Result<Vec<Answer>, RunFault>
-    ensures { IfOk result (λ answers. answers.items ≡ map (planned_answer []) (plans_in plan.now.jobs.items)) }
+    ensures { IfOk result (λ answers. answers.items ≡ planned_meaning (plans_in plan.now.jobs.items)) }
 {
     match run_as::<Brand, H, G>(rt, alloc, plan, *settings, gate) {
         Ok(answers) => Ok(answers),

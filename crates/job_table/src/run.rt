@@ -1,10 +1,13 @@
 //! Running all jobs.
-ghost use Rattle.std.specs.Prelude.{◌≡◌, ◌<◌, ◌≤◌, ℕ, IfOk, length};
+ghost use Rattle.std.specs.Prelude.{◌≡◌, ◌-◌, ◌<◌, ◌≤◌, ℕ, IfOk, length};
 ghost use Rattle.completer_tree.specs.Trees.{table_id_of};
 ghost use Rattle.job_table.specs.Answers.{AreAnswers};
+ghost use Rattle.job_table.specs.Starts.{kept_at, node_at};
+ghost use Rattle.job_table.specs.Stops.{stop_id_of};
 
 use crate::NoMemory;
 use crate::alone::answer_alone;
+use crate::earlier::Earlier;
 use crate::places::{JobPlaces, answer_in, empty_places};
 use crate::segments::Segments;
 use crate::task::Running;
@@ -16,13 +19,14 @@ use std::sync::Wait;
 use std::thread::Threads;
 use worker_pool::{Gate, run_pool};
 
-/// The answer that lies in the job's place. If there is none, whoever reads it works it out.
+/// The answer that lies in the job's place. If there is none, it is worked out, from those of the jobs before it.
 fn read_answer<S: Segments, G: Gate>(
     alloc: Global,
     gate: &G,
     jobs: &S,
     job: usize,
     places: Option<JobPlaces<S>>,
+    earlier: &Earlier<'_, S>,
 ) -> Result<S::Answer, NoMemory>
     requires job { job < S.job_count }
     ensures { IfOk result (λ answer. S.is_answer job answer) }
@@ -32,7 +36,7 @@ fn read_answer<S: Segments, G: Gate>(
             return Ok(answer);
         }
     }
-    answer_alone(alloc, gate, jobs, job)
+    answer_alone(alloc, gate, jobs, job, earlier)
 }
 
 /// The answers of all jobs, in their order.
@@ -49,7 +53,9 @@ fn read_answers<S: Segments, G: Gate>(
     let mut answers = Vec::new(alloc);
     let mut places = places.into_iter();
     for job in 0..jobs.jobs() {
-        answers.push(read_answer(alloc, gate, jobs, job, places.next())?)?;
+        let earlier = Earlier::listed(&answers);
+        let answer = read_answer(alloc, gate, jobs, job, places.next(), &earlier)?;
+        answers.push(answer)?;
     }
     Ok(answers)
 }
@@ -72,9 +78,12 @@ where
     S::Part: Send,
     S::Source: Send + Sync,
     S::Answer: Send + Sync,
+    S::Given: Send + Sync,
     S::Scratch: Send,
-    requires ends { opened.jobs ≡ S.job_count }
+    requires count { length opened.starts.items ≡ S.job_count }
+    requires started { (j : ℕ) → (R.start j ≡ node_at opened.starts.items (R.jobs - 1 - j)) × (R.keeps j ≡ kept_at opened.starts.items (R.jobs - 1 - j)) }
     requires table { table_id_of opened.counts ≡ R.table }
+    requires stops { stop_id_of opened.stops ≡ R.stops }
     requires planned { (R.jobs ≡ S.job_count) × ((j : ℕ) → R.last j ≡ S.last_of j) × ((j k : ℕ) → R.size j k ≡ S.size_of j k) }
 {
     let (work, tasks, idles) = TableWork::<S, R>::new(alloc, jobs, settings, opened)?;
@@ -87,8 +96,8 @@ where
 
 /// The answers of all jobs, in their order, worked out by as many workers as the settings say.
 ///
-/// Each piece that is walked enters the gate first. An answer that no task left is worked out here, which enters the gate once, for all
-/// of the job's source. `NoMemory` says that a job couldn't be worked out here either.
+/// Each piece that is walked enters the gate first. An answer that no task left is worked out here, in the jobs' order, which enters the
+/// gate once, for all of the job's source. `NoMemory` says that a job couldn't be worked out here either.
 pub fn run_all<S: Segments + Send + Sync, H: Threads + Wait + Sync, G: Gate + Sync>(
     rt: &H,
     alloc: Global,
@@ -100,11 +109,14 @@ where
     S::Part: Send,
     S::Source: Send + Sync,
     S::Answer: Send + Sync,
+    S::Given: Send + Sync,
     S::Scratch: Send,
     ensures count { IfOk result (λ answers. length answers.items ≡ S.job_count) }
     ensures each { IfOk result (λ answers. AreAnswers S.is_answer 0 answers.items) }
 {
-    let opened = TableOpened::<S>::new(alloc, jobs, settings)?;
-    let places = run_on::<S, Brand, H, G>(rt, alloc, gate, jobs, settings, opened)?;
+    let places = match TableOpened::<S>::new(alloc, jobs, settings)? {
+        Some(opened) => run_on::<S, Brand, H, G>(rt, alloc, gate, jobs, settings, opened)?,
+        None => Vec::new(alloc),
+    };
     read_answers(alloc, gate, jobs, places)
 }

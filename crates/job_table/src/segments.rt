@@ -1,14 +1,28 @@
 //! What a run is over.
-ghost use Rattle.std.specs.Prelude.{◌≡◌, ◌+◌, ◌<◌, ◌≤◌, ℕ, Bool, IfOk};
+ghost use Rattle.std.specs.Prelude.{◌≡◌, ◌+◌, ◌<◌, ◌≤◌, ℕ, Bool, true, IfOk};
+ghost use Rattle.trace.specs.Trace.{Trace};
+ghost use Rattle.early_stop.specs.Decisive.{Decides};
+ghost use Rattle.job_table.specs.Begins.{IsBegun};
 ghost use Rattle.job_table.specs.Cuts.{IsPiece};
 
 use crate::NoMemory;
 use crate::cut::Cut;
+use crate::earlier::EarlierAnswers;
+use early_stop::Stop;
 use std::alloc::Global;
+
+/// What is known of a job before it is walked.
+#[derive(Drop)]
+pub enum Begun<G, A> {
+    /// Its segments are to be walked, with this of the answers that it names.
+    Walk(G),
+    /// Its answer: there is nothing to walk.
+    Known(A),
+}
 
 /// Jobs, each a chain of segments: the first segment goes over the job's source, each further one over what the segment before it
 /// gives, and the last one gives the job's answer. A segment is walked in pieces, ranges of positions of its source, in any order
-/// and on any thread; the parts that the pieces give are merged side by side.
+/// and on any thread; the parts that the pieces give are merged side by side. A job may name earlier jobs, whose answers it takes.
 pub trait Segments {
     /// What a piece of a segment gives.
     type Part: Drop;
@@ -19,8 +33,14 @@ pub trait Segments {
     /// What a job gives.
     type Answer: Drop;
 
+    /// What a job takes of the answers of the jobs that it names.
+    type Given: Drop;
+
     /// What a worker keeps from one leaf to the next, such as room to compute in. No part depends on what it holds.
     type Scratch: Drop;
+
+    /// What a segment gives, to contracts. No value of it is made.
+    type Outcome;
 
     // How many jobs there are.
     ghost job_count: { ℕ };
@@ -34,7 +54,14 @@ pub trait Segments {
     // Whether a job's segment is walked in pieces.
     ghost divided: { ℕ → ℕ → Bool };
 
-    // The part is what a job's segment gives for the positions from the first up to, not with, the second.
+    // The walk of what a job's segment goes over.
+    ghost goes_over: { ℕ → ℕ → Trace };
+
+    // What a job's segment would give for a walk.
+    ghost gives: { ℕ → ℕ → Trace → Self.Outcome };
+
+    // The part is what a job's segment gives for the positions from the first up to, not with, the second; positions at or after a
+    // place that decides what the segment gives may be left out.
     ghost stands_for: { ℕ → ℕ → ℕ → ℕ → Self.Part → Type 0 };
 
     // It is what a job's segment goes over.
@@ -43,10 +70,15 @@ pub trait Segments {
     // It is the answer of a job.
     ghost is_answer: { ℕ → Self.Answer → Type 0 };
 
-    // Being the source is a fact, and so is being the answer: no two proofs of it differ.
+    // It is what a job takes of the answers that it names, and the job is to be walked.
+    ghost is_given: { ℕ → Self.Given → Type 0 };
+
+    // Being the source is a fact, and so are the others: no two proofs of it differ.
     ghost one_source: { (job segment : ℕ) (source : Self.Source) → IsProp (is_source job segment source) };
 
     ghost one_answer: { (job : ℕ) (answer : Self.Answer) → IsProp (is_answer job answer) };
+
+    ghost one_given: { (job : ℕ) (given : Self.Given) → IsProp (is_given job given) };
 
     /// How many jobs there are.
     fn jobs(&self) -> usize
@@ -57,16 +89,37 @@ pub trait Segments {
         requires job { job < job_count }
         ensures { result ≡ last_of job };
 
+    /// The different jobs that a job names. It begins after them. No answer rests on this.
+    fn names(&self, alloc: Global, job: usize) -> Result<Vec<usize>, NoMemory>
+        requires job { job < job_count };
+
+    /// How many positions the first segment of a job has, as far as that is known before the run. No answer rests on this.
+    fn likely_size(&self, job: usize) -> u64
+        requires job { job < job_count };
+
+    /// What a job takes of the answers that it names, or its answer, if there is nothing to walk. `NoMemory` also if an answer that it
+    /// names isn't there.
+    fn given<E: EarlierAnswers<Self::Answer>>(
+        &self,
+        alloc: Global,
+        job: usize,
+        earlier: &E,
+    ) -> Result<Begun<Self::Given, Self::Answer>, NoMemory>
+        requires job { job < job_count }
+        requires earlier { (j : ℕ) (answer : Self.Answer) → E.is_answer j answer → is_answer j answer }
+        ensures { IfOk result (λ begun. IsBegun (is_given job) (is_answer job) begun) };
+
     /// What the first segment of a job goes over.
     fn first_source(&self, job: usize) -> Self::Source
         requires job { job < job_count }
         ensures { is_source job 0 result };
 
     /// How many positions the source of a segment has.
-    fn size(&self, job: usize, segment: usize, source: &Self::Source) -> u64
+    fn size(&self, job: usize, segment: usize, source: &Self::Source, given: &Self::Given) -> u64
         requires job { job < job_count }
         requires segment { segment ≤ last_of job }
         requires source { is_source job segment source.now }
+        requires given { is_given job given.now }
         ensures { result ≡ size_of job segment };
 
     /// Whether a segment is walked in pieces, side by side. If not, it is one piece, whatever the threshold is.
@@ -78,8 +131,31 @@ pub trait Segments {
     /// What a worker begins with.
     fn scratch(&self, alloc: Global) -> Self::Scratch;
 
-    /// Walks a piece.
-    fn leaf(
+    /// The part of a piece that isn't walked, since a place at or before its first position decides.
+    fn left_out(
+        &self,
+        alloc: Global,
+        job: usize,
+        segment: usize,
+        from: u64,
+        to: u64,
+        given: &Self::Given,
+    ) -> Self::Part
+        requires given { is_given job given.now }
+        requires piece { IsPiece job_count last_of size_of job segment from to }
+        requires decided { (c : ℕ) × (c ≤ from) × Decides (gives job segment) (goes_over job segment) c }
+        ensures { stands_for job segment from to result };
+
+    /// Whether nothing after a piece with this part matters.
+    fn is_settled(&self, job: usize, segment: usize, from: u64, to: u64, part: &Self::Part) -> bool
+        requires job { job < job_count }
+        requires segment { segment ≤ last_of job }
+        requires within { (from ≤ to) × (to < size_of job segment) }
+        requires part { stands_for job segment from to part.now }
+        ensures { result ≡ true → Decides (gives job segment) (goes_over job segment) to };
+
+    /// Walks a piece. It may stop at a place that `stop` names, or after it. `NoMemory` also if an answer that the job names isn't there.
+    fn leaf<E: EarlierAnswers<Self::Answer>, W: Stop>(
         &self,
         alloc: Global,
         job: usize,
@@ -87,10 +163,16 @@ pub trait Segments {
         source: &Self::Source,
         from: u64,
         to: u64,
+        given: &Self::Given,
+        earlier: &E,
         scratch: &mut Self::Scratch,
+        stop: &mut W,
     ) -> Result<Self::Part, NoMemory>
+        requires stop { (c : ℕ) → W.decides stop.old c → Decides (gives job segment) (goes_over job segment) c }
         requires piece { IsPiece job_count last_of size_of job segment from to }
         requires source { is_source job segment source.now }
+        requires given { is_given job given.now }
+        requires earlier { (j : ℕ) (answer : Self.Answer) → E.is_answer j answer → is_answer j answer }
         ensures { IfOk result (λ part. stands_for job segment from to part) };
 
     /// Merges the parts of the two sides of a cut.
@@ -108,15 +190,24 @@ pub trait Segments {
         job: usize,
         segment: usize,
         part: Self::Part,
+        given: &Self::Given,
     ) -> Result<Self::Source, NoMemory>
         requires job { job < job_count }
         requires segment { segment < last_of job }
+        requires given { is_given job given.now }
         requires part { stands_for job segment 0 (size_of job segment) part }
         ensures { IfOk result (λ source. is_source job (segment + 1) source) };
 
     /// Makes the answer of a job of the part of its whole last segment.
-    fn answer(&self, alloc: Global, job: usize, part: Self::Part) -> Result<Self::Answer, NoMemory>
+    fn answer(
+        &self,
+        alloc: Global,
+        job: usize,
+        part: Self::Part,
+        given: &Self::Given,
+    ) -> Result<Self::Answer, NoMemory>
         requires job { job < job_count }
+        requires given { is_given job given.now }
         requires part { stands_for job (last_of job) 0 (size_of job (last_of job)) part }
         ensures { IfOk result (λ answer. is_answer job answer) };
 }

@@ -1,26 +1,38 @@
 //! What waits to be run, and what a worker keeps.
-ghost use Rattle.std.specs.Prelude.{◌≡◌, ◌<◌, ◌≤◌, ℕ, []};
+ghost use Rattle.std.specs.Prelude.{◌≡◌, ◌<◌, ◌≤◌, ℕ, List, []};
 ghost use Rattle.atomic_table.specs.Seated.{TableId};
-ghost use Rattle.pending_count.specs.Seats.{table_of};
+ghost use Rattle.completion_core.specs.Legal.{count};
+ghost use Rattle.pending_count.specs.Seats.{table_of, view_of};
 ghost use Rattle.completer_tree.specs.Trees.{CanFork};
+ghost use Rattle.early_stop.specs.Seats.{table_of as stop_table_of};
 ghost use Rattle.job_table.specs.Cuts.{IsPiece, begins, ends_at};
-ghost use Rattle.job_table.specs.Tasks.{HasEnds, CanOpen, HasEnd, KnowsEnd};
+ghost use Rattle.job_table.specs.Starts.{nodes_below};
+ghost use Rattle.job_table.specs.Tasks.{HasKept, KnowsStarts, KnowsTop};
 
 use crate::cut::{Cut, TableKept, TablePart};
 use crate::segments::Segments;
 use completer_tree::Half;
-use pending_count::{Fits, Node, Seat};
+use early_stop::CutSeat;
+use pending_count::{Fits, Seat};
 use std::marker::{Brand, PhantomData};
 
-/// The table of a run's counts, and the sizes of its jobs. The function that makes the counts picks them.
+/// The table of a run's counts, the start nodes of its jobs and what they keep, and the sizes of its jobs. The function that runs the
+/// jobs picks them.
 pub trait Running {
     ghost table: { TableId };
 
     ghost jobs: { ℕ };
 
+    ghost start: { ℕ → ℕ };
+
+    ghost keeps: { ℕ → List ℕ };
+
     ghost last: { ℕ → ℕ };
 
     ghost size: { ℕ → ℕ → ℕ };
+
+    // The table of its words of early stop.
+    ghost stops: { TableId };
 }
 
 impl Running for Brand {
@@ -28,19 +40,24 @@ impl Running for Brand {
 
     ghost jobs = { 0 };
 
+    ghost start = { λ _. 0 };
+
+    ghost keeps = { λ _. [] };
+
     ghost last = { λ _. 0 };
 
     ghost size = { λ _ _. 0 };
+
+    ghost stops = { record { words = 0; slots = 0; views_name = 0; atom = 0; block = 0; offset = 0; slot_names = [] } };
 }
 
-/// The right to open a job: an arrival at its start node.
+/// The right to end a job: the seat has what the start node of the job kept.
 #[derive(Drop)]
-pub struct Opening<V, K: Fits<V, Tag = Cut>, R: Running> {
+pub struct JobSeat<V, K: Fits<V, Tag = Cut>, R: Running> {
     pub(crate) seat: Seat<V, K>,
     pub(crate) job: usize,
-    pub(crate) start: Node,
     pub(crate) of: PhantomData<R>,
-    ghost can: { CanOpen R.table start seat },
+    ghost has: { HasKept R.table R.jobs R.start R.keeps (R.keeps job) seat },
     ghost known: { job < R.jobs },
 }
 
@@ -50,51 +67,54 @@ pub struct Piece<V, K: Fits<V, Tag = Cut>, R: Running> {
     pub(crate) half: Half<V, K>,
     pub(crate) of: PhantomData<R>,
     ghost can: { CanFork R.table half.place half.seat },
-    ghost top: { KnowsEnd half.place.root half.seat },
+    ghost top: { KnowsTop (R.keeps half.place.tag.job) half.place.root (view_of half.seat) },
+    ghost knows: { KnowsStarts R.jobs R.start R.keeps (view_of half.seat) },
     ghost piece: { IsPiece R.jobs R.last R.size half.place.tag.job half.place.tag.segment (begins half.place.tag half.place.side) (ends_at half.place.tag half.place.side) },
 }
 
 /// What a worker takes.
 #[derive(Drop)]
 pub enum Task<V, K: Fits<V, Tag = Cut>, R: Running> {
-    /// Open a job.
-    Open(Opening<V, K, R>),
+    /// Begin a job: the jobs that it names have ended.
+    Begin(JobSeat<V, K, R>),
     /// Walk a piece.
     Walk(Piece<V, K, R>),
 }
 
-/// A worker's right to ask how many jobs are left, and what it keeps from one leaf to the next.
+/// A worker's right to ask how many jobs are left, its seat at the words of early stop, and what it keeps from one leaf to the next.
 #[derive(Drop)]
 pub struct Idle<V, K: Fits<V, Tag = Cut>, R: Running, T> {
     pub(crate) seat: Seat<V, K>,
+    pub(crate) stop_seat: CutSeat,
     pub(crate) scratch: T,
     pub(crate) of: PhantomData<R>,
     ghost table: { table_of seat ≡ R.table },
+    ghost stops: { stop_table_of stop_seat ≡ R.stops },
 }
 
-/// The seat from which the openings are split off. It has an arrival at END for each job that isn't opened yet: the first `jobs`.
+/// The seat from which the openings are split off. It has an arrival at the start node of each job that isn't opened yet: the first `jobs`.
 #[derive(Drop)]
 pub struct Purse<V, K: Fits<V, Tag = Cut>, R: Running> {
     pub(crate) seat: Seat<V, K>,
     pub(crate) jobs: usize,
     pub(crate) of: PhantomData<R>,
-    ghost has: { HasEnds R.table jobs seat },
+    ghost table: { table_of seat ≡ R.table },
+    ghost held: { (i : ℕ) → count i (nodes_below R.start jobs) ≤ count i (view_of seat).held },
+    ghost no_side: { (k : ℕ) → count k (view_of seat).sides ≡ 0 },
+    ghost knows: { KnowsStarts R.jobs R.start R.keeps (view_of seat) },
     ghost few: { jobs ≤ R.jobs },
 }
 
-/// A segment that was walked whole, with the seat that ends its job or begins the next segment.
+/// A segment that was walked whole, with the right to end its job.
 #[derive(Drop)]
 pub struct Whole<V, K: Fits<V, Tag = Cut>, R: Running> {
-    pub(crate) seat: Seat<V, K>,
-    pub(crate) job: usize,
+    pub(crate) job: JobSeat<V, K, R>,
     pub(crate) segment: usize,
     pub(crate) part: V,
-    pub(crate) of: PhantomData<R>,
-    ghost has: { HasEnd R.table seat },
-    ghost known: { (job < R.jobs) × (segment ≤ R.last job) },
+    ghost known: { segment ≤ R.last job.job },
 }
 
-pub type TableOpening<S, R> = Opening<TablePart<S>, TableKept<S>, R>;
+pub type TableJobSeat<S, R> = JobSeat<TablePart<S>, TableKept<S>, R>;
 
 pub type TablePiece<S, R> = Piece<TablePart<S>, TableKept<S>, R>;
 

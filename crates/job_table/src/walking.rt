@@ -1,15 +1,18 @@
 //! Pieces: cut in two while they are long, and walked.
 ghost use Rattle.std.specs.Prelude.{◌≡◌, ◌<◌, ◌≤◌, ℕ, IfSome};
 ghost use Rattle.completer_tree.specs.Trees.{CanHand};
+ghost use Rattle.pending_count.specs.Seats.{view_of};
 ghost use Rattle.job_table.specs.Cuts.{IsPiece, StandsWhole, begins, ends_at};
-ghost use Rattle.job_table.specs.Tasks.{HasEnds, KnowsEnd};
+ghost use Rattle.job_table.specs.Tasks.{KnowsStarts, KnowsTop};
 
-use crate::cut::{Cut, Join, TableKept, TablePart, TableSeat, is_left, range_of};
+use crate::cut::{Cut, Join, TableKept, TablePart, is_left, range_of};
 use crate::segments::Segments;
-use crate::task::{Piece, Running, TablePiece, TableTask, TableWhole, Task, Whole};
-use crate::work::{JobWork, TableWork, part_of, size_of};
+use crate::task::{
+    JobSeat, Piece, Running, TableJobSeat, TablePiece, TableTask, TableWhole, Task, Whole,
+};
+use crate::watch::Watch;
+use crate::work::{JobWork, TableWork, part_of};
 use completer_tree::{Forked, Half, Tree};
-use completion_core::END;
 use std::marker::PhantomData;
 use worker_pool::{Gate, Spawn};
 
@@ -20,26 +23,45 @@ fn leaf<S: Segments, R: Running, G: Gate>(
     gate: &G,
     half: Half<TablePart<S>, TableKept<S>>,
     scratch: &mut S::Scratch,
+    watch: &mut Watch<'_, S, R>,
 ) -> Option<TableWhole<S, R>>
     requires can { CanHand R.table half.place half.seat }
-    requires top { KnowsEnd half.place.root half.seat }
+    requires top { KnowsTop (R.keeps half.place.tag.job) half.place.root (view_of half.seat) }
+    requires knows { KnowsStarts R.jobs R.start R.keeps (view_of half.seat) }
     requires piece { IsPiece R.jobs R.last R.size half.place.tag.job half.place.tag.segment (begins half.place.tag half.place.side) (ends_at half.place.tag half.place.side) }
-    ensures { IfSome result (λ whole. StandsWhole S.stands_for S.size_of whole.job whole.segment (λ x. x.part) whole.part) }
+    ensures { IfSome result (λ whole. StandsWhole S.stands_for S.size_of whole.job.job whole.segment (λ x. x.part) whole.part) }
 {
     let Half { seat, place } = half;
     let cut = place.tag;
     let (from, to) = range_of(&place);
-    let value = part_of(work, gate, cut.job, cut.segment, from, to, scratch);
-    let tree = Tree::new(&work.counts, &[END]);
-    let (seat, found) = tree.try_complete(seat, Some(place), value);
+    let value = part_of(work, gate, cut.job, cut.segment, from, to, scratch, watch);
+    let tree = Tree::new(&work.counts, &[]);
+    watch.aim(cut.job, cut.segment);
+    let (seat, found) = tree.try_complete_with(seat, Some(place), value, watch);
     let part = found?;
-    Some(Whole {
+    let begun = JobSeat {
         seat,
         job: cut.job,
+        of: PhantomData,
+    };
+    Some(Whole {
+        job: begun,
         segment: cut.segment,
         part,
-        of: PhantomData,
     })
+}
+
+/// Whether a place at or before this position is known to decide what the segment gives.
+fn is_left_out<S: Segments, R: Running>(
+    watch: &mut Watch<'_, S, R>,
+    job: usize,
+    segment: usize,
+    from: u64,
+) -> bool
+    requires known { (job < S.job_count) × (segment ≤ S.last_of job) }
+{
+    watch.aim(job, segment);
+    watch.seen() <= from
 }
 
 impl<'a, S: Segments, R: Running> JobWork<'a, S, TablePart<S>, TableKept<S>, R> {
@@ -53,13 +75,16 @@ impl<'a, S: Segments, R: Running> JobWork<'a, S, TablePart<S>, TableKept<S>, R> 
         piece: TablePiece<S, R>,
         spawn: &mut P,
         scratch: &mut S::Scratch,
+        watch: &mut Watch<'_, S, R>,
     ) -> Option<TableWhole<S, R>>
-        ensures { IfSome result (λ whole. StandsWhole S.stands_for S.size_of whole.job whole.segment (λ x. x.part) whole.part) }
+        ensures { IfSome result (λ whole. StandsWhole S.stands_for S.size_of whole.job.job whole.segment (λ x. x.part) whole.part) }
     {
         let Piece { half, of: _ } = piece;
         let (from, to) = range_of(&half.place);
-        if to - from <= self.threshold {
-            return leaf(self, gate, half, scratch);
+        if to - from <= self.threshold
+            || is_left_out(watch, half.place.tag.job, half.place.tag.segment, from)
+        {
+            return leaf(self, gate, half, scratch, watch);
         }
         let Half { seat, place } = half;
         let run = Join {
@@ -67,9 +92,9 @@ impl<'a, S: Segments, R: Running> JobWork<'a, S, TablePart<S>, TableKept<S>, R> 
             parent: Some((place.tag, is_left(&place))),
             of: PhantomData,
         };
-        let tree = Tree::new(&self.counts, &[END]);
+        let tree = Tree::new(&self.counts, &[]);
         match tree.fork(seat, Some(place), run) {
-            Forked::Whole(seat, _run) => leaf(self, gate, Half { seat, place }, scratch),
+            Forked::Whole(seat, _run) => leaf(self, gate, Half { seat, place }, scratch, watch),
             Forked::Split(left, right) => {
                 let own = Piece {
                     half: left,
@@ -80,11 +105,11 @@ impl<'a, S: Segments, R: Running> JobWork<'a, S, TablePart<S>, TableKept<S>, R> 
                     of: PhantomData,
                 };
                 let pushed = spawn.push(Task::Walk(other));
-                let first = self.walk(gate, own, spawn, scratch);
+                let first = self.walk(gate, own, spawn, scratch, watch);
                 let Err(Task::Walk(other)) = pushed else {
                     return first;
                 };
-                let second = self.walk(gate, other, spawn, scratch);
+                let second = self.walk(gate, other, spawn, scratch, watch);
                 if first.is_some() { first } else { second }
             }
         }
@@ -96,60 +121,53 @@ impl<'a, S: Segments, R: Running> JobWork<'a, S, TablePart<S>, TableKept<S>, R> 
 fn walk_whole<S: Segments, R: Running, G: Gate>(
     work: &TableWork<S, R>,
     gate: &G,
-    seat: TableSeat<S>,
-    job: usize,
+    job: TableJobSeat<S, R>,
     segment: usize,
     size: u64,
     scratch: &mut S::Scratch,
+    watch: &mut Watch<'_, S, R>,
 ) -> TableWhole<S, R>
-    requires has { HasEnds R.table 1 seat }
-    requires known { (job < R.jobs) × (segment ≤ R.last job) }
-    requires size { size ≡ R.size job segment }
-    ensures { StandsWhole S.stands_for S.size_of result.job result.segment (λ x. x.part) result.part }
+    requires known { segment ≤ R.last job.job }
+    requires size { size ≡ R.size job.job segment }
+    ensures { StandsWhole S.stands_for S.size_of result.job.job result.segment (λ x. x.part) result.part }
 {
-    let part = part_of(work, gate, job, segment, 0, size, scratch);
-    Whole {
-        seat,
-        job,
-        segment,
-        part,
-        of: PhantomData,
-    }
+    let part = part_of(work, gate, job.job, segment, 0, size, scratch, watch);
+    Whole { job, segment, part }
 }
 
 impl<'a, S: Segments, R: Running> JobWork<'a, S, TablePart<S>, TableKept<S>, R> {
     /// Begins the tree of a segment. `Some` is the whole segment, if no part of it is left to others.
-    #[tactic(auto, using(crate::proofs::Tops::can_keep, crate::proofs::Plans::as_planned))]
+    #[tactic(auto, using(crate::proofs::SeatLemmas::can_keep, crate::proofs::Plans::as_planned))]
     pub(crate) fn begin<G: Gate, P: Spawn<TableTask<S, R>>>(
         &self,
         gate: &G,
-        seat: TableSeat<S>,
-        job: usize,
+        begun: TableJobSeat<S, R>,
         segment: usize,
+        size: u64,
         spawn: &mut P,
         scratch: &mut S::Scratch,
+        watch: &mut Watch<'_, S, R>,
     ) -> Option<TableWhole<S, R>>
-        requires has { HasEnds R.table 1 seat }
-        requires known { (job < R.jobs) × (segment ≤ R.last job) }
-        ensures { IfSome result (λ whole. StandsWhole S.stands_for S.size_of whole.job whole.segment (λ x. x.part) whole.part) }
+        requires known { segment ≤ R.last begun.job }
+        requires size { size ≡ R.size begun.job segment }
+        ensures { IfSome result (λ whole. StandsWhole S.stands_for S.size_of whole.job.job whole.segment (λ x. x.part) whole.part) }
     {
-        let Some(size) = size_of(self, job, segment) else {
-            let _ = self.counts.settle(seat);
-            return None;
-        };
+        let job = begun.job;
         if size <= self.threshold || !self.jobs.is_divided(job, segment) {
-            return Some(walk_whole(self, gate, seat, job, segment, size, scratch));
+            return Some(walk_whole(self, gate, begun, segment, size, scratch, watch));
         }
+        let JobSeat { seat, job: _, of } = begun;
         let run = Join {
             cut: Cut::halves(job, segment, 0, size),
             parent: None,
             of: PhantomData,
         };
-        let tree = Tree::new(&self.counts, &[END]);
+        let tree = Tree::new(&self.counts, &self.start(job).onward);
         match tree.fork(seat, None, run) {
-            Forked::Whole(seat, _run) => Some(walk_whole(
-                self, gate, seat, job, segment, size, scratch,
-            )),
+            Forked::Whole(seat, _run) => {
+                let whole = JobSeat { seat, job, of };
+                Some(walk_whole(self, gate, whole, segment, size, scratch, watch))
+            }
             Forked::Split(left, right) => {
                 let own = Piece {
                     half: left,
@@ -160,11 +178,11 @@ impl<'a, S: Segments, R: Running> JobWork<'a, S, TablePart<S>, TableKept<S>, R> 
                     of: PhantomData,
                 };
                 let pushed = spawn.push(Task::Walk(other));
-                let first = self.walk(gate, own, spawn, scratch);
+                let first = self.walk(gate, own, spawn, scratch, watch);
                 let Err(Task::Walk(other)) = pushed else {
                     return first;
                 };
-                let second = self.walk(gate, other, spawn, scratch);
+                let second = self.walk(gate, other, spawn, scratch, watch);
                 if first.is_some() { first } else { second }
             }
         }

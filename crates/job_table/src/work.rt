@@ -1,19 +1,28 @@
 //! The jobs of a run as work for a pool.
-ghost use Rattle.std.specs.Prelude.{◌≡◌, ◌<◌, ◌≤◌, ℕ, Some, length, IfSome, IfOk};
+ghost use Rattle.std.specs.Prelude.{◌≡◌, ◌-◌, ◌<◌, ◌≤◌, ◌++◌, ◌∷◌, ℕ, Some, [], length, IfSome, IfOk};
 ghost use Rattle.job_plan.specs.SettingsParts.{workers_of};
-ghost use Rattle.pending_count.specs.Views.{first_view};
 ghost use Rattle.pending_count.specs.Seats.{view_of, IsSeatOf};
 ghost use Rattle.completer_tree.specs.Trees.{table_id_of};
+ghost use Rattle.early_stop.specs.Decisive.{Decides};
+ghost use Rattle.early_stop.specs.Seats.{IsSeatOf as IsStopSeatOf, table_of as stop_table_of, segments_of, count_of};
+ghost use Rattle.job_table.specs.Stops.{stop_id_of};
 ghost use Rattle.job_table.specs.Cuts.{IsPiece, Stands};
+ghost use Rattle.job_table.specs.Starts.{HasStarts, kept_at, node_at};
+ghost use Rattle.job_table.specs.Waits.{nodes_in};
 
 use crate::NoMemory;
+use crate::arming::arm_all;
 use crate::cut::{Cut, SegmentPart, TableCounts, TableKept, TablePart};
+use crate::earlier::Earlier;
 use crate::nodes::{most_positions, node_count};
-use crate::opening::open_all;
-use crate::places::{JobPlaces, empty_places, kept_answer, kept_source};
+use crate::places::{JobPlaces, empty_places, kept_answer, kept_given, kept_source};
 use crate::segments::Segments;
-use crate::task::{Idle, Running, TableIdle, TablePurse, TableTask};
+use crate::start::{Start, Waiting};
+use crate::stopping::{RunSegments, RunStops};
+use crate::task::{Idle, Running, TableIdle, TablePurse, TableTask, Task};
+use crate::watch::Watch;
 use completer_tree::Failure;
+use early_stop::CutSeat;
 use job_plan::Settings;
 use pending_count::{Counts, Fits, Seat};
 use std::alloc::Global;
@@ -29,39 +38,79 @@ pub struct JobWork<'a, S: Segments, V, K: Fits<V, Tag = Cut>, R: Running> {
     pub(crate) jobs: &'a S,
     pub(crate) threshold: u64,
     pub(crate) places: Vec<JobPlaces<S>>,
+    /// The start nodes of the jobs, the last job's first.
+    pub(crate) starts: Vec<Start>,
+    pub(crate) stops: RunStops<S>,
     pub(crate) of: PhantomData<R>,
     ghost table: { table_id_of counts ≡ R.table },
     ghost planned: { (R.jobs ≡ S.job_count) × ((j : ℕ) → R.last j ≡ S.last_of j) × ((j k : ℕ) → R.size j k ≡ S.size_of j k) },
+    ghost count: { length starts.items ≡ R.jobs },
+    ghost started: { (j : ℕ) → (R.start j ≡ node_at starts.items (R.jobs - 1 - j)) × (R.keeps j ≡ kept_at starts.items (R.jobs - 1 - j)) },
     ghost splits: { 0 < threshold },
+    ghost stopping: { stop_id_of stops ≡ R.stops },
+    ghost counted: { count_of stops ≡ (segments_of stops).count },
 }
 
 pub type TableWork<'a, S, R> = JobWork<'a, S, TablePart<S>, TableKept<S>, R>;
 
-/// The counts of a run that hasn't begun, and their first seat.
+/// The counts of a run that hasn't begun, the start nodes of its jobs, and the seat that has an arrival at each of them.
 #[derive(Drop)]
-pub struct Opened<V, K: Fits<V, Tag = Cut>> {
+pub struct Opened<S: Segments, V, K: Fits<V, Tag = Cut>> {
     pub(crate) counts: Counts<V, K>,
     pub(crate) seat: Seat<V, K>,
-    pub(crate) jobs: usize,
+    pub(crate) starts: Vec<Start>,
+    pub(crate) stops: RunStops<S>,
+    pub(crate) stop_seat: CutSeat,
     ghost seated: { IsSeatOf counts seat },
-    ghost first: { view_of seat ≡ first_view jobs },
+    ghost started: { HasStarts 0 starts.items [] (view_of seat) },
+    ghost stop_seated: { IsStopSeatOf stops stop_seat },
+    ghost counted: { count_of stops ≡ (segments_of stops).count },
 }
 
-pub type TableOpened<S> = Opened<TablePart<S>, TableKept<S>>;
+pub type TableOpened<S> = Opened<S, TablePart<S>, TableKept<S>>;
 
-impl<S: Segments> Opened<TablePart<S>, TableKept<S>> {
-    /// Makes the counts of a run, and no more nodes than its jobs can use.
-    pub fn new(alloc: Global, jobs: &S, settings: Settings) -> Result<TableOpened<S>, NoMemory>
-        ensures { IfOk result (λ opened. opened.jobs ≡ S.job_count) }
+impl<S: Segments> Opened<S, TablePart<S>, TableKept<S>> {
+    /// Makes the counts of a run, and no more nodes than its jobs can use. `None` if there can't be a node for each job.
+    pub fn new(
+        alloc: Global,
+        jobs: &S,
+        settings: Settings,
+    ) -> Result<Option<TableOpened<S>>, NoMemory>
+        ensures { IfOk result (λ o. IfSome o (λ opened. length opened.starts.items ≡ S.job_count)) }
     {
         let nodes = node_count(jobs, settings);
-        let jobs = jobs.jobs();
-        let (counts, seat) = TableCounts::<S>::new(alloc, nodes, jobs as u64)?;
-        Ok(Opened { counts, seat, jobs })
+        let (stops, stop_seat) = stop_words(alloc, jobs)?;
+        let (counts, seat) = TableCounts::<S>::new(alloc, nodes, jobs.jobs() as u64)?;
+        let Some((seat, starts)) = arm_all(alloc, jobs, &counts, seat)? else {
+            return Ok(None);
+        };
+        Ok(Some(Opened {
+            counts,
+            seat,
+            starts,
+            stops,
+            stop_seat,
+        }))
     }
 }
 
-/// How many positions the source of a segment has, if it is there.
+/// The words of early stop of a run, one for each segment.
+fn stop_words<S: Segments>(alloc: Global, jobs: &S) -> Result<(RunStops<S>, CutSeat), NoMemory>
+    ensures { IfOk result (λ made. IsStopSeatOf made.0 made.1 × (count_of made.0 ≡ (segments_of made.0).count)) }
+{
+    let mut count = 0u64;
+    for job in 0..jobs.jobs() {
+        let of_job = (jobs.last_segment(job) as u64).saturating_add(1);
+        count = count.saturating_add(of_job);
+    }
+    let segments = RunSegments::<S> {
+        count: count.min(u64::from(u32::MAX)) as u32,
+        of: PhantomData,
+    };
+    RunStops::<S>::new(alloc, &segments)
+}
+
+/// How many positions the source of a segment has, if it is there, and what the job takes of earlier answers.
 pub(crate) fn size_of<S: Segments, R: Running>(
     work: &TableWork<S, R>,
     job: usize,
@@ -70,14 +119,72 @@ pub(crate) fn size_of<S: Segments, R: Running>(
     requires known { (job < S.job_count) × (segment ≤ S.last_of job) }
     ensures { IfSome result (λ size. size ≡ S.size_of job segment) }
 {
+    let given = kept_given(&work.places, job)?;
     if segment == 0 {
-        return Some(work.jobs.size(job, 0, &work.jobs.first_source(job)));
+        return Some(work.jobs.size(job, 0, &work.jobs.first_source(job), given));
     }
     let source = kept_source(&work.places, job, segment)?;
-    Some(work.jobs.size(job, segment, source))
+    Some(work.jobs.size(job, segment, source, given))
 }
 
-/// Walks a piece. If the segment's source isn't there, it is as if an allocation had failed: the part is missing.
+/// Walks a piece with what the job takes of earlier answers.
+fn walked<S: Segments, R: Running>(
+    work: &TableWork<S, R>,
+    job: usize,
+    segment: usize,
+    from: u64,
+    to: u64,
+    scratch: &mut S::Scratch,
+    watch: &mut Watch<'_, S, R>,
+) -> Result<S::Part, NoMemory>
+    requires watched { (watch.old.job ≡ job) × (watch.old.segment ≡ segment) }
+    requires piece { IsPiece S.job_count S.last_of S.size_of job segment from to }
+    ensures { IfOk result (λ part. S.stands_for job segment from to part) }
+{
+    let Some(given) = kept_given(&work.places, job) else {
+        return Err(NoMemory);
+    };
+    let earlier = Earlier::in_places(&work.places);
+    if segment == 0 {
+        let source = work.jobs.first_source(job);
+        return work.jobs.leaf(
+            work.alloc, job, 0, &source, from, to, given, &earlier, scratch, watch,
+        );
+    }
+    let Some(source) = kept_source(&work.places, job, segment) else {
+        return Err(NoMemory);
+    };
+    work.jobs.leaf(
+        work.alloc, job, segment, source, from, to, given, &earlier, scratch, watch,
+    )
+}
+
+/// The part of a piece that isn't walked, since a place at or before its first position decides.
+fn left_out<S: Segments, R: Running>(
+    work: &TableWork<S, R>,
+    job: usize,
+    segment: usize,
+    from: u64,
+    to: u64,
+) -> TablePart<S>
+    requires piece { IsPiece S.job_count S.last_of S.size_of job segment from to }
+    requires decided { (c : ℕ) × (c ≤ from) × Decides (S.gives job segment) (S.goes_over job segment) c }
+    ensures { Stands S.stands_for job segment from to (λ x. x.part) result }
+{
+    match kept_given(&work.places, job) {
+        Some(given) => Ok(SegmentPart {
+            part: work
+                .jobs
+                .left_out(work.alloc, job, segment, from, to, given),
+            of: PhantomData,
+        }),
+        None => Err(Failure::NoMemory),
+    }
+}
+
+/// Enters the gate and walks a piece, unless a place at or before its first position decides what the segment gives: then the gate isn't
+/// entered. If the segment's source isn't there, or what the job takes of earlier answers, it is as if an allocation had failed: the
+/// part is missing.
 pub(crate) fn part_of<S: Segments, R: Running, G: Gate>(
     work: &TableWork<S, R>,
     gate: &G,
@@ -86,23 +193,18 @@ pub(crate) fn part_of<S: Segments, R: Running, G: Gate>(
     from: u64,
     to: u64,
     scratch: &mut S::Scratch,
+    watch: &mut Watch<'_, S, R>,
 ) -> TablePart<S>
     requires piece { IsPiece S.job_count S.last_of S.size_of job segment from to }
     ensures { Stands S.stands_for job segment from to (λ x. x.part) result }
 {
+    watch.aim(job, segment);
+    let seen = watch.seen();
+    if seen <= from && seen != u64::MAX {
+        return left_out(work, job, segment, from, to);
+    }
     gate.at_leaf(job, from, to);
-    let walked = if segment == 0 {
-        let source = work.jobs.first_source(job);
-        work.jobs
-            .leaf(work.alloc, job, 0, &source, from, to, scratch)
-    } else {
-        let Some(source) = kept_source(&work.places, job, segment) else {
-            return Err(Failure::NoMemory);
-        };
-        work.jobs
-            .leaf(work.alloc, job, segment, source, from, to, scratch)
-    };
-    match walked {
+    match walked(work, job, segment, from, to, scratch, watch) {
         Ok(part) => Ok(SegmentPart {
             part,
             of: PhantomData,
@@ -112,7 +214,7 @@ pub(crate) fn part_of<S: Segments, R: Running, G: Gate>(
 }
 
 impl<'a, S: Segments, R: Running> JobWork<'a, S, TablePart<S>, TableKept<S>, R> {
-    /// The work of a run, with what a pool takes for it: a task for each job, and an `Idle` for each worker.
+    /// The work of a run, with what a pool takes for it: a task for each job that names no other one, and an `Idle` for each worker.
     pub fn new(
         alloc: Global,
         jobs: &'a S,
@@ -126,8 +228,10 @@ impl<'a, S: Segments, R: Running> JobWork<'a, S, TablePart<S>, TableKept<S>, R> 
         ),
         NoMemory,
     >
-        requires ends { opened.jobs ≡ S.job_count }
+        requires count { length opened.starts.items ≡ S.job_count }
+        requires started { (j : ℕ) → (R.start j ≡ node_at opened.starts.items (R.jobs - 1 - j)) × (R.keeps j ≡ kept_at opened.starts.items (R.jobs - 1 - j)) }
         requires table { table_id_of opened.counts ≡ R.table }
+        requires stops { stop_id_of opened.stops ≡ R.stops }
         requires planned { (R.jobs ≡ S.job_count) × ((j : ℕ) → R.last j ≡ S.last_of j) × ((j k : ℕ) → R.size j k ≡ S.size_of j k) }
         ensures tasks { IfOk result (λ made. length made.1.items ≤ S.job_count) }
         ensures idles { IfOk result (λ made. length made.2.items ≡ workers_of settings) }
@@ -135,7 +239,9 @@ impl<'a, S: Segments, R: Running> JobWork<'a, S, TablePart<S>, TableKept<S>, R> 
         let Opened {
             counts,
             seat,
-            jobs: ends,
+            starts,
+            stops,
+            stop_seat,
         } = opened;
         let work = TableWork::<S, R> {
             alloc,
@@ -143,15 +249,50 @@ impl<'a, S: Segments, R: Running> JobWork<'a, S, TablePart<S>, TableKept<S>, R> 
             jobs,
             threshold: most_positions(jobs, settings),
             places: empty_places(alloc, jobs)?,
+            starts,
+            stops,
             of: PhantomData,
         };
         let purse = TablePurse::<S, R> {
             seat,
-            jobs: ends,
+            jobs: jobs.jobs(),
             of: PhantomData,
         };
-        let (tasks, idles) = open_all(alloc, jobs, &work.counts, purse, settings.workers())?;
+        let (tasks, idles) = work.open_all(purse, stop_seat, settings.workers())?;
         Ok((work, tasks, idles))
+    }
+
+    /// The start node of a job.
+    pub(crate) fn start(&self, job: usize) -> &Start
+        requires { job < R.jobs }
+        ensures { (result.now.node ≡ R.start job) × (result.now.onward.items ≡ R.keeps job) }
+    {
+        &self.starts[self.starts.len() - 1 - job]
+    }
+
+    /// The jobs that wait for a job.
+    pub(crate) fn waiting_for(&self, job: usize) -> &[Waiting]
+        requires { job < R.jobs }
+        ensures { R.keeps job ≡ nodes_in result.now ++ 0 ∷ [] }
+    {
+        &self.start(job).waiting
+    }
+
+    /// What a worker asks the words of early stop with, about the first segment of a job.
+    fn watch(&self, job: usize, seat: CutSeat) -> Watch<'_, S, R>
+        requires job { job < R.jobs }
+        requires seat { stop_table_of seat ≡ R.stops }
+    {
+        Watch {
+            jobs: self.jobs,
+            places: &self.places,
+            stops: &self.stops,
+            seat,
+            job,
+            segment: 0,
+            word: u32::MAX,
+            of: PhantomData,
+        }
     }
 
     /// The answer of a job, if a task left it.
@@ -162,12 +303,23 @@ impl<'a, S: Segments, R: Running> JobWork<'a, S, TablePart<S>, TableKept<S>, R> 
     }
 }
 
+/// The job of a task.
+fn task_job<S: Segments, R: Running>(task: &TableTask<S, R>) -> usize
+    ensures { result < R.jobs }
+{
+    match task {
+        Task::Begin(begun) => begun.job,
+        Task::Walk(piece) => piece.half.place.tag.job,
+    }
+}
+
 impl<'a, S: Segments + Send + Sync, R: Running + Send + Sync> Work
     for JobWork<'a, S, TablePart<S>, TableKept<S>, R>
 where
     S::Part: Send,
     S::Source: Send + Sync,
     S::Answer: Send + Sync,
+    S::Given: Send + Sync,
     S::Scratch: Send,
 {
     type Task = TableTask<S, R>;
@@ -177,9 +329,22 @@ where
     ghost is_over = { λ _ idle. (view_of idle.seat).seen ≡ Some 0 };
 
     fn left<H: Wait>(&self, _rt: &H, idle: TableIdle<S, R>) -> (TableIdle<S, R>, u64) {
-        let Idle { seat, scratch, of } = idle;
+        let Idle {
+            seat,
+            stop_seat,
+            scratch,
+            of,
+        } = idle;
         let (seat, left) = self.counts.left(seat);
-        (Idle { seat, scratch, of }, left)
+        (
+            Idle {
+                seat,
+                stop_seat,
+                scratch,
+                of,
+            },
+            left,
+        )
     }
 
     fn run<H: Wait, G: Gate, P: Spawn<TableTask<S, R>>>(
@@ -193,10 +358,21 @@ where
     ) -> TableIdle<S, R> {
         let Idle {
             seat,
+            stop_seat,
             mut scratch,
             of,
         } = idle;
-        self.take(gate, task, spawn, &mut scratch);
-        Idle { seat, scratch, of }
+        let mut watch = self.watch(task_job(&task), stop_seat);
+        self.take(gate, task, spawn, &mut scratch, &mut watch);
+        let Watch {
+            seat: stop_seat,
+            ..
+        } = watch;
+        Idle {
+            seat,
+            stop_seat,
+            scratch,
+            of,
+        }
     }
 }

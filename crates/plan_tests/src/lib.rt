@@ -5,7 +5,8 @@
 //! a call succeeds if there is memory. A table is one text: that costs the least to check.
 //!
 //! `fixture.rt` has the reader of the tables, the trees and the texts of answers; `trees.rt` walks each job of a table on
-//! each tree over six items, `ends.rt` ends that ask a test of items, `plans.rt` is for plans of several jobs and for the jobs that can be run.
+//! each tree over six items, `ends.rt` ends that ask a test of items, `prefixes.rt` prefixes,
+//! `plans.rt` is for plans of several jobs and for the jobs that can be run.
 //!
 //! Nothing stands on this crate, and it promises nothing.
 #![tactic(auto)]
@@ -16,5 +17,7 @@ mod ends;
 mod fixture;
 #[cfg(test)]
 mod plans;
+#[cfg(test)]
+mod prefixes;
 #[cfg(test)]
 mod trees;

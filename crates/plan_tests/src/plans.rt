@@ -1,11 +1,9 @@
-//! Plans of several jobs, and the jobs that can be run.
+//! Plans of several jobs, and the jobs that each of them names.
 
 use crate::fixture::{plan_of, shown};
 use columns::{Columns, Counted, read_columns};
-use job_language::{Job, read_jobs};
-use job_plan::{is_supported, walk};
+use job_plan::walk;
 use lambda_expr::Env;
-use std::alloc::{AllocError, Global};
 use std::test::Fail;
 
 const FILE: &str = "\
@@ -77,55 +75,42 @@ fn slices_before_every_other_stage_are_not_walked(rt: HostRuntime) -> Result<(),
     Ok(())
 }
 
-/// Whether the last job of a text can be run.
-fn is_last_supported(alloc: Global, text: &str) -> Result<bool, AllocError> {
-    let columns = Columns::none();
-    match read_jobs(alloc, text.as_bytes(), &columns) {
-        Ok(jobs) => Ok(jobs.last().is_some_and(|job: &Job| is_supported(job))),
-        Err(_) => Err(AllocError),
-    }
-}
-
-/// Jobs below `a = of(1).sum()` and `b = of(1).toArray()`.
-const SUPPORTED: &str = "\
-empty().toArray()
-concat(of(1), range(0, 2), rangeClosed(3, 4)).filter(x -> x < 2 ? true : !(x > 3)).count()
-of(1).map(x -> x > 0 ? -x : x * 2).limit(1).skip(1).takeWhile(x -> true).dropWhile(x -> x < 1).min()
-of(1).map(x -> x).reduce(Long::sum)
-of(1).reduce(1, (a, b) -> a * b)
-of(1).findFirst()
-of(1).anyMatch(x -> x < 1 && x > 2)
-of(1).allMatch(x -> true)
-of(1).noneMatch(x -> x < 1 || x > 2)
-of(1).flatMap(x -> of(x, x > 0 ? 1 : 2)).sum()
-of(1).flatMap(x -> rangeClosed(-x, x)).sum()";
-
-const NOT_SUPPORTED: &str = "\
-result(b).sum()
-concat(of(1), result(b)).sum()
-of(1).prefix(Long::sum).sum()
-of(1).prefix(0, 1, Long::sum).sum()
-of(1).map(x -> $a).sum()
-of(1).map(x -> x + (x > 0 ? 1 : -$a)).sum()
-of(1).map(x -> x).map(x -> Math.max(x, $a)).sum()
-of(1).filter(x -> !(x < $a)).sum()
-of(1).filter(x -> $a < 1 ? true : false).sum()
-of(1).limit(1).takeWhile(x -> x > 1 && x < $a).sum()
-of(1).dropWhile(x -> x < $a || x > 1).sum()
-of(1).anyMatch(x -> x < $a)
-of(1).allMatch(x -> x < $a)
-of(1).noneMatch(x -> x < $a)
-of(1).flatMap(x -> range(0, $a)).sum()
-of(1).flatMap(x -> of(x, x, $a)).sum()";
+/// Jobs below `a = of(1).sum()` and `b = of(1).toArray()`, each with the jobs that it names and their places.
+const NAMED: &str = "\
+empty().toArray() =>
+of(1).prefix(Long::sum).reduce(Long::sum) =>
+result(b).sum() => b 1
+concat(of(1), result(b), result(b)).sum() => b 1 b 1
+of(1).map(x -> $a).sum() => a 0
+of(1).map(x -> x + (x > 0 ? $a : -$a)).sum() => a 0 a 0
+of(1).map(x -> x).map(x -> Math.max(x, $a)).sum() => a 0
+of(1).filter(x -> !(x < $a)).sum() => a 0
+of(1).filter(x -> $a < 1 ? true : false).sum() => a 0
+of(1).limit(1).takeWhile(x -> x > 1 && x < $a).sum() => a 0
+of(1).dropWhile(x -> x < $a || x > 1).sum() => a 0
+result(b).prefix(0, 1, max).map(x -> x * $a).anyMatch(x -> x < $a) => b 1 a 0 a 0
+of(1).allMatch(x -> x < $a) => a 0
+of(1).noneMatch(x -> x < $a) => a 0
+of(1).flatMap(x -> range(0, $a)).sum() => a 0
+of(1).flatMap(x -> of(x, $a, x)).findFirst() => a 0";
 
 #[test]
-fn jobs_that_name_others_or_have_a_prefix_are_not_supported(rt: HostRuntime) -> Result<(), Fail> {
+fn a_job_keeps_the_jobs_that_it_names_in_order_of_writing(rt: HostRuntime) -> Result<(), Fail> {
     let alloc = rt.alloc();
-    for (table, supported) in [(SUPPORTED, true), (NOT_SUPPORTED, false)] {
-        for row in table.lines() {
-            let text = format!(in alloc; "a = of(1).sum()\nb = of(1).toArray()\nq = {row}")?;
-            assert!(rt; is_last_supported(alloc, &text)? == supported, "{row}");
+    let columns = Columns::none();
+    for row in NAMED.lines() {
+        let (job, want) = row.split_once(" =>").unwrap_or((row, ""));
+        let text = format!(in alloc; "a = of(1).sum()\nb = of(1).toArray()\nq = {job}")?;
+        let plan = plan_of(alloc, text.as_str(), &columns)?;
+        let last = plan.jobs.last().ok_or("no job")?;
+        let mut shown = Vec::new(alloc);
+        for named in &last.named {
+            shown.push(b' ')?;
+            shown.extend_from_slice(named.name.as_slice())?;
+            let place = format!(in alloc; " {}", named.job)?;
+            shown.extend_from_slice(place.as_bytes())?;
         }
+        assert!(rt; shown.as_slice() == want.as_bytes(), "{row}");
     }
     Ok(())
 }

@@ -1,5 +1,6 @@
 -- The answers of a file's jobs can be printed.
-use Rattle.std.proofs.Common.{◌≡◌, ℕ, suc, List, [], ◌∷◌, ◌++◌, length, Result, Ok, Err, ap, refl, All}
+use Rattle.std.proofs.Common.{◌≡◌, ℕ, suc, ◌+◌, ◌<◌, Bool, true, false, List, [], ◌∷◌, ◌++◌, length, length-append, Option, Some, None, Result, Ok, Err, ap, refl, All, arith}
+use Rattle.std.specs.Prelude.{if◌then◌else◌}
 use Rattle.std.specs.List.{AllByRecursion}
 use Rattle.std.proofs.lemmas.List.Elements.{All-from_recursion}
 use Rattle.lambda_expr.specs.Earlier.{Numbers}
@@ -14,7 +15,8 @@ use Rattle.job_language.specs.Jobs.{AbstractTerminal, sum, count, min, max, to_a
 use Rattle.job_plan.specs.declared.answer.Answer.{Answer}
 use Rattle.job_plan.specs.declared.answer.Answer.TheVariants.{Unusable}
 use Rattle.job_plan.specs.Walks.{answer_of, found_answer, unless_fault}
-use Rattle.job_plan.specs.FileAnswers.{NamedAnswer, answer_after, answers_from, answers_in, meaning_of, numbers_in}
+use Rattle.job_plan.specs.FileAnswers.{NamedAnswer, answer_after, answers_after, first_unusable, found, found_later, is_usable, meaning_of, numbers_named, or_else, unless_unusable, unusable_at}
+use Rattle.job_plan.specs.Names.{names_in_job, same_name}
 use Rattle.report.specs.Named.{IsNamed}
 
 usable_or_fault : (e : End) (a : Answer) → ((i : ℕ) → a ≡ Unusable i → ⊥) → (i : ℕ) → unless_fault e a ≡ Unusable i → ⊥
@@ -36,17 +38,58 @@ usable n env (reduce f) t = usable_or_fault t.ending _ (λ i is. cc)
 usable n env (reduce_from a f) t = usable_or_fault t.ending _ (λ i is. cc)
 usable n env (find d) t = usable_find (find_answer d n env t)
 
-each_named : (names : List (List ℕ)) (before : List NamedAnswer) (jobs : List AbstractJob) → AllByRecursion (IsNamed names) (answers_in (answers_from before jobs))
-each_named names before [] = tt
-each_named names before (job ∷ jobs) =
-    ((λ i is. absurd (usable (suc (length job.stages)) (numbers_in before) job.terminal _ i is)), each_named names (before ++ answer_after before job ∷ []) jobs)
+-- ---- the place of a job that is named is that of an earlier one
+
+chosen_low : (b : Bool) (a : Answer) (o : Option (ℕ × Answer)) (n : ℕ) → ((f : ℕ × Answer) → o ≡ Some f → f.0 < n) → (f : ℕ × Answer) → (if b then Some (0, a) else found_later o) ≡ Some f → f.0 < suc n
+chosen_low true a o n low f is = let e : 0 ≡ f.0 = ap (λ (g : ℕ × Answer). g.0) (let z : (0, a) ≡ f = cc in z) in omega arith
+chosen_low false a None n low f is = absurd (let z = is in cc)
+chosen_low false a (Some g) n low f is =
+    let e : suc g.0 ≡ f.0 = ap (λ (h : ℕ × Answer). h.0) (let z : (suc g.0, g.1) ≡ f = cc in z) in
+    let l = low g refl in
+    omega arith
+
+found_low : (before : List NamedAnswer) (name : List ℕ) (f : ℕ × Answer) → found before name ≡ Some f → f.0 < length before
+found_low [] name f is = absurd (let z = is in cc)
+found_low (a ∷ before) name f is = chosen_low (same_name a.name name) a.answer (found before name) (length before) (found_low before name) f is
+
+if_low : (b : Bool) (place n i : ℕ) → place < n → (if b then None else Some place) ≡ Some i → i < n
+if_low true place n i low is = absurd (let z = is in cc)
+if_low false place n i low is = let e : place ≡ i = cc in omega arith
+
+unusable_low : (o : Option (ℕ × Answer)) (n : ℕ) → ((f : ℕ × Answer) → o ≡ Some f → f.0 < n) → (i : ℕ) → unusable_at o ≡ Some i → i < n
+unusable_low None n low i is = absurd (let z = is in cc)
+unusable_low (Some f) n low i is = if_low (is_usable f.1) f.0 n i (low f refl) is
+
+or_low : (o rest : Option ℕ) (n : ℕ) → ((i : ℕ) → o ≡ Some i → i < n) → ((i : ℕ) → rest ≡ Some i → i < n) → (i : ℕ) → or_else o rest ≡ Some i → i < n
+or_low None rest n low later i is = later i is
+or_low (Some place) rest n low later i is = low i is
+
+first_low : (before : List NamedAnswer) (names : List (List ℕ)) (i : ℕ) → first_unusable before names ≡ Some i → i < length before
+first_low before [] i is = absurd (let z = is in cc)
+first_low before (name ∷ names) i is =
+    or_low (unusable_at (found before name)) (first_unusable before names) (length before) (unusable_low (found before name) (length before) (found_low before name)) (first_low before names) i is
+
+answer_low : (o : Option ℕ) (a : Answer) (n : ℕ) → ((i : ℕ) → o ≡ Some i → i < n) → ((i : ℕ) → a ≡ Unusable i → ⊥) → (i : ℕ) → unless_unusable o a ≡ Unusable i → i < n
+answer_low None a n low other i is = absurd (other i is)
+answer_low (Some place) a n low other i is = low i (ap (λ (k : ℕ). Some k) (let e : place ≡ i = cc in e))
+
+-- ---- all answers
+
+each_named : (names : List (List ℕ)) (before : List NamedAnswer) (jobs : List AbstractJob) → length before + length (names_of jobs) ≡ length names → AllByRecursion (IsNamed names) (answers_after before jobs)
+each_named names before [] fits = tt
+each_named names before (job ∷ jobs) fits =
+    let next : NamedAnswer = record { name = job.name; answer = answer_after before job } in
+    let l = length-append before (next ∷ []) in (
+      (λ i is. let low = answer_low (first_unusable before (names_in_job job)) _ (length before) (first_low before (names_in_job job)) (usable (suc (length job.stages)) (numbers_named before (names_in_job job)) job.terminal _) i is in omega arith),
+      each_named names (before ++ next ∷ []) jobs (omega arith),
+    )
 
 pub named : (jobs : List AbstractJob) → All (IsNamed (names_of jobs)) (meaning_of jobs)
-named jobs = All-from_recursion (IsNamed (names_of jobs)) (meaning_of jobs) (each_named (names_of jobs) [] jobs)
+named jobs = All-from_recursion (IsNamed (names_of jobs)) (meaning_of jobs) (each_named (names_of jobs) [] jobs (let e : 0 + length (names_of jobs) ≡ length (names_of jobs) = omega arith in e))
 
-each_paired : (before : List NamedAnswer) (jobs : List AbstractJob) → length (names_of jobs) ≡ length (answers_in (answers_from before jobs))
+each_paired : (before : List NamedAnswer) (jobs : List AbstractJob) → length (names_of jobs) ≡ length (answers_after before jobs)
 each_paired before [] = refl
-each_paired before (job ∷ jobs) = ap suc (each_paired (before ++ answer_after before job ∷ []) jobs)
+each_paired before (job ∷ jobs) = ap suc (each_paired (before ++ record { name = job.name; answer = answer_after before job } ∷ []) jobs)
 
 pub paired : (jobs : List AbstractJob) → length (names_of jobs) ≡ length (meaning_of jobs)
 paired jobs = each_paired [] jobs

@@ -1,6 +1,8 @@
 //! A run without a pool: tasks that are driven by hand.
-ghost use Rattle.std.specs.Prelude.{◌≡◌, ℕ, ℤ, List, [], length, map, slice_index_or, IfErr};
+ghost use Rattle.std.specs.Prelude.{◌≡◌, ◌-◌, ℕ, ℤ, List, [], length, map, slice_index_or, IfErr};
 ghost use Rattle.completer_tree.specs.Trees.{table_id_of};
+ghost use Rattle.job_table.specs.Starts.{kept_at, node_at};
+ghost use Rattle.job_table.specs.Stops.{stop_id_of};
 
 use crate::lists::{Lists, Planned};
 use job_plan::{Plan, Settings};
@@ -48,9 +50,12 @@ where
     S::Part: Send,
     S::Source: Send + Sync,
     S::Answer: Send + Sync,
+    S::Given: Send + Sync,
     S::Scratch: Send,
-    requires ends { opened.jobs ≡ S.job_count }
+    requires count { length opened.starts.items ≡ S.job_count }
+    requires started { (j : ℕ) → (R.start j ≡ node_at opened.starts.items (R.jobs - 1 - j)) × (R.keeps j ≡ kept_at opened.starts.items (R.jobs - 1 - j)) }
     requires table { table_id_of opened.counts ≡ R.table }
+    requires stops { stop_id_of opened.stops ≡ R.stops }
     requires planned { (R.jobs ≡ S.job_count) × ((j : ℕ) → R.last j ≡ S.last_of j) × ((j k : ℕ) → R.size j k ≡ S.size_of j k) }
 {
     let (work, tasks, idles) = TableWork::<S, R>::new(alloc, jobs, settings, opened)?;
@@ -63,11 +68,13 @@ where
         };
         left = Some(work.run(rt, 0, &Open, idle, task, &mut spawn));
     }
-    Ok(
-        (0..jobs.jobs())
-            .filter(|&job| work.found(job).is_some())
-            .count(),
-    )
+    let mut count = 0usize;
+    for job in 0..jobs.jobs() {
+        if work.found(job).is_some() {
+            count = count.saturating_add(1);
+        }
+    }
+    Ok(count)
 }
 
 /// How many answers of these jobs are found after such a run.
@@ -82,10 +89,13 @@ where
     S::Part: Send,
     S::Source: Send + Sync,
     S::Answer: Send + Sync,
+    S::Given: Send + Sync,
     S::Scratch: Send,
 {
-    let opened = TableOpened::<S>::new(alloc, jobs, settings)?;
-    answers_found::<S, Brand, H>(rt, alloc, jobs, settings, opened, drops)
+    match TableOpened::<S>::new(alloc, jobs, settings)? {
+        Some(opened) => answers_found::<S, Brand, H>(rt, alloc, jobs, settings, opened, drops),
+        None => Ok(0),
+    }
 }
 
 fn lists_found_as<P: Planned + Send + Sync, H: Wait>(
@@ -125,7 +135,7 @@ fn plan_found_as<P: job_table::Planned + Send + Sync, H: Wait>(
 ) -> Result<usize, NoMemory>
     requires planned { plan.now.jobs.items ≡ P.jobs }
 {
-    let jobs = PlanJobs::<P>::of(alloc, plan);
+    let jobs = PlanJobs::<P>::of(plan);
     found(rt, alloc, &jobs, settings, drops)
 }
 

@@ -1,4 +1,4 @@
-//! Tests of `job_table`: what no clause says.
+//! Tests of `job_table` and `early_stop`: what no clause says.
 //!
 //! No clause says that a worker starts, that pieces are walked by tasks, or that an answer comes from them.
 //! Stands on `job_table`; nothing stands on it. Begin with `lists.rt`, the jobs of these tests.
@@ -10,6 +10,10 @@ mod driven;
 mod gates;
 pub mod lists;
 #[cfg(test)]
+mod names;
+#[cfg(test)]
 mod plans;
 #[cfg(test)]
 mod runs;
+#[cfg(test)]
+mod words;

@@ -1,16 +1,19 @@
 //! Jobs that copy lists of numbers. They stand outside the tests, since definitions name them.
-ghost use Rattle.std.specs.Prelude.{◌≡◌, ◌%◌, ◌<◌, ◌≤◌, ℕ, ℤ, true, List, [], length, map, slice_index_or, IfOk};
-ghost use Rattle.table_tests.specs.Lists.{slice, numbers_in, JobLast};
+ghost use Rattle.std.specs.Prelude.{◌≡◌, ◌%◌, ◌<◌, ◌≤◌, ℕ, ℤ, true, List, [], length, map, slice_index_or, IfOk, ⊤};
+ghost use Rattle.std.specs.Coded.{Unit-prop};
+ghost use Rattle.table_tests.specs.Lists.{slice, numbers_in, walk_of, JobLast};
 ghost use Rattle.table_tests.specs.ListLaws.{one_list};
 
+use early_stop::Stop;
 use job_plan::Settings;
-use job_table::{Cut, NoMemory, Segments, run_all};
+use job_table::{Begun, Cut, EarlierAnswers, NoMemory, Segments, run_all};
 use std::alloc::Global;
 use std::marker::{Brand, PhantomData};
 use std::sync::Wait;
 use std::sync::atomic::AtomicU64;
 use std::sync::atomic::Ordering::SeqCst;
 use std::thread::Threads;
+use trace::End;
 use worker_pool::Gate;
 
 /// The numbers of each job of a run.
@@ -80,7 +83,11 @@ impl<'a, P: Planned + Sync> Segments for Lists<'a, P> {
 
     type Answer = Vec<i64>;
 
+    type Given = ();
+
     type Scratch = ();
+
+    type Outcome = End;
 
     ghost job_count = { P.jobs };
 
@@ -90,15 +97,23 @@ impl<'a, P: Planned + Sync> Segments for Lists<'a, P> {
 
     ghost divided = { λ _ _. true };
 
+    ghost goes_over = { λ job _. walk_of (P.numbers job) };
+
+    ghost gives = { λ _ _ walk. walk.ending };
+
     ghost stands_for = { λ job _ from to part. part.items ≡ slice (P.numbers job) from to };
 
     ghost is_source = { λ job _ source. numbers_in (P.numbers job) source ≡ P.numbers job };
 
     ghost is_answer = { λ job answer. answer.items ≡ P.numbers job };
 
+    ghost is_given = { λ _ _. ⊤ };
+
     ghost one_source = { λ job _ source. one_list (numbers_in (P.numbers job) source) (P.numbers job) };
 
     ghost one_answer = { λ job answer. one_list answer.items (P.numbers job) };
+
+    ghost one_given = { λ _ _. Unit-prop };
 
     fn jobs(&self) -> usize {
         self.lists.len()
@@ -108,11 +123,28 @@ impl<'a, P: Planned + Sync> Segments for Lists<'a, P> {
         job % 3
     }
 
+    fn names(&self, alloc: Global, _job: usize) -> Result<Vec<usize>, NoMemory> {
+        Ok(Vec::new(alloc))
+    }
+
+    fn likely_size(&self, job: usize) -> u64 {
+        self.list(job).len() as u64
+    }
+
+    fn given<E: EarlierAnswers<Vec<i64>>>(
+        &self,
+        _alloc: Global,
+        _job: usize,
+        _earlier: &E,
+    ) -> Result<Begun<(), Vec<i64>>, NoMemory> {
+        Ok(Begun::Walk(()))
+    }
+
     fn first_source(&self, _job: usize) -> ListSource {
         ListSource::Own
     }
 
-    fn size(&self, job: usize, _segment: usize, source: &ListSource) -> u64 {
+    fn size(&self, job: usize, _segment: usize, source: &ListSource, _given: &()) -> u64 {
         self.numbers(job, source).len() as u64
     }
 
@@ -122,7 +154,32 @@ impl<'a, P: Planned + Sync> Segments for Lists<'a, P> {
 
     fn scratch(&self, _alloc: Global) {}
 
-    fn leaf(
+    /// Never called: no place decides how a list without a fault ends.
+    #[tactic(auto, using(crate::proofs::Walks::no_place_decides))]
+    fn left_out(
+        &self,
+        alloc: Global,
+        _job: usize,
+        _segment: usize,
+        _from: u64,
+        _to: u64,
+        _given: &(),
+    ) -> Vec<i64> {
+        Vec::new(alloc)
+    }
+
+    fn is_settled(
+        &self,
+        _job: usize,
+        _segment: usize,
+        _from: u64,
+        _to: u64,
+        _part: &Vec<i64>,
+    ) -> bool {
+        false
+    }
+
+    fn leaf<E: EarlierAnswers<Vec<i64>>, W: Stop>(
         &self,
         alloc: Global,
         job: usize,
@@ -130,7 +187,10 @@ impl<'a, P: Planned + Sync> Segments for Lists<'a, P> {
         source: &ListSource,
         from: u64,
         to: u64,
+        _given: &(),
+        _earlier: &E,
         _scratch: &mut (),
+        _stop: &mut W,
     ) -> Result<Vec<i64>, NoMemory> {
         if self.refuses() {
             return Err(NoMemory);
@@ -158,12 +218,19 @@ impl<'a, P: Planned + Sync> Segments for Lists<'a, P> {
         _job: usize,
         _segment: usize,
         part: Vec<i64>,
+        _given: &(),
     ) -> Result<ListSource, NoMemory> {
         Ok(ListSource::Kept(part))
     }
 
     #[tactic(auto, using(crate::proofs::Slices::whole_slice))]
-    fn answer(&self, _alloc: Global, _job: usize, part: Vec<i64>) -> Result<Vec<i64>, NoMemory> {
+    fn answer(
+        &self,
+        _alloc: Global,
+        _job: usize,
+        part: Vec<i64>,
+        _given: &(),
+    ) -> Result<Vec<i64>, NoMemory> {
         Ok(part)
     }
 }

@@ -127,7 +127,7 @@ s = range(0, 4096).skip(96).sum() => 4
 s = range(0, 4096).dropWhile(x -> x < 96).skip(3000).sum() => 13
 s = range(0, 4096).map(x -> x).limit(4000).sum() => 5
 s = range(0, 4096).limit(4000).sum() => 4
-s = range(0, 4096).anyMatch(x -> x > 4000) => 1";
+s = range(0, 4096).anyMatch(x -> x > 4000) => 8";
 
 #[test]
 fn long_pieces_are_walked_by_tasks_and_each_leaf_enters_the_gate(
@@ -145,6 +145,26 @@ fn long_pieces_are_walked_by_tasks_and_each_leaf_enters_the_gate(
         let gate = Counted::new();
         run(&rt, alloc, row, 2, 1000, 0, &gate)?;
         assert!(rt; gate.leaves.load(SeqCst) <= 3, "without nodes: {row}");
+    }
+    Ok(())
+}
+
+/// One job each, and its answer, which the items of the first leaf decide.
+const EARLY: &str = "\
+g = range(0, 1000).findFirst() => OptionalLong[0]
+m = range(0, 100000).anyMatch(x -> x > 6) => true
+s = range(0, 100000).map(x -> 1 / (x - 5)).sum() => fault of stage 1 at 5
+p = range(0, 100000).map(x -> 1 / (x - 5)).prefix(sum).count() => fault of stage 1 at 5";
+
+// No clause says that a piece is left out.
+#[test]
+fn pieces_after_a_place_that_decides_are_not_walked(rt: HostRuntime) -> Result<(), Fail> {
+    let alloc = rt.alloc();
+    for row in EARLY.lines() {
+        let gate = Counted::new();
+        let answers = run(&rt, alloc, row, 1, 1, 4096, &gate)?;
+        assert!(rt; first_difference(alloc, row, &answers)? == 1, "{row}");
+        assert!(rt; gate.leaves.load(SeqCst) <= 10, "{row}");
     }
     Ok(())
 }

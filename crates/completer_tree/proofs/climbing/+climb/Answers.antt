@@ -44,7 +44,7 @@ climb-requires g t c κs within =
     let next = c.in-Last.finisher.finish.kept in
     let low = lower k.parent k.root (g.C.Continuation.goes_to k.run) next.parent next.root (g.C.Continuation.goes_to next.run) l.0 l.1 (λ q e. (l.2.moved q e).smaller) in
     let d = c.decreases in
-    (omega arith, (within.0, (within.1.0, (within.1.1, l.2.can))))
+    (omega arith, (within.0, (within.1.0, (within.1.1.0, (within.1.1.1, l.2.can)))))
 
 pub returns-in-Pending-clause-pending : goal.returns-in-Pending-clause-pending
 returns-in-Pending-clause-pending g t c =

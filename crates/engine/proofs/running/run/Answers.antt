@@ -8,7 +8,7 @@ use Rattle.engine.proofs.running.run.Goals.{in-Some+in-Ok, in-None}
 
 pub returns-in-Err-clause-fault : goal.returns-in-Err-clause-fault
 returns-in-Err-clause-fault g c =
-    columns_refused g.C.CountedRead.remaining c.args.columns (g.J.CountedRead.remaining c.args.jobs.now) (form_of c.args.settings.now) (g.W.CountedWrite.contents c.args.writer.now) (g.W.CountedWrite.contents c.args.writer.now) c.in-Some.reader c.read_columns.result c.in-Err.fault c.in-Some.is c.read_columns.ensures.cells c.read_columns.ensures.some_bytes c.in-Err.is (search rules)
+    columns_refused g.C.CountedRead.remaining c.args.columns (g.J.CountedRead.remaining c.args.jobs.now) (form_of c.args.settings.now) (g.W.CountedWrite.contents c.args.writer.now) (g.W.CountedWrite.contents c.args.writer.now) c.in-Some.reader c.read_columns_by.result c.in-Err.fault c.in-Some.is c.read_columns_by.ensures.cells c.read_columns_by.ensures.some_bytes c.in-Err.is (search rules)
 
 pub returns-in-Err-clause-columns_failed : goal.returns-in-Err-clause-columns_failed
 returns-in-Err-clause-columns_failed g c is =
@@ -18,7 +18,7 @@ returns-in-Err-clause-columns_failed g c is =
 pub returns-in-Err-report_from-clause-fault : goal.returns-in-Err-report_from-clause-fault
 returns-in-Err-report_from-clause-fault g c =
     let t : HasTable g.C.CountedRead.remaining c.args.columns c.match-columns.table = elim c.match-columns.branch [
-      | in-Some+in-Ok w ↦ some_table g.C.CountedRead.remaining c.args.columns c.match-columns.table w.in-Some.reader w.read_columns.result w.in-Some.is w.read_columns.ensures.cells w.read_columns.ensures.some_bytes (search rules)
+      | in-Some+in-Ok w ↦ some_table g.C.CountedRead.remaining c.args.columns c.match-columns.table w.in-Some.reader w.read_columns_by.result w.in-Some.is w.read_columns_by.ensures.cells w.read_columns_by.ensures.some_bytes (search rules)
       | in-None w ↦ no_table g.C.CountedRead.remaining c.args.columns c.match-columns.table w.in-None.is (search rules)
     ] in
     early_fault g.C.CountedRead.remaining c.args.columns (g.J.CountedRead.remaining c.args.jobs.now) (form_of c.args.settings.now) (g.W.CountedWrite.contents c.args.writer.now) (g.W.CountedWrite.contents c.args.writer.now) c.match-columns.table c.in-Err-report_from.fault t c.in-Err-report_from.ensures.err (search rules)
@@ -26,7 +26,7 @@ returns-in-Err-report_from-clause-fault g c =
 pub returns-in-Err-report_from-clause-columns_failed : goal.returns-in-Err-report_from-clause-columns_failed
 returns-in-Err-report_from-clause-columns_failed g c is =
     let t : HasTable g.C.CountedRead.remaining c.args.columns c.match-columns.table = elim c.match-columns.branch [
-      | in-Some+in-Ok w ↦ some_table g.C.CountedRead.remaining c.args.columns c.match-columns.table w.in-Some.reader w.read_columns.result w.in-Some.is w.read_columns.ensures.cells w.read_columns.ensures.some_bytes (search rules)
+      | in-Some+in-Ok w ↦ some_table g.C.CountedRead.remaining c.args.columns c.match-columns.table w.in-Some.reader w.read_columns_by.result w.in-Some.is w.read_columns_by.ensures.cells w.read_columns_by.ensures.some_bytes (search rules)
       | in-None w ↦ no_table g.C.CountedRead.remaining c.args.columns c.match-columns.table w.in-None.is (search rules)
     ] in
     absurd (early_no_columns g.C.CountedRead.remaining c.args.columns (g.J.CountedRead.remaining c.args.jobs.now) (form_of c.args.settings.now) c.match-columns.table c.in-Err-report_from.fault t c.in-Err-report_from.ensures.err is)
@@ -34,7 +34,7 @@ returns-in-Err-report_from-clause-columns_failed g c is =
 pub returns-in-Err-report_from-clause-write_failed : goal.returns-in-Err-report_from-clause-write_failed
 returns-in-Err-report_from-clause-write_failed g c n is =
     let t : HasTable g.C.CountedRead.remaining c.args.columns c.match-columns.table = elim c.match-columns.branch [
-      | in-Some+in-Ok w ↦ some_table g.C.CountedRead.remaining c.args.columns c.match-columns.table w.in-Some.reader w.read_columns.result w.in-Some.is w.read_columns.ensures.cells w.read_columns.ensures.some_bytes (search rules)
+      | in-Some+in-Ok w ↦ some_table g.C.CountedRead.remaining c.args.columns c.match-columns.table w.in-Some.reader w.read_columns_by.result w.in-Some.is w.read_columns_by.ensures.cells w.read_columns_by.ensures.some_bytes (search rules)
       | in-None w ↦ no_table g.C.CountedRead.remaining c.args.columns c.match-columns.table w.in-None.is (search rules)
     ] in
     absurd (early_no_write g.C.CountedRead.remaining c.args.columns (g.J.CountedRead.remaining c.args.jobs.now) (form_of c.args.settings.now) c.match-columns.table c.in-Err-report_from.fault n t c.in-Err-report_from.ensures.err is)
@@ -42,7 +42,7 @@ returns-in-Err-report_from-clause-write_failed g c n is =
 pub returns-in-Ok-write_all_of-clause-report : goal.returns-in-Ok-write_all_of-clause-report
 returns-in-Ok-write_all_of-clause-report g c =
     let t : HasTable g.C.CountedRead.remaining c.args.columns c.match-columns.table = elim c.match-columns.branch [
-      | in-Some+in-Ok w ↦ some_table g.C.CountedRead.remaining c.args.columns c.match-columns.table w.in-Some.reader w.read_columns.result w.in-Some.is w.read_columns.ensures.cells w.read_columns.ensures.some_bytes (search rules)
+      | in-Some+in-Ok w ↦ some_table g.C.CountedRead.remaining c.args.columns c.match-columns.table w.in-Some.reader w.read_columns_by.result w.in-Some.is w.read_columns_by.ensures.cells w.read_columns_by.ensures.some_bytes (search rules)
       | in-None w ↦ no_table g.C.CountedRead.remaining c.args.columns c.match-columns.table w.in-None.is (search rules)
     ] in
     let (input, given, report) = report_for g.C.CountedRead.remaining c.args.columns (g.J.CountedRead.remaining c.args.jobs.now) (form_of c.args.settings.now) c.match-columns.table c.in-Ok-report_from.report.items t c.in-Ok-report_from.ensures.ok in
@@ -51,7 +51,7 @@ returns-in-Ok-write_all_of-clause-report g c =
 pub returns-clause-fault : goal.returns-clause-fault
 returns-clause-fault g c =
     let t : HasTable g.C.CountedRead.remaining c.args.columns c.match-columns.table = elim c.match-columns.branch [
-      | in-Some+in-Ok w ↦ some_table g.C.CountedRead.remaining c.args.columns c.match-columns.table w.in-Some.reader w.read_columns.result w.in-Some.is w.read_columns.ensures.cells w.read_columns.ensures.some_bytes (search rules)
+      | in-Some+in-Ok w ↦ some_table g.C.CountedRead.remaining c.args.columns c.match-columns.table w.in-Some.reader w.read_columns_by.result w.in-Some.is w.read_columns_by.ensures.cells w.read_columns_by.ensures.some_bytes (search rules)
       | in-None w ↦ no_table g.C.CountedRead.remaining c.args.columns c.match-columns.table w.in-None.is (search rules)
     ] in
     let (input, given, report) = report_for g.C.CountedRead.remaining c.args.columns (g.J.CountedRead.remaining c.args.jobs.now) (form_of c.args.settings.now) c.match-columns.table c.in-Ok-report_from.report.items t c.in-Ok-report_from.ensures.ok in

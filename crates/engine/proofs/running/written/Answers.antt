@@ -1,15 +1,17 @@
-use Rattle.std.proofs.Common.{◌≡◌, ℕ, List, [], length, map, Vec, Global, IfOk, ap, sym, ◌∙◌, subst}
+use Rattle.std.proofs.Common.{◌≡◌, ℕ, List, length, map, Vec, Global, IfOk, ap, sym, ◌∙◌, subst}
 use Rattle.std.specs.Prelude.{All}
 use Rattle.engine.specs.Run.{report_in}
 use Rattle.job_language.specs.Jobs.{jobs_of, names_of}
 use Rattle.job_plan.specs.declared.answer.Answer.{Answer}
 use Rattle.job_plan.specs.declared.settings.Form.{Form}
 use Rattle.job_plan.specs.FileAnswers.{meaning_of}
-use Rattle.job_plan.specs.Plans.{AbstractPlan, planned_answer}
+use Rattle.job_plan.specs.PlannedAnswers.{planned_meaning}
+use Rattle.job_plan.specs.Plans.{AbstractPlan}
+use Rattle.job_plan.proofs.MeaningLemmas.{planned}
 use Rattle.report.specs.Named.{IsNamed, IsText}
 use Rattle.report.proofs.EachNamed.{paired, named}
 use Rattle.engine.proofs.NamedTexts.{names_text}
-use Rattle.engine.proofs.PlannedJobLemmas.{planned_answers, planned_names}
+use Rattle.engine.proofs.PlannedJobLemmas.{planned_names}
 use Rattle.engine.proofs.running.written.Goals as goal
 use Rattle.engine.proofs.running.written.Given.{Over}
 use Rattle.engine.proofs.running.written.Goals.{After-deref-2}
@@ -20,7 +22,7 @@ names g c =
 
 answers : (g : Over) (c : After-deref-2 g) → meaning_of (jobs_of c.args.jobs.items) ≡ c.deref-2.result.now
 answers g c =
-    sym (c.deref-2.ensures.value ∙ c.in-Ok.ensures ∙ ap (map (planned_answer [])) c.in_ok-plan.ensures.ok ∙ planned_answers (jobs_of c.args.jobs.items) c.requires.supported)
+    sym (c.deref-2.ensures.value ∙ c.in-Ok.ensures ∙ ap planned_meaning c.in_ok-plan.ensures.ok ∙ planned (jobs_of c.args.jobs.items))
 
 pub printed-requires : goal.printed-requires
 printed-requires g c =

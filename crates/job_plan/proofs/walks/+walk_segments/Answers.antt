@@ -20,7 +20,7 @@ returns-in-Source t c =
     let env = c.args.env.now in
     let source = walk_in c.args.source.now in
     let split : c.args.segments.now ≡ c.in-Some.segment.now ∷ c.in-Some.later.now = search rules in
-    let chunk : walk_in c.of_given.result ≡ c.in-Source.chunk = search rules in
+    let given : walk_in c.of_given.result ≡ c.in-Source.given = search rules in
     let a = segments_answer later env (walk_in c.of_given.result) in
-    let on = went_on s later env source c.in-Source.chunk c.in_ok-answer.field-0 a c.in_ok-answer.ensures c.in-Source.is (ap (segments_answer later env) chunk) in
+    let on = went_on s later env source c.in-Source.given c.in_ok-answer.field-0 a c.in_ok-answer.ensures c.in-Source.is (ap (segments_answer later env) given) in
     same_answer c.walk_segments.result a (segments_answer (segments_in c.args.segments.now) env source) (on ∙ ap (λ ss. segments_answer (segments_in ss) env source) (sym split)) c.walk_segments.ensures

@@ -1,31 +1,27 @@
-use Rattle.std.proofs.Common.{◌∙◌, ◌≡◌, ◌<◌, ◌≤◌, List, [], Some, None, length, slice_get, ap, sym, subst, refl, arith}
+use Rattle.std.proofs.Common.{◌∙◌, ◌≡◌, ◌<◌, ◌≤◌, List, Some, None, length, slice_get, ap, sym, subst, refl, arith}
 use Rattle.trace.specs.Trace.{Trace}
 use Rattle.lambda_expr.specs.Earlier.{Numbers}
-use Rattle.job_plan.specs.Parts.{StandsFor, plan_in, segments_in}
+use Rattle.job_plan.specs.Parts.{StandsFor, segments_in}
 use Rattle.job_plan.specs.Plans.{AbstractSegment, outcome_of}
-use Rattle.job_table.specs.PlanSegments.{chain_of, slices_first}
+use Rattle.job_table.specs.PlanSegments.{slices_first}
 use Rattle.job_table.proofs.PlanAnswers.{given_answer, no_segment, some_segment}
-use Rattle.job_table.proofs.PlanParts.{chain_answer, last_answer, no_answer}
+use Rattle.job_table.proofs.PlanParts.{last_answer, no_answer}
 use Rattle.job_table.proofs.plan_parts.last_answer.Goals as goal
 
 pub returns-then-last-segments : goal.returns-then-last-segments
-returns-then-last-segments c =
-    let plan = plan_in c.args.plan.now in
-    let chain = chain_of plan in
+returns-then-last-segments c = λ chain same numbers stands.
     let ss = c.later_segments-segments.result.now in
-    let segments : segments_in ss ≡ chain.segments = c.later_segments-segments.ensures in
+    let segments : segments_in ss ≡ chain.segments = c.later_segments-segments.ensures ∙ sym same in
     let last = c.slices_first-last.result in
     let is : last ≡ slices_first (segments_in ss) = c.slices_first-last.ensures.value in
     let past : length ss ≤ slices_first (segments_in ss) = omega (arith, c.if-last-segments.true) in
     let none : slice_get chain.segments (slices_first chain.segments) ≡ None = sym (ap (λ (xs : List AbstractSegment). slice_get xs (slices_first xs)) segments) ∙ no_segment ss (slices_first (segments_in ss)) past in
-    no_answer chain none ∙ chain_answer plan
+    no_answer chain none
 
 pub returns-in-Answer : goal.returns-in-Answer
-returns-in-Answer c =
-    let plan = plan_in c.args.plan.now in
-    let chain = chain_of plan in
+returns-in-Answer c = λ chain same numbers stands.
     let ss = c.later_segments-segments.result.now in
-    let segments : segments_in ss ≡ chain.segments = c.later_segments-segments.ensures in
+    let segments : segments_in ss ≡ chain.segments = c.later_segments-segments.ensures ∙ sym same in
     let last = c.slices_first-last.result in
     let is : last ≡ slices_first (segments_in ss) = c.slices_first-last.ensures.value in
     let few = c.slices_first-last.ensures.few in
@@ -33,16 +29,14 @@ returns-in-Answer c =
     let got = some_segment ss (slices_first (segments_in ss)) low in
     let there : slice_get chain.segments (slices_first chain.segments) ≡ Some got.0 = sym (ap (λ (xs : List AbstractSegment). slice_get xs (slices_first xs)) segments) ∙ got.1 in
     let o = c.in_ok-answer.field-0 in
-    let ends : (s : AbstractSegment) (t : Trace) → StandsFor s [] c.args.part t → o ≡ outcome_of s [] t =
-    subst (λ (e : Numbers). (s : AbstractSegment) (t : Trace) → StandsFor s e c.args.part t → o ≡ outcome_of s e t) c.requires.alone c.in_ok-answer.ensures in
-    sym (ap given_answer c.in-Answer.is) ∙ last_answer chain (slices_first chain.segments) c.args.part o ends refl got.0 there c.requires.part ∙ chain_answer plan
+    let ends : (s : AbstractSegment) (t : Trace) → StandsFor s chain.numbers c.args.part t → o ≡ outcome_of s chain.numbers t =
+    subst (λ (e : Numbers). (s : AbstractSegment) (t : Trace) → StandsFor s e c.args.part t → o ≡ outcome_of s e t) (sym numbers) c.in_ok-answer.ensures in
+    sym (ap given_answer c.in-Answer.is) ∙ last_answer chain (slices_first chain.segments) c.args.part o ends refl got.0 there stands
 
 pub returns : goal.returns
-returns c =
-    let plan = plan_in c.args.plan.now in
-    let chain = chain_of plan in
+returns c = λ chain same numbers stands.
     let ss = c.later_segments-segments.result.now in
-    let segments : segments_in ss ≡ chain.segments = c.later_segments-segments.ensures in
+    let segments : segments_in ss ≡ chain.segments = c.later_segments-segments.ensures ∙ sym same in
     let last = c.slices_first-last.result in
     let is : last ≡ slices_first (segments_in ss) = c.slices_first-last.ensures.value in
     let few = c.slices_first-last.ensures.few in
@@ -50,6 +44,6 @@ returns c =
     let got = some_segment ss (slices_first (segments_in ss)) low in
     let there : slice_get chain.segments (slices_first chain.segments) ≡ Some got.0 = sym (ap (λ (xs : List AbstractSegment). slice_get xs (slices_first xs)) segments) ∙ got.1 in
     let o = c.in_ok-answer.field-0 in
-    let ends : (s : AbstractSegment) (t : Trace) → StandsFor s [] c.args.part t → o ≡ outcome_of s [] t =
-    subst (λ (e : Numbers). (s : AbstractSegment) (t : Trace) → StandsFor s e c.args.part t → o ≡ outcome_of s e t) c.requires.alone c.in_ok-answer.ensures in
-    sym (ap given_answer c.in-Source.is) ∙ last_answer chain (slices_first chain.segments) c.args.part o ends refl got.0 there c.requires.part ∙ chain_answer plan
+    let ends : (s : AbstractSegment) (t : Trace) → StandsFor s chain.numbers c.args.part t → o ≡ outcome_of s chain.numbers t =
+    subst (λ (e : Numbers). (s : AbstractSegment) (t : Trace) → StandsFor s e c.args.part t → o ≡ outcome_of s e t) (sym numbers) c.in_ok-answer.ensures in
+    sym (ap given_answer c.in-Source.is) ∙ last_answer chain (slices_first chain.segments) c.args.part o ends refl got.0 there stands

@@ -4,7 +4,6 @@ use Rattle.job_table.proofs.PlannedAnswers.{planned_jobs}
 use denote.Exit.{no}
 use denote.Param.{param}
 use denote.Param.Send.{arg_send, arg_sync, param_send, param_sync}
-use mir.Syntax.{named}
 use Rattle.job_table.specs.contracts.planned.PlanJobs as plan_jobs
 use Rattle.job_table.proofs.SharedPlanLemmas.{jobs_send, jobs_sync}
 use Rattle.job_table.proofs.planned.run_as.Goals as goal
@@ -14,10 +13,10 @@ returns g c = planned_jobs (λ (v : Vec Answer Global). v.items) c.args.plan.now
 
 pub run_all-requires-send-S : goal.run_all-requires-send-S
 run_all-requires-send-S g c = λ κs within.
-    param_send 0 _ (arg_send _ no (plan_jobs.the_row (record { mir = named 6; lft = κs.1.1.1.1.1.1.0 }) (record { mir = named 10; lft = κs.1.1.1.1.1.1.1.1.1.1.0 }) (param 0 g.row.P) g.P.Planned)
+    param_send 0 _ (arg_send _ no (plan_jobs.the_row _ _ (param 0 g.row.P) g.P.Planned)
     (jobs_send _ _ _ _ (param_send 0 _ c.type_bounds.send-P)))
 
 pub run_all-requires-sync-S : goal.run_all-requires-sync-S
 run_all-requires-sync-S g c = λ κs within.
-    param_sync 0 _ (arg_sync _ no (plan_jobs.the_row (record { mir = named 6; lft = κs.1.1.1.1.1.1.0 }) (record { mir = named 10; lft = κs.1.1.1.1.1.1.1.1.1.1.0 }) (param 0 g.row.P) g.P.Planned)
+    param_sync 0 _ (arg_sync _ no (plan_jobs.the_row _ _ (param 0 g.row.P) g.P.Planned)
     (jobs_sync _ _ _ _ (param_sync 0 _ c.type_bounds.sync-P)))

@@ -1,12 +1,13 @@
 use Rattle.std.proofs.Common.{◌∙◌}
 use Rattle.completer_tree.proofs.RootLemmas.{at_some}
-use Rattle.job_table.proofs.Tops.{end_back}
+use Rattle.job_table.proofs.SeatLemmas.{kept_back}
 use Rattle.job_table.proofs.walking.leaf.Goals as goal
 
-pub invariant_of-result-clause-has : goal.invariant_of-result-clause-has
-invariant_of-result-clause-has g c =
-    let t = c.try_complete-seat in
-    end_back c.args.half.seat t.result.0 c.args.half.place (t.ensures.seat.0 ∙ c.requires.can.table) c.requires.can c.requires.top (at_some _ t.result.1 t.ensures.kept c.in_ok-part.part c.in_ok-part.was)
-
-pub invariant_of-result-clause-known : goal.invariant_of-result-clause-known
-invariant_of-result-clause-known g c = (c.requires.piece.known, c.requires.piece.chained)
+pub invariant_of-begun : goal.invariant_of-begun
+invariant_of-begun g c =
+    let t = c.try_complete_with-seat in
+    let p = c.args.half.place in
+    record {
+      has = kept_back p.tag.job c.args.half.seat t.result.0 p c.requires.piece.known (t.ensures.seat.0 ∙ c.requires.can.table) c.requires.can c.requires.top c.requires.knows (at_some _ t.result.1 t.ensures.kept c.in_ok-part.part c.in_ok-part.was);
+      known = c.requires.piece.known;
+    }

@@ -1,0 +1,8 @@
+use Rattle.std.proofs.Common.{◌≤◌, ◌<◌, drop, length, map}
+use Rattle.columns.specs.PlainRows.{AreRead}
+use Rattle.columns.specs.TableOfColumns.{named}
+use Rattle.columns.proofs.pieces.read_plain_rows_by.Given as goal
+
+-- the rows of the pieces so far are put
+abbrev pub invariant-loop : goal.invariant-loop
+invariant-loop g l = (l.at ≤ length l.text) × (0 < length l.columns) × AreRead (drop l.from l.text) (drop l.at l.text) (map named l.initial.columns) (map named l.columns)

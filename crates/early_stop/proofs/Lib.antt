@@ -1,0 +1,4 @@
+-- Lemmas of this crate.
+pub mod Keeps
+pub mod Leaving
+pub mod Settling

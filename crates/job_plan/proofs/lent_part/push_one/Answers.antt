@@ -1,0 +1,59 @@
+use Rattle.std.proofs.Common.{◌≡◌, ◌+◌, ◌≤◌, ◌<◌, ℤ, pos, ◌+ℤ◌, ◌-ℤ◌, ℕ, List, OnOk, length, take, drop, sym, ap, subst, ◌∙◌, arith, rules, FitsSigned, w64, to_z, of_z}
+use Rattle.std.proofs.lemmas.Int.{ints, to_z-of_z}
+use Rattle.trace.specs.declared.item.Item.{Item}
+use Rattle.trace.specs.declared.item.End.TheVariants as end
+use Rattle.trace.specs.Cover.{counted, distance, placed}
+use Rattle.trace.specs.Trace.{trace}
+use Rattle.trace.proofs.Sources.{length-counted}
+use Rattle.job_language.specs.Jobs.{source_of}
+use Rattle.job_plan.specs.Scans.{scan_append}
+use Rattle.job_plan.specs.Walks.{plain_values}
+use Rattle.job_plan.proofs.Elements.{counted_piece, less_one_fits}
+use Rattle.job_plan.proofs.lent_part.push_one.Goals as goal
+
+pub push_range-requires-clause-within : goal.push_range-requires-clause-within
+push_range-requires-clause-within c =
+    let a = c.in-Range.from in
+    let b = c.in-Range.to in
+    let fa : FitsSigned w64 c.in-Range.from = search rules in
+    let fb : FitsSigned w64 c.in-Range.to = search rules in
+    let l = ap (λ s. length (plain_values (source_of s))) c.in-Range.is ∙ length-counted a (distance a b) in
+    let some : 0 < distance a b = omega (arith, c.requires.within, l, c.if-count-eq0.false) in
+    let e1 = to_z-of_z w64 b fb in
+    let e2 = ap (λ (z : ℤ). to_z w64 (of_z w64 (z -ℤ pos 1))) e1 ∙ to_z-of_z w64 (b -ℤ pos 1) (less_one_fits a b fa fb some) in
+    let e3 : (b -ℤ pos 1) +ℤ pos 1 ≡ b = omega (arith, ints) in
+    let ends = ap (λ (z : ℤ). z +ℤ pos 1) e2 ∙ e3 in
+    subst (λ (m : ℕ). c.args.start + c.args.count ≤ m) (l ∙ sym (λ i. distance (to_z-of_z w64 a fa i) (ends i))) c.requires.within
+
+pub push_range-requires-in-RangeClosed-clause-within : goal.push_range-requires-in-RangeClosed-clause-within
+push_range-requires-in-RangeClosed-clause-within c =
+    let a = c.in-RangeClosed.from in
+    let b = c.in-RangeClosed.to in
+    let fa : FitsSigned w64 c.in-RangeClosed.from = search rules in
+    let fb : FitsSigned w64 c.in-RangeClosed.to = search rules in
+    let l = ap (λ s. length (plain_values (source_of s))) c.in-RangeClosed.is ∙ length-counted a (distance a (b +ℤ pos 1)) in
+    subst (λ (m : ℕ). c.args.start + c.args.count ≤ m) (l ∙ sym (λ i. distance (to_z-of_z w64 a fa i) (to_z-of_z w64 b fb i +ℤ pos 1))) c.requires.within
+
+pub returns-in-Range : goal.returns-in-Range
+returns-in-Range c =
+    let a = c.in-Range.from in
+    let n = distance a c.in-Range.to in
+    let o = c.args.origin in
+    let fa : FitsSigned w64 c.in-Range.from = search rules in
+    let l = ap (λ s. length (plain_values (source_of s))) c.in-Range.is ∙ length-counted a n in
+    let few : c.args.start + c.args.count ≤ n = subst (λ (m : ℕ). c.args.start + c.args.count ≤ m) l c.requires.within in
+    let e = ap (λ s. placed o (take c.args.count (drop c.args.start (plain_values (source_of s))))) c.in-Range.is ∙ ap (placed o) (counted_piece a n c.args.start c.args.count few)
+    ∙ ap (λ (z : ℤ). placed o (counted (z +ℤ pos c.args.start) c.args.count)) (sym (to_z-of_z w64 a fa)) in
+    subst (λ (ys : List Item). OnOk c.push_range.result (c.push_range.new.part ≡ scan_append c.args.part.now (trace ys end.Done))) (sym e) c.push_range.ensures
+
+pub returns-in-RangeClosed : goal.returns-in-RangeClosed
+returns-in-RangeClosed c =
+    let a = c.in-RangeClosed.from in
+    let n = distance a (c.in-RangeClosed.to +ℤ pos 1) in
+    let o = c.args.origin in
+    let fa : FitsSigned w64 c.in-RangeClosed.from = search rules in
+    let l = ap (λ s. length (plain_values (source_of s))) c.in-RangeClosed.is ∙ length-counted a n in
+    let few : c.args.start + c.args.count ≤ n = subst (λ (m : ℕ). c.args.start + c.args.count ≤ m) l c.requires.within in
+    let e = ap (λ s. placed o (take c.args.count (drop c.args.start (plain_values (source_of s))))) c.in-RangeClosed.is ∙ ap (placed o) (counted_piece a n c.args.start c.args.count few)
+    ∙ ap (λ (z : ℤ). placed o (counted (z +ℤ pos c.args.start) c.args.count)) (sym (to_z-of_z w64 a fa)) in
+    subst (λ (ys : List Item). OnOk c.push_range-in-RangeClosed.result (c.push_range-in-RangeClosed.new.part ≡ scan_append c.args.part.now (trace ys end.Done))) (sym e) c.push_range-in-RangeClosed.ensures

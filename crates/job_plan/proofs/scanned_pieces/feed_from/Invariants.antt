@@ -1,0 +1,22 @@
+use Rattle.std.proofs.Common.{◌≡◌, ◌+◌, ◌<◌, ◌^◌, ◌++◌, List, length, drop, Ok}
+use Rattle.trace.specs.declared.item.Item.{Item}
+use Rattle.trace.specs.declared.item.End.TheVariants as end
+use Rattle.trace.specs.declared.sink.Flow.TheVariants as flow
+use Rattle.trace.specs.declared.feeding.Fed.TheVariants as fed
+use Rattle.trace.specs.Sinks.{IsFed}
+use Rattle.trace.specs.Trace.{trace}
+use Rattle.reduce_ops.specs.Operators.{value_of}
+use Rattle.prefix_scan.specs.Scans.{scan_at}
+use Rattle.job_plan.specs.Parts.{segment_in}
+use Rattle.job_plan.specs.Pieces.{elements}
+use Rattle.job_plan.specs.Plans.{walk_of}
+use Rattle.job_plan.specs.Scans.{all_items}
+use Rattle.job_plan.proofs.scanned_pieces.feed_from.Given as goal
+
+abbrev pub invariant-loop-piece : goal.invariant-loop-piece
+invariant-loop-piece g l = (g.S.LongSink.flow l.sink ≡ flow.More)
+    × ((xs : List Item) → g.S.LongSink.has_taken l.initial.sink xs → (done : List Item)
+    × IsFed g.S.LongSink.has_taken xs (walk_of (segment_in l.segment) l.env (trace done end.Done)) (Ok fed.More) l.sink
+    × (done ++ elements l.next l.last (scan_at (value_of l.prefix.op) l.prefix.range l.first l.folded (all_items (drop l.piece-index l.pieces)))
+    ≡ elements l.fn.from l.fn.to (scan_at (value_of l.prefix.op) l.prefix.range l.fn.position l.fn.start (all_items l.pieces))))
+    × (l.first + length (all_items (drop l.piece-index l.pieces)) < 2 ^ 64)

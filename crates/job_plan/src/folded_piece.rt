@@ -1,0 +1,318 @@
+//! Pieces of a walk with their folds.
+
+ghost use Rattle.std.specs.Prelude.{◌≡◌, ◌+◌, ◌<◌, ◌≤◌, ◌^◌, ◌++◌, ℕ, ℤ, pos, ◌+ℤ◌, FitsSigned, true, false, Ok, length, OnOk, OnErr, IfOk};
+ghost use Rattle.std.specs.Int.{w64};
+ghost use Rattle.trace.specs.Cover.{counted, placed};
+ghost use Rattle.trace.specs.Trace.{trace};
+ghost use Rattle.trace.specs.declared.item.End.TheVariants as end;
+ghost use Rattle.reduce_ops.specs.Operators.{value_of};
+ghost use Rattle.reduce_ops.specs.Parts.{StandsFor as FoldStands};
+ghost use Rattle.prefix_scan.specs.Prefixes.{is_within};
+ghost use Rattle.prefix_scan.specs.Scans.{fold_at, joined_value};
+ghost use Rattle.job_plan.specs.Runs.{Fits, FitsPlaces, first_place, items_in, run_values};
+ghost use Rattle.job_plan.specs.Scans.{IsFolded, items_of};
+
+use crate::folding::folded;
+use crate::piece_items::PieceItems;
+use crate::run_values::RunValues;
+use prefix_scan::{cut_to, fold_items, scan_values};
+use reduce_ops::{Op, Partial, operators_are_associative};
+use std::alloc::Global;
+use trace::{Item, NoMemory, SourceItems};
+
+/// How many items a piece has at most. A leaf that goes over a piece scans it in a buffer of this size.
+pub(crate) const MOST_ITEMS: usize = 4_096;
+
+/// Items side by side, and their fold.
+#[derive(Drop)]
+pub struct FoldedPiece<'a> {
+    pub(crate) items: PieceItems<'a>,
+    pub(crate) fold: Partial,
+}
+
+/// Where a piece begins: the position of its first item, and the fold of what lies left of it.
+#[derive(Clone, Copy)]
+pub struct Mark {
+    pub(crate) before: u64,
+    pub(crate) start: Option<i64>,
+}
+
+impl<'a> FoldedPiece<'a> {
+    /// The piece of the items of a source, which have this fold. It stores 16 bytes for each.
+    pub(crate) fn listed<I: SourceItems>(
+        alloc: Global,
+        op: Op,
+        source: &I,
+        fold: Partial,
+    ) -> Result<FoldedPiece<'a>, NoMemory>
+        requires fold { (fold.op ≡ op) × FoldStands fold (trace (I.items source.now) end.Done) }
+        requires few { length (I.items source.now) ≤ 4096 }
+        ensures items { IfOk result (λ piece. items_of piece ≡ I.items source.now) }
+        ensures folded { IfOk result (λ piece. IsFolded op piece) }
+    {
+        let mut items = Vec::new(alloc);
+        items.reserve(space_for(source.count() as usize))?;
+        add_all(&mut items, source)?;
+        Ok(FoldedPiece {
+            items: PieceItems::Listed(items),
+            fold,
+        })
+    }
+
+    /// The piece of values at places that count up from this one. It stores 8 bytes for each.
+    pub(crate) fn stored(
+        alloc: Global,
+        op: Op,
+        place: u64,
+        values: &[i64],
+    ) -> Result<FoldedPiece<'a>, NoMemory>
+        requires few { length values.now ≤ 4096 }
+        requires places { place + length values.now ≤ 2 ^ 62 }
+        ensures items { IfOk result (λ piece. items_of piece ≡ placed place values.now) }
+        ensures folded { IfOk result (λ piece. IsFolded op piece) }
+    {
+        let mut stored = Vec::new(alloc);
+        stored.reserve(space_for(values.len()))?;
+        stored.extend_from_slice(values)?;
+        Ok(FoldedPiece {
+            items: PieceItems::Run(place, RunValues::Stored(stored)),
+            fold: folded(op, false, values),
+        })
+    }
+
+    /// The same of values that are lent. It takes no memory.
+    pub(crate) fn lent(op: Op, place: u64, values: &'a [i64]) -> FoldedPiece<'a>
+        requires few { length values.now ≤ 4096 }
+        requires places { place + length values.now ≤ 2 ^ 62 }
+        ensures items { items_of result ≡ placed place values.now }
+        ensures folded { IsFolded op result }
+    {
+        FoldedPiece {
+            items: PieceItems::Run(place, RunValues::Lent(values)),
+            fold: folded(op, false, values),
+        }
+    }
+
+    /// The same of integers that count up. It takes no memory.
+    pub(crate) fn counted(op: Op, place: u64, first: i64, count: u64) -> FoldedPiece<'a>
+        requires few { count ≤ 4096 }
+        requires places { place + count ≤ 2 ^ 62 }
+        requires fits { (i : ℕ) → i < count → FitsSigned w64 (first +ℤ pos i) }
+        ensures items { items_of result ≡ placed place (counted first count) }
+        ensures folded { IsFolded op result }
+    {
+        let values = RunValues::Counted { first, count };
+        let fold = fold_run(op, &values);
+        FoldedPiece {
+            items: PieceItems::Run(place, values),
+            fold,
+        }
+    }
+
+    /// How many items the piece has.
+    pub(crate) fn count(&self) -> usize
+        requires { FitsPlaces self.now.items }
+        ensures { result ≡ length (items_of self.now) }
+    {
+        match &self.items {
+            PieceItems::Listed(items) => items.len(),
+            PieceItems::Run(_, values) => values.count(),
+        }
+    }
+
+    /// Adds the items of a source, which have this fold, and answers `true`; or `false` if the piece has no space for them
+    /// or doesn't list its items. If an allocation fails, the piece stays as it was.
+    pub(crate) fn add<I: SourceItems>(
+        &mut self,
+        op: Op,
+        source: &I,
+        count: usize,
+        fold: Partial,
+    ) -> Result<bool, NoMemory>
+        requires folded { IsFolded op self.old }
+        requires fold { (fold.op ≡ op) × FoldStands fold (trace (I.items source.now) end.Done) }
+        requires count { length (I.items source.now) ≡ count }
+        requires few { count ≤ 4096 }
+        ensures added { result ≡ Ok true → items_of self.new ≡ items_of self.old ++ I.items source.now }
+        ensures other { (result ≡ Ok true → ⊥) → items_of self.new ≡ items_of self.old }
+        ensures folded { IsFolded op self.new }
+    {
+        let PieceItems::Listed(items) = &mut self.items else {
+            return Ok(false);
+        };
+        if items.len() > MOST_ITEMS - count {
+            return Ok(false);
+        }
+        add_all(items, source)?;
+        self.fold = self.fold.merge(fold);
+        Ok(true)
+    }
+
+    /// Adds values at places that count up from this one, and answers `true`; or `false` if the piece has no space for them or
+    /// doesn't store values up to that place. If an allocation fails, the piece stays as it was.
+    pub(crate) fn add_run(&mut self, op: Op, place: u64, values: &[i64]) -> Result<bool, NoMemory>
+        requires folded { IsFolded op self.old }
+        requires few { length values.now ≤ 4096 }
+        requires places { place + length values.now ≤ 2 ^ 62 }
+        ensures added { result ≡ Ok true → items_of self.new ≡ items_of self.old ++ placed place values.now }
+        ensures other { (result ≡ Ok true → ⊥) → items_of self.new ≡ items_of self.old }
+        ensures folded { IsFolded op self.new }
+    {
+        let Some(first) = first_place(&self.items) else {
+            return Ok(false);
+        };
+        let Some(count) = place.checked_sub(first) else {
+            return Ok(false);
+        };
+        let PieceItems::Run(_, stored) = &mut self.items else {
+            return Ok(false);
+        };
+        if !stored.add(count, values)? {
+            return Ok(false);
+        }
+        self.fold = self.fold.merge(folded(op, false, values));
+        Ok(true)
+    }
+
+    /// The fold of `start` and of the items at positions of the range; the first item has the position `first`. It goes over
+    /// the items only if some of them have such positions, and not all.
+    pub(crate) fn fold_from(
+        &self,
+        op: Op,
+        range: Option<(u64, u64)>,
+        first: u64,
+        start: Option<i64>,
+    ) -> Option<i64>
+        requires { IsFolded op self.now }
+        ensures { result ≡ fold_at (value_of op) range first start (items_of self.now) }
+    {
+        let count = self.count() as u64;
+        let at = cut_to(range, first, count);
+        if holds_all(at, count) {
+            return self.fold_after(op, start);
+        }
+        if holds_none(at) {
+            return start;
+        }
+        self.fold_some(op, at, start)
+    }
+
+    /// The fold of `start` and of all items.
+    fn fold_after(&self, op: Op, start: Option<i64>) -> Option<i64>
+        requires { IsFolded op self.now }
+        ensures { result ≡ fold_at (value_of op) None 0 start (items_of self.now) }
+    {
+        operators_are_associative();
+        match self.fold.finish() {
+            Ok(value) => joined(op, start, value),
+            Err(_) => start,
+        }
+    }
+
+    /// The fold of `start` and of the items at positions of the range, by positions of the piece.
+    fn fold_some(&self, op: Op, at: Option<(u64, u64)>, start: Option<i64>) -> Option<i64>
+        requires { IsFolded op self.now }
+        ensures { result ≡ fold_at (value_of op) at 0 start (items_of self.now) }
+    {
+        match &self.items {
+            PieceItems::Listed(items) => fold_items(op, at, start, items),
+            PieceItems::Run(_, values) => fold_run_at(op, at, start, values),
+        }
+    }
+}
+
+/// From this many items on a batch is one of several of a walk: then a new piece gets space for all that it may have.
+const LARGE_BATCH: usize = 256;
+
+/// For how many items a new piece gets space, if it begins with this many.
+fn space_for(count: usize) -> usize {
+    if count < LARGE_BATCH {
+        count
+    } else {
+        MOST_ITEMS
+    }
+}
+
+/// The place of the first value of a run.
+fn first_place(items: &PieceItems) -> Option<u64>
+    ensures { result ≡ first_place items.now }
+{
+    match items {
+        PieceItems::Listed(_) => None,
+        PieceItems::Run(place, _) => Some(*place),
+    }
+}
+
+/// Whether all of this many positions are positions of the range.
+fn holds_all(range: Option<(u64, u64)>, count: u64) -> bool
+    ensures { result ≡ true → (j : ℕ) → j < count → is_within range j ≡ true }
+{
+    match range {
+        Some((from, to)) => from == 0 && count <= to,
+        None => true,
+    }
+}
+
+/// Whether a range has no position.
+fn holds_none(range: Option<(u64, u64)>) -> bool
+    ensures { result ≡ true → (j : ℕ) → is_within range j ≡ false }
+{
+    match range {
+        Some((from, to)) => to <= from,
+        None => false,
+    }
+}
+
+/// The fold of values.
+fn fold_run(op: Op, values: &RunValues) -> Partial
+    requires fits { Fits values.now }
+    requires few { length (run_values values.now) ≤ 4096 }
+    ensures op { result.op ≡ op }
+    ensures stands { (place : ℕ) → FoldStands result (trace (placed place (run_values values.now)) end.Done) }
+{
+    let mut buffer = [0i64; MOST_ITEMS];
+    values.copy_to(&mut buffer);
+    folded(op, false, &buffer[..values.count()])
+}
+
+/// The fold of `start` and of the values at positions of the range.
+fn fold_run_at(
+    op: Op,
+    range: Option<(u64, u64)>,
+    start: Option<i64>,
+    values: &RunValues,
+) -> Option<i64>
+    requires fits { Fits values.now }
+    requires few { length (run_values values.now) ≤ 4096 }
+    ensures { (place : ℕ) → result ≡ fold_at (value_of op) range 0 start (placed place (run_values values.now)) }
+{
+    let mut buffer = [0i64; MOST_ITEMS];
+    values.copy_to(&mut buffer);
+    scan_values(op, range, start, &mut buffer[..values.count()])
+}
+
+/// Two folds side by side, each of which may be of no item.
+fn joined(op: Op, left: Option<i64>, right: Option<i64>) -> Option<i64>
+    ensures { result ≡ joined_value (value_of op) left right }
+{
+    match (left, right) {
+        (left, None) => left,
+        (None, right) => right,
+        (Some(left), Some(right)) => Some(op.apply(left, right)),
+    }
+}
+
+/// Adds all items of a source. If an allocation fails, the piece stays as it was.
+fn add_all<I: SourceItems>(piece: &mut Vec<Item>, source: &I) -> Result<(), NoMemory>
+    ensures ok { OnOk result (piece.new.items ≡ piece.old.items ++ I.items source.now) }
+    ensures err { OnErr result (piece.new.items ≡ piece.old.items) }
+{
+    let before = piece.len();
+    for position in 0..source.count() {
+        if let Err(refused) = piece.push(source.item_at(position)) {
+            piece.truncate(before);
+            return Err(refused.into());
+        }
+    }
+    Ok(())
+}

@@ -1,0 +1,39 @@
+use Rattle.std.proofs.Common.{◌≡◌, ◌∙◌, ap, sym, List}
+use Rattle.job_language.specs.declared.job.PlainSource.{PlainSource}
+use Rattle.job_language.specs.Jobs.{sources_of}
+use Rattle.job_plan.specs.Parts.{plan_in, plans_in}
+use Rattle.job_table.specs.PlanSegments.{answers_before, chain_at}
+use Rattle.job_table.proofs.PlanSources.{kept_walk, own_first, put_walk, same_segments}
+use Rattle.job_table.proofs.planned.PlanJobsSegments.leaf.Goals as goal
+
+pub returns-in_ok-sources-in-Own : goal.returns-in_ok-sources-in-Own
+returns-in_ok-sources-in-Own g c =
+    let plans = plans_in g.P.Planned.jobs in
+    let job = c.args.job in
+    let k = c.args.segment in
+    let chain = chain_at plans job in
+    let first = own_first chain k c.args.source.now c.in-Own.is c.requires.source in
+    let put = ap sources_of c.deref.ensures.value ∙ c.in_ok-sources-in-Own.ensures in
+    c.stored_piece.ensures chain (same_segments plans job (plan_in c.job-plan.result.now) c.job-plan.ensures) (sym c.requires.given.1.0)
+    (c.of_sources-source.ensures ∙ put_walk plans job (plan_in c.own-own.result.now) c.own-own.ensures k (sources_of c.deref.result.now) first put) c.requires.stop
+
+pub returns-in-Own-2 : goal.returns-in-Own-2
+returns-in-Own-2 g c =
+    let plans = plans_in g.P.Planned.jobs in
+    let job = c.args.job in
+    let k = c.args.segment in
+    let chain = chain_at plans job in
+    let p = plan_in c.job-plan.result.now in
+    let first = own_first chain k c.args.source.now c.in-Own-2.is c.requires.source in
+    let none = sym (c.takes_arrays.ensures c.if-takes_arrays.false (answers_before plans job) p.named) in
+    c.piece.ensures chain (same_segments plans job p c.job-plan.ensures) (sym c.requires.given.1.0)
+    (c.of_selected-source.ensures ∙ put_walk plans job p c.job-plan.ensures k p.sources first none) c.requires.stop
+
+pub returns-in-Kept : goal.returns-in-Kept
+returns-in-Kept g c =
+    let plans = plans_in g.P.Planned.jobs in
+    let job = c.args.job in
+    let k = c.args.segment in
+    let chain = chain_at plans job in
+    c.piece-in-Kept.ensures chain (same_segments plans job (plan_in c.job-plan.result.now) c.job-plan.ensures) (sym c.requires.given.1.0)
+    (c.of_given-source.ensures ∙ kept_walk chain k c.args.source.now c.in-Kept.walk c.in-Kept.is c.requires.source) c.requires.stop

@@ -1,0 +1,221 @@
+//! The answers of earlier jobs that the jobs of a plan take.
+ghost use Rattle.std.specs.Prelude.{◌≡◌, ◌<◌, ◌++◌, ℕ, true, length, map, slice_get, Some, None, IfOk, if◌then◌else◌};
+ghost use Rattle.std.specs.Option.{option_map};
+ghost use Rattle.job_language.specs.Jobs.{source_of, sources_of};
+ghost use Rattle.job_plan.specs.Parts.{plan_in, plans_in};
+ghost use Rattle.job_plan.specs.PlannedAnswers.{all_put_at, array_at, first_unusable_at, number_there, numbers_at, place_in, put_at, unusable_there};
+ghost use Rattle.job_plan.specs.declared.answer.Answer.{Answer as answers};
+ghost use Rattle.job_plan.specs.declared.answer.Answer.TheVariants as answer;
+ghost use Rattle.job_table.specs.Begins.{IsBegun};
+ghost use Rattle.job_table.specs.PlanSegments.{answer_of, answers_before, chain_at, plan_at, walk_at, walk_size};
+
+use crate::NoMemory;
+use crate::earlier::EarlierAnswers;
+use crate::planned::{PlanJobs, Planned};
+use crate::segments::Begun;
+use job_language::PlainSource;
+use job_plan::{Answer, JobPlan, Named, Source};
+use lambda_expr::Env;
+use std::alloc::Global;
+use stream_tokens::Bytes;
+
+/// The different jobs among those that a job names, and that come before it.
+pub(crate) fn different(
+    alloc: Global,
+    job: usize,
+    named: &[Named],
+) -> Result<Vec<usize>, NoMemory> {
+    let mut jobs = Vec::new(alloc);
+    if named.is_empty() {
+        return Ok(jobs);
+    }
+    let mut is_named = Vec::new(alloc);
+    is_named.resize(job, false)?;
+    for name in named {
+        if let Some(known) = is_named.get_mut(name.job) {
+            if !*known {
+                *known = true;
+                jobs.push(name.job)?;
+            }
+        }
+    }
+    Ok(jobs)
+}
+
+/// Adds the number of an answer under a name, if it is one.
+fn push_number(
+    alloc: Global,
+    name: &Bytes,
+    answer: &Answer,
+    numbers: &mut Env,
+) -> Result<(), NoMemory>
+    ensures { IfOk result (λ _. numbers.new ≡ numbers.old ++ number_there name.now (Some answer.now)) }
+{
+    let Some(number) = answer.number() else {
+        return Ok(());
+    };
+    let copy = Vec::from_slice(alloc, name.as_slice())?;
+    numbers.push(Bytes::from(copy), number)?;
+    Ok(())
+}
+
+impl<'a, 'c, P: Planned> PlanJobs<'a, 'c, P> {
+    /// The answer of a job that another one names, if it comes before that one.
+    fn named_answer<'e, E: EarlierAnswers<Answer>>(
+        &self,
+        job: usize,
+        named: usize,
+        earlier: &'e E,
+    ) -> Result<Option<&'e Answer>, NoMemory>
+        requires job { job < length P.jobs }
+        requires earlier { (j : ℕ) (a : answers) → E.is_answer j a → a ≡ answer_of (plans_in P.jobs) j }
+        ensures { IfOk result (λ found. option_map (λ a. a.now) found ≡ slice_get (answers_before (plans_in P.jobs) job) named) }
+    {
+        if named >= job {
+            return Ok(None);
+        }
+        match earlier.answer(named) {
+            Some(answer) => Ok(Some(answer)),
+            None => Err(NoMemory),
+        }
+    }
+
+    /// Adds the number of a job that another one names. `false` if its answer can't be used.
+    fn take_number<E: EarlierAnswers<Answer>>(
+        &self,
+        alloc: Global,
+        job: usize,
+        name: &Named,
+        earlier: &E,
+        numbers: &mut Env,
+    ) -> Result<bool, NoMemory>
+        requires job { job < length P.jobs }
+        requires earlier { (j : ℕ) (a : answers) → E.is_answer j a → a ≡ answer_of (plans_in P.jobs) j }
+        ensures usable { IfOk result (λ usable. unusable_there name.now.job (slice_get (answers_before (plans_in P.jobs) job) name.now.job) ≡ (if usable then None else Some name.now.job)) }
+        ensures number { IfOk result (λ usable. usable ≡ true → numbers.new ≡ numbers.old ++ number_there name.now.name (slice_get (answers_before (plans_in P.jobs) job) name.now.job)) }
+    {
+        let Some(answer) = self.named_answer(job, name.job, earlier)? else {
+            return Ok(true);
+        };
+        if !answer.is_usable() {
+            return Ok(false);
+        }
+        push_number(alloc, &name.name, answer, numbers)?;
+        Ok(true)
+    }
+
+    /// The numbers that a job takes of the jobs that it names. Its answer, if it can't be run because of the first of them, in order
+    /// of writing, whose answer can't be used.
+    pub(crate) fn numbers<E: EarlierAnswers<Answer>>(
+        &self,
+        alloc: Global,
+        job: usize,
+        named: &[Named],
+        earlier: &E,
+    ) -> Result<Begun<Env, Answer>, NoMemory>
+        requires job { job < length P.jobs }
+        requires earlier { (j : ℕ) (a : answers) → E.is_answer j a → a ≡ answer_of (plans_in P.jobs) j }
+        ensures { IfOk result (λ begun. IsBegun
+            (λ env. (first_unusable_at (answers_before (plans_in P.jobs) job) named.now ≡ None) × (env ≡ numbers_at (answers_before (plans_in P.jobs) job) named.now))
+            (λ a. (place : ℕ) × (first_unusable_at (answers_before (plans_in P.jobs) job) named.now ≡ Some place) × (a ≡ answer.Unusable place)) begun) }
+    {
+        let mut numbers = Env::empty(alloc);
+        for name in named {
+            if !self.take_number(alloc, job, name, earlier, &mut numbers)? {
+                return Ok(Begun::Known(Answer::Unusable(name.job)));
+            }
+        }
+        Ok(Begun::Walk(numbers))
+    }
+
+    /// The array of the job with this name, borrowed from its answer.
+    fn array<'e, E: EarlierAnswers<Answer>>(
+        &self,
+        job: usize,
+        plan: &JobPlan<'c>,
+        name: &[u8],
+        earlier: &'e E,
+    ) -> Result<&'e [i64], NoMemory>
+        requires job { job < length P.jobs }
+        requires earlier { (j : ℕ) (a : answers) → E.is_answer j a → a ≡ answer_of (plans_in P.jobs) j }
+        ensures { IfOk result (λ array. array.now ≡ array_at (answers_before (plans_in P.jobs) job) (place_in plan.now.named.items name.now)) }
+    {
+        let Some(named) = plan.job_named(name) else {
+            return Ok(&[]);
+        };
+        match self.named_answer(job, named, earlier)? {
+            Some(answer) => Ok(answer.array()),
+            None => Ok(&[]),
+        }
+    }
+
+    /// A source, with the array in place of `result(NAME)`. Values are borrowed.
+    fn put_source<'x, E: EarlierAnswers<Answer>>(
+        &self,
+        job: usize,
+        plan: &JobPlan<'c>,
+        source: &'x PlainSource<'c>,
+        earlier: &'x E,
+    ) -> Result<PlainSource<'x>, NoMemory>
+        requires job { job < length P.jobs }
+        requires earlier { (j : ℕ) (a : answers) → E.is_answer j a → a ≡ answer_of (plans_in P.jobs) j }
+        ensures { IfOk result (λ put. source_of put ≡ put_at (answers_before (plans_in P.jobs) job) plan.now.named.items (source_of source.now)) }
+    {
+        match source {
+            PlainSource::Range { from, to } => Ok(PlainSource::Range {
+                from: *from,
+                to: *to,
+            }),
+            PlainSource::RangeClosed { from, to } => Ok(PlainSource::RangeClosed {
+                from: *from,
+                to: *to,
+            }),
+            PlainSource::Values(values) => Ok(PlainSource::Column(values)),
+            PlainSource::Column(cells) => Ok(PlainSource::Column(cells)),
+            PlainSource::Result(name) => {
+                let array = self.array(job, plan, name.as_slice(), earlier)?;
+                Ok(PlainSource::Column(array))
+            }
+        }
+    }
+
+    /// The sources of a job, with the array in place of each `result(NAME)`. No value is copied.
+    pub(crate) fn put_sources<'x, E: EarlierAnswers<Answer>>(
+        &self,
+        alloc: Global,
+        job: usize,
+        plan: &'x JobPlan<'c>,
+        earlier: &'x E,
+    ) -> Result<Vec<PlainSource<'x>>, NoMemory>
+        requires job { job < length P.jobs }
+        requires earlier { (j : ℕ) (a : answers) → E.is_answer j a → a ≡ answer_of (plans_in P.jobs) j }
+        ensures { IfOk result (λ sources. sources_of sources.items ≡ all_put_at (answers_before (plans_in P.jobs) job) plan.now.named.items (sources_of plan.now.sources.items)) }
+    {
+        let mut sources = Vec::new(alloc);
+        for source in &plan.sources {
+            let put = self.put_source(job, plan, source, earlier)?;
+            sources.push(put)?;
+        }
+        Ok(sources)
+    }
+
+    /// How many positions the first segment of a job has.
+    pub(crate) fn first_size<E: EarlierAnswers<Answer>>(
+        &self,
+        alloc: Global,
+        job: usize,
+        plan: &JobPlan<'c>,
+        earlier: &E,
+    ) -> Result<u64, NoMemory>
+        requires job { job < length P.jobs }
+        requires earlier { (j : ℕ) (a : answers) → E.is_answer j a → a ≡ answer_of (plans_in P.jobs) j }
+        requires plan { plan_in plan.now ≡ plan_at (plans_in P.jobs) job }
+        ensures { IfOk result (λ size. size ≡ walk_size (walk_at (chain_at (plans_in P.jobs) job) 0)) }
+    {
+        if !plan.takes_arrays() {
+            return Ok(Source::of_selected(plan).size());
+        }
+        let sources = self.put_sources(alloc, job, plan, earlier)?;
+        Ok(Source::of_sources(&sources, plan).size())
+    }
+}
