@@ -137,6 +137,26 @@ fn diamonds(alloc: Global) -> Result<Case, AllocError> {
     Ok(case)
 }
 
+/// 128 rungs of a ladder: each job of the left side names the one below it, each job of the right side the one below it and the left
+/// one of its rung. So the left sides count up, and the right ones are their sums.
+fn ladder(alloc: Global) -> Result<Case, AllocError> {
+    let mut case = Case::none(alloc);
+    case.add(alloc, 0, "of(1).sum()", 1)?;
+    case.add(alloc, 1, "of(0).map(x -> x + $j0).sum()", 1)?;
+    for rung in 1..128i64 {
+        let left = rung.wrapping_mul(2);
+        let right = left.wrapping_add(1);
+        let (left_below, right_below) = (left.wrapping_sub(2), left.wrapping_sub(1));
+        let count = rung.wrapping_add(1);
+        let sum = count.wrapping_mul(rung.wrapping_add(2)).wrapping_div(2);
+        let job = format!(in alloc; "of(1).map(x -> x + $j{left_below}).sum()")?;
+        case.add(alloc, left, job.as_str(), count)?;
+        let job = format!(in alloc; "of(0).map(x -> x + $j{right_below} + $j{left}).sum()")?;
+        case.add(alloc, right, job.as_str(), sum)?;
+    }
+    Ok(case)
+}
+
 /// Whether a run writes the report of a case.
 fn gives<H: AllocGlobal + Threads + Wait + Sync>(rt: &H, case: &Case, settings: &Settings) -> bool {
     let outcome = run_set(rt, b"a\n", case.jobs.as_bytes(), settings);
@@ -163,7 +183,12 @@ fn jobs_that_name_others_have_their_answers_with_any_settings(rt: HostRuntime) -
             "{workers} {threshold} {nodes}: {change:?}"
         );
     }
-    let cases = [chain(alloc)?, star(alloc)?, diamonds(alloc)?];
+    let cases = [
+        chain(alloc)?,
+        star(alloc)?,
+        diamonds(alloc)?,
+        ladder(alloc)?,
+    ];
     for (workers, threshold, nodes) in [(1, 1, 0), (4, 1, 4_096), (64, 1, 3)] {
         let settings = Settings::of(workers, threshold, nodes, Form::Text).ok_or(AllocError)?;
         for case in &cases {

@@ -1,5 +1,5 @@
 -- Meaning: abstract jobs, in which no operation is left out.
-use Rattle.std.specs.Prelude.{ℕ, ℤ, List, [], ◌∷◌}
+use Rattle.std.specs.Prelude.{ℕ, ℤ, List, [], ◌∷◌, Option}
 use Rattle.trace.specs.Stages.{AbstractStage, stage_of}
 use Rattle.slice_ops.specs.Slices.{AbstractSlice, slice_of}
 use Rattle.find_ops.specs.Finds.{Find, find_of}
@@ -19,12 +19,11 @@ pub data AbstractPlainSource : Type 0 where
   values : List ℤ → AbstractPlainSource
   result : List ℕ → AbstractPlainSource
 
--- an abstract stage of a job
+-- an abstract stage of a job; a prefix has the positions from the first number up to, not with, the second, or all
 pub data AbstractJobStage : Type 0 where
   item : AbstractStage → AbstractJobStage
   slice : AbstractSlice → AbstractJobStage
-  prefix : Op → AbstractJobStage
-  prefix_range : ℕ → ℕ → Op → AbstractJobStage
+  prefix : Option (ℕ × ℕ) → Op → AbstractJobStage
 
 -- an abstract terminal
 pub data AbstractTerminal : Type 0 where
@@ -61,8 +60,7 @@ sources_of (s ∷ ss) = source_of s ∷ sources_of ss
 abbrev pub job_stage_of : JobStage → AbstractJobStage
 job_stage_of (stage.Item g) = item (stage_of g)
 job_stage_of (stage.Slice d) = slice (slice_of d)
-job_stage_of (stage.Prefix f) = prefix f
-job_stage_of (stage.PrefixRange a b f) = prefix_range a b f
+job_stage_of (stage.Prefix positions f) = prefix positions f
 
 -- helper: those of several stages
 abbrev pub job_stages_of : List JobStage → List AbstractJobStage

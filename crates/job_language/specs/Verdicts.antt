@@ -60,8 +60,8 @@ test_stage op.TakeWhile p = term.slice (take_while p)
 test_stage o p = term.slice (drop_while p)
 
 abbrev pub prefix_stage : List ℤ → Op → AbstractJobStage
-prefix_stage (a ∷ b ∷ []) f = term.prefix_range (unsigned_abs a) (unsigned_abs b) f
-prefix_stage ks f = term.prefix f
+prefix_stage (a ∷ b ∷ []) f = term.prefix (Some (unsigned_abs a, unsigned_abs b)) f
+prefix_stage ks f = term.prefix None f
 
 -- a stage: `map`, `flatMap`, a test, `prefix`, `limit` and `skip`
 abbrev pub abstract_stage : Operation → List ℤ → Argument → AbstractJobStage

@@ -80,14 +80,11 @@ fn test_stage(operation: Operation, test: BoolExpr) -> JobStage
 fn prefix_stage(numbers: &[i64], op: Op) -> JobStage
     ensures { job_stage_of result ≡ prefix_stage numbers.now op }
 {
-    match numbers {
-        [from, to] => JobStage::PrefixRange {
-            from: from.unsigned_abs(),
-            to: to.unsigned_abs(),
-            op,
-        },
-        _ => JobStage::Prefix(op),
-    }
+    let positions = match numbers {
+        [from, to] => Some((from.unsigned_abs(), to.unsigned_abs())),
+        _ => None,
+    };
+    JobStage::Prefix { positions, op }
 }
 
 fn stage(operation: Operation, numbers: &[i64], last: Argument) -> JobStage

@@ -30,10 +30,11 @@ pub enum JobStage {
     Item(Stage),
     /// `limit`, `skip`, `takeWhile`, `dropWhile`: a stage that looks at the whole walk.
     Slice(Slice),
-    /// `prefix(OPERATOR)`.
-    Prefix(Op),
-    /// `prefix(from, to, OPERATOR)`: of the positions from `from` up to, not with, `to`.
-    PrefixRange { from: u64, to: u64, op: Op },
+    /// `prefix(OPERATOR)`, and `prefix(from, to, OPERATOR)` of the positions from `from` up to, not with, `to`.
+    Prefix {
+        positions: Option<(u64, u64)>,
+        op: Op,
+    },
 }
 
 /// What is asked of the items of a job.

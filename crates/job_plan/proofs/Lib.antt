@@ -7,6 +7,7 @@ pub mod FlaggedFolds
 pub mod FrontLemmas
 pub mod ItemCounts
 pub mod LentLemmas
+pub mod LinkLemmas
 pub mod MeaningLemmas
 pub mod NameLemmas
 pub mod PartLemmas

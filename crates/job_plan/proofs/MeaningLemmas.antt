@@ -1,6 +1,6 @@
 -- The answers of jobs in segments are those of their file.
 use Rattle.std.proofs.Common.{◌≡◌, ℕ, suc, Bool, true, false, List, [], ◌∷◌, ◌++◌, Option, Some, None, refl, sym, ap, ◌∙◌}
-use Rattle.std.specs.Prelude.{ℤ, if◌then◌else◌, map, slice_get}
+use Rattle.std.specs.Prelude.{if◌then◌else◌, map, slice_get}
 use Rattle.std.specs.Cmp.Lexicographic.{same_text}
 use Rattle.std.proofs.lemmas.Cmp.{nat_list_eq_equiv}
 use Rattle.lambda_expr.specs.Earlier.{Numbers}
@@ -11,7 +11,6 @@ use Rattle.job_plan.specs.FileAnswers.{NamedAnswer, answer_after, answers_after,
 use Rattle.job_plan.specs.Names.{all_source_names, names_in_job, one_later, place_of, same_name}
 use Rattle.job_plan.specs.PlannedAnswers.{all_put_at, array_at, array_in, first_unusable_at, number_there, numbers_at, place_in, planned_after, planned_from, planned_meaning, unusable_there}
 use Rattle.job_plan.specs.Plans.{all_placed, placed, plan_of, plans_after, plans_of, planned_answer}
-use Rattle.job_plan.specs.Walks.{answer_of_job}
 use Rattle.job_plan.proofs.SegmentLemmas.{planned_job}
 
 abbrev names_in : List NamedAnswer → List (List ℕ)

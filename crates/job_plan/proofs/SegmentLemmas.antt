@@ -1,5 +1,5 @@
 -- The segments of a job, in turn, give the walk by stages.
-use Rattle.std.proofs.Common.{◌≡◌, ℕ, suc, ◌+◌, List, [], ◌∷◌, ◌++◌, length, length-append, Some, None, refl, ap, ◌∙◌, arith}
+use Rattle.std.proofs.Common.{◌≡◌, ℕ, suc, ◌+◌, List, [], ◌∷◌, ◌++◌, length, length-append, refl, ap, ◌∙◌, arith}
 use Rattle.lambda_expr.specs.Earlier.{Numbers}
 use Rattle.trace.specs.Stages.{AbstractStage, through, pipe}
 use Rattle.trace.specs.Trace.{Trace}
@@ -7,7 +7,7 @@ use Rattle.reduce_ops.proofs.FoldLemmas.{wrapped_sum, counted}
 use Rattle.reduce_ops.specs.Operators.{value_of}
 use Rattle.slice_ops.specs.Slices.{sliced}
 use Rattle.prefix_scan.specs.Prefixes.{prefixed}
-use Rattle.job_language.specs.Jobs.{AbstractPlainSource, AbstractJobStage, item, slice, prefix, prefix_range, AbstractTerminal, sum, count, min, max, to_array, reduce, reduce_from, find, AbstractJob}
+use Rattle.job_language.specs.Jobs.{AbstractPlainSource, AbstractJobStage, item, slice, prefix, AbstractTerminal, sum, count, min, max, to_array, reduce, reduce_from, find, AbstractJob}
 use Rattle.job_plan.specs.declared.answer.Answer.{Answer}
 use Rattle.job_plan.specs.declared.answer.Answer.TheVariants as answer
 use Rattle.job_plan.specs.Walks.{after_stages, answer_of, answer_of_job, source_walk, unless_fault}
@@ -49,18 +49,11 @@ in_turn n gs (slice s ∷ rest) d env t =
     let u : Trace = sliced s (n + length gs) env (pipe n gs env t) in
     in_turn m [] rest d env u
     ∙ (λ i. answer_of (k i) env d (after_stages (e i) rest env u))
-in_turn n gs (prefix f ∷ rest) d env t =
+in_turn n gs (prefix r f ∷ rest) d env t =
     let m : ℕ = suc (n + length gs) in
     let e : m + 0 ≡ suc (n + length gs) = omega arith in
     let k : m + 0 + length rest ≡ n + length gs + suc (length rest) = omega arith in
-    let u : Trace = prefixed (value_of f) None (n + length gs) (pipe n gs env t) in
-    in_turn m [] rest d env u
-    ∙ (λ i. answer_of (k i) env d (after_stages (e i) rest env u))
-in_turn n gs (prefix_range a b f ∷ rest) d env t =
-    let m : ℕ = suc (n + length gs) in
-    let e : m + 0 ≡ suc (n + length gs) = omega arith in
-    let k : m + 0 + length rest ≡ n + length gs + suc (length rest) = omega arith in
-    let u : Trace = prefixed (value_of f) (Some (a, b)) (n + length gs) (pipe n gs env t) in
+    let u : Trace = prefixed (value_of f) r (n + length gs) (pipe n gs env t) in
     in_turn m [] rest d env u
     ∙ (λ i. answer_of (k i) env d (after_stages (e i) rest env u))
 

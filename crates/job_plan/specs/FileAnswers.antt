@@ -1,6 +1,5 @@
 -- Meaning: the answers of the jobs of a file.
 use Rattle.std.specs.Prelude.{ℕ, suc, ℤ, Bool, true, false, if◌then◌else◌, List, [], ◌∷◌, ◌++◌, Option, Some, None}
-use Rattle.lambda_expr.specs.declared.env.NamedNumber.{NamedNumber}
 use Rattle.lambda_expr.specs.Earlier.{Numbers}
 use Rattle.job_language.specs.Jobs.{AbstractPlainSource, range, range_closed, values, result, AbstractJob}
 use Rattle.job_plan.specs.declared.answer.Answer.{Answer}

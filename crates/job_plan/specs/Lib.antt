@@ -3,6 +3,7 @@ pub mod Arrays
 pub mod Batches
 pub mod FileAnswers
 pub mod Kept
+pub mod Links
 pub mod Names
 pub mod Parts
 pub mod Pieces

@@ -5,7 +5,7 @@ use Rattle.lambda_expr.specs.References.{long_names, truth_names, inner_names}
 use Rattle.trace.specs.Stages.{AbstractStage, map, filter, flat_map}
 use Rattle.slice_ops.specs.Slices.{AbstractSlice, limit, skip, take_while, drop_while}
 use Rattle.find_ops.specs.Finds.{Find, first, any_match, all_match, none_match}
-use Rattle.job_language.specs.Jobs.{AbstractPlainSource, range, range_closed, values, result, AbstractJobStage, item, slice, prefix, prefix_range, AbstractTerminal, sum, count, min, max, to_array, reduce, reduce_from, find, AbstractJob}
+use Rattle.job_language.specs.Jobs.{AbstractPlainSource, range, range_closed, values, result, AbstractJobStage, item, slice, prefix, AbstractTerminal, sum, count, min, max, to_array, reduce, reduce_from, find, AbstractJob}
 
 -- helper: the names that stand in a stage that looks at one item at a time, in a stage that looks at a whole walk, in a find
 abbrev pub stage_names : AbstractStage → List (List ℕ)
@@ -29,8 +29,7 @@ find_names (none_match p) = truth_names p
 abbrev pub job_stage_names : AbstractJobStage → List (List ℕ)
 job_stage_names (item g) = stage_names g
 job_stage_names (slice d) = slice_names d
-job_stage_names (prefix f) = []
-job_stage_names (prefix_range a b f) = []
+job_stage_names (prefix r f) = []
 
 abbrev pub terminal_names : AbstractTerminal → List (List ℕ)
 terminal_names sum = []

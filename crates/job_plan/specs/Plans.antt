@@ -11,7 +11,7 @@ use Rattle.reduce_ops.specs.Operators.{value_of}
 use Rattle.slice_ops.specs.Slices.{AbstractSlice, sliced}
 use Rattle.prefix_scan.specs.Prefixes.{Range, prefixed}
 use Rattle.find_ops.specs.Finds.{Find, find_answer}
-use Rattle.job_language.specs.Jobs.{AbstractPlainSource, AbstractJobStage, item, slice, prefix, prefix_range, AbstractTerminal, sum, count, min, max, to_array, reduce, reduce_from, find, AbstractJob}
+use Rattle.job_language.specs.Jobs.{AbstractPlainSource, AbstractJobStage, item, slice, prefix, AbstractTerminal, sum, count, min, max, to_array, reduce, reduce_from, find, AbstractJob}
 use Rattle.job_plan.specs.declared.answer.Answer.{Answer}
 use Rattle.job_plan.specs.declared.answer.Answer.TheVariants as answer
 use Rattle.job_plan.specs.declared.outcome.Outcome.{Outcome}
@@ -58,8 +58,7 @@ abbrev pub segments_from : ℕ → List AbstractStage → List AbstractJobStage 
 segments_from n gs [] d = record { first = n; stages = gs; ending = end_of d } ∷ []
 segments_from n gs (item g ∷ rest) d = segments_from n (gs ++ g ∷ []) rest d
 segments_from n gs (slice s ∷ rest) d = record { first = n; stages = gs; ending = slicing s } ∷ segments_from (suc (n + length gs)) [] rest d
-segments_from n gs (prefix f ∷ rest) d = record { first = n; stages = gs; ending = scanning f None } ∷ segments_from (suc (n + length gs)) [] rest d
-segments_from n gs (prefix_range a b f ∷ rest) d = record { first = n; stages = gs; ending = scanning f (Some (a, b)) } ∷ segments_from (suc (n + length gs)) [] rest d
+segments_from n gs (prefix r f ∷ rest) d = record { first = n; stages = gs; ending = scanning f r } ∷ segments_from (suc (n + length gs)) [] rest d
 
 -- helper: a name with its place, if it has one
 abbrev pub placed : List ℕ → Option ℕ → List Named

@@ -1,5 +1,5 @@
 -- Meaning: the walk of a job, and the answer that its terminal gives.
-use Rattle.std.specs.Prelude.{ℕ, suc, ℤ, pos, ◌+ℤ◌, List, [], ◌∷◌, ◌++◌, length, map as each_of, Some, None, Result, Ok, Err}
+use Rattle.std.specs.Prelude.{ℕ, suc, ℤ, pos, ◌+ℤ◌, List, [], ◌∷◌, ◌++◌, length, map as each_of, Result, Ok, Err}
 use Rattle.lambda_expr.specs.Earlier.{Numbers}
 use Rattle.lambda_expr.specs.Streams.{counted, distance}
 use Rattle.lambda_expr.specs.Wrap.{wrap}
@@ -18,7 +18,7 @@ use Rattle.prefix_scan.specs.Prefixes.{prefixed}
 use Rattle.find_ops.specs.Finds.{find_answer}
 use Rattle.find_ops.specs.declared.find_part.Found.{Found}
 use Rattle.find_ops.specs.declared.find_part.Found.TheVariants as found
-use Rattle.job_language.specs.Jobs.{AbstractPlainSource, range, range_closed, values, result, AbstractJobStage, item, slice, prefix, prefix_range, AbstractTerminal, sum, count, min, max, to_array, reduce, reduce_from, find, AbstractJob}
+use Rattle.job_language.specs.Jobs.{AbstractPlainSource, range, range_closed, values, result, AbstractJobStage, item, slice, prefix, AbstractTerminal, sum, count, min, max, to_array, reduce, reduce_from, find, AbstractJob}
 use Rattle.job_plan.specs.declared.answer.Answer.{Answer}
 use Rattle.job_plan.specs.declared.answer.Answer.TheVariants as answer
 
@@ -44,8 +44,7 @@ source_walk ss = cover (listed (values_of ss))
 abbrev pub after_stage : ℕ → AbstractJobStage → Numbers → Trace → Trace
 after_stage n (item g) env t = through n g env t
 after_stage n (slice d) env t = sliced d n env t
-after_stage n (prefix f) env t = prefixed (value_of f) None n t
-after_stage n (prefix_range a b f) env t = prefixed (value_of f) (Some (a, b)) n t
+after_stage n (prefix r f) env t = prefixed (value_of f) r n t
 
 -- the stages in order of writing, the first one with this number; each takes what the one before it gives
 abbrev pub after_stages : ℕ → List AbstractJobStage → Numbers → Trace → Trace

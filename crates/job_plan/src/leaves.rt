@@ -177,6 +177,21 @@ pub fn leaf_with<'p>(
     if let Some(part) = lent_part(alloc, segment, source, from, to)? {
         return Ok(part);
     }
+    leaf_copied(alloc, segment, source, from, to, env, registers)
+}
+
+/// The same, of a source that may be gone before the part is: the part borrows none of its values.
+pub(crate) fn leaf_copied<'p>(
+    alloc: Global,
+    segment: &'p Segment,
+    source: &Source,
+    from: u64,
+    to: Option<u64>,
+    env: &Env,
+    registers: &mut Registers,
+) -> Result<Part<'p>, NoMemory>
+    ensures { IfOk result (λ part. StandsFor (segment_in segment.now) env.now part (piece_of from to (walk_in source.now))) }
+{
     leaf_as::<Brand>(alloc, segment, source, from, to, env, registers)
 }
 
@@ -184,7 +199,7 @@ pub fn leaf_with<'p>(
 fn leaf_as<'p, K: Ending>(
     alloc: Global,
     segment: &'p Segment,
-    source: &Source<'_, 'p, '_>,
+    source: &Source,
     from: u64,
     to: Option<u64>,
     env: &Env,

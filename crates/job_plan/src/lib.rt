@@ -22,6 +22,7 @@ mod kept;
 mod leaves;
 mod lent_part;
 mod likely;
+mod links;
 mod named;
 mod names;
 mod outcome;
@@ -40,6 +41,7 @@ mod sizes;
 mod source;
 mod sources;
 mod spans;
+mod streaming;
 mod stretches;
 mod values;
 mod walks;
@@ -53,11 +55,13 @@ pub use outcome::Outcome;
 pub use part::{FoldPart, Part};
 pub use plan_laws::{
     later_segments_give_the_answers, pieces_join, plans_give_the_answers, plans_have_the_meaning,
+    walked_segments_give_the_answers,
 };
 pub use prefix_part::PrefixPart;
 pub use segment::{Fold, JobPlan, Named, Plan, Prefix, Segment, SegmentEnd};
 pub use settings::{Form, Settings};
 pub use source::Source;
 pub use sources::PlainSources;
+pub use streaming::streamed;
 pub use values::Values;
 pub use walks::{SplitTree, walk, walk_tree};

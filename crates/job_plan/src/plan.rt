@@ -142,10 +142,9 @@ impl Begun {
         match stage {
             JobStage::Item(stage) => self.stages.push(stage)?,
             JobStage::Slice(slice) => self.end(SegmentEnd::Slice(slice))?,
-            JobStage::Prefix(op) => self.end(SegmentEnd::Prefix(Prefix { op, range: None }))?,
-            JobStage::PrefixRange { from, to, op } => self.end(SegmentEnd::Prefix(Prefix {
+            JobStage::Prefix { positions, op } => self.end(SegmentEnd::Prefix(Prefix {
                 op,
-                range: Some((from, to)),
+                range: positions,
             }))?,
         }
         Ok(())

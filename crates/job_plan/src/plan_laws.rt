@@ -5,9 +5,10 @@ ghost use Rattle.lambda_expr.specs.Earlier.{Numbers};
 ghost use Rattle.trace.specs.Trace.{Trace, append};
 ghost use Rattle.job_language.specs.Jobs.{AbstractJob};
 ghost use Rattle.job_plan.specs.FileAnswers.{meaning_of};
+ghost use Rattle.job_plan.specs.Links.{walked_segments, walked_source};
 ghost use Rattle.job_plan.specs.Pieces.{piece_of};
 ghost use Rattle.job_plan.specs.PlannedAnswers.{planned_meaning};
-ghost use Rattle.job_plan.specs.Plans.{AbstractSegment, plan_of, plans_of, planned_answer, segments_answer};
+ghost use Rattle.job_plan.specs.Plans.{AbstractPlan, AbstractSegment, plan_of, plans_of, planned_answer, segments_answer};
 ghost use Rattle.job_plan.specs.Spans.{IsNotAfter};
 ghost use Rattle.job_plan.specs.Walks.{answer_of_job};
 ghost use Rattle.job_plan.specs.Windows.{later_segments, selected_walk};
@@ -22,6 +23,12 @@ pub fn plans_give_the_answers()
 #[tactic(auto, using(crate::proofs::WindowLemmas::later_answer))]
 pub fn later_segments_give_the_answers()
     ensures { (env : Numbers) (segments : List AbstractSegment) (t : Trace) → segments_answer (later_segments segments) env (selected_walk segments t) ≡ segments_answer segments env t }
+{}
+
+/// The segments after the slices that a walk goes through, over what those slices make of it, give the answer of the job.
+#[tactic(auto, using(crate::proofs::LinkLemmas::walked_answer))]
+pub fn walked_segments_give_the_answers()
+    ensures { (env : Numbers) (plan : AbstractPlan) → segments_answer (walked_segments plan) env (walked_source env plan) ≡ planned_answer env plan }
 {}
 
 /// The jobs of a file, in segments and with the jobs that they name by their places, have the answers of the file.

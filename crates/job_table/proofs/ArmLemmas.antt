@@ -1,12 +1,12 @@
 -- How start nodes are claimed and armed, and the lists of those that wait.
-use Rattle.std.proofs.Common.{◌≡◌, ◌≢◌, ℕ, zero, suc, ◌+◌, ◌-◌, ◌<◌, ◌≤◌, cond, nat_lt, Bool, true, false, List, [], ◌∷◌, ◌++◌, length, set, get_or, map, sym, refl, ap, ◌∙◌, subst, arith, Some, None, Option, Vec, Global}
+use Rattle.std.proofs.Common.{◌≡◌, ◌≢◌, ℕ, zero, suc, ◌+◌, ◌-◌, ◌<◌, ◌≤◌, cond, nat_lt, true, List, [], ◌∷◌, ◌++◌, length, set, get_or, sym, refl, ap, ◌∙◌, subst, arith, Some, None, Option, Vec, Global}
 use Rattle.std.proofs.lemmas.Grind.{common_steps}
 use mathlib.Core.Logic.{dite}
 use native.Mathlib.Decide.{ℕ_discrete}
 use Rattle.completion_core.specs.Graph.{copies}
 use Rattle.completion_core.specs.Legal.{count, only_at}
 use Rattle.pending_count.specs.declared.view.View.{View}
-use Rattle.pending_count.specs.Views.{IsPlainAt, left_slot, right_slot, note_of, first_view}
+use Rattle.pending_count.specs.Views.{left_slot, right_slot, note_of, first_view}
 use Rattle.pending_count.specs.Steps.{IsClaimed, IsArmed, drawn_node}
 use Rattle.pending_count.proofs.SumLemmas.{one_at, at_here, at_else, total-append}
 use Rattle.pending_count.proofs.RecordLemmas.{fresh-count, fresh_here, fresh_else}
@@ -16,7 +16,7 @@ use Rattle.job_table.specs.declared.start.Start.{Start}
 use Rattle.job_table.specs.declared.start.Waiting.{Waiting}
 use Rattle.job_table.specs.Starts.{HasStarts, all_waiting, start_nodes, node_at, kept_at, nodes_below}
 use Rattle.job_table.specs.Waits.{nodes_in}
-use Rattle.job_table.specs.Tasks.{AreStarts, KnowsStarts}
+use Rattle.job_table.specs.Tasks.{KnowsStarts}
 
 -- one more list of jobs that wait
 pub all_snoc : (i : ℕ) (xs : List (Vec Waiting Global)) (w : Vec Waiting Global) → count i (all_waiting (xs ++ w ∷ [])) ≡ count i (all_waiting xs) + count i (nodes_in w.items)
@@ -164,6 +164,7 @@ module _ {T : Type 0} where
             (λ z. let p = fresh_else node (pending + 1) i z in let q = fresh_else node pending i z in let r = at_else i node (λ y. z (sym y)) in omega arith);
         no_side = arm_sides node pending onward told no_side;
         rooted = subst (λ l. Rooted l) (sym (ap (λ (u : View T). u.places) told.view ∙ claim.places)) has.rooted;
+        unplaced = ap (λ (u : View T). length u.places) told.view ∙ ap length claim.places ∙ has.unplaced;
         noted = by_last (λ n l. note_of n v2.noted ≡ Some l) ss s
             (λ k low. let e = has.noted k low in arm_note_else node pending onward told (node_at ss k) (other (node_at ss k) (kept_at ss k) e) ∙ ap (note_of (node_at ss k)) claim.noted ∙ e)
             (ap (λ n. note_of n v2.noted) named ∙ arm_note node pending onward told ∙ ap Some (sym keeps));
@@ -180,6 +181,7 @@ module _ {T : Type 0} where
     held = λ i. let a = none_wait i in let e : count i v.held ≡ count i (copies jobs 0) = ap (λ (u : View T). count i u.held) is in omega arith;
     no_side = λ k. ap (λ (u : View T). count k u.sides) is;
     rooted = λ node q e. let f : None ≡ Some (Some q) = sym (ap (λ (u : View T). note_of node u.places) is) ∙ e in absurd (grind arith);
+    unplaced = ap (λ (u : View T). length u.places) is;
     noted = λ k low. absurd (omega arith);
     noted_sides = λ k low. absurd (omega arith);
     smaller = λ k i low. absurd (omega arith);
@@ -192,6 +194,7 @@ module _ {T : Type 0} where
     held = λ i. let a = h.held i in omega arith;
     no_side = h.no_side;
     rooted = h.rooted;
+    unplaced = h.unplaced;
     noted = h.noted;
     noted_sides = h.noted_sides;
     smaller = h.smaller;

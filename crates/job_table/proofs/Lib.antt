@@ -1,6 +1,7 @@
 -- Lemmas of this crate.
 pub mod AnswerLemmas
 pub mod ArmLemmas
+pub mod CreditLemmas
 pub mod Halves
 pub mod PlanAnswers
 pub mod PlanParts
@@ -9,4 +10,5 @@ pub mod PlanSources
 pub mod Plans
 pub mod SeatLemmas
 pub mod SharedPlanLemmas
+pub mod StartLemmas
 pub mod StopLemmas

@@ -1,5 +1,5 @@
 -- What the first segment of a job goes over, and the answer of its last one.
-use Rattle.std.proofs.Common.{◌≡◌, ℕ, ◌+◌, ◌<◌, List, [], ◌∷◌, ◌++◌, Option, Some, None, Result, Ok, Err, IfOk, length, get_or, drop, append_assoc, ap, sym, subst, ◌∙◌, refl}
+use Rattle.std.proofs.Common.{◌≡◌, ℕ, ◌+◌, ◌<◌, Bool, false, List, [], ◌∷◌, ◌++◌, Some, None, Result, Ok, Err, IfOk, length, get_or, drop, append_assoc, ap, sym, subst, ◌∙◌, refl}
 use Rattle.std.proofs.lemmas.List.{drop_more}
 use Rattle.lambda_expr.specs.Earlier.{Numbers}
 use Rattle.job_language.specs.declared.job.PlainSource.{PlainSource}
@@ -10,10 +10,12 @@ use Rattle.job_plan.specs.declared.answer.Answer.TheVariants as answer
 use Rattle.job_plan.specs.declared.part.Part.{Part}
 use Rattle.job_plan.specs.declared.segment.Named.{Named}
 use Rattle.job_plan.specs.PlannedAnswers.{all_put_at, first_unusable_at, put_at, put_into}
-use Rattle.job_plan.specs.Plans.{AbstractPlan, AbstractSegment, segments_answer}
+use Rattle.job_plan.specs.Plans.{AbstractPlan, segments_answer}
 use Rattle.job_plan.specs.Walks.{source_walk}
-use Rattle.job_plan.specs.Windows.{later_segments, selected_walk}
-use Rattle.job_table.specs.PlanSegments.{AbstractChain, PartStands, answer_of, answers_before, chain_at, plan_at, slices_first, walk_at, walk_size}
+use Rattle.job_plan.specs.Links.{first_links, linked, plan_streams, walked_segments}
+use Rattle.job_plan.specs.Windows.{later_segments, selected_source, selected_walk}
+use Rattle.job_plan.proofs.LinkLemmas.{unlinked}
+use Rattle.job_table.specs.PlanSegments.{AbstractChain, PartStands, answer_of, answers_before, chain_at, plan_at, size_at, slices_first, walk_at}
 use Rattle.job_table.specs.declared.kept.SegmentSource.{SegmentSource}
 use Rattle.job_table.specs.declared.kept.SegmentSource.TheVariants.{Own, Kept}
 use Rattle.job_table.specs.declared.segments.Begun.{Begun}
@@ -25,20 +27,31 @@ use Rattle.job_table.proofs.PlannedAnswers.{unusable_answer, walked_answer}
 
 module _ (plans : List AbstractPlan) (job : ℕ) (p : AbstractPlan) (same : p ≡ plan_at plans job) where
   -- the sources of a job with the arrays put in
-  pub put_walk : (segment : ℕ) (sources : List AbstractPlainSource) → segment ≡ 0 → sources ≡ all_put_at (answers_before plans job) p.named p.sources
+  pub put_walk : (segment : ℕ) (sources : List AbstractPlainSource) → segment ≡ 0 → sources ≡ all_put_at (answers_before plans job) p.named p.sources → plan_streams p ≡ false
       → selected_walk p.segments (source_walk sources) ≡ walk_at (chain_at plans job) segment
-  put_walk segment sources first put =
+  put_walk segment sources first put alone =
       ap (λ (ss : List AbstractPlainSource). selected_walk p.segments (source_walk ss)) put
       ∙ ap (λ (q : AbstractPlan). selected_walk q.segments (source_walk (all_put_at (answers_before plans job) q.named q.sources))) same
+      ∙ sym (unlinked (later_segments (plan_at plans job).segments) (chain_at plans job).numbers (selected_source (put_into (answers_before plans job) (plan_at plans job))) (sym (ap plan_streams same) ∙ alone))
       ∙ ap (walk_at (chain_at plans job)) (sym first)
 
-  pub same_segments : (chain_at plans job).segments ≡ later_segments p.segments
-  same_segments = sym (ap (λ (q : AbstractPlan). later_segments q.segments) same)
+  -- and what slices make of them
+  pub put_streamed : (env : Numbers) (sources : List AbstractPlainSource) → env ≡ (chain_at plans job).numbers → sources ≡ all_put_at (answers_before plans job) p.named p.sources
+      → linked (first_links (later_segments p.segments)) env (selected_walk p.segments (source_walk sources)) ≡ (chain_at plans job).source
+  put_streamed env sources numbers put =
+      (λ i. linked (first_links (later_segments p.segments)) (numbers i) (selected_walk p.segments (source_walk (put i))))
+      ∙ ap (λ (q : AbstractPlan). linked (first_links (later_segments q.segments)) (chain_at plans job).numbers (selected_walk q.segments (source_walk (all_put_at (answers_before plans job) q.named q.sources)))) same
+
+  pub same_streams : (b : Bool) → plan_streams p ≡ b → (chain_at plans job).streams ≡ b
+  same_streams b is = sym (ap plan_streams same) ∙ is
+
+  pub same_segments : (chain_at plans job).segments ≡ walked_segments p
+  same_segments = sym (ap (λ (q : AbstractPlan). walked_segments q) same)
 
   -- the answer of a job that is walked
   pub answered : {F : Type 0} (env : Numbers) (part : Part) (r : Result Answer F) → job < length plans → first_unusable_at (answers_before plans job) (plan_at plans job).named ≡ None → env ≡ (chain_at plans job).numbers
-      → PartStands (chain_at plans job) (slices_first (chain_at plans job).segments) 0 (walk_size (walk_at (chain_at plans job) (slices_first (chain_at plans job).segments))) part
-      → IfOk r (λ answer. (chain : AbstractChain) → chain.segments ≡ later_segments p.segments → chain.numbers ≡ env → PartStands chain (slices_first chain.segments) 0 (walk_size (walk_at chain (slices_first chain.segments))) part
+      → PartStands (chain_at plans job) (slices_first (chain_at plans job).segments) 0 (size_at (chain_at plans job) (slices_first (chain_at plans job).segments)) part
+      → IfOk r (λ answer. (chain : AbstractChain) → chain.segments ≡ walked_segments p → chain.numbers ≡ env → PartStands chain (slices_first chain.segments) 0 (size_at chain (slices_first chain.segments)) part
       → answer ≡ segments_answer chain.segments chain.numbers chain.source)
       → IfOk r (λ answer. answer ≡ answer_of plans job)
   answered env part (Ok a) low usable numbers stands h =
@@ -73,7 +86,7 @@ module _ (plans : List AbstractPlan) (job : ℕ) (p : AbstractPlan) (same : p �
       known.2 ∙ unusable_answer plans job known.0 low (ap (λ (q : AbstractPlan). first_unusable_at (answers_before plans job) q.named) (sym same) ∙ known.1)
 
 -- the source of a later segment
-pub kept_walk : (chain : AbstractChain) (segment : ℕ) (source : SegmentSource) (w : Trace) → source ≡ Kept w → IsKept chain segment source → w ≡ walk_at chain segment
+pub kept_walk : (chain : AbstractChain) (segment : ℕ) (source : SegmentSource) (w : Trace) → source ≡ Kept w → IsKept chain segment source → (0 < segment) × (w ≡ walk_at chain segment)
 kept_walk chain segment source w is kept = subst (IsKept chain segment) is kept
 
 pub own_first : (chain : AbstractChain) (segment : ℕ) (source : SegmentSource) → source ≡ Own → IsKept chain segment source → segment ≡ 0

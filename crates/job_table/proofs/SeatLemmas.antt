@@ -11,15 +11,14 @@ use Rattle.pending_count.specs.declared.place.Place.{Place}
 use Rattle.pending_count.specs.declared.place.Fits.{Ghosts}
 use Rattle.pending_count.specs.declared.seat.Seat.{Seat}
 use Rattle.pending_count.specs.Seats.{view_of, table_of}
-use Rattle.pending_count.specs.Views.{IsPlainAt, left_slot, right_slot, less, part_view, rest_view, note_of, side_at, sides_of}
+use Rattle.pending_count.specs.Views.{left_slot, right_slot, less, part_view, rest_view, note_of, side_at, sides_of}
 use Rattle.pending_count.specs.Steps.{IsArrived}
 use Rattle.pending_count.proofs.SumLemmas.{one_at, at_here, at_else, total-append, total-less}
 use Rattle.pending_count.proofs.RecordLemmas.{fresh-count, fresh_here}
 use Rattle.pending_count.proofs.CallerLemmas.{last_held, last_sides, last_noted, last_side_notes}
-use Rattle.pending_count.specs.Pairs.{slot_of}
 use Rattle.completer_tree.specs.Roots as tree
 use Rattle.completer_tree.specs.Trees.{CanKeep, CanHand, IsUnchanged}
-use Rattle.job_table.specs.Tasks.{AreStarts, KnowsStarts, KnowsTop, HasKept, CanArrive}
+use Rattle.job_table.specs.Tasks.{KnowsStarts, KnowsTop, HasKept, CanArrive}
 use Rattle.job_table.specs.Starts.{nodes_below}
 use Rattle.job_table.specs.declared.start.Waiting.{Waiting}
 use Rattle.job_table.specs.Waits.{nodes_in}

@@ -13,17 +13,18 @@ use Rattle.job_plan.specs.Pieces.{piece_of}
 use Rattle.job_plan.specs.PlannedAnswers.{numbers_at, planned_meaning, put_into}
 use Rattle.job_plan.specs.Plans.{AbstractEnd, slicing, folding, finding, collecting, scanning, AbstractSegment, AbstractPlan, outcome_of}
 use Rattle.slice_ops.specs.Slices.{AbstractSlice, limit, skip, take_while, drop_while}
-use Rattle.job_plan.specs.Windows.{later_segments, selected_source}
+use Rattle.job_plan.specs.Links.{plan_streams, walked_segments, walked_source}
 
--- what a run walks of a job: the segments after the slices that select positions of its sources, what the first of them goes
--- over, and the numbers of the jobs that it names
+-- what a run walks of a job: the segments after the slices that select positions of its sources and those that a walk goes
+-- through, what the first of them goes over, the numbers of the jobs that it names, and whether a walk goes through slices
 pub record AbstractChain : Type 0 where
   pub segments : List AbstractSegment
   pub source : Trace
   pub numbers : Numbers
+  pub streams : Bool
 
 abbrev pub chain_of : Numbers → AbstractPlan → AbstractChain
-chain_of env plan = record { segments = later_segments plan.segments; source = selected_source plan; numbers = env }
+chain_of env plan = record { segments = walked_segments plan; source = walked_source env plan; numbers = env; streams = plan_streams plan }
 
 -- the job with this number
 abbrev pub plan_at : List AbstractPlan → ℕ → AbstractPlan
@@ -73,13 +74,19 @@ walk_at chain segment = source_at chain.numbers segment chain.segments chain.sou
 abbrev pub walk_size : Trace → ℕ
 walk_size t = min (length t.items) (2 ^ 64 - 1)
 
+-- how many positions the source of the segment with this number has for a run. A walk that goes through slices is one piece
+-- without positions
+abbrev pub size_at : AbstractChain → ℕ → ℕ
+size_at chain zero = if chain.streams then 0 else walk_size chain.source
+size_at chain (suc k) = walk_size (walk_at chain (suc k))
+
 -- no second position, if it is the last one
 abbrev pub upto : ℕ → ℕ → Option ℕ
 upto size to = if to == size then None else Some to
 
--- the piece of a walk between two positions
-abbrev pub piece_between : ℕ → ℕ → Trace → Trace
-piece_between from to t = piece_of from (upto (walk_size t) to) t
+-- the piece of a walk of this size between two positions
+abbrev pub piece_between : ℕ → ℕ → ℕ → Trace → Trace
+piece_between size from to t = piece_of from (upto size to) t
 
 -- what a segment would give for a walk; one that isn't there gives nothing
 abbrev pub given_by : Numbers → Option AbstractSegment → Trace → Outcome
@@ -93,7 +100,7 @@ gives_at chain segment = given_by chain.numbers (slice_get chain.segments segmen
 -- a part of a job's segment for these positions, or for enough of them; a segment that isn't there has any part
 abbrev pub PartStands : AbstractChain → ℕ → ℕ → ℕ → Part → Type 0
 PartStands chain segment from to part =
-    IfSome (slice_get chain.segments segment) (λ s. StandsEnough (Decides (outcome_of s chain.numbers) (walk_at chain segment)) s chain.numbers part from (piece_between from to (walk_at chain segment)))
+    IfSome (slice_get chain.segments segment) (λ s. StandsEnough (Decides (outcome_of s chain.numbers) (walk_at chain segment)) s chain.numbers part from (piece_between (size_at chain segment) from to (walk_at chain segment)))
 
 -- whether a segment is walked in pieces: not if its end keeps items and may want no more of them before the last one
 abbrev pub slice_divides : AbstractSlice → Bool

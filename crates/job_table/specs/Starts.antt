@@ -1,5 +1,5 @@
 -- Condition: start nodes while they are armed, the last job's first.
-use Rattle.std.specs.Prelude.{◌≡◌, ℕ, zero, suc, ◌+◌, ◌-◌, ◌<◌, ◌≤◌, List, [], ◌∷◌, ◌++◌, length, Some, Vec}
+use Rattle.std.specs.Prelude.{◌≡◌, ℕ, zero, suc, ◌+◌, ◌<◌, ◌≤◌, List, [], ◌∷◌, ◌++◌, length, Some, Vec}
 use Rattle.std.specs.Global.{Global}
 use Rattle.completion_core.specs.Graph.{copies}
 use Rattle.completion_core.specs.Legal.{count}
@@ -37,11 +37,12 @@ nodes_below start (suc n) = start n ∷ nodes_below start n
 
 module _ {T : Type 0} where
   -- The seat has one arrival at each of these start nodes, those for the jobs that wait, and one at END for each job that has no start
-  -- node yet. It has noted what these start nodes keep: arrivals at smaller nodes, one of them at END.
+  -- node yet. It has noted what these start nodes keep: arrivals at smaller nodes, one of them at END. It has noted no place of a tree.
   pub record HasStarts (left : ℕ) (starts : List Start) (waiting : List ℕ) (v : View T) : Type 0 where
     pub held : (i : ℕ) → count i (start_nodes starts) + count i waiting + count i (copies left 0) ≤ count i v.held
     pub no_side : (k : ℕ) → count k v.sides ≡ 0
     pub rooted : Rooted v.places
+    pub unplaced : length v.places ≡ 0
     pub noted : (k : ℕ) → k < length starts → note_of (node_at starts k) v.noted ≡ Some (kept_at starts k)
     pub noted_sides : (k : ℕ) → k < length starts → note_of (node_at starts k) v.noted_sides ≡ Some []
     pub smaller : (k i : ℕ) → k < length starts → 0 < count i (kept_at starts k) → i < node_at starts k

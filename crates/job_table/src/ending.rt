@@ -9,7 +9,7 @@ use crate::earlier::Earlier;
 use crate::places::{keep_answer, keep_given, keep_source, kept_given};
 use crate::segments::{Begun, Segments};
 use crate::start::Waiting;
-use crate::task::{JobSeat, Running, TableJobSeat, TableTask, TableWhole, Task, Whole};
+use crate::task::{JobSeat, Running, TableJobSeat, TableSpare, TableTask, TableWhole, Task, Whole};
 use crate::watch::Watch;
 use crate::work::{JobWork, size_of};
 use worker_pool::{Gate, Spawn};
@@ -37,13 +37,14 @@ impl<'a, S: Segments, R: Running> JobWork<'a, S, TablePart<S>, TableKept<S>, R> 
         spawn: &mut P,
         scratch: &mut S::Scratch,
         watch: &mut Watch<'_, S, R>,
+        spare: &mut Option<TableSpare<S, R>>,
     ) -> Option<TableJobSeat<S, R>> {
         self.prepare(begun.job);
         let Some(size) = size_of(self, begun.job, 0) else {
             return Some(begun);
         };
-        let whole = self.begin(gate, begun, 0, size, spawn, scratch, watch);
-        self.go_on(gate, whole, spawn, scratch, watch)
+        let whole = self.begin(gate, begun, 0, size, spawn, scratch, watch, spare);
+        self.go_on(gate, whole, spawn, scratch, watch, spare)
     }
 
     /// Leaves what the segment gives in its place, and begins the next segment. `Err` if the job is over.
@@ -54,6 +55,7 @@ impl<'a, S: Segments, R: Running> JobWork<'a, S, TablePart<S>, TableKept<S>, R> 
         spawn: &mut P,
         scratch: &mut S::Scratch,
         watch: &mut Watch<'_, S, R>,
+        spare: &mut Option<TableSpare<S, R>>,
     ) -> Result<Option<TableWhole<S, R>>, TableJobSeat<S, R>>
         requires { StandsWhole S.stands_for S.size_of whole.job.job whole.segment (λ x. x.part) whole.part }
         ensures { IfOk result (λ later. IfSome later (λ whole. StandsWhole S.stands_for S.size_of whole.job.job whole.segment (λ x. x.part) whole.part)) }
@@ -77,7 +79,7 @@ impl<'a, S: Segments, R: Running> JobWork<'a, S, TablePart<S>, TableKept<S>, R> 
             let Some(size) = size_of(self, job, segment + 1) else {
                 return Err(begun);
             };
-            return Ok(self.begin(gate, begun, segment + 1, size, spawn, scratch, watch));
+            return Ok(self.begin(gate, begun, segment + 1, size, spawn, scratch, watch, spare));
         }
         if let Ok(answer) = self.jobs.answer(self.alloc, job, part, given) {
             keep_answer(&self.places, job, answer);
@@ -94,12 +96,13 @@ impl<'a, S: Segments, R: Running> JobWork<'a, S, TablePart<S>, TableKept<S>, R> 
         spawn: &mut P,
         scratch: &mut S::Scratch,
         watch: &mut Watch<'_, S, R>,
+        spare: &mut Option<TableSpare<S, R>>,
     ) -> Option<TableJobSeat<S, R>>
         requires { IfSome first (λ whole. StandsWhole S.stands_for S.size_of whole.job.job whole.segment (λ x. x.part) whole.part) }
     {
         let mut left = first;
         for _ in 0..u64::MAX {
-            match self.end_segment(gate, left.take()?, spawn, scratch, watch) {
+            match self.end_segment(gate, left.take()?, spawn, scratch, watch, spare) {
                 Ok(later) => left = later,
                 Err(over) => return Some(over),
             }
@@ -156,6 +159,7 @@ impl<'a, S: Segments, R: Running> JobWork<'a, S, TablePart<S>, TableKept<S>, R> 
         spawn: &mut P,
         scratch: &mut S::Scratch,
         watch: &mut Watch<'_, S, R>,
+        spare: &mut Option<TableSpare<S, R>>,
         depth: usize,
     ) -> Option<TableJobSeat<S, R>> {
         let JobSeat { seat, job, of: _ } = over;
@@ -167,7 +171,7 @@ impl<'a, S: Segments, R: Running> JobWork<'a, S, TablePart<S>, TableKept<S>, R> 
             seat = rest;
             if let Some(freed) = freed {
                 if let Some(other) = next.replace(freed) {
-                    self.hand_over(gate, other, spawn, scratch, watch, depth);
+                    self.hand_over(gate, other, spawn, scratch, watch, spare, depth);
                 }
             }
         }
@@ -184,12 +188,13 @@ impl<'a, S: Segments, R: Running> JobWork<'a, S, TablePart<S>, TableKept<S>, R> 
         spawn: &mut P,
         scratch: &mut S::Scratch,
         watch: &mut Watch<'_, S, R>,
+        spare: &mut Option<TableSpare<S, R>>,
         depth: usize,
     ) {
         if let Err(Task::Begin(begun)) = spawn.push(Task::Begin(begun)) {
             if let Some(depth) = depth.checked_sub(1) {
-                let over = self.run_job(gate, begun, spawn, scratch, watch);
-                self.finish(gate, over, spawn, scratch, watch, depth);
+                let over = self.run_job(gate, begun, spawn, scratch, watch, spare);
+                self.finish(gate, over, spawn, scratch, watch, spare, depth);
             }
         }
     }
@@ -203,6 +208,7 @@ impl<'a, S: Segments, R: Running> JobWork<'a, S, TablePart<S>, TableKept<S>, R> 
         spawn: &mut P,
         scratch: &mut S::Scratch,
         watch: &mut Watch<'_, S, R>,
+        spare: &mut Option<TableSpare<S, R>>,
         depth: usize,
     ) {
         let mut left = over;
@@ -210,10 +216,10 @@ impl<'a, S: Segments, R: Running> JobWork<'a, S, TablePart<S>, TableKept<S>, R> 
             let Some(over) = left.take() else {
                 break;
             };
-            let Some(next) = self.end_job(gate, over, spawn, scratch, watch, depth) else {
+            let Some(next) = self.end_job(gate, over, spawn, scratch, watch, spare, depth) else {
                 break;
             };
-            left = self.run_job(gate, next, spawn, scratch, watch);
+            left = self.run_job(gate, next, spawn, scratch, watch, spare);
         }
     }
 
@@ -225,14 +231,15 @@ impl<'a, S: Segments, R: Running> JobWork<'a, S, TablePart<S>, TableKept<S>, R> 
         spawn: &mut P,
         scratch: &mut S::Scratch,
         watch: &mut Watch<'_, S, R>,
+        spare: &mut Option<TableSpare<S, R>>,
     ) {
         let over = match task {
-            Task::Begin(begun) => self.run_job(gate, begun, spawn, scratch, watch),
+            Task::Begin(begun) => self.run_job(gate, begun, spawn, scratch, watch, spare),
             Task::Walk(piece) => {
                 let whole = self.walk(gate, piece, spawn, scratch, watch);
-                self.go_on(gate, whole, spawn, scratch, watch)
+                self.go_on(gate, whole, spawn, scratch, watch, spare)
             }
         };
-        self.finish(gate, over, spawn, scratch, watch, self.starts.len());
+        self.finish(gate, over, spawn, scratch, watch, spare, self.starts.len());
     }
 }

@@ -17,6 +17,7 @@
 
 mod alone;
 mod arming;
+mod credit;
 mod cut;
 mod earlier;
 mod ending;
@@ -47,7 +48,7 @@ pub use start::{Start, Waiting};
 pub use std::alloc::AllocError as NoMemory;
 pub use stopping::{RunSegments, RunStops};
 pub use task::{
-    Idle, JobSeat, Piece, Purse, Running, TableIdle, TableJobSeat, TablePiece, TablePurse,
-    TableTask, TableWhole, Task, Whole,
+    Idle, JobSeat, Piece, Purse, Running, Spare, TableIdle, TableJobSeat, TablePiece, TablePurse,
+    TableSpare, TableTask, TableWhole, Task, Whole,
 };
 pub use work::{JobWork, Opened, TableOpened, TableWork};

@@ -37,6 +37,16 @@ pub(crate) fn node_count<S: Segments>(jobs: &S, settings: Settings) -> u32
     all.min(u64::from(u32::MAX)) as u32
 }
 
+/// How many segments all jobs have together.
+pub(crate) fn segment_count<S: Segments>(jobs: &S) -> u64 {
+    let mut count = 0u64;
+    for job in 0..jobs.jobs() {
+        let of_job = (jobs.last_segment(job) as u64).saturating_add(1);
+        count = count.saturating_add(of_job);
+    }
+    count
+}
+
 /// How many positions the first segments have that are walked in pieces, in all jobs together.
 fn divided_positions<S: Segments>(jobs: &S) -> u64 {
     let mut positions = 0u64;
@@ -49,13 +59,60 @@ fn divided_positions<S: Segments>(jobs: &S) -> u64 {
     positions
 }
 
-/// The most positions of a piece that isn't cut: the threshold, or more if there are too few nodes for pieces as short as that. All
-/// nodes are then used for cuts of long pieces, and no piece is left long because others were cut small before it.
+/// The most nodes that a segment of this many positions uses, if pieces longer than `longest` are cut. Each cut leaves half of the
+/// positions at most, rounded up.
+fn cuts_within(size: u64, longest: u64) -> u64 {
+    let mut length = size;
+    let mut cuts = 0u64;
+    for _level in 0..64 {
+        if length <= longest {
+            break;
+        }
+        length -= length / 2;
+        cuts = cuts.saturating_mul(2).saturating_add(1);
+    }
+    cuts
+}
+
+/// The most nodes that the segments of a job use so. A later segment counts with as many positions as the first one.
+fn cuts_of_job<S: Segments>(jobs: &S, job: usize, longest: u64) -> u64
+    requires { job < S.job_count }
+{
+    let each = cuts_within(jobs.likely_size(job), longest);
+    let mut cuts = 0u64;
+    for segment in 0..=jobs.last_segment(job) {
+        if jobs.is_divided(job, segment) {
+            cuts = cuts.saturating_add(each);
+        }
+    }
+    cuts
+}
+
+/// The most nodes that all jobs use so.
+fn cuts_of_all<S: Segments>(jobs: &S, longest: u64) -> u64 {
+    let mut cuts = 0u64;
+    for job in 0..jobs.jobs() {
+        cuts = cuts.saturating_add(cuts_of_job(jobs, job, longest));
+    }
+    cuts
+}
+
+/// The most positions of a piece that isn't cut: the threshold, or more if there are too few nodes for pieces as short as that: an even
+/// share of all positions, doubled until there are nodes for all cuts, as long as something is cut. So no piece is left long because
+/// others were cut small before it, and the last of many jobs is cut as the first one is.
 pub(crate) fn most_positions<S: Segments>(jobs: &S, settings: Settings) -> u64
     ensures some { 0 < result }
     ensures threshold { threshold_of settings ≤ result }
 {
     let pieces = settings.nodes().saturating_add(jobs.jobs() as u64);
     let length = divided_positions(jobs).checked_div(pieces).unwrap_or(0);
-    settings.threshold().max(length)
+    let mut longest = settings.threshold().max(length);
+    for _doubled in 0..64 {
+        let twice = longest.saturating_mul(2);
+        if cuts_of_all(jobs, longest) <= settings.nodes() || cuts_of_all(jobs, twice) == 0 {
+            break;
+        }
+        longest = twice;
+    }
+    longest
 }

@@ -6,34 +6,39 @@ ghost use Rattle.job_table.specs.Stops.{stop_id_of};
 ghost use Rattle.job_table.specs.Tasks.{CanArrive};
 
 use crate::NoMemory;
+use crate::credit::split_spare;
 use crate::cut::{TableCounts, TableKept, TablePart, TableSeat};
 use crate::segments::Segments;
 use crate::stopping::RunStops;
 use crate::task::{
-    Idle, JobSeat, Purse, Running, TableIdle, TableJobSeat, TablePurse, TableTask, Task,
+    Idle, JobSeat, Purse, Running, TableIdle, TableJobSeat, TablePurse, TableSpare, TableTask, Task,
 };
 use crate::work::{JobWork, TableWork};
+use completer_tree::Tree;
 use completion_core::END;
 use early_stop::CutSeat;
-use pending_count::Arrived;
 use std::alloc::Global;
 use std::marker::PhantomData;
 
 impl<'a, S: Segments, R: Running> JobWork<'a, S, TablePart<S>, TableKept<S>, R> {
-    /// Arrives at the start node of a job. If it is the last arrival, the job may begin.
+    /// Arrives at the start node of a job, along the path of that node alone: the next one on the way is arrived at once the job has
+    /// left its answer. If it is the last arrival, the job may begin.
     pub(crate) fn arrive_at(&self, seat: TableSeat<S>, job: usize) -> Option<TableJobSeat<S, R>>
         requires job { job < R.jobs }
         requires can { CanArrive R.table R.jobs R.start R.keeps job seat }
     {
-        let node = self.start(job).node;
-        match self.counts.arrive(seat, node) {
-            Arrived::Last(seat, _finish) => Some(JobSeat {
-                seat,
-                job,
-                of: PhantomData,
-            }),
-            Arrived::Pending(_seat, _pending) => None,
+        let path = [self.start(job).node];
+        let tree = Tree::new(&self.counts, &[]);
+        let (seat, finished) = tree.propagate_completion(seat, &path);
+        if finished == 0 {
+            return None;
         }
+        let begun = JobSeat {
+            seat,
+            job,
+            of: PhantomData,
+        };
+        Some(begun)
     }
 
     /// Opens the last job that isn't opened. `Some` if the job names no other one, so that it may begin.
@@ -53,10 +58,11 @@ impl<'a, S: Segments, R: Running> JobWork<'a, S, TablePart<S>, TableKept<S>, R> 
         (rest, self.arrive_at(part, job))
     }
 
-    /// Tasks for the jobs that name no other one, the last job first, and a seat without credit for each worker.
+    /// Tasks for the jobs that name no other one, the last job first, and an `Idle` with an equal part of the credit for each worker.
     pub(crate) fn open_all(
         &self,
         purse: TablePurse<S, R>,
+        spare: TableSpare<S, R>,
         stop_seat: CutSeat,
         workers: u64,
     ) -> Result<(Vec<TableTask<S, R>>, Vec<TableIdle<S, R>>), NoMemory>
@@ -82,7 +88,7 @@ impl<'a, S: Segments, R: Running> JobWork<'a, S, TablePart<S>, TableKept<S>, R> 
             }
         }
         let Some(purse) = left else { unreachable!() };
-        let first = empty(self.alloc, self.jobs, purse, stop_seat);
+        let first = empty(self.alloc, self.jobs, purse, spare, stop_seat);
         let idles = idle_seats(
             self.alloc,
             self.jobs,
@@ -95,11 +101,12 @@ impl<'a, S: Segments, R: Running> JobWork<'a, S, TablePart<S>, TableKept<S>, R> 
     }
 }
 
-/// What is left of a purse whose jobs are opened.
+/// What is left of a purse whose jobs are opened, and the credit of all workers.
 fn empty<S: Segments, R: Running>(
     alloc: Global,
     jobs: &S,
     purse: TablePurse<S, R>,
+    spare: TableSpare<S, R>,
     stop_seat: CutSeat,
 ) -> TableIdle<S, R>
     requires stops { stop_table_of stop_seat ≡ R.stops }
@@ -107,13 +114,14 @@ fn empty<S: Segments, R: Running>(
     let Purse { seat, jobs: _, of } = purse;
     Idle {
         seat,
+        spare: Some(spare),
         stop_seat,
         scratch: jobs.scratch(alloc),
         of,
     }
 }
 
-/// This many seats without credit, split off the first one.
+/// This many `Idle`s, split off the first one, each with an equal part of its credit.
 fn idle_seats<S: Segments, R: Running>(
     alloc: Global,
     jobs: &S,
@@ -128,45 +136,51 @@ fn idle_seats<S: Segments, R: Running>(
 {
     let mut idles = Vec::new(alloc);
     let mut left = Some(first);
-    for _made in 0..workers {
+    for made in 0..workers {
         let Some(from) = left.take() else {
             break;
         };
-        let (rest, part) = idle_one(alloc, jobs, counts, stops, from);
+        let (rest, part) = idle_one(alloc, jobs, counts, stops, from, workers - made);
         left = Some(rest);
         idles.push(part)?;
     }
     Ok(idles)
 }
 
-/// A seat without credit, and the one that it was split off from.
+/// One `Idle` with one of that many equal parts of the credit, and the one that it was split off from.
 fn idle_one<S: Segments, R: Running>(
     alloc: Global,
     jobs: &S,
     counts: &TableCounts<S>,
     stops: &RunStops<S>,
     from: TableIdle<S, R>,
+    parts: u64,
 ) -> (TableIdle<S, R>, TableIdle<S, R>)
+    requires parts { 0 < parts }
     requires table { table_id_of counts.now ≡ R.table }
     requires stops { stop_id_of stops.now ≡ R.stops }
 {
     let Idle {
         seat,
+        spare,
         stop_seat,
         scratch,
         of,
     } = from;
     let (seat, part) = counts.split(seat, END, 0, 0);
+    let (spare, spare_part) = split_spare(counts, spare, parts);
     let (stop_seat, stop_part) = stops.split(stop_seat);
     (
         Idle {
             seat,
+            spare,
             stop_seat,
             scratch,
             of,
         },
         Idle {
             seat: part,
+            spare: spare_part,
             stop_seat: stop_part,
             scratch: jobs.scratch(alloc),
             of: PhantomData,

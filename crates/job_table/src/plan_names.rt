@@ -7,7 +7,7 @@ ghost use Rattle.job_plan.specs.PlannedAnswers.{all_put_at, array_at, first_unus
 ghost use Rattle.job_plan.specs.declared.answer.Answer.{Answer as answers};
 ghost use Rattle.job_plan.specs.declared.answer.Answer.TheVariants as answer;
 ghost use Rattle.job_table.specs.Begins.{IsBegun};
-ghost use Rattle.job_table.specs.PlanSegments.{answer_of, answers_before, chain_at, plan_at, walk_at, walk_size};
+ghost use Rattle.job_table.specs.PlanSegments.{answer_of, answers_before, chain_at, plan_at, size_at};
 
 use crate::NoMemory;
 use crate::earlier::EarlierAnswers;
@@ -199,7 +199,7 @@ impl<'a, 'c, P: Planned> PlanJobs<'a, 'c, P> {
         Ok(sources)
     }
 
-    /// How many positions the first segment of a job has.
+    /// How many positions the first segment of a job has: none if its walk goes through slices, which makes it one piece.
     pub(crate) fn first_size<E: EarlierAnswers<Answer>>(
         &self,
         alloc: Global,
@@ -210,8 +210,11 @@ impl<'a, 'c, P: Planned> PlanJobs<'a, 'c, P> {
         requires job { job < length P.jobs }
         requires earlier { (j : ℕ) (a : answers) → E.is_answer j a → a ≡ answer_of (plans_in P.jobs) j }
         requires plan { plan_in plan.now ≡ plan_at (plans_in P.jobs) job }
-        ensures { IfOk result (λ size. size ≡ walk_size (walk_at (chain_at (plans_in P.jobs) job) 0)) }
+        ensures { IfOk result (λ size. size ≡ size_at (chain_at (plans_in P.jobs) job) 0) }
     {
+        if plan.streams() {
+            return Ok(0);
+        }
         if !plan.takes_arrays() {
             return Ok(Source::of_selected(plan).size());
         }

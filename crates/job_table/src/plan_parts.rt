@@ -1,18 +1,19 @@
 //! The segments of one job of a plan: how a piece is walked, and what comes of a whole segment.
-ghost use Rattle.std.specs.Prelude.{◌≡◌, ◌+◌, ◌<◌, ◌≤◌, ℕ, length, slice_get, IfOk, IfSome};
+ghost use Rattle.std.specs.Prelude.{◌≡◌, ◌+◌, ◌<◌, ◌≤◌, ℕ, true, length, slice_get, IfOk, IfSome};
 ghost use Rattle.trace.specs.Trace.{nothing};
 ghost use Rattle.early_stop.specs.Decisive.{Decides};
 ghost use Rattle.job_plan.specs.Parts.{StandsFor, end_in, plan_in, segments_in, walk_in};
 ghost use Rattle.job_plan.specs.Plans.{segments_answer};
+ghost use Rattle.job_plan.specs.Links.{first_links, linked, walked_segments};
 ghost use Rattle.job_plan.specs.Windows.{later_segments};
-ghost use Rattle.job_table.specs.PlanSegments.{AbstractChain, PartStands, end_divides, gives_at, segment_divides, slices_first, walk_at, walk_size};
+ghost use Rattle.job_table.specs.PlanSegments.{AbstractChain, PartStands, end_divides, gives_at, segment_divides, size_at, slices_first, walk_at, walk_size};
 
 use crate::NoMemory;
 use batch_eval::Registers;
 use early_stop::Stop;
 use job_plan::{
     Answer, ArrayPart, GivenWalk, JobPlan, Outcome, Part, Segment, SegmentEnd, Source, leaf_stored,
-    leaf_until, unwalked,
+    leaf_until, streamed, unwalked,
 };
 use lambda_expr::Env;
 use slice_ops::Slice;
@@ -48,11 +49,11 @@ fn end_divides(end: &SegmentEnd) -> bool
     }
 }
 
-/// Whether a segment of a job is walked in pieces. Segments are numbered from the first of its `later_segments`.
+/// Whether a segment of a job is walked in pieces. Segments are numbered from the first of its `walked_segments`.
 pub(crate) fn is_divided(plan: &JobPlan, segment: usize) -> bool
-    ensures { result ≡ segment_divides (slice_get (later_segments (plan_in plan.now).segments) segment) }
+    ensures { result ≡ segment_divides (slice_get (walked_segments (plan_in plan.now)) segment) }
 {
-    match plan.later_segments().get(segment) {
+    match plan.walked_segments().get(segment) {
         Some(of) => end_divides(&of.end),
         None => false,
     }
@@ -60,9 +61,9 @@ pub(crate) fn is_divided(plan: &JobPlan, segment: usize) -> bool
 
 /// The part of a piece that isn't walked. A segment that isn't there has a part that says nothing.
 pub(crate) fn left_out<'a>(alloc: Global, plan: &'a JobPlan, segment: usize, env: &Env) -> Part<'a>
-    ensures { IfSome (slice_get (later_segments (plan_in plan.now).segments) segment) (λ s. StandsFor s env.now result nothing) }
+    ensures { IfSome (slice_get (walked_segments (plan_in plan.now)) segment) (λ s. StandsFor s env.now result nothing) }
 {
-    match plan.later_segments().get(segment) {
+    match plan.walked_segments().get(segment) {
         Some(of) => unwalked(alloc, of, env),
         None => Part::Array(ArrayPart::none(alloc)),
     }
@@ -81,11 +82,11 @@ pub(crate) fn piece<'a, W: Stop>(
     stop: &mut W,
 ) -> Result<Part<'a>, NoMemory>
     requires ordered { from ≤ to }
-    ensures { (chain : AbstractChain) → chain.segments ≡ later_segments (plan_in plan.now).segments → chain.numbers ≡ env.now
-        → walk_in source.now ≡ walk_at chain segment → ((c : ℕ) → W.decides stop.old c → Decides (gives_at chain segment) (walk_at chain segment) c)
+    ensures { (chain : AbstractChain) → chain.segments ≡ walked_segments (plan_in plan.now) → chain.numbers ≡ env.now
+        → walk_in source.now ≡ walk_at chain segment → size_at chain segment ≡ walk_size (walk_at chain segment) → ((c : ℕ) → W.decides stop.old c → Decides (gives_at chain segment) (walk_at chain segment) c)
         → IfOk result (λ part. PartStands chain segment from to part) }
 {
-    let Some(of) = plan.later_segments().get(segment) else {
+    let Some(of) = plan.walked_segments().get(segment) else {
         return Ok(Part::Array(ArrayPart::none(alloc)));
     };
     let upto = if to == source.size() { None } else { Some(to) };
@@ -105,15 +106,34 @@ pub(crate) fn stored_piece<'a, W: Stop>(
     stop: &mut W,
 ) -> Result<Part<'a>, NoMemory>
     requires ordered { from ≤ to }
-    ensures { (chain : AbstractChain) → chain.segments ≡ later_segments (plan_in plan.now).segments → chain.numbers ≡ env.now
-        → walk_in source.now ≡ walk_at chain segment → ((c : ℕ) → W.decides stop.old c → Decides (gives_at chain segment) (walk_at chain segment) c)
+    ensures { (chain : AbstractChain) → chain.segments ≡ walked_segments (plan_in plan.now) → chain.numbers ≡ env.now
+        → walk_in source.now ≡ walk_at chain segment → size_at chain segment ≡ walk_size (walk_at chain segment) → ((c : ℕ) → W.decides stop.old c → Decides (gives_at chain segment) (walk_at chain segment) c)
         → IfOk result (λ part. PartStands chain segment from to part) }
 {
-    let Some(of) = plan.later_segments().get(segment) else {
+    let Some(of) = plan.walked_segments().get(segment) else {
         return Ok(Part::Array(ArrayPart::none(alloc)));
     };
     let upto = if to == source.size() { None } else { Some(to) };
     leaf_stored(alloc, of, source, from, upto, env, registers, stop)
+}
+
+/// Walks all of a job's sources through the slices before its first segment, and through this. A segment that isn't there has a part
+/// that says nothing.
+pub(crate) fn streamed_piece<'a>(
+    alloc: Global,
+    plan: &'a JobPlan,
+    source: &Source,
+    env: &Env,
+    registers: &mut Registers,
+) -> Result<Part<'a>, NoMemory>
+    ensures { (chain : AbstractChain) → chain.segments ≡ walked_segments (plan_in plan.now) → chain.numbers ≡ env.now → chain.streams ≡ true
+        → linked (first_links (later_segments (plan_in plan.now).segments)) env.now (walk_in source.now) ≡ chain.source
+        → IfOk result (λ part. PartStands chain 0 0 0 part) }
+{
+    let Some(first) = plan.walked_segments().get(0) else {
+        return Ok(Part::Array(ArrayPart::none(alloc)));
+    };
+    streamed(alloc, plan.later_segments(), first, source, env, registers)
 }
 
 /// What the next segment goes over, of the part of a whole segment.
@@ -123,7 +143,7 @@ pub(crate) fn next_walk<'a>(
     env: &Env,
 ) -> Result<GivenWalk<'a>, NoMemory>
     ensures { IfOk result (λ given. (chain : AbstractChain) (segment : ℕ) → chain.numbers ≡ env.now → segment < slices_first chain.segments
-        → PartStands chain segment 0 (walk_size (walk_at chain segment)) part.entry → given ≡ walk_at chain (segment + 1)) }
+        → PartStands chain segment 0 (size_at chain segment) part.entry → given ≡ walk_at chain (segment + 1)) }
 {
     match part.finish(alloc, env)? {
         Outcome::Source(given) => Ok(given),
@@ -138,11 +158,11 @@ pub(crate) fn last_answer(
     part: Part<'_>,
     env: &Env,
 ) -> Result<Answer, NoMemory>
-    ensures { IfOk result (λ answer. (chain : AbstractChain) → chain.segments ≡ later_segments (plan_in plan.now).segments → chain.numbers ≡ env.now
-        → PartStands chain (slices_first chain.segments) 0 (walk_size (walk_at chain (slices_first chain.segments))) part.entry
+    ensures { IfOk result (λ answer. (chain : AbstractChain) → chain.segments ≡ walked_segments (plan_in plan.now) → chain.numbers ≡ env.now
+        → PartStands chain (slices_first chain.segments) 0 (size_at chain (slices_first chain.segments)) part.entry
         → answer ≡ segments_answer chain.segments chain.numbers chain.source) }
 {
-    let segments = plan.later_segments();
+    let segments = plan.walked_segments();
     let last = slices_first(segments);
     if last == segments.len() {
         return Ok(Answer::Number(0));

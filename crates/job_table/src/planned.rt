@@ -5,7 +5,7 @@ ghost use Rattle.job_plan.specs.Parts.{plan_in, plans_in};
 ghost use Rattle.job_plan.specs.PlannedAnswers.{planned_meaning};
 ghost use Rattle.job_table.specs.Cuts.{IsPiece};
 ghost use Rattle.early_stop.specs.Decisive.{Decides};
-ghost use Rattle.job_table.specs.PlanSegments.{PartStands, answer_of, chain_at, gives_at, plan_at, segment_divides, slices_first, walk_at, walk_size};
+ghost use Rattle.job_table.specs.PlanSegments.{PartStands, answer_of, chain_at, gives_at, plan_at, segment_divides, size_at, slices_first, walk_at};
 ghost use Rattle.job_table.specs.Sources.{IsKept, one_kept};
 ghost use Rattle.job_table.specs.PlanLaws.{one_answer, one_plan};
 ghost use Rattle.job_table.specs.Takings.{IsTaken, one_taken};
@@ -16,7 +16,7 @@ use crate::earlier::EarlierAnswers;
 use crate::kept::{SegmentSource, Taken};
 use crate::plan_names::different;
 use crate::plan_parts::{
-    is_divided, last_answer, left_out, next_walk, piece, slices_first, stored_piece,
+    is_divided, last_answer, left_out, next_walk, piece, slices_first, stored_piece, streamed_piece,
 };
 use crate::run::run_all;
 use crate::segments::{Begun, Segments};
@@ -91,7 +91,7 @@ impl<'a, 'c, P: Planned> Segments for PlanJobs<'a, 'c, P> {
 
     ghost last_of = { λ job. slices_first (chain_at (plans_in P.jobs) job).segments };
 
-    ghost size_of = { λ job segment. walk_size (walk_at (chain_at (plans_in P.jobs) job) segment) };
+    ghost size_of = { λ job segment. size_at (chain_at (plans_in P.jobs) job) segment };
 
     ghost divided = { λ job segment. segment_divides (slice_get (chain_at (plans_in P.jobs) job).segments segment) };
 
@@ -122,7 +122,11 @@ impl<'a, 'c, P: Planned> Segments for PlanJobs<'a, 'c, P> {
     }
 
     fn likely_size(&self, job: usize) -> u64 {
-        self.job(job).likely_size
+        let plan = self.job(job);
+        if plan.streams() {
+            return 1;
+        }
+        plan.likely_size
     }
 
     fn given<E: EarlierAnswers<Answer>>(
@@ -142,7 +146,7 @@ impl<'a, 'c, P: Planned> Segments for PlanJobs<'a, 'c, P> {
     }
 
     fn last_segment(&self, job: usize) -> usize {
-        slices_first(self.job(job).later_segments())
+        slices_first(self.job(job).walked_segments())
     }
 
     fn first_source(&self, _job: usize) -> SegmentSource<'a> {
@@ -207,12 +211,18 @@ impl<'a, 'c, P: Planned> Segments for PlanJobs<'a, 'c, P> {
                 let own = self.own(job);
                 let sources = self.put_sources(alloc, job, own, earlier)?;
                 let source = Source::of_sources(&sources, own);
+                if plan.streams() {
+                    return streamed_piece(alloc, plan, &source, env, registers);
+                }
                 stored_piece(
                     alloc, plan, segment, &source, from, to, env, registers, stop,
                 )
             }
             SegmentSource::Own => {
                 let source = Source::of_selected(plan);
+                if plan.streams() {
+                    return streamed_piece(alloc, plan, &source, env, registers);
+                }
                 piece(
                     alloc, plan, segment, &source, from, to, env, registers, stop,
                 )
@@ -227,7 +237,7 @@ impl<'a, 'c, P: Planned> Segments for PlanJobs<'a, 'c, P> {
     }
 
     fn merge(cut: Cut, left: Part<'a>, right: Part<'a>) -> Result<Part<'a>, NoMemory>
-        requires piece { IsPiece (length P.jobs) (λ job. slices_first (chain_at (plans_in P.jobs) job).segments) (λ job segment. walk_size (walk_at (chain_at (plans_in P.jobs) job) segment)) cut.job cut.segment cut.from cut.to }
+        requires piece { IsPiece (length P.jobs) (λ job. slices_first (chain_at (plans_in P.jobs) job).segments) (λ job segment. size_at (chain_at (plans_in P.jobs) job) segment) cut.job cut.segment cut.from cut.to }
         requires within { (cut.from < cut.middle) × (cut.middle < cut.to) }
         requires left { PartStands (chain_at (plans_in P.jobs) cut.job) cut.segment cut.from cut.middle left }
         requires right { PartStands (chain_at (plans_in P.jobs) cut.job) cut.segment cut.middle cut.to right }

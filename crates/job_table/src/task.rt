@@ -1,5 +1,5 @@
 //! What waits to be run, and what a worker keeps.
-ghost use Rattle.std.specs.Prelude.{◌≡◌, ◌<◌, ◌≤◌, ℕ, List, []};
+ghost use Rattle.std.specs.Prelude.{◌≡◌, ◌<◌, ◌≤◌, ℕ, List, [], length};
 ghost use Rattle.atomic_table.specs.Seated.{TableId};
 ghost use Rattle.completion_core.specs.Legal.{count};
 ghost use Rattle.pending_count.specs.Seats.{table_of, view_of};
@@ -81,10 +81,21 @@ pub enum Task<V, K: Fits<V, Tag = Cut>, R: Running> {
     Walk(Piece<V, K, R>),
 }
 
-/// A worker's right to ask how many jobs are left, its seat at the words of early stop, and what it keeps from one leaf to the next.
+/// The credit of a worker, for the trees that it begins. Its seat has noted no place of a tree.
+#[derive(Drop)]
+pub struct Spare<V, K: Fits<V, Tag = Cut>, R: Running> {
+    pub(crate) seat: Seat<V, K>,
+    pub(crate) of: PhantomData<R>,
+    ghost table: { table_of seat ≡ R.table },
+    ghost unplaced: { length (view_of seat).places ≡ 0 },
+}
+
+/// A worker's right to ask how many jobs are left, its credit, its seat at the words of early stop, and what it keeps from one leaf to
+/// the next.
 #[derive(Drop)]
 pub struct Idle<V, K: Fits<V, Tag = Cut>, R: Running, T> {
     pub(crate) seat: Seat<V, K>,
+    pub(crate) spare: Option<Spare<V, K, R>>,
     pub(crate) stop_seat: CutSeat,
     pub(crate) scratch: T,
     pub(crate) of: PhantomData<R>,
@@ -119,6 +130,8 @@ pub type TableJobSeat<S, R> = JobSeat<TablePart<S>, TableKept<S>, R>;
 pub type TablePiece<S, R> = Piece<TablePart<S>, TableKept<S>, R>;
 
 pub type TableTask<S, R> = Task<TablePart<S>, TableKept<S>, R>;
+
+pub type TableSpare<S, R> = Spare<TablePart<S>, TableKept<S>, R>;
 
 pub type TableIdle<S, R> = Idle<TablePart<S>, TableKept<S>, R, <S as Segments>::Scratch>;
 

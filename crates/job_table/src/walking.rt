@@ -8,7 +8,8 @@ ghost use Rattle.job_table.specs.Tasks.{KnowsStarts, KnowsTop};
 use crate::cut::{Cut, Join, TableKept, TablePart, is_left, range_of};
 use crate::segments::Segments;
 use crate::task::{
-    JobSeat, Piece, Running, TableJobSeat, TablePiece, TableTask, TableWhole, Task, Whole,
+    JobSeat, Piece, Running, TableJobSeat, TablePiece, TableSpare, TableTask, TableWhole, Task,
+    Whole,
 };
 use crate::watch::Watch;
 use crate::work::{JobWork, TableWork, part_of};
@@ -136,7 +137,7 @@ fn walk_whole<S: Segments, R: Running, G: Gate>(
 }
 
 impl<'a, S: Segments, R: Running> JobWork<'a, S, TablePart<S>, TableKept<S>, R> {
-    /// Begins the tree of a segment. `Some` is the whole segment, if no part of it is left to others.
+    /// Begins the tree of a segment, for which this worker pays. `Some` is the whole segment, if no part of it is left to others.
     #[tactic(auto, using(crate::proofs::SeatLemmas::can_keep, crate::proofs::Plans::as_planned))]
     pub(crate) fn begin<G: Gate, P: Spawn<TableTask<S, R>>>(
         &self,
@@ -147,6 +148,7 @@ impl<'a, S: Segments, R: Running> JobWork<'a, S, TablePart<S>, TableKept<S>, R> 
         spawn: &mut P,
         scratch: &mut S::Scratch,
         watch: &mut Watch<'_, S, R>,
+        spare: &mut Option<TableSpare<S, R>>,
     ) -> Option<TableWhole<S, R>>
         requires known { segment ≤ R.last begun.job }
         requires size { size ≡ R.size begun.job segment }
@@ -156,7 +158,7 @@ impl<'a, S: Segments, R: Running> JobWork<'a, S, TablePart<S>, TableKept<S>, R> 
         if size <= self.threshold || !self.jobs.is_divided(job, segment) {
             return Some(walk_whole(self, gate, begun, segment, size, scratch, watch));
         }
-        let JobSeat { seat, job: _, of } = begun;
+        let JobSeat { seat, job: _, of } = self.pay(begun, spare);
         let run = Join {
             cut: Cut::halves(job, segment, 0, size),
             parent: None,

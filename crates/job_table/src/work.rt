@@ -14,14 +14,15 @@ use crate::NoMemory;
 use crate::arming::arm_all;
 use crate::cut::{Cut, SegmentPart, TableCounts, TableKept, TablePart};
 use crate::earlier::Earlier;
-use crate::nodes::{most_positions, node_count};
+use crate::nodes::{most_positions, node_count, segment_count};
 use crate::places::{JobPlaces, empty_places, kept_answer, kept_given, kept_source};
 use crate::segments::Segments;
 use crate::start::{Start, Waiting};
 use crate::stopping::{RunSegments, RunStops};
-use crate::task::{Idle, Running, TableIdle, TablePurse, TableTask, Task};
+use crate::task::{Idle, Running, TableIdle, TablePurse, TableSpare, TableTask, Task};
 use crate::watch::Watch;
 use completer_tree::Failure;
+use completion_core::END;
 use early_stop::CutSeat;
 use job_plan::Settings;
 use pending_count::{Counts, Fits, Seat};
@@ -37,6 +38,8 @@ pub struct JobWork<'a, S: Segments, V, K: Fits<V, Tag = Cut>, R: Running> {
     pub(crate) counts: Counts<V, K>,
     pub(crate) jobs: &'a S,
     pub(crate) threshold: u64,
+    /// What a worker pays for each tree that it begins.
+    pub(crate) share: u64,
     pub(crate) places: Vec<JobPlaces<S>>,
     /// The start nodes of the jobs, the last job's first.
     pub(crate) starts: Vec<Start>,
@@ -98,13 +101,8 @@ impl<S: Segments> Opened<S, TablePart<S>, TableKept<S>> {
 fn stop_words<S: Segments>(alloc: Global, jobs: &S) -> Result<(RunStops<S>, CutSeat), NoMemory>
     ensures { IfOk result (λ made. IsStopSeatOf made.0 made.1 × (count_of made.0 ≡ (segments_of made.0).count)) }
 {
-    let mut count = 0u64;
-    for job in 0..jobs.jobs() {
-        let of_job = (jobs.last_segment(job) as u64).saturating_add(1);
-        count = count.saturating_add(of_job);
-    }
     let segments = RunSegments::<S> {
-        count: count.min(u64::from(u32::MAX)) as u32,
+        count: segment_count(jobs).min(u64::from(u32::MAX)) as u32,
         of: PhantomData,
     };
     RunStops::<S>::new(alloc, &segments)
@@ -243,11 +241,14 @@ impl<'a, S: Segments, R: Running> JobWork<'a, S, TablePart<S>, TableKept<S>, R> 
             stops,
             stop_seat,
         } = opened;
+        let half = seat.credit() / 2;
+        let (seat, other) = counts.split(seat, END, 0, half);
         let work = TableWork::<S, R> {
             alloc,
             counts,
             jobs,
             threshold: most_positions(jobs, settings),
+            share: half / settings.workers() / segment_count(jobs).max(1),
             places: empty_places(alloc, jobs)?,
             starts,
             stops,
@@ -258,7 +259,11 @@ impl<'a, S: Segments, R: Running> JobWork<'a, S, TablePart<S>, TableKept<S>, R> 
             jobs: jobs.jobs(),
             of: PhantomData,
         };
-        let (tasks, idles) = work.open_all(purse, stop_seat, settings.workers())?;
+        let spare = TableSpare::<S, R> {
+            seat: other,
+            of: PhantomData,
+        };
+        let (tasks, idles) = work.open_all(purse, spare, stop_seat, settings.workers())?;
         Ok((work, tasks, idles))
     }
 
@@ -331,6 +336,7 @@ where
     fn left<H: Wait>(&self, _rt: &H, idle: TableIdle<S, R>) -> (TableIdle<S, R>, u64) {
         let Idle {
             seat,
+            spare,
             stop_seat,
             scratch,
             of,
@@ -339,6 +345,7 @@ where
         (
             Idle {
                 seat,
+                spare,
                 stop_seat,
                 scratch,
                 of,
@@ -358,18 +365,20 @@ where
     ) -> TableIdle<S, R> {
         let Idle {
             seat,
+            mut spare,
             stop_seat,
             mut scratch,
             of,
         } = idle;
         let mut watch = self.watch(task_job(&task), stop_seat);
-        self.take(gate, task, spawn, &mut scratch, &mut watch);
+        self.take(gate, task, spawn, &mut scratch, &mut watch, &mut spare);
         let Watch {
             seat: stop_seat,
             ..
         } = watch;
         Idle {
             seat,
+            spare,
             stop_seat,
             scratch,
             of,

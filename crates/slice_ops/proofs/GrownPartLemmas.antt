@@ -17,10 +17,10 @@ use Rattle.slice_ops.proofs.JoinLemmas.{limited_few, limited_enough, limits_join
 above_zero : (m k : ℕ) → nat_lt m k ≡ true → 1 ≤ k
 above_zero m k h = grind (arith, nat_tests)
 
-is_below : (m k : ℕ) → m < k → nat_lt m k ≡ true
+pub is_below : (m k : ℕ) → m < k → nat_lt m k ≡ true
 is_below m k h = grind (arith, nat_tests)
 
-is_above : (m k : ℕ) → nat_lt m k ≡ true → m < k
+pub is_above : (m k : ℕ) → nat_lt m k ≡ true → m < k
 is_above m k h = grind (arith, nat_tests)
 
 limited_one : (k : ℕ) (x : Item) → 1 ≤ k → limited k (trace (x ∷ []) end.Done) ≡ trace (x ∷ []) end.Done

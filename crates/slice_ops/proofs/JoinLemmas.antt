@@ -18,7 +18,7 @@ use Rattle.slice_ops.specs.Parts.{kept_of, stops, StandsFor, IsJoined}
 
 -- ---- limit
 
-at_least : (m k : ℕ) → nat_lt m k ≡ false → k ≤ m
+pub at_least : (m k : ℕ) → nat_lt m k ≡ false → k ≤ m
 at_least m k h = grind (arith, nat_tests)
 
 is_enough : (m k : ℕ) → k ≤ m → nat_lt m k ≡ false
@@ -30,7 +30,7 @@ limited_enough k t h = ap (λ (b : Bool). if b then t else trace (take k t.items
 pub limited_few : (k : ℕ) (t : Trace) → nat_lt (length t.items) k ≡ true → limited k t ≡ t
 limited_few k t h = ap (λ (b : Bool). if b then t else trace (take k t.items) end.Done) h
 
-limit_stays : (k : ℕ) (xs : List Item) (e : End) (b : Trace) → k ≤ length xs → limited k (then_on xs e b) ≡ limited k (trace xs e)
+pub limit_stays : (k : ℕ) (xs : List Item) (e : End) (b : Trace) → k ≤ length xs → limited k (then_on xs e b) ≡ limited k (trace xs e)
 limit_stays k xs end.Done b h =
     let l = length-append xs b.items in
     limited_enough k (trace (xs ++ b.items) b.ending) (omega arith) ∙ ap (λ (ys : List Item). trace ys end.Done) (take-append-le k xs b.items h) ∙ sym (limited_enough k (trace xs end.Done) h)
@@ -40,7 +40,7 @@ longer : (xs : List Item) (e : End) (b : Trace) (k : ℕ) → k ≤ length xs �
 longer xs end.Done b k h = let l = length-append xs b.items in omega arith
 longer xs (end.Fault f) b k h = h
 
-take_twice : (k j : ℕ) (ys : List Item) → k ≤ j → take k (take j ys) ≡ take k ys
+pub take_twice : (k j : ℕ) (ys : List Item) → k ≤ j → take k (take j ys) ≡ take k ys
 take_twice zero j [] h = refl
 take_twice zero zero (y ∷ ys) h = refl
 take_twice zero (suc j) (y ∷ ys) h = refl
@@ -53,7 +53,7 @@ take_inner k j [] ys h = take_twice k j ys h
 take_inner zero j (x ∷ xs) ys h = refl
 take_inner (suc k) j (x ∷ xs) ys h = ap (λ (zs : List Item). x ∷ zs) (take_inner k j xs ys (omega arith))
 
-take_all_of : (k : ℕ) (ys : List Item) → k ≤ length ys → length (take k ys) ≡ k
+pub take_all_of : (k : ℕ) (ys : List Item) → k ≤ length ys → length (take k ys) ≡ k
 take_all_of zero [] h = refl
 take_all_of zero (y ∷ ys) h = refl
 take_all_of (suc k) [] h = absurd (omega arith)
@@ -86,18 +86,18 @@ module _ (k : ℕ) (xs : List Item) (b : Trace) where
 -- ---- takeWhile
 
 module _ (g : Item → Option End) where
-  front_stays : (xs : List Item) (e : End) (b : Trace) (q : ℕ × End) → stop_at g xs ≡ Some q → kept_before (stop_at g (then_on xs e b).items) (then_on xs e b) ≡ kept_before (stop_at g xs) (trace xs e)
+  pub front_stays : (xs : List Item) (e : End) (b : Trace) (q : ℕ × End) → stop_at g xs ≡ Some q → kept_before (stop_at g (then_on xs e b).items) (then_on xs e b) ≡ kept_before (stop_at g xs) (trace xs e)
   front_stays xs end.Done b q h =
       let few : q.0 ≤ length xs = let w = stop_within g xs q.0 q.1 h in omega arith in
       ap (λ o. kept_before o (trace (xs ++ b.items) b.ending)) (stop_joined g xs b.items ∙ ap (λ o. option_or o (shift (length xs) (stop_at g b.items))) h)
       ∙ ap (λ (ys : List Item). trace ys q.1) (take-append-le q.0 xs b.items few) ∙ sym (ap (λ o. kept_before o (trace xs end.Done)) h)
   front_stays xs (end.Fault f) b q h = refl
 
-  still_stops : (xs : List Item) (e : End) (b : Trace) (q : ℕ × End) → stop_at g xs ≡ Some q → stop_at g (then_on xs e b).items ≡ Some q
+  pub still_stops : (xs : List Item) (e : End) (b : Trace) (q : ℕ × End) → stop_at g xs ≡ Some q → stop_at g (then_on xs e b).items ≡ Some q
   still_stops xs end.Done b q h = stop_joined g xs b.items ∙ ap (λ o. option_or o (shift (length xs) (stop_at g b.items))) h
   still_stops xs (end.Fault f) b q h = h
 
-  after_front : (xs ys : List Item) → stop_at g xs ≡ None → stop_at g (xs ++ ys) ≡ shift (length xs) (stop_at g ys)
+  pub after_front : (xs ys : List Item) → stop_at g xs ≡ None → stop_at g (xs ++ ys) ≡ shift (length xs) (stop_at g ys)
   after_front xs ys h = stop_joined g xs ys ∙ ap (λ o. option_or o (shift (length xs) (stop_at g ys))) h
 
   kept_later : (xs : List Item) (b : Trace) (o : Option (ℕ × End)) → trace (xs ++ (kept_before o b).items) (kept_before o b).ending ≡ kept_before (shift (length xs) o) (trace (xs ++ b.items) b.ending)
@@ -108,11 +108,11 @@ shifted_is : (k : ℕ) (o : Option (ℕ × End)) → is_some (shift k o) ≡ is_
 shifted_is k None = refl
 shifted_is k (Some q) = refl
 
-not_some : {A : Type 0} → (o : Option A) → is_some o ≡ false → o ≡ None
+pub not_some : {A : Type 0} → (o : Option A) → is_some o ≡ false → o ≡ None
 not_some None h = refl
 not_some (Some a) h = absurd (let k : true ≡ false = h in cc)
 
-the_some : {A : Type 0} → (o : Option A) → is_some o ≡ true → (a : A) × (o ≡ Some a)
+pub the_some : {A : Type 0} → (o : Option A) → is_some o ≡ true → (a : A) × (o ≡ Some a)
 the_some None h = absurd (let k : false ≡ true = h in cc)
 the_some (Some a) h = (a, refl)
 

@@ -1,3 +1,4 @@
 pub mod FrontLemmas
 pub mod GrownPartLemmas
 pub mod JoinLemmas
+pub mod RestLemmas

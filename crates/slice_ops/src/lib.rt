@@ -2,15 +2,18 @@
 //!
 //! Stands on `trace`, for chunks, and on `lambda_expr`, for the tests. Used by whatever runs such a stage. What it
 //! promises to them: `SlicePart::join`, clause `ok`, gives the part of two pieces side by side, and
-//! `SlicePart::finish` what the stage makes of the whole, as `specs/Slices.antt` says.
-//! Begin with `specs/Slices.antt`, then `shorten.rt` and `slice_part.rt`. The four calls on a chunk shorten it in
-//! place and take no memory.
+//! `SlicePart::finish` what the stage makes of the whole, as `specs/Slices.antt` says. `SliceRest::shorten`, clause `rest`,
+//! shortens a walk that comes in parts, one after the other.
+//! Begin with `specs/Slices.antt`, then `shorten.rt`, `slice_part.rt` and `rest.rt`. The four calls on a chunk shorten it
+//! in place and take no memory.
 //! Not promised: that a piece is walked no further than needed.
 //! Java: `limit`, `skip`, `takeWhile`, `dropWhile` of `LongStream` (Java SE 17, `java.util.stream`).
 #![tactic(auto)]
 
+mod rest;
 mod shorten;
 mod slice_part;
 
+pub use rest::SliceRest;
 pub use shorten::{drop_while, limit, skip, take_while};
 pub use slice_part::{Slice, SlicePart};

@@ -75,3 +75,30 @@ impl Gate for Counted {
         self.longest.fetch_max(to.saturating_sub(from), SeqCst);
     }
 }
+
+/// Holds one leaf, by the order in which leaves are entered, for 1,000 turns in which other threads may go on.
+#[derive(Drop)]
+pub(crate) struct InTurn {
+    held: u64,
+    pub(crate) entered: AtomicU64,
+}
+
+impl InTurn {
+    /// A gate that no leaf has entered, and that holds the one of this number, counted from 0.
+    pub(crate) fn holding(held: u64) -> InTurn {
+        InTurn {
+            held,
+            entered: AtomicU64::new(0),
+        }
+    }
+}
+
+impl Gate for InTurn {
+    fn at_leaf(&self, _job: usize, _from: u64, _to: u64) {
+        if self.entered.fetch_add(1, SeqCst) == self.held {
+            for _ in 0..1000 {
+                std::thread::yield_now();
+            }
+        }
+    }
+}

@@ -1,10 +1,15 @@
-//! Jobs that name others, by tasks that are driven by hand.
+//! Jobs that name others: by tasks that are driven by hand, and in long chains.
 use crate::driven::plan_found;
+use crate::gates::Counted;
 use columns::Columns;
 use job_language::read_jobs;
-use job_plan::{Form, Plan, Settings};
-use std::alloc::AllocError;
+use job_plan::{Answer, Form, Plan, Settings};
+use job_table::run_jobs;
+use std::alloc::{AllocError, Global};
+use std::sync::Wait;
+use std::sync::atomic::Ordering::SeqCst;
 use std::test::Fail;
+use std::thread::Threads;
 
 /// A star, a diamond, a name that is written twice, and jobs that can't be run.
 const JOBS: &str = "\
@@ -28,6 +33,65 @@ fn each_job_begins_when_the_jobs_that_it_names_have_ended(rt: HostRuntime) -> Re
         let settings = Settings::of(1, threshold, nodes, Form::Text).ok_or(AllocError)?;
         let found = plan_found(&rt, alloc, &plan, settings, 0)?;
         assert!(rt; found == 8, "{threshold} {nodes}: {found}");
+    }
+    Ok(())
+}
+
+/// 256 jobs over 64 positions, each of which names the one before it.
+fn chain(alloc: Global) -> Result<String, AllocError> {
+    let mut text = String::new(alloc);
+    text.push_str("j0 = range(0, 64).count()\n")?;
+    for number in 1..256i64 {
+        let before = number.wrapping_sub(1);
+        let line = format!(in alloc;
+            "j{number} = range(0, 64).map(x -> 1 + 0 * (x + $j{before})).sum()\n"
+        )?;
+        text.push_str(line.as_str())?;
+    }
+    Ok(text)
+}
+
+/// How many leaves the chain is walked in, if each of its jobs has the answer 64.
+fn leaves_of_chain<H: Threads + Wait + Sync>(
+    rt: &H,
+    alloc: Global,
+    settings: &Settings,
+) -> Result<Option<u64>, Fail> {
+    let columns = Columns::none();
+    let text = chain(alloc)?;
+    let jobs = read_jobs(alloc, text.as_bytes(), &columns).map_err(|_fault| AllocError)?;
+    let plan = Plan::of(alloc, jobs)?;
+    let gate = Counted::new();
+    let answers = run_jobs(rt, alloc, &plan, settings, &gate).map_err(|_fault| AllocError)?;
+    let same = answers
+        .iter()
+        .filter(|answer| matches!(answer, Answer::Number(64)))
+        .count();
+    if same == 256 {
+        Ok(Some(gate.leaves.load(SeqCst)))
+    } else {
+        Ok(None)
+    }
+}
+
+// No clause says that there is credit, or a node, for the last job of a chain.
+#[test]
+fn each_job_of_a_long_chain_is_cut_as_the_first_one_is(rt: HostRuntime) -> Result<(), Fail> {
+    for (workers, threshold, nodes, wanted) in [
+        (1, 4, 4_096, 256 * 16),
+        (4, 4, 4_096, 256 * 16),
+        (64, 4, 4_096, 256 * 16),
+        (1, 1, 4_096, 256 * 16),
+        (4, 2, 8_192, 256 * 32),
+        (4, 1, 1_048_576, 256 * 64),
+        (2, 1, 255, 255 * 2 + 1),
+    ] {
+        let settings = Settings::of(workers, threshold, nodes, Form::Text).ok_or(AllocError)?;
+        let leaves = leaves_of_chain(&rt, rt.alloc(), &settings)?;
+        assert!(rt;
+            leaves == Some(wanted),
+            "{workers} {threshold} {nodes}: {leaves:?}"
+        );
     }
     Ok(())
 }

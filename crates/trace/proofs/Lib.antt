@@ -4,6 +4,7 @@ pub mod CutLemmas
 pub mod JoinLemmas
 pub mod PieceLemmas
 pub mod Ranges
+pub mod RewriteLemmas
 pub mod Sources
 pub mod StopLemmas
 pub mod WalkLemmas

@@ -6,6 +6,7 @@ ghost use Rattle.trace.specs.Sinks.{flow_at};
 ghost use Rattle.trace.specs.declared.item.End.TheVariants as end;
 
 mod growing;
+mod rewriting;
 mod searching;
 mod shortening;
 
@@ -13,6 +14,7 @@ use crate::NoMemory;
 use crate::item::{End, Item};
 use crate::sink::{Flow, LongSink};
 use crate::source::SourceItems;
+pub use rewriting::Rewrite;
 pub use searching::Stop;
 use std::alloc::Global;
 use std::marker::Model;

@@ -1,4 +1,4 @@
-use Rattle.std.proofs.Common.{◌≡◌, ◌∙◌, ◌+◌, ap, arith}
+use Rattle.std.proofs.Common.{ap, arith}
 use Rattle.completion_core.specs.Legal.{count}
 use Rattle.job_table.specs.Starts.{all_waiting}
 use Rattle.job_table.specs.Waits.{nodes_in}

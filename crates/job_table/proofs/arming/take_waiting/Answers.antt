@@ -1,4 +1,4 @@
-use Rattle.std.proofs.Common.{◌≡◌, ◌<◌, ◌+◌, ◌∙◌, ap, sym, length, arith, Vec, Global}
+use Rattle.std.proofs.Common.{◌<◌, ap, length, arith, Vec, Global}
 use Rattle.completion_core.specs.Legal.{count}
 use Rattle.job_table.specs.declared.start.Waiting.{Waiting}
 use Rattle.job_table.specs.Waits.{nodes_in}

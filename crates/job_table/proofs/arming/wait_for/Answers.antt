@@ -1,4 +1,4 @@
-use Rattle.std.proofs.Common.{◌≡◌, ◌<◌, ◌≤◌, ◌+◌, ◌∷◌, [], ◌∙◌, ap, sym, length, get_or, arith, Vec, Global}
+use Rattle.std.proofs.Common.{◌<◌, ◌∷◌, [], ap, length, get_or, arith, Vec, Global}
 use Rattle.completion_core.specs.Legal.{count}
 use Rattle.pending_count.proofs.SumLemmas.{one_at, total-append}
 use Rattle.job_table.specs.declared.start.Waiting.{Waiting}

@@ -1,4 +1,4 @@
-use Rattle.std.proofs.Common.{◌≡◌, ◌≤◌, ◌+◌, ℕ}
+use Rattle.std.proofs.Common.{◌≤◌, ◌+◌, ℕ}
 use Rattle.completion_core.specs.Graph.{copies}
 use Rattle.completion_core.specs.Legal.{count}
 use Rattle.job_table.specs.Starts.{all_waiting}

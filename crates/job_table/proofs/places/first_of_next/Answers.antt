@@ -1,4 +1,4 @@
-use Rattle.std.proofs.Common.{◌+◌, suc, arith, ap, sym, ◌∙◌, ◌≡◌}
+use Rattle.std.proofs.Common.{◌+◌, suc, arith, ap, ◌∙◌, ◌≡◌}
 use Rattle.job_table.specs.Stops.{first_word}
 use Rattle.job_table.proofs.StopLemmas.{next_word}
 use Rattle.job_table.proofs.places.first_of_next.Goals as goal

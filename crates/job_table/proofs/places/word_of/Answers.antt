@@ -1,4 +1,4 @@
-use Rattle.std.proofs.Common.{◌+◌, ◌<◌, ap, sym, ◌∙◌, ◌≡◌, subst, arith, rules}
+use Rattle.std.proofs.Common.{◌+◌, ap, ◌∙◌, ◌≡◌}
 use Rattle.job_table.specs.Stops.{first_word, pair_at}
 use Rattle.job_table.proofs.StopLemmas.{word_at}
 use Rattle.job_table.proofs.places.word_of.Goals as goal

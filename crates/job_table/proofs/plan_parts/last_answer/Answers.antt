@@ -10,8 +10,8 @@ use Rattle.job_table.proofs.plan_parts.last_answer.Goals as goal
 
 pub returns-then-last-segments : goal.returns-then-last-segments
 returns-then-last-segments c = λ chain same numbers stands.
-    let ss = c.later_segments-segments.result.now in
-    let segments : segments_in ss ≡ chain.segments = c.later_segments-segments.ensures ∙ sym same in
+    let ss = c.walked_segments-segments.result.now in
+    let segments : segments_in ss ≡ chain.segments = c.walked_segments-segments.ensures ∙ sym same in
     let last = c.slices_first-last.result in
     let is : last ≡ slices_first (segments_in ss) = c.slices_first-last.ensures.value in
     let past : length ss ≤ slices_first (segments_in ss) = omega (arith, c.if-last-segments.true) in
@@ -20,8 +20,8 @@ returns-then-last-segments c = λ chain same numbers stands.
 
 pub returns-in-Answer : goal.returns-in-Answer
 returns-in-Answer c = λ chain same numbers stands.
-    let ss = c.later_segments-segments.result.now in
-    let segments : segments_in ss ≡ chain.segments = c.later_segments-segments.ensures ∙ sym same in
+    let ss = c.walked_segments-segments.result.now in
+    let segments : segments_in ss ≡ chain.segments = c.walked_segments-segments.ensures ∙ sym same in
     let last = c.slices_first-last.result in
     let is : last ≡ slices_first (segments_in ss) = c.slices_first-last.ensures.value in
     let few = c.slices_first-last.ensures.few in
@@ -35,8 +35,8 @@ returns-in-Answer c = λ chain same numbers stands.
 
 pub returns : goal.returns
 returns c = λ chain same numbers stands.
-    let ss = c.later_segments-segments.result.now in
-    let segments : segments_in ss ≡ chain.segments = c.later_segments-segments.ensures ∙ sym same in
+    let ss = c.walked_segments-segments.result.now in
+    let segments : segments_in ss ≡ chain.segments = c.walked_segments-segments.ensures ∙ sym same in
     let last = c.slices_first-last.result in
     let is : last ≡ slices_first (segments_in ss) = c.slices_first-last.ensures.value in
     let few = c.slices_first-last.ensures.few in

@@ -1,4 +1,4 @@
-use Rattle.std.proofs.Common.{◌≡◌, ◌+◌, ◌∙◌, ap, sym, subst, length, arith}
+use Rattle.std.proofs.Common.{◌≡◌, ◌+◌, ap, sym, subst, length, arith}
 use Rattle.job_table.specs.Answers.{AreAnswers}
 use Rattle.job_table.proofs.AnswerLemmas.{more_answers}
 use Rattle.job_table.proofs.ArmLemmas.{length_snoc}

@@ -1,4 +1,4 @@
-use Rattle.std.proofs.Common.{◌≡◌, ◌+◌, suc, [], ◌∷◌, ◌++◌, length, Some, None, append_assoc, sym, ap, ◌∙◌, arith}
+use Rattle.std.proofs.Common.{◌≡◌, ◌+◌, suc, [], ◌∷◌, ◌++◌, length, append_assoc, sym, ap, ◌∙◌, arith}
 use Rattle.trace.specs.Stages.{stages_of}
 use Rattle.slice_ops.specs.Slices.{slice_of}
 use Rattle.job_language.specs.Jobs.{job_stage_of}
@@ -36,17 +36,5 @@ returns-in_ok-end-in-Prefix-clause-cut c = λ later d.
     let l = length-stages_of old in
     let next : n + length old + 1 ≡ suc (n + length (stages_of old)) = omega (arith, l) in
     (λ i. end.segments i ++ segments_from ((end.next.0 ∙ next) i) (stages_of (end.next.1 i)) later d)
-    ∙ append_assoc segments (record { first = n; stages = stages_of old; ending = scanning c.in-Prefix.op None } ∷ []) (segments_from (suc (n + length (stages_of old))) [] later d)
+    ∙ append_assoc segments (record { first = n; stages = stages_of old; ending = scanning c.in-Prefix.op c.in-Prefix.positions } ∷ []) (segments_from (suc (n + length (stages_of old))) [] later d)
     ∙ sym (ap (λ s. segments ++ segments_from n (stages_of old) (job_stage_of s ∷ later) d) c.in-Prefix.is)
-
-pub returns-in_ok-end-in-PrefixRange-clause-cut : goal.returns-in_ok-end-in-PrefixRange-clause-cut
-returns-in_ok-end-in-PrefixRange-clause-cut c = λ later d.
-    let segments = segments_in c.args.self.now.segments.items in
-    let n = c.args.self.now.first_stage in
-    let old = c.args.self.now.stages.items in
-    let end = c.in_ok-end-in-PrefixRange.ensures in
-    let l = length-stages_of old in
-    let next : n + length old + 1 ≡ suc (n + length (stages_of old)) = omega (arith, l) in
-    (λ i. end.segments i ++ segments_from ((end.next.0 ∙ next) i) (stages_of (end.next.1 i)) later d)
-    ∙ append_assoc segments (record { first = n; stages = stages_of old; ending = scanning c.in-PrefixRange.op (Some (c.in-PrefixRange.from, c.in-PrefixRange.to)) } ∷ []) (segments_from (suc (n + length (stages_of old))) [] later d)
-    ∙ sym (ap (λ s. segments ++ segments_from n (stages_of old) (job_stage_of s ∷ later) d) c.in-PrefixRange.is)

@@ -1,4 +1,4 @@
-use Rattle.std.proofs.Common.{◌≡◌, ◌+◌, ◌*◌, ◌∷◌, ◌++◌, [], drop}
+use Rattle.std.proofs.Common.{◌+◌, ◌*◌, ◌∷◌, ◌++◌, [], drop}
 use Rattle.job_table.specs.Tasks.{HasKept}
 use Rattle.job_table.specs.Waits.{nodes_in}
 use Rattle.job_table.proofs.ending.JobWork+S+TablePart+S+TableKept+S+R.+over.Given as goal

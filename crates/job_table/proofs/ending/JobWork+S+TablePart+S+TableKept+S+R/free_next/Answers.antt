@@ -1,4 +1,4 @@
-use Rattle.std.proofs.Common.{◌≡◌, ◌<◌, ◌≤◌, ◌+◌, ◌++◌, ◌∷◌, [], drop, length, get_or, arith}
+use Rattle.std.proofs.Common.{◌≤◌, ◌+◌, ◌++◌, ◌∷◌, [], drop, length, arith}
 use Rattle.job_table.specs.Waits.{nodes_in}
 use Rattle.job_table.proofs.SeatLemmas.{first_kept, next_waits}
 use Rattle.job_table.proofs.ending.JobWork+S+TablePart+S+TableKept+S+R.free_next.Goals as goal

@@ -1,4 +1,4 @@
-use Rattle.std.proofs.Common.{◌≡◌, ◌-◌, ◌<◌, ◌≤◌, ◌∙◌, ap, sym, subst, [], arith}
+use Rattle.std.proofs.Common.{◌-◌, ◌<◌, ◌≤◌, ◌∙◌, sym, subst, arith}
 use Rattle.completion_core.specs.Legal.{count}
 use Rattle.pending_count.specs.Seats.{view_of}
 use Rattle.job_table.proofs.SeatLemmas.{below_has, below_held_at, part_arrives, rest_purse}

@@ -1,4 +1,3 @@
-use Rattle.std.proofs.Common.{◌∙◌, ap}
 use Rattle.job_language.specs.Jobs.{sources_of}
 use Rattle.job_plan.specs.Parts.{plans_in}
 use Rattle.job_plan.specs.PlannedAnswers.{all_put_at}

@@ -3,7 +3,7 @@ use Rattle.std.specs.Prelude.{IfSome}
 use Rattle.lambda_expr.specs.Earlier.{Numbers}
 use Rattle.trace.specs.Trace.{nothing}
 use Rattle.job_plan.specs.Parts.{plans_in, StandsFor}
-use Rattle.job_plan.specs.Windows.{later_segments}
+use Rattle.job_plan.specs.Links.{walked_segments}
 use Rattle.job_table.specs.PlanSegments.{chain_at}
 use Rattle.job_table.proofs.PlanParts.{left_stands}
 use Rattle.job_table.proofs.planned.PlanJobsSegments.left_out.Goals as goal
@@ -13,4 +13,4 @@ returns g c =
     let numbers : c.args.given.now.numbers ≡ (chain_at (plans_in g.P.Planned.jobs) c.args.job).numbers = c.requires.given.1.0 in
     left_stands (chain_at (plans_in g.P.Planned.jobs) c.args.job) c.args.segment c.args._from c.args._to c.left_out.result c.requires.decided.0 c.requires.decided.1 c.requires.decided.2
     (subst (λ (e : Numbers). IfSome (slice_get (chain_at (plans_in g.P.Planned.jobs) c.args.job).segments c.args.segment) (λ s. StandsFor s e c.left_out.result nothing)) numbers
-    (subst (λ p. IfSome (slice_get (later_segments p.segments) c.args.segment) (λ s. StandsFor s c.args.given.now.numbers c.left_out.result nothing)) c.job.ensures c.left_out.ensures))
+    (subst (λ p. IfSome (slice_get (walked_segments p) c.args.segment) (λ s. StandsFor s c.args.given.now.numbers c.left_out.result nothing)) c.job.ensures c.left_out.ensures))

@@ -1,9 +1,9 @@
-use Rattle.std.proofs.Common.{◌≡◌, ◌<◌, ◌∙◌, ap, sym, subst, arith, true, false, Some, None}
+use Rattle.std.proofs.Common.{◌≡◌, ◌<◌, ◌∙◌, ap, sym, subst, arith, true, false, None}
 use Rattle.pending_count.specs.declared.place.Place.{Place}
 use Rattle.pending_count.specs.Seats.{view_of}
 use Rattle.completer_tree.specs.Trees.{table_id_of, CanFork}
 use Rattle.job_table.specs.declared.cut.Cut.{Cut}
-use Rattle.job_table.specs.Tasks.{KnowsTop}
+use Rattle.job_table.specs.Tasks.{HasKept, KnowsTop}
 use Rattle.job_table.specs.Cuts.{IsPiece}
 use Rattle.job_table.proofs.SeatLemmas.{known_forked, kept_still, top_known}
 use Rattle.job_table.proofs.Halves.{piece_as, half_piece}
@@ -12,15 +12,18 @@ use Rattle.job_table.proofs.walking.JobWork+S+TablePart+S+TableKept+S+R.begin.Go
 pub invariant_of-whole : goal.invariant_of-whole
 invariant_of-whole g c =
     let w = c.in-Whole in
-    let b = c.args.begun in
+    let b = c.pay-seat.result in
+    let same = c.pay-seat.ensures.job in
+    let kept = kept_still (g.R.Running.keeps b.job) b.seat w.seat (w.ensures.whole.1 ∙ ap table_id_of c.new-tree.ensures.0 ∙ c.args.self.now.table) w.ensures.whole.2 b.has in
     record {
-      has = kept_still (g.R.Running.keeps b.job) b.seat w.seat (w.ensures.whole.1 ∙ ap table_id_of c.new-tree.ensures.0 ∙ c.args.self.now.table) w.ensures.whole.2 b.has;
-      known = b.known;
+      has = subst (λ j. HasKept g.R.Running.table g.R.Running.jobs g.R.Running.start g.R.Running.keeps (g.R.Running.keeps j) w.seat) same kept;
+      known = c.args.begun.known;
     }
 
 pub invariant_of-own : goal.invariant_of-own
 invariant_of-own g c =
     let b = c.args.begun in
+    let p = c.pay-seat.result in
     let s = c.in-Split in
     let cut = c.halves in
     let size = c.requires.size in
@@ -32,14 +35,15 @@ invariant_of-own g c =
     let is : onward ≡ g.R.Running.keeps b.job = c.new-tree.ensures.1 ∙ c.deref.ensures.value ∙ c.start.ensures.1 in
     record {
       can = subst (λ id. CanFork id s.left.place s.left.seat) (ap table_id_of c.new-tree.ensures.0 ∙ c.args.self.now.table) s.ensures.split.0;
-      top = subst (λ j. KnowsTop (g.R.Running.keeps j) s.left.place.root (view_of s.left.seat)) (sym named) (top_known b.job onward is b.known s.left.place (view_of b.seat) (view_of s.left.seat) b.has.knows s.ensures.tops.0);
-      knows = known_forked None onward s.left.place (view_of b.seat) (view_of s.left.seat) b.has.knows s.ensures.tops.0 s.ensures.split.0.can_hand.rooted;
+      top = subst (λ j. KnowsTop (g.R.Running.keeps j) s.left.place.root (view_of s.left.seat)) (sym named) (top_known b.job onward is b.known s.left.place (view_of p.seat) (view_of s.left.seat) p.has.knows s.ensures.tops.0);
+      knows = known_forked None onward s.left.place (view_of p.seat) (view_of s.left.seat) p.has.knows s.ensures.tops.0 s.ensures.split.0.can_hand.rooted;
       piece = half_piece cut.result s.left.place.node s.left.place.root true s.left.place s.ensures.places.0 within whole;
     }
 
 pub invariant_of-other : goal.invariant_of-other
 invariant_of-other g c =
     let b = c.args.begun in
+    let p = c.pay-seat.result in
     let s = c.in-Split in
     let cut = c.halves in
     let size = c.requires.size in
@@ -51,7 +55,7 @@ invariant_of-other g c =
     let is : onward ≡ g.R.Running.keeps b.job = c.new-tree.ensures.1 ∙ c.deref.ensures.value ∙ c.start.ensures.1 in
     record {
       can = subst (λ id. CanFork id s.right.place s.right.seat) (ap table_id_of c.new-tree.ensures.0 ∙ c.args.self.now.table) s.ensures.split.1;
-      top = subst (λ j. KnowsTop (g.R.Running.keeps j) s.right.place.root (view_of s.right.seat)) (sym named) (top_known b.job onward is b.known s.right.place (view_of b.seat) (view_of s.right.seat) b.has.knows s.ensures.tops.1);
-      knows = known_forked None onward s.right.place (view_of b.seat) (view_of s.right.seat) b.has.knows s.ensures.tops.1 s.ensures.split.1.can_hand.rooted;
+      top = subst (λ j. KnowsTop (g.R.Running.keeps j) s.right.place.root (view_of s.right.seat)) (sym named) (top_known b.job onward is b.known s.right.place (view_of p.seat) (view_of s.right.seat) p.has.knows s.ensures.tops.1);
+      knows = known_forked None onward s.right.place (view_of p.seat) (view_of s.right.seat) p.has.knows s.ensures.tops.1 s.ensures.split.1.can_hand.rooted;
       piece = half_piece cut.result s.left.place.node s.left.place.root false s.right.place s.ensures.places.1 within whole;
     }

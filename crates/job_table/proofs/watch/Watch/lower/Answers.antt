@@ -1,4 +1,4 @@
-use Rattle.std.proofs.Common.{◌<◌, ◌≤◌, arith, rules}
+use Rattle.std.proofs.Common.{◌<◌, arith, rules}
 use Rattle.job_table.specs.Stops.{pair_at}
 use Rattle.job_table.proofs.StopLemmas.{decisive_here}
 use Rattle.job_table.proofs.watch.Watch.lower.Goals as goal
