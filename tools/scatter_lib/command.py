@@ -1,0 +1,225 @@
+"""The command line of tools/scatter."""
+import argparse
+import os
+import re
+import sys
+import tempfile
+
+from . import tables
+from .jobs import NotRead, read_jobs
+from .merging import Disagreement
+from .plan import Plan, Unmergeable, described
+from .processes import NoProgram, Processes
+from .reports import NotAReport, read_report, write_report
+from .running import Ended, Run, demand_mergeable
+
+EPILOG = 'What can be made of parts, and by which rule: docs/beyond-one-machine.md. The statuses are those of streamrun.'
+
+
+def options_of(arguments):
+    parser = argparse.ArgumentParser(prog='scatter', description='Runs streamrun over a table in parts.', epilog=EPILOG)
+    commands = parser.add_subparsers(dest='command', required=True, metavar='COMMAND')
+
+    def command(name, text):
+        found = commands.add_parser(name, help=text, description=text)
+        found.set_defaults(parser=found)
+        return found
+    add_run(command('run', 'Runs a job file over a table in parts, and writes the report of the whole.'))
+    plan = command('plan', 'Says of each job whether it can be made of parts; status 1 if one of them can\'t.')
+    add_round(command('jobs', 'Writes the job file that each part runs.'))
+    merge = command('merge', 'Writes the report of the whole, of the reports of the parts.')
+    add_round(merge)
+    cut = command('cut', 'Cuts a table into files, and prints how many rows each has.')
+    rows = command('rows', 'Prints how many rows each file of a table has.')
+    plan.add_argument('jobs', metavar='JOBS')
+    merge.add_argument('--rows', metavar='N,N,..', required=True, help='how many rows each part has, as cut and rows print it')
+    merge.add_argument('--json', action='store_true', help='write the report as JSON')
+    merge.add_argument('reports', metavar='REPORT', nargs='+', help='what streamrun --json wrote, in the order of the parts')
+    cut.add_argument('--parts', type=positive, required=True, metavar='N', help='into how many parts')
+    cut.add_argument('columns', metavar='FILE')
+    cut.add_argument('folder', metavar='FOLDER', help='where the parts go, part-1.csv and so on; it is made if need be')
+    rows.add_argument('columns', metavar='FILE', nargs='+')
+    return parser.parse_args(arguments)
+
+
+def add_run(run):
+    run.add_argument('--parts', type=positive, metavar='N', help='cut the table into N parts; at most N run at once')
+    run.add_argument('--scheduler', metavar='ADDRESS', help='run the parts on the workers of this Dask scheduler')
+    run.add_argument('--at-workers', action='store_true', help='each FILE is WORKER:PATH, a file that lies at this worker')
+    run.add_argument('--columns', metavar='FILE', nargs='+', required=True, help='a table to cut, or several that are its parts')
+    run.add_argument('--json', action='store_true', help='write the report as JSON')
+    run.add_argument('--program', default='streamrun', metavar='PATH', help='the program (streamrun), for a worker its own')
+    run.add_argument('--workers', type=positive, metavar='N', help='how many threads a part has')
+    run.add_argument('jobs', metavar='JOBS', nargs='?')
+
+
+def add_round(command):
+    command.add_argument('--round', type=positive, default=1, metavar='R', help='which round (1)')
+    command.add_argument('--answers', metavar='FILE', help='what merge wrote of the round before')
+    command.add_argument('jobs', metavar='JOBS')
+
+
+def positive(text):
+    number = int(text)
+    if number < 1:
+        raise ValueError
+    return number
+
+
+def read(path):
+    with open(path, 'rb') as file:
+        return file.read()
+
+
+def opened(what, path, take):
+    """What a call makes of a file, or the line that streamrun writes if it can't be opened or read."""
+    try:
+        return take(path)
+    except IsADirectoryError:
+        raise Ended(f'streamrun: {what}: read failed', 4) from None
+    except OSError:
+        raise Ended(f'streamrun: cannot open {what}', 4) from None
+
+
+def plan_of(path):
+    return Plan(read_jobs(opened('jobs', path, read)))
+
+
+# The commands. Each gives the bytes for standard output, and merge a line for standard error too.
+
+def plan_command(options):
+    plan = plan_of(options.jobs)
+    sys.stdout.write(''.join(f'{name}: {described(it)}\n' for name, it in plan.jobs.items()))
+    sys.stdout.flush()
+    plan.demand_mergeable()
+    return b''
+
+
+def round_of(options):
+    """The plan and the answers before the round."""
+    plan = plan_of(options.jobs)
+    plan.demand_mergeable()
+    if options.round > plan.rounds:
+        raise Ended(f'scatter: there is no round {options.round}: this job file has {plan.rounds}', 2)
+    if (options.round > 1) != bool(options.answers):
+        raise Ended('scatter: --answers belongs to each round after the first', 2)
+    answers = report_at(options.answers) if options.answers else {}
+    if list(answers) != [name for name, it in plan.jobs.items() if it.round < options.round]:
+        raise Ended(f'scatter: {options.answers}: not the answers of the rounds before', 1)
+    return plan, answers
+
+
+def report_at(path):
+    try:
+        return read_report(read(path))
+    except NotAReport:
+        raise Ended(f'scatter: {path}: no report of streamrun --json', 1) from None
+    except OSError as wrong:
+        raise Ended(f'scatter: {path}: {wrong.strerror}', 4) from None
+
+
+def jobs_command(options):
+    plan, answers = round_of(options)
+    return plan.job_file(options.round, answers)
+
+
+def merge_command(options):
+    plan, answers = round_of(options)
+    rows = options.rows.split(',')
+    if not all(number.isdecimal() for number in rows) or len(rows) != len(options.reports):
+        raise Ended(f'scatter: {len(options.reports)} reports want {len(options.reports)} numbers of rows', 2)
+    reports = [report_at(path) for path in options.reports]
+    answers = plan.merge(options.round, answers, reports, [int(number) for number in rows])
+    if options.round < plan.rounds:
+        return write_report(answers, True), f'scatter: these are the answers of round {options.round} of {plan.rounds}'
+    return write_report(answers, options.json), ''
+
+
+def cut_command(options):
+    _, parts = opened('columns', [options.columns], lambda paths: tables.parts_of(paths, options.parts))
+    os.makedirs(options.folder, exist_ok=True)
+    names = [f'part-{number:0{len(str(len(parts)))}}.csv' for number in range(1, len(parts) + 1)]
+    others = {name for name in os.listdir(options.folder) if re.fullmatch(r'part-[0-9]+\.csv', name)} - set(names)
+    if others:
+        raise Ended(f'scatter: {options.folder} has a part of another cut, {min(others)}', 1)
+    for name, part in zip(names, parts):
+        with open(os.path.join(options.folder, name), 'wb') as file:
+            file.writelines(tables.pieces_of(part))
+    return rows_line(parts)
+
+
+def rows_command(options):
+    return rows_line(opened('columns', options.columns, lambda paths: tables.parts_of(paths, 1))[1])
+
+
+def rows_line(parts):
+    return ','.join(str(part.rows) for part in parts).encode() + b'\n'
+
+
+def run_command(options):
+    if options.jobs is None and len(options.columns) > 1:
+        options.jobs = options.columns.pop()
+    if options.jobs is None or (options.at_workers and not options.scheduler):
+        options.parser.error('JOBS is missing' if options.jobs is None else '--at-workers wants --scheduler')
+    with tempfile.TemporaryDirectory() as folder:
+        if options.scheduler:
+            from .workers import run_on_workers
+            return run_on_workers(options, folder)
+        header, parts, jobs = table_and_jobs(options, folder, options.parts or processors())
+        at_once = min(options.parts or len(parts), len(parts), processors())
+        threads = options.workers or max(1, processors() // at_once)
+        runner = Processes(options.program, ['--workers', str(threads)], at_once)
+        return Run(jobs, header, parts, runner).report(options.json)
+
+
+def table_and_jobs(options, folder, count):
+    """The table is opened first, as one run does."""
+    paths = opened('columns', options.columns, lambda paths: [tables.regular(path, folder) for path in paths])
+    jobs = mergeable_jobs(options.jobs)
+    return *opened('columns', paths, lambda paths: tables.parts_of(paths, count)), jobs
+
+
+def mergeable_jobs(path):
+    jobs = opened('jobs', path, read)
+    demand_mergeable(jobs)
+    return jobs
+
+
+def processors():
+    return len(os.sched_getaffinity(0))
+
+
+COMMANDS = {'run': run_command, 'plan': plan_command, 'jobs': jobs_command, 'merge': merge_command, 'cut': cut_command,
+            'rows': rows_command}
+
+
+def outcome(arguments):
+    """The bytes for standard output, the lines for standard error, and the status."""
+    try:
+        options = options_of(arguments)
+        found = COMMANDS[options.command](options)
+        return (*found, 0) if isinstance(found, tuple) else (found, '', 0)
+    except Ended as ended:
+        return b'', ended.lines, ended.status
+    except (Unmergeable, NotRead, tables.OtherHeader, Disagreement) as refused:
+        return b'', '\n'.join(f'scatter: {line}' for line in str(refused).split('\n')), 1
+    except NoProgram as missing:
+        return b'', f'scatter: no program {missing}', 4
+    except OSError as wrong:
+        return b'', f'scatter: {wrong}', 4
+    except KeyboardInterrupt:
+        return b'', 'scatter: interrupted', 130
+
+
+def main(arguments):
+    out, lines, status = outcome(arguments)
+    if lines:
+        sys.stderr.write(lines + '\n')
+    written = 0
+    try:
+        while written < len(out):
+            written += os.write(1, out[written:written + tables.CHUNK])
+    except OSError:
+        sys.stderr.write(f'scatter: write failed after {written} bytes\n')
+        return 4
+    return status

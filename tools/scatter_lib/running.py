@@ -1,0 +1,127 @@
+"""The rounds of a run over the parts of a table, and its refusals, in the order of one run: first the table, then the job
+file, both before a job runs; then the rounds."""
+import re
+import sys
+
+from .jobs import NotRead, read_jobs
+from .merging import Disagreement
+from .plan import Plan
+from .reports import NotAReport, read_report, write_report
+from .tables import Part
+
+LINE_OF_JOBS = re.compile(rb'streamrun: jobs: line (\d+): .*\n')
+ROW = re.compile(rb'(streamrun: columns: .*\brow )(\d+)(.*\n)', re.S)
+
+
+class Ended(Exception):
+    """A run without a report: the lines for standard error, and the status."""
+
+    def __init__(self, lines, status):
+        super().__init__(lines, status)
+        self.lines, self.status = lines, status
+
+
+class Progress:
+    """Says on a terminal how far a run is."""
+
+    def __init__(self, stream):
+        self.stream = stream if stream.isatty() else None
+        self.text, self.done, self.all = '', 0, 0
+
+    def begin(self, text, parts):
+        self.text, self.done, self.all = text, -1, parts
+        self.step()
+
+    def step(self):
+        self.done += 1
+        if self.stream:
+            self.stream.write(f'\r\033[Kscatter: {self.text}: {self.done} of {self.all} parts')
+            self.stream.flush()
+
+    def end(self):
+        if self.stream:
+            self.stream.write('\r\033[K')
+            self.stream.flush()
+
+
+def probe_of(jobs):
+    """A job file that is refused in its last line, if at all: the program says of the lines above whether it accepts them,
+    and runs no job. Also the number of that line."""
+    between = b' \n' if jobs.endswith(b'\r') else b'\n'
+    return jobs + between + b'0\n', jobs.count(b'\n') + 2
+
+
+def demand_mergeable(jobs):
+    """Refuses a job file that can't be made of parts, before anything runs. What this can't read is for the program to
+    refuse."""
+    try:
+        plan = Plan(read_jobs(jobs))
+    except NotRead:
+        return
+    plan.demand_mergeable()
+
+
+class Run:
+    """A job file over the parts of a table. runner: Processes or Workers."""
+
+    def __init__(self, jobs, header, parts, runner, progress=None):
+        self.jobs, self.parts, self.runner = jobs, parts, runner
+        self.header = Part(None, header, 0, 0, 0)
+        self.progress = progress or Progress(sys.stderr)
+
+    def outcomes(self, jobs, parts, text, expected=None):
+        """What comes of each part, if none of them fails. expected: lines on standard error that are no failure."""
+        def is_failure(outcome):
+            return outcome[0] != 0 and not (expected and expected.fullmatch(outcome[2]))
+        self.progress.begin(text, len(parts))
+        try:
+            found = self.runner.run_all(jobs, parts, self.progress.step, is_failure)
+        finally:
+            self.progress.end()
+        before = 0
+        for number, (part, outcome) in enumerate(zip(parts, found), 1):
+            if is_failure(outcome):
+                raise ended_by(outcome, f'part {number} of {len(parts)}', before)
+            before += part.rows
+        return found
+
+    def demand_accepted(self):
+        """Ends as one run would if it refuses the header, or the job file; a bad row then comes first."""
+        probe, line = probe_of(self.jobs)
+        [(_, _, said)] = self.outcomes(probe, [self.header], 'job file', LINE_OF_JOBS)
+        refused = LINE_OF_JOBS.fullmatch(said)
+        if not refused:
+            raise Ended(f'scatter: {self.runner.program} is no streamrun', 4)
+        if int(refused[1]) < line:
+            self.outcomes(probe, self.parts, 'job file', LINE_OF_JOBS)
+            raise Ended(said.decode().rstrip('\n'), 1)
+
+    def answers(self):
+        """The answers of the whole table."""
+        self.demand_accepted()
+        plan, answers = Plan(read_jobs(self.jobs)), {}
+        for number in range(1, plan.rounds + 1):
+            parts = self.parts if plan.needs_parts(number, answers) else [self.header]
+            found = self.outcomes(plan.job_file(number, answers), parts, f'round {number} of {plan.rounds}')
+            try:
+                reports = [read_report(out) for _, out, _ in found]
+                answers = plan.merge(number, answers, reports, [part.rows for part in parts])
+            except (NotAReport, Disagreement) as wrong:
+                raise Ended(f'scatter: the reports of the parts aren\'t those of round {number}: {wrong}', 3) from None
+        return answers
+
+    def report(self, is_json):
+        return write_report(self.answers(), is_json)
+
+
+def ended_by(outcome, part, before):
+    """The end of a run by a part that failed. A row is reported as the whole counts rows: so many lie before the part."""
+    status, _, said = outcome
+    if status < 0:
+        return Ended(f'scatter: {part}: ended by signal {-status}, again and again', 3)
+    row = ROW.fullmatch(said)
+    if row:
+        said = row[1] + b'%d' % (int(row[2]) + before) + row[3]
+    line = said.decode(errors='replace').rstrip('\n')
+    is_of_the_table = status == 1 and line.startswith('streamrun: columns: ')
+    return Ended(line if is_of_the_table else f'scatter: {part}: {line}', status)
