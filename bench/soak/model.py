@@ -16,7 +16,7 @@ import re
 import signal
 import sys
 
-sys.path.insert(0, os.path.dirname(os.path.abspath(__file__)))
+sys.path.insert(0, os.path.dirname(os.path.realpath(__file__)))
 from jobs import LONGEST_SOURCE, RefusedFile, names_of, read_jobs  # noqa: E402
 from lambdas import MAX, MIN, Fault, Refused, wrap  # noqa: E402
 

@@ -235,9 +235,11 @@ def cases():
 
 
 def examples():
-    for jobs in sorted(glob.glob(os.path.join(TOP, 'examples', '*.jobs'))):
+    for jobs in sorted(glob.glob(os.path.join(TOP, 'examples', '**', '*.jobs'), recursive=True)):
         name = jobs[:-len('.jobs')]
-        columns = read(name + '.csv') if os.path.exists(name + '.csv') else None
+        folder, file = os.path.split(name)
+        tables = [path for path in (name + '.csv', os.path.join(folder, file.split('.')[0] + '.csv')) if os.path.exists(path)]
+        columns = read(tables[0]) if tables else None
         if os.path.exists(name + '.report'):
             yield read(jobs).decode(), columns, 'text', (read(name + '.report').decode(), '', 0)
         else:
