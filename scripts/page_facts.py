@@ -1,0 +1,157 @@
+"""What scripts/pages checks of the facts on the pages, and of what is made beside them: recipes, messages, the gallery,
+lists of files, the drawings of architecture.md, the files of definitions, completions, colours of editors."""
+import glob
+import os
+import re
+import subprocess
+
+from page_commands import commands_of
+from page_text import TICKED, contracts_of, read, without_blocks
+
+
+def recipes(top):
+    """Recipes without another tool, or whose other tool prints a number that the report doesn't have."""
+    for section in re.split(r'^(?=## )', read(os.path.join(top, 'docs', 'recipes.md')), flags=re.M)[1:]:
+        title = section.splitlines()[0][3:]
+        ours, others = set(), []
+        for _, command, printed in commands_of(section):
+            numbers = re.findall(r'-?\d+', ' '.join(printed))
+            ours.update(numbers if command.startswith('streamrun') else [])
+            others += [] if command.startswith('streamrun') else numbers
+        if not ours or not others:
+            yield f'recipes.md: {title}: not in two tools'
+        for number in others:
+            if number not in ours:
+                yield f'recipes.md: {title}: {number} is in no report of this recipe'
+
+
+# Where the texts of messages stand, and how each is found there.
+MESSAGES = [
+    ('job_language/src/fault.rt', r'=> \{?\s*write!\(f, "([^"]+)"\)'),
+    ('columns/src/fault.rt', r'#\[error\("([^"]+)"\)\]'),
+    ('engine/src/running.rt', r'#\[error\("([^"]+)"\)\]'),
+    ('report/src/kind.rt', r'=> "([^"]+)"'),
+    ('streamrun/src/main.rt', r'"streamrun: ([^"]+)"'),
+]
+
+
+def messages(top):
+    """Messages that docs/faults-and-messages.md leaves out, and lines there that their files don't give."""
+    page = read(os.path.join(top, 'docs', 'faults-and-messages.md'))
+    ticked = ' | '.join(TICKED.findall(without_blocks(page)))
+    for path, pattern in MESSAGES:
+        texts = re.findall(pattern, read(os.path.join(top, 'crates', path)))
+        if not texts:
+            yield f'crates/{path}: no message is found in it'
+        for text in texts:
+            if text != '{0}' and not re.search(re.sub(r'\\?\{[^}]*\}', r'\\S+', re.escape(text)), ticked):
+                yield f'faults-and-messages.md: {text!r} of crates/{path} is not there'
+    for row in re.findall(r'^\| `((?:jobs|columns): .*)', page, re.M):
+        line = re.sub(r'\b[LCR]\b', r'\\d+', row.split('`')[0])
+        files = re.findall(r'`([\w/]+)\.jobs`', row)
+        if not files and 'read failed' not in line:
+            yield f'faults-and-messages.md: {line} is given by no file'
+        for name in files:
+            fault = os.path.join(top, 'examples', name + '.fault')
+            if not os.path.exists(fault) or not re.fullmatch(f'streamrun: {line}\n', read(fault)):
+                yield f'faults-and-messages.md: {name}.jobs does not give {line}'
+
+
+def gallery(top):
+    """Reports of examples/gallery that aren't what the tables give."""
+    yield from lines_of_script(top, 'reference/gallery/answers', '--check')
+
+
+def crates_of(top):
+    """For each crate that is no crate of tests what it stands on."""
+    found = {}
+    for line in read(os.path.join(top, 'crates.txt')).splitlines():
+        name, colon, below = line.split('#')[0].partition(':')
+        if colon and not name.split()[0].endswith('_tests'):
+            found[name.split()[0]] = below.split()
+    return found
+
+
+def floors(top):
+    """Crates that architecture.md doesn't draw, or not above what they stand on, or that crates.md doesn't list."""
+    crates = crates_of(top)
+    table = read(os.path.join(top, 'docs', 'crates.md')).split('\n## ')[1]
+    listed = re.findall(r'^\| (`.*?) \|', table, re.M)
+    for name in crates:
+        if not any(f'`{name}`' in cell for cell in listed):
+            yield f'crates.md: {name} is in no row'
+    page = read(os.path.join(top, 'docs', 'architecture.md'))
+    drawn, floor = {}, 0
+    for line in re.search(r'^## The floors.*?^```\n(.*?)^```$', page, re.M | re.S)[1].splitlines():
+        number = re.match(r' *(\d+) ', line)
+        floor = int(number[1]) if number else floor
+        drawn.update((name, floor) for name in re.findall(r'\w+', line) if name in crates)
+    for name, below in crates.items():
+        if name not in drawn:
+            yield f'architecture.md: {name} is not drawn'
+        for other in below:
+            if name in drawn and other in drawn and drawn[name] <= drawn[other]:
+                yield f'architecture.md: {name} stands on {other}, which is drawn on no lower floor'
+
+
+def paths(top):
+    """Rows of the path of a job, in architecture.md, whose file or function isn't there."""
+    page = read(os.path.join(top, 'docs', 'architecture.md'))
+    block = re.search(r'^The files and functions on that path.*?^```\n(.*?)^```$', page, re.M | re.S)[1]
+    for path, functions in re.findall(r'^ *(\w+/src/\w+\.rt) +(\w[\w:]*(?:, \w+)*)', block, re.M):
+        file = os.path.join(top, 'crates', path)
+        text = read(file) if os.path.isfile(file) else ''
+        for function in re.split(r', |::', functions):
+            if not re.search(r'\b(?:fn|struct|impl(?:<[^>]*>)?) %s\b' % function, text):
+                yield f'architecture.md: {path} has no {function}'
+    for crate, function in re.findall(r'^ *(\w+) {2,}([a-z]\w+_\w+) ', block, re.M):
+        if function not in contracts_of(top).get(crate, {}):
+            yield f'architecture.md: {crate} has no {function}'
+
+
+def specs_of(top):
+    """For each file of definitions, as imports name it: its path, its first line, and what it imports."""
+    found = {}
+    for path in glob.glob(os.path.join(top, 'crates', '*', 'specs', '**', '*.antt'), recursive=True):
+        name = os.path.relpath(path, os.path.join(top, 'crates'))[:-len('.antt')].replace(os.sep, '.')
+        text = read(path)
+        imports = re.findall(r'^(?:pub )?use Rattle\.([\w.+]+?)(?:\.\{|\.\*|$| )', text, re.M)
+        found[name] = os.path.relpath(path, top), text.splitlines()[0] if text else '', imports
+    return found
+
+
+def meanings(top):
+    """Files that a reader of the headline has to believe, and that are no Meaning files."""
+    specs = specs_of(top)
+    reached, waiting = set(), ['engine.specs.Run', *(name for name, spec in specs.items() if spec[1].startswith('-- Meaning:'))]
+    while waiting:
+        name = waiting.pop()
+        if name in specs and name not in reached:
+            reached.add(name)
+            path, first, imports = specs[name]
+            waiting += imports
+            if not first.startswith('-- Meaning:'):
+                yield f'{path}: a Meaning file imports it, and it is none'
+
+
+def lines_of_script(top, *command):
+    """What a script prints, or its status if it prints nothing and fails."""
+    run = subprocess.run([os.path.join(top, *command[0].split('/')), *command[1:]], stdout=subprocess.PIPE, text=True, check=False)
+    return run.stdout.splitlines() or ([f'status {run.returncode}'] if run.returncode else [])
+
+
+def adding(top):
+    """Lists of files of docs/adding.md that aren't the present ones."""
+    yield from lines_of_script(top, 'scripts/adding', '--check', top)
+
+
+def shell(top):
+    """Completions and options of the man page that aren't what the table of options says."""
+    yield from lines_of_script(top, 'scripts/shell_files', '--check', top)
+
+
+def editors(top):
+    """Tokens of examples/ that an editor gives another colour than the grammar says."""
+    for line in lines_of_script(top, 'scripts/editors', top):
+        if not line.startswith('editors: '):
+            yield line
