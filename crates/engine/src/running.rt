@@ -181,6 +181,7 @@ fn written<H: Threads + Wait + Sync, G: Gate + Sync>(
         ≡ report_in (form_of settings.now) (names_of (jobs_of jobs.entry.items)) (meaning_of (jobs_of jobs.entry.items))) }
 {
     let plan = Plan::of(alloc, jobs)?;
+    let plan = plan.with_slices_first(alloc)?;
     let answers = match run_jobs(rt, alloc, &plan, settings, gate) {
         Ok(answers) => answers,
         Err(RunFault::NoMemory) => return Err(NoMemory),

@@ -9,6 +9,7 @@ pub mod ItemCounts
 pub mod LentLemmas
 pub mod LinkLemmas
 pub mod MeaningLemmas
+pub mod MoveLemmas
 pub mod NameLemmas
 pub mod PartLemmas
 pub mod Positions

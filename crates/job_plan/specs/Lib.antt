@@ -4,6 +4,7 @@ pub mod Batches
 pub mod FileAnswers
 pub mod Kept
 pub mod Links
+pub mod Moves
 pub mod Names
 pub mod Parts
 pub mod Pieces

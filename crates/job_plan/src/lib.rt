@@ -12,6 +12,7 @@
 
 mod answer;
 mod array_part;
+mod faultless;
 mod folded_piece;
 mod folded_walk;
 mod folding;
@@ -23,6 +24,7 @@ mod leaves;
 mod lent_part;
 mod likely;
 mod links;
+mod moves;
 mod named;
 mod names;
 mod outcome;

@@ -52,6 +52,14 @@ pub struct Segment {
     ghost numbered: { first_stage + length stages.items < 2 ^ 32 },
 }
 
+/// Maps that a slice was moved before. They go into the segment after it.
+#[derive(Drop)]
+pub(crate) struct Held {
+    pub(crate) first_stage: u32,
+    pub(crate) stages: Vec<Stage>,
+    ghost numbered: { first_stage + length stages.items < 2 ^ 32 },
+}
+
 /// An earlier job that a job names.
 #[derive(Drop)]
 pub struct Named {

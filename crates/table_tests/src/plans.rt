@@ -68,7 +68,7 @@ fn file_of(alloc: Global, table: &str) -> Result<Vec<u8>, AllocError> {
 fn plan_of<'c>(alloc: Global, columns: &'c Columns, table: &str) -> Result<Plan<'c>, AllocError> {
     let file = file_of(alloc, table)?;
     let jobs = read_jobs(alloc, &file, columns).map_err(|_fault| AllocError)?;
-    Plan::of(alloc, jobs)
+    Plan::of(alloc, jobs)?.with_slices_first(alloc)
 }
 
 /// The answers of the jobs of a table, whose leaves enter this gate.
@@ -122,10 +122,12 @@ const LEAVES: &str = "\
 s = range(0, 1000).sum() => 1
 s = range(0, 1001).sum() => 2
 s = range(0, 4096).sum() => 8
-s = range(0, 4096).map(x -> x).skip(96).sum() => 1
+s = range(0, 4096).map(x -> x).skip(96).sum() => 4
+s = range(0, 4096).map(x -> 9 / x).skip(96).sum() => 1
 s = range(0, 4096).skip(96).sum() => 4
 s = range(0, 4096).dropWhile(x -> x < 96).skip(3000).sum() => 1
-s = range(0, 4096).map(x -> x).limit(4000).sum() => 1
+s = range(0, 4096).map(x -> 9 / (x - 4050)).limit(4000).sum() => 4
+s = range(0, 4096).filter(x -> x > 9).limit(4000).sum() => 1
 s = range(0, 4096).limit(4000).sum() => 4
 s = range(0, 4096).anyMatch(x -> x > 4000) => 8";
 

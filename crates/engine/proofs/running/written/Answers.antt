@@ -18,11 +18,11 @@ use Rattle.engine.proofs.running.written.Goals.{After-deref-2}
 
 names : (g : Over) (c : After-deref-2 g) → names_of (jobs_of c.args.jobs.items) ≡ c.deref.result.now
 names g c =
-    sym (c.deref.ensures.value ∙ c.in_ok-names.ensures ∙ ap (map (λ (p : AbstractPlan). p.name)) c.in_ok-plan.ensures.ok ∙ planned_names (jobs_of c.args.jobs.items))
+    sym (c.deref.ensures.value ∙ c.in_ok-names.ensures ∙ c.in_ok-plan-2.ensures.names ∙ ap (map (λ (p : AbstractPlan). p.name)) c.in_ok-plan.ensures.ok ∙ planned_names (jobs_of c.args.jobs.items))
 
 answers : (g : Over) (c : After-deref-2 g) → meaning_of (jobs_of c.args.jobs.items) ≡ c.deref-2.result.now
 answers g c =
-    sym (c.deref-2.ensures.value ∙ c.in-Ok.ensures ∙ ap planned_meaning c.in_ok-plan.ensures.ok ∙ planned (jobs_of c.args.jobs.items))
+    sym (c.deref-2.ensures.value ∙ c.in-Ok.ensures ∙ c.in_ok-plan-2.ensures.meaning ∙ ap planned_meaning c.in_ok-plan.ensures.ok ∙ planned (jobs_of c.args.jobs.items))
 
 pub printed-requires : goal.printed-requires
 printed-requires g c =

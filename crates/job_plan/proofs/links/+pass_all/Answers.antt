@@ -1,5 +1,4 @@
 use Rattle.std.proofs.Common.{◌≡◌, List, ◌++◌}
-use Rattle.trace.specs.Trace.{Trace}
 use Rattle.job_plan.specs.Links.{AbstractLink, AllFit, GoesOn, each_link_in}
 use Rattle.job_plan.proofs.LinkLemmas.{if_ok_map, passed_on}
 use Rattle.job_plan.proofs.links.+pass_all.Goals as goal

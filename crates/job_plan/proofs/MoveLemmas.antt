@@ -1,0 +1,428 @@
+-- Slices that come after maps alone, and plans that give the same answers.
+use Rattle.std.proofs.Common.{◌≡◌, ℕ, zero, suc, ◌+◌, ◌<◌, ℤ, pos, nat_lt, if◌then◌else◌, Bool, true, false, ◌&&◌, not, List, [], ◌∷◌, ◌++◌, length, map as each_of, take, Option, Some, None, Result, Ok, Err, length-append, append_assoc, refl, sym, ap, subst, ◌∙◌, arith}
+use Rattle.std.proofs.lemmas.Bool.{ltb-false, ltb-true, lt-ltb}
+use Rattle.std.specs.Ordering.{int_eq}
+use Rattle.lambda_expr.specs.Earlier.{Numbers}
+use Rattle.lambda_expr.specs.Operators.{binary_value, comparison_value, divided, on, unary_value}
+use Rattle.lambda_expr.specs.Term.{Long, number, parameter, reference, unary, binary, choose, Truth, literal, compare, opposite, connect, choose_truth}
+use Rattle.lambda_expr.specs.Value.{chosen, connected, long_value, truth_value}
+use Rattle.lambda_expr.specs.declared.expr.LongExpr.TheVariants as long_expr
+use Rattle.lambda_expr.specs.declared.fault.FaultKind.{FaultKind}
+use Rattle.lambda_expr.specs.declared.fault.FaultKind.TheVariants.{DivideByZero}
+use Rattle.lambda_expr.specs.declared.operator.Connective.{Connective}
+use Rattle.lambda_expr.specs.declared.operator.Connective.TheVariants as connective
+use Rattle.lambda_expr.specs.declared.operator.UnaryOperator.{UnaryOperator}
+use Rattle.lambda_expr.specs.declared.operator.UnaryOperator.TheVariants as unary_operator
+use Rattle.lambda_expr.specs.declared.operator.BinaryOperator.{BinaryOperator}
+use Rattle.lambda_expr.specs.declared.operator.BinaryOperator.TheVariants as binary_operator
+use Rattle.trace.specs.declared.item.Item.{Item}
+use Rattle.trace.specs.declared.item.End.{End}
+use Rattle.trace.specs.declared.item.End.TheVariants as end
+use Rattle.trace.specs.declared.stage.Stage.{Stage}
+use Rattle.trace.specs.declared.stage.Stage.TheVariants as stage
+use Rattle.trace.specs.Stages.{AbstractStage, map, filter, flat_map, image, pipe, stage_of, stages_of, through}
+use Rattle.trace.specs.Trace.{Trace, trace, nothing, append}
+use Rattle.slice_ops.specs.Slices.{limit, skip, take_while, drop_while, limited, skipped}
+use Rattle.job_plan.specs.declared.answer.Answer.{Answer}
+use Rattle.job_plan.specs.declared.outcome.Outcome.{Outcome}
+use Rattle.job_plan.specs.declared.outcome.Outcome.TheVariants as outcome
+use Rattle.job_plan.specs.declared.segment.Held.{Held}
+use Rattle.job_plan.specs.declared.segment.JobPlan.{JobPlan}
+use Rattle.job_plan.specs.declared.segment.Segment.{Segment}
+use Rattle.job_plan.specs.FileAnswers.{unless_unusable}
+use Rattle.job_plan.specs.Moves.{AllSamePlans, IsSamePlan, SameAnswers, all_keep, comes_first, held_in, is_divisor, is_total, is_total_by, never_faults, test_never_faults, waiting_in}
+use Rattle.job_plan.specs.Parts.{end_in, plan_in, plans_in, segment_in, segments_in}
+use Rattle.job_plan.specs.PlannedAnswers.{all_put_at, first_unusable_at, numbers_at, planned_after, planned_from, planned_meaning}
+use Rattle.job_plan.specs.Plans.{AbstractEnd, slicing, folding, finding, collecting, scanning, AbstractSegment, AbstractPlan, ended, on_outcome, outcome_of, segments_answer}
+use Rattle.job_plan.specs.Walks.{source_walk}
+use Rattle.job_plan.proofs.Elements.{drop_none, take_none}
+
+both : (a b : Bool) → (a && b) ≡ true → (a ≡ true) × (b ≡ true)
+both true b h = (refl, h)
+both false b h = absurd (let z : false ≡ true = h in cc)
+
+-- ---- expressions without a fault
+
+abbrev HasValue : Result ℤ FaultKind → Type 0
+HasValue r = (v : ℤ) × (r ≡ Ok v)
+
+abbrev HasTruth : Result Bool FaultKind → Type 0
+HasTruth r = (v : Bool) × (r ≡ Ok v)
+
+unary_there : (o : UnaryOperator) → is_total o ≡ true → (v : ℤ) → HasValue (unary_value o v)
+unary_there unary_operator.Negate h v = (_, refl)
+unary_there unary_operator.Complement h v = (_, refl)
+unary_there unary_operator.Absolute h v = (_, refl)
+unary_there unary_operator.NegateExact h v = absurd (let z : false ≡ true = h in cc)
+
+-- a number other than 0 is no value 0
+is_not_zero : (b : Long) (w x : ℤ) (env : Numbers) → is_divisor b ≡ true → long_value b x env ≡ Ok w → int_eq w (pos 0) ≡ false
+is_not_zero (number z) w x env h is = let same : z ≡ w = cc in subst (λ (y : ℤ). int_eq y (pos 0) ≡ false) same (opposite_of (int_eq z (pos 0)) h)
+  where
+    opposite_of : (b : Bool) → not b ≡ true → b ≡ false
+    opposite_of true h = absurd (let z : false ≡ true = h in cc)
+    opposite_of false h = refl
+is_not_zero (parameter n) w x env h is = absurd (let z : false ≡ true = h in cc)
+is_not_zero (reference name) w x env h is = absurd (let z : false ≡ true = h in cc)
+is_not_zero (unary o a) w x env h is = absurd (let z : false ≡ true = h in cc)
+is_not_zero (binary o a b) w x env h is = absurd (let z : false ≡ true = h in cc)
+is_not_zero (choose c a b) w x env h is = absurd (let z : false ≡ true = h in cc)
+
+divided_there : (y z : ℤ) → int_eq y (pos 0) ≡ false → HasValue (divided y z)
+divided_there y z h = (z, ap (λ (b : Bool). if b then Err DivideByZero else Ok z) h)
+
+binary_there : (o : BinaryOperator) (b : Long) (v w x : ℤ) (env : Numbers) → is_total_by o b ≡ true → long_value b x env ≡ Ok w → HasValue (binary_value o v w)
+binary_there binary_operator.Add b v w x env h is = (_, refl)
+binary_there binary_operator.Subtract b v w x env h is = (_, refl)
+binary_there binary_operator.Multiply b v w x env h is = (_, refl)
+binary_there binary_operator.Divide b v w x env h is = divided_there w _ (is_not_zero b w x env h is)
+binary_there binary_operator.Remainder b v w x env h is = divided_there w _ (is_not_zero b w x env h is)
+binary_there binary_operator.ShiftLeft b v w x env h is = (_, refl)
+binary_there binary_operator.ShiftRight b v w x env h is = (_, refl)
+binary_there binary_operator.ShiftRightUnsigned b v w x env h is = (_, refl)
+binary_there binary_operator.And b v w x env h is = (_, refl)
+binary_there binary_operator.Xor b v w x env h is = (_, refl)
+binary_there binary_operator.Or b v w x env h is = (_, refl)
+binary_there binary_operator.Min b v w x env h is = (_, refl)
+binary_there binary_operator.Max b v w x env h is = (_, refl)
+binary_there binary_operator.FloorDivide b v w x env h is = divided_there w _ (is_not_zero b w x env h is)
+binary_there binary_operator.FloorRemainder b v w x env h is = divided_there w _ (is_not_zero b w x env h is)
+binary_there binary_operator.AddExact b v w x env h is = absurd (let z : false ≡ true = h in cc)
+binary_there binary_operator.SubtractExact b v w x env h is = absurd (let z : false ≡ true = h in cc)
+binary_there binary_operator.MultiplyExact b v w x env h is = absurd (let z : false ≡ true = h in cc)
+
+-- an expression that can't have a fault has a value
+mutual
+  value_there : (e : Long) → never_faults e ≡ true → (x : ℤ) (env : Numbers) → HasValue (long_value e x env)
+  value_there (number z) h x env = (_, refl)
+  value_there (parameter n) h x env = (_, refl)
+  value_there (reference name) h x env = (_, refl)
+  value_there (unary o a) h x env =
+      let p = both (is_total o) (never_faults a) h in
+      let v = value_there a p.1 x env in
+      let w = unary_there o p.0 v.0 in
+      (w.0, ap (λ (r : Result ℤ FaultKind). on r (λ n. unary_value o n)) v.1 ∙ w.1)
+  value_there (binary o a b) h x env =
+      let p = both (is_total_by o b) (never_faults a && never_faults b) h in
+      let q = both (never_faults a) (never_faults b) p.1 in
+      let v = value_there a q.0 x env in
+      let w = value_there b q.1 x env in
+      let u = binary_there o b v.0 w.0 x env p.0 w.1 in (
+        u.0,
+        ap (λ (r : Result ℤ FaultKind). on r (λ n. on (long_value b x env) (λ m. binary_value o n m))) v.1
+            ∙ ap (λ (r : Result ℤ FaultKind). on r (λ m. binary_value o v.0 m)) w.1 ∙ u.1,
+      )
+  value_there (choose c a b) h x env =
+      let p = both (test_never_faults c) (never_faults a && never_faults b) h in
+      let q = both (never_faults a) (never_faults b) p.1 in
+      let t = test_there c p.0 x env in
+      let u = chosen_there t.0 (long_value a x env) (long_value b x env) (value_there a q.0 x env) (value_there b q.1 x env) in
+      (u.0, ap (λ (r : Result Bool FaultKind). on r (λ s. chosen s (long_value a x env) (long_value b x env))) t.1 ∙ u.1)
+    where
+      chosen_there : (s : Bool) (r k : Result ℤ FaultKind) → HasValue r → HasValue k → HasValue (chosen s r k)
+      chosen_there true r k f g = f
+      chosen_there false r k f g = g
+
+  test_there : (e : Truth) → test_never_faults e ≡ true → (x : ℤ) (env : Numbers) → HasTruth (truth_value e x env)
+  test_there (literal b) h x env = (b, refl)
+  test_there (compare o a b) h x env =
+      let q = both (never_faults a) (never_faults b) h in
+      let v = value_there a q.0 x env in
+      let w = value_there b q.1 x env in (
+        comparison_value o v.0 w.0,
+        ap (λ (r : Result ℤ FaultKind). on r (λ n. on (long_value b x env) (λ m. Ok (comparison_value o n m)))) v.1
+            ∙ ap (λ (r : Result ℤ FaultKind). on r (λ m. Ok (comparison_value o v.0 m))) w.1,
+      )
+  test_there (opposite a) h x env =
+      let v = test_there a h x env in
+      (not v.0, ap (λ (r : Result Bool FaultKind). on r (λ p. Ok (not p))) v.1)
+  test_there (connect o a b) h x env =
+      let q = both (test_never_faults a) (test_never_faults b) h in
+      let v = test_there a q.0 x env in
+      let u = connected_there o v.0 (truth_value b x env) (test_there b q.1 x env) in
+      (u.0, ap (λ (r : Result Bool FaultKind). on r (λ p. connected o p (truth_value b x env))) v.1 ∙ u.1)
+    where
+      connected_there : (o : Connective) (p : Bool) (r : Result Bool FaultKind) → HasTruth r → HasTruth (connected o p r)
+      connected_there connective.And true r f = f
+      connected_there connective.And false r f = (false, refl)
+      connected_there connective.Or true r f = (true, refl)
+      connected_there connective.Or false r f = f
+  test_there (choose_truth c a b) h x env =
+      let p = both (test_never_faults c) (test_never_faults a && test_never_faults b) h in
+      let q = both (test_never_faults a) (test_never_faults b) p.1 in
+      let t = test_there c p.0 x env in
+      let u = chosen_there t.0 (truth_value a x env) (truth_value b x env) (test_there a q.0 x env) (test_there b q.1 x env) in
+      (u.0, ap (λ (r : Result Bool FaultKind). on r (λ s. chosen s (truth_value a x env) (truth_value b x env))) t.1 ∙ u.1)
+    where
+      chosen_there : (s : Bool) (r k : Result Bool FaultKind) → HasTruth r → HasTruth k → HasTruth (chosen s r k)
+      chosen_there true r k f g = f
+      chosen_there false r k f g = g
+
+-- ---- `limit` and `skip` of a walk through maps
+
+pub skip_none : (t : Trace) → skipped 0 t ≡ t
+skip_none t = ap (λ xs. trace xs t.ending) (drop_none t.items)
+
+abbrev first_of : Item → Trace → Trace
+first_of x t = append (trace (x ∷ []) end.Done) t
+
+limited_none : (t : Trace) → limited 0 t ≡ nothing
+limited_none t = by (nat_lt (length t.items) 0) refl
+  where
+    by : (b : Bool) → nat_lt (length t.items) 0 ≡ b → (if b then t else trace (take 0 t.items) end.Done) ≡ nothing
+    by true h = let l = ltb-true (length t.items) 0 h in absurd (omega (arith, l))
+    by false h = ap (λ xs. trace xs end.Done) (take_none t.items)
+
+limited_end : (n : ℕ) (e : End) → limited (suc n) (trace [] e) ≡ trace [] e
+limited_end n e = ap (λ (b : Bool). if b then trace [] e else trace (take (suc n) []) end.Done) (lt-ltb 0 (suc n) (omega arith))
+
+limited_next : (n : ℕ) (x : Item) (t : Trace) → limited (suc n) (first_of x t) ≡ first_of x (limited n t)
+limited_next n x t = by (nat_lt (length t.items) n) refl (nat_lt (suc (length t.items)) (suc n)) refl
+  where
+    by : (b : Bool) → nat_lt (length t.items) n ≡ b → (c : Bool) → nat_lt (suc (length t.items)) (suc n) ≡ c
+        → (if c then first_of x t else trace (take (suc n) (x ∷ t.items)) end.Done) ≡ first_of x (if b then t else trace (take n t.items) end.Done)
+    by true h true k = refl
+    by false h false k = refl
+    by true h false k = let l = ltb-true (length t.items) n h in let m = ltb-false (suc (length t.items)) (suc n) k in absurd (omega (arith, l, m))
+    by false h true k = let l = ltb-false (length t.items) n h in let m = ltb-true (suc (length t.items)) (suc n) k in absurd (omega (arith, l, m))
+
+limit_before_map : (m : ℕ) (e : Long) (env : Numbers) (n : ℕ) (xs : List Item) (ending : End) → limited n (through m (map e) env (trace xs ending)) ≡ through m (map e) env (limited n (trace xs ending))
+limit_before_map m e env zero xs ending = limited_none (through m (map e) env (trace xs ending)) ∙ sym (ap (through m (map e) env) (limited_none (trace xs ending)))
+limit_before_map m e env (suc n) [] ending = limited_end n ending ∙ sym (ap (through m (map e) env) (limited_end n ending))
+limit_before_map m e env (suc n) (x ∷ xs) ending =
+    by (long_value e x.value env) (limit_before_map m e env n xs ending) ∙ sym (ap (through m (map e) env) (limited_next n x (trace xs ending)))
+  where
+    by : (r : Result ℤ FaultKind) → limited n (through m (map e) env (trace xs ending)) ≡ through m (map e) env (limited n (trace xs ending))
+        → limited (suc n) (append (image m x r) (through m (map e) env (trace xs ending))) ≡ append (image m x r) (through m (map e) env (limited n (trace xs ending)))
+    by (Ok v) later = limited_next n (record { origin = x.origin; value = v }) (through m (map e) env (trace xs ending)) ∙ ap (first_of (record { origin = x.origin; value = v })) later
+    by (Err k) later = limited_end n _
+
+skip_before_map : (m : ℕ) (e : Long) (env : Numbers) → never_faults e ≡ true → (n : ℕ) (xs : List Item) (ending : End)
+    → skipped n (through m (map e) env (trace xs ending)) ≡ through m (map e) env (skipped n (trace xs ending))
+skip_before_map m e env h zero xs ending = skip_none (through m (map e) env (trace xs ending)) ∙ sym (ap (through m (map e) env) (skip_none (trace xs ending)))
+skip_before_map m e env h (suc n) [] ending = refl
+skip_before_map m e env h (suc n) (x ∷ xs) ending =
+    let v = value_there e h x.value env in
+    ap (λ (r : Result ℤ FaultKind). skipped (suc n) (append (image m x r) (through m (map e) env (trace xs ending)))) v.1
+    ∙ skip_before_map m e env h n xs ending
+
+limit_before_maps : (m : ℕ) (gs : List AbstractStage) → all_keep false gs ≡ true → (n : ℕ) (env : Numbers) (t : Trace) → limited n (pipe m gs env t) ≡ pipe m gs env (limited n t)
+limit_before_maps m [] h n env t = refl
+limit_before_maps m (map e ∷ gs) h n env t =
+    let p = both true (all_keep false gs) h in
+    limit_before_maps (suc m) gs p.1 n env (through m (map e) env t) ∙ ap (pipe (suc m) gs env) (limit_before_map m e env n t.items t.ending)
+limit_before_maps m (filter p ∷ gs) h n env t = absurd (let z : false ≡ true = h in cc)
+limit_before_maps m (flat_map g ∷ gs) h n env t = absurd (let z : false ≡ true = h in cc)
+
+skip_before_maps : (m : ℕ) (gs : List AbstractStage) → all_keep true gs ≡ true → (n : ℕ) (env : Numbers) (t : Trace) → skipped n (pipe m gs env t) ≡ pipe m gs env (skipped n t)
+skip_before_maps m [] h n env t = refl
+skip_before_maps m (map e ∷ gs) h n env t =
+    let p = both (never_faults e) (all_keep true gs) h in
+    skip_before_maps (suc m) gs p.1 n env (through m (map e) env t) ∙ ap (pipe (suc m) gs env) (skip_before_map m e env p.0 n t.items t.ending)
+skip_before_maps m (filter p ∷ gs) h n env t = absurd (let z : false ≡ true = h in cc)
+skip_before_maps m (flat_map g ∷ gs) h n env t = absurd (let z : false ≡ true = h in cc)
+
+-- ---- segments
+
+-- the same segments before others
+pub same_after : (front ss us : List AbstractSegment) → SameAnswers ss us → SameAnswers (front ++ ss) (front ++ us)
+same_after [] ss us h = h
+same_after (s ∷ front) ss us h = λ env t. by (outcome_of s env t) env (λ u. same_after front ss us h env u)
+  where
+    by : (o : Outcome) (env : Numbers) → ((u : Trace) → segments_answer (front ++ ss) env u ≡ segments_answer (front ++ us) env u) → on_outcome o (segments_answer (front ++ ss) env) ≡ on_outcome o (segments_answer (front ++ us) env)
+    by (outcome.Source u) env later = later u
+    by (outcome.Answer a) env later = refl
+
+-- a slice before maps, which then end in `skip(0)`
+pub slice_first : (m : ℕ) (gs : List AbstractStage) (e : AbstractEnd) (later : List AbstractSegment) → comes_first gs e ≡ true
+    → SameAnswers (record { first = m; stages = []; ending = e } ∷ record { first = m; stages = gs; ending = slicing (skip 0) } ∷ later) (record { first = m; stages = gs; ending = e } ∷ later)
+slice_first m gs (slicing (limit n)) later h = λ env t. ap (segments_answer later env) (skip_none (pipe m gs env (limited n t)) ∙ sym (limit_before_maps m gs h n env t))
+slice_first m gs (slicing (skip n)) later h = λ env t. ap (segments_answer later env) (skip_none (pipe m gs env (skipped n t)) ∙ sym (skip_before_maps m gs h n env t))
+slice_first m gs (slicing (take_while p)) later h = absurd (let z : false ≡ true = h in cc)
+slice_first m gs (slicing (drop_while p)) later h = absurd (let z : false ≡ true = h in cc)
+slice_first m gs (folding f a counts) later h = absurd (let z : false ≡ true = h in cc)
+slice_first m gs (finding d) later h = absurd (let z : false ≡ true = h in cc)
+slice_first m gs collecting later h = absurd (let z : false ≡ true = h in cc)
+slice_first m gs (scanning f r) later h = absurd (let z : false ≡ true = h in cc)
+
+-- maps in two parts
+pipe_joined : (n : ℕ) (gs hs : List AbstractStage) (env : Numbers) (t : Trace) → pipe n (gs ++ hs) env t ≡ pipe (n + length gs) hs env (pipe n gs env t)
+pipe_joined n [] hs env t = let e : n ≡ n + 0 = omega arith in ap (λ (m : ℕ). pipe m hs env t) e
+pipe_joined n (g ∷ gs) hs env t =
+    let e : suc n + length gs ≡ n + suc (length gs) = omega arith in
+    pipe_joined (suc n) gs hs env (through n g env t) ∙ ap (λ (m : ℕ). pipe m hs env (pipe (suc n) gs env (through n g env t))) e
+
+-- the map that changes nothing
+same_items : (n : ℕ) (env : Numbers) (xs : List Item) (e : End) → through n (map (parameter 0)) env (trace xs e) ≡ trace xs e
+same_items n env [] e = refl
+same_items n env (x ∷ xs) e = ap (first_of x) (same_items n env xs e)
+
+pub joined_segments : (f k : ℕ) (gs hs : List AbstractStage) (e : AbstractEnd) (later : List AbstractSegment) → k ≡ suc (f + length gs)
+    → SameAnswers (record { first = f; stages = gs ++ map (parameter 0) ∷ hs; ending = e } ∷ later)
+    (record { first = f; stages = gs; ending = slicing (skip 0) } ∷ record { first = k; stages = hs; ending = e } ∷ later)
+joined_segments f k gs hs e later is = λ env t.
+    let u : Trace = pipe f gs env t in
+    let l = length-append gs (map (parameter 0) ∷ hs) in
+    let last : f + length (gs ++ map (parameter 0) ∷ hs) ≡ k + length hs = omega (arith, l, is) in
+    let walk : pipe f (gs ++ map (parameter 0) ∷ hs) env t ≡ pipe k hs env (skipped 0 u)
+    = pipe_joined f gs (map (parameter 0) ∷ hs) env t ∙ ap (pipe (suc (f + length gs)) hs env) (same_items (f + length gs) env u.items u.ending)
+    ∙ (λ i. pipe (sym is i) hs env (sym (skip_none u) i)) in
+    λ i. on_outcome (ended e (last i) env (walk i)) (segments_answer later env)
+
+-- stages in two parts
+stages_joined : (gs hs : List Stage) → stages_of (gs ++ hs) ≡ stages_of gs ++ stages_of hs
+stages_joined [] hs = refl
+stages_joined (g ∷ gs) hs = ap (λ (xs : List AbstractStage). stage_of g ∷ xs) (stages_joined gs hs)
+
+length_stages : (gs : List Stage) → length (stages_of gs) ≡ length gs
+length_stages [] = refl
+length_stages (g ∷ gs) = ap suc (length_stages gs)
+
+-- one segment of two
+pub one_of_two : (f k : ℕ) (gs hs zs : List Stage) (e : AbstractEnd) (later : List AbstractSegment) → zs ≡ gs ++ stage.Map (long_expr.Parameter 0) ∷ hs → k ≡ f + length gs + 1
+    → SameAnswers (record { first = f; stages = stages_of zs; ending = e } ∷ later)
+    (record { first = f; stages = stages_of gs; ending = slicing (skip 0) } ∷ record { first = k; stages = stages_of hs; ending = e } ∷ later)
+one_of_two f k gs hs zs e later z is = λ env t.
+    let l = length_stages gs in
+    let number : k ≡ suc (f + length (stages_of gs)) = omega (arith, l, is) in
+    let all : stages_of zs ≡ stages_of gs ++ map (parameter 0) ∷ stages_of hs = ap stages_of z ∙ stages_joined gs (stage.Map (long_expr.Parameter 0) ∷ hs) in
+    (λ i. segments_answer (record { first = f; stages = all i; ending = e } ∷ later) env t)
+    ∙ joined_segments f k (stages_of gs) (stages_of hs) e later number env t
+
+-- its numbers fit
+pub numbered_joined : (f k : ℕ) (gs hs zs : List Stage) → zs ≡ gs ++ stage.Map (long_expr.Parameter 0) ∷ hs → k ≡ f + length gs + 1 → k + length hs < 4294967296 → f + length zs < 4294967296
+numbered_joined f k gs hs zs z is fits =
+    let a = length-append gs (stage.Map (long_expr.Parameter 0) ∷ hs) in
+    let d : length zs ≡ length (gs ++ stage.Map (long_expr.Parameter 0) ∷ hs) = ap length z in
+    omega (arith, a, d, is, fits)
+
+-- the list after one push and one append
+pub pushed_and_appended : (gs ys hs zs : List Stage) (g : Stage) → ys ≡ gs ++ g ∷ [] → zs ≡ ys ++ hs → zs ≡ gs ++ g ∷ hs
+pushed_and_appended gs ys hs zs g y z = z ∙ ap (λ (xs : List Stage). xs ++ hs) y ∙ append_assoc gs (g ∷ []) hs
+
+pub same_segments : (ss us : List AbstractSegment) → ss ≡ us → SameAnswers ss us
+same_segments ss us e = λ env t. ap (λ (xs : List AbstractSegment). segments_answer xs env t) e
+
+pub then_same : (ss us vs : List AbstractSegment) → SameAnswers ss us → SameAnswers us vs → SameAnswers ss vs
+then_same ss us vs h k = λ env t. h env t ∙ k env t
+
+-- a segment, or several in its place, after others
+pub same_held : (front none held some many later : List AbstractSegment) → none ≡ [] → SameAnswers (some ++ later) (held ++ (many ++ later)) → SameAnswers ((front ++ none) ++ (some ++ later)) ((front ++ held) ++ (many ++ later))
+same_held front none held some many later e h = λ env t.
+    ap (λ (xs : List AbstractSegment). segments_answer xs env t) (ap (λ (ns : List AbstractSegment). (front ++ ns) ++ (some ++ later)) e ∙ append_assoc front [] (some ++ later))
+    ∙ same_after front (some ++ later) (held ++ (many ++ later)) h env t
+    ∙ sym (ap (λ (xs : List AbstractSegment). segments_answer xs env t) (append_assoc front held (many ++ later)))
+
+-- a segment of the program more
+pub segments_joined : (ss us : List Segment) → segments_in (ss ++ us) ≡ segments_in ss ++ segments_in us
+segments_joined [] us = refl
+segments_joined (s ∷ ss) us = ap (λ (xs : List AbstractSegment). segment_in s ∷ xs) (segments_joined ss us)
+
+-- one more segment of the program
+segments_more : (ss us : List Segment) (s : Segment) → us ≡ ss ++ s ∷ [] → segments_in us ≡ segments_in ss ++ segment_in s ∷ []
+segments_more ss us s e = ap segments_in e ∙ segments_joined ss (s ∷ [])
+
+-- a slice is added, and the maps before it wait
+pub slice_held : (ss us : List Segment) (s : Segment) (h : Option Held) (gs : List AbstractStage) (later : List AbstractSegment) → us ≡ ss ++ s ∷ [] → s.stages.items ≡ [] → h ≡ None → comes_first gs (end_in s.end) ≡ true
+    → SameAnswers ((segments_in us ++ record { first = s.first_stage; stages = gs; ending = slicing (skip 0) } ∷ []) ++ later) ((segments_in ss ++ held_in h) ++ record { first = s.first_stage; stages = gs; ending = end_in s.end } ∷ later)
+slice_held ss us s h gs later u empty none first = λ env t.
+    let front : List AbstractSegment = segments_in ss in
+    let slice : AbstractSegment = record { first = s.first_stage; stages = []; ending = end_in s.end } in
+    let maps : AbstractSegment = record { first = s.first_stage; stages = gs; ending = slicing (skip 0) } in
+    let both_there : AbstractSegment = record { first = s.first_stage; stages = gs; ending = end_in s.end } in
+    let more : segments_in us ≡ front ++ slice ∷ [] = segments_more ss us s u ∙ ap (λ (xs : List Stage). front ++ record { first = s.first_stage; stages = stages_of xs; ending = end_in s.end } ∷ []) empty in
+    ap (λ (xs : List AbstractSegment). segments_answer ((xs ++ maps ∷ []) ++ later) env t) more
+    ∙ ap (λ (xs : List AbstractSegment). segments_answer xs env t) (ap (λ (xs : List AbstractSegment). xs ++ later) (append_assoc front (slice ∷ []) (maps ∷ [])) ∙ append_assoc front (slice ∷ maps ∷ []) later)
+    ∙ same_after front (slice ∷ maps ∷ later) (both_there ∷ later) (slice_first s.first_stage gs (end_in s.end) later first) env t
+    ∙ sym (ap (λ (xs : List AbstractSegment). segments_answer xs env t) (ap (λ (m : Option Held). (front ++ held_in m) ++ both_there ∷ later) none ∙ append_assoc front [] (both_there ∷ later)))
+
+-- a segment is added, and no maps wait
+pub segment_added : (ss us : List Segment) (s : Segment) (g : AbstractSegment) (h k : Option Held) (later : List AbstractSegment) → us ≡ ss ++ s ∷ [] → segment_in s ≡ g → h ≡ None → k ≡ None
+    → SameAnswers ((segments_in us ++ held_in k) ++ later) ((segments_in ss ++ held_in h) ++ g ∷ later)
+segment_added ss us s g h k later u is none gone = λ env t.
+    let front : List AbstractSegment = segments_in ss in
+    ap (λ (xs : List AbstractSegment). segments_answer xs env t)
+    ((λ i. ((segments_more ss us s u ∙ ap (λ (x : AbstractSegment). front ++ x ∷ []) is) i ++ held_in (gone i)) ++ later)
+    ∙ ap (λ (xs : List AbstractSegment). xs ++ later) (append_assoc front (g ∷ []) []) ∙ append_assoc front (g ∷ []) later
+    ∙ sym (ap (λ (m : Option Held). (front ++ held_in m) ++ g ∷ later) none ∙ append_assoc front [] (g ∷ later)))
+
+-- maps that waited went into the segment after them
+pub held_joined : (ss : List Segment) (n h : Option Held) (w : Held) (one next : AbstractSegment) (later : List AbstractSegment) → n ≡ None → h ≡ Some w → SameAnswers (one ∷ later) (waiting_in w ∷ next ∷ later)
+    → SameAnswers ((segments_in ss ++ held_in n) ++ one ∷ later) ((segments_in ss ++ held_in h) ++ next ∷ later)
+held_joined ss n h w one next later gone there same = λ env t.
+    let front : List AbstractSegment = segments_in ss in
+    ap (λ (m : Option Held). segments_answer ((front ++ held_in m) ++ one ∷ later) env t) gone
+    ∙ same_held front [] (waiting_in w ∷ []) (one ∷ []) (next ∷ []) later refl same env t
+    ∙ ap (λ (m : Option Held). segments_answer ((front ++ held_in m) ++ next ∷ later) env t) (sym there)
+
+-- or before it
+pub held_pushed : (ss us : List Segment) (s : Segment) (n h : Option Held) (w : Held) (next : AbstractSegment) (later : List AbstractSegment) → us ≡ ss ++ s ∷ [] → segment_in s ≡ waiting_in w → n ≡ None → h ≡ Some w
+    → SameAnswers ((segments_in us ++ held_in n) ++ next ∷ later) ((segments_in ss ++ held_in h) ++ next ∷ later)
+held_pushed ss us s n h w next later u is gone there = λ env t.
+    let front : List AbstractSegment = segments_in ss in
+    ap (λ (xs : List AbstractSegment). segments_answer (xs ++ next ∷ later) env t)
+    ((λ i. (segments_more ss us s u ∙ ap (λ (x : AbstractSegment). front ++ x ∷ []) is) i ++ held_in (gone i))
+    ∙ append_assoc front (waiting_in w ∷ []) [] ∙ ap (λ (m : Option Held). front ++ held_in m) (sym there))
+
+-- all of them
+pub all_moved : (ss us : List Segment) (s : Segment) (h : Option Held) (w : Held) → us ≡ ss ++ s ∷ [] → segment_in s ≡ waiting_in w → h ≡ Some w → segments_in us ≡ segments_in ss ++ held_in h
+all_moved ss us s h w u is there = segments_more ss us s u ∙ ap (λ (x : AbstractSegment). segments_in ss ++ x ∷ []) is ∙ ap (λ (m : Option Held). segments_in ss ++ held_in m) (sym there)
+
+-- ---- plans
+
+same_answer : (before : List Answer) (p q : AbstractPlan) → IsSamePlan p q → planned_after before p ≡ planned_after before q
+same_answer before p q h =
+    (λ i. unless_unusable (first_unusable_at before (h.named i)) (segments_answer p.segments (numbers_at before (h.named i)) (source_walk (all_put_at before (h.named i) (h.sources i)))))
+    ∙ ap (unless_unusable (first_unusable_at before q.named)) (h.answers (numbers_at before q.named) (source_walk (all_put_at before q.named q.sources)))
+
+same_from : (ps qs : List AbstractPlan) → AllSamePlans ps qs → (before : List Answer) → planned_from before ps ≡ planned_from before qs
+same_from [] [] h before = refl
+same_from [] (q ∷ qs) h before = absurd h
+same_from (p ∷ ps) [] h before = absurd h
+same_from (p ∷ ps) (q ∷ qs) h before =
+    ap (λ (a : Answer). a ∷ planned_from (before ++ a ∷ []) ps) (same_answer before p q h.0)
+    ∙ ap (λ (answers : List Answer). planned_after before q ∷ answers) (same_from ps qs h.1 (before ++ planned_after before q ∷ []))
+
+pub same_meaning : (ps qs : List AbstractPlan) → AllSamePlans ps qs → planned_meaning ps ≡ planned_meaning qs
+same_meaning ps qs h = same_from ps qs h []
+
+pub same_names : (ps qs : List AbstractPlan) → AllSamePlans ps qs → each_of (λ (p : AbstractPlan). p.name) ps ≡ each_of (λ (p : AbstractPlan). p.name) qs
+same_names [] [] h = refl
+same_names [] (q ∷ qs) h = absurd h
+same_names (p ∷ ps) [] h = absurd h
+same_names (p ∷ ps) (q ∷ qs) h = λ i. h.0.name i ∷ same_names ps qs h.1 i
+
+pub all_same : (ps : List AbstractPlan) → AllSamePlans ps ps
+all_same [] = tt
+all_same (p ∷ ps) = (record { name = refl; named = refl; sources = refl; answers = λ env t. refl }, all_same ps)
+
+-- a plan in place of the same one
+pub same_plan_later : (ps rs qs : List AbstractPlan) (p q : AbstractPlan) → AllSamePlans (ps ++ q ∷ rs) qs → IsSamePlan p q → AllSamePlans ((ps ++ p ∷ []) ++ rs) qs
+same_plan_later [] rs [] p q h k = absurd h
+same_plan_later [] rs (x ∷ qs) p q h k =
+    (record { name = k.name ∙ h.0.name; named = k.named ∙ h.0.named; sources = k.sources ∙ h.0.sources; answers = λ env t. k.answers env t ∙ h.0.answers env t }, h.1)
+same_plan_later (y ∷ ps) rs [] p q h k = absurd h
+same_plan_later (y ∷ ps) rs (x ∷ qs) p q h k = (h.0, same_plan_later ps rs qs p q h.1 k)
+
+plans_snoc : (js : List JobPlan) (j : JobPlan) → plans_in (js ++ j ∷ []) ≡ plans_in js ++ plan_in j ∷ []
+plans_snoc [] j = refl
+plans_snoc (k ∷ js) j = ap (λ (ps : List AbstractPlan). plan_in k ∷ ps) (plans_snoc js j)
+
+-- plans that are moved one after the other
+pub none_moved : (js ks ls : List JobPlan) → js ≡ [] → ks ≡ ls → AllSamePlans (plans_in js ++ plans_in ks) (plans_in ls)
+none_moved js ks ls none all =
+    subst (λ (xs : List JobPlan). AllSamePlans (plans_in xs ++ plans_in ks) (plans_in ls)) (sym none) (subst (λ (xs : List JobPlan). AllSamePlans (plans_in ks) (plans_in xs)) all (all_same (plans_in ks)))
+
+pub one_moved : (js new rest left : List JobPlan) (moved job : JobPlan) (qs : List AbstractPlan) → new ≡ js ++ moved ∷ [] → rest ≡ job ∷ left → IsSamePlan (plan_in moved) (plan_in job)
+    → AllSamePlans (plans_in js ++ plans_in rest) qs → AllSamePlans (plans_in new ++ plans_in left) qs
+one_moved js new rest left moved job qs pushed taken same before =
+    subst (λ (ps : List AbstractPlan). AllSamePlans (ps ++ plans_in left) qs) (sym (ap plans_in pushed ∙ plans_snoc js moved))
+    (same_plan_later (plans_in js) (plans_in left) qs (plan_in moved) (plan_in job) (subst (λ (xs : List JobPlan). AllSamePlans (plans_in js ++ plans_in xs) qs) taken before) same)
+
+pub all_were_moved : (js rest ks : List JobPlan) → rest ≡ [] → AllSamePlans (plans_in js ++ plans_in rest) (plans_in ks) → AllSamePlans (plans_in js) (plans_in ks)
+all_were_moved js rest ks none h =
+    subst (λ (ps : List AbstractPlan). AllSamePlans ps (plans_in ks)) (no_more (plans_in js)) (subst (λ (xs : List JobPlan). AllSamePlans (plans_in js ++ plans_in xs) (plans_in ks)) none h)
+  where
+    no_more : (ps : List AbstractPlan) → ps ++ [] ≡ ps
+    no_more [] = refl
+    no_more (p ∷ ps) = ap (λ (qs : List AbstractPlan). p ∷ qs) (no_more ps)

@@ -1,0 +1,125 @@
+-- Condition: slices that come after maps alone, and plans that give the same answers.
+use Rattle.std.specs.Prelude.{◌≡◌, pos, Bool, true, false, ◌&&◌, not, List, [], ◌∷◌, ◌++◌, Option, Some, None}
+use Rattle.std.specs.Ordering.{int_eq}
+use Rattle.lambda_expr.specs.Earlier.{Numbers}
+use Rattle.lambda_expr.specs.Term.{Long, number, parameter, reference, unary, binary, choose, Truth, literal, compare, opposite, connect, choose_truth}
+use Rattle.lambda_expr.specs.declared.operator.UnaryOperator.{UnaryOperator}
+use Rattle.lambda_expr.specs.declared.operator.UnaryOperator.TheVariants as unary_operator
+use Rattle.lambda_expr.specs.declared.operator.BinaryOperator.{BinaryOperator}
+use Rattle.lambda_expr.specs.declared.operator.BinaryOperator.TheVariants as binary_operator
+use Rattle.trace.specs.Stages.{AbstractStage, map, filter, flat_map, stages_of}
+use Rattle.trace.specs.Trace.{Trace}
+use Rattle.slice_ops.specs.Slices.{AbstractSlice, limit, skip, take_while, drop_while}
+use Rattle.job_plan.specs.declared.moves.Moved.{Moved}
+use Rattle.job_plan.specs.declared.segment.Held.{Held}
+use Rattle.job_plan.specs.Parts.{segments_in}
+use Rattle.job_plan.specs.Plans.{AbstractEnd, slicing, folding, finding, collecting, scanning, AbstractSegment, AbstractPlan, segments_answer}
+
+-- whether an operator has a value at every operand
+abbrev pub is_total : UnaryOperator → Bool
+is_total unary_operator.Negate = true
+is_total unary_operator.Complement = true
+is_total unary_operator.Absolute = true
+is_total unary_operator.NegateExact = false
+
+-- whether an expression is a number other than 0
+abbrev pub is_divisor : Long → Bool
+is_divisor (number z) = not (int_eq z (pos 0))
+is_divisor (parameter n) = false
+is_divisor (reference name) = false
+is_divisor (unary o a) = false
+is_divisor (binary o a b) = false
+is_divisor (choose c a b) = false
+
+-- whether an operator has a value at every left operand, with this right one
+abbrev pub is_total_by : BinaryOperator → Long → Bool
+is_total_by binary_operator.Add b = true
+is_total_by binary_operator.Subtract b = true
+is_total_by binary_operator.Multiply b = true
+is_total_by binary_operator.Divide b = is_divisor b
+is_total_by binary_operator.Remainder b = is_divisor b
+is_total_by binary_operator.ShiftLeft b = true
+is_total_by binary_operator.ShiftRight b = true
+is_total_by binary_operator.ShiftRightUnsigned b = true
+is_total_by binary_operator.And b = true
+is_total_by binary_operator.Xor b = true
+is_total_by binary_operator.Or b = true
+is_total_by binary_operator.Min b = true
+is_total_by binary_operator.Max b = true
+is_total_by binary_operator.FloorDivide b = is_divisor b
+is_total_by binary_operator.FloorRemainder b = is_divisor b
+is_total_by binary_operator.AddExact b = false
+is_total_by binary_operator.SubtractExact b = false
+is_total_by binary_operator.MultiplyExact b = false
+
+-- whether no operator of an expression, or of a test, can have a fault
+abbrev mutual
+  pub never_faults : Long → Bool
+  never_faults (number z) = true
+  never_faults (parameter n) = true
+  never_faults (reference name) = true
+  never_faults (unary o a) = is_total o && never_faults a
+  never_faults (binary o a b) = is_total_by o b && (never_faults a && never_faults b)
+  never_faults (choose c a b) = test_never_faults c && (never_faults a && never_faults b)
+
+  pub test_never_faults : Truth → Bool
+  test_never_faults (literal b) = true
+  test_never_faults (compare o a b) = never_faults a && never_faults b
+  test_never_faults (opposite a) = test_never_faults a
+  test_never_faults (connect o a b) = test_never_faults a && test_never_faults b
+  test_never_faults (choose_truth c a b) = test_never_faults c && (test_never_faults a && test_never_faults b)
+
+-- whether stages are all maps; if asked for, maps that can't have a fault
+abbrev pub stage_keeps : Bool → AbstractStage → Bool
+stage_keeps false (map e) = true
+stage_keeps true (map e) = never_faults e
+stage_keeps faultless (filter p) = false
+stage_keeps faultless (flat_map g) = false
+
+abbrev pub all_keep : Bool → List AbstractStage → Bool
+all_keep faultless [] = true
+all_keep faultless (g ∷ gs) = stage_keeps faultless g && all_keep faultless gs
+
+-- whether a slice after these stages gives the same if it comes before them: `limit` after maps, `skip` after maps that
+-- can't have a fault, since the items that it drops are evaluated
+abbrev pub slice_comes_first : List AbstractStage → AbstractSlice → Bool
+slice_comes_first gs (limit n) = all_keep false gs
+slice_comes_first gs (skip n) = all_keep true gs
+slice_comes_first gs (take_while p) = false
+slice_comes_first gs (drop_while p) = false
+
+abbrev pub comes_first : List AbstractStage → AbstractEnd → Bool
+comes_first gs (slicing d) = slice_comes_first gs d
+comes_first gs (folding f a counts) = false
+comes_first gs (finding d) = false
+comes_first gs collecting = false
+comes_first gs (scanning f r) = false
+
+-- segments that go over a walk give the same answer, whatever the walk is
+abbrev pub SameAnswers : List AbstractSegment → List AbstractSegment → Type 0
+SameAnswers ss us = (env : Numbers) (t : Trace) → segments_answer ss env t ≡ segments_answer us env t
+
+-- a plan that differs in its segments alone, which give the same answer
+pub record IsSamePlan (p q : AbstractPlan) : Type 0 where
+  pub name : p.name ≡ q.name
+  pub named : p.named ≡ q.named
+  pub sources : p.sources ≡ q.sources
+  pub answers : SameAnswers p.segments q.segments
+
+abbrev pub AllSamePlans : List AbstractPlan → List AbstractPlan → Type 0
+AllSamePlans [] [] = Unit {0}
+AllSamePlans [] (q ∷ qs) = ⊥
+AllSamePlans (p ∷ ps) [] = ⊥
+AllSamePlans (p ∷ ps) (q ∷ qs) = IsSamePlan p q × AllSamePlans ps qs
+
+-- maps that wait for the segment after them, as a segment that ends in `skip(0)`, which changes nothing
+abbrev pub waiting_in : Held → AbstractSegment
+waiting_in h = record { first = h.first_stage; stages = stages_of h.stages.items; ending = slicing (skip 0) }
+
+abbrev pub held_in : Option Held → List AbstractSegment
+held_in None = []
+held_in (Some h) = waiting_in h ∷ []
+
+-- the segments that were moved so far
+abbrev pub moved_in : Moved → List AbstractSegment
+moved_in m = segments_in m.segments.items ++ held_in m.held
