@@ -146,7 +146,7 @@ def adding(top):
 
 
 def shell(top):
-    """Completions and options of the man page that aren't what the table of options says."""
+    """Completions, and options and statuses of the man page, that aren't what the tables of completions/ say."""
     yield from lines_of_script(top, 'scripts/shell_files', '--check', top)
 
 
