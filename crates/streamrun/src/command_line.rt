@@ -28,7 +28,8 @@ pub fn read_arguments<'a>(alloc: Global, words: &'a [&'a str]) -> Result<Argumen
 }
 
 /// What the help says below the options.
-const EXAMPLE_AND_STATUSES: &str = r#"Example, with units = column("quantity").sum() in the file sales.jobs:
+const EXAMPLE_AND_STATUSES: &str =
+    r#"Example, with units = column("quantity").sum() in the file sales.jobs:
   streamrun --columns sales.csv sales.jobs
 
 Exit status:
