@@ -1,6 +1,5 @@
 """What scripts/pages checks of the facts on the pages, and of what is made beside them: recipes, messages, the gallery,
-lists of files, the drawings of architecture.md, the files of definitions, completions, colours of editors."""
-import glob
+lists of files, the drawings of architecture.md, completions, colours of editors."""
 import os
 import re
 import subprocess
@@ -107,31 +106,6 @@ def paths(top):
     for crate, function in re.findall(r'^ *(\w+) {2,}([a-z]\w+_\w+) ', block, re.M):
         if function not in contracts_of(top).get(crate, {}):
             yield f'architecture.md: {crate} has no {function}'
-
-
-def specs_of(top):
-    """For each file of definitions, as imports name it: its path, its first line, and what it imports."""
-    found = {}
-    for path in glob.glob(os.path.join(top, 'crates', '*', 'specs', '**', '*.antt'), recursive=True):
-        name = os.path.relpath(path, os.path.join(top, 'crates'))[:-len('.antt')].replace(os.sep, '.')
-        text = read(path)
-        imports = re.findall(r'^(?:pub )?use Rattle\.([\w.+]+?)(?:\.\{|\.\*|$| )', text, re.M)
-        found[name] = os.path.relpath(path, top), text.splitlines()[0] if text else '', imports
-    return found
-
-
-def meanings(top):
-    """Files that a reader of the headline has to believe, and that are no Meaning files."""
-    specs = specs_of(top)
-    reached, waiting = set(), ['engine.specs.Run', *(name for name, spec in specs.items() if spec[1].startswith('-- Meaning:'))]
-    while waiting:
-        name = waiting.pop()
-        if name in specs and name not in reached:
-            reached.add(name)
-            path, first, imports = specs[name]
-            waiting += imports
-            if not first.startswith('-- Meaning:'):
-                yield f'{path}: a Meaning file imports it, and it is none'
 
 
 def lines_of_script(top, *command):
