@@ -1,6 +1,5 @@
 """What scripts/pages checks of the facts on the pages, and of what is made beside them: recipes, messages, the gallery,
-lists of files, the drawings of architecture.md, the files of definitions, completions, colours of editors."""
-import glob
+lists of files, the drawings of architecture.md, completions, colours of editors."""
 import os
 import re
 import subprocess
@@ -109,31 +108,6 @@ def paths(top):
             yield f'architecture.md: {crate} has no {function}'
 
 
-def specs_of(top):
-    """For each file of definitions, as imports name it: its path, its first line, and what it imports."""
-    found = {}
-    for path in glob.glob(os.path.join(top, 'crates', '*', 'specs', '**', '*.antt'), recursive=True):
-        name = os.path.relpath(path, os.path.join(top, 'crates'))[:-len('.antt')].replace(os.sep, '.')
-        text = read(path)
-        imports = re.findall(r'^(?:pub )?use Rattle\.([\w.+]+?)(?:\.\{|\.\*|$| )', text, re.M)
-        found[name] = os.path.relpath(path, top), text.splitlines()[0] if text else '', imports
-    return found
-
-
-def meanings(top):
-    """Files that a reader of the headline has to believe, and that are no Meaning files."""
-    specs = specs_of(top)
-    reached, waiting = set(), ['engine.specs.Run', *(name for name, spec in specs.items() if spec[1].startswith('-- Meaning:'))]
-    while waiting:
-        name = waiting.pop()
-        if name in specs and name not in reached:
-            reached.add(name)
-            path, first, imports = specs[name]
-            waiting += imports
-            if not first.startswith('-- Meaning:'):
-                yield f'{path}: a Meaning file imports it, and it is none'
-
-
 def lines_of_script(top, *command):
     """What a script prints, or its status if it prints nothing and fails."""
     run = subprocess.run([os.path.join(top, *command[0].split('/')), *command[1:]], stdout=subprocess.PIPE, text=True, check=False)
@@ -146,7 +120,7 @@ def adding(top):
 
 
 def shell(top):
-    """Completions and options of the man page that aren't what the table of options says."""
+    """Completions, and options and statuses of the man page, that aren't what the tables of completions/ say."""
     yield from lines_of_script(top, 'scripts/shell_files', '--check', top)
 
 

@@ -154,7 +154,7 @@ def words(top):
     found = re.compile(r'\b(%s)\b' % '|'.join(sorted(forbidden(top), key=len, reverse=True)), re.I)
     paths = pages_of(top) + [os.path.join(top, 'CHANGELOG.md')]
     paths += sorted(glob.glob(os.path.join(top, '*', '**', 'README.md'), recursive=True))
-    paths += [os.path.join(top, 'man', 'streamrun.1'), os.path.join(top, 'completions', 'options.txt')]
+    paths += [os.path.join(top, 'man', 'streamrun.1'), *sorted(glob.glob(os.path.join(top, 'completions', '*.txt')))]
     paths += sorted(glob.glob(os.path.join(top, 'crates', '*', 'src', '**', '*.rt'), recursive=True))
     paths += sorted(glob.glob(os.path.join(top, 'crates', '*', 'specs', '**', '*.antt'), recursive=True))
     for path in paths:

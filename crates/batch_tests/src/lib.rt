@@ -3,7 +3,7 @@
 //! A crate with tests is proved twice, so these tests are in a crate of their own. Each shows what no clause says: that
 //! walks by batches and walks item by item agree when both run, and that batches end where they should.
 //!
-//! Nothing stands on this crate, and it promises nothing.
+//! Begin with `walks.rt`. Nothing stands on this crate, and it promises nothing.
 #![tactic(auto)]
 
 #[cfg(test)]

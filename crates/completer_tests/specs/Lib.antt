@@ -1,4 +1,4 @@
--- Definitions that callers in the tests use.
+-- Condition: the files of this crate's definitions; the first line of each says what it is.
 pub mod RandomTrees
 pub mod Traces
 pub mod Walks

@@ -1,4 +1,7 @@
 //! Tests of the public calls of `completion_core`, `pending_count` and `completer_tree`, and callers of them that are proved.
+//!
+//! Nothing stands on this crate, and it promises nothing. Begin with `counting.rt` and `trees.rt`, the callers that docs/library.md
+//! shows.
 #![tactic(auto)]
 
 #[cfg(test)]

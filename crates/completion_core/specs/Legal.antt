@@ -1,4 +1,4 @@
--- Meaning: which actions are legal on a graph, what each answers, and the graph after it.
+-- Design: which actions are legal on a graph, what each answers, and the graph after it.
 -- Java SE 17, CountedCompleter: `tryComplete` is Arrive and, after Last, Run and the same at what the node kept; `propagateCompletion`
 -- is that without continuations; `nextComplete` is Run and Arrive at what the node kept.
 -- Where an action moves some of the arrivals that an actor holds at a node, it moves the first of them.

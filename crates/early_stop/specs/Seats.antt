@@ -1,4 +1,4 @@
--- Meaning: what calls show of a cut and of a seat.
+-- Design: what calls show of a cut and of a seat.
 use Rattle.std.specs.Prelude.{◌≡◌, ℕ}
 use Rattle.atomic_table.specs.Seated.{TableId}
 use Rattle.early_stop.specs.declared.view.View.{View}

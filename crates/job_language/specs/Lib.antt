@@ -1,4 +1,4 @@
--- The definitions of the crate.
+-- Condition: the files of this crate's definitions; the first line of each says what it is.
 pub mod Table
 pub mod Calls
 pub mod Splitting

@@ -1,4 +1,4 @@
--- Meaning: the limits of the settings of a run.
+-- Design: the limits of the settings of a run.
 use Rattle.std.specs.Prelude.{ℕ, ◌≤◌}
 
 -- 1 to 64 workers, a threshold of 1 to 1,048,576 items, and at most 1,048,576 nodes

@@ -1,4 +1,4 @@
--- The definitions of this crate; begin with Cuts.
+-- Condition: the files of this crate's definitions; the first line of each says what it is. Begin with Cuts.
 pub mod Cuts
 pub mod CutLaws
 pub mod Tasks

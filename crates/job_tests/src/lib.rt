@@ -5,8 +5,7 @@
 //! call succeeds if there is memory.
 //!
 //! `grammar.rt` tests which texts are jobs, `causes.rt` why a job is refused, `files.rt` whole files, `streams.rt`
-//! lambdas to a stream. A table is
-//! one text: that costs the least to check.
+//! lambdas to a stream. A table is one text: that costs the least to check.
 //!
 //! Nothing stands on this crate, and it promises nothing.
 #![tactic(auto)]

@@ -1,4 +1,4 @@
--- Meaning: numbers as a job writes them, and the value of each.
+-- Design: numbers as a job writes them, and the value of each.
 use Rattle.std.specs.Prelude.{◌≡◌, ℕ, ℤ, pos, neg_ℤ, FitsSigned, true, List, [], ◌∷◌}
 use Rattle.std.specs.Int.{w64}
 use Rattle.stream_tokens.specs.declared.symbol.Symbol.TheVariants as symbol

@@ -1,4 +1,4 @@
--- The definitions of this crate; begin with Shows.
+-- Condition: the files of this crate's definitions; the first line of each says what it is. Begin with Shows.
 pub mod Views
 pub mod Shows
 pub mod Steps

@@ -1,4 +1,4 @@
--- Meaning: when the words of a table and the views of its seats show a graph of completers.
+-- Design: when the words of a table and the views of its seats show a graph of completers.
 -- Word i is that of the node i, word 0 that of END, and the claim word is the one after them. An actor is a seat, by its number.
 use Rattle.std.specs.Prelude.{◌≡◌, ℕ, ◌+◌, ◌<◌, ◌≤◌, min, Bool, true, false, List, [], length, slice_index, Some}
 use Rattle.atomic_table.specs.Table.{State}

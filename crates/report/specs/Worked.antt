@@ -1,4 +1,4 @@
--- Meaning: small files of jobs, in the terms of the definitions, whose reports are worked out.
+-- Design: small files of jobs, in the terms of the definitions, whose reports are worked out.
 use Rattle.std.specs.Prelude.{ℤ, pos, negsuc, List, [], ◌∷◌, codes}
 use Rattle.lambda_expr.specs.Term.{Long, number, parameter, binary}
 use Rattle.lambda_expr.specs.declared.operator.BinaryOperator.TheVariants.{Divide, Subtract}

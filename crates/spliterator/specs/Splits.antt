@@ -1,4 +1,4 @@
--- Meaning: splits of a list of items.
+-- Design: splits of a list of items.
 use Rattle.std.specs.Prelude.{◌≡◌, ◌≢◌, ℕ, ◌-◌, ℤ, pos, ◌+ℤ◌, List, [], ◌++◌}
 use Rattle.trace.specs.declared.item.Item.{Item}
 use Rattle.trace.specs.Cover.{counted, placed}

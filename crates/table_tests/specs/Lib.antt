@@ -1,3 +1,3 @@
--- Definitions of the jobs of these tests.
+-- Condition: the files of this crate's definitions; the first line of each says what it is.
 pub mod Lists
 pub mod ListLaws

@@ -1,0 +1,1 @@
+-- Condition: the files of this crate's definitions; the first line of each says what it is.

@@ -1,0 +1,171 @@
+"""What scripts/pages checks of the files of definitions: what they import, what their first lines say, and which cases they
+leave to a last row."""
+import glob
+import os
+import re
+
+from page_text import DEFINITION, read
+
+# Definitions whose last row takes all other cases and gives a value: `CRATE FILE NAME`. The list may only shrink.
+DEFAULTS = '''
+engine Statuses status_of_cause
+engine Statuses status_of_columns
+job_language Calls bracket_of
+job_language Causes number_in
+job_language Grammar is_sound
+job_language Numbers literal_fits
+job_language Numbers number_of
+job_language Table param_of
+job_language Verdicts abstract_call
+job_language Verdicts abstract_source
+job_language Verdicts abstract_stage
+job_language Verdicts abstract_terminal
+job_language Verdicts count_stage
+job_language Verdicts given_by
+job_language Verdicts match_terminal
+job_language Verdicts number_source
+job_language Verdicts plain_terminal
+job_language Verdicts prefix_stage
+job_language Verdicts reduce_terminal
+job_language Verdicts test_stage
+lambda_expr Checks signed
+lambda_expr Grammar is_infix
+lambda_expr Heads heads
+lambda_expr Heads parameters
+lambda_expr Lexemes reference_name
+lambda_expr Lexemes symbol_lexeme
+lambda_expr PairForms binary_form
+lambda_expr PairForms method_form
+lambda_expr PairForms sign_form
+lambda_expr StreamChecks stream_of
+lambda_expr Typing called_with
+lambda_expr Typing operated
+lambda_expr Typing prefixed
+lambda_expr Typing selected
+'''
+# The functions whose contracts are the headline.
+HEADLINE = [('engine', 'run'), ('engine', 'tell'), ('job_table', 'run_jobs'), ('job_language', 'read_jobs'),
+            ('columns', 'read_columns'), ('columns', 'read_columns_by'), ('report', 'text'), ('report', 'json')]
+GHOST = re.compile(r'^ghost use Rattle\.([\w.]+)\.\{(.*?)\};', re.M)
+IMPORT = re.compile(r'^(?:pub )?use Rattle\.([\w.+]+?)(?:\.\{|\.\*|$| )', re.M)
+CONSTRUCTOR = re.compile(r'^  ([a-z]\w*) :', re.M)
+
+
+def specs_of(top):
+    """For each file of definitions, as imports name it: its path, its first line, and what it imports."""
+    found = {}
+    for path in glob.glob(os.path.join(top, 'crates', '*', 'specs', '**', '*.antt'), recursive=True):
+        name = os.path.relpath(path, os.path.join(top, 'crates'))[:-len('.antt')].replace(os.sep, '.')
+        text = read(path)
+        found[name] = os.path.relpath(path, top), text.splitlines()[0] if text else '', IMPORT.findall(text)
+    return found
+
+
+def reached_from(specs, begin):
+    """The files that some import, directly or through others, and these."""
+    reached, waiting = set(), list(begin)
+    while waiting:
+        name = waiting.pop()
+        if name in specs and name not in reached:
+            reached.add(name)
+            waiting += specs[name][2]
+    return reached
+
+
+def headline_files(top, specs):
+    """The files of definitions that the contracts of the headline cite."""
+    for crate, function in HEADLINE:
+        for path in glob.glob(os.path.join(top, 'crates', crate, 'src', '*.rt')):
+            text = read(path)
+            for head in re.findall(rf'^pub fn {function}\b(.*?)^\{{$', text, re.M | re.S):
+                words = set(re.findall(r'\w+', head))
+                yield from (file for file, names in GHOST.findall(text) if file in specs and words & set(re.findall(r'\w+', names)))
+
+
+def meanings(top):
+    """Files whose first line says another word than what rests on them: the headline rests on Meaning files, and these on
+    nothing else; what it doesn't rest on is a Design, or a Condition."""
+    specs = specs_of(top)
+    reached = reached_from(specs, headline_files(top, specs))
+    imported = reached_from(specs, [name for name, spec in specs.items() if spec[1].startswith('-- Meaning:')])
+    for name, (path, first, _) in sorted(specs.items()):
+        if not first.startswith(('-- Meaning: ', '-- Condition: ', '-- Design: ')):
+            yield f'{path}: its first line says none of Meaning, Condition and Design'
+        elif first.startswith('-- Meaning:') and name not in reached:
+            yield f'{path}: the headline imports it nowhere, so its first line begins -- Design:'
+        elif not first.startswith('-- Meaning:') and (name in imported or name in reached and first.startswith('-- Design:')):
+            yield f'{path}: a Meaning file imports it, and it is none'
+
+
+def constructors_of(top):
+    """The constructors of all types of definitions whose names begin with a small letter."""
+    found = {'true', 'false', 'zero', 'refl', 'no', 'yes', 'none', 'some'}
+    for name in specs_of(top).values():
+        for block in re.findall(r'^pub data .*? where\n((?:  .*\n)*)', read(os.path.join(top, name[0])), re.M):
+            found.update(CONSTRUCTOR.findall(block))
+    return found
+
+
+def patterns_of(row, name):
+    """The patterns of a row of a definition, and what it gives."""
+    depth, parts, at = 0, [''], len(name)
+    while at < len(row):
+        if depth == 0 and row.startswith(' = ', at):
+            break
+        depth += {'(': 1, '{': 1, '[': 1, ')': -1, '}': -1, ']': -1}.get(row[at], 0)
+        if row[at] == ' ' and depth == 0:
+            parts.append('')
+        else:
+            parts[-1] += row[at]
+        at += 1
+    return [part for part in parts if part and not part.startswith('{')], row[at + 3:].strip()
+
+
+def takes_all(patterns, constructors):
+    """Whether a pattern is a variable, for each of several."""
+    return [bool(re.fullmatch(r"[a-z_][\w']*", pattern)) and pattern not in constructors for pattern in patterns]
+
+
+def rows_of(text):
+    """(name, type, rows) of each definition by rows; a row that goes on in further lines is joined."""
+    lines = re.sub(r'\n +', ' ', text).splitlines()
+    for number, line in enumerate(lines):
+        head = DEFINITION.match(line)
+        if head:
+            name = head[1]
+            rows = []
+            for row in lines[number + 1:]:
+                if not row.startswith(name + ' '):
+                    break
+                rows.append(row)
+            yield name, line.partition(' : ')[2], rows
+
+
+def silent_defaults(top):
+    """`CRATE FILE NAME` of each definition of a Meaning file whose last row takes all other cases and gives a value."""
+    constructors = constructors_of(top)
+    for path, first, _ in specs_of(top).values():
+        if not first.startswith('-- Meaning:'):
+            continue
+        for name, kind, rows in rows_of(read(os.path.join(top, path))):
+            split = [patterns_of(row, name) for row in rows]
+            if len(split) < 2 or kind.endswith('Type 0'):
+                continue
+            variables = [takes_all(patterns, constructors) for patterns, _ in split]
+            asked = [at for at in range(len(variables[0])) if not all(row[at] for row in variables if at < len(row))]
+            last, value = split[-1]
+            is_default = all(at < len(last) and variables[-1][at] for at in asked)
+            if is_default and not re.match(r'(?:None|false|⊥|Err)\b|⊥', value):
+                _, crate, _, file = path.split(os.sep)[:4]
+                yield f'{crate} {file[:-len(".antt")]} {name}'
+
+
+def defaults(top):
+    """Definitions of Meaning files whose last row takes all other cases, in silence, and gives a value."""
+    known, found = DEFAULTS.strip().splitlines(), sorted(silent_defaults(top))
+    for name in found:
+        if name not in known:
+            yield f'{name}: its last row takes all other cases and gives a value; write a row for each'
+    for name in known:
+        if name not in found:
+            yield f'{name}: no such definition is left, take it from the list of scripts/page_definitions.py'
