@@ -5,7 +5,7 @@
 //! writers that count their failures, and on `clap` for the command line. It promises nothing of its
 //! own: the promise is the contract of `engine::run`, which this program calls on the two files and on
 //! standard output. Begin with `engine/specs/Run.antt`; here there is only the command line, the
-//! opening of the files and the exit status.
+//! opening of the files, the exit status, and the line that says on a terminal how far a long run is.
 //! Not promised: that a file can be read or written, or that memory is there; the line on standard
 //! error says which it was.
 #![tactic(auto)]
