@@ -35,6 +35,7 @@ pub data AbstractTerminal : Type 0 where
   reduce : Op → AbstractTerminal
   reduce_from : ℤ → Op → AbstractTerminal
   find : Find → AbstractTerminal
+  exact_sum : AbstractTerminal
 
 -- an abstract job: its name in bytes, its plain sources in order of writing, its stages and its terminal
 pub record AbstractJob : Type 0 where
@@ -77,6 +78,7 @@ terminal_of terminal.ToArray = to_array
 terminal_of (terminal.Reduce f) = reduce f
 terminal_of (terminal.ReduceFrom a f) = reduce_from a f
 terminal_of (terminal.Find d) = find (find_of d)
+terminal_of terminal.ExactSum = exact_sum
 
 -- helper: the abstract job of a job of the program
 abbrev pub job_of : Job → AbstractJob

@@ -56,6 +56,8 @@ pub enum Terminal {
     ReduceFrom { identity: i64, op: Op },
     /// `findFirst()` and the three matches.
     Find(FindTerminal),
+    /// `reduce(0, Math::addExact)`: the sum, or a fault at the first item after which it is outside 64 bits.
+    ExactSum,
 }
 
 /// A job: its name, where its items come from, what they pass through, and what is asked of them.

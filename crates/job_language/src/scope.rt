@@ -33,7 +33,8 @@ impl Terminal {
             | Terminal::Min
             | Terminal::Max
             | Terminal::Reduce(_)
-            | Terminal::ReduceFrom { .. } => Gives::Number,
+            | Terminal::ReduceFrom { .. }
+            | Terminal::ExactSum => Gives::Number,
         }
     }
 }
