@@ -10,7 +10,7 @@ use Rattle.prefix_scan.specs.Prefixes.{prefixed}
 use Rattle.job_language.specs.Jobs.{AbstractPlainSource, AbstractJobStage, item, slice, prefix, AbstractTerminal, sum, count, min, max, to_array, reduce, reduce_from, find, AbstractJob}
 use Rattle.job_plan.specs.declared.answer.Answer.{Answer}
 use Rattle.job_plan.specs.declared.answer.Answer.TheVariants as answer
-use Rattle.job_plan.specs.Walks.{after_stages, answer_of, answer_of_job, source_walk, unless_fault}
+use Rattle.job_plan.specs.Walks.{after_stages, answer_of, answer_of_job, fallback_of, instead_of_fault, source_walk, unless_fault}
 use Rattle.job_plan.specs.Plans.{end_of, ended, on_outcome, plan_of, planned_answer, segments_answer, segments_from}
 
 -- one stage more
@@ -66,4 +66,4 @@ planned_job env sources stages terminal =
     ∙ (λ i. answer_of (k i) env terminal (after_stages (one i) stages env (source_walk sources)))
 
 pub planned : (env : Numbers) (before : List (List ℕ)) (job : AbstractJob) → planned_answer env (plan_of before job) ≡ answer_of_job env job
-planned env before job = planned_job env job.sources job.stages job.terminal
+planned env before job = ap (instead_of_fault (fallback_of job)) (planned_job env job.sources job.stages job.terminal)

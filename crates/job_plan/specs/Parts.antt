@@ -1,5 +1,5 @@
 -- Condition: what the parts, segments and sources of the program stand for.
-use Rattle.std.specs.Prelude.{◌≡◌, ℕ, ℤ, Bool, true, false, List, [], ◌∷◌, Option, is_some}
+use Rattle.std.specs.Prelude.{◌≡◌, ℕ, ℤ, Bool, true, false, List, [], ◌∷◌, Option, Some, is_some, option_map}
 use Rattle.lambda_expr.specs.Earlier.{Numbers}
 use Rattle.trace.specs.declared.item.Item.{Item}
 use Rattle.trace.specs.declared.item.End.{End}
@@ -21,6 +21,10 @@ use Rattle.job_plan.specs.Scans.{scan}
 use Rattle.job_plan.specs.declared.part.FoldPart.{FoldPart}
 use Rattle.job_plan.specs.declared.part.Part.{Part}
 use Rattle.job_plan.specs.declared.part.Part.TheVariants as part
+use Rattle.job_plan.specs.declared.answer.Answer.{Answer}
+use Rattle.job_plan.specs.declared.answer.Answer.TheVariants as answer
+use Rattle.job_plan.specs.declared.fallback.Fallback.{Fallback}
+use Rattle.job_plan.specs.declared.fallback.Fallback.TheVariants as fallback
 use Rattle.job_plan.specs.declared.segment.SegmentEnd.{SegmentEnd}
 use Rattle.job_plan.specs.declared.segment.SegmentEnd.TheVariants as ends
 use Rattle.job_plan.specs.declared.segment.Segment.{Segment}
@@ -47,9 +51,14 @@ abbrev pub segments_in : List Segment → List AbstractSegment
 segments_in [] = []
 segments_in (s ∷ ss) = segment_in s ∷ segments_in ss
 
+-- what stands in place of a fault
+abbrev pub fallback_in : Fallback → Answer
+fallback_in (fallback.Number z) = answer.Number z
+fallback_in (fallback.Optional z) = answer.Optional (Some z)
+
 -- a job of the program in segments, and several
 abbrev pub plan_in : JobPlan → AbstractPlan
-plan_in j = record { name = j.name; named = j.named.items; sources = sources_of j.sources.items; segments = segments_in j.segments.items }
+plan_in j = record { name = j.name; named = j.named.items; sources = sources_of j.sources.items; segments = segments_in j.segments.items; fallback = option_map fallback_in j.fallback }
 
 abbrev pub plans_in : List JobPlan → List AbstractPlan
 plans_in [] = []

@@ -18,7 +18,7 @@ use Rattle.job_plan.specs.declared.outcome.Outcome.{Outcome}
 use Rattle.job_plan.specs.declared.outcome.Outcome.TheVariants as outcome
 use Rattle.job_plan.specs.declared.segment.Named.{Named}
 use Rattle.job_plan.specs.Names.{names_in_job, place_of}
-use Rattle.job_plan.specs.Walks.{found_answer, source_walk, unless_fault}
+use Rattle.job_plan.specs.Walks.{fallback_of, found_answer, instead_of_fault, source_walk, unless_fault}
 
 -- the end of a segment: a stage that looks at a whole walk, a fold (its operator, its start, and whether it counts), a
 -- find or a match, the values, or a prefix (its operator and its range)
@@ -35,12 +35,14 @@ pub record AbstractSegment : Type 0 where
   pub stages : List AbstractStage
   pub ending : AbstractEnd
 
--- a job in segments: the outcome of each one is the source of the next; and the earlier jobs that it names
+-- a job in segments: the outcome of each one is the source of the next; the earlier jobs that it names; and what it gives in
+-- place of a fault, if anything
 pub record AbstractPlan : Type 0 where
   pub name : List ℕ
   pub named : List Named
   pub sources : List AbstractPlainSource
   pub segments : List AbstractSegment
+  pub fallback : Option Answer
 
 -- a terminal as the end of a segment
 abbrev pub end_of : AbstractTerminal → AbstractEnd
@@ -72,7 +74,7 @@ all_placed before (name ∷ names) = placed name (place_of before name) ++ all_p
 
 -- a job in segments, after jobs with these names
 abbrev pub plan_of : List (List ℕ) → AbstractJob → AbstractPlan
-plan_of before job = record { name = job.name; named = all_placed before (names_in_job job); sources = job.sources; segments = segments_from 1 [] job.stages job.terminal }
+plan_of before job = record { name = job.name; named = all_placed before (names_in_job job); sources = job.sources; segments = segments_from 1 [] job.stages job.terminal; fallback = fallback_of job }
 
 -- several jobs in segments, after jobs with these names
 abbrev pub plans_after : List (List ℕ) → List AbstractJob → List AbstractPlan
@@ -125,4 +127,4 @@ segments_answer (s ∷ ss) env t = on_outcome (outcome_of s env t) (segments_ans
 
 -- the answer of a job in segments
 abbrev pub planned_answer : Numbers → AbstractPlan → Answer
-planned_answer env plan = segments_answer plan.segments env (source_walk plan.sources)
+planned_answer env plan = instead_of_fault plan.fallback (segments_answer plan.segments env (source_walk plan.sources))

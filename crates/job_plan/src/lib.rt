@@ -12,6 +12,7 @@
 
 mod answer;
 mod array_part;
+mod fallback;
 mod folded_piece;
 mod folded_walk;
 mod folding;
@@ -49,6 +50,7 @@ mod windows;
 
 pub use answer::Answer;
 pub use array_part::ArrayPart;
+pub use fallback::Fallback;
 pub use given::GivenWalk;
 pub use leaves::{leaf, leaf_stored, leaf_until, leaf_with, unwalked};
 pub use outcome::Outcome;

@@ -2,6 +2,7 @@
 
 ghost use Rattle.std.specs.Prelude.{◌+◌, ◌<◌, ◌^◌, length};
 
+use crate::fallback::Fallback;
 use find_ops::FindTerminal;
 use job_language::PlainSource;
 use reduce_ops::Op;
@@ -71,6 +72,8 @@ pub struct JobPlan<'c> {
     pub likely_size: u64,
     pub sources: Vec<PlainSource<'c>>,
     pub segments: Vec<Segment>,
+    /// What it gives in place of a fault, if anything.
+    pub fallback: Option<Fallback>,
 }
 
 /// The jobs of a file in segments, in file order.

@@ -38,14 +38,15 @@ pub fn walk_tree(
     ensures { IfOk result (λ answer. answer ≡ planned_answer env.now (plan_in job.now)) }
 {
     let mut registers = Registers::new(alloc);
-    walk_segments(
+    let given = walk_segments(
         alloc,
         job.later_segments(),
         &Source::of_selected(job),
         tree,
         env,
         &mut registers,
-    )
+    )?;
+    Ok(job.without_fault(given))
 }
 
 /// The answer of a job, each segment in one piece.

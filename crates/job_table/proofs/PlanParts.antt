@@ -15,6 +15,7 @@ use Rattle.job_plan.proofs.EnoughLemmas.{whole_enough}
 use Rattle.job_plan.proofs.SettleLemmas.{settled_decides}
 use Rattle.job_plan.specs.Pieces.{piece_of}
 use Rattle.job_plan.specs.Plans.{AbstractSegment, AbstractPlan, outcome_of, planned_answer, segments_answer}
+use Rattle.job_plan.specs.Walks.{instead_of_fault}
 use Rattle.job_plan.specs.Spans.{IsNotAfter}
 use Rattle.job_plan.proofs.SideBySide.{pieces_joined, whole_piece}
 use Rattle.job_plan.proofs.LinkLemmas.{walked_answer}
@@ -158,8 +159,8 @@ pub any_part : (chain : AbstractChain) (segment from to : ℕ) (p : Part) → sl
 any_part chain segment from to p none_there =
     subst (λ (o : Option AbstractSegment). IfSome o (λ s. StandsEnough (Decides (outcome_of s chain.numbers) (walk_at chain segment)) s chain.numbers p from (piece_between (size_at chain segment) from to (walk_at chain segment)))) (sym none_there) tt
 
--- the segments that a run walks give the answer of the job
-pub chain_answer : (env : Numbers) (plan : AbstractPlan) → segments_answer (chain_of env plan).segments env (chain_of env plan).source ≡ planned_answer env plan
+-- the segments that a run walks give the answer of the job, or the fault that its fallback replaces
+pub chain_answer : (env : Numbers) (plan : AbstractPlan) → instead_of_fault plan.fallback (segments_answer (chain_of env plan).segments env (chain_of env plan).source) ≡ planned_answer env plan
 chain_answer env plan = walked_answer env plan
 
 -- the one piece of a walk that goes through slices

@@ -28,7 +28,7 @@ chain_of env plan = record { segments = walked_segments plan; source = walked_so
 
 -- the job with this number
 abbrev pub plan_at : List AbstractPlan → ℕ → AbstractPlan
-plan_at plans job = slice_index_or plans job (record { name = []; named = []; sources = []; segments = [] })
+plan_at plans job = slice_index_or plans job (record { name = []; named = []; sources = []; segments = []; fallback = None })
 
 -- the answer of the job with this number
 abbrev pub answer_of : List AbstractPlan → ℕ → Answer

@@ -267,7 +267,9 @@ impl<'a, 'c, P: Planned> Segments for PlanJobs<'a, 'c, P> {
         part: Part<'a>,
         given: &Taken,
     ) -> Result<Answer, NoMemory> {
-        last_answer(alloc, self.job(job), part, &given.numbers)
+        let plan = self.job(job);
+        let answer = last_answer(alloc, plan, part, &given.numbers)?;
+        Ok(plan.without_fault(answer))
     }
 }
 
