@@ -33,7 +33,7 @@ fn the_first_cause_in_order_of_writing_is_reported(rt: HostRuntime) {
     let columns = read_columns(rt.alloc(), &mut Counted::new(b"a,b c\n1,2\n".as_slice()));
     let columns = columns.unwrap_or(Columns::none());
     let well =
-        r#"s = of(1).map(x -> x + $total).reduce(0, (a, b) -> (a) + b)|s = of(1).reduce(-9223372036854775808, (long f, long g) -> Math.max(f, g))|s = column("a").limit(0).sum()|s = column("b c").skip(Long.MAX_VALUE).sum()|s = result(list).prefix(0, 0, sum).sum()|s = of(-9223372036854775808).limit(9223372036854775807).sum()|s = of(1).flatMap(x -> LongStream.range(0, x + $total)).flatMap(x -> of()).sum()|s = of(1).reduce(0, Math::addExact)|s = of(1).reduce(0, (u, v) -> (Math.addExact(u, (v)))).onFault(-9223372036854775808);|s = of(1).findFirst().onFault(Long.MAX_VALUE)"#;
+        r#"s = of(1).map(x -> x + $total).reduce(0, (a, b) -> (a) + b)|s = of(1).reduce(-9223372036854775808, (long f, long g) -> Math.max(f, g))|s = column("a").limit(0).sum()|s = column("b c").skip(Long.MAX_VALUE).sum()|s = result(list).prefix(0, 0, sum).sum()|s = of(-9223372036854775808).limit(9223372036854775807).sum()|s = of(1).flatMap(x -> LongStream.range(0, x + $total)).flatMap(x -> of()).sum()|s = of(1).reduce(0, Math::addExact)|s = of(1).reduce(0, (u, v) -> (Math.addExact(u, (v))))"#;
     let same_name = r#"list = column("z").limit(-1).sum()|any = of(1).limit(1).sum()"#;
     let unknown_column =
         r#"s = column("c").limit(-1).sum()|s = column("").limit(1).sum()|s = column("A").limit(1).sum()|s = column("a ").limit(1).sum()"#;
@@ -44,7 +44,7 @@ fn the_first_cause_in_order_of_writing_is_reported(rt: HostRuntime) {
     let too_large = "s = of(1, 9223372036854775808).limit(-1).sum()|\
 s = of(-9223372036854775809).limit(-1).sum()|s = of(1).limit(9223372036854775808).sum()|\
 s = of(1).prefix(3, 9223372036854775808, avg).sum()|s = of(1).limit(1).reduce(9223372036854775808, avg)|\
-s = of(1).toArray().onFault(9223372036854775808)|s = of(1).reduce(9223372036854775808, Math::addExact)";
+s = of(1).reduce(9223372036854775808, Math::addExact)";
     let column_9 = "s = of(1).map(x -> x +).sum()|s = of(1).filter(x -> x +).limit(-1).sum()|\
 s = of(1).flatMap(x -> of + 1).limit(-1).sum()|s = of(1).flatMap(x -> of(, x)).sum()";
     let wrong_type =
@@ -64,10 +64,6 @@ s = of(1).flatMap(x -> range($z, $list)).sum()";
     let no_identity = "s = of(1).reduce(0, last)|s = of(1).reduce(1, (a, b) -> a)";
     let not_identity = "s = of(1).reduce(1, Long::sum)|s = of(1).reduce(0, Math::min)|\
 s = of(1).reduce(1, Math::addExact)|s = of(1).reduce(-1, (a, b) -> Math.addExact(a, b))";
-    let not_scalar = "s = of(1).toArray().onFault(0)|s = of(1).anyMatch(x -> x > 1).onFault(0)|\
-s = of(1).allMatch(x -> x > 1).onFault(-1);|s = of(1).noneMatch(x -> x > 1).onFault(0)";
-    let syntax = "s = of(1).onFault(0)|s = of(1).sum().onFault(0).onFault(0)|\
-list = of(1).sum().onFault()|s = of(1).sum().onFault(1, 2)|s = of(1).sum(); .onFault(1)|s = of(1).onFault(0).sum()";
     for (texts, cause) in [
         (well, None),
         (same_name, Some(Cause::SameName)),
@@ -85,11 +81,34 @@ list = of(1).sum().onFault()|s = of(1).sum().onFault(1, 2)|s = of(1).sum(); .onF
         (not_a_number, Some(Cause::NotANumber)),
         (no_identity, Some(Cause::NoIdentity)),
         (not_identity, Some(Cause::NotIdentity)),
-        (not_scalar, Some(Cause::NotScalar)),
-        (syntax, Some(Cause::Syntax)),
     ] {
         for text in texts.split('|') {
             let found = cause_in(rt.alloc(), &columns, text.as_bytes());
+            assert!(rt; found == cause, "{text}");
+        }
+    }
+}
+
+#[test]
+fn a_fallback_stands_after_a_terminal_that_gives_a_number(rt: HostRuntime) {
+    let well =
+        "s = of(1).sum().onFault(-9223372036854775808);|s = of(1).findFirst().onFault(Long.MAX_VALUE)|\
+s = of(1).reduce(0, Math::addExact).onFault(0)|s = of(1).reduce(last).onFault(0);|s = of(1).map(x -> x + $total).min() . onFault (1)";
+    let not_scalar = "s = of(1).toArray().onFault(0)|s = of(1).anyMatch(x -> x > 1).onFault(0)|\
+s = of(1).allMatch(x -> x > 1).onFault(-1);|s = of(1).noneMatch(x -> x > 1).onFault(0)";
+    let too_large =
+        "s = of(1).toArray().onFault(9223372036854775808)|s = of(1).sum().onFault(-9223372036854775809)";
+    let syntax =
+        "s = of(1).onFault(0)|s = of(1).sum().onFault(0).onFault(0)|list = of(1).sum().onFault()|\
+s = of(1).sum().onFault(1, 2)|s = of(1).sum(); .onFault(1)|s = of(1).onFault(0).sum()|s = concat(of(1), onFault(1)).sum()";
+    for (texts, cause) in [
+        (well, None),
+        (not_scalar, Some(Cause::NotScalar)),
+        (too_large, Some(Cause::Expr(ReadFault::LiteralTooLarge))),
+        (syntax, Some(Cause::Syntax)),
+    ] {
+        for text in texts.split('|') {
+            let found = cause_in(rt.alloc(), &Columns::none(), text.as_bytes());
             assert!(rt; found == cause, "{text}");
         }
     }
