@@ -7,7 +7,7 @@ use Rattle.reduce_ops.proofs.FoldLemmas.{wrapped_sum, counted}
 use Rattle.reduce_ops.specs.Operators.{value_of}
 use Rattle.slice_ops.specs.Slices.{sliced}
 use Rattle.prefix_scan.specs.Prefixes.{prefixed}
-use Rattle.job_language.specs.Jobs.{AbstractPlainSource, AbstractJobStage, item, slice, prefix, AbstractTerminal, sum, count, min, max, to_array, reduce, reduce_from, find, AbstractJob}
+use Rattle.job_language.specs.Jobs.{AbstractPlainSource, AbstractJobStage, item, slice, prefix, AbstractTerminal, sum, count, min, max, to_array, reduce, reduce_from, find, exact_sum, AbstractJob}
 use Rattle.job_plan.specs.declared.answer.Answer.{Answer}
 use Rattle.job_plan.specs.declared.answer.Answer.TheVariants as answer
 use Rattle.job_plan.specs.Walks.{after_stages, answer_of, answer_of_job, fallback_of, instead_of_fault, source_walk, unless_fault}
@@ -30,6 +30,7 @@ terminal_ends to_array n env t later = refl
 terminal_ends (reduce f) n env t later = refl
 terminal_ends (reduce_from a f) n env t later = refl
 terminal_ends (find d) n env t later = refl
+terminal_ends exact_sum n env t later = refl
 
 in_turn : (n : ℕ) (gs : List AbstractStage) (rest : List AbstractJobStage) (d : AbstractTerminal) (env : Numbers) (t : Trace)
     → segments_answer (segments_from n gs rest d) env t ≡ answer_of (n + length gs + length rest) env d (after_stages (n + length gs) rest env (pipe n gs env t))

@@ -11,6 +11,7 @@ use Rattle.trace.specs.Cover.{cover, values as listed}
 use Rattle.trace.specs.Stages.{through}
 use Rattle.trace.specs.Trace.{Trace}
 use Rattle.reduce_ops.specs.declared.op.Op.TheVariants as op
+use Rattle.reduce_ops.specs.ExactSums.{exact_sum as exactly_summed}
 use Rattle.reduce_ops.specs.Folds.{fold_from, fold_items, total}
 use Rattle.reduce_ops.specs.Operators.{value_of}
 use Rattle.slice_ops.specs.Slices.{sliced}
@@ -18,7 +19,7 @@ use Rattle.prefix_scan.specs.Prefixes.{prefixed}
 use Rattle.find_ops.specs.Finds.{find_answer}
 use Rattle.find_ops.specs.declared.find_part.Found.{Found}
 use Rattle.find_ops.specs.declared.find_part.Found.TheVariants as found
-use Rattle.job_language.specs.Jobs.{AbstractPlainSource, range, range_closed, values, result, AbstractJobStage, item, slice, prefix, AbstractTerminal, sum, count, min, max, to_array, reduce, reduce_from, exact_sum, find, AbstractJob}
+use Rattle.job_language.specs.Jobs.{AbstractPlainSource, range, range_closed, values, result, AbstractJobStage, item, slice, prefix, AbstractTerminal, sum, count, min, max, to_array, reduce, reduce_from, find, exact_sum, AbstractJob}
 use Rattle.job_plan.specs.declared.answer.Answer.{Answer}
 use Rattle.job_plan.specs.declared.answer.Answer.TheVariants as answer
 
@@ -62,8 +63,14 @@ found_answer (Ok (found.Value v)) = answer.Optional v
 found_answer (Ok (found.Truth b)) = answer.Truth b
 found_answer (Err f) = answer.Fault f
 
+-- the exact sum as a number, or the fault that came before it
+abbrev pub exact_answer : Result ℤ Fault → Answer
+exact_answer (Ok z) = answer.Number z
+exact_answer (Err f) = answer.Fault f
+
 -- the answer of a terminal, the stage with this number, for a walk (`LongStream.sum`, `count`, `min`, `max`, `toArray`,
--- `reduce`, `findFirst`, `anyMatch`, `allMatch`, `noneMatch`); a sum and a count are wrapped once to 64 bits
+-- `reduce`, `findFirst`, `anyMatch`, `allMatch`, `noneMatch`); a sum and a count are wrapped once to 64 bits, and an exact sum (`reduce(0, Math::addExact)`) has a
+-- fault at the first item after which it is outside 64 bits
 abbrev pub answer_of : ℕ → Numbers → AbstractTerminal → Trace → Answer
 answer_of n env sum t = unless_fault t.ending (answer.Number (wrap (total t.items)))
 answer_of n env count t = unless_fault t.ending (answer.Number (wrap (pos (length t.items))))
@@ -73,6 +80,7 @@ answer_of n env to_array t = unless_fault t.ending (answer.Array (each_of (λ (x
 answer_of n env (reduce f) t = unless_fault t.ending (answer.Optional (fold_items (value_of f) t.items))
 answer_of n env (reduce_from a f) t = unless_fault t.ending (answer.Number (fold_from (value_of f) a t.items))
 answer_of n env (find d) t = found_answer (find_answer d n env t)
+answer_of n env exact_sum t = exact_answer (exactly_summed n t)
 
 -- a number as a terminal gives it: `sum`, `count` and `reduce` from a number give a number, the others an optional
 abbrev pub number_as : AbstractTerminal → ℤ → Answer

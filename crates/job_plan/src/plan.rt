@@ -72,6 +72,7 @@ impl SegmentEnd {
             Terminal::ReduceFrom { identity, op } => folding(op, Some(identity), false),
             Terminal::ToArray => SegmentEnd::Array,
             Terminal::Find(find) => SegmentEnd::Find(find),
+            Terminal::ExactSum => SegmentEnd::ExactSum,
         }
     }
 }

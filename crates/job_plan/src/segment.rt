@@ -41,6 +41,8 @@ pub enum SegmentEnd {
     Array,
     /// `prefix`.
     Prefix(Prefix),
+    /// `reduce(0, Math::addExact)`.
+    ExactSum,
 }
 
 /// Stages that look at one item at a time, and what ends them.

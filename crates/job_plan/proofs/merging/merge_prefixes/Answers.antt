@@ -4,7 +4,7 @@ use Rattle.job_plan.specs.declared.part.Part.TheVariants as part
 use Rattle.job_plan.specs.Parts.{StandsFor}
 use Rattle.job_plan.specs.Plans.{walk_of, last_stage}
 use Rattle.job_plan.proofs.PartLemmas.{on_walks, prefixes_merge}
-use Rattle.job_plan.proofs.part.merge_prefixes.Goals as goal
+use Rattle.job_plan.proofs.merging.merge_prefixes.Goals as goal
 
 pub returns-in-Ok-clause-ok : goal.returns-in-Ok-clause-ok
 returns-in-Ok-clause-ok c s env a b p q =
