@@ -23,6 +23,7 @@ SPELLED = {'sum': ['sum', 'Long::sum', '(a, b) -> a + b', '(a, b) -> Long.sum(a,
            'min': ['min', 'Long::min', 'Math::min', '(a, b) -> Math.min(a, b)', '(x, y) -> Long.min(x, (y))'],
            'max': ['max', 'Long::max', 'Math::max', '(a, b) -> Math.max(a, b)', '(a, b) -> Long.max(a, b)'],
            'and': ['and', '(a, b) -> a & b'], 'or': ['or', '(a, b) -> a | b'], 'xor': ['xor', '(a, b) -> a ^ b'],
+           'exact': ['Math::addExact', '(a, b) -> Math.addExact(a, b)', '(x, y) -> (Math.addExact((x), y))'],
            'affine': ['affine'], 'first': ['first', '(a, b) -> a'], 'last': ['last', '(a, b) -> b', '(a, b) -> ((b))']}
 
 
@@ -40,6 +41,7 @@ class Writer(LambdaWriter):
         super().__init__(random.Random(f'{seed}/{index}/{",".join(kinds)}/{most}'))
         self.kinds, self.most = kinds, most
         self.arrays, self.columns = [], {}
+        self.version = 2 if self.often(0.3) else 1
 
     def length(self, most=None):
         most = self.most if most is None else most
@@ -164,11 +166,13 @@ class Writer(LambdaWriter):
 
     def terminal(self, source, names=None):
         name = self.random.choice(names or ['sum', 'count', 'min', 'max', 'toArray', 'toArray', 'findFirst', 'reduce', 'reduce0',
-                                            'anyMatch', 'allMatch', 'noneMatch'])
+                                            'exact', 'anyMatch', 'allMatch', 'noneMatch'])
         if name == 'reduce':
             return f'reduce({self.operator()[1]})'
         if name == 'reduce0':
             return 'reduce({}, {})'.format(*self.operator(True))
+        if name == 'exact':
+            return f'reduce(0, {self.random.choice(SPELLED[name])})'
         if name.endswith('Match'):
             return f'{name}(x -> {self.condition(source)})'
         return f'{name}()'
@@ -189,7 +193,7 @@ class Writer(LambdaWriter):
 
     def folds(self):
         source = self.source()
-        names = ['sum', 'count', 'min', 'max', 'reduce', 'reduce', 'reduce0', 'reduce0']
+        names = ['sum', 'count', 'min', 'max', 'reduce', 'reduce', 'reduce0', 'reduce0', 'exact', 'exact']
         return [source.text, *self.stages(source, ['map', 'filter', 'flatMap', 'fault'], 2), self.terminal(source, names)]
 
     def flat_maps(self):
@@ -273,6 +277,10 @@ class Writer(LambdaWriter):
             self.arrays.append(name)
         elif 'Match' not in parts[-1]:
             self.numbers.append(name)
+            if self.version == 2 and self.often(0.4):
+                parts.append(f'onFault({self.number()})')
+        if 'refused' in self.kinds and self.often(0.01):
+            parts.append(self.pick('onFault(0)', 'onFault(9223372036854775808)', 'onFault()'))
         return f'{name} = {self.spell(parts)}'
 
     def file(self):
@@ -284,7 +292,8 @@ class Writer(LambdaWriter):
             count, kinds = self.random.randint(100, 256), ['many', *(['names'] if 'names' in kinds else [])]
             self.most = min(self.most, MOST_ITEMS_OF_MANY)
         names = [self.pick(f'j{at}', f'j{at}', f'_{at}', f'range{at}') for at in range(count)]
-        lines = [self.job(name, self.random.choice(kinds)) for name in names]
+        lines = [self.pick('version 2', 'version 2', ' version\t2', '# c\n\nversion 2')] if self.version == 2 else []
+        lines += [self.job(name, self.random.choice(kinds)) for name in names]
         text = self.pick('\n', '\n', '\n', '\r\n', '\n\n').join(lines) + self.pick('\n', '\n', '', '\r\n')
         data = text.encode()
         if 'refused' in self.kinds and (len(self.kinds) == 1 or self.often(0.2)):

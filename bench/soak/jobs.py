@@ -2,8 +2,9 @@
 
     read_jobs(bytes, columns)   a list of Job, or RefusedFile
 
-It is a plain reading of docs/job-language.md (Lines, Jobs, Refused files, Grammar), written without looking at the program.
+It is a plain reading of docs/job-language.md (Lines, Versions, Jobs, Refused files, Grammar), written without looking at the program.
 """
+import re
 from collections import namedtuple
 
 from lambdas import LONGEST_SOURCE, MAX, MIN, Refused, cut, is_too_large, read_lambda, stands_nowhere, wrap
@@ -12,7 +13,8 @@ MOST_JOBS, MOST_BYTES, MOST_NAME, MOST_STAGES, MOST_SOURCES, MOST_VALUES = 256, 
 
 # A stage or a terminal is an Operation. numbers: its integers; of: a Lambda, an Operator or None.
 # A source is ('range', start, end) with the end outside, ('values', list) or ('column', name), ('result', name).
-Job = namedtuple('Job', 'name sources stages terminal')
+# on_fault: the integer that stands in place of a fault, or None.
+Job = namedtuple('Job', 'name sources stages terminal on_fault')
 Operation = namedtuple('Operation', 'name numbers of')
 Operator = namedtuple('Operator', 'name function identity')
 
@@ -21,7 +23,10 @@ STAGES = {'map': 'long', 'filter': 'boolean', 'flatMap': 'stream', 'limit': None
 TERMINALS = {'sum': None, 'count': None, 'min': None, 'max': None, 'findFirst': None, 'toArray': None,
              'reduce': 'operator', 'anyMatch': 'boolean', 'allMatch': 'boolean', 'noneMatch': 'boolean'}
 # How many numbers may stand before the argument of an operation.
-NUMBERS = {'limit': (1,), 'skip': (1,), 'prefix': (0, 2), 'reduce': (0, 1)}
+NUMBERS = {'limit': (1,), 'skip': (1,), 'prefix': (0, 2), 'reduce': (0, 1), 'onFault': (1,)}
+# What may stand after a terminal, by the version of a file.
+FALLBACKS = {1: {}, 2: {'onFault': None}}
+NOT_SCALAR = ('toArray', 'anyMatch', 'allMatch', 'noneMatch')
 
 
 class RefusedFile(Exception):
@@ -39,12 +44,15 @@ OPERATORS = {it.name: it for it in [
     Operator('min', min, MAX), Operator('max', max, MIN), Operator('and', lambda f, g: f & g, -1),
     Operator('or', lambda f, g: f | g, 0), Operator('xor', lambda f, g: f ^ g, 0), Operator('affine', affine, 2 ** 32),
     Operator('first', lambda f, g: f, None), Operator('last', lambda f, g: g, None)]}
-METHODS = {'Long::sum': 'sum', 'Long::min': 'min', 'Math::min': 'min', 'Long::max': 'max', 'Math::max': 'max'}
+# The addition of exact sums is none of the operators: it stands in reduce(0, ..) alone.
+EXACT = Operator('Math::addExact', None, 0)
+METHODS = {'Math::addExact': EXACT.name, 'Long::sum': 'sum', 'Long::min': 'min', 'Math::min': 'min', 'Long::max': 'max', 'Math::max': 'max'}
 # What the body of a lambda may be, 0 and 1 being its first and its second parameter.
 BODIES = {('binary', '+', 0, 1): 'sum', ('binary', '*', 0, 1): 'product', ('binary', '&', 0, 1): 'and',
           ('binary', '|', 0, 1): 'or', ('binary', '^', 0, 1): 'xor', 0: 'first', 1: 'last', ('call', 'Long.sum', 0, 1): 'sum',
           ('call', 'Math.min', 0, 1): 'min', ('call', 'Long.min', 0, 1): 'min',
-          ('call', 'Math.max', 0, 1): 'max', ('call', 'Long.max', 0, 1): 'max'}
+          ('call', 'Math.max', 0, 1): 'max', ('call', 'Long.max', 0, 1): 'max',
+          ('call', 'Math.addExact', 0, 1): EXACT.name}
 
 
 def read_operator(text):
@@ -58,6 +66,8 @@ def read_operator(text):
     else:
         read = read_lambda(text, 'pair')
         name = BODIES.get(without_parentheses(read.body, read.parameters))
+    if name == EXACT.name:
+        return EXACT
     if name not in OPERATORS:
         raise Refused('operator not listed')
     return OPERATORS[name]
@@ -78,24 +88,28 @@ def without_parentheses(node, parameters):
 
 
 def job_texts(data):
-    """(line, text) of each job. A line that continues a job has to have one above it."""
+    """The version, and (line, text) of each job. A line that continues a job has to have one above it."""
     if data.startswith(b'\xef\xbb\xbf'):
         data = data[3:]
     lines = data.split(b'\n')
-    found = []
+    version, found = None, []
     for number, line in enumerate(lines, 1):
         if line.endswith(b'\r') and number < len(lines):
             line = line[:-1]
         text = line.lstrip(b' \t')
         if not text or text.startswith((b'#', b'//')):
             continue
+        if version is None:
+            version = 2 if re.fullmatch(rb'version[ \t]+2[ \t]*', text) else 1
+            if version == 2:
+                continue
         if not text.startswith(b'.'):
             found.append((number, line))
         elif not found:
             raise RefusedFile(number, 'syntax')
         else:
             found[-1] = (found[-1][0], found[-1][1] + b' ' + line)
-    return found
+    return version or 1, found
 
 
 # As the grammar gives them. A number is (digits, has a minus), or an integer for a constant.
@@ -105,8 +119,9 @@ Call = namedtuple('Call', 'name numbers argument')
 class JobParser:
     """The grammar of a job. Numbers, names and arguments are only checked for their form."""
 
-    def __init__(self, text):
+    def __init__(self, text, version):
         self.text, self.tokens, self.next = text, cut(text), 0
+        self.operations = {**STAGES, **TERMINALS, **FALLBACKS[version]}
 
     def refuse(self):
         raise Refused('syntax')
@@ -139,11 +154,12 @@ class JobParser:
         while self.has('.'):
             calls.append(self.call())
         self.has(';')
+        fallback = calls.pop() if calls and calls[-1].name == 'onFault' else None
         if self.next < len(self.tokens) or not calls or calls[-1].name not in TERMINALS:
             self.refuse()
         if any(call.name not in STAGES for call in calls[:-1]):
             self.refuse()
-        return name, source, calls[:-1], calls[-1]
+        return name, source, calls[:-1], calls[-1], fallback
 
     def number(self):
         if self.has('Long'):
@@ -196,12 +212,12 @@ class JobParser:
 
     def call(self):
         name = self.word('name')
-        if name not in STAGES and name not in TERMINALS:
+        if name not in self.operations:
             self.refuse()
         self.want('(')
         commas, end = self.extent()
         wanted = NUMBERS.get(name, (0,))
-        has_argument = {**STAGES, **TERMINALS}[name] is not None
+        has_argument = self.operations[name] is not None
         before = len(commas) if has_argument else len(commas) + (end > self.next)
         if before not in wanted:
             self.refuse()
@@ -281,6 +297,8 @@ def read_operation(call, earlier):
         return Operation(call.name, numbers, None)
     if want == 'operator':
         operator = read_operator(call.argument)
+        if operator is EXACT and (call.name != 'reduce' or not numbers):
+            raise Refused('operator not listed')
         if call.name == 'reduce' and numbers:
             if operator.identity is None:
                 raise Refused('no identity')
@@ -291,15 +309,24 @@ def read_operation(call, earlier):
     for name in read.names():
         if name not in earlier:
             raise Refused('unknown job')
-        if earlier[name].terminal.name in ('toArray', 'anyMatch', 'allMatch', 'noneMatch'):
+        if earlier[name].terminal.name in NOT_SCALAR:
             raise Refused('not a number')
     return Operation(call.name, numbers, read)
 
 
-def read_job(text, columns, earlier):
+def read_fallback(call, terminal):
+    if call is None:
+        return None
+    number = value_of(call.numbers[0])
+    if terminal.name in NOT_SCALAR:
+        raise Refused('not scalar')
+    return number
+
+
+def read_job(text, version, columns, earlier):
     if len(earlier) >= MOST_JOBS or len(text) > MOST_BYTES:
         raise Refused('too long')
-    name, source, stages, terminal = JobParser(text).job()
+    name, source, stages, terminal, fallback = JobParser(text, version).job()
     if len(name) > MOST_NAME:
         raise Refused('too long')
     if name in earlier:
@@ -313,15 +340,16 @@ def read_job(text, columns, earlier):
         if len(read) == MOST_STAGES:
             raise Refused('too long')
         read.append(read_operation(call, earlier))
-    return Job(name, sources, read, read_operation(terminal, earlier))
+    return Job(name, sources, read, read_operation(terminal, earlier), read_fallback(fallback, terminal))
 
 
 def read_jobs(data, columns):
     """columns: the cells by name."""
     earlier = {}
-    for line, text in job_texts(data):
+    version, texts = job_texts(data)
+    for line, text in texts:
         try:
-            job = read_job(text, columns, earlier)
+            job = read_job(text, version, columns, earlier)
         except Refused as refused:
             raise RefusedFile(line, refused) from None
         earlier[job.name] = job

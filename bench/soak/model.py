@@ -17,7 +17,7 @@ import signal
 import sys
 
 sys.path.insert(0, os.path.dirname(os.path.realpath(__file__)))
-from jobs import LONGEST_SOURCE, RefusedFile, names_of, read_jobs  # noqa: E402
+from jobs import EXACT, LONGEST_SOURCE, RefusedFile, names_of, read_jobs  # noqa: E402
 from lambdas import MAX, MIN, Fault, Refused, wrap  # noqa: E402
 
 MOST_COLUMNS = 256
@@ -232,6 +232,8 @@ def answer_of(terminal, stage, items, env):
     """(kind, value) of a job whose walk meets no fault."""
     name, numbers, of = terminal
     values = (value for _, value in items)
+    if of is EXACT:
+        return 'number', exact_sum(items, stage)
     if name == 'reduce':
         folded = None
         for value in values:
@@ -252,6 +254,24 @@ def answer_of(terminal, stage, items, env):
     if name == 'toArray':
         return 'array', list(values)
     return 'optional', {'min': min, 'max': max, 'findFirst': next}[name](*first_of(name, values))
+
+
+def exact_sum(items, stage):
+    """The sum, if each sum from the left is within 64 bits."""
+    total = 0
+    for place, value in items:
+        total += value
+        if not MIN <= total <= MAX:
+            raise WalkFault('overflow', stage, place)
+    return total
+
+
+def instead_of_fault(job, fault):
+    """The answer of a job whose walk meets this fault."""
+    if job.on_fault is None:
+        return 'fault', fault
+    name, numbers, _ = job.terminal
+    return 'number' if name in ('sum', 'count') or numbers else 'optional', job.on_fault
 
 
 def first_of(name, values):
@@ -276,7 +296,7 @@ def meaning(jobs, columns):
         except Missing as missing:
             answers[job.name] = ('unusable', missing.args[0])
         except WalkFault as fault:
-            answers[job.name] = ('fault', fault.args)
+            answers[job.name] = instead_of_fault(job, fault.args)
     return list(answers.items())
 
 

@@ -78,6 +78,14 @@ ANSWERS = [
     ('of(3).map(x -> - 9223372036854775808 + x).sum()', '-9223372036854775805'),
     ('of(6, 3).reduce(-1, (long a, long b) -> ((a) & (b)))', '2'),
     ('of(6, 3).reduce((a, b) -> Math.max(a, b))', 'OptionalLong[6]'),
+    # Exact sums.
+    ('of(-5, 9223372036854775807, 3).reduce(0, Math::addExact)', '9223372036854775805'),
+    ('of(9223372036854775807, 1, -5).reduce(0, Math::addExact)', 'fault overflow stage 1 item 1'),
+    ('of(9223372036854775807, 2).flatMap(x -> of(x, 1)).reduce(0, Math::addExact)', 'fault overflow stage 2 item 0'),
+    ('of(1, 0).map(x -> 1 / x).reduce(0, Math::addExact)', DIVISION(1, 1)),
+    ('of(9223372036854775807, 1, 0).filter(x -> 1 / x > -1).reduce(0, (u, v) -> (Math.addExact(u, (v))))',
+     'fault overflow stage 2 item 1'),
+    ('empty().reduce(0, Math::addExact)', '0'),
 ]
 
 # (a job file, its report)
@@ -96,6 +104,16 @@ REPORTS = [
     ('z = of(0).map(x -> 1 / x).toArray()\nr = concat(of(1), result(z)).limit(0).count()\n',
      'z = fault divide-by-zero stage 1 item 0\nr = unusable z\n'),
     ('true = of(2).sum()\nlong = of(3).filter(x -> x > $true).count()\n', 'true = 2\nlong = 1\n'),
+    ('version 2\nz = of(0).map(x -> 1 / x).sum().onFault(-1)\ny = of(1).map(x -> x + $z).sum()\n'
+     'm = of(1, 0).map(x -> 1 / x).max().onFault(9)\nn = empty().min().onFault(9)\n',
+     'z = -1\ny = 0\nm = OptionalLong[9]\nn = OptionalLong.empty\n'),
+    ('\ufeff# c\n version\t2 \nq = of(0).map(x -> 1 / x).sum()\nu = of(1).map(x -> x + $q).sum()\n.onFault(7);\n',
+     'q = fault divide-by-zero stage 1 item 0\nu = unusable q\n'),
+    ('version 2\nr = of(0).map(x -> 1 / x).reduce(1, product).onFault(2)\ns = of(0).map(x -> 1 / x).reduce(product).onFault(3)\n'
+     'f = of(0).map(x -> 1 / x).findFirst().onFault(4)\ne = of(9223372036854775807, 1).reduce(0, Math::addExact).onFault(5)\n'
+     'l = range(Long.MIN_VALUE, 1).count().onFault(6)\nversion = of(1).prefix(0, 9, sum).min().onFault(7)\n',
+     'r = 2\ns = OptionalLong[3]\nf = OptionalLong[4]\ne = 5\nl = 6\nversion = OptionalLong[7]\n'),
+    ('version 2', ''),
     ('j0 = of(1).sum()\n' + ''.join(f'j{it} = of(1).map(x -> x + $j{it - 1}).sum()\n' for it in range(1, 256)),
      ''.join(f'j{it} = {it + 1}\n' for it in range(256))),
 ]
@@ -176,6 +194,15 @@ REFUSED = [
     ('concat(of(1)).sum()', 'syntax'),
     ('of(1).sum().sum()', 'syntax'),
     ('of(1).sum();;', 'syntax'),
+    ('of(1).reduce(1, Math::addExact)', 'not identity'),
+    ('of(1).reduce(Math::addExact)', 'operator not listed'),
+    ('of(1).reduce((a, b) -> Math.addExact(a, b))', 'operator not listed'),
+    ('of(1).prefix(Math::addExact).sum()', 'operator not listed'),
+    ('of(1).reduce(0, (a, b) -> Math.addExact(b, a))', 'operator not listed'),
+    ('of(1).reduce(0, Long::addExact)', 'operator not listed'),
+    ('of(1).reduce(0, addExact)', 'operator not listed'),
+    ('of(1).reduce(9223372036854775808, Math::addExact)', 'literal too large'),
+    ('of(1).sum().onFault(0)', 'syntax'),
 ]
 
 # (a job file, the line and the cause)
@@ -190,7 +217,17 @@ REFUSED_FILES = [
     ('a = of(1).map(x -> Math\n# c\n .abs(x) +).sum()\n', '1: expression syntax at column 21'),
     ('a = of(1).map(x -> x\n  +).sum()\n', '1: syntax'),
     ('a = of(1).sum()\r', '1: syntax'),
-    ('version 2\na = of(1).sum()\n', '1: syntax'),
+    ('version 2;\na = of(1).sum()\n', '1: syntax'),
+    ('version 3\na = of(1).sum()\n', '1: syntax'),
+    ('version 2\n# c\n.sum()\n', '3: syntax'),
+    ('version 2\nversion 2\n', '2: syntax'),
+    ('a = of(1).sum()\nversion 2\n', '2: syntax'),
+    ('version 2\nt = of(1).toArray().onFault(0)\n', '2: not scalar'),
+    ('version 2\nt = of(1).anyMatch(x -> x > 1).onFault(0)\n', '2: not scalar'),
+    ('version 2\nt = of(1).toArray().onFault(9223372036854775808)\n', '2: literal too large'),
+    ('version 2\nt = of(1).sum().onFault(0).onFault(0)\n', '2: syntax'),
+    ('version 2\nt = of(1).onFault(0)\n', '2: syntax'),
+    ('version 2\nt = of(1).sum().onFault()\n', '2: syntax'),
 ]
 
 # (a column file, what stands on standard error)

@@ -15,20 +15,24 @@ STAGES = {'map', 'filter', 'flatMap', 'limit', 'skip', 'takeWhile', 'dropWhile',
 KINDS = {'sum': 'number', 'count': 'number', 'min': 'optional', 'max': 'optional', 'findFirst': 'optional',
          'toArray': 'array', 'anyMatch': 'truth', 'allMatch': 'truth', 'noneMatch': 'truth', 'reduce': 'optional'}
 MOST_SOURCES = 8
+FALLBACK = 'onFault'
+# The addition of exact sums, which is no operator: a part's sum may be too large where the whole's isn't.
+EXACT = 'exact'
 
-METHODS = {'Long::sum': 'sum', 'Long::min': 'min', 'Math::min': 'min', 'Long::max': 'max', 'Math::max': 'max'}
+METHODS = {'Math::addExact': EXACT, 'Long::sum': 'sum', 'Long::min': 'min', 'Math::min': 'min', 'Long::max': 'max', 'Math::max': 'max'}
 # Bodies of an operator's lambda without their parentheses, 0 and 1 being the first and the second parameter.
 BODIES = {'0 + 1': 'sum', '0 * 1': 'product', '0 & 1': 'and', '0 | 1': 'or', '0 ^ 1': 'xor', '0': 'first', '1': 'last',
           'Long . sum 0 , 1': 'sum', 'Long . min 0 , 1': 'min', 'Math . min 0 , 1': 'min', 'Long . max 0 , 1': 'max',
-          'Math . max 0 , 1': 'max'}
+          'Math . max 0 , 1': 'max', 'Math . addExact 0 , 1': EXACT}
 OPERATORS = {'sum', 'product', 'min', 'max', 'and', 'or', 'xor', 'affine', 'first', 'last'}
 
 Token = namedtuple('Token', 'kind text start end')
-# A source that is no concat, a stage or a terminal: its name, its text, and the tokens between its parentheses.
+# A source that is no concat, a stage, a terminal or a fallback: its name, its text, and the tokens between its parentheses.
 Call = namedtuple('Call', 'name text tokens')
 # concat: the text of the outermost concat, or None. names: 'array' or 'number' for each job that it names, in order of
-# writing. kind: that of its answer. operator: of a reduce.
-Job = namedtuple('Job', 'name line text sources concat stages terminal names kind operator')
+# writing. kind: that of its answer. operator: of a reduce. fallback: what stands after the terminal, or None. version: of
+# its file.
+Job = namedtuple('Job', 'name line text sources concat stages terminal names kind operator fallback version')
 
 
 class NotRead(Exception):
@@ -39,29 +43,34 @@ class NotRead(Exception):
 
 
 def job_texts(data):
-    """(line, text) of each job of a file."""
-    lines, found = data.removeprefix(b'\xef\xbb\xbf').decode('latin-1').split('\n'), []
+    """The version of a file, and (line, text) of each of its jobs."""
+    lines, found, version = data.removeprefix(b'\xef\xbb\xbf').decode('latin-1').split('\n'), [], None
     for number, line in enumerate(lines, 1):
         if line.endswith('\r') and number < len(lines):
             line = line[:-1]
         text = line.lstrip(' \t')
         if not text or text.startswith(('#', '//')):
             continue
+        if version is None:
+            version = 2 if re.fullmatch('version[ \t]+2[ \t]*', text) else 1
+            if version == 2:
+                continue
         if not text.startswith('.'):
             found.append((number, line))
         elif found:
             found[-1] = found[-1][0], f'{found[-1][1]} {line}'
         else:
             raise NotRead(number)
-    return found
+    return version or 1, found
 
 
 def read_jobs(data):
     """The jobs of a file, or NotRead."""
     jobs = {}
-    for line, text in job_texts(data):
+    version, texts = job_texts(data)
+    for line, text in texts:
         try:
-            job = JobReader(line, text).job()
+            job = JobReader(line, text, version).job()
         except (IndexError, KeyError, ValueError):
             raise NotRead(line) from None
         if job.name in jobs or not all(name in jobs for name in job.names):
@@ -85,8 +94,8 @@ def tokens_of(text):
 class JobReader:
     """Reads the text of one job. What isn't in the grammar ends in one of the errors that read_jobs knows."""
 
-    def __init__(self, line, text):
-        self.line, self.text, self.tokens, self.at = line, text, tokens_of(text), 0
+    def __init__(self, line, text, version):
+        self.line, self.text, self.version, self.tokens, self.at = line, text, version, tokens_of(text), 0
 
     def take(self, *wanted):
         """The next token, which has to be one of these texts, if there are any."""
@@ -135,14 +144,15 @@ class JobReader:
         calls = []
         while self.has('.'):
             self.take()
-            calls.append(self.call(STAGES | set(KINDS)))
+            calls.append(self.call(STAGES | set(KINDS) | ({FALLBACK} if self.version == 2 else set())))
         if self.has(';'):
             self.take()
+        fallback = calls.pop() if calls[-1].name == FALLBACK else None
         if self.at < len(self.tokens) or calls[-1].name not in KINDS or not all(it.name in STAGES for it in calls[:-1]):
             raise ValueError
         kind, operator = kind_of(calls[-1])
         return Job(name, self.line, self.text, sources, concat, calls[:-1], calls[-1], names_of(sources, self.tokens), kind,
-                   operator)
+                   operator, fallback, self.version)
 
 
 def names_of(sources, tokens):

@@ -9,6 +9,7 @@ job of an array that these name runs again, in each part.
 """
 from collections import namedtuple
 
+from .jobs import EXACT
 from .merging import Disagreement, items_before, merged, same_in_all
 from .reports import Answer
 
@@ -45,6 +46,10 @@ def refusal_of(job, cut_sources, planned):
     for stage in job.stages:
         if stage.name not in STAGES_OF_ITEMS:
             return f'{shown(stage.text)} beside {beside}'
+    if job.operator == EXACT:
+        return f'{shown(job.terminal.text)} beside {beside}'
+    if job.fallback:
+        return f'{shown(job.fallback.text)} beside {beside}'
     return None
 
 
@@ -112,7 +117,8 @@ class Plan:
     def job_file(self, number, answers):
         """The job file of a round, after the answers of the rounds before it."""
         names, given = self.members(number, answers)
-        lines = [f'{name} = of({answers[name].value}).sum()' if name in given else self.jobs[name].job.text for name in names]
+        lines = ['version 2'] if any(it.job.version == 2 for it in self.jobs.values()) else []
+        lines += [f'{name} = of({answers[name].value}).sum()' if name in given else self.jobs[name].job.text for name in names]
         return ''.join(line + '\n' for line in lines).encode('latin-1')
 
     def needs_parts(self, number, answers):

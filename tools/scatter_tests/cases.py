@@ -22,6 +22,8 @@ UNMERGEABLE = [
     ('s = column("b").takeWhile(x -> x < 9).count()', '1: s isn\'t mergeable: takeWhile(x -> x < 9) beside column("b")'),
     ('s = column("b")\n  .dropWhile(x -> x < 9).count()', '1: s isn\'t mergeable: dropWhile(x -> x < 9) beside column("b")'),
     ('s = column("a").prefix(Long::sum).max()', '1: s isn\'t mergeable: prefix(Long::sum) beside column("a")'),
+    ('s = column("a").reduce(0, Math::addExact)', '1: s isn\'t mergeable: reduce(0, Math::addExact) beside column("a")'),
+    ('version 2\nt = of(1).sum().onFault(7)\ns = column("a").sum().onFault(0)', '3: s isn\'t mergeable: onFault(0) beside column("a")'),
     ('s = column("a").prefix(1, 2, max).max()', '1: s isn\'t mergeable: prefix(1, 2, max) beside column("a")'),
     ('s = concat(range(0, 3), column("a")).sum()', '1: s isn\'t mergeable: concat with range(0, 3) beside column("a")'),
     ('s = concat(column("a"), column("b")).sum()', '1: s isn\'t mergeable: concat beside column("a")'),

@@ -71,11 +71,14 @@ class PartsWriter(Writer):
                 self.cut_arrays[name] = self.cells_of(parts)
         elif 'Match' not in parts[-1]:
             self.numbers.append(name)
+            if kind == 'other' and self.version == 2:
+                parts.append(f'onFault({self.number()})')
         return f'{name} = {self.spell(parts)}'
 
     def job_file(self):
         names = [self.pick(f'j{at}', f'_{at}', f'range{at}', f'concat{at}') for at in range(self.random.randint(1, 9))]
-        lines = [self.job(name, self.pick('cut', 'cut', 'cut', 'total', 'array', 'other')) for name in names]
+        lines = ['version 2'] if self.version == 2 else []
+        lines += [self.job(name, self.pick('cut', 'cut', 'cut', 'total', 'array', 'other')) for name in names]
         text = self.pick('\n', '\r\n', '\n\n', '\n# a comment\n').join(lines) + self.pick('\n', '', '\r\n')
         return (self.pick('', '', '\ufeff') + text).encode()
 

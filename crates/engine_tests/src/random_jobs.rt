@@ -261,7 +261,7 @@ fn random_jobs_have_the_answers_of_a_model_with_any_settings(rt: HostRuntime) ->
             (1_000, 100),
         ] {
             let settings = Settings::of(workers, threshold, nodes, Form::Text).ok_or(AllocError)?;
-            let change = first_change(&rt, COLUMNS, JOBS, &settings)?;
+            let change = first_change(&rt, COLUMNS, "", JOBS, &settings)?;
             assert!(rt;
                 change.is_none(),
                 "{workers} {threshold} {nodes}: {change:?}"

@@ -177,7 +177,7 @@ fn jobs_that_name_others_have_their_answers_with_any_settings(rt: HostRuntime) -
         (64, 1_000, 4_096),
     ] {
         let settings = Settings::of(workers, threshold, nodes, Form::Text).ok_or(AllocError)?;
-        let change = first_change(&rt, "a\n", table.as_str(), &settings)?;
+        let change = first_change(&rt, "a\n", "", table.as_str(), &settings)?;
         assert!(rt;
             change.is_none(),
             "{workers} {threshold} {nodes}: {change:?}"

@@ -112,9 +112,11 @@ fn the_first_faulty_job_is_reported_with_its_line(rt: HostRuntime) -> Result<(),
         b"a = of(1).sum()\n\na = of(9223372036854775808).map(x -> ).sum()",
         b"a = of(1).sum()\r\n \r\nb = of(1).map(x -> y).sum()\nb = (\na = of(1).sum()",
         b"a = of(1).sum()\na = of(2).sum(0)",
+        b"version 2\nt = of(1).toArray().onFault(0)",
+        b"s = of(1).sum().onFault(0)",
     ];
     let lines =
-        "line 3: syntax|line 4: syntax|line 3: same name|line 3: unknown name|line 2: syntax";
+        "line 3: syntax|line 4: syntax|line 3: same name|line 3: unknown name|line 2: syntax|line 2: not scalar|line 1: syntax";
     for (jobs, want) in files.into_iter().zip(lines.split('|')) {
         let line = format!(in rt.alloc(); "streamrun: jobs: {want}")?;
         assert!(rt; is_refused(&rt, None, jobs, line.as_str()), "{want}");

@@ -69,18 +69,41 @@ p8 = of(2, 1, 0).prefix(Long::sum).map(x -> 1 / (x - 3)).toArray() => p8 = fault
 p9 = of(1, 0).map(x -> 1 / x).prefix(0, 9, Long::sum).count() => p9 = fault divide-by-zero stage 1 item 1
 n2 = range(0, 100000).filter(x -> x % 3 == 0).prefix(Long::sum).skip(33333).toArray() => n2 = [1666683333]"#;
 
+/// Jobs of version 2 of the language, likewise: a number in place of a fault of any kind, in the form that the terminal gives.
+const FALLBACKS: &str = "\
+z = of(0).map(x -> 1 / x).sum().onFault(-1) => z = -1
+y = of(1).map(x -> x + $z).sum() => y = 0
+m = of(1, 0).map(x -> 1 / x).max().onFault(9) => m = OptionalLong[9]
+n = empty().min().onFault(9) => n = OptionalLong.empty
+q = of(0).map(x -> 1 / x).sum() => q = fault divide-by-zero stage 1 item 0
+u = of(1).map(x -> x + $q).sum().onFault(7) => u = unusable q
+u2 = of(1).map(x -> x + $n).sum().onFault(7); => u2 = unusable n
+f = range(0, 3000).map(x -> 1 / (x - 2500)).findFirst().onFault(5) => f = OptionalLong[0]
+f2 = range(0, 3000).filter(x -> 1 / (x - 2500) > 0).findFirst().onFault(5) => f2 = OptionalLong[5]
+c = range(0, 3000).map(x -> 6 / (2000 - x)).count().onFault(5) => c = 5
+c2 = range(0, 3000).count().onFault(5) => c2 = 3000
+r = range(0, 3000).map(x -> 6 / (x - 1)).reduce(1, product).onFault(8) => r = 8
+r2 = range(0, 3000).map(x -> 6 / (x - 1)).reduce(product).onFault(8) => r2 = OptionalLong[8]
+l = range(Long.MIN_VALUE, 1).count().onFault(Long.MIN_VALUE) => l = -9223372036854775808
+o = of(1, 2, 3).prefix(1, 9, sum).min().onFault(3) => o = OptionalLong[3]
+s = range(0, 3000).map(x -> 6 / (2999 - x)).skip(5).max().onFault(4) => s = OptionalLong[4]
+e = of(9223372036854775807, 1, -5).reduce(0, Math::addExact).onFault(0) => e = 0
+w = range(0, 3000).map(x -> x + $r + $s + $e).sum() => w = 4534500";
+
 /// A job on several lines, which end in CR LF.
 const LINES: &[u8] =
     b"# squares\r\ns = LongStream.rangeClosed(1, 4)\r\n  .map((x) -> x * x)\r\n  .sum();\r\n";
 
-/// The number of the first row of a table of jobs whose line of the report is another one, if there is such a row.
+/// The number of the first row of a table of jobs whose line of the report is another one, if there is such a row. The job file
+/// begins with `start`.
 pub fn first_change<H: AllocGlobal + Threads + Wait + Sync>(
     rt: &H,
     columns: &str,
+    start: &str,
     table: &str,
     settings: &Settings,
 ) -> Result<Option<usize>, AllocError> {
-    let mut jobs = Vec::new(rt.alloc());
+    let mut jobs = start.as_bytes().to_vec(rt.alloc())?;
     let mut report = Vec::new(rt.alloc());
     for row in table.lines() {
         let (job, line) = halves(row);
@@ -106,11 +129,17 @@ fn settings_change_no_byte_of_a_report(rt: HostRuntime) -> Result<(), Fail> {
     for workers in [1, 2, 8, 64] {
         for (threshold, nodes) in [(1, 0), (1, 4_096), (1_000, 0), (1_000, 4_096)] {
             let settings = Settings::of(workers, threshold, nodes, Form::Text).ok_or(AllocError)?;
-            let change = first_change(&rt, COLUMNS, JOBS, &settings)?;
-            assert!(rt;
-                change.is_none(),
-                "{workers} {threshold} {nodes}: {change:?}"
-            );
+            for (start, table) in [
+                ("", JOBS),
+                ("version 2\n", JOBS),
+                ("version 2\n", FALLBACKS),
+            ] {
+                let change = first_change(&rt, COLUMNS, start, table, &settings)?;
+                assert!(rt;
+                    change.is_none(),
+                    "{workers} {threshold} {nodes} {start}: {change:?}"
+                );
+            }
             for (jobs, report) in [(LINES, "s = 30\n"), (b"".as_slice(), "")] {
                 let outcome = run_set(&rt, b"a\n", jobs, &settings);
                 assert!(rt;

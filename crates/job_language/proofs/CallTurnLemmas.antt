@@ -11,6 +11,8 @@ use Rattle.job_language.specs.declared.fault.Cause.{Cause}
 use Rattle.job_language.specs.declared.fault.Cause.TheVariants as cause
 use Rattle.job_language.specs.declared.operation.Role.{Role}
 use Rattle.job_language.specs.declared.operation.Role.TheVariants as role
+use Rattle.job_language.specs.declared.scope.Gives.{Gives}
+use Rattle.job_language.specs.declared.scope.Gives.TheVariants as gives
 use Rattle.job_language.specs.Table.{role_of}
 use Rattle.job_language.specs.declared.operation.Operation.{Operation}
 use Rattle.job_language.specs.declared.job.JobStage.{JobStage}
@@ -18,7 +20,7 @@ use Rattle.job_language.specs.declared.job.PlainSource.{PlainSource}
 use Rattle.job_language.specs.Jobs.{AbstractJob, source_of, sources_of, job_stage_of, job_stages_of}
 use Rattle.job_language.specs.Causes.{Scope, first_cause, when, stage_cause, early_causes, numbers_of}
 use Rattle.job_language.specs.Arguments.{Argument, PlacedCall, IsArgumentRead}
-use Rattle.job_language.specs.Verdicts.{AbstractCall, abstract_call, abstract_stage, call_answer, identity_cause, unless, added, IsReadAfter, IsCallRead, IsReadInTurn, AreRead}
+use Rattle.job_language.specs.Verdicts.{AbstractCall, abstract_call, abstract_stage, call_answer, identity_cause, unless, added, below_terminal, fallback, fallback_for, given_by, IsReadAfter, IsCallRead, IsReadInTurn, IsNextCall, AreRead}
 use Rattle.job_language.specs.Shapes.{placed_in, all_placed}
 use Rattle.job_language.specs.Parts.{part_in, answer_in, Answers}
 
@@ -42,6 +44,7 @@ grown j role.Stage o ks a h le = let lt = below (length j.stages) h in let one =
 grown j role.Source o ks a h le = le
 grown j role.Concatenation o ks a h le = le
 grown j role.Terminal o ks a h le = le
+grown j role.Fallback o ks a h le = le
 
 kept : (j : AbstractJob) (r : Role) (o : Operation) (ks : List ℤ) (a : Argument) (i : Option Cause) (g : AbstractCall) → unless i (abstract_call r o ks a) ≡ Ok g → stage_cause (length j.stages) r ≡ None → length j.stages ≤ 32 → length (added j g).stages ≤ 32
 kept j r o ks a None g e h le = let same : abstract_call r o ks a ≡ g = cc in subst (λ v. length (added j v).stages ≤ 32) same (grown j r o ks a h le)
@@ -56,14 +59,37 @@ in_turn : (j : AbstractJob) (s : Scope) (t : TokenizedText) (c : PlacedCall) (g 
 in_turn j s t c g (Some e) h r le = absurd cc
 in_turn j s t c g None h r le = after_call j s t c g (first_cause (early_causes c.call)) r h le
 
-pub few_after : (j : AbstractJob) (s : Scope) (t : TokenizedText) (c : PlacedCall) (g : AbstractCall) → IsReadInTurn (stage_cause (length j.stages) (role_of c.call.operation)) s t c (Ok g) → length j.stages ≤ 32 → length (added j g).stages ≤ 32
-few_after j s t c g r le = in_turn j s t c g (stage_cause (length j.stages) (role_of c.call.operation)) refl r le
+after_turn : (j : AbstractJob) (s : Scope) (t : TokenizedText) (c : PlacedCall) (g : AbstractCall) → IsReadInTurn (stage_cause (length j.stages) (role_of c.call.operation)) s t c (Ok g) → length j.stages ≤ 32 → length (added j g).stages ≤ 32
+after_turn j s t c g r le = in_turn j s t c g (stage_cause (length j.stages) (role_of c.call.operation)) refl r le
+
+by_terminal : (d : Gives) (j : AbstractJob) (z : ℤ) (g : AbstractCall) → fallback_for d z ≡ Ok g → length j.stages ≤ 32 → length (added j g).stages ≤ 32
+by_terminal gives.Number j z g h le = let same : fallback z ≡ g = cc in subst (λ v. length (added j v).stages ≤ 32) same le
+by_terminal gives.Boolean j z g h le = absurd cc
+by_terminal gives.Array j z g h le = absurd cc
+
+by_answer : (j : AbstractJob) (s : Scope) (t : TokenizedText) (c : PlacedCall) (q : Result AbstractCall Cause) (g : AbstractCall)
+    → IsReadInTurn (stage_cause (length j.stages) (role_of c.call.operation)) s t c q → below_terminal j.terminal q ≡ Ok g → length j.stages ≤ 32 → length (added j g).stages ≤ 32
+by_answer j s t c (Err e) g turn h le = absurd cc
+by_answer j s t c (Ok (fallback z)) g turn h le = by_terminal (given_by j.terminal) j z g h le
+by_answer j s t c (Ok k) g turn h le = let same : k ≡ g = cc in subst (λ v. length (added j v).stages ≤ 32) same (after_turn j s t c k turn le)
+
+pub few_after : (j : AbstractJob) (s : Scope) (t : TokenizedText) (c : PlacedCall) (g : AbstractCall) → IsNextCall j s t c (Ok g) → length j.stages ≤ 32 → length (added j g).stages ≤ 32
+few_after j s t c g (q, turn, h) le = by_answer j s t c q g turn h le
+
+-- a call that is read in turn, below the terminal
+pub next_refused : (j : AbstractJob) (s : Scope) (t : TokenizedText) (c : PlacedCall) (e : Cause) → IsReadInTurn (stage_cause (length j.stages) (role_of c.call.operation)) s t c (Err e) → IsNextCall j s t c (Err e)
+next_refused j s t c e turn = (Err e, turn, refl)
+
+pub next_read : (j : AbstractJob) (s : Scope) (t : TokenizedText) (c : PlacedCall) (g : AbstractCall) (r : Result CallPart Cause) → IsReadInTurn (stage_cause (length j.stages) (role_of c.call.operation)) s t c (Ok g)
+    → answer_in part_in r ≡ below_terminal j.terminal (Ok g) → Answers part_in (IsNextCall j s t c) r
+next_read j s t c g (Ok p) turn h = (Ok g, turn, sym h)
+next_read j s t c g (Err e) turn h = λ other. (Ok g, turn, sym h)
 
 -- the calls from a place on
-pub turn_here : (s : Scope) (t : TokenizedText) (j : AbstractJob) (ws : List Word) (cs : List written.WrittenCall) (i : ℕ) (x : written.WrittenCall) (e : Cause) → i < length cs → x ≡ get_or cs i x → IsReadInTurn (stage_cause (length j.stages) (role_of x.operation)) s t (placed_in ws x) (Err e) → AreRead s t j (all_placed ws (drop i cs)) (Err e)
+pub turn_here : (s : Scope) (t : TokenizedText) (j : AbstractJob) (ws : List Word) (cs : List written.WrittenCall) (i : ℕ) (x : written.WrittenCall) (e : Cause) → i < length cs → x ≡ get_or cs i x → IsNextCall j s t (placed_in ws x) (Err e) → AreRead s t j (all_placed ws (drop i cs)) (Err e)
 turn_here s t j ws cs i x e lt is h = subst (λ v. AreRead s t j (all_placed ws v) (Err e)) (sym (drop_more cs i x lt ∙ ap (λ y. y ∷ drop (i + 1) cs) (sym is))) (inl (e, h, refl))
 
-pub turn_more : (s : Scope) (t : TokenizedText) (j k : AbstractJob) (ws : List Word) (cs : List written.WrittenCall) (i : ℕ) (x : written.WrittenCall) (g : AbstractCall) (r : Result AbstractJob Cause) → i < length cs → x ≡ get_or cs i x → IsReadInTurn (stage_cause (length j.stages) (role_of x.operation)) s t (placed_in ws x) (Ok g) → k ≡ added j g → AreRead s t k (all_placed ws (drop (i + 1) cs)) r → AreRead s t j (all_placed ws (drop i cs)) r
+pub turn_more : (s : Scope) (t : TokenizedText) (j k : AbstractJob) (ws : List Word) (cs : List written.WrittenCall) (i : ℕ) (x : written.WrittenCall) (g : AbstractCall) (r : Result AbstractJob Cause) → i < length cs → x ≡ get_or cs i x → IsNextCall j s t (placed_in ws x) (Ok g) → k ≡ added j g → AreRead s t k (all_placed ws (drop (i + 1) cs)) r → AreRead s t j (all_placed ws (drop i cs)) r
 turn_more s t j k ws cs i x g r lt is h same rest = subst (λ v. AreRead s t j (all_placed ws v) r) (sym (drop_more cs i x lt ∙ ap (λ y. y ∷ drop (i + 1) cs) (sym is))) (inr (g, h, subst (λ v. AreRead s t v (all_placed ws (drop (i + 1) cs)) r) same rest))
 
 pub length_stages : (gs : List JobStage) → length (job_stages_of gs) ≡ length gs

@@ -18,7 +18,7 @@ use Rattle.job_language.specs.Table.{param_of}
 use Rattle.job_language.specs.Splitting.{word_of, words_in}
 use Rattle.job_language.specs.FaultCauses.{cause_of}
 use Rattle.job_language.specs.Causes.{Scope, number_in, numbers_of}
-use Rattle.job_language.specs.Operators.{op_name, op_among, spelled_op}
+use Rattle.job_language.specs.Operators.{is_add_exact, op_name, op_among, spelled_op}
 use Rattle.job_language.specs.Arguments.{string_in, name_in, IsLambdaRead}
 
 -- an operator with another name is skipped
@@ -79,6 +79,35 @@ no_spelled (a ∷ []) h = absurd (omega arith)
 no_spelled (a ∷ b ∷ []) h = absurd (omega arith)
 no_spelled (a ∷ b ∷ c ∷ []) h = absurd (omega arith)
 no_spelled (a ∷ b ∷ c ∷ d ∷ ws) h = no_more_for (word_of a) (word_of b) (word_of c) (word_of d) (words_in ws)
+
+-- words of which there aren't three are no `Math::addExact`
+no_exact_two : (a b : Word) → false ≡ is_add_exact (a ∷ b ∷ [])
+no_exact_two (named v) (sign symbol.DoubleColon) = refl
+no_exact_two (named v) b = refl
+no_exact_two a b = refl
+
+no_exact_for : (a b c d : Word) (ws : List Word) → false ≡ is_add_exact (a ∷ b ∷ c ∷ d ∷ ws)
+no_exact_for (named v) (sign symbol.DoubleColon) (named w) d ws = refl
+no_exact_for (named v) (sign symbol.DoubleColon) c d ws = refl
+no_exact_for (named v) b c d ws = refl
+no_exact_for a b c d ws = refl
+
+no_exact_one : (a : Word) → false ≡ is_add_exact (a ∷ [])
+no_exact_one (named v) = refl
+no_exact_one a = refl
+
+pub no_exact_few : (ws : List code.Word) → length ws < 3 → false ≡ is_add_exact (words_in ws)
+no_exact_few [] h = refl
+no_exact_few (a ∷ []) h = no_exact_one (word_of a)
+no_exact_few (a ∷ b ∷ []) h = no_exact_two (word_of a) (word_of b)
+no_exact_few (a ∷ b ∷ c ∷ ws) h = absurd (omega arith)
+
+pub no_exact_many : (ws : List code.Word) → 4 ≤ length ws → false ≡ is_add_exact (words_in ws)
+no_exact_many [] h = refl
+no_exact_many (a ∷ []) h = absurd (omega arith)
+no_exact_many (a ∷ b ∷ []) h = absurd (omega arith)
+no_exact_many (a ∷ b ∷ c ∷ []) h = absurd (omega arith)
+no_exact_many (a ∷ b ∷ c ∷ d ∷ ws) h = no_exact_for (word_of a) (word_of b) (word_of c) (word_of d) (words_in ws)
 
 -- a lambda that is refused
 pub lambda_refused : (s : Scope) (text : List ℕ) (w : Want) (f : ReadFault) (e : Cause) → IsRefused text w f → e ≡ cause_of f → e ≢ cause.NoMemory → IsLambdaRead s text w (Err e)

@@ -7,8 +7,7 @@ use Rattle.stream_tokens.specs.declared.job_text.TextFault.TheVariants as text
 use Rattle.std.specs.List.{starts_with}
 use Rattle.std.specs.Prelude.{◌||◌, nat_eq, if◌then◌else◌}
 use Rattle.stream_tokens.specs.Bytes.{is_blank}
-use Rattle.stream_tokens.specs.JobTexts.{NumberedLine, begun, by_kind, job_texts_of, jobs_after, jobs_of_lines, kind_of, kind_of_solid, numbered, without_mark}
-use Rattle.stream_tokens.specs.Lines.{lines_of}
+use Rattle.stream_tokens.specs.JobTexts.{NumberedLine, begun, by_kind, is_version_line, job_texts_of, jobs_after, jobs_of_lines, kind_of, kind_of_solid, lines_in, texts_of_lines, version_of}
 use Rattle.columns.specs.Table.{NamedColumn}
 use Rattle.job_language.specs.declared.fault.Cause.{Cause}
 use Rattle.job_language.specs.declared.fault.Cause.TheVariants.{Syntax, TooLong}
@@ -17,53 +16,73 @@ use Rattle.job_language.specs.Files.{AreJobsLeft, AreJobsRead, IsNext, IsRefused
 use Rattle.job_language.specs.Jobs.{AbstractJob}
 use Rattle.job_language.proofs.EachVerdict.{each_read}
 
-each_next : (columns : List NamedColumn) (above : List AbstractJob) (t : List ℕ) → (r : Result AbstractJob Cause) × IsNext columns above t r
-each_next columns above t =
-    ⊎_elim (λ (few : length above < 256). let r = each_read (scope_below columns above) t in (r.0, inr (few, r.1)))
+each_next : (version : ℕ) (columns : List NamedColumn) (above : List AbstractJob) (t : List ℕ) → (r : Result AbstractJob Cause) × IsNext version columns above t r
+each_next version columns above t =
+    ⊎_elim (λ (few : length above < 256). let r = each_read (scope_below version columns above) t in (r.0, inr (few, r.1)))
     (λ (many : 256 ≤ length above). (Err TooLong, inl (many, refl)))
     (order (length above) 256)
 
-abbrev HasJobs : List NamedColumn → List AbstractJob → List JobText → Type 0
-HasJobs columns above ts = (r : Result (List AbstractJob) JobFault) × AreJobsRead columns above ts r
+abbrev HasJobs : ℕ → List NamedColumn → List AbstractJob → List JobText → Type 0
+HasJobs version columns above ts = (r : Result (List AbstractJob) JobFault) × AreJobsRead version columns above ts r
 
-after_next : (columns : List NamedColumn) (above : List AbstractJob) (t : JobText) (ts : List JobText) (r : Result AbstractJob Cause) → IsNext columns above t.text r → ((j : AbstractJob) → HasJobs columns (above ++ j ∷ []) ts) → HasJobs columns above (t ∷ ts)
-after_next columns above t ts (Err c) h later = (Err (fault_at t c), inl (c, h, refl))
-after_next columns above t ts (Ok j) h later = let l = later j in (l.0, inr (j, h, l.1))
+after_next : (version : ℕ) (columns : List NamedColumn) (above : List AbstractJob) (t : JobText) (ts : List JobText) (r : Result AbstractJob Cause) → IsNext version columns above t.text r → ((j : AbstractJob) → HasJobs version columns (above ++ j ∷ []) ts) → HasJobs version columns above (t ∷ ts)
+after_next version columns above t ts (Err c) h later = (Err (fault_at t c), inl (c, h, refl))
+after_next version columns above t ts (Ok j) h later = let l = later j in (l.0, inr (j, h, l.1))
 
-each_jobs : (columns : List NamedColumn) (above : List AbstractJob) (ts : List JobText) → HasJobs columns above ts
-each_jobs columns above [] = (Ok above, refl)
-each_jobs columns above (t ∷ ts) = let n = each_next columns above t.text in after_next columns above t ts n.0 n.1 (λ j. each_jobs columns (above ++ j ∷ []) ts)
+each_jobs : (version : ℕ) (columns : List NamedColumn) (above : List AbstractJob) (ts : List JobText) → HasJobs version columns above ts
+each_jobs version columns above [] = (Ok above, refl)
+each_jobs version columns above (t ∷ ts) = let n = each_next version columns above t.text in after_next version columns above t ts n.0 n.1 (λ j. each_jobs version columns (above ++ j ∷ []) ts)
 
--- a line needs no memory: it is skipped, it continues nothing, or it begins a job; `p` and `q` are the tests of `kind_of`
-by_tests : (p q : Bool) (n : ℕ) (later : Result (List JobText) TextFault) (js : List JobText) → (later ≡ Err text.NoMemory → ⊥) → by_kind (if p then kind_of [] else (if q then kind_of (46 ∷ []) else kind_of (97 ∷ []))) later (Err (text.Syntax n)) (Ok js) ≡ Err text.NoMemory → ⊥
-by_tests true q n later js none_later h = none_later h
-by_tests false true n later js none_later h = absurd cc
-by_tests false false n later js none_later h = absurd cc
+-- a line needs no memory: it is skipped, it continues nothing, or it begins something; `p` and `q` are the tests of `kind_of`
+abbrev Left : Type 0
+Left = Result (List JobText) TextFault
 
-by_blank : (c : Bool) (b : ℕ) (bs : List ℕ) (n : ℕ) (later : Result (List JobText) TextFault) (js : List JobText) → (later ≡ Err text.NoMemory → ⊥) → (by_kind (kind_of bs) later (Err (text.Syntax n)) (Ok js) ≡ Err text.NoMemory → ⊥) → by_kind (if c then kind_of bs else kind_of_solid (b ∷ bs)) later (Err (text.Syntax n)) (Ok js) ≡ Err text.NoMemory → ⊥
-by_blank true b bs n later js none_later further h = further h
-by_blank false b bs n later js none_later further h = by_tests (starts_with nat_eq (b ∷ bs) (35 ∷ []) || starts_with nat_eq (b ∷ bs) (47 ∷ 47 ∷ [])) (starts_with nat_eq (b ∷ bs) (46 ∷ [])) n later js none_later h
+abbrev NeedsNone : Left → Type 0
+NeedsNone r = r ≡ Err text.NoMemory → ⊥
 
-by_line : (line : List ℕ) (n : ℕ) (later : Result (List JobText) TextFault) (js : List JobText) → (later ≡ Err text.NoMemory → ⊥) → by_kind (kind_of line) later (Err (text.Syntax n)) (Ok js) ≡ Err text.NoMemory → ⊥
-by_line [] n later js none_later h = none_later h
-by_line (b ∷ bs) n later js none_later h = by_blank (is_blank b) b bs n later js none_later (by_line bs n later js none_later) h
+by_tests : (p q : Bool) (n : ℕ) (later begins : Left) → NeedsNone later → NeedsNone begins → NeedsNone (by_kind (if p then kind_of [] else (if q then kind_of (46 ∷ []) else kind_of (97 ∷ []))) later (Err (text.Syntax n)) begins)
+by_tests true q n later begins skips starts h = skips h
+by_tests false true n later begins skips starts h = absurd cc
+by_tests false false n later begins skips starts h = starts h
 
-no_memory : (lines : List NumberedLine) → jobs_of_lines lines ≡ Err text.NoMemory → ⊥
+by_blank : (c : Bool) (b : ℕ) (bs : List ℕ) (n : ℕ) (later begins : Left) → NeedsNone later → NeedsNone begins → NeedsNone (by_kind (kind_of bs) later (Err (text.Syntax n)) begins) → NeedsNone (by_kind (if c then kind_of bs else kind_of_solid (b ∷ bs)) later (Err (text.Syntax n)) begins)
+by_blank true b bs n later begins skips starts further h = further h
+by_blank false b bs n later begins skips starts further h = by_tests (starts_with nat_eq (b ∷ bs) (35 ∷ []) || starts_with nat_eq (b ∷ bs) (47 ∷ 47 ∷ [])) (starts_with nat_eq (b ∷ bs) (46 ∷ [])) n later begins skips starts h
+
+by_line : (line : List ℕ) (n : ℕ) (later begins : Left) → NeedsNone later → NeedsNone begins → NeedsNone (by_kind (kind_of line) later (Err (text.Syntax n)) begins)
+by_line [] n later begins skips starts h = skips h
+by_line (b ∷ bs) n later begins skips starts h = by_blank (is_blank b) b bs n later begins skips starts (by_line bs n later begins skips starts) h
+
+needs_none : (js : List JobText) → NeedsNone (Ok js)
+needs_none js h = absurd cc
+
+no_memory : (lines : List NumberedLine) → NeedsNone (jobs_of_lines lines)
 no_memory [] h = absurd cc
-no_memory (line ∷ lines) h = by_line line.bytes line.number (jobs_of_lines lines) (jobs_after (begun line) lines) (no_memory lines) h
+no_memory (line ∷ lines) h = by_line line.bytes line.number (jobs_of_lines lines) (Ok (jobs_after (begun line) lines)) (no_memory lines) (needs_none (jobs_after (begun line) lines)) h
+
+-- the first line that isn't skipped may say the version
+by_version : (v : Bool) (line : NumberedLine) (lines : List NumberedLine) → NeedsNone (if v then jobs_of_lines lines else jobs_of_lines (line ∷ lines))
+by_version true line lines h = no_memory lines h
+by_version false line lines h = no_memory (line ∷ lines) h
+
+no_memory_first : (lines : List NumberedLine) → NeedsNone (texts_of_lines lines)
+no_memory_first [] h = absurd cc
+no_memory_first (line ∷ lines) h =
+    by_line line.bytes line.number (texts_of_lines lines) (if is_version_line line.bytes then jobs_of_lines lines else jobs_of_lines (line ∷ lines))
+    (no_memory_first lines) (by_version (is_version_line line.bytes) line lines) h
 
 no_memory_in : (bytes : List ℕ) → job_texts_of bytes ≡ Err text.NoMemory → ⊥
 unfolding job_texts_of
-no_memory_in bytes h = no_memory (numbered 1 (lines_of (without_mark bytes))) h
+no_memory_in bytes h = no_memory_first (lines_in bytes) h
 
-left : (columns : List NamedColumn) (texts : Result (List JobText) TextFault) → (texts ≡ Err text.NoMemory → ⊥) → (r : Result (List AbstractJob) JobFault) × AreJobsLeft columns [] texts r
-left columns (Ok ts) other = each_jobs columns [] ts
-left columns (Err (text.Syntax line)) other = (Err (record { line = line; cause = Syntax }), refl)
-left columns (Err text.NoMemory) other = absurd (other refl)
+left : (version : ℕ) (columns : List NamedColumn) (texts : Result (List JobText) TextFault) → (texts ≡ Err text.NoMemory → ⊥) → (r : Result (List AbstractJob) JobFault) × AreJobsLeft version columns [] texts r
+left version columns (Ok ts) other = each_jobs version columns [] ts
+left version columns (Err (text.Syntax line)) other = (Err (record { line = line; cause = Syntax }), refl)
+left version columns (Err text.NoMemory) other = absurd (other refl)
 
-by_result : (bytes : List ℕ) (columns : List NamedColumn) (r : Result (List AbstractJob) JobFault) → AreJobsLeft columns [] (job_texts_of bytes) r → ((jobs : List AbstractJob) × SpellsJobs bytes columns jobs) ⊎ ((fault : JobFault) × IsRefused bytes columns fault)
+by_result : (bytes : List ℕ) (columns : List NamedColumn) (r : Result (List AbstractJob) JobFault) → AreJobsLeft (version_of bytes) columns [] (job_texts_of bytes) r → ((jobs : List AbstractJob) × SpellsJobs bytes columns jobs) ⊎ ((fault : JobFault) × IsRefused bytes columns fault)
 by_result bytes columns (Ok jobs) h = inl (jobs, h)
 by_result bytes columns (Err fault) h = inr (fault, h)
 
 pub each_file : (bytes : List ℕ) (columns : List NamedColumn) → ((jobs : List AbstractJob) × SpellsJobs bytes columns jobs) ⊎ ((fault : JobFault) × IsRefused bytes columns fault)
-each_file bytes columns = let l = left columns (job_texts_of bytes) (no_memory_in bytes) in by_result bytes columns l.0 l.1
+each_file bytes columns = let l = left (version_of bytes) columns (job_texts_of bytes) (no_memory_in bytes) in by_result bytes columns l.0 l.1

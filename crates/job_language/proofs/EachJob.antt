@@ -199,12 +199,16 @@ Spelled ws = ((j : Job) × IsSpelled ws j) ⊎ IsNotSpelled ws
 
 by_state : (ws : List Word) (n : List ℕ) (vs : List Word) (ps : List Piece) → ws ≡ named n ∷ sign symbol.Assign ∷ vs → pieces_words ps ≡ vs → ArePieces ps → (s : job.State) → job.reads job.begins ps ≡ s → Stands ps s → Spelled ws
 by_state ws n vs ps is spelled are (job.ended s gs c) h st = inl (
-  record { name = n; source = s; stages = gs; terminal = c; semicolon = false },
-  record { source = st.1; stages = st.2; terminal = st.3; spelled = ap (λ v. named n ∷ sign symbol.Assign ∷ v) (ap pieces_words st.0 ∙ spelled) ∙ sym is },
+  record { name = n; source = s; stages = gs; terminal = c; fallback = None; semicolon = false },
+  record { source = st.1; stages = st.2; terminal = st.3; fallback = tt; spelled = ap (λ v. named n ∷ sign symbol.Assign ∷ v) (ap pieces_words st.0 ∙ spelled) ∙ sym is },
 )
-by_state ws n vs ps is spelled are (job.finished s gs c) h st = inl (
-  record { name = n; source = s; stages = gs; terminal = c; semicolon = true },
-  record { source = st.1; stages = st.2; terminal = st.3; spelled = ap (λ v. named n ∷ sign symbol.Assign ∷ v) (ap pieces_words st.0 ∙ spelled) ∙ sym is },
+by_state ws n vs ps is spelled are (job.replaced s gs c f) h st = inl (
+  record { name = n; source = s; stages = gs; terminal = c; fallback = Some f; semicolon = false },
+  record { source = st.1; stages = st.2; terminal = st.3; fallback = st.4; spelled = ap (λ v. named n ∷ sign symbol.Assign ∷ v) (ap pieces_words st.0 ∙ spelled) ∙ sym is },
+)
+by_state ws n vs ps is spelled are (job.finished s gs c o) h st = inl (
+  record { name = n; source = s; stages = gs; terminal = c; fallback = o; semicolon = true },
+  record { source = st.1; stages = st.2; terminal = st.3; fallback = st.4; spelled = ap (λ v. named n ∷ sign symbol.Assign ∷ v) (ap pieces_words st.0 ∙ spelled) ∙ sym is },
 )
 by_state ws n vs ps is spelled are s h st = inr (not_last ws ps s are (spelled ∙ ap (drop 2) (sym is)) h (λ name. refl))
 

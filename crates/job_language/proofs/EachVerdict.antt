@@ -1,5 +1,5 @@
 -- Each text has a verdict.
-use Rattle.std.proofs.Common.{◌≢◌, ◌⊎◌, inl, inr, ⊎_elim, ℕ, ◌<◌, ◌≤◌, List, [], ◌∷◌, length, Option, Some, None, Result, Ok, Err, refl}
+use Rattle.std.proofs.Common.{◌≢◌, ◌⊎◌, Bool, true, false, inl, inr, ⊎_elim, ℕ, ◌<◌, ◌≤◌, List, [], ◌∷◌, length, Option, Some, None, Result, Ok, Err, refl}
 use Rattle.std.proofs.str.Laws.{order}
 use Rattle.stream_tokens.specs.declared.token.Token.{Token}
 use Rattle.stream_tokens.specs.Tokens.{AreTokensOf}
@@ -20,9 +20,9 @@ use Rattle.job_language.specs.Table.{role_of}
 use Rattle.job_language.specs.Grammar.{Job, IsJob, IsNoJob}
 use Rattle.job_language.specs.Jobs.{AbstractJob}
 use Rattle.job_language.specs.Causes.{Scope, first_cause, stage_cause, early_causes, numbers_of}
-use Rattle.job_language.specs.Operators.{spelled_op}
-use Rattle.job_language.specs.Arguments.{Argument, PlacedCall, IsOutcome, lambda_answer, IsLambdaRead, IsOperatorRead, IsReadBy, IsArgumentRead, last_param, last_part, argument_text, listed, name_answer, name_in, nothing, string_in, text_answer}
-use Rattle.job_language.specs.Verdicts.{AbstractCall, call_answer, added, job_named, placed_calls, IsReadAfter, IsReadInTurn, AreRead, IsJobRead, IsRead}
+use Rattle.job_language.specs.Operators.{is_add_exact, spelled_op}
+use Rattle.job_language.specs.Arguments.{Argument, PlacedCall, IsOutcome, lambda_answer, IsLambdaRead, IsOperatorRead, IsReadBy, IsArgumentRead, last_param, last_part, argument_text, exact, listed, name_answer, name_in, nothing, string_in, text_answer}
+use Rattle.job_language.specs.Verdicts.{AbstractCall, call_answer, added, below_terminal, IsNextCall, job_named, placed_calls, IsReadAfter, IsReadInTurn, AreRead, IsJobRead, IsRead}
 use Rattle.job_language.specs.Verdicts as verdict
 use Rattle.job_language.specs.Parts.{causes_before}
 use Rattle.job_language.proofs.EachCut.{each_cut}
@@ -46,9 +46,10 @@ each_lambda s text w =
     let o = outcome text w (each_text text cut.0 w cut.1) in
     (lambda_answer s o.0, (o.0, o.1, refl))
 
-each_operator : (o : Option (Option Op)) (s : Scope) (text : List ℕ) → (r : Result Argument Cause) × IsOperatorRead o s text r
-each_operator (Some f) s text = (listed f, refl)
-each_operator None s text = each_lambda s text want.Pair
+each_operator : (b : Bool) (o : Option (Option Op)) (s : Scope) (text : List ℕ) → (r : Result Argument Cause) × IsOperatorRead b o s text r
+each_operator true o s text = (Ok exact, refl)
+each_operator false (Some f) s text = (listed f, refl)
+each_operator false None s text = each_lambda s text want.Pair
 
 each_by : (p : Param) (s : Scope) (ws : List Word) (text : List ℕ) → (r : Result Argument Cause) × IsReadBy p s ws text r
 each_by param.Number s ws text = (Ok nothing, refl)
@@ -57,7 +58,7 @@ each_by param.Name s ws text = (name_answer s (name_in ws), refl)
 each_by param.Long s ws text = each_lambda s text want.Long
 each_by param.Bool s ws text = each_lambda s text want.Bool
 each_by param.Stream s ws text = each_lambda s text want.Stream
-each_by param.Operator s ws text = each_operator (spelled_op ws) s text
+each_by param.Operator s ws text = each_operator (is_add_exact ws) (spelled_op ws) s text
 
 each_argument : (s : Scope) (t : TokenizedText) (c : PlacedCall) → (r : Result Argument Cause) × IsArgumentRead s t c r
 each_argument s t c = each_by (last_param c.call.operation c.call.parts) s (last_part c.call.parts) (argument_text t c).bytes
@@ -75,7 +76,7 @@ each_turn None s t c = each_after (first_cause (early_causes c.call)) s t c
 abbrev HasRest : Scope → TokenizedText → AbstractJob → List PlacedCall → Type 0
 HasRest s t j cs = (r : Result AbstractJob Cause) × AreRead s t j cs r
 
-rest_after : (s : Scope) (t : TokenizedText) (j : AbstractJob) (c : PlacedCall) (cs : List PlacedCall) (r : Result AbstractCall Cause) → IsReadInTurn (stage_cause (length j.stages) (role_of c.call.operation)) s t c r → ((g : AbstractCall) → HasRest s t (added j g) cs) → HasRest s t j (c ∷ cs)
+rest_after : (s : Scope) (t : TokenizedText) (j : AbstractJob) (c : PlacedCall) (cs : List PlacedCall) (r : Result AbstractCall Cause) → IsNextCall j s t c r → ((g : AbstractCall) → HasRest s t (added j g) cs) → HasRest s t j (c ∷ cs)
 rest_after s t j c cs (Err e) h later = (Err e, inl (e, h, refl))
 rest_after s t j c cs (Ok g) h later = let l = later g in (l.0, inr (g, h, l.1))
 
@@ -83,7 +84,7 @@ each_rest : (s : Scope) (t : TokenizedText) (j : AbstractJob) (cs : List PlacedC
 each_rest s t j [] = (Ok j, refl)
 each_rest s t j (c ∷ cs) =
     let here = each_turn (stage_cause (length j.stages) (role_of c.call.operation)) s t c in
-    rest_after s t j c cs here.0 here.1 (λ g. each_rest s t (added j g) cs)
+    rest_after s t j c cs (below_terminal j.terminal here.0) (here.0, here.1, refl) (λ g. each_rest s t (added j g) cs)
 
 each_job_read : (o : Option Cause) (s : Scope) (t : TokenizedText) (j : Job) → (r : Result AbstractJob Cause) × IsJobRead o s t j r
 each_job_read (Some e) s t j = (Err e, refl)

@@ -36,51 +36,51 @@ names_push [] j = refl
 names_push (k ∷ jobs) j = ap (λ (ns : List (List ℕ)). k.name ∷ ns) (names_push jobs j)
 
 -- these jobs were read, and with the texts that are left they are the file
-pub record FileSoFar (columns : List NamedColumn) (all left : Texts) (jobs : List AbstractJob) : Type 0 where
-  pub goes : (r : Result (List AbstractJob) JobFault) → AreJobsLeft columns jobs left r → AreJobsLeft columns [] all r
+pub record FileSoFar (version : ℕ) (columns : List NamedColumn) (all left : Texts) (jobs : List AbstractJob) : Type 0 where
+  pub goes : (r : Result (List AbstractJob) JobFault) → AreJobsLeft version columns jobs left r → AreJobsLeft version columns [] all r
   pub here : HasText left → HasText all
 
-pub file_none : (columns : List NamedColumn) (all left : Texts) (jobs : List AbstractJob) → left ≡ all → jobs ≡ [] → FileSoFar columns all left jobs
-file_none columns all left jobs same none_yet = record { goes = λ r h. rw (none_yet, same) at h; here = λ h. rw same at h }
+pub file_none : (version : ℕ) (columns : List NamedColumn) (all left : Texts) (jobs : List AbstractJob) → left ≡ all → jobs ≡ [] → FileSoFar version columns all left jobs
+file_none version columns all left jobs same none_yet = record { goes = λ r h. rw (none_yet, same) at h; here = λ h. rw same at h }
 
-pub file_more : (columns : List NamedColumn) (all left next : Texts) (more : List JobText) (jobs js : List AbstractJob) (t : JobText) → left ≡ Ok (t ∷ more) → next ≡ Ok more
-    → FileSoFar columns all left jobs → IsNextJob columns jobs t js → FileSoFar columns all next js
-file_more columns all left next more jobs js t before after h step = record {
+pub file_more : (version : ℕ) (columns : List NamedColumn) (all left next : Texts) (more : List JobText) (jobs js : List AbstractJob) (t : JobText) → left ≡ Ok (t ∷ more) → next ≡ Ok more
+    → FileSoFar version columns all left jobs → IsNextJob version columns jobs t js → FileSoFar version columns all next js
+file_more version columns all left next more jobs js t before after h step = record {
   goes = λ r k.
-      let there : AreJobsRead columns js more r = rw after at k in
-      let here : AreJobsRead columns jobs (t ∷ more) r = inr (step.job, step.read, rw step.put at there) in
+      let there : AreJobsRead version columns js more r = rw after at k in
+      let here : AreJobsRead version columns jobs (t ∷ more) r = inr (step.job, step.read, rw step.put at there) in
       h.goes r (rw before here);
   here = λ _. h.here (t, more, before);
 }
 
-pub file_refused : (columns : List NamedColumn) (all left : Texts) (more : List JobText) (jobs : List AbstractJob) (t : JobText) (fault : JobFault) → left ≡ Ok (t ∷ more)
-    → FileSoFar columns all left jobs → IsNextFault columns jobs t fault → AreJobsLeft columns [] all (Err fault)
-file_refused columns all left more jobs t fault before h next =
+pub file_refused : (version : ℕ) (columns : List NamedColumn) (all left : Texts) (more : List JobText) (jobs : List AbstractJob) (t : JobText) (fault : JobFault) → left ≡ Ok (t ∷ more)
+    → FileSoFar version columns all left jobs → IsNextFault version columns jobs t fault → AreJobsLeft version columns [] all (Err fault)
+file_refused version columns all left more jobs t fault before h next =
     let same : fault ≡ fault_at t fault.cause = ap (λ (l : ℕ). record { line = l; cause = fault.cause }) next.at in
-    let here : AreJobsRead columns jobs (t ∷ more) (Err fault) = inl (fault.cause, next.read, ap (λ (f : JobFault). Err f) same) in
+    let here : AreJobsRead version columns jobs (t ∷ more) (Err fault) = inl (fault.cause, next.read, ap (λ (f : JobFault). Err f) same) in
     h.goes (Err fault) (rw before here)
 
-pub file_stops : (columns : List NamedColumn) (all left : Texts) (jobs : List AbstractJob) (fault : TextFault) → left ≡ Err fault → (fault_of fault).cause ≢ NoMemory
-    → FileSoFar columns all left jobs → AreJobsLeft columns [] all (Err (fault_of fault))
-file_stops columns all left jobs (text.Syntax line) stops solid h = h.goes (Err (fault_of (text.Syntax line))) (rw stops refl)
-file_stops columns all left jobs text.NoMemory stops solid h = absurd (solid refl)
+pub file_stops : (version : ℕ) (columns : List NamedColumn) (all left : Texts) (jobs : List AbstractJob) (fault : TextFault) → left ≡ Err fault → (fault_of fault).cause ≢ NoMemory
+    → FileSoFar version columns all left jobs → AreJobsLeft version columns [] all (Err (fault_of fault))
+file_stops version columns all left jobs (text.Syntax line) stops solid h = h.goes (Err (fault_of (text.Syntax line))) (rw stops refl)
+file_stops version columns all left jobs text.NoMemory stops solid h = absurd (solid refl)
 
-pub file_all : (columns : List NamedColumn) (all left : Texts) (jobs : List AbstractJob) → left ≡ Ok [] → FileSoFar columns all left jobs → AreJobsLeft columns [] all (Ok jobs)
-file_all columns all left jobs ends h = h.goes (Ok jobs) (rw ends refl)
+pub file_all : (version : ℕ) (columns : List NamedColumn) (all left : Texts) (jobs : List AbstractJob) → left ≡ Ok [] → FileSoFar version columns all left jobs → AreJobsLeft version columns [] all (Ok jobs)
+file_all version columns all left jobs ends h = h.goes (Ok jobs) (rw ends refl)
 
 -- ---- one text
 
-pub one_too_many : (columns : List NamedColumn) (jobs : List Job) (text : List ℕ) → 256 ≤ length jobs → IsNext columns (jobs_of jobs) text (Err TooLong)
-one_too_many columns jobs text many = inl (subst (λ (n : ℕ). 256 ≤ n) (sym (jobs_length jobs)) many, refl)
+pub one_too_many : (version : ℕ) (columns : List NamedColumn) (jobs : List Job) (text : List ℕ) → 256 ≤ length jobs → IsNext version columns (jobs_of jobs) text (Err TooLong)
+one_too_many version columns jobs text many = inl (subst (λ (n : ℕ). 256 ≤ n) (sym (jobs_length jobs)) many, refl)
 
-pub read_there : (columns : List NamedColumn) (jobs : List Job) (earlier : List Earlier) (text : List ℕ) (r : Result AbstractJob Cause) → earlier ≡ map earlier_of (jobs_of jobs) → length jobs < 256
-    → IsRead (record { jobs = earlier; columns = columns }) text r → IsNext columns (jobs_of jobs) text r
-read_there columns jobs earlier text r same few read =
-    inr (subst (λ (n : ℕ). n < 256) (sym (jobs_length jobs)) few, subst (λ (js : List Earlier). IsRead (record { jobs = js; columns = columns }) text r) same read)
+pub read_there : (version : ℕ) (columns : List NamedColumn) (jobs : List Job) (earlier : List Earlier) (text : List ℕ) (r : Result AbstractJob Cause) → earlier ≡ map earlier_of (jobs_of jobs) → length jobs < 256
+    → IsRead (record { version = version; jobs = earlier; columns = columns }) text r → IsNext version columns (jobs_of jobs) text r
+read_there version columns jobs earlier text r same few read =
+    inr (subst (λ (n : ℕ). n < 256) (sym (jobs_length jobs)) few, subst (λ (js : List Earlier). IsRead (record { version = version; jobs = js; columns = columns }) text r) same read)
 
 -- what a text says below jobs that are known by another name
-pub text_same : (columns : List NamedColumn) (js ks : List Job) (a b : List ℕ) (r : Result AbstractJob Cause) → js ≡ ks → a ≡ b → IsNext columns (jobs_of js) a r → IsNext columns (jobs_of ks) b r
-text_same columns js ks a b r p q h = subst (λ (t : List ℕ). IsNext columns (jobs_of ks) t r) q (subst (λ (ls : List Job). IsNext columns (jobs_of ls) a r) p h)
+pub text_same : (version : ℕ) (columns : List NamedColumn) (js ks : List Job) (a b : List ℕ) (r : Result AbstractJob Cause) → js ≡ ks → a ≡ b → IsNext version columns (jobs_of js) a r → IsNext version columns (jobs_of ks) b r
+text_same version columns js ks a b r p q h = subst (λ (t : List ℕ). IsNext version columns (jobs_of ks) t r) q (subst (λ (ls : List Job). IsNext version columns (jobs_of ls) a r) p h)
 
 -- ---- names
 

@@ -1,21 +1,23 @@
 -- Causes of a whole job, call by call.
-use Rattle.std.proofs.Common.{◌≡◌, ℕ, zero, suc, ◌+◌, ◌<◌, ◌≤◌, true, false, List, [], ◌∷◌, ◌++◌, length, drop, get_or, Some, None, refl, ap, sym, subst, ◌∙◌, arith}
+use Rattle.std.proofs.Common.{◌≡◌, ℕ, zero, suc, ◌+◌, ◌<◌, ◌≤◌, true, false, List, [], ◌∷◌, ◌++◌, length, drop, get_or, Option, Some, None, refl, ap, sym, subst, ◌∙◌, append_assoc, arith}
 use Rattle.std.proofs.lemmas.List.{drop_more, length-append}
 use Rattle.lambda_expr.specs.Words.{Word}
 use Rattle.job_language.specs.declared.piece.WrittenCall as written
 use Rattle.job_language.specs.declared.fault.Cause.{Cause}
-use Rattle.job_language.specs.declared.fault.Cause.TheVariants.{TooLong}
+use Rattle.job_language.specs.declared.fault.Cause.TheVariants.{Syntax, TooLong}
+use Rattle.job_language.specs.declared.operation.Role.TheVariants as role
 use Rattle.job_language.specs.Table.{role_of}
 use Rattle.job_language.specs.Calls.{Call, call_words}
 use Rattle.job_language.specs.Arguments.{PlacedCall}
 use Rattle.job_language.specs.Verdicts.{placed}
-use Rattle.job_language.specs.Grammar.{Source, Sources, plain, concat, two, more, Job, Piece, call, begin_concat, owner, close, comma, dot, semicolon, piece_words, job_pieces, calls_of, source_pieces, sources_pieces, plain_sources, job_calls, IsSource, AreSources, AreStages, IsSpelled, IsJob}
-use Rattle.job_language.specs.Shapes.{call_in, calls_in, all_placed, StandsIn, StandIn, AreCallsIn, one_if_source, sources_in, first_name}
-use Rattle.job_language.specs.Causes.{Scope, first_cause, when, name_causes, sources_cause}
+use Rattle.job_language.specs.Grammar.{Source, Sources, plain, concat, two, more, Job, Piece, call, begin_concat, owner, close, comma, dot, semicolon, piece_words, job_pieces, calls_of, source_pieces, sources_pieces, plain_sources, fallback_calls, job_calls, IsCallAs, IsSource, AreSources, AreStages, IsFallback, IsSpelled, IsJob}
+use Rattle.job_language.specs.Shapes.{call_in, calls_in, all_placed, StandsIn, StandIn, AreCallsIn, one_if_source, sources_in, is_fallback, ends_in_fallback, first_name}
+use Rattle.job_language.specs.Causes.{Scope, first_cause, when, version_cause, name_causes, sources_cause, causes_of}
 use Rattle.job_language.proofs.PieceLemmas.{calls_append}
 use Rattle.job_language.proofs.CauseLemmas.{first_append, first_stays}
 use Rattle.job_language.proofs.ShapeLemmas.{one_spelled, calls_job}
-use Rattle.std.specs.Prelude.{nat_lt}
+use Rattle.std.specs.Prelude.{◌&&◌, nat_lt}
+use Rattle.std.specs.Option.{is_some}
 use Rattle.std.proofs.lemmas.Grind.{common_steps}
 
 stands_at : (ws : List Word) (cs : List written.WrittenCall) (i : ℕ) (d : written.WrittenCall) → i < length cs → StandIn ws cs → StandsIn ws (get_or cs i d)
@@ -56,13 +58,19 @@ stages_count : (cs : List Call) → AreStages cs → sources_in cs ≡ 0
 stages_count [] h = refl
 stages_count (c ∷ cs) h = let none : one_if_source (role_of c.operation) ≡ 0 = ap one_if_source h.0.role in let rest = stages_count cs h.1 in omega arith
 
+fallback_counts : (o : Option Call) → IsFallback o → sources_in (fallback_calls o) ≡ 0
+fallback_counts None h = refl
+fallback_counts (Some c) h = ap (λ r. one_if_source r + 0) h.role
+
 pub sources_of_job : (ws : List Word) (j : Job) → IsSpelled ws j → sources_in (job_calls j) ≡ length (plain_sources j.source)
 sources_of_job ws j h =
-    let a = both_count (plain_sources j.source) (j.stages ++ j.terminal ∷ []) in
-    let b = both_count j.stages (j.terminal ∷ []) in
+    let tail = j.terminal ∷ fallback_calls j.fallback in
+    let a = both_count (plain_sources j.source) (j.stages ++ tail) in
+    let b = both_count j.stages tail in
     let c = source_counts j.source h.source in
     let d = stages_count j.stages h.stages in
-    let e : sources_in (j.terminal ∷ []) ≡ 0 = ap (λ r. one_if_source r + 0) h.terminal.role in
+    let e : one_if_source (role_of j.terminal.operation) ≡ 0 = ap one_if_source h.terminal.role in
+    let f = fallback_counts j.fallback h.fallback in
     omega arith
 
 pub name_of_job : (ws : List Word) (j : Job) → IsJob ws j → j.name ≡ first_name ws
@@ -98,7 +106,41 @@ few n h = grind (arith, common_steps)
 many : (n : ℕ) → 8 < n → when (nat_lt 8 n) TooLong ≡ Some TooLong
 many n h = grind (arith, common_steps)
 
+-- the fallback is the last call, if there is one
+ends_append : (xs : List Call) (y : Call) (ys : List Call) → ends_in_fallback (xs ++ y ∷ ys) ≡ ends_in_fallback (y ∷ ys)
+ends_append [] y ys = refl
+ends_append (x ∷ []) y ys = refl
+ends_append (x ∷ w ∷ xs) y ys = ends_append (w ∷ xs) y ys
+
+ends_tail : (c : Call) (o : Option Call) → IsCallAs role.Terminal c → IsFallback o → ends_in_fallback (c ∷ fallback_calls o) ≡ is_some o
+ends_tail c None h k = ap is_fallback h.role
+ends_tail c (Some f) h k = ap is_fallback k.role
+
+ends_job : (ws : List Word) (j : Job) → IsSpelled ws j → ends_in_fallback (job_calls j) ≡ is_some j.fallback
+ends_job ws j h =
+    ap ends_in_fallback (sym (append_assoc (plain_sources j.source) j.stages (j.terminal ∷ fallback_calls j.fallback)))
+    ∙ ends_append (plain_sources j.source ++ j.stages) j.terminal (fallback_calls j.fallback)
+    ∙ ends_tail j.terminal j.fallback h.terminal h.fallback
+
+pub last_call : (ws : List Word) (cs : List written.WrittenCall) (n : ℕ) (d : written.WrittenCall) → suc n ≡ length cs → is_fallback (role_of (get_or cs n d).operation) ≡ ends_in_fallback (calls_in ws cs)
+last_call ws [] n d h = absurd (omega arith)
+last_call ws (c ∷ []) zero d h = refl
+last_call ws (c ∷ []) (suc n) d h = absurd (omega arith)
+last_call ws (c ∷ e ∷ cs) zero d h = absurd (omega arith)
+last_call ws (c ∷ e ∷ cs) (suc n) d h = last_call ws (e ∷ cs) n d (omega arith)
+
+pub version_is : (s : Scope) (ws : List Word) (cs : List written.WrittenCall) (j : Job) → AreCallsIn ws (all_placed ws cs) → IsJob ws j
+    → when (ends_in_fallback (calls_in ws cs) && nat_lt s.version 2) Syntax ≡ version_cause s j
+version_is s ws cs j a h =
+    ap (λ b. when (b && nat_lt s.version 2) Syntax) (ap ends_in_fallback (calls_of_job ws cs j a h) ∙ ends_job ws j h.spelled)
+
 -- the causes of a job before those of its calls
+pub by_version : (s : Scope) (j : Job) (e : Cause) → version_cause s j ≡ Some e → first_cause (causes_of s j) ≡ Some e
+by_version s j e h = ap (λ o. first_cause (o ∷ (name_causes s j.name ++ sources_cause j ∷ []))) h
+
+pub after_version : (s : Scope) (j : Job) → version_cause s j ≡ None → first_cause (causes_of s j) ≡ first_cause (name_causes s j.name ++ sources_cause j ∷ [])
+after_version s j h = ap (λ o. first_cause (o ∷ (name_causes s j.name ++ sources_cause j ∷ []))) h
+
 pub by_name : (s : Scope) (ws : List Word) (j : Job) (e : Cause) → IsJob ws j → first_cause (name_causes s (first_name ws)) ≡ Some e → first_cause (name_causes s j.name ++ sources_cause j ∷ []) ≡ Some e
 by_name s ws j e h k = first_stays (name_causes s j.name) (sources_cause j ∷ []) e (ap (λ w. first_cause (name_causes s w)) (name_of_job ws j h) ∙ k)
 

@@ -1,5 +1,5 @@
 -- The reader of a job gives the job that was written, and stands for the pieces that it has read.
-use Rattle.std.proofs.Common.{◌≡◌, ℕ, Bool, true, false, List, [], ◌∷◌, ◌++◌, length, refl, sym, ap, ◌∙◌, append_assoc, append-nil}
+use Rattle.std.proofs.Common.{◌≡◌, ℕ, Bool, true, false, List, [], ◌∷◌, ◌++◌, length, Option, Some, None, refl, sym, ap, ◌∙◌, append_assoc, append-nil}
 use Rattle.job_language.specs.declared.operation.Role.{Role}
 use Rattle.job_language.specs.declared.operation.Role.TheVariants as role
 use Rattle.job_language.specs.declared.operation.Operation.{Operation}
@@ -8,8 +8,8 @@ use Rattle.job_language.specs.declared.piece.Mark.TheVariants as mark
 use Rattle.job_language.specs.declared.mode.Mode.TheVariants as mode
 use Rattle.job_language.specs.Table.{role_of, allows}
 use Rattle.job_language.specs.Calls.{Call, IsCall}
-use Rattle.job_language.specs.Grammar.{Source, Sources, plain, concat, two, more, Job, Piece, call, begin_concat, owner, comma, close, dot, semicolon, owned, source_pieces, sources_pieces, steps_pieces, ending, job_pieces, IsCallAs, IsSource, AreSources, AreStages}
-use Rattle.job_language.specs.Reading.{Frame, opened, first, several, State, wants, owns, bare, has, asks, staged, ended, finished, stuck, leaf, stepped, read, reads, begins, coded, commas, at_source, moves, moved, mark_of, IsPiece}
+use Rattle.job_language.specs.Grammar.{Source, Sources, plain, concat, two, more, Job, Piece, call, begin_concat, owner, comma, close, dot, semicolon, owned, source_pieces, sources_pieces, steps_pieces, ending, fallback_pieces, job_pieces, IsCallAs, IsSource, AreSources, AreStages, IsFallback}
+use Rattle.job_language.specs.Reading.{Frame, opened, first, several, State, wants, owns, bare, has, asks, staged, ended, falls, replaced, finished, stuck, leaf, stepped, fallen, read, reads, begins, coded, commas, at_source, moves, moved, mark_of, IsPiece}
 
 pub reads_append : (s : State) (a b : List Piece) → reads s (a ++ b) ≡ reads (reads s a) b
 reads_append s [] b = refl
@@ -75,19 +75,28 @@ reads_steps s (c ∷ cs) rest h =
     ap (λ r. reads (stepped s [] c r) (steps_pieces cs ++ dot ∷ rest)) h.0.role
     ∙ reads_stages s (c ∷ []) cs (dot ∷ rest) h.1
 
+-- the state after all pieces, by the fallback and the semicolon
+abbrev pub last_after : Source → List Call → Call → Option Call → Bool → State
+last_after s gs c o true = finished s gs c o
+last_after s gs c None false = ended s gs c
+last_after s gs c (Some f) false = replaced s gs c f
+
 abbrev pub last_state : Job → State
-last_state j = elim j.semicolon [ true ↦ finished j.source j.stages j.terminal | false ↦ ended j.source j.stages j.terminal ]
+last_state j = last_after j.source j.stages j.terminal j.fallback j.semicolon
 
-ends : (s : Source) (gs : List Call) (c : Call) (e : Bool) → reads (ended s gs c) (ending e) ≡ elim e [ true ↦ finished s gs c | false ↦ ended s gs c ]
-ends s gs c true = refl
-ends s gs c false = refl
+ends : (s : Source) (gs : List Call) (c : Call) (o : Option Call) (e : Bool) → IsFallback o → reads (ended s gs c) (fallback_pieces o ++ ending e) ≡ last_after s gs c o e
+ends s gs c None true h = refl
+ends s gs c None false h = refl
+ends s gs c (Some f) true h = ap (λ r. read (fallen s gs c f r) semicolon) h.role
+ends s gs c (Some f) false h = ap (fallen s gs c f) h.role
 
-pub reads_job : (j : Job) → IsSource j.source → AreStages j.stages → IsCallAs role.Terminal j.terminal → reads begins (job_pieces j) ≡ last_state j
-reads_job j source stages terminal =
-    reads_source j.source [] (steps_pieces j.stages ++ dot ∷ call j.terminal ∷ ending j.semicolon) source
-    ∙ reads_steps j.source j.stages (call j.terminal ∷ ending j.semicolon) stages
-    ∙ ap (λ r. reads (stepped j.source j.stages j.terminal r) (ending j.semicolon)) terminal.role
-    ∙ ends j.source j.stages j.terminal j.semicolon
+pub reads_job : (j : Job) → IsSource j.source → AreStages j.stages → IsCallAs role.Terminal j.terminal → IsFallback j.fallback → reads begins (job_pieces j) ≡ last_state j
+reads_job j source stages terminal fallback =
+    let tail = fallback_pieces j.fallback ++ ending j.semicolon in
+    reads_source j.source [] (steps_pieces j.stages ++ dot ∷ call j.terminal ∷ tail) source
+    ∙ reads_steps j.source j.stages (call j.terminal ∷ tail) stages
+    ∙ ap (λ r. reads (stepped j.source j.stages j.terminal r) tail) terminal.role
+    ∙ ends j.source j.stages j.terminal j.fallback j.semicolon fallback
 
 -- what is read stands for the pieces so far
 abbrev before : List Frame → List Piece
@@ -110,7 +119,12 @@ Stands ps (has fs s) = (before fs ++ source_pieces s ≡ ps) × Are fs × IsSour
 Stands ps (asks s gs) = (source_pieces s ++ (steps_pieces gs ++ dot ∷ []) ≡ ps) × IsSource s × AreStages gs
 Stands ps (staged s gs) = (source_pieces s ++ steps_pieces gs ≡ ps) × IsSource s × AreStages gs
 Stands ps (ended s gs c) = (source_pieces s ++ (steps_pieces gs ++ dot ∷ call c ∷ []) ≡ ps) × IsSource s × AreStages gs × IsCallAs role.Terminal c
-Stands ps (finished s gs c) = (source_pieces s ++ (steps_pieces gs ++ dot ∷ call c ∷ semicolon ∷ []) ≡ ps) × IsSource s × AreStages gs × IsCallAs role.Terminal c
+Stands ps (falls s gs c) = (source_pieces s ++ (steps_pieces gs ++ dot ∷ call c ∷ dot ∷ []) ≡ ps) × IsSource s × AreStages gs × IsCallAs role.Terminal c
+Stands ps (replaced s gs c f) =
+    (source_pieces s ++ (steps_pieces gs ++ dot ∷ call c ∷ dot ∷ call f ∷ []) ≡ ps) × IsSource s × AreStages gs × IsCallAs role.Terminal c × IsCallAs role.Fallback f
+Stands ps (finished s gs c o) =
+    (source_pieces s ++ (steps_pieces gs ++ dot ∷ call c ∷ (fallback_pieces o ++ semicolon ∷ [])) ≡ ps) × IsSource s × AreStages gs × IsCallAs role.Terminal c
+    × IsFallback o
 Stands ps stuck = Unit {0}
 
 put : (ps : List Piece) (p : Piece) (a b : List Piece) → a ++ b ≡ ps → a ++ (b ++ p ∷ []) ≡ ps ++ p ∷ []
@@ -132,6 +146,7 @@ keeps_leaf ps fs q c role.Source is k h a = (put ps (call c) (before fs) (owned 
 keeps_leaf ps fs q c role.Concatenation is k h a = tt
 keeps_leaf ps fs q c role.Stage is k h a = tt
 keeps_leaf ps fs q c role.Terminal is k h a = tt
+keeps_leaf ps fs q c role.Fallback is k h a = tt
 
 keeps_step : (ps : List Piece) (s : Source) (gs : List Call) (c : Call) (r : Role) → role_of c.operation ≡ r → IsCall c → Stands ps (asks s gs) → Stands (ps ++ call c ∷ []) (stepped s gs c r)
 keeps_step ps s gs c role.Source is k h = tt
@@ -139,6 +154,15 @@ keeps_step ps s gs c role.Concatenation is k h = tt
 keeps_step ps s gs c role.Stage is k h =
     (ap (λ v. source_pieces s ++ v) (steps_more gs c) ∙ put_two ps (call c) (source_pieces s) (steps_pieces gs) (dot ∷ []) h.0, h.1, stages_more gs c h.2 (record { role = is; call = k }))
 keeps_step ps s gs c role.Terminal is k h = (put_two ps (call c) (source_pieces s) (steps_pieces gs) (dot ∷ []) h.0, h.1, h.2, record { role = is; call = k })
+keeps_step ps s gs c role.Fallback is k h = tt
+
+keeps_fall : (ps : List Piece) (s : Source) (gs : List Call) (c f : Call) (r : Role) → role_of f.operation ≡ r → IsCall f → Stands ps (falls s gs c) → Stands (ps ++ call f ∷ []) (fallen s gs c f r)
+keeps_fall ps s gs c f role.Source is k h = tt
+keeps_fall ps s gs c f role.Concatenation is k h = tt
+keeps_fall ps s gs c f role.Stage is k h = tt
+keeps_fall ps s gs c f role.Terminal is k h = tt
+keeps_fall ps s gs c f role.Fallback is k h =
+    (put_two ps (call f) (source_pieces s) (steps_pieces gs) (dot ∷ call c ∷ dot ∷ []) h.0, h.1, h.2, h.3, record { role = is; call = k })
 
 nothing : (ps : List Piece) (fs : List Frame) → before fs ≡ ps → before fs ++ owned false ≡ ps
 nothing ps fs h = append-nil (before fs) ∙ h
@@ -169,7 +193,11 @@ keeps ps (has (several q ss ∷ fs) s) close k h = (inner_more ps close (before 
 keeps ps (has [] s) dot k h = (ap (λ v. v ++ dot ∷ []) h.0, h.2, tt)
 keeps ps (asks s gs) (call c) k h = keeps_step ps s gs c (role_of c.operation) refl k h
 keeps ps (staged s gs) dot k h = (put ps dot (source_pieces s) (steps_pieces gs) h.0, h.1, h.2)
-keeps ps (ended s gs c) semicolon k h = (put_two ps semicolon (source_pieces s) (steps_pieces gs) (dot ∷ call c ∷ []) h.0, h.1, h.2, h.3)
+keeps ps (ended s gs c) dot k h = (put_two ps dot (source_pieces s) (steps_pieces gs) (dot ∷ call c ∷ []) h.0, h.1, h.2, h.3)
+keeps ps (ended s gs c) semicolon k h = (put_two ps semicolon (source_pieces s) (steps_pieces gs) (dot ∷ call c ∷ []) h.0, h.1, h.2, h.3, tt)
+keeps ps (falls s gs c) (call f) k h = keeps_fall ps s gs c f (role_of f.operation) refl k h
+keeps ps (replaced s gs c f) semicolon k h =
+    (put_two ps semicolon (source_pieces s) (steps_pieces gs) (dot ∷ call c ∷ dot ∷ call f ∷ []) h.0, h.1, h.2, h.3, h.4)
 keeps ps s p k h = tt
 
 no_concat : (o : Operation) (n : ℕ) → role_of o ≡ role.Concatenation → allows o n ≡ true → ⊥
@@ -181,12 +209,21 @@ follows_leaf q fs c role.Source h k = refl
 follows_leaf q fs c role.Concatenation h k = absurd (no_concat c.operation (length c.parts) h k.allowed)
 follows_leaf q fs c role.Stage h k = refl
 follows_leaf q fs c role.Terminal h k = refl
+follows_leaf q fs c role.Fallback h k = refl
 
 follows_step : (s : Source) (gs : List Call) (c : Call) (r : Role) → coded (stepped s gs c r) ≡ moved mode.Step [] (mark.Call r)
 follows_step s gs c role.Source = refl
 follows_step s gs c role.Concatenation = refl
 follows_step s gs c role.Stage = refl
 follows_step s gs c role.Terminal = refl
+follows_step s gs c role.Fallback = refl
+
+follows_fall : (s : Source) (gs : List Call) (c f : Call) (r : Role) → coded (fallen s gs c f r) ≡ moved mode.Fallback [] (mark.Call r)
+follows_fall s gs c f role.Source = refl
+follows_fall s gs c f role.Concatenation = refl
+follows_fall s gs c f role.Stage = refl
+follows_fall s gs c f role.Terminal = refl
+follows_fall s gs c f role.Fallback = refl
 
 -- the program's mode and list of commas follow the reader
 pub follows : (s : State) (p : Piece) → IsPiece p → coded (read s p) ≡ moves (coded s) (mark_of p)
@@ -210,7 +247,11 @@ follows (staged s gs) dot h = refl
 follows (staged s gs) p h = refl
 follows (ended s gs c) dot h = refl
 follows (ended s gs c) p h = refl
-follows (finished s gs c) dot h = refl
-follows (finished s gs c) p h = refl
+follows (falls s gs c) (call f) h = follows_fall s gs c f (role_of f.operation)
+follows (falls s gs c) p h = refl
+follows (replaced s gs c f) dot h = refl
+follows (replaced s gs c f) p h = refl
+follows (finished s gs c o) dot h = refl
+follows (finished s gs c o) p h = refl
 follows stuck dot h = refl
 follows stuck p h = refl

@@ -33,6 +33,7 @@ named_back op.Reduce = refl
 named_back op.AnyMatch = refl
 named_back op.AllMatch = refl
 named_back op.NoneMatch = refl
+named_back op.OnFault = refl
 
 pub one_name : (a b : Operation) → name_of a ≡ name_of b → a ≡ b
 one_name a b h = let e : Some a ≡ Some b = sym (named_back a) ∙ ap operation_of h ∙ named_back b in cc

@@ -1,5 +1,5 @@
 -- A text has one verdict, and a job a name.
-use Rattle.std.proofs.Common.{◌≡◌, ℕ, ◌-◌, inl, inr, List, [], ◌∷◌, length, drop, Option, Some, None, Result, Ok, Err, refl, sym, ap, subst, ◌∙◌, arith}
+use Rattle.std.proofs.Common.{◌≡◌, ℕ, ◌-◌, Bool, true, false, inl, inr, List, [], ◌∷◌, length, drop, Option, Some, None, Result, Ok, Err, refl, sym, ap, subst, ◌∙◌, arith}
 use Rattle.stream_tokens.specs.declared.token.Token.{Token}
 use Rattle.stream_tokens.specs.declared.symbol.Symbol.TheVariants as symbol
 use Rattle.stream_tokens.specs.declared.token.TokenKind.{TokenKind}
@@ -24,9 +24,9 @@ use Rattle.job_language.specs.Table.{role_of}
 use Rattle.job_language.specs.Grammar.{Job, IsJob, IsNoJob, pieces_words, job_pieces}
 use Rattle.job_language.specs.Jobs.{AbstractJob}
 use Rattle.job_language.specs.Causes.{Scope, first_cause, stage_cause, early_causes, numbers_of}
-use Rattle.job_language.specs.Operators.{spelled_op}
+use Rattle.job_language.specs.Operators.{is_add_exact, spelled_op}
 use Rattle.job_language.specs.Arguments.{Argument, PlacedCall, IsOutcome, lambda_answer, IsLambdaRead, IsOperatorRead, IsReadBy, IsArgumentRead, last_param, last_part, argument_text}
-use Rattle.job_language.specs.Verdicts.{AbstractCall, source, stage, terminal, call_answer, added, job_named, placed_calls, IsReadAfter, IsReadInTurn, AreRead, IsJobRead, IsRead, IsInside}
+use Rattle.job_language.specs.Verdicts.{AbstractCall, source, stage, terminal, fallback, call_answer, added, below_terminal, IsNextCall, job_named, placed_calls, IsReadAfter, IsReadInTurn, AreRead, IsJobRead, IsRead, IsInside}
 use Rattle.job_language.specs.Verdicts as verdict
 use Rattle.job_language.specs.Parts.{causes_before}
 use Rattle.job_language.proofs.ShapeLemmas.{one_spelled}
@@ -44,9 +44,10 @@ to_outcome text w (Err fault.NoMemory) h = absurd h
 one_lambda : (s : Scope) (text : List ℕ) (w : Want) (r q : Result Argument Cause) → IsLambdaRead s text w r → IsLambdaRead s text w q → r ≡ q
 one_lambda s text w r q h k = sym h.2 ∙ ap (lambda_answer s) (one_outcome text w h.0 k.0 (to_outcome text w h.0 h.1) (to_outcome text w k.0 k.1)) ∙ k.2
 
-one_operator : (o : Option (Option Op)) (s : Scope) (text : List ℕ) (r q : Result Argument Cause) → IsOperatorRead o s text r → IsOperatorRead o s text q → r ≡ q
-one_operator (Some f) s text r q h k = sym h ∙ k
-one_operator None s text r q h k = one_lambda s text want.Pair r q h k
+one_operator : (b : Bool) (o : Option (Option Op)) (s : Scope) (text : List ℕ) (r q : Result Argument Cause) → IsOperatorRead b o s text r → IsOperatorRead b o s text q → r ≡ q
+one_operator true o s text r q h k = sym h ∙ k
+one_operator false (Some f) s text r q h k = sym h ∙ k
+one_operator false None s text r q h k = one_lambda s text want.Pair r q h k
 
 one_by : (p : Param) (s : Scope) (ws : List Word) (text : List ℕ) (r q : Result Argument Cause) → IsReadBy p s ws text r → IsReadBy p s ws text q → r ≡ q
 one_by param.Number s ws text r q h k = sym h ∙ k
@@ -55,7 +56,7 @@ one_by param.Name s ws text r q h k = sym h ∙ k
 one_by param.Long s ws text r q h k = one_lambda s text want.Long r q h k
 one_by param.Bool s ws text r q h k = one_lambda s text want.Bool r q h k
 one_by param.Stream s ws text r q h k = one_lambda s text want.Stream r q h k
-one_by param.Operator s ws text r q h k = one_operator (spelled_op ws) s text r q h k
+one_by param.Operator s ws text r q h k = one_operator (is_add_exact ws) (spelled_op ws) s text r q h k
 
 one_argument : (s : Scope) (t : TokenizedText) (c : PlacedCall) (r q : Result Argument Cause) → IsArgumentRead s t c r → IsArgumentRead s t c q → r ≡ q
 one_argument s t c r q h k = one_by (last_param c.call.operation c.call.parts) s (last_part c.call.parts) (argument_text t c).bytes r q h k
@@ -68,16 +69,19 @@ one_turn : (o : Option Cause) (s : Scope) (t : TokenizedText) (c : PlacedCall) (
 one_turn (Some e) s t c r q h k = sym h ∙ k
 one_turn None s t c r q h k = one_after (first_cause (early_causes c.call)) s t c r q h k
 
+one_next : (j : AbstractJob) (s : Scope) (t : TokenizedText) (c : PlacedCall) (r q : Result AbstractCall Cause) → IsNextCall j s t c r → IsNextCall j s t c q → r ≡ q
+one_next j s t c r q h k = sym h.2 ∙ ap (below_terminal j.terminal) (one_turn (stage_cause (length j.stages) (role_of c.call.operation)) s t c h.0 k.0 h.1 k.1) ∙ k.2
+
 one_rest : (s : Scope) (t : TokenizedText) (j : AbstractJob) (cs : List PlacedCall) (r q : Result AbstractJob Cause) → AreRead s t j cs r → AreRead s t j cs q → r ≡ q
 one_rest s t j [] r q h k = sym h ∙ k
 one_rest s t j (c ∷ cs) r q (inl (e, a, x)) (inl (f, b, y)) =
-    let eq = one_turn (stage_cause (length j.stages) (role_of c.call.operation)) s t c (Err e) (Err f) a b in
+    let eq = one_next j s t c (Err e) (Err f) a b in
     let same : e ≡ f = cc in
     sym x ∙ ap Err same ∙ y
-one_rest s t j (c ∷ cs) r q (inl (e, a, x)) (inr (g, b, y)) = let eq = one_turn (stage_cause (length j.stages) (role_of c.call.operation)) s t c (Err e) (Ok g) a b in absurd cc
-one_rest s t j (c ∷ cs) r q (inr (g, a, x)) (inl (e, b, y)) = let eq = one_turn (stage_cause (length j.stages) (role_of c.call.operation)) s t c (Ok g) (Err e) a b in absurd cc
+one_rest s t j (c ∷ cs) r q (inl (e, a, x)) (inr (g, b, y)) = let eq = one_next j s t c (Err e) (Ok g) a b in absurd cc
+one_rest s t j (c ∷ cs) r q (inr (g, a, x)) (inl (e, b, y)) = let eq = one_next j s t c (Ok g) (Err e) a b in absurd cc
 one_rest s t j (c ∷ cs) r q (inr (g, a, x)) (inr (h, b, y)) =
-    let eq = one_turn (stage_cause (length j.stages) (role_of c.call.operation)) s t c (Ok g) (Ok h) a b in
+    let eq = one_next j s t c (Ok g) (Ok h) a b in
     let same : g ≡ h = cc in
     one_rest s t (added j h) cs r q (subst (λ v. AreRead s t (added j v) cs r) same x) y
 
@@ -112,6 +116,7 @@ same_name : (j : AbstractJob) (g : AbstractCall) → (added j g).name ≡ j.name
 same_name j (source s) = refl
 same_name j (stage s) = refl
 same_name j (terminal d) = refl
+same_name j (fallback z) = refl
 
 name_kept : (s : Scope) (t : TokenizedText) (j k : AbstractJob) (cs : List PlacedCall) → AreRead s t j cs (Ok k) → k.name ≡ j.name
 name_kept s t j k [] h = let same : j ≡ k = cc in ap (λ v. v.name) (sym same)

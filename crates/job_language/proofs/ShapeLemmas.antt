@@ -13,12 +13,12 @@ use Rattle.job_language.specs.declared.piece.Mark.TheVariants as mark
 use Rattle.job_language.specs.declared.word.Word as coded_word
 use Rattle.job_language.specs.Splitting.{word_of, words_in}
 use Rattle.job_language.specs.Calls.{Call}
-use Rattle.job_language.specs.Grammar.{Source, Sources, plain, concat, two, more, Job, Piece, call, begin_concat, owner, comma, close, dot, semicolon, piece_words, pieces_words, source_pieces, sources_pieces, steps_pieces, ending, job_pieces, IsSource, AreSources, AreStages, IsSpelled, IsNoJob, is_sound, calls_of, plain_sources}
-use Rattle.job_language.specs.Reading.{Place, State, wants, owns, bare, has, asks, staged, ended, finished, stuck, read, reads, begins, coded, moves, moved, mark_of, ArePieces}
+use Rattle.job_language.specs.Grammar.{Source, Sources, plain, concat, two, more, Job, Piece, call, begin_concat, owner, comma, close, dot, semicolon, piece_words, pieces_words, source_pieces, sources_pieces, steps_pieces, ending, fallback_pieces, fallback_calls, job_pieces, IsSource, AreSources, AreStages, IsFallback, IsSpelled, IsNoJob, is_sound, calls_of, plain_sources}
+use Rattle.job_language.specs.Reading.{Place, State, wants, owns, bare, has, asks, staged, ended, falls, replaced, finished, stuck, read, reads, begins, coded, moves, moved, mark_of, ArePieces}
 use Rattle.job_language.specs.Shapes.{begins_job, IsNotSpelled, AreCallsOf, AreCallsIn, IsNoPiece, Begins, is_last, call_in, all_placed, placed_in, piece_from, sign_piece, IsReading, StandIn, StandsIn}
 use Rattle.job_language.specs.Arguments.{PlacedCall}
 use Rattle.job_language.specs.Verdicts.{placed}
-use Rattle.job_language.proofs.JobReaderLemmas.{Stands, keeps, reads_append, reads_job, stuck_stays, follows, last_state}
+use Rattle.job_language.proofs.JobReaderLemmas.{Stands, keeps, reads_append, reads_job, stuck_stays, follows, last_after, last_state}
 use Rattle.job_language.proofs.PieceLemmas.{pieces_append, calls_append, are_append, next_piece, no_pieces}
 
 stands_from : (ps qs : List Piece) (s : State) → ArePieces qs → Stands ps s → Stands (ps ++ qs) (reads s qs)
@@ -37,11 +37,23 @@ calls_ending : (b : Bool) → calls_of (ending b) ≡ []
 calls_ending true = refl
 calls_ending false = refl
 
-pub calls_job : (j : Job) → calls_of (job_pieces j) ≡ plain_sources j.source ++ (j.stages ++ j.terminal ∷ [])
+calls_fallback : (o : Option Call) → calls_of (fallback_pieces o) ≡ fallback_calls o
+calls_fallback None = refl
+calls_fallback (Some c) = refl
+
+calls_tail : (j : Job) → calls_of (fallback_pieces j.fallback ++ ending j.semicolon) ≡ fallback_calls j.fallback
+calls_tail j =
+    calls_append (fallback_pieces j.fallback) (ending j.semicolon)
+    ∙ ap (λ v. calls_of (fallback_pieces j.fallback) ++ v) (calls_ending j.semicolon)
+    ∙ append-nil (calls_of (fallback_pieces j.fallback))
+    ∙ calls_fallback j.fallback
+
+pub calls_job : (j : Job) → calls_of (job_pieces j) ≡ plain_sources j.source ++ (j.stages ++ j.terminal ∷ fallback_calls j.fallback)
 calls_job j =
-    let tail = dot ∷ call j.terminal ∷ ending j.semicolon in
+    let last = fallback_pieces j.fallback ++ ending j.semicolon in
+    let tail = dot ∷ call j.terminal ∷ last in
     calls_append (source_pieces j.source) (steps_pieces j.stages ++ tail)
-    ∙ ap (λ v. plain_sources j.source ++ v) (calls_append (steps_pieces j.stages) tail ∙ ap (λ v. v ++ j.terminal ∷ calls_of (ending j.semicolon)) (calls_steps j.stages) ∙ ap (λ v. j.stages ++ j.terminal ∷ v) (calls_ending j.semicolon))
+    ∙ ap (λ v. plain_sources j.source ++ v) (calls_append (steps_pieces j.stages) tail ∙ ap (λ v. v ++ j.terminal ∷ calls_of last) (calls_steps j.stages) ∙ ap (λ v. j.stages ++ j.terminal ∷ v) (calls_tail j))
 
 -- the pieces of a job are as the rows of their operations say
 mutual
@@ -63,10 +75,17 @@ are_ending : (b : Bool) → ArePieces (ending b)
 are_ending true = (tt, tt)
 are_ending false = tt
 
+are_fallback : (o : Option Call) → IsFallback o → ArePieces (fallback_pieces o)
+are_fallback None h = tt
+are_fallback (Some c) h = (tt, (h.call, tt))
+
 pub are_job : (ws : List Word) (j : Job) → IsSpelled ws j → ArePieces (job_pieces j)
 are_job ws j h =
-    are_append (source_pieces j.source) (steps_pieces j.stages ++ dot ∷ call j.terminal ∷ ending j.semicolon) (are_source j.source h.source)
-    (are_append (steps_pieces j.stages) (dot ∷ call j.terminal ∷ ending j.semicolon) (are_steps j.stages h.stages) (tt, (h.terminal.call, are_ending j.semicolon)))
+    let last = fallback_pieces j.fallback ++ ending j.semicolon in
+    let tail = dot ∷ call j.terminal ∷ last in
+    are_append (source_pieces j.source) (steps_pieces j.stages ++ tail) (are_source j.source h.source)
+    (are_append (steps_pieces j.stages) tail (are_steps j.stages h.stages)
+    (tt, (h.terminal.call, are_append (fallback_pieces j.fallback) (ending j.semicolon) (are_fallback j.fallback h.fallback) (are_ending j.semicolon))))
 
 -- a job with these words has the pieces that were read, and then others
 pub prefix : (done ps : List Piece) (r : List Word) → ArePieces done → ArePieces ps → pieces_words done ++ r ≡ pieces_words ps → (qs : List Piece) × (ps ≡ done ++ qs) × ArePieces qs × (pieces_words qs ≡ r)
@@ -116,17 +135,20 @@ is_stuck (has fs s) h = absurd cc
 is_stuck (asks s gs) h = absurd cc
 is_stuck (staged s gs) h = absurd cc
 is_stuck (ended s gs c) h = absurd cc
-is_stuck (finished s gs c) h = absurd cc
+is_stuck (falls s gs c) h = absurd cc
+is_stuck (replaced s gs c f) h = absurd cc
+is_stuck (finished s gs c o) h = absurd cc
 
 last_mode : (j : Job) → (k : Mode) × (bs : List Bool) × (coded (last_state j) ≡ Some (k, bs)) × (is_last k ≡ true)
-last_mode j = last_of j.semicolon
+last_mode j = last_of j.fallback j.semicolon
   where
-    last_of : (b : Bool) → (k : Mode) × (bs : List Bool) × (coded (elim b [ true ↦ finished j.source j.stages j.terminal | false ↦ ended j.source j.stages j.terminal ]) ≡ Some (k, bs)) × (is_last k ≡ true)
-    last_of true = (mode.End, [], refl, refl)
-    last_of false = (mode.AfterTerminal, [], refl, refl)
+    last_of : (o : Option Call) (b : Bool) → (k : Mode) × (bs : List Bool) × (coded (last_after j.source j.stages j.terminal o b) ≡ Some (k, bs)) × (is_last k ≡ true)
+    last_of o true = (mode.End, [], refl, refl)
+    last_of None false = (mode.AfterTerminal, [], refl, refl)
+    last_of (Some f) false = (mode.AfterFallback, [], refl, refl)
 
 pub reads_last : (ws : List Word) (j : Job) → IsSpelled ws j → reads begins (job_pieces j) ≡ last_state j
-reads_last ws j h = reads_job j h.source h.stages h.terminal
+reads_last ws j h = reads_job j h.source h.stages h.terminal h.fallback
 
 pub no_move : (ws : List Word) (r : code.Reader) (p : Piece) (to : ℕ) → IsReading ws r → Begins ws r.at p to → moved r.mode (reverse r.commas.items) (mark_of p) ≡ None → IsNotSpelled ws
 no_move ws r p to h b n j k =
@@ -211,17 +233,25 @@ job_of ws name ps (has fs s) k bs h l st e = absurd (other_mode mode.AfterSource
 job_of ws name ps (asks s gs) k bs h l st e = absurd (other_mode mode.Step k _ bs h refl l)
 job_of ws name ps (staged s gs) k bs h l st e = absurd (other_mode mode.AfterStage k _ bs h refl l)
 job_of ws name ps (ended s gs c) k bs h l st e =
-    let j : Job = record { name = name; source = s; stages = gs; terminal = c; semicolon = false } in
+    let j : Job = record { name = name; source = s; stages = gs; terminal = c; fallback = None; semicolon = false } in
     record {
       job = j;
-      spelled = record { source = st.1; stages = st.2; terminal = st.3; spelled = ap (λ v. named name ∷ sign symbol.Assign ∷ pieces_words v) st.0 ∙ e };
+      spelled = record { source = st.1; stages = st.2; terminal = st.3; fallback = tt; spelled = ap (λ v. named name ∷ sign symbol.Assign ∷ pieces_words v) st.0 ∙ e };
       calls = ap (placed 2) (sym st.0);
     }
-job_of ws name ps (finished s gs c) k bs h l st e =
-    let j : Job = record { name = name; source = s; stages = gs; terminal = c; semicolon = true } in
+job_of ws name ps (falls s gs c) k bs h l st e = absurd (other_mode mode.Fallback k _ bs h refl l)
+job_of ws name ps (replaced s gs c f) k bs h l st e =
+    let j : Job = record { name = name; source = s; stages = gs; terminal = c; fallback = Some f; semicolon = false } in
     record {
       job = j;
-      spelled = record { source = st.1; stages = st.2; terminal = st.3; spelled = ap (λ v. named name ∷ sign symbol.Assign ∷ pieces_words v) st.0 ∙ e };
+      spelled = record { source = st.1; stages = st.2; terminal = st.3; fallback = st.4; spelled = ap (λ v. named name ∷ sign symbol.Assign ∷ pieces_words v) st.0 ∙ e };
+      calls = ap (placed 2) (sym st.0);
+    }
+job_of ws name ps (finished s gs c o) k bs h l st e =
+    let j : Job = record { name = name; source = s; stages = gs; terminal = c; fallback = o; semicolon = true } in
+    record {
+      job = j;
+      spelled = record { source = st.1; stages = st.2; terminal = st.3; fallback = st.4; spelled = ap (λ v. named name ∷ sign symbol.Assign ∷ pieces_words v) st.0 ∙ e };
       calls = ap (placed 2) (sym st.0);
     }
 job_of ws name ps stuck k bs h l st e = absurd cc
@@ -281,16 +311,18 @@ same_name : (a b : List ℕ) (v w : List Word) → named a ∷ v ≡ named b ∷
 same_name a b v w h = cc
 
 abbrev pub job_in : List ℕ → State → Option Job
-job_in name (ended s gs c) = Some (record { name = name; source = s; stages = gs; terminal = c; semicolon = false })
-job_in name (finished s gs c) = Some (record { name = name; source = s; stages = gs; terminal = c; semicolon = true })
+job_in name (ended s gs c) = Some (record { name = name; source = s; stages = gs; terminal = c; fallback = None; semicolon = false })
+job_in name (replaced s gs c f) = Some (record { name = name; source = s; stages = gs; terminal = c; fallback = Some f; semicolon = false })
+job_in name (finished s gs c o) = Some (record { name = name; source = s; stages = gs; terminal = c; fallback = o; semicolon = true })
 job_in name s = None
 
 pub last_job : (j : Job) → job_in j.name (last_state j) ≡ Some j
-last_job j = for_end j.semicolon refl
+last_job j = for_end j.fallback j.semicolon refl refl
   where
-    for_end : (b : Bool) → j.semicolon ≡ b → job_in j.name (last_state j) ≡ Some j
-    for_end true h = rw h refl
-    for_end false h = rw h refl
+    for_end : (o : Option Call) (b : Bool) → j.fallback ≡ o → j.semicolon ≡ b → job_in j.name (last_state j) ≡ Some j
+    for_end o true f h = rw h refl
+    for_end None false f h = rw (f, h) refl
+    for_end (Some c) false f h = rw (f, h) refl
 
 pub one_spelled : (ws : List Word) (j k : Job) → IsSpelled ws j → IsSpelled ws k → j ≡ k
 one_spelled ws j k h l =

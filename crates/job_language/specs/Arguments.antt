@@ -1,5 +1,5 @@
 -- Meaning: what the last part of a call is read as, if it is no number.
-use Rattle.std.specs.Prelude.{◌≡◌, ℕ, suc, ◌+◌, ℤ, List, [], ◌∷◌, length, get_or, Option, Some, None, Result, Ok, Err}
+use Rattle.std.specs.Prelude.{◌≡◌, ℕ, suc, ◌+◌, ℤ, Bool, true, false, List, [], ◌∷◌, length, get_or, Option, Some, None, Result, Ok, Err}
 use Rattle.stream_tokens.specs.declared.token.Token.{Token}
 use Rattle.stream_tokens.specs.declared.token.TokenKind.TheVariants.{Bad}
 use Rattle.stream_tokens.specs.CutTexts.{TokenizedText, between}
@@ -10,6 +10,8 @@ use Rattle.lambda_expr.specs.Refusals.{AbstractLambda, long, boolean, stream as 
 use Rattle.lambda_expr.specs.References.{names_of}
 use Rattle.lambda_expr.specs.declared.fault.ReadFault.{ReadFault}
 use Rattle.lambda_expr.specs.declared.fault.ReadFault.TheVariants as fault
+use Rattle.lambda_expr.specs.declared.lambda.PairForm.{PairForm}
+use Rattle.lambda_expr.specs.declared.lambda.PairForm.TheVariants as form
 use Rattle.lambda_expr.specs.declared.lambda.Want.{Want}
 use Rattle.lambda_expr.specs.declared.lambda.Want.TheVariants as want
 use Rattle.columns.specs.Table.{cells_named}
@@ -24,10 +26,10 @@ use Rattle.job_language.specs.declared.scope.Gives.TheVariants as gives
 use Rattle.job_language.specs.Table.{param_of}
 use Rattle.job_language.specs.Calls.{Call}
 use Rattle.job_language.specs.Causes.{Scope, given, first_cause, inside_quotes}
-use Rattle.job_language.specs.Operators.{spelled_op, op_of_form}
+use Rattle.job_language.specs.Operators.{is_add_exact, spelled_op, op_of_form}
 
--- what a part is: the cells of a column, the name of an earlier job, the expression of a lambda, an operator;
--- nothing if the last part is a number, or there is none
+-- what a part is: the cells of a column, the name of an earlier job, the expression of a lambda, an operator, the
+-- addition of exact sums; nothing if the last part is a number, or there is none
 pub data Argument : Type 0 where
   nothing : Argument
   column : List ℤ → Argument
@@ -36,6 +38,7 @@ pub data Argument : Type 0 where
   test : Truth → Argument
   stream : Inner → Argument
   operator : Op → Argument
+  exact : Argument
 
 -- a call of a job, and the place of its opening parenthesis among the words
 pub record PlacedCall : Type 0 where
@@ -118,12 +121,16 @@ abbrev pub listed : Option Op → Result Argument Cause
 listed None = Err cause.OperatorNotListed
 listed (Some f) = Ok (operator f)
 
--- a lambda of two parameters is an operator
+-- a lambda of two parameters is an operator, or the addition of exact sums
+abbrev pub pair_argument : PairForm → Result Argument Cause
+pair_argument form.ExactSum = Ok exact
+pair_argument f = listed (op_of_form f)
+
 abbrev pub argument_of : AbstractLambda → Result Argument Cause
 argument_of (long e) = Ok (number e)
 argument_of (boolean p) = Ok (test p)
 argument_of (inner_stream g) = Ok (stream g)
-argument_of (pair f) = listed (op_of_form f)
+argument_of (pair f) = pair_argument f
 
 abbrev pub after_references : Option Cause → AbstractLambda → Result Argument Cause
 after_references None l = argument_of l
@@ -136,10 +143,11 @@ lambda_answer scope (Ok l) = after_references (first_cause (reference_causes sco
 abbrev pub IsLambdaRead : Scope → List ℕ → Want → Result Argument Cause → Type 0
 IsLambdaRead scope text w r = (o : Result AbstractLambda ReadFault) × IsOutcome text w o × (lambda_answer scope o ≡ r)
 
--- an operator is a name, a method, or a lambda of two parameters
-abbrev pub IsOperatorRead : Option (Option Op) → Scope → List ℕ → Result Argument Cause → Type 0
-IsOperatorRead (Some f) scope text r = listed f ≡ r
-IsOperatorRead None scope text r = IsLambdaRead scope text want.Pair r
+-- an operator is a name, a method, or a lambda of two parameters; one method is the addition of exact sums
+abbrev pub IsOperatorRead : Bool → Option (Option Op) → Scope → List ℕ → Result Argument Cause → Type 0
+IsOperatorRead true o scope text r = Ok exact ≡ r
+IsOperatorRead false (Some f) scope text r = listed f ≡ r
+IsOperatorRead false None scope text r = IsLambdaRead scope text want.Pair r
 
 -- what words and a text are read as, by what the row says of the part
 abbrev pub IsReadBy : Param → Scope → List Word → List ℕ → Result Argument Cause → Type 0
@@ -149,7 +157,7 @@ IsReadBy param.Name scope ws text r = name_answer scope (name_in ws) ≡ r
 IsReadBy param.Long scope ws text r = IsLambdaRead scope text want.Long r
 IsReadBy param.Bool scope ws text r = IsLambdaRead scope text want.Bool r
 IsReadBy param.Stream scope ws text r = IsLambdaRead scope text want.Stream r
-IsReadBy param.Operator scope ws text r = IsOperatorRead (spelled_op ws) scope text r
+IsReadBy param.Operator scope ws text r = IsOperatorRead (is_add_exact ws) (spelled_op ws) scope text r
 
 -- what the last part of a call of a job is read as
 abbrev pub IsArgumentRead : Scope → TokenizedText → PlacedCall → Result Argument Cause → Type 0

@@ -1,5 +1,5 @@
 -- Meaning: what a part of a job is refused for: the causes in order of writing, and the first that there is.
-use Rattle.std.specs.Prelude.{ℕ, suc, ℤ, pos, int_lt, Bool, true, false, not, ◌||◌, nat_eq, nat_lt, nat_le, if◌then◌else◌, List, [], ◌∷◌, ◌++◌, length, take, drop, ◌-◌, Option, Some, None}
+use Rattle.std.specs.Prelude.{ℕ, suc, ℤ, pos, int_lt, Bool, true, false, not, ◌||◌, ◌&&◌, nat_eq, nat_lt, nat_le, if◌then◌else◌, List, [], ◌∷◌, ◌++◌, length, take, drop, ◌-◌, Option, Some, None}
 use Rattle.std.specs.Option.{is_some}
 use Rattle.std.specs.Cmp.Lexicographic.{pointwise}
 use Rattle.lambda_expr.specs.Words.{Word}
@@ -24,8 +24,9 @@ pub record Earlier : Type 0 where
   pub name : List ℕ
   pub gives : Gives
 
--- what the names of a job may stand for
+-- what the names of a job may stand for, and the version of the language that it is written in
 pub record Scope : Type 0 where
+  pub version : ℕ
   pub jobs : List Earlier
   pub columns : List NamedColumn
 
@@ -42,6 +43,10 @@ first_cause (Some c ∷ cs) = Some c
 abbrev pub when : Bool → Cause → Option Cause
 when true c = Some c
 when false c = None
+
+-- a fallback stands in the grammar of version 2 alone
+abbrev pub version_cause : Scope → Job → Option Cause
+version_cause scope j = when (is_some j.fallback && nat_lt scope.version 2) cause.Syntax
 
 -- a name of at most 64 bytes, which no earlier job has
 abbrev pub name_causes : Scope → List ℕ → List (Option Cause)
@@ -98,3 +103,7 @@ stage_cause n r = None
 -- at most 8 plain sources, those of each `concat` counted
 abbrev pub sources_cause : Job → Option Cause
 sources_cause j = when (nat_lt 8 (length (plain_sources j.source))) cause.TooLong
+
+-- the causes of a job before those of its calls
+abbrev pub causes_of : Scope → Job → List (Option Cause)
+causes_of scope j = version_cause scope j ∷ (name_causes scope j.name ++ sources_cause j ∷ [])

@@ -1,5 +1,5 @@
 -- Meaning: the grammar of one job, apart from any reader.
-use Rattle.std.specs.Prelude.{◌≡◌, ℕ, Bool, true, false, List, [], ◌∷◌, ◌++◌, codes}
+use Rattle.std.specs.Prelude.{◌≡◌, ℕ, Bool, true, false, List, [], ◌∷◌, ◌++◌, codes, Option, Some, None}
 use Rattle.std.specs.List.{list_all}
 use Rattle.stream_tokens.specs.declared.symbol.Symbol.TheVariants as symbol
 use Rattle.lambda_expr.specs.Words.{Word, named, numeral, sign, bad}
@@ -28,12 +28,13 @@ mutual
     two : Source → Source → Sources
     more : Sources → Source → Sources
 
--- a job as it is written
+-- a job as it is written; the fallback is what stands after the terminal, if anything does
 pub record Job : Type 0 where
   pub name : List ℕ
   pub source : Source
   pub stages : List Call
   pub terminal : Call
+  pub fallback : Option Call
   pub semicolon : Bool
 
 -- a job after its `=`, cut into pieces: calls, and what stands between them
@@ -82,9 +83,14 @@ abbrev pub ending : Bool → List Piece
 ending true = semicolon ∷ []
 ending false = []
 
+-- after a dot, if it is there
+abbrev pub fallback_pieces : Option Call → List Piece
+fallback_pieces None = []
+fallback_pieces (Some c) = dot ∷ call c ∷ []
+
 -- the pieces of a job, in order of writing
 abbrev pub job_pieces : Job → List Piece
-job_pieces j = source_pieces j.source ++ (steps_pieces j.stages ++ dot ∷ call j.terminal ∷ ending j.semicolon)
+job_pieces j = source_pieces j.source ++ (steps_pieces j.stages ++ dot ∷ call j.terminal ∷ (fallback_pieces j.fallback ++ ending j.semicolon))
 
 -- the words of a job: its name, `=`, and its pieces
 abbrev pub job_words : Job → List Word
@@ -108,11 +114,16 @@ abbrev pub AreStages : List Call → Type 0
 AreStages [] = Unit {0}
 AreStages (c ∷ cs) = IsCallAs role.Stage c × AreStages cs
 
+abbrev pub IsFallback : Option Call → Type 0
+IsFallback None = Unit {0}
+IsFallback (Some c) = IsCallAs role.Fallback c
+
 -- the words are printed from this job
 pub record IsSpelled (ws : List Word) (j : Job) : Type 0 where
   pub source : IsSource j.source
   pub stages : AreStages j.stages
   pub terminal : IsCallAs role.Terminal j.terminal
+  pub fallback : IsFallback j.fallback
   pub spelled : job_words j ≡ ws
 
 -- the words are this job
@@ -133,6 +144,10 @@ calls_of (p ∷ ps) = calls_of ps
 abbrev pub plain_sources : Source → List Call
 plain_sources s = calls_of (source_pieces s)
 
+abbrev pub fallback_calls : Option Call → List Call
+fallback_calls None = []
+fallback_calls (Some c) = c ∷ []
+
 -- the calls of a job in order of writing
 abbrev pub job_calls : Job → List Call
-job_calls j = plain_sources j.source ++ (j.stages ++ j.terminal ∷ [])
+job_calls j = plain_sources j.source ++ (j.stages ++ j.terminal ∷ fallback_calls j.fallback)

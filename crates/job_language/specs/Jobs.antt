@@ -35,13 +35,16 @@ pub data AbstractTerminal : Type 0 where
   reduce : Op → AbstractTerminal
   reduce_from : ℤ → Op → AbstractTerminal
   find : Find → AbstractTerminal
+  exact_sum : AbstractTerminal
 
--- an abstract job: its name in bytes, its plain sources in order of writing, its stages and its terminal
+-- an abstract job: its name in bytes, its plain sources in order of writing, its stages, its terminal, and the number
+-- that stands in place of a fault, if there is one
 pub record AbstractJob : Type 0 where
   pub name : List ℕ
   pub sources : List AbstractPlainSource
   pub stages : List AbstractJobStage
   pub terminal : AbstractTerminal
+  pub on_fault : Option ℤ
 
 -- helper: the abstract source of a source of the program
 abbrev pub source_of : PlainSource → AbstractPlainSource
@@ -77,10 +80,11 @@ terminal_of terminal.ToArray = to_array
 terminal_of (terminal.Reduce f) = reduce f
 terminal_of (terminal.ReduceFrom a f) = reduce_from a f
 terminal_of (terminal.Find d) = find (find_of d)
+terminal_of terminal.ExactSum = exact_sum
 
 -- helper: the abstract job of a job of the program
 abbrev pub job_of : Job → AbstractJob
-job_of j = record { name = j.name; sources = sources_of j.sources.items; stages = job_stages_of j.stages.items; terminal = terminal_of j.terminal }
+job_of j = record { name = j.name; sources = sources_of j.sources.items; stages = job_stages_of j.stages.items; terminal = terminal_of j.terminal; on_fault = j.on_fault }
 
 -- helper: those of several jobs
 abbrev pub jobs_of : List Job → List AbstractJob

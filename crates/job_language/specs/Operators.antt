@@ -1,5 +1,5 @@
 -- Meaning: the operators of `prefix` and `reduce`, by how they are written.
-use Rattle.std.specs.Prelude.{ℕ, Bool, true, false, nat_eq, if◌then◌else◌, List, [], ◌∷◌, codes, Option, Some, None}
+use Rattle.std.specs.Prelude.{ℕ, Bool, true, false, ◌&&◌, nat_eq, if◌then◌else◌, List, [], ◌∷◌, codes, Option, Some, None}
 use Rattle.std.specs.Cmp.Lexicographic.{pointwise}
 use Rattle.stream_tokens.specs.declared.symbol.Symbol.TheVariants as symbol
 use Rattle.lambda_expr.specs.Words.{Word, named, sign}
@@ -66,6 +66,11 @@ spelled_op (named w ∷ []) = Some (op_named w)
 spelled_op (named o ∷ sign symbol.DoubleColon ∷ named w ∷ []) = Some (op_method o w)
 spelled_op ws = None
 
+-- whether words are `Math::addExact`
+abbrev pub is_add_exact : List Word → Bool
+is_add_exact (named o ∷ sign symbol.DoubleColon ∷ named w ∷ []) = is_text o (codes "Math") && is_text w (codes "addExact")
+is_add_exact ws = false
+
 -- the operator that a lambda of two parameters is, by the form of its body
 abbrev pub op_of_form : PairForm → Option Op
 op_of_form form.First = Some op.First
@@ -77,4 +82,5 @@ op_of_form form.Max = Some op.Max
 op_of_form form.And = Some op.And
 op_of_form form.Or = Some op.Or
 op_of_form form.Xor = Some op.Xor
+op_of_form form.ExactSum = None
 op_of_form form.Other = None

@@ -1,5 +1,5 @@
 -- Condition: what the program keeps of the parts of a job stands for.
-use Rattle.std.specs.Prelude.{◌≢◌, ℕ, List, [], ◌∷◌, ◌++◌, Option, Result, Ok, Err}
+use Rattle.std.specs.Prelude.{◌≢◌, ℕ, List, Option, Result, Ok, Err}
 use Rattle.lambda_expr.specs.Term.{long_of, truth_of}
 use Rattle.lambda_expr.specs.Streams.{inner_of}
 use Rattle.job_language.specs.declared.argument.Argument as code
@@ -10,10 +10,10 @@ use Rattle.job_language.specs.declared.parts.Parts as parts
 use Rattle.job_language.specs.declared.fault.Cause.{Cause}
 use Rattle.job_language.specs.declared.fault.Cause.TheVariants.{NoMemory}
 use Rattle.job_language.specs.Grammar.{Job}
-use Rattle.job_language.specs.Causes.{Scope, first_cause, name_causes, sources_cause}
-use Rattle.job_language.specs.Arguments.{Argument, nothing, column, job, number, test, stream, operator}
+use Rattle.job_language.specs.Causes.{Scope, first_cause, causes_of}
+use Rattle.job_language.specs.Arguments.{Argument, nothing, column, job, number, test, stream, operator, exact}
 use Rattle.job_language.specs.Jobs.{AbstractJob, source_of, sources_of, job_stage_of, job_stages_of, terminal_of}
-use Rattle.job_language.specs.Verdicts.{AbstractCall, source, stage, terminal}
+use Rattle.job_language.specs.Verdicts.{AbstractCall, source, stage, terminal, fallback}
 
 -- what a last part of the program stands for
 abbrev pub argument_in : code.Argument → Argument
@@ -24,12 +24,14 @@ argument_in (code_argument.Number e) = number (long_of e)
 argument_in (code_argument.Test p) = test (truth_of p)
 argument_in (code_argument.Stream g) = stream (inner_of g)
 argument_in (code_argument.Operator f) = operator f
+argument_in code_argument.ExactSum = exact
 
 -- what a part of a job of the program stands for
 abbrev pub part_in : call_part.CallPart → AbstractCall
 part_in (code_part.Source s) = source (source_of s)
 part_in (code_part.Stage g) = stage (job_stage_of g)
 part_in (code_part.Terminal d) = terminal (terminal_of d)
+part_in (code_part.Fallback z) = fallback z
 
 -- an answer, as the definitions have it
 abbrev pub answer_in : {A T : Type 0} → (A → T) → Result A Cause → Result T Cause
@@ -43,8 +45,8 @@ Answers f P (Err e) = e ≢ NoMemory → P (Err e)
 
 -- the job that was read up to a place
 abbrev pub job_so_far : List ℕ → parts.Parts → AbstractJob
-job_so_far w p = record { name = w; sources = sources_of p.sources.items; stages = job_stages_of p.stages.items; terminal = terminal_of p.terminal }
+job_so_far w p = record { name = w; sources = sources_of p.sources.items; stages = job_stages_of p.stages.items; terminal = terminal_of p.terminal; on_fault = p.on_fault }
 
 -- why a job is refused before its calls
 abbrev pub causes_before : Scope → Job → Option Cause
-causes_before s j = first_cause (name_causes s j.name ++ sources_cause j ∷ [])
+causes_before s j = first_cause (causes_of s j)

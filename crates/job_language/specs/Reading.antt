@@ -17,7 +17,8 @@ pub data Frame : Type 0 where
   several : Bool → Sources → Frame
 
 -- a source is wanted, or `LongStream` or `LongStream.` is there, or a source stands there; after the source, an
--- operation is wanted, or a stage stands there, or the terminal, or all; or the pieces begin no job
+-- operation is wanted, or a stage stands there, or the terminal; after the terminal, a fallback is wanted, or stands
+-- there; or all stands there; or the pieces begin no job
 pub data State : Type 0 where
   wants : List Frame → State
   owns : List Frame → State
@@ -26,7 +27,9 @@ pub data State : Type 0 where
   asks : Source → List Call → State
   staged : Source → List Call → State
   ended : Source → List Call → Call → State
-  finished : Source → List Call → Call → State
+  falls : Source → List Call → Call → State
+  replaced : Source → List Call → Call → Call → State
+  finished : Source → List Call → Call → Option Call → State
   stuck : State
 
 abbrev pub leaf : Bool → List Frame → Call → Role → State
@@ -37,6 +40,10 @@ abbrev pub stepped : Source → List Call → Call → Role → State
 stepped s gs c role.Stage = staged s (gs ++ c ∷ [])
 stepped s gs c role.Terminal = ended s gs c
 stepped s gs c r = stuck
+
+abbrev pub fallen : Source → List Call → Call → Call → Role → State
+fallen s gs c f role.Fallback = replaced s gs c f
+fallen s gs c f r = stuck
 
 abbrev pub read : State → Piece → State
 read (wants fs) owner = owns fs
@@ -53,7 +60,10 @@ read (has (several q ss ∷ fs) s) close = has fs (concat q (more ss s))
 read (has [] s) dot = asks s []
 read (asks s gs) (call c) = stepped s gs c (role_of c.operation)
 read (staged s gs) dot = asks s gs
-read (ended s gs c) semicolon = finished s gs c
+read (ended s gs c) dot = falls s gs c
+read (ended s gs c) semicolon = finished s gs c None
+read (falls s gs c) (call f) = fallen s gs c f (role_of f.operation)
+read (replaced s gs c f) semicolon = finished s gs c (Some f)
 read s p = stuck
 
 abbrev pub reads : State → List Piece → State
@@ -94,7 +104,9 @@ coded (has fs s) = Some (mode.AfterSource, commas fs)
 coded (asks s gs) = Some (mode.Step, [])
 coded (staged s gs) = Some (mode.AfterStage, [])
 coded (ended s gs c) = Some (mode.AfterTerminal, [])
-coded (finished s gs c) = Some (mode.End, [])
+coded (falls s gs c) = Some (mode.Fallback, [])
+coded (replaced s gs c f) = Some (mode.AfterFallback, [])
+coded (finished s gs c o) = Some (mode.End, [])
 coded stuck = None
 
 abbrev pub at_source : List Bool → Mark → Place
@@ -117,7 +129,10 @@ moved mode.AfterSource bs m = after_source bs m
 moved mode.Step bs (mark.Call role.Stage) = Some (mode.AfterStage, bs)
 moved mode.Step bs (mark.Call role.Terminal) = Some (mode.AfterTerminal, bs)
 moved mode.AfterStage bs mark.Dot = Some (mode.Step, bs)
+moved mode.AfterTerminal bs mark.Dot = Some (mode.Fallback, bs)
 moved mode.AfterTerminal bs mark.Semicolon = Some (mode.End, bs)
+moved mode.Fallback bs (mark.Call role.Fallback) = Some (mode.AfterFallback, bs)
+moved mode.AfterFallback bs mark.Semicolon = Some (mode.End, bs)
 moved k bs m = None
 
 abbrev pub moves : Place → Mark → Place

@@ -9,4 +9,4 @@ jobs_of [] = []
 jobs_of (j ∷ js) = record { name = j.name.now; gives = j.gives } ∷ jobs_of js
 
 abbrev pub scope_of : code.Scope → Scope
-scope_of s = record { jobs = jobs_of s.jobs.now; columns = s.columns.now }
+scope_of s = record { version = s.version; jobs = jobs_of s.jobs.now; columns = s.columns.now }

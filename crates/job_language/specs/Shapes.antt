@@ -135,6 +135,7 @@ pub record AreCallsOf (ws : List Word) (cs : List PlacedCall) : Type 0 where
 
 abbrev pub is_last : Mode → Bool
 is_last mode.AfterTerminal = true
+is_last mode.AfterFallback = true
 is_last mode.End = true
 is_last k = false
 
@@ -173,6 +174,16 @@ one_if_source r = 0
 abbrev pub sources_in : List Call → ℕ
 sources_in [] = 0
 sources_in (c ∷ cs) = one_if_source (role_of c.operation) + sources_in cs
+
+-- whether the last of the calls is a fallback
+abbrev pub is_fallback : Role → Bool
+is_fallback role.Fallback = true
+is_fallback r = false
+
+abbrev pub ends_in_fallback : List Call → Bool
+ends_in_fallback [] = false
+ends_in_fallback (c ∷ []) = is_fallback (role_of c.operation)
+ends_in_fallback (c ∷ d ∷ cs) = ends_in_fallback (d ∷ cs)
 
 -- the name that the words begin with
 abbrev pub first_name : List Word → List ℕ

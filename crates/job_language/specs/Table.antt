@@ -38,6 +38,7 @@ name_of op.Reduce = codes "reduce"
 name_of op.AnyMatch = codes "anyMatch"
 name_of op.AllMatch = codes "allMatch"
 name_of op.NoneMatch = codes "noneMatch"
+name_of op.OnFault = codes "onFault"
 
 -- where it stands in a job
 abbrev pub role_of : Operation → Role
@@ -66,6 +67,7 @@ role_of op.Reduce = role.Terminal
 role_of op.AnyMatch = role.Terminal
 role_of op.AllMatch = role.Terminal
 role_of op.NoneMatch = role.Terminal
+role_of op.OnFault = role.Fallback
 
 -- whether a call may have this number of parts; what stands in a `concat` are sources, by the grammar of sources
 abbrev pub allows : Operation → ℕ → Bool
@@ -94,6 +96,7 @@ allows op.Reduce n = (n == 1) || (n == 2)
 allows op.AnyMatch n = n == 1
 allows op.AllMatch n = n == 1
 allows op.NoneMatch n = n == 1
+allows op.OnFault n = n == 1
 
 -- of n parts, what part i is
 abbrev pub param_of : Operation → ℕ → ℕ → Param
@@ -164,7 +167,7 @@ fits param.Operator ws = is_some ws
 
 -- all operations
 abbrev pub operations : List Operation
-operations = op.Range ∷ op.RangeClosed ∷ op.Of ∷ op.Empty ∷ op.Column ∷ op.Result ∷ op.Concat ∷ op.Map ∷ op.Filter ∷ op.FlatMap ∷ op.Limit ∷ op.Skip ∷ op.TakeWhile ∷ op.DropWhile ∷ op.Prefix ∷ op.Sum ∷ op.Count ∷ op.Min ∷ op.Max ∷ op.FindFirst ∷ op.ToArray ∷ op.Reduce ∷ op.AnyMatch ∷ op.AllMatch ∷ op.NoneMatch ∷ []
+operations = op.Range ∷ op.RangeClosed ∷ op.Of ∷ op.Empty ∷ op.Column ∷ op.Result ∷ op.Concat ∷ op.Map ∷ op.Filter ∷ op.FlatMap ∷ op.Limit ∷ op.Skip ∷ op.TakeWhile ∷ op.DropWhile ∷ op.Prefix ∷ op.Sum ∷ op.Count ∷ op.Min ∷ op.Max ∷ op.FindFirst ∷ op.ToArray ∷ op.Reduce ∷ op.AnyMatch ∷ op.AllMatch ∷ op.NoneMatch ∷ op.OnFault ∷ []
 
 -- the first of these operations with this name
 abbrev pub row_of : List Operation → List ℕ → Option Operation

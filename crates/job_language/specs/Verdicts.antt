@@ -25,14 +25,15 @@ use Rattle.job_language.specs.Calls.{call_words}
 use Rattle.job_language.specs.Grammar.{Piece, call, piece_words, job_pieces, Job, IsJob, IsNoJob}
 use Rattle.job_language.specs.Jobs.{AbstractPlainSource, AbstractJobStage, AbstractTerminal, AbstractJob}
 use Rattle.job_language.specs.Jobs as term
-use Rattle.job_language.specs.Causes.{Earlier, Scope, first_cause, when, name_causes, stage_cause, early_causes, numbers_of, sources_cause}
-use Rattle.job_language.specs.Arguments.{Argument, column, job, number, test, stream, operator, PlacedCall, IsArgumentRead}
+use Rattle.job_language.specs.Causes.{Earlier, Scope, first_cause, when, stage_cause, early_causes, numbers_of, causes_of}
+use Rattle.job_language.specs.Arguments.{Argument, column, job, number, test, stream, operator, exact, PlacedCall, IsArgumentRead}
 
 -- what a call is read as
 pub data AbstractCall : Type 0 where
   source : AbstractPlainSource → AbstractCall
   stage : AbstractJobStage → AbstractCall
   terminal : AbstractTerminal → AbstractCall
+  fallback : ℤ → AbstractCall
 
 -- number i of a call
 abbrev pub number_at : List ℤ → ℕ → ℤ
@@ -88,8 +89,9 @@ plain_terminal op.FindFirst = term.find find.first
 plain_terminal op.ToArray = term.to_array
 plain_terminal o = term.sum
 
--- a terminal: a match, `reduce`, and those without parts
+-- a terminal: the exact sum, a match, `reduce`, and those without parts
 abbrev pub abstract_terminal : Operation → List ℤ → Argument → AbstractTerminal
+abstract_terminal o ks exact = term.exact_sum
 abstract_terminal o ks (test p) = term.find (match_terminal o p)
 abstract_terminal o ks (operator f) = reduce_terminal ks f
 abstract_terminal o ks a = plain_terminal o
@@ -98,6 +100,7 @@ abstract_terminal o ks a = plain_terminal o
 abbrev pub abstract_call : Role → Operation → List ℤ → Argument → AbstractCall
 abstract_call role.Stage o ks a = stage (abstract_stage o ks a)
 abstract_call role.Terminal o ks a = terminal (abstract_terminal o ks a)
+abstract_call role.Fallback o ks a = fallback (number_at ks 0)
 abstract_call r o ks a = source (abstract_source o ks a)
 
 -- the number of `reduce` is the identity of its operator
@@ -105,8 +108,18 @@ abbrev pub same_identity : Option ℤ → ℤ → Option Cause
 same_identity None k = Some cause.NoIdentity
 same_identity (Some i) k = when (not (int_eq i k)) cause.NotIdentity
 
+abbrev pub operator_cause : Operation → List ℤ → Op → Option Cause
+operator_cause op.Reduce (k ∷ []) f = same_identity (identity_of f) k
+operator_cause o ks f = None
+
+-- an exact sum stands in `reduce` with a number alone, and the number is 0
+abbrev pub exact_cause : Operation → List ℤ → Option Cause
+exact_cause op.Reduce (k ∷ []) = same_identity (Some (pos 0)) k
+exact_cause o ks = Some cause.OperatorNotListed
+
 abbrev pub identity_cause : Operation → List ℤ → Argument → Option Cause
-identity_cause op.Reduce (k ∷ []) (operator f) = same_identity (identity_of f) k
+identity_cause o ks (operator f) = operator_cause o ks f
+identity_cause o ks exact = exact_cause o ks
 identity_cause o ks a = None
 
 abbrev pub unless : Option Cause → AbstractCall → Result AbstractCall Cause
@@ -138,18 +151,42 @@ abbrev pub added : AbstractJob → AbstractCall → AbstractJob
 added j (source s) = record j { sources = j.sources ++ s ∷ [] }
 added j (stage g) = record j { stages = j.stages ++ g ∷ [] }
 added j (terminal d) = record j { terminal = d }
+added j (fallback z) = record j { on_fault = Some z }
+
+-- what a terminal gives
+abbrev pub given_by : AbstractTerminal → Gives
+given_by term.to_array = gives.Array
+given_by (term.find (find.any_match p)) = gives.Boolean
+given_by (term.find (find.all_match p)) = gives.Boolean
+given_by (term.find (find.none_match p)) = gives.Boolean
+given_by d = gives.Number
+
+-- a number stands in place of the faults of a terminal that gives numbers
+abbrev pub fallback_for : Gives → ℤ → Result AbstractCall Cause
+fallback_for gives.Number z = Ok (fallback z)
+fallback_for g z = Err cause.NotScalar
+
+-- what a call is below this terminal
+abbrev pub below_terminal : AbstractTerminal → Result AbstractCall Cause → Result AbstractCall Cause
+below_terminal d (Ok (fallback z)) = fallback_for (given_by d) z
+below_terminal d r = r
+
+-- what the next call of a job is read as
+abbrev pub IsNextCall : AbstractJob → Scope → TokenizedText → PlacedCall → Result AbstractCall Cause → Type 0
+IsNextCall j scope t c r =
+    (q : Result AbstractCall Cause) × IsReadInTurn (stage_cause (length j.stages) (role_of c.call.operation)) scope t c q
+    × (below_terminal j.terminal q ≡ r)
 
 -- the calls that are left, in order of writing: the first that is refused gives the cause
 abbrev pub AreRead : Scope → TokenizedText → AbstractJob → List PlacedCall → Result AbstractJob Cause → Type 0
 AreRead scope t j [] r = Ok j ≡ r
 AreRead scope t j (c ∷ cs) r =
-    let late = stage_cause (length j.stages) (role_of c.call.operation) in
-    ((e : Cause) × IsReadInTurn late scope t c (Err e) × (Err e ≡ r))
-    ⊎ ((g : AbstractCall) × IsReadInTurn late scope t c (Ok g) × AreRead scope t (added j g) cs r)
+    ((e : Cause) × IsNextCall j scope t c (Err e) × (Err e ≡ r))
+    ⊎ ((g : AbstractCall) × IsNextCall j scope t c (Ok g) × AreRead scope t (added j g) cs r)
 
 -- a job before its parts; the last of them is its terminal
 abbrev pub job_named : List ℕ → AbstractJob
-job_named w = record { name = w; sources = []; stages = []; terminal = term.sum }
+job_named w = record { name = w; sources = []; stages = []; terminal = term.sum; on_fault = None }
 
 -- calls with their places, after n words
 abbrev pub placed : ℕ → List Piece → List PlacedCall
@@ -161,7 +198,7 @@ placed n (p ∷ ps) = placed (n + length (piece_words p)) ps
 abbrev pub placed_calls : Job → List PlacedCall
 placed_calls j = placed 2 (job_pieces j)
 
--- a job in the grammar is refused for its name, for too many plain sources, for a call
+-- a job in the grammar is refused for its version, for its name, for too many plain sources, for a call
 abbrev pub IsJobRead : Option Cause → Scope → TokenizedText → Job → Result AbstractJob Cause → Type 0
 IsJobRead (Some e) scope t j r = Err e ≡ r
 IsJobRead None scope t j r = AreRead scope t (job_named j.name) (placed_calls j) r
@@ -186,21 +223,13 @@ pub record IsInside (scope : Scope) (text : List ℕ) (r : Result AbstractJob Ca
   pub cut : AreTokensOf tokens text
   pub job : Job
   pub is : IsJob (words_of text tokens) job
-  pub read : IsJobRead (first_cause (name_causes scope job.name ++ sources_cause job ∷ [])) scope (record { bytes = text; tokens = tokens }) job r
+  pub read : IsJobRead (first_cause (causes_of scope job)) scope (record { bytes = text; tokens = tokens }) job r
 
 -- what a text is read as, with these earlier jobs and columns
 pub data IsRead (scope : Scope) (text : List ℕ) (r : Result AbstractJob Cause) : Type 0 where
   long : IsTooLong text r → IsRead scope text r
   outside : IsOutside text r → IsRead scope text r
   inside : IsInside scope text r → IsRead scope text r
-
--- what a terminal gives
-abbrev pub given_by : AbstractTerminal → Gives
-given_by term.to_array = gives.Array
-given_by (term.find (find.any_match p)) = gives.Boolean
-given_by (term.find (find.all_match p)) = gives.Boolean
-given_by (term.find (find.none_match p)) = gives.Boolean
-given_by d = gives.Number
 
 -- a job as later jobs see it
 abbrev pub earlier_of : AbstractJob → Earlier

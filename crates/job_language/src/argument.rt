@@ -6,18 +6,19 @@ ghost use Rattle.job_language.specs.Splitting.{words_in};
 ghost use Rattle.job_language.specs.Shapes.{StandsIn, call_in, placed_in};
 ghost use Rattle.job_language.specs.Scopes.{scope_of};
 ghost use Rattle.job_language.specs.Causes.{first_cause};
-ghost use Rattle.job_language.specs.Arguments.{column_answer, text_answer, result_answer, name_answer, argument_of, reference_cause, reference_causes, lambda_answer, argument_text, last_param, last_part, listed, IsLambdaRead, IsOperatorRead, IsReadBy, IsArgumentRead};
+ghost use Rattle.job_language.specs.Operators.{is_add_exact, spelled_op};
+ghost use Rattle.job_language.specs.Arguments.{column_answer, text_answer, result_answer, name_answer, argument_of, pair_argument, reference_cause, reference_causes, lambda_answer, argument_text, last_param, last_part, listed, IsLambdaRead, IsOperatorRead, IsReadBy, IsArgumentRead};
 ghost use Rattle.job_language.specs.Arguments.{job as named_job};
 ghost use Rattle.job_language.specs.Parts.{argument_in, Answers};
 
 use crate::causes::{inside_quotes, part_of, part_start};
 use crate::fault::Cause;
 use crate::operation::{Param, param_of};
-use crate::operator::{op_of_form, spelled_op};
+use crate::operator::{is_add_exact, op_of_form, spelled_op};
 use crate::piece::WrittenCall;
 use crate::scope::{Gives, Scope, given};
 use crate::word::{Word, name_in, string_in};
-use lambda_expr::{Body, BoolExpr, InnerExpr, Lambda, LongExpr, Want, read_lambda_of};
+use lambda_expr::{Body, BoolExpr, InnerExpr, Lambda, LongExpr, PairForm, Want, read_lambda_of};
 use reduce_ops::Op;
 use std::alloc::{AllocError, Global};
 use stream_tokens::{Bytes, CutText};
@@ -35,6 +36,8 @@ pub enum Argument<'c> {
     Test(BoolExpr),
     Stream(InnerExpr),
     Operator(Op),
+    /// The addition of exact sums.
+    ExactSum,
 }
 
 fn column<'c>(cells: Option<&'c [i64]>) -> Result<Argument<'c>, Cause>
@@ -95,6 +98,15 @@ fn listed<'c>(op: Option<Op>) -> Result<Argument<'c>, Cause>
     }
 }
 
+fn pair_argument<'c>(form: PairForm) -> Result<Argument<'c>, Cause>
+    ensures { Answers argument_in (λ r. pair_argument form ≡ r) result }
+{
+    match form {
+        PairForm::ExactSum => Ok(Argument::ExactSum),
+        _ => listed(op_of_form(form)),
+    }
+}
+
 fn argument_of<'c>(body: Body) -> Result<Argument<'c>, Cause>
     ensures { Answers argument_in (λ r. argument_of (body_of body) ≡ r) result }
 {
@@ -102,7 +114,7 @@ fn argument_of<'c>(body: Body) -> Result<Argument<'c>, Cause>
         Body::Long(expr) => Ok(Argument::Number(expr)),
         Body::Bool(test) => Ok(Argument::Test(test)),
         Body::Stream(inner) => Ok(Argument::Stream(inner)),
-        Body::Pair(form) => listed(op_of_form(form)),
+        Body::Pair(form) => pair_argument(form),
     }
 }
 
@@ -156,13 +168,17 @@ fn read_lambda_part<'c>(
 /// An operator: named by its words, or a lambda.
 fn read_operator<'c>(
     alloc: Global,
-    scope: Scope,
+    scope: Scope<'_, 'c>,
     text: &CutText,
-    op: Option<Option<Op>>,
+    words: &[Word],
 ) -> Result<Argument<'c>, Cause>
-    ensures { Answers argument_in (IsOperatorRead op (scope_of scope.entry) text.now.bytes) result }
+    ensures { let ws = words_in words.now in Answers argument_in
+        (IsOperatorRead (is_add_exact ws) (spelled_op ws) (scope_of scope.entry) text.now.bytes) result }
 {
-    match op {
+    if is_add_exact(words) {
+        return Ok(Argument::ExactSum);
+    }
+    match spelled_op(words) {
         Some(op) => listed(op),
         None => read_lambda_part(alloc, scope, text, Want::Pair),
     }
@@ -224,7 +240,7 @@ fn read_by<'c>(
         Param::Long => read_lambda_part(alloc, scope, text, Want::Long),
         Param::Bool => read_lambda_part(alloc, scope, text, Want::Bool),
         Param::Stream => read_lambda_part(alloc, scope, text, Want::Stream),
-        Param::Operator => read_operator(alloc, scope, text, spelled_op(words)),
+        Param::Operator => read_operator(alloc, scope, text, words),
     }
 }
 

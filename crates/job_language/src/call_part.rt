@@ -5,7 +5,7 @@ ghost use Rattle.find_ops.specs.Finds.{find_of};
 ghost use Rattle.lambda_expr.specs.Term.{truth_of};
 ghost use Rattle.job_language.specs.Jobs.{source_of, job_stage_of, terminal_of};
 ghost use Rattle.job_language.specs.Table.{role_of};
-ghost use Rattle.job_language.specs.Verdicts.{number_at, number_source, abstract_source, count_stage, test_stage, prefix_stage, abstract_stage, match_terminal, reduce_terminal, plain_terminal, abstract_terminal, abstract_call, same_identity, identity_cause};
+ghost use Rattle.job_language.specs.Verdicts.{number_at, number_source, abstract_source, count_stage, test_stage, prefix_stage, abstract_stage, match_terminal, reduce_terminal, plain_terminal, abstract_terminal, abstract_call, same_identity, operator_cause, exact_cause, identity_cause};
 ghost use Rattle.job_language.specs.Parts.{argument_in, part_in};
 
 use crate::argument::Argument;
@@ -24,6 +24,8 @@ pub enum CallPart<'c> {
     Source(PlainSource<'c>),
     Stage(JobStage),
     Terminal(Terminal),
+    /// The number that stands in place of a fault.
+    Fallback(i64),
 }
 
 fn number_at(numbers: &[i64], place: usize) -> i64
@@ -143,6 +145,7 @@ fn terminal(operation: Operation, numbers: &[i64], last: Argument) -> Terminal
     match last {
         Argument::Test(test) => Terminal::Find(match_terminal(operation, test)),
         Argument::Operator(op) => reduce_terminal(numbers, op),
+        Argument::ExactSum => Terminal::ExactSum,
         _ => plain_terminal(operation),
     }
 }
@@ -155,6 +158,7 @@ pub fn call_part<'c>(operation: Operation, numbers: Vec<i64>, last: Argument<'c>
     match role_of(operation) {
         Role::Stage => CallPart::Stage(stage(operation, &numbers, last)),
         Role::Terminal => CallPart::Terminal(terminal(operation, &numbers, last)),
+        Role::Fallback => CallPart::Fallback(number_at(&numbers, 0)),
         _ => CallPart::Source(source(operation, numbers, last)),
     }
 }
@@ -169,21 +173,38 @@ fn same_identity(identity: Option<i64>, number: i64) -> Option<Cause>
     }
 }
 
-fn reduce_cause(numbers: &[i64], last: &Argument) -> Option<Cause>
-    ensures { result ≡ identity_cause Operation.Reduce numbers.now (argument_in last.now) }
+fn operator_cause(operation: Operation, numbers: &[i64], op: Op) -> Option<Cause>
+    ensures { result ≡ operator_cause operation numbers.now op }
 {
-    match (numbers, last) {
-        ([number], Argument::Operator(op)) => same_identity(op.identity(), *number),
+    match operation {
+        Operation::Reduce => match numbers {
+            [number] => same_identity(op.identity(), *number),
+            _ => None,
+        },
         _ => None,
     }
 }
 
-/// Why the number of a `reduce` is refused.
+/// Why an exact sum is refused: it stands in `reduce` with a number alone, and the number is 0.
+fn exact_cause(operation: Operation, numbers: &[i64]) -> Option<Cause>
+    ensures { result ≡ exact_cause operation numbers.now }
+{
+    match operation {
+        Operation::Reduce => match numbers {
+            [number] => same_identity(Some(0), *number),
+            _ => Some(Cause::OperatorNotListed),
+        },
+        _ => Some(Cause::OperatorNotListed),
+    }
+}
+
+/// Why the numbers and the operator of a call are refused together.
 pub fn identity_cause(operation: Operation, numbers: &[i64], last: &Argument) -> Option<Cause>
     ensures { result ≡ identity_cause operation numbers.now (argument_in last.now) }
 {
-    match operation {
-        Operation::Reduce => reduce_cause(numbers, last),
+    match last {
+        Argument::Operator(op) => operator_cause(operation, numbers, *op),
+        Argument::ExactSum => exact_cause(operation, numbers),
         _ => None,
     }
 }

@@ -41,6 +41,8 @@ pub enum Cause {
     Expr(ReadFault),
     /// 14: an allocation failed.
     NoMemory,
+    /// 15: `onFault` after a terminal that gives no number.
+    NotScalar,
 }
 
 impl Display for Cause {
@@ -58,6 +60,7 @@ impl Display for Cause {
             Cause::OperatorNotListed => write!(f, "operator not listed"),
             Cause::BadRange => write!(f, "bad range"),
             Cause::TooLong => write!(f, "too long"),
+            Cause::NotScalar => write!(f, "not scalar"),
             Cause::Expr(ReadFault::Syntax { column }) => {
                 write!(f, "expression syntax at column {column}")
             }

@@ -15,7 +15,7 @@ use crate::read::read_job;
 use crate::scope::{EarlierJob, Scope};
 use columns::Columns;
 use std::alloc::{AllocError, Global};
-use stream_tokens::{JobText, JobTexts};
+use stream_tokens::{JobText, JobTexts, version_of};
 
 /// How many jobs a file may have.
 const MAX_JOBS: usize = 256;
@@ -34,24 +34,26 @@ fn earlier_jobs<'s>(alloc: Global, jobs: &'s [Job]) -> Result<Vec<EarlierJob<'s>
     Ok(earlier)
 }
 
-/// The job of a text below these jobs, or its cause. Of the 257th nothing is read.
+/// The job of a text of this version below these jobs, or its cause. Of the 257th nothing is read.
 fn read_below<'c>(
     alloc: Global,
+    version: u8,
     columns: &'c Columns,
     jobs: &[Job],
     text: &[u8],
 ) -> Result<Job<'c>, Cause>
     ensures ok { IfOk result
-        (λ job. IsNext columns.now (jobs_of jobs.now) text.now (Ok (job_of job))) }
+        (λ job. IsNext version columns.now (jobs_of jobs.now) text.now (Ok (job_of job))) }
     ensures name { IfOk result (λ job. IsName job.name) }
     ensures refused { IfErr result (λ cause. cause ≢ Cause.NoMemory
-        → IsNext columns.now (jobs_of jobs.now) text.now (Err cause)) }
+        → IsNext version columns.now (jobs_of jobs.now) text.now (Err cause)) }
 {
     if jobs.len() >= MAX_JOBS {
         return Err(Cause::TooLong);
     }
     let earlier = earlier_jobs(alloc, jobs)?;
     let scope = Scope {
+        version,
         jobs: earlier.as_slice(),
         columns,
     };
@@ -61,19 +63,20 @@ fn read_below<'c>(
 /// Reads one more text below these jobs, and puts its job after them.
 fn read_next<'c>(
     alloc: Global,
+    version: u8,
     columns: &'c Columns,
     jobs: &mut Vec<Job<'c>>,
     text: &JobText,
 ) -> Result<(), JobFault>
     ensures ok { OnOk result
-        (IsNextJob columns.now (jobs_of jobs.old.items) text.now (jobs_of jobs.new.items)) }
+        (IsNextJob version columns.now (jobs_of jobs.old.items) text.now (jobs_of jobs.new.items)) }
     ensures names { OnOk result (All IsName (names_of (jobs_of jobs.old.items))
         → All IsName (names_of (jobs_of jobs.new.items))) }
     ensures refused { IfErr result (λ fault. fault.cause ≢ Cause.NoMemory
-        → IsNextFault columns.now (jobs_of jobs.old.items) text.now fault) }
+        → IsNextFault version columns.now (jobs_of jobs.old.items) text.now fault) }
     ensures memory { IfErr result (λ fault. fault.cause ≡ Cause.NoMemory → fault.line ≡ 0) }
 {
-    match read_below(alloc, columns, jobs, text.text.as_slice()) {
+    match read_below(alloc, version, columns, jobs, text.text.as_slice()) {
         Ok(job) => Ok(jobs.push(job)?),
         Err(cause) => Err(JobFault::at(text.line, cause)),
     }
@@ -82,7 +85,8 @@ fn read_next<'c>(
 /// The jobs of a file, or the first fault in file order.
 ///
 /// Each job is checked whole before the next one, and the 257th is refused unread. A job may name the jobs
-/// above it and these columns, of which it borrows the cells. Linear in the bytes, apart from a look at each
+/// above it and these columns, of which it borrows the cells. A file is of version 2 if its first line that isn't
+/// skipped is `version 2`. Linear in the bytes, apart from a look at each
 /// earlier name. A text of one line isn't copied.
 pub fn read_jobs<'c>(
     alloc: Global,
@@ -97,10 +101,11 @@ pub fn read_jobs<'c>(
     ensures texts { IfErr result (λ fault. fault.cause ≡ Cause.NoMemory
         → HasText (job_texts_of bytes.now)) }
 {
+    let version = version_of(bytes);
     let mut texts = JobTexts::of(bytes);
     let mut jobs = Vec::new(alloc);
     while let Some(text) = texts.next_text(alloc)? {
-        read_next(alloc, columns, &mut jobs, &text)?;
+        read_next(alloc, version, columns, &mut jobs, &text)?;
     }
     Ok(jobs)
 }

@@ -56,9 +56,12 @@ pub enum Terminal {
     ReduceFrom { identity: i64, op: Op },
     /// `findFirst()` and the three matches.
     Find(FindTerminal),
+    /// `reduce(0, Math::addExact)`: the sum, or a fault at the first item after which it is outside 64 bits.
+    ExactSum,
 }
 
-/// A job: its name, where its items come from, what they pass through, and what is asked of them.
+/// A job: its name, where its items come from, what they pass through, what is asked of them, and what is
+/// answered instead of a fault.
 #[derive(Drop)]
 pub struct Job<'c> {
     pub name: Bytes,
@@ -68,5 +71,7 @@ pub struct Job<'c> {
     /// In order of writing; at most 32.
     pub stages: Vec<JobStage>,
     pub terminal: Terminal,
+    /// `onFault(number)`: the number that stands in place of a fault; only if the terminal gives a number.
+    pub on_fault: Option<i64>,
     ghost few: { length stages.items ≤ 32 },
 }

@@ -1,9 +1,10 @@
 //! The language of job files: the grammar of a job, and the table of its operations.
 //!
-//! A job is `NAME = SOURCE`, stages and a terminal, each after a dot, and at most one `;`. Each source, stage
-//! and terminal is a call of an operation, and each operation is one row of a table (`operation.rt`,
-//! `specs/Table.antt`): its name, where it stands, how many parts stand between its parentheses, and what each
-//! is. The grammar, the reader and what a job means share that table.
+//! A job is `NAME = SOURCE`, stages and a terminal, each after a dot, and at most one `;`; in version 2 of the
+//! language a fallback may stand after the terminal. Each source, stage, terminal and fallback is a call of an
+//! operation, and each operation is one row of a table (`operation.rt`, `specs/Table.antt`): its name, where it
+//! stands, how many parts stand between its parentheses, and what each is. The grammar, the reader and what a
+//! job means share that table.
 //!
 //! Stands on `stream_tokens`, which cuts the text of a job once (`CutText`), on `lambda_expr`, which reads a
 //! lambda from its part of that text, on `columns`, and on the crates whose stages, terminals and operators a job

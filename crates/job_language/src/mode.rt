@@ -20,6 +20,9 @@ pub enum Mode {
     Step,
     AfterStage,
     AfterTerminal,
+    /// The dot after the terminal.
+    Fallback,
+    AfterFallback,
     End,
 }
 
@@ -99,6 +102,8 @@ pub fn moved(mode: Mode, commas: &mut Vec<bool>, mark: Mark) -> Result<Option<Mo
         Mode::Step => Ok(after_step_dot(mark)),
         Mode::AfterStage => Ok(after_stage(mark)),
         Mode::AfterTerminal => Ok(after_terminal(mark)),
+        Mode::Fallback => Ok(after_terminal_dot(mark)),
+        Mode::AfterFallback => Ok(after_fallback(mark)),
         Mode::End => Ok(None),
     }
 }
@@ -137,6 +142,27 @@ fn after_stage(mark: Mark) -> Option<Mode>
 fn after_terminal(mark: Mark) -> Option<Mode>
     ensures { (bs : List Bool) → MatchOption result (moved Mode.AfterTerminal bs mark ≡ None)
         (λ mode. moved Mode.AfterTerminal bs mark ≡ Some (mode, bs)) }
+{
+    match mark {
+        Mark::Dot => Some(Mode::Fallback),
+        Mark::Semicolon => Some(Mode::End),
+        _ => None,
+    }
+}
+
+fn after_terminal_dot(mark: Mark) -> Option<Mode>
+    ensures { (bs : List Bool) → MatchOption result (moved Mode.Fallback bs mark ≡ None)
+        (λ mode. moved Mode.Fallback bs mark ≡ Some (mode, bs)) }
+{
+    match mark {
+        Mark::Call(Role::Fallback) => Some(Mode::AfterFallback),
+        _ => None,
+    }
+}
+
+fn after_fallback(mark: Mark) -> Option<Mode>
+    ensures { (bs : List Bool) → MatchOption result (moved Mode.AfterFallback bs mark ≡ None)
+        (λ mode. moved Mode.AfterFallback bs mark ≡ Some (mode, bs)) }
 {
     match mark {
         Mark::Semicolon => Some(Mode::End),

@@ -56,6 +56,8 @@ pub enum Operation {
     AllMatch,
     /// `noneMatch(LAMBDA)`.
     NoneMatch,
+    /// `onFault(NUM)`.
+    OnFault,
 }
 
 /// Where an operation stands in a job.
@@ -69,6 +71,8 @@ pub enum Role {
     Stage,
     /// At the end.
     Terminal,
+    /// After the terminal, in version 2.
+    Fallback,
 }
 
 /// What a part between the parentheses of a call is.
@@ -90,7 +94,7 @@ pub enum Param {
 }
 
 /// All operations.
-const OPERATIONS: [Operation; 25] = [
+const OPERATIONS: [Operation; 26] = [
     Operation::Range,
     Operation::RangeClosed,
     Operation::Of,
@@ -116,6 +120,7 @@ const OPERATIONS: [Operation; 25] = [
     Operation::AnyMatch,
     Operation::AllMatch,
     Operation::NoneMatch,
+    Operation::OnFault,
 ];
 
 /// How an operation is written.
@@ -148,6 +153,7 @@ pub fn name_of(operation: Operation) -> &'static str
         Operation::AnyMatch => "anyMatch",
         Operation::AllMatch => "allMatch",
         Operation::NoneMatch => "noneMatch",
+        Operation::OnFault => "onFault",
     }
 }
 
@@ -193,6 +199,7 @@ pub fn role_of(operation: Operation) -> Role
         | Operation::AnyMatch
         | Operation::AllMatch
         | Operation::NoneMatch => Role::Terminal,
+        Operation::OnFault => Role::Fallback,
     }
 }
 
@@ -222,7 +229,8 @@ pub fn allows(operation: Operation, count: usize) -> bool
         | Operation::DropWhile
         | Operation::AnyMatch
         | Operation::AllMatch
-        | Operation::NoneMatch => count == 1,
+        | Operation::NoneMatch
+        | Operation::OnFault => count == 1,
         Operation::Prefix => count == 1 || count == 3,
         Operation::Reduce => count == 1 || count == 2,
     }

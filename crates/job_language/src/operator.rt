@@ -1,6 +1,6 @@
 //! The operators of `prefix` and `reduce`: the table of how they are written.
 ghost use Rattle.std.specs.Prelude.{◌≡◌, ◌∷◌, []};
-ghost use Rattle.job_language.specs.Operators.{op_name, op_named, op_method, in_math, in_long, spelled_op, op_of_form};
+ghost use Rattle.job_language.specs.Operators.{op_name, op_named, op_method, in_math, in_long, is_add_exact, spelled_op, op_of_form};
 ghost use Rattle.job_language.specs.Splitting.{word_of, words_in};
 
 use crate::word::Word;
@@ -116,6 +116,32 @@ pub fn spelled_op(words: &[Word]) -> Option<Option<Op>>
     }
 }
 
+fn is_method_add_exact(owner: Word, colons: Word, name: Word) -> bool
+    ensures { result
+        ≡ is_add_exact (word_of owner.entry ∷ word_of colons.entry ∷ word_of name.entry ∷ []) }
+{
+    match owner {
+        Word::Name(owner) => match colons {
+            Word::Sign(Symbol::DoubleColon) => match name {
+                Word::Name(name) => owner == b"Math".as_slice() && name == b"addExact".as_slice(),
+                _ => false,
+            },
+            _ => false,
+        },
+        _ => false,
+    }
+}
+
+/// Whether words are `Math::addExact`, the addition of exact sums.
+pub fn is_add_exact(words: &[Word]) -> bool
+    ensures { result ≡ is_add_exact (words_in words.now) }
+{
+    match words {
+        [owner, colons, name] => is_method_add_exact(*owner, *colons, *name),
+        _ => false,
+    }
+}
+
 /// The operator that a lambda of two parameters is, by the form of its body.
 pub fn op_of_form(form: PairForm) -> Option<Op>
     ensures { result ≡ op_of_form form }
@@ -130,6 +156,6 @@ pub fn op_of_form(form: PairForm) -> Option<Op>
         PairForm::And => Some(Op::And),
         PairForm::Or => Some(Op::Or),
         PairForm::Xor => Some(Op::Xor),
-        PairForm::Other => None,
+        PairForm::ExactSum | PairForm::Other => None,
     }
 }

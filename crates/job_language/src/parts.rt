@@ -7,7 +7,8 @@ ghost use Rattle.job_language.specs.Table.{role_of};
 ghost use Rattle.job_language.specs.Shapes.{StandsIn, StandIn, placed_in, all_placed};
 ghost use Rattle.job_language.specs.Scopes.{scope_of};
 ghost use Rattle.job_language.specs.Causes.{stage_cause};
-ghost use Rattle.job_language.specs.Verdicts.{call_answer, added, job_named, IsCallRead, IsReadInTurn, AreRead};
+ghost use Rattle.job_language.specs.Verdicts.{call_answer, added, below_terminal, job_named, IsCallRead, IsNextCall, IsReadInTurn, AreRead};
+ghost use Rattle.job_language.specs.Jobs.{terminal_of};
 ghost use Rattle.job_language.specs.Parts.{argument_in, part_in, answer_in, Answers, job_so_far};
 
 use crate::argument::{Argument, read_argument};
@@ -17,7 +18,7 @@ use crate::job::{JobStage, PlainSource, Terminal};
 use crate::numbers::read_values;
 use crate::operation::{Operation, Role, role_of};
 use crate::piece::WrittenCall;
-use crate::scope::Scope;
+use crate::scope::{Gives, Scope};
 use crate::word::Word;
 use std::alloc::{AllocError, Global};
 use stream_tokens::CutText;
@@ -31,6 +32,7 @@ pub struct Parts<'c> {
     pub sources: Vec<PlainSource<'c>>,
     pub stages: Vec<JobStage>,
     pub terminal: Terminal,
+    pub on_fault: Option<i64>,
 }
 
 /// A call with these numbers and this last part.
@@ -82,6 +84,9 @@ impl<'c> Parts<'c> {
             CallPart::Terminal(terminal) => {
                 self.terminal = terminal;
             }
+            CallPart::Fallback(number) => {
+                self.on_fault = Some(number);
+            }
         }
         Ok(())
     }
@@ -117,6 +122,38 @@ fn read_in_turn<'c>(
     }
 }
 
+/// A call below this terminal: a number stands in place of the faults of one that gives a number.
+fn below_terminal<'c>(terminal: &Terminal, part: CallPart<'c>) -> Result<CallPart<'c>, Cause>
+    ensures { answer_in part_in result
+        ≡ below_terminal (terminal_of terminal.now) (Ok (part_in part.entry)) }
+{
+    match part {
+        CallPart::Fallback(number) => match terminal.gives() {
+            Gives::Number => Ok(CallPart::Fallback(number)),
+            _ => Err(Cause::NotScalar),
+        },
+        _ => Ok(part),
+    }
+}
+
+/// Reads the call that stands after these parts.
+fn read_next_call<'c>(
+    parts: &Parts<'c>,
+    alloc: Global,
+    scope: Scope<'_, 'c>,
+    text: &CutText,
+    words: &[Word],
+    call: &WrittenCall,
+) -> Result<CallPart<'c>, Cause>
+    requires words { words_in words.now ≡ words_of text.now.bytes text.now.tokens }
+    requires stands { StandsIn (words_in words.now) call.now }
+    ensures { (w : List ℕ) → Answers part_in (IsNextCall (job_so_far w parts.now)
+        (scope_of scope.entry) text.now (placed_in (words_in words.now) call.now)) result }
+{
+    let part = read_in_turn(parts.stages.len(), alloc, scope, text, words, call)?;
+    below_terminal(&parts.terminal, part)
+}
+
 /// Reads the calls of a job in order of writing.
 pub fn read_parts<'c>(
     alloc: Global,
@@ -138,9 +175,10 @@ pub fn read_parts<'c>(
         sources: Vec::new(alloc),
         stages: Vec::new(alloc),
         terminal: Terminal::Sum,
+        on_fault: None,
     };
     for call in calls {
-        let part = read_in_turn(parts.stages.len(), alloc, scope, text, words, call)?;
+        let part = read_next_call(&parts, alloc, scope, text, words, call)?;
         parts.add(part)?;
     }
     Ok(parts)

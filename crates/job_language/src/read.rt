@@ -1,17 +1,18 @@
 //! One job, read from its text.
-ghost use Rattle.std.specs.Prelude.{◌≡◌, ◌≢◌, ◌+◌, ◌<◌, ◌≤◌, ◌∷◌, ◌++◌, [], List, IfErr, IfOk, Ok, Err, length};
+ghost use Rattle.std.specs.Prelude.{◌≡◌, ◌≢◌, ◌+◌, ◌<◌, ◌≤◌, ◌∷◌, ◌++◌, ◌&&◌, [], List, IfErr, IfOk, Ok, Err, length, nat_lt};
 ghost use Rattle.stream_tokens.specs.Tokens.{AreTokensOf};
 ghost use Rattle.lambda_expr.specs.Words.{Word as meant, words_of};
 ghost use Rattle.job_language.specs.declared.fault.Cause.TheVariants.{NoMemory};
 ghost use Rattle.job_language.specs.Splitting.{words_in};
 ghost use Rattle.job_language.specs.Grammar.{Job as meant_job, IsJob};
-ghost use Rattle.job_language.specs.Shapes.{StandIn, calls_in, all_placed, AreCallsIn, one_if_source, sources_in, first_name};
+ghost use Rattle.job_language.specs.Shapes.{StandIn, calls_in, all_placed, AreCallsIn, one_if_source, sources_in, is_fallback, ends_in_fallback, first_name};
+ghost use Rattle.job_language.specs.Causes.{when};
 ghost use Rattle.job_language.specs.Jobs.{job_of};
 ghost use Rattle.job_language.specs.Scopes.{scope_of};
 ghost use Rattle.job_language.specs.Verdicts.{IsJobRead, IsRead};
 ghost use Rattle.job_language.specs.Parts.{Answers, job_so_far, causes_before};
 
-use crate::causes::name_cause;
+use crate::causes::{name_cause, when};
 use crate::fault::Cause;
 use crate::job::Job;
 use crate::operation::{Role, role_of};
@@ -49,6 +50,30 @@ fn sources_in(calls: &[WrittenCall]) -> usize
     count
 }
 
+fn is_fallback(role: Role) -> bool
+    ensures { result ≡ is_fallback role }
+{
+    matches!(role, Role::Fallback)
+}
+
+/// Whether the last of the calls is a fallback.
+fn ends_in_fallback(calls: &[WrittenCall]) -> bool
+    ensures { (ws : List meant) → result ≡ ends_in_fallback (calls_in ws calls.now) }
+{
+    match calls.len() {
+        0 => false,
+        count => is_fallback(role_of(calls[count - 1].operation)),
+    }
+}
+
+/// Why a job with these calls is none of this version.
+fn version_cause(version: u8, calls: &[WrittenCall]) -> Option<Cause>
+    ensures { (ws : List meant) → result
+        ≡ when (ends_in_fallback (calls_in ws calls.now) && nat_lt version 2) Cause.Syntax }
+{
+    when(ends_in_fallback(calls) && version < 2, Cause::Syntax)
+}
+
 /// The name that the words begin with.
 fn first_name<'a>(words: &[Word<'a>]) -> &'a [u8]
     ensures { result.now ≡ first_name (words_in words.now) }
@@ -65,6 +90,9 @@ fn early_cause(scope: Scope, words: &[Word], calls: &[WrittenCall]) -> Option<Ca
     ensures { (j : meant_job) → IsJob (words_in words.now) j
         → result ≡ causes_before (scope_of scope.entry) j }
 {
+    if let Some(cause) = version_cause(scope.version, calls) {
+        return Some(cause);
+    }
     if let Some(cause) = name_cause(scope, first_name(words)) {
         return Some(cause);
     }
@@ -84,12 +112,14 @@ fn named<'c>(alloc: Global, name: &[u8], parts: Parts<'c>) -> Result<Job<'c>, Al
         sources,
         stages,
         terminal,
+        on_fault,
     } = parts;
     Ok(Job {
         name: Bytes::from(bytes),
         sources,
         stages,
         terminal,
+        on_fault,
     })
 }
 

@@ -33,7 +33,8 @@ impl Terminal {
             | Terminal::Min
             | Terminal::Max
             | Terminal::Reduce(_)
-            | Terminal::ReduceFrom { .. } => Gives::Number,
+            | Terminal::ReduceFrom { .. }
+            | Terminal::ExactSum => Gives::Number,
         }
     }
 }
@@ -56,9 +57,11 @@ pub struct EarlierJob<'a> {
     pub gives: Gives,
 }
 
-/// The jobs above the one that is read, in file order, and the columns.
+/// The jobs above the one that is read, in file order, the columns, and the version of the language.
 #[derive(Clone, Copy)]
 pub struct Scope<'s, 'c> {
+    /// 1, or 2 if a fallback may stand after the terminal.
+    pub version: u8,
     pub jobs: &'s [EarlierJob<'s>],
     pub columns: &'c Columns,
 }

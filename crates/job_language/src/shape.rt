@@ -73,7 +73,7 @@ fn begins_job(words: &[Word]) -> bool
 fn is_last(mode: Mode) -> bool
     ensures { result ≡ is_last mode }
 {
-    matches!(mode, Mode::AfterTerminal | Mode::End)
+    matches!(mode, Mode::AfterTerminal | Mode::AfterFallback | Mode::End)
 }
 
 /// The calls of the job that has these words, or `None` if no job has them.
@@ -108,7 +108,7 @@ pub fn read_calls(alloc: Global, words: &[Word]) -> Result<Option<Vec<WrittenCal
 #[derive(Drop)]
 pub struct ParsedJob<'a> {
     pub words: Vec<Word<'a>>,
-    /// In order of writing: the plain sources, the stages, the terminal.
+    /// In order of writing: the plain sources, the stages, the terminal, the fallback.
     pub calls: Vec<WrittenCall>,
 }
 

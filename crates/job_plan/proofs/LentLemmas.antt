@@ -17,7 +17,7 @@ use Rattle.job_plan.specs.Plans.{scanning}
 use Rattle.job_plan.specs.Scans.{AbstractScan, scan, scan_append}
 
 -- items after others
-grown : (w : Trace) (ys zs : List Item) → append (append w (trace ys end.Done)) (trace zs end.Done) ≡ append w (trace (ys ++ zs) end.Done)
+pub grown : (w : Trace) (ys zs : List Item) → append (append w (trace ys end.Done)) (trace zs end.Done) ≡ append w (trace (ys ++ zs) end.Done)
 grown w ys zs = by w.items w.ending
   where
     by : (xs : List Item) (e : End) → append (append (trace xs e) (trace ys end.Done)) (trace zs end.Done) ≡ append (trace xs e) (trace (ys ++ zs) end.Done)

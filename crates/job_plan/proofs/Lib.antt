@@ -21,3 +21,4 @@ pub mod SideBySide
 pub mod StretchLemmas
 pub mod WalkLemmas
 pub mod WindowLemmas
+pub mod ExactLemmas

@@ -16,8 +16,8 @@ use Rattle.job_plan.specs.Links.{AbstractLink, link_walk, linked, link_by, link_
 use Rattle.job_plan.specs.declared.segment.Segment.{Segment}
 use Rattle.job_plan.specs.Parts.{EndsFor, StandsFor, is_settled, segment_in, segments_in}
 use Rattle.job_plan.specs.Pieces.{piece_of}
-use Rattle.job_plan.specs.Plans.{AbstractEnd, slicing, folding, finding, collecting, scanning, AbstractPlan, AbstractSegment, planned_answer, ended, last_stage, on_outcome, walk_of, segments_answer}
-use Rattle.job_plan.specs.Walks.{source_walk}
+use Rattle.job_plan.specs.Plans.{AbstractEnd, slicing, folding, finding, collecting, exactly, scanning, AbstractPlan, AbstractSegment, planned_answer, ended, last_stage, on_outcome, walk_of, segments_answer}
+use Rattle.job_plan.specs.Walks.{instead_of_fault, source_walk}
 use Rattle.job_plan.specs.Windows.{later_segments, selected_source}
 use Rattle.job_plan.proofs.PartLemmas.{settled}
 use Rattle.job_plan.proofs.WindowLemmas.{later_answer}
@@ -163,10 +163,11 @@ links_answer (s ∷ ss) env t = by (links_answer ss env) s.ending refl
     by later (folding f a counts) is = refl
     by later (finding d) is = refl
     by later collecting is = refl
+    by later exactly is = refl
     by later (scanning f r) is = refl
 
-pub walked_answer : (env : Numbers) (plan : AbstractPlan) → segments_answer (walked_segments plan) env (walked_source env plan) ≡ planned_answer env plan
-walked_answer env plan = sym (links_answer (later_segments plan.segments) env (selected_source plan)) ∙ later_answer env plan.segments (source_walk plan.sources)
+pub walked_answer : (env : Numbers) (plan : AbstractPlan) → instead_of_fault plan.fallback (segments_answer (walked_segments plan) env (walked_source env plan)) ≡ planned_answer env plan
+walked_answer env plan = ap (instead_of_fault plan.fallback) (sym (links_answer (later_segments plan.segments) env (selected_source plan)) ∙ later_answer env plan.segments (source_walk plan.sources))
 
 -- ---- links of the program
 
@@ -219,4 +220,5 @@ unlinked (s ∷ ss) env t none = by s.ending none
     by (folding f a counts) is = refl
     by (finding d) is = refl
     by collecting is = refl
+    by exactly is = refl
     by (scanning f r) is = refl

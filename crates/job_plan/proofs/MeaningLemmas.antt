@@ -11,6 +11,7 @@ use Rattle.job_plan.specs.FileAnswers.{NamedAnswer, answer_after, answers_after,
 use Rattle.job_plan.specs.Names.{all_source_names, names_in_job, one_later, place_of, same_name}
 use Rattle.job_plan.specs.PlannedAnswers.{all_put_at, array_at, array_in, first_unusable_at, number_there, numbers_at, place_in, planned_after, planned_from, planned_meaning, unusable_there}
 use Rattle.job_plan.specs.Plans.{all_placed, placed, plan_of, plans_after, plans_of, planned_answer}
+use Rattle.job_plan.specs.Walks.{fallback_of, instead_of_fault}
 use Rattle.job_plan.proofs.SegmentLemmas.{planned_job}
 
 abbrev names_in : List NamedAnswer → List (List ℕ)
@@ -159,8 +160,8 @@ one_answer before job =
     let env = numbers_named before names in
     let sources = sources_placed before names job.sources within in
     (λ i. unless_unusable (first_placed before names i) (planned_answer (numbers_placed before names i)
-    (record { name = job.name; named = all_placed (names_in before) names; sources = sources i; segments = (plan_of (names_in before) job).segments })))
-    ∙ ap (unless_unusable (first_unusable before names)) (planned_job env (all_put_in before job.sources) job.stages job.terminal)
+    (record { name = job.name; named = all_placed (names_in before) names; sources = sources i; segments = (plan_of (names_in before) job).segments; fallback = fallback_of job })))
+    ∙ ap (λ (a : Answer). unless_unusable (first_unusable before names) (instead_of_fault (fallback_of job) a)) (planned_job env (all_put_in before job.sources) job.stages job.terminal)
 
 each_answer : (before : List NamedAnswer) (jobs : List AbstractJob) → planned_from (answers_in before) (plans_after (names_in before) jobs) ≡ answers_after before jobs
 each_answer before [] = refl

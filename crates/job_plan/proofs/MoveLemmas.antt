@@ -33,8 +33,8 @@ use Rattle.job_plan.specs.FileAnswers.{unless_unusable}
 use Rattle.job_plan.specs.Moves.{AllSamePlans, IsSamePlan, SameAnswers, all_keep, comes_first, held_in, is_divisor, is_total, is_total_by, never_faults, test_never_faults, waiting_in}
 use Rattle.job_plan.specs.Parts.{end_in, plan_in, plans_in, segment_in, segments_in}
 use Rattle.job_plan.specs.PlannedAnswers.{all_put_at, first_unusable_at, numbers_at, planned_after, planned_from, planned_meaning}
-use Rattle.job_plan.specs.Plans.{AbstractEnd, slicing, folding, finding, collecting, scanning, AbstractSegment, AbstractPlan, ended, on_outcome, outcome_of, segments_answer}
-use Rattle.job_plan.specs.Walks.{source_walk}
+use Rattle.job_plan.specs.Plans.{AbstractEnd, slicing, folding, finding, collecting, exactly, scanning, AbstractSegment, AbstractPlan, ended, on_outcome, outcome_of, segments_answer}
+use Rattle.job_plan.specs.Walks.{instead_of_fault, source_walk}
 use Rattle.job_plan.proofs.Elements.{drop_none, take_none}
 
 both : (a b : Bool) → (a && b) ≡ true → (a ≡ true) × (b ≡ true)
@@ -243,6 +243,7 @@ slice_first m gs (slicing (drop_while p)) later h = absurd (let z : false ≡ tr
 slice_first m gs (folding f a counts) later h = absurd (let z : false ≡ true = h in cc)
 slice_first m gs (finding d) later h = absurd (let z : false ≡ true = h in cc)
 slice_first m gs collecting later h = absurd (let z : false ≡ true = h in cc)
+slice_first m gs exactly later h = absurd (let z : false ≡ true = h in cc)
 slice_first m gs (scanning f r) later h = absurd (let z : false ≡ true = h in cc)
 
 -- maps in two parts
@@ -372,8 +373,9 @@ all_moved ss us s h w u is there = segments_more ss us s u ∙ ap (λ (x : Abstr
 
 same_answer : (before : List Answer) (p q : AbstractPlan) → IsSamePlan p q → planned_after before p ≡ planned_after before q
 same_answer before p q h =
-    (λ i. unless_unusable (first_unusable_at before (h.named i)) (segments_answer p.segments (numbers_at before (h.named i)) (source_walk (all_put_at before (h.named i) (h.sources i)))))
-    ∙ ap (unless_unusable (first_unusable_at before q.named)) (h.answers (numbers_at before q.named) (source_walk (all_put_at before q.named q.sources)))
+    (λ i. unless_unusable (first_unusable_at before (h.named i))
+        (instead_of_fault (h.fallback i) (segments_answer p.segments (numbers_at before (h.named i)) (source_walk (all_put_at before (h.named i) (h.sources i))))))
+    ∙ ap (λ (a : Answer). unless_unusable (first_unusable_at before q.named) (instead_of_fault q.fallback a)) (h.answers (numbers_at before q.named) (source_walk (all_put_at before q.named q.sources)))
 
 same_from : (ps qs : List AbstractPlan) → AllSamePlans ps qs → (before : List Answer) → planned_from before ps ≡ planned_from before qs
 same_from [] [] h before = refl
@@ -394,13 +396,13 @@ same_names (p ∷ ps) (q ∷ qs) h = λ i. h.0.name i ∷ same_names ps qs h.1 i
 
 pub all_same : (ps : List AbstractPlan) → AllSamePlans ps ps
 all_same [] = tt
-all_same (p ∷ ps) = (record { name = refl; named = refl; sources = refl; answers = λ env t. refl }, all_same ps)
+all_same (p ∷ ps) = (record { name = refl; named = refl; sources = refl; fallback = refl; answers = λ env t. refl }, all_same ps)
 
 -- a plan in place of the same one
 pub same_plan_later : (ps rs qs : List AbstractPlan) (p q : AbstractPlan) → AllSamePlans (ps ++ q ∷ rs) qs → IsSamePlan p q → AllSamePlans ((ps ++ p ∷ []) ++ rs) qs
 same_plan_later [] rs [] p q h k = absurd h
 same_plan_later [] rs (x ∷ qs) p q h k =
-    (record { name = k.name ∙ h.0.name; named = k.named ∙ h.0.named; sources = k.sources ∙ h.0.sources; answers = λ env t. k.answers env t ∙ h.0.answers env t }, h.1)
+    (record { name = k.name ∙ h.0.name; named = k.named ∙ h.0.named; sources = k.sources ∙ h.0.sources; fallback = k.fallback ∙ h.0.fallback; answers = λ env t. k.answers env t ∙ h.0.answers env t }, h.1)
 same_plan_later (y ∷ ps) rs [] p q h k = absurd h
 same_plan_later (y ∷ ps) rs (x ∷ qs) p q h k = (h.0, same_plan_later ps rs qs p q h.1 k)
 

@@ -12,6 +12,7 @@ use Rattle.trace.proofs.JoinLemmas.{append_faulted, pipe_append}
 use Rattle.reduce_ops.specs.declared.op.Op.{Op}
 use Rattle.reduce_ops.specs.Folds.{ones, unless_faulted}
 use Rattle.reduce_ops.specs.Parts.{StandsFor as FoldStands}
+use Rattle.reduce_ops.proofs.SettledSums.{sum_settled}
 use Rattle.slice_ops.specs.declared.slice_part.SlicePart.{SlicePart}
 use Rattle.slice_ops.proofs.GrownPartLemmas.{settled as slice_settled}
 use Rattle.find_ops.specs.declared.find_part.FindPart.{FindPart}
@@ -31,7 +32,7 @@ use Rattle.job_plan.specs.declared.outcome.Outcome.TheVariants as outcome
 use Rattle.job_plan.specs.declared.segment.Segment.{Segment}
 use Rattle.job_plan.specs.declared.segment.JobPlan.{JobPlan}
 use Rattle.job_plan.specs.Parts.{IsFold, EndsFor, StandsFor, is_settled, is_fault, segment_in, segments_in, plan_in, plans_in}
-use Rattle.job_plan.specs.Plans.{AbstractEnd, slicing, folding, finding, collecting, scanning, AbstractSegment, AbstractPlan, counted_as, ended, walk_of, last_stage}
+use Rattle.job_plan.specs.Plans.{AbstractEnd, slicing, folding, finding, collecting, exactly, scanning, AbstractSegment, AbstractPlan, counted_as, ended, walk_of, last_stage}
 use Rattle.job_plan.specs.Walks.{unless_fault}
 
 -- ---- folds
@@ -124,26 +125,37 @@ settled (slicing d) n env (part.Fold p) a b h s = s
 settled (slicing d) n env (part.Find p) a b h s = s
 settled (slicing d) n env (part.Array p) a b h s = s
 settled (slicing d) n env (part.Prefix p) a b h s = s
+settled (slicing d) n env (part.Exact p) a b h s = s
 settled (folding f i c) n env (part.Slice p) a b h s = s
 settled (folding f i c) n env (part.Fold p) a b h s = subst (λ (t : Trace). IsFold f i c p t) (sym (faulted_stays a b (ap is_fault (sym s.stands.ending) ∙ h))) s
 settled (folding f i c) n env (part.Find p) a b h s = s
 settled (folding f i c) n env (part.Array p) a b h s = s
 settled (folding f i c) n env (part.Prefix p) a b h s = s
+settled (folding f i c) n env (part.Exact p) a b h s = s
 settled (finding d) n env (part.Slice p) a b h s = s
 settled (finding d) n env (part.Fold p) a b h s = s
 settled (finding d) n env (part.Find p) a b h s = find_settled d n env p a b h s
 settled (finding d) n env (part.Array p) a b h s = s
 settled (finding d) n env (part.Prefix p) a b h s = s
+settled (finding d) n env (part.Exact p) a b h s = s
 settled collecting n env (part.Slice p) a b h s = s
 settled collecting n env (part.Fold p) a b h s = s
 settled collecting n env (part.Find p) a b h s = s
 settled collecting n env (part.Array p) a b h s = s ∙ ap array_of (sym (faulted_stays a b (ap (λ (k : AbstractArray). is_fault k.ending) (sym s) ∙ h)))
 settled collecting n env (part.Prefix p) a b h s = s
+settled collecting n env (part.Exact p) a b h s = s
 settled (scanning f r) n env (part.Slice p) a b h s = s
 settled (scanning f r) n env (part.Fold p) a b h s = s
 settled (scanning f r) n env (part.Find p) a b h s = s
 settled (scanning f r) n env (part.Array p) a b h s = s
 settled (scanning f r) n env (part.Prefix p) a b h s = s ∙ ap (scan f r n) (sym (faulted_stays a b (ap (λ (k : AbstractScan). is_fault k.walk.ending) (sym s) ∙ h)))
+settled (scanning f r) n env (part.Exact p) a b h s = s
+settled exactly n env (part.Slice p) a b h s = s
+settled exactly n env (part.Fold p) a b h s = s
+settled exactly n env (part.Find p) a b h s = s
+settled exactly n env (part.Array p) a b h s = s
+settled exactly n env (part.Prefix p) a b h s = s
+settled exactly n env (part.Exact p) a b h s = sum_settled n p a b h s
 
 -- ---- arrays
 
@@ -173,11 +185,13 @@ module _ (e : AbstractEnd) (n : ℕ) (env : Numbers) (a b : Trace) where
   only_slices p q other s t = by e q s t other
     where
       by : (e : AbstractEnd) (q : Part) → EndsFor e n env (part.Slice p) a → EndsFor e n env q b → ((x : SlicePart) → q ≡ part.Slice x → ⊥) → ⊥
+      by exactly q s t h = s
       by (slicing d) (part.Slice q) s t h = h q refl
       by (slicing d) (part.Fold q) s t h = t
       by (slicing d) (part.Find q) s t h = t
       by (slicing d) (part.Array q) s t h = t
       by (slicing d) (part.Prefix q) s t h = t
+      by (slicing d) (part.Exact q) s t h = t
       by (folding f i c) q s t h = s
       by (finding d) q s t h = s
       by collecting q s t h = s
@@ -187,12 +201,14 @@ module _ (e : AbstractEnd) (n : ℕ) (env : Numbers) (a b : Trace) where
   only_folds p q other s t = by e q s t other
     where
       by : (e : AbstractEnd) (q : Part) → EndsFor e n env (part.Fold p) a → EndsFor e n env q b → ((x : FoldPart) → q ≡ part.Fold x → ⊥) → ⊥
+      by exactly q s t h = s
       by (slicing d) q s t h = s
       by (folding f i c) (part.Slice q) s t h = t
       by (folding f i c) (part.Fold q) s t h = h q refl
       by (folding f i c) (part.Find q) s t h = t
       by (folding f i c) (part.Array q) s t h = t
       by (folding f i c) (part.Prefix q) s t h = t
+      by (folding f i c) (part.Exact q) s t h = t
       by (finding d) q s t h = s
       by collecting q s t h = s
       by (scanning f r) q s t h = s
@@ -201,6 +217,7 @@ module _ (e : AbstractEnd) (n : ℕ) (env : Numbers) (a b : Trace) where
   only_finds p q other s t = by e q s t other
     where
       by : (e : AbstractEnd) (q : Part) → EndsFor e n env (part.Find p) a → EndsFor e n env q b → ((x : FindPart) → q ≡ part.Find x → ⊥) → ⊥
+      by exactly q s t h = s
       by (slicing d) q s t h = s
       by (folding f i c) q s t h = s
       by (finding d) (part.Slice q) s t h = t
@@ -208,6 +225,7 @@ module _ (e : AbstractEnd) (n : ℕ) (env : Numbers) (a b : Trace) where
       by (finding d) (part.Find q) s t h = h q refl
       by (finding d) (part.Array q) s t h = t
       by (finding d) (part.Prefix q) s t h = t
+      by (finding d) (part.Exact q) s t h = t
       by collecting q s t h = s
       by (scanning f r) q s t h = s
 
@@ -215,6 +233,7 @@ module _ (e : AbstractEnd) (n : ℕ) (env : Numbers) (a b : Trace) where
   only_arrays p q other s t = by e q s t other
     where
       by : (e : AbstractEnd) (q : Part) → EndsFor e n env (part.Array p) a → EndsFor e n env q b → ((x : AbstractArray) → q ≡ part.Array x → ⊥) → ⊥
+      by exactly q s t h = s
       by (slicing d) q s t h = s
       by (folding f i c) q s t h = s
       by (finding d) q s t h = s
@@ -223,6 +242,7 @@ module _ (e : AbstractEnd) (n : ℕ) (env : Numbers) (a b : Trace) where
       by collecting (part.Find q) s t h = t
       by collecting (part.Array q) s t h = h q refl
       by collecting (part.Prefix q) s t h = t
+      by collecting (part.Exact q) s t h = t
       by (scanning f r) q s t h = s
 
   -- parts of one kind side by side
@@ -231,6 +251,7 @@ module _ (e : AbstractEnd) (n : ℕ) (env : Numbers) (a b : Trace) where
   slices_merge p q r merged = by e
     where
       by : (e : AbstractEnd) → EndsFor e n env (part.Slice p) a → EndsFor e n env (part.Slice q) b → EndsFor e n env (part.Slice r) (append a b)
+      by exactly s t = s
       by (slicing d) s t = merged d s t
       by (folding f i c) s t = s
       by (finding d) s t = s
@@ -242,6 +263,7 @@ module _ (e : AbstractEnd) (n : ℕ) (env : Numbers) (a b : Trace) where
   folds_merge p q r merged = by e
     where
       by : (e : AbstractEnd) → EndsFor e n env (part.Fold p) a → EndsFor e n env (part.Fold q) b → EndsFor e n env (part.Fold r) (append a b)
+      by exactly s t = s
       by (slicing d) s t = s
       by (folding f i c) s t = merged f i c s t
       by (finding d) s t = s
@@ -253,6 +275,7 @@ module _ (e : AbstractEnd) (n : ℕ) (env : Numbers) (a b : Trace) where
   finds_merge p q r merged = by e
     where
       by : (e : AbstractEnd) → EndsFor e n env (part.Find p) a → EndsFor e n env (part.Find q) b → EndsFor e n env (part.Find r) (append a b)
+      by exactly s t = s
       by (slicing d) s t = s
       by (folding f i c) s t = s
       by (finding d) s t = merged d s t
@@ -263,6 +286,7 @@ module _ (e : AbstractEnd) (n : ℕ) (env : Numbers) (a b : Trace) where
   arrays_merge p q r is = by e
     where
       by : (e : AbstractEnd) → EndsFor e n env (part.Array p) a → EndsFor e n env (part.Array q) b → EndsFor e n env (part.Array r) (append a b)
+      by exactly s t = s
       by (slicing d) s t = s
       by (folding f i c) s t = s
       by (finding d) s t = s
@@ -274,6 +298,7 @@ module _ (e : AbstractEnd) (n : ℕ) (env : Numbers) (a b : Trace) where
   only_prefixes p q other s t = by e q s t other
     where
       by : (e : AbstractEnd) (q : Part) → EndsFor e n env (part.Prefix p) a → EndsFor e n env q b → ((x : AbstractScan) → q ≡ part.Prefix x → ⊥) → ⊥
+      by exactly q s t h = s
       by (slicing d) q s t h = s
       by (folding f i c) q s t h = s
       by (finding d) q s t h = s
@@ -283,12 +308,14 @@ module _ (e : AbstractEnd) (n : ℕ) (env : Numbers) (a b : Trace) where
       by (scanning f r) (part.Find q) s t h = t
       by (scanning f r) (part.Array q) s t h = t
       by (scanning f r) (part.Prefix q) s t h = h q refl
+      by (scanning f r) (part.Exact q) s t h = t
 
   -- prefixes of pieces side by side
   pub prefixes_merge : (p q r : AbstractScan) → (q.op ≡ p.op → r ≡ scan_append p q.walk) → EndsFor e n env (part.Prefix p) a → EndsFor e n env (part.Prefix q) b → EndsFor e n env (part.Prefix r) (append a b)
   prefixes_merge p q r is = by e
     where
       by : (e : AbstractEnd) → EndsFor e n env (part.Prefix p) a → EndsFor e n env (part.Prefix q) b → EndsFor e n env (part.Prefix r) (append a b)
+      by exactly s t = s
       by (slicing d) s t = s
       by (folding f i c) s t = s
       by (finding d) s t = s
@@ -326,6 +353,7 @@ array_ends (folding f i k) n env c w a s is = absurd s
 array_ends (finding d) n env c w a s is = absurd s
 array_ends (scanning f r) n env c w a s is = absurd s
 array_ends collecting n env c w a s is = ap outcome.Answer (is ∙ ap (λ (k : AbstractArray). unless_fault k.ending (answer.Array k.values)) s)
+array_ends exactly n env c w a s is = absurd s
 
 -- an array goes on
 pub array_goes_on : (e : AbstractEnd) (n : ℕ) (env : Numbers) (p r : AbstractArray) (t u : Trace) → r ≡ array_append p (array_of u) → EndsFor e n env (part.Array p) t → EndsFor e n env (part.Array r) (append t u)
@@ -334,6 +362,7 @@ array_goes_on (folding f i c) n env p r t u is s = s
 array_goes_on (finding d) n env p r t u is s = s
 array_goes_on (scanning f g) n env p r t u is s = s
 array_goes_on collecting n env p r t u is s = is ∙ ap (λ (k : AbstractArray). array_append k (array_of u)) s ∙ sym (array_joined t u)
+array_goes_on exactly n env p r t u is s = s
 
 -- values after those of an array that is done
 pub values_added : (p : AbstractArray) (vs ws : List ℤ) (r : AbstractArray) → is_fault p.ending ≡ false → vs ≡ ws → r ≡ array (p.values ++ vs) end.Done → r ≡ array_append p (array ws end.Done)
@@ -346,6 +375,7 @@ fold_goes_on (slicing d) n env p r t u go s = s
 fold_goes_on (folding f i c) n env p r t u go s = go f i c s
 fold_goes_on (finding d) n env p r t u go s = s
 fold_goes_on collecting n env p r t u go s = s
+fold_goes_on exactly n env p r t u go s = s
 fold_goes_on (scanning f g) n env p r t u go s = s
 
 pub no_items : {A : Type 0} (xs : List A) → length xs ≡ 0 → xs ≡ []
@@ -358,6 +388,7 @@ scan_goes_on (slicing d) n env p r t u is s = s
 scan_goes_on (folding f i c) n env p r t u is s = s
 scan_goes_on (finding d) n env p r t u is s = s
 scan_goes_on collecting n env p r t u is s = s
+scan_goes_on exactly n env p r t u is s = s
 scan_goes_on (scanning f g) n env p r t u is s = is ∙ ap (λ (x : AbstractScan). scan_append x u) s
 
 -- what a prefix gives
@@ -366,6 +397,7 @@ scan_ends (slicing d) n env p w t s is = absurd s
 scan_ends (folding f i k) n env p w t s is = absurd s
 scan_ends (finding d) n env p w t s is = absurd s
 scan_ends collecting n env p w t s is = absurd s
+scan_ends exactly n env p w t s is = absurd s
 scan_ends (scanning f r) n env p w t s is = ap outcome.Source (is ∙ ap (λ (x : AbstractScan). prefixed (value_of x.op) x.range x.stage x.walk) s)
 
 -- what a slice gives
@@ -374,6 +406,7 @@ slice_ends (slicing d) n env p w t is s = ap outcome.Source (is d s)
 slice_ends (folding f i k) n env p w t is s = absurd s
 slice_ends (finding d) n env p w t is s = absurd s
 slice_ends collecting n env p w t is s = absurd s
+slice_ends exactly n env p w t is s = absurd s
 slice_ends (scanning f r) n env p w t is s = absurd s
 
 -- what follows from a fact follows where the answer is Ok

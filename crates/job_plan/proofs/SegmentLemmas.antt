@@ -7,10 +7,10 @@ use Rattle.reduce_ops.proofs.FoldLemmas.{wrapped_sum, counted}
 use Rattle.reduce_ops.specs.Operators.{value_of}
 use Rattle.slice_ops.specs.Slices.{sliced}
 use Rattle.prefix_scan.specs.Prefixes.{prefixed}
-use Rattle.job_language.specs.Jobs.{AbstractPlainSource, AbstractJobStage, item, slice, prefix, AbstractTerminal, sum, count, min, max, to_array, reduce, reduce_from, find, AbstractJob}
+use Rattle.job_language.specs.Jobs.{AbstractPlainSource, AbstractJobStage, item, slice, prefix, AbstractTerminal, sum, count, min, max, to_array, reduce, reduce_from, find, exact_sum, AbstractJob}
 use Rattle.job_plan.specs.declared.answer.Answer.{Answer}
 use Rattle.job_plan.specs.declared.answer.Answer.TheVariants as answer
-use Rattle.job_plan.specs.Walks.{after_stages, answer_of, answer_of_job, source_walk, unless_fault}
+use Rattle.job_plan.specs.Walks.{after_stages, answer_of, answer_of_job, fallback_of, instead_of_fault, source_walk, unless_fault}
 use Rattle.job_plan.specs.Plans.{end_of, ended, on_outcome, plan_of, planned_answer, segments_answer, segments_from}
 
 -- one stage more
@@ -30,6 +30,7 @@ terminal_ends to_array n env t later = refl
 terminal_ends (reduce f) n env t later = refl
 terminal_ends (reduce_from a f) n env t later = refl
 terminal_ends (find d) n env t later = refl
+terminal_ends exact_sum n env t later = refl
 
 in_turn : (n : ℕ) (gs : List AbstractStage) (rest : List AbstractJobStage) (d : AbstractTerminal) (env : Numbers) (t : Trace)
     → segments_answer (segments_from n gs rest d) env t ≡ answer_of (n + length gs + length rest) env d (after_stages (n + length gs) rest env (pipe n gs env t))
@@ -66,4 +67,4 @@ planned_job env sources stages terminal =
     ∙ (λ i. answer_of (k i) env terminal (after_stages (one i) stages env (source_walk sources)))
 
 pub planned : (env : Numbers) (before : List (List ℕ)) (job : AbstractJob) → planned_answer env (plan_of before job) ≡ answer_of_job env job
-planned env before job = planned_job env job.sources job.stages job.terminal
+planned env before job = ap (instead_of_fault (fallback_of job)) (planned_job env job.sources job.stages job.terminal)

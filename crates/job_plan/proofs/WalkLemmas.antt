@@ -1,23 +1,27 @@
 -- Walks of segments in pieces.
-use Rattle.std.proofs.Common.{◌≡◌, ℕ, suc, ◌≤◌, ◌<◌, length, arith, Bool, true, false, List, [], ◌∷◌, ◌++◌, take, Option, Some, None, IfSome, IfOk, Result, refl, sym, ap, subst, ◌∙◌}
+use Rattle.std.proofs.Common.{◌≡◌, ℕ, suc, ◌≤◌, ◌<◌, length, arith, Bool, true, false, List, [], ◌∷◌, ◌++◌, take, Option, Some, None, IfSome, IfOk, Result, Ok, Err, refl, sym, ap, subst, ◌∙◌}
 use Rattle.std.proofs.lemmas.List.{take_all}
 use Rattle.lambda_expr.specs.Earlier.{Numbers}
 use Rattle.trace.specs.declared.item.Item.{Item}
 use Rattle.trace.specs.declared.item.Fault.{Fault}
 use Rattle.trace.specs.declared.item.End.TheVariants as end
 use Rattle.trace.specs.Trace.{Trace, trace, nothing, append}
-use Rattle.trace.proofs.JoinLemmas.{pipe_append}
+use Rattle.trace.proofs.JoinLemmas.{append_grouped, append_nothing, pipe_append}
 use Rattle.job_plan.specs.declared.answer.Answer.{Answer}
 use Rattle.job_plan.specs.declared.outcome.Outcome.{Outcome}
 use Rattle.job_plan.specs.declared.outcome.Outcome.TheVariants as outcome
 use Rattle.job_plan.specs.declared.part.Part.{Part}
 use Rattle.std.specs.declared.alloc.AllocError.{AllocError}
+use Rattle.trace.specs.declared.feeding.Fed.{Fed}
+use Rattle.trace.specs.declared.feeding.Fed.TheVariants as fed
+use Rattle.trace.specs.Sinks.{IsFed}
 use Rattle.trace.specs.declared.sink.Flow.TheVariants as flow
-use Rattle.job_plan.specs.Parts.{EndsFor, StandsFor, flow_of, is_settled}
+use Rattle.job_plan.specs.Parts.{EndsFor, HasTaken, StandsFor, flow_of, is_settled, may_search}
 use Rattle.job_plan.specs.Pieces.{elements, piece_of}
 use Rattle.job_plan.specs.Plans.{AbstractEnd, AbstractSegment, last_stage, on_outcome, outcome_of, segments_answer, walk_of}
 use Rattle.job_plan.specs.Spans.{IsNotAfter}
 use Rattle.job_plan.proofs.FeedLemmas.{piece_in_two, stands_more, stands_fault, stands_enough}
+use Rattle.job_plan.proofs.LentLemmas.{grown}
 use Rattle.job_plan.proofs.PartLemmas.{settled}
 use Rattle.job_plan.proofs.SideBySide.{pieces_joined}
 
@@ -47,30 +51,68 @@ answered s ss env t o a e is = ap (λ x. on_outcome x (segments_answer ss env)) 
 pub went_on : (s : AbstractSegment) (ss : List AbstractSegment) (env : Numbers) (t u : Trace) (o : Outcome) (a : Answer) → o ≡ outcome_of s env t → o ≡ outcome.Source u → a ≡ segments_answer ss env u → a ≡ segments_answer (s ∷ ss) env t
 went_on s ss env t u o a e is later = later ∙ ap (λ x. on_outcome x (segments_answer ss env)) (sym is ∙ e)
 
--- the part of no item, if nothing more matters
-pub settled_first : (s : AbstractSegment) (env : Numbers) (p : Part) (t : Trace) (from : ℕ) (to : Option ℕ) → is_settled p ≡ true → EndsFor s.ending (last_stage s) env p nothing → StandsFor s env p (piece_of from to t)
-settled_first s env p t from to is x = settled s.ending (last_stage s) env p nothing (walk_of s env (piece_of from to t)) is x
+-- a part that goes on from another one with some items, and then with others
+pub taken_on : (e : AbstractEnd) (n : ℕ) (env : Numbers) (begun p q : Part) (xs ys : List Item) → HasTaken e n env begun p xs
+    → ((t : Trace) → EndsFor e n env p t → EndsFor e n env q (append t (trace ys end.Done))) → may_search q ≡ may_search p → HasTaken e n env begun q (xs ++ ys)
+taken_on e n env begun p q xs ys took on kind = (
+  λ t h. subst (EndsFor e n env q) (grown t xs ys) (on (append t (trace xs end.Done)) (took.0 t h)),
+  kind ∙ took.1,
+)
 
-module _ (s : AbstractSegment) (env : Numbers) (p : Part) (t : Trace) (from : ℕ) (to : Option ℕ) where
+-- the same end, stage and numbers
+pub taken_as : (e f : AbstractEnd) (m n : ℕ) (env named : Numbers) (begun p : Part) (xs : List Item) → e ≡ f → m ≡ n → env ≡ named → HasTaken f n named begun p xs → HasTaken e m env begun p xs
+taken_as e f m n env named begun p xs a b c h =
+    subst (λ (x : AbstractEnd). HasTaken x m env begun p xs) (sym a) (subst (λ (x : ℕ). HasTaken f x env begun p xs) (sym b) (subst (λ (x : Numbers). HasTaken f n x begun p xs) (sym c) h))
+
+-- what a sink was fed, as another one sees it
+pub fed_as : {S T : Type 0} (h : S → List Item → Type 0) (k : T → List Item → Type 0) (s : S) (u : T) → ((ys : List Item) → h s ys → k u ys)
+    → (xs : List Item) (t : Trace) (r : Result Fed AllocError) → IsFed h xs t r s → IsFed k xs t r u
+fed_as h k s u f xs t (Ok fed.More) p = (f (xs ++ t.items) p.0, p.1)
+fed_as h k s u f xs t (Ok (fed.Fault x)) p = (f (xs ++ t.items) p.0, p.1)
+fed_as h k s u f xs t (Ok fed.Enough) p = (p.0, p.1, f (xs ++ take (suc p.0) t.items) p.2)
+fed_as h k s u f xs t (Err e) p = (p.0, p.1, f (xs ++ take p.0 t.items) p.2)
+
+-- before any item
+pub taken_none : (e : AbstractEnd) (n : ℕ) (env : Numbers) (p : Part) → HasTaken e n env p p []
+taken_none e n env p = (λ t h. subst (EndsFor e n env p) (sym (append_nothing t)) h, refl)
+
+module _ (s : AbstractSegment) (env : Numbers) (p : Part) (before t : Trace) (from : ℕ) (to : Option ℕ) where
   abbrev walked : Trace
   walked = walk_of s env (trace (elements from to t.items) end.Done)
 
-  by_end : EndsFor s.ending (last_stage s) env p (append walked (trace [] (piece_of from to t).ending)) → StandsFor s env p (piece_of from to t)
-  by_end x = subst (λ (u : Trace). EndsFor s.ending (last_stage s) env p u) (sym (piece_in_two s env from to t)) x
+  abbrev Ends : Trace → Type 0
+  Ends u = EndsFor s.ending (last_stage s) env p (append (walk_of s env before) u)
+
+  -- of the walk before, and the piece
+  of_both : Ends (walk_of s env (piece_of from to t)) → StandsFor s env p (append before (piece_of from to t))
+  of_both x = subst (EndsFor s.ending (last_stage s) env p) (sym (pipe_append s.first s.stages env before (piece_of from to t))) x
+
+  by_end : Ends (append walked (trace [] (piece_of from to t).ending)) → StandsFor s env p (append before (piece_of from to t))
+  by_end x = of_both (subst Ends (sym (piece_in_two s env from to t)) x)
+
+  grouped : (a b : Trace) → EndsFor s.ending (last_stage s) env p (append (append (walk_of s env before) a) b) → Ends (append a b)
+  grouped a b x = subst (EndsFor s.ending (last_stage s) env p) (append_grouped (walk_of s env before) a b) x
+
+  -- nothing after what came before matters
+  pub settled_first : is_settled p ≡ true → StandsFor s env p before → StandsFor s env p (append before (piece_of from to t))
+  settled_first is x = of_both (settled s.ending (last_stage s) env p (walk_of s env before) (walk_of s env (piece_of from to t)) is x)
 
   -- all items went through
-  pub after_more : walked.ending ≡ end.Done → EndsFor s.ending (last_stage s) env p (append (trace ([] ++ walked.items) end.Done) (trace [] (piece_of from to t).ending)) → StandsFor s env p (piece_of from to t)
-  after_more done x = by_end (stands_more (EndsFor s.ending (last_stage s) env p) walked (piece_of from to t).ending done x)
+  pub after_more : walked.ending ≡ end.Done → EndsFor s.ending (last_stage s) env p (append (append (walk_of s env before) (trace ([] ++ walked.items) end.Done)) (trace [] (piece_of from to t).ending))
+      → StandsFor s env p (append before (piece_of from to t))
+  after_more done x = by_end (stands_more Ends walked (piece_of from to t).ending done (grouped (trace ([] ++ walked.items) end.Done) (trace [] (piece_of from to t).ending) x))
 
   -- one of them ended the walk in a fault
-  pub after_fault : (f : Fault) → walked.ending ≡ end.Fault f → EndsFor s.ending (last_stage s) env p (append (trace ([] ++ walked.items) end.Done) (trace [] (end.Fault f))) → StandsFor s env p (piece_of from to t)
-  after_fault f h x = by_end (stands_fault (EndsFor s.ending (last_stage s) env p) walked (piece_of from to t).ending f h x)
+  pub after_fault : (f : Fault) → walked.ending ≡ end.Fault f → EndsFor s.ending (last_stage s) env p (append (append (walk_of s env before) (trace ([] ++ walked.items) end.Done)) (trace [] (end.Fault f)))
+      → StandsFor s env p (append before (piece_of from to t))
+  after_fault f h x = by_end (stands_fault Ends walked (piece_of from to t).ending f h (grouped (trace ([] ++ walked.items) end.Done) (trace [] (end.Fault f)) x))
 
   -- nothing more mattered
-  pub after_enough : (k : ℕ) → is_settled p ≡ true → EndsFor s.ending (last_stage s) env p (trace ([] ++ take k walked.items) end.Done) → StandsFor s env p (piece_of from to t)
+  pub after_enough : (k : ℕ) → is_settled p ≡ true → EndsFor s.ending (last_stage s) env p (append (walk_of s env before) (trace ([] ++ take k walked.items) end.Done))
+      → StandsFor s env p (append before (piece_of from to t))
   after_enough k is x =
-      by_end (stands_enough (EndsFor s.ending (last_stage s) env p) walked (piece_of from to t).ending k
-      (λ u. settled s.ending (last_stage s) env p (trace ([] ++ take k walked.items) end.Done) u is x))
+      by_end (stands_enough Ends walked (piece_of from to t).ending k
+      (λ u. grouped (trace ([] ++ take k walked.items) end.Done) u (settled s.ending (last_stage s) env p (append (walk_of s env before) (trace ([] ++ take k walked.items) end.Done)) u is x)))
 
 -- how a piece ends doesn't depend on where it begins
 pub same_ending : (from : ℕ) (to : Option ℕ) (t : Trace) → (piece_of 0 to t).ending ≡ (piece_of from to t).ending

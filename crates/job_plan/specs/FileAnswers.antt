@@ -109,7 +109,7 @@ unless_unusable (Some place) a = answer.Unusable place
 abbrev pub answer_after : List NamedAnswer → AbstractJob → Answer
 answer_after before job =
     unless_unusable (first_unusable before (names_in_job job))
-    (answer_of_job (numbers_named before (names_in_job job)) (record { name = job.name; sources = all_put_in before job.sources; stages = job.stages; terminal = job.terminal }))
+    (answer_of_job (numbers_named before (names_in_job job)) (record { name = job.name; sources = all_put_in before job.sources; stages = job.stages; terminal = job.terminal; on_fault = job.on_fault }))
 
 -- the answers of jobs in file order, after those of the jobs before them
 abbrev pub answers_after : List NamedAnswer → List AbstractJob → List Answer

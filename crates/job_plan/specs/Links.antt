@@ -9,7 +9,7 @@ use Rattle.job_plan.specs.declared.links.Links.{Links}
 use Rattle.job_plan.specs.declared.part.Part.{Part}
 use Rattle.job_plan.specs.Parts.{StandsFor, segment_in}
 use Rattle.job_plan.specs.Pieces.{piece_of}
-use Rattle.job_plan.specs.Plans.{AbstractEnd, slicing, folding, finding, collecting, scanning, AbstractSegment, AbstractPlan, last_stage, walk_of}
+use Rattle.job_plan.specs.Plans.{AbstractEnd, slicing, folding, finding, collecting, exactly, scanning, AbstractSegment, AbstractPlan, last_stage, walk_of}
 use Rattle.job_plan.specs.Windows.{later_segments, selected_source}
 
 -- a segment that ends in a slice, and what this slice does with the items to come
@@ -32,6 +32,7 @@ link_by (slicing d) s ls = record { segment = s; rest = d } ∷ ls
 link_by (folding f a counts) s ls = []
 link_by (finding d) s ls = []
 link_by collecting s ls = []
+link_by exactly s ls = []
 link_by (scanning f r) s ls = []
 
 -- the first segments that end in slices, before any item
@@ -45,6 +46,7 @@ after_by (slicing d) ss later = later
 after_by (folding f a counts) ss later = ss
 after_by (finding d) ss later = ss
 after_by collecting ss later = ss
+after_by exactly ss later = ss
 after_by (scanning f r) ss later = ss
 
 -- the segments after these
@@ -58,6 +60,7 @@ ends_in_slice (slicing d) = true
 ends_in_slice (folding f a counts) = false
 ends_in_slice (finding d) = false
 ends_in_slice collecting = false
+ends_in_slice exactly = false
 ends_in_slice (scanning f r) = false
 
 -- whether the first of these segments does

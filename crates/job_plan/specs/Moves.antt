@@ -13,7 +13,7 @@ use Rattle.slice_ops.specs.Slices.{AbstractSlice, limit, skip, take_while, drop_
 use Rattle.job_plan.specs.declared.moves.Moved.{Moved}
 use Rattle.job_plan.specs.declared.segment.Held.{Held}
 use Rattle.job_plan.specs.Parts.{segments_in}
-use Rattle.job_plan.specs.Plans.{AbstractEnd, slicing, folding, finding, collecting, scanning, AbstractSegment, AbstractPlan, segments_answer}
+use Rattle.job_plan.specs.Plans.{AbstractEnd, slicing, folding, finding, collecting, exactly, scanning, AbstractSegment, AbstractPlan, segments_answer}
 
 -- whether an operator has a value at every operand
 abbrev pub is_total : UnaryOperator → Bool
@@ -93,6 +93,7 @@ comes_first gs (slicing d) = slice_comes_first gs d
 comes_first gs (folding f a counts) = false
 comes_first gs (finding d) = false
 comes_first gs collecting = false
+comes_first gs exactly = false
 comes_first gs (scanning f r) = false
 
 -- segments that go over a walk give the same answer, whatever the walk is
@@ -104,6 +105,7 @@ pub record IsSamePlan (p q : AbstractPlan) : Type 0 where
   pub name : p.name ≡ q.name
   pub named : p.named ≡ q.named
   pub sources : p.sources ≡ q.sources
+  pub fallback : p.fallback ≡ q.fallback
   pub answers : SameAnswers p.segments q.segments
 
 abbrev pub AllSamePlans : List AbstractPlan → List AbstractPlan → Type 0

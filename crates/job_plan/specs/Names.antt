@@ -5,7 +5,7 @@ use Rattle.lambda_expr.specs.References.{long_names, truth_names, inner_names}
 use Rattle.trace.specs.Stages.{AbstractStage, map, filter, flat_map}
 use Rattle.slice_ops.specs.Slices.{AbstractSlice, limit, skip, take_while, drop_while}
 use Rattle.find_ops.specs.Finds.{Find, first, any_match, all_match, none_match}
-use Rattle.job_language.specs.Jobs.{AbstractPlainSource, range, range_closed, values, result, AbstractJobStage, item, slice, prefix, AbstractTerminal, sum, count, min, max, to_array, reduce, reduce_from, find, AbstractJob}
+use Rattle.job_language.specs.Jobs.{AbstractPlainSource, range, range_closed, values, result, AbstractJobStage, item, slice, prefix, AbstractTerminal, sum, count, min, max, to_array, reduce, reduce_from, find, exact_sum, AbstractJob}
 
 -- helper: the names that stand in a stage that looks at one item at a time, in a stage that looks at a whole walk, in a find
 abbrev pub stage_names : AbstractStage → List (List ℕ)
@@ -37,6 +37,7 @@ terminal_names count = []
 terminal_names min = []
 terminal_names max = []
 terminal_names to_array = []
+terminal_names exact_sum = []
 terminal_names (reduce f) = []
 terminal_names (reduce_from a f) = []
 terminal_names (find d) = find_names d

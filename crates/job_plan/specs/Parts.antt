@@ -1,5 +1,5 @@
 -- Condition: what the parts, segments and sources of the program stand for.
-use Rattle.std.specs.Prelude.{◌≡◌, ℕ, ℤ, Bool, true, false, List, [], ◌∷◌, Option, is_some}
+use Rattle.std.specs.Prelude.{◌≡◌, ℕ, ℤ, Bool, true, false, not, List, [], ◌∷◌, Option, Some, is_some, option_map}
 use Rattle.lambda_expr.specs.Earlier.{Numbers}
 use Rattle.trace.specs.declared.item.Item.{Item}
 use Rattle.trace.specs.declared.item.End.{End}
@@ -7,9 +7,10 @@ use Rattle.trace.specs.declared.item.End.TheVariants as end
 use Rattle.trace.specs.declared.sink.Flow.{Flow}
 use Rattle.trace.specs.declared.sink.Flow.TheVariants as flow
 use Rattle.trace.specs.Stages.{stages_of}
-use Rattle.trace.specs.Trace.{Trace, trace}
+use Rattle.trace.specs.Trace.{Trace, trace, append}
 use Rattle.reduce_ops.specs.declared.op.Op.{Op}
 use Rattle.reduce_ops.specs.Parts.{StandsFor as FoldStands}
+use Rattle.reduce_ops.specs.Reaches.{StandsFor as SumStands, is_running as is_running_sum, is_settled as sum_is_settled}
 use Rattle.slice_ops.specs.Slices.{slice_of}
 use Rattle.slice_ops.specs.Parts.{StandsFor as SliceStands, is_settled as slice_is_settled}
 use Rattle.find_ops.specs.Finds.{find_of}
@@ -21,13 +22,17 @@ use Rattle.job_plan.specs.Scans.{scan}
 use Rattle.job_plan.specs.declared.part.FoldPart.{FoldPart}
 use Rattle.job_plan.specs.declared.part.Part.{Part}
 use Rattle.job_plan.specs.declared.part.Part.TheVariants as part
+use Rattle.job_plan.specs.declared.answer.Answer.{Answer}
+use Rattle.job_plan.specs.declared.answer.Answer.TheVariants as answer
+use Rattle.job_plan.specs.declared.fallback.Fallback.{Fallback}
+use Rattle.job_plan.specs.declared.fallback.Fallback.TheVariants as fallback
 use Rattle.job_plan.specs.declared.segment.SegmentEnd.{SegmentEnd}
 use Rattle.job_plan.specs.declared.segment.SegmentEnd.TheVariants as ends
 use Rattle.job_plan.specs.declared.segment.Segment.{Segment}
 use Rattle.job_plan.specs.declared.segment.JobPlan.{JobPlan}
 use Rattle.job_plan.specs.declared.source.Source.{Source}
 use Rattle.job_plan.specs.declared.source.Source.TheVariants as source
-use Rattle.job_plan.specs.Plans.{AbstractEnd, slicing, folding, finding, collecting, scanning, AbstractSegment, AbstractPlan, counted_as, walk_of, last_stage}
+use Rattle.job_plan.specs.Plans.{AbstractEnd, slicing, folding, finding, collecting, exactly, scanning, AbstractSegment, AbstractPlan, counted_as, walk_of, last_stage}
 use Rattle.job_plan.specs.Walks.{source_walk}
 use Rattle.job_plan.specs.Windows.{windowed}
 
@@ -37,6 +42,7 @@ end_in (ends.Slice d) = slicing (slice_of d)
 end_in (ends.Fold f) = folding f.op f.start f.counts
 end_in (ends.Find d) = finding (find_of d)
 end_in ends.Array = collecting
+end_in ends.ExactSum = exactly
 end_in (ends.Prefix p) = scanning p.op p.range
 
 -- a segment of the program, and several
@@ -47,9 +53,14 @@ abbrev pub segments_in : List Segment → List AbstractSegment
 segments_in [] = []
 segments_in (s ∷ ss) = segment_in s ∷ segments_in ss
 
+-- what stands in place of a fault
+abbrev pub fallback_in : Fallback → Answer
+fallback_in (fallback.Number z) = answer.Number z
+fallback_in (fallback.Optional z) = answer.Optional (Some z)
+
 -- a job of the program in segments, and several
 abbrev pub plan_in : JobPlan → AbstractPlan
-plan_in j = record { name = j.name; named = j.named.items; sources = sources_of j.sources.items; segments = segments_in j.segments.items }
+plan_in j = record { name = j.name; named = j.named.items; sources = sources_of j.sources.items; segments = segments_in j.segments.items; fallback = option_map fallback_in j.fallback }
 
 abbrev pub plans_in : List JobPlan → List AbstractPlan
 plans_in [] = []
@@ -79,30 +90,50 @@ EndsFor (slicing d) n env (part.Fold p) t = ⊥
 EndsFor (slicing d) n env (part.Find p) t = ⊥
 EndsFor (slicing d) n env (part.Array c) t = ⊥
 EndsFor (slicing d) n env (part.Prefix p) t = ⊥
+EndsFor (slicing d) n env (part.Exact p) t = ⊥
 EndsFor (folding f a counts) n env (part.Slice p) t = ⊥
 EndsFor (folding f a counts) n env (part.Fold p) t = IsFold f a counts p t
 EndsFor (folding f a counts) n env (part.Find p) t = ⊥
 EndsFor (folding f a counts) n env (part.Array c) t = ⊥
 EndsFor (folding f a counts) n env (part.Prefix p) t = ⊥
+EndsFor (folding f a counts) n env (part.Exact p) t = ⊥
 EndsFor (finding d) n env (part.Slice p) t = ⊥
 EndsFor (finding d) n env (part.Fold p) t = ⊥
 EndsFor (finding d) n env (part.Find p) t = FindStands d n env p t
 EndsFor (finding d) n env (part.Array c) t = ⊥
 EndsFor (finding d) n env (part.Prefix p) t = ⊥
+EndsFor (finding d) n env (part.Exact p) t = ⊥
 EndsFor collecting n env (part.Slice p) t = ⊥
 EndsFor collecting n env (part.Fold p) t = ⊥
 EndsFor collecting n env (part.Find p) t = ⊥
 EndsFor collecting n env (part.Array c) t = c ≡ array_of t
 EndsFor collecting n env (part.Prefix p) t = ⊥
+EndsFor collecting n env (part.Exact p) t = ⊥
 EndsFor (scanning f r) n env (part.Slice p) t = ⊥
 EndsFor (scanning f r) n env (part.Fold p) t = ⊥
 EndsFor (scanning f r) n env (part.Find p) t = ⊥
 EndsFor (scanning f r) n env (part.Array c) t = ⊥
 EndsFor (scanning f r) n env (part.Prefix p) t = p ≡ scan f r n t
+EndsFor (scanning f r) n env (part.Exact p) t = ⊥
+EndsFor exactly n env (part.Slice p) t = ⊥
+EndsFor exactly n env (part.Fold p) t = ⊥
+EndsFor exactly n env (part.Find p) t = ⊥
+EndsFor exactly n env (part.Array c) t = ⊥
+EndsFor exactly n env (part.Prefix p) t = ⊥
+EndsFor exactly n env (part.Exact p) t = SumStands n p t
 
--- a part has taken these items
-abbrev pub HasTaken : AbstractEnd → ℕ → Numbers → Part → List Item → Type 0
-HasTaken e n env p xs = EndsFor e n env p (trace xs end.Done)
+-- whether a part of a whole walk may leave it open what the segment gives, so that the walk is to be done once more, in order
+abbrev pub may_search : Part → Bool
+may_search (part.Slice p) = false
+may_search (part.Fold p) = false
+may_search (part.Find p) = false
+may_search (part.Array c) = false
+may_search (part.Prefix p) = false
+may_search (part.Exact p) = not (is_running_sum p)
+
+-- a part goes on from another one with these items
+abbrev pub HasTaken : AbstractEnd → ℕ → Numbers → Part → Part → List Item → Type 0
+HasTaken e n env begun p xs = ((t : Trace) → EndsFor e n env begun t → EndsFor e n env p (append t (trace xs end.Done))) × (may_search p ≡ may_search begun)
 
 -- a part stands for a piece of a segment's source
 abbrev pub StandsFor : AbstractSegment → Numbers → Part → Trace → Type 0
@@ -124,6 +155,16 @@ is_settled (part.Fold p) = is_fault p.partial.end
 is_settled (part.Find p) = is_some p.decision
 is_settled (part.Array c) = is_fault c.ending
 is_settled (part.Prefix p) = is_fault p.walk.ending
+is_settled (part.Exact p) = sum_is_settled p
+
+-- whether a part is the sum of a walk in order: then it settles nothing for a piece that begins later
+abbrev pub is_running : Part → Bool
+is_running (part.Slice p) = false
+is_running (part.Fold p) = false
+is_running (part.Find p) = false
+is_running (part.Array c) = false
+is_running (part.Prefix p) = false
+is_running (part.Exact p) = is_running_sum p
 
 -- whether a part keeps items; to merge it may then take memory
 abbrev pub keeps_items : Part → Bool
@@ -132,6 +173,7 @@ keeps_items (part.Fold p) = false
 keeps_items (part.Find p) = false
 keeps_items (part.Array c) = true
 keeps_items (part.Prefix p) = true
+keeps_items (part.Exact p) = false
 
 -- whether a part takes more items
 abbrev pub flow_of : Bool → Flow

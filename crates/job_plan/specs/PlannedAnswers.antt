@@ -56,7 +56,7 @@ all_put_at before named (s ∷ ss) = put_at before named s ∷ all_put_at before
 
 -- a job with the arrays that it names in place of their names
 abbrev pub put_into : List Answer → AbstractPlan → AbstractPlan
-put_into before plan = record { name = plan.name; named = plan.named; sources = all_put_at before plan.named plan.sources; segments = plan.segments }
+put_into before plan = record { name = plan.name; named = plan.named; sources = all_put_at before plan.named plan.sources; segments = plan.segments; fallback = plan.fallback }
 
 -- the answer of a job after the answers of the jobs before it
 abbrev pub planned_after : List Answer → AbstractPlan → Answer

@@ -6,27 +6,29 @@ use Rattle.trace.specs.Stages.{AbstractStage, pipe}
 use Rattle.trace.specs.Trace.{Trace}
 use Rattle.reduce_ops.specs.declared.op.Op.{Op}
 use Rattle.reduce_ops.specs.declared.op.Op.TheVariants as op
+use Rattle.reduce_ops.specs.ExactSums.{exact_sum as exactly_summed}
 use Rattle.reduce_ops.specs.Folds.{fold_from, fold_items, ones}
 use Rattle.reduce_ops.specs.Operators.{value_of}
 use Rattle.slice_ops.specs.Slices.{AbstractSlice, sliced}
 use Rattle.prefix_scan.specs.Prefixes.{Range, prefixed}
 use Rattle.find_ops.specs.Finds.{Find, find_answer}
-use Rattle.job_language.specs.Jobs.{AbstractPlainSource, AbstractJobStage, item, slice, prefix, AbstractTerminal, sum, count, min, max, to_array, reduce, reduce_from, find, AbstractJob}
+use Rattle.job_language.specs.Jobs.{AbstractPlainSource, AbstractJobStage, item, slice, prefix, AbstractTerminal, sum, count, min, max, to_array, reduce, reduce_from, find, exact_sum, AbstractJob}
 use Rattle.job_plan.specs.declared.answer.Answer.{Answer}
 use Rattle.job_plan.specs.declared.answer.Answer.TheVariants as answer
 use Rattle.job_plan.specs.declared.outcome.Outcome.{Outcome}
 use Rattle.job_plan.specs.declared.outcome.Outcome.TheVariants as outcome
 use Rattle.job_plan.specs.declared.segment.Named.{Named}
 use Rattle.job_plan.specs.Names.{names_in_job, place_of}
-use Rattle.job_plan.specs.Walks.{found_answer, source_walk, unless_fault}
+use Rattle.job_plan.specs.Walks.{exact_answer, fallback_of, found_answer, instead_of_fault, source_walk, unless_fault}
 
 -- the end of a segment: a stage that looks at a whole walk, a fold (its operator, its start, and whether it counts), a
--- find or a match, the values, or a prefix (its operator and its range)
+-- find or a match, the values, an exact sum, or a prefix (its operator and its range)
 pub data AbstractEnd : Type 0 where
   slicing : AbstractSlice → AbstractEnd
   folding : Op → Option ℤ → Bool → AbstractEnd
   finding : Find → AbstractEnd
   collecting : AbstractEnd
+  exactly : AbstractEnd
   scanning : Op → Range → AbstractEnd
 
 -- stages that look at one item at a time, the first one with this number, and what ends them
@@ -35,12 +37,14 @@ pub record AbstractSegment : Type 0 where
   pub stages : List AbstractStage
   pub ending : AbstractEnd
 
--- a job in segments: the outcome of each one is the source of the next; and the earlier jobs that it names
+-- a job in segments: the outcome of each one is the source of the next; the earlier jobs that it names; and what it gives in
+-- place of a fault, if anything
 pub record AbstractPlan : Type 0 where
   pub name : List ℕ
   pub named : List Named
   pub sources : List AbstractPlainSource
   pub segments : List AbstractSegment
+  pub fallback : Option Answer
 
 -- a terminal as the end of a segment
 abbrev pub end_of : AbstractTerminal → AbstractEnd
@@ -49,6 +53,7 @@ end_of count = folding op.Sum (Some (pos 0)) true
 end_of min = folding op.Min None false
 end_of max = folding op.Max None false
 end_of to_array = collecting
+end_of exact_sum = exactly
 end_of (reduce f) = folding f None false
 end_of (reduce_from a f) = folding f (Some a) false
 end_of (find d) = finding d
@@ -72,7 +77,7 @@ all_placed before (name ∷ names) = placed name (place_of before name) ++ all_p
 
 -- a job in segments, after jobs with these names
 abbrev pub plan_of : List (List ℕ) → AbstractJob → AbstractPlan
-plan_of before job = record { name = job.name; named = all_placed before (names_in_job job); sources = job.sources; segments = segments_from 1 [] job.stages job.terminal }
+plan_of before job = record { name = job.name; named = all_placed before (names_in_job job); sources = job.sources; segments = segments_from 1 [] job.stages job.terminal; fallback = fallback_of job }
 
 -- several jobs in segments, after jobs with these names
 abbrev pub plans_after : List (List ℕ) → List AbstractJob → List AbstractPlan
@@ -99,6 +104,7 @@ ended (slicing d) n env t = outcome.Source (sliced d n env t)
 ended (folding f a counts) n env t = outcome.Answer (unless_fault t.ending (folded f a (counted_as counts t.items)))
 ended (finding d) n env t = outcome.Answer (found_answer (find_answer d n env t))
 ended (scanning f r) n env t = outcome.Source (prefixed (value_of f) r n t)
+ended exactly n env t = outcome.Answer (exact_answer (exactly_summed n t))
 ended collecting n env t = outcome.Answer (unless_fault t.ending (answer.Array (each_of (λ (x : Item). x.value) t.items)))
 
 -- the walk of a segment's source through its stages
@@ -125,4 +131,4 @@ segments_answer (s ∷ ss) env t = on_outcome (outcome_of s env t) (segments_ans
 
 -- the answer of a job in segments
 abbrev pub planned_answer : Numbers → AbstractPlan → Answer
-planned_answer env plan = segments_answer plan.segments env (source_walk plan.sources)
+planned_answer env plan = instead_of_fault plan.fallback (segments_answer plan.segments env (source_walk plan.sources))

@@ -1,5 +1,5 @@
 -- Meaning: the walk of a job, and the answer that its terminal gives.
-use Rattle.std.specs.Prelude.{ℕ, suc, ℤ, pos, ◌+ℤ◌, List, [], ◌∷◌, ◌++◌, length, map as each_of, Result, Ok, Err}
+use Rattle.std.specs.Prelude.{ℕ, suc, ℤ, pos, ◌+ℤ◌, List, [], ◌∷◌, ◌++◌, length, map as each_of, Option, Some, Result, Ok, Err, option_map}
 use Rattle.lambda_expr.specs.Earlier.{Numbers}
 use Rattle.lambda_expr.specs.Streams.{counted, distance}
 use Rattle.lambda_expr.specs.Wrap.{wrap}
@@ -11,6 +11,7 @@ use Rattle.trace.specs.Cover.{cover, values as listed}
 use Rattle.trace.specs.Stages.{through}
 use Rattle.trace.specs.Trace.{Trace}
 use Rattle.reduce_ops.specs.declared.op.Op.TheVariants as op
+use Rattle.reduce_ops.specs.ExactSums.{exact_sum as exactly_summed}
 use Rattle.reduce_ops.specs.Folds.{fold_from, fold_items, total}
 use Rattle.reduce_ops.specs.Operators.{value_of}
 use Rattle.slice_ops.specs.Slices.{sliced}
@@ -18,7 +19,7 @@ use Rattle.prefix_scan.specs.Prefixes.{prefixed}
 use Rattle.find_ops.specs.Finds.{find_answer}
 use Rattle.find_ops.specs.declared.find_part.Found.{Found}
 use Rattle.find_ops.specs.declared.find_part.Found.TheVariants as found
-use Rattle.job_language.specs.Jobs.{AbstractPlainSource, range, range_closed, values, result, AbstractJobStage, item, slice, prefix, AbstractTerminal, sum, count, min, max, to_array, reduce, reduce_from, find, AbstractJob}
+use Rattle.job_language.specs.Jobs.{AbstractPlainSource, range, range_closed, values, result, AbstractJobStage, item, slice, prefix, AbstractTerminal, sum, count, min, max, to_array, reduce, reduce_from, find, exact_sum, AbstractJob}
 use Rattle.job_plan.specs.declared.answer.Answer.{Answer}
 use Rattle.job_plan.specs.declared.answer.Answer.TheVariants as answer
 
@@ -62,8 +63,14 @@ found_answer (Ok (found.Value v)) = answer.Optional v
 found_answer (Ok (found.Truth b)) = answer.Truth b
 found_answer (Err f) = answer.Fault f
 
+-- the exact sum as a number, or the fault that came before it
+abbrev pub exact_answer : Result ℤ Fault → Answer
+exact_answer (Ok z) = answer.Number z
+exact_answer (Err f) = answer.Fault f
+
 -- the answer of a terminal, the stage with this number, for a walk (`LongStream.sum`, `count`, `min`, `max`, `toArray`,
--- `reduce`, `findFirst`, `anyMatch`, `allMatch`, `noneMatch`); a sum and a count are wrapped once to 64 bits
+-- `reduce`, `findFirst`, `anyMatch`, `allMatch`, `noneMatch`); a sum and a count are wrapped once to 64 bits, and an exact sum (`reduce(0, Math::addExact)`) has a
+-- fault at the first item after which it is outside 64 bits
 abbrev pub answer_of : ℕ → Numbers → AbstractTerminal → Trace → Answer
 answer_of n env sum t = unless_fault t.ending (answer.Number (wrap (total t.items)))
 answer_of n env count t = unless_fault t.ending (answer.Number (wrap (pos (length t.items))))
@@ -73,9 +80,31 @@ answer_of n env to_array t = unless_fault t.ending (answer.Array (each_of (λ (x
 answer_of n env (reduce f) t = unless_fault t.ending (answer.Optional (fold_items (value_of f) t.items))
 answer_of n env (reduce_from a f) t = unless_fault t.ending (answer.Number (fold_from (value_of f) a t.items))
 answer_of n env (find d) t = found_answer (find_answer d n env t)
+answer_of n env exact_sum t = exact_answer (exactly_summed n t)
 
--- the answer of a job with the numbers of earlier jobs: its sources, through its stages, which are numbered from 1, to its
--- terminal, which is the stage after the last
-abbrev pub answer_of_job : Numbers → AbstractJob → Answer
-answer_of_job env job =
+-- a number as a terminal gives it: `sum`, `count` and `reduce` from a number give a number, the others an optional
+abbrev pub number_as : AbstractTerminal → ℤ → Answer
+number_as sum z = answer.Number z
+number_as count z = answer.Number z
+number_as (reduce_from a f) z = answer.Number z
+number_as exact_sum z = answer.Number z
+number_as d z = answer.Optional (Some z)
+
+-- what a job gives in place of a fault, if it says so (`onFault`)
+abbrev pub fallback_of : AbstractJob → Option Answer
+fallback_of job = option_map (number_as job.terminal) job.on_fault
+
+-- this answer, if there is one, in place of a fault
+abbrev pub instead_of_fault : Option Answer → Answer → Answer
+instead_of_fault (Some b) (answer.Fault f) = b
+instead_of_fault o a = a
+
+-- the answer of the walk of a job with the numbers of earlier jobs: its sources, through its stages, which are numbered
+-- from 1, to its terminal, which is the stage after the last
+abbrev pub answer_of_walk : Numbers → AbstractJob → Answer
+answer_of_walk env job =
     answer_of (suc (length job.stages)) env job.terminal (after_stages 1 job.stages env (source_walk job.sources))
+
+-- the answer of a job with the numbers of earlier jobs
+abbrev pub answer_of_job : Numbers → AbstractJob → Answer
+answer_of_job env job = instead_of_fault (fallback_of job) (answer_of_walk env job)

@@ -4,7 +4,7 @@ use Rattle.trace.specs.Stages.{AbstractStage}
 use Rattle.trace.specs.Trace.{Trace, trace}
 use Rattle.slice_ops.specs.Slices.{AbstractSlice, limit, skip, take_while, drop_while, limited, skipped}
 use Rattle.job_plan.specs.Pieces.{elements}
-use Rattle.job_plan.specs.Plans.{AbstractEnd, slicing, folding, finding, collecting, scanning, AbstractSegment, AbstractPlan}
+use Rattle.job_plan.specs.Plans.{AbstractEnd, slicing, folding, finding, collecting, exactly, scanning, AbstractSegment, AbstractPlan}
 use Rattle.job_plan.specs.Walks.{source_walk}
 
 -- whether a stage selects positions, and leaves the end of the walk over a job's sources as it is: `skip`, and `limit` of at
@@ -21,6 +21,7 @@ end_selects (slicing d) = slice_selects d
 end_selects (folding f a counts) = false
 end_selects (finding d) = false
 end_selects collecting = false
+end_selects exactly = false
 end_selects (scanning f r) = false
 
 -- whether a segment with these stages and this end does that and nothing else
@@ -45,6 +46,7 @@ end_selected (slicing d) t = slice_selected d t
 end_selected (folding f a counts) t = t
 end_selected (finding d) t = t
 end_selected collecting t = t
+end_selected exactly t = t
 end_selected (scanning f r) t = t
 
 -- what the first ones, one after the other, make of a walk

@@ -1,7 +1,7 @@
 //! A piece of a segment's source, taken through the segment's stages to the part that its end wants.
 
 ghost use Rattle.std.specs.Prelude.{◌≡◌, ◌+◌, ◌<◌, ◌^◌, ℕ, List, [], false, length, map, IfOk, ⊤};
-ghost use Rattle.trace.specs.Trace.{nothing};
+ghost use Rattle.trace.specs.Trace.{Trace, nothing, append};
 ghost use Rattle.job_plan.specs.Parts.{StandsEnough};
 ghost use Rattle.job_plan.specs.Spans.{IsNotAfter};
 ghost use Rattle.lambda_expr.specs.Earlier.{Numbers};
@@ -9,9 +9,12 @@ ghost use Rattle.trace.specs.Sinks.{IsFed, flow_after};
 ghost use Rattle.trace.specs.Trace.{trace};
 ghost use Rattle.trace.specs.declared.item.End.TheVariants as end;
 ghost use Rattle.trace.specs.declared.item.Item.{Item as item};
-ghost use Rattle.job_plan.specs.Parts.{EndsFor, HasTaken, StandsFor, end_in, flow_of, is_settled, segment_in, walk_in};
+ghost use Rattle.job_plan.specs.Parts.{HasTaken, StandsFor, end_in, flow_of, is_settled, may_search, segment_in, walk_in};
 ghost use Rattle.job_plan.specs.Pieces.{piece_of};
 ghost use Rattle.job_plan.specs.Plans.{last_stage};
+ghost use Rattle.job_plan.specs.Arrays.{array};
+ghost use Rattle.job_plan.specs.declared.part.Part.{Part as part_kept};
+ghost use Rattle.job_plan.specs.declared.part.Part.TheVariants as kept;
 ghost use Rattle.job_plan.specs.declared.segment.SegmentEnd.{SegmentEnd};
 ghost use Rattle.job_plan.specs.declared.segment.SegmentEnd.TheVariants as ends;
 
@@ -35,6 +38,9 @@ pub(crate) trait Ending {
     ghost stage: { ℕ };
 
     ghost env: { Numbers };
+
+    // the part that the walk goes on from
+    ghost begun: { part_kept };
 }
 
 impl Ending for Brand {
@@ -43,6 +49,8 @@ impl Ending for Brand {
     ghost stage = { 0 };
 
     ghost env = { [] };
+
+    ghost begun = { kept.Array (array [] end.Done) };
 }
 
 /// A sink that puts each item into a part, until nothing more matters.
@@ -57,7 +65,7 @@ struct PartSink<'p, 'e, K: Ending> {
 
 impl<K: Ending> LongSink for PartSink<'_, '_, K> {
     ghost has_taken = { λ sink items. (sink.segment.now.end ≡ K.last) × (sink.stage ≡ K.stage) × (sink.env.now ≡ K.env)
-        × EndsFor (end_in K.last) K.stage K.env sink.part (trace items end.Done) };
+        × HasTaken (end_in K.last) K.stage K.env K.begun sink.part items };
 
     ghost flow = { λ sink. flow_of (is_settled sink.part) };
 
@@ -129,8 +137,8 @@ fn accept_all<I: SourceItems>(
 ) -> Result<Fed, NoMemory>
     requires wants { is_settled part.old ≡ false }
     requires values { map (λ x. x.value) (I.items source.now) ≡ values.now }
-    ensures fed { (xs : List item) → HasTaken (end_in close.now) stage env.now part.old xs
-        → IsFed (HasTaken (end_in close.now) stage env.now) xs (trace (I.items source.now) end.Done) result part.new }
+    ensures fed { (begun : part_kept) (xs : List item) → HasTaken (end_in close.now) stage env.now begun part.old xs
+        → IsFed (HasTaken (end_in close.now) stage env.now begun) xs (trace (I.items source.now) end.Done) result part.new }
     ensures flow { flow_of (is_settled part.new) ≡ flow_after result }
 {
     if values.is_empty() {
@@ -192,12 +200,45 @@ pub(crate) fn leaf_copied<'p>(
 ) -> Result<Part<'p>, NoMemory>
     ensures { IfOk result (λ part. StandsFor (segment_in segment.now) env.now part (piece_of from to (walk_in source.now))) }
 {
-    leaf_as::<Brand>(alloc, segment, source, from, to, env, registers)
+    let none = unwalked(alloc, segment, env);
+    leaf_from(none, segment, source, from, to, env, registers)
+}
+
+/// The part of a whole source that is walked in order, from its first item on. It never has to be walked once more.
+pub fn leaf_in_order<'p>(
+    alloc: Global,
+    segment: &'p Segment,
+    source: &Source,
+    env: &Env,
+    registers: &mut Registers,
+) -> Result<Part<'p>, NoMemory>
+    ensures stands { IfOk result (λ part. StandsFor (segment_in segment.now) env.now part (walk_in source.now)) }
+    ensures kind { IfOk result (λ part. may_search part ≡ false) }
+{
+    let none = first_part(alloc, segment, env);
+    leaf_from(none, segment, source, 0, None, env, registers)
+}
+
+/// The part of what this part stands for and then of the items at these positions. It borrows none of the values of the source.
+pub(crate) fn leaf_from<'p>(
+    part: Part<'p>,
+    segment: &'p Segment,
+    source: &Source,
+    from: u64,
+    to: Option<u64>,
+    env: &Env,
+    registers: &mut Registers,
+) -> Result<Part<'p>, NoMemory>
+    ensures stands { IfOk result (λ made. (before : Trace) → StandsFor (segment_in segment.now) env.now part.entry before
+        → StandsFor (segment_in segment.now) env.now made (append before (piece_of from to (walk_in source.now)))) }
+    ensures kind { IfOk result (λ made. may_search made ≡ may_search part.entry) }
+{
+    leaf_as::<Brand>(part, segment, source, from, to, env, registers)
 }
 
 /// The same, for an end that contracts can name.
 fn leaf_as<'p, K: Ending>(
-    alloc: Global,
+    part: Part<'p>,
     segment: &'p Segment,
     source: &Source,
     from: u64,
@@ -208,17 +249,18 @@ fn leaf_as<'p, K: Ending>(
     requires last { segment.now.end ≡ K.last }
     requires stage { last_stage (segment_in segment.now) ≡ K.stage }
     requires env { env.now ≡ K.env }
-    ensures { IfOk result (λ part. StandsFor (segment_in segment.now) env.now part (piece_of from to (walk_in source.now))) }
+    requires begun { part ≡ K.begun }
+    ensures stands { IfOk result (λ made. (before : Trace) → StandsFor (segment_in segment.now) env.now part.entry before
+        → StandsFor (segment_in segment.now) env.now made (append before (piece_of from to (walk_in source.now)))) }
+    ensures kind { IfOk result (λ made. may_search made ≡ may_search part.entry) }
 {
-    let stage = segment.first_stage + segment.stages.len() as u32;
-    let part = Part::none(alloc, &segment.end, stage, env);
     if part.is_settled() {
         return Ok(part);
     }
     let mut sink = PartSink::<K> {
         part,
         segment,
-        stage,
+        stage: segment.first_stage + segment.stages.len() as u32,
         env,
         of: PhantomData,
     };
@@ -248,7 +290,8 @@ pub fn leaf_until<'p, W: Stop>(
     if let Some(part) = lent_part(alloc, segment, source, from, to)? {
         return Ok(part);
     }
-    leaf_until_as::<Brand, W>(alloc, segment, source, from, to, env, registers, stop)
+    let none = unwalked(alloc, segment, env);
+    leaf_until_as::<Brand, W>(none, segment, source, from, to, env, registers, stop)
 }
 
 /// The same, of a source that may be gone before the part is: the part borrows none of its values.
@@ -265,12 +308,13 @@ pub fn leaf_stored<'p, W: Stop>(
     requires ordered { IsNotAfter from to }
     ensures { IfOk result (λ part. StandsEnough (W.decides stop.old) (segment_in segment.now) env.now part from (piece_of from to (walk_in source.now))) }
 {
-    leaf_until_as::<Brand, W>(alloc, segment, source, from, to, env, registers, stop)
+    let none = unwalked(alloc, segment, env);
+    leaf_until_as::<Brand, W>(none, segment, source, from, to, env, registers, stop)
 }
 
 /// The same, for an end that contracts can name.
 fn leaf_until_as<'p, K: Ending, W: Stop>(
-    alloc: Global,
+    part: Part<'p>,
     segment: &'p Segment,
     source: &Source,
     from: u64,
@@ -282,18 +326,18 @@ fn leaf_until_as<'p, K: Ending, W: Stop>(
     requires last { segment.now.end ≡ K.last }
     requires stage { last_stage (segment_in segment.now) ≡ K.stage }
     requires env { env.now ≡ K.env }
+    requires begun { part ≡ K.begun }
+    requires none { StandsFor (segment_in segment.now) env.now part nothing }
     requires ordered { IsNotAfter from to }
-    ensures { IfOk result (λ part. StandsEnough (W.decides stop.old) (segment_in segment.now) env.now part from (piece_of from to (walk_in source.now))) }
+    ensures { IfOk result (λ made. StandsEnough (W.decides stop.old) (segment_in segment.now) env.now made from (piece_of from to (walk_in source.now))) }
 {
-    let stage = segment.first_stage + segment.stages.len() as u32;
-    let part = Part::none(alloc, &segment.end, stage, env);
     if part.is_settled() {
         return Ok(part);
     }
     let mut sink = PartSink::<K> {
         part,
         segment,
-        stage,
+        stage: segment.first_stage + segment.stages.len() as u32,
         env,
         of: PhantomData,
     };
@@ -315,6 +359,15 @@ pub fn unwalked<'p>(alloc: Global, segment: &'p Segment, env: &Env) -> Part<'p>
 {
     let stage = segment.first_stage + segment.stages.len() as u32;
     Part::none(alloc, &segment.end, stage, env)
+}
+
+/// The part of no item of a whole source that is walked in order. It takes no memory.
+pub(crate) fn first_part<'p>(alloc: Global, segment: &'p Segment, env: &Env) -> Part<'p>
+    ensures stands { StandsFor (segment_in segment.now) env.now result nothing }
+    ensures kind { may_search result ≡ false }
+{
+    let stage = segment.first_stage + segment.stages.len() as u32;
+    Part::first(alloc, &segment.end, stage, env)
 }
 
 /// How a piece of a source ends.

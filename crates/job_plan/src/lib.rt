@@ -12,6 +12,7 @@
 
 mod answer;
 mod array_part;
+mod fallback;
 mod faultless;
 mod folded_piece;
 mod folded_walk;
@@ -24,6 +25,7 @@ mod leaves;
 mod lent_part;
 mod likely;
 mod links;
+mod merging;
 mod moves;
 mod named;
 mod names;
@@ -51,8 +53,9 @@ mod windows;
 
 pub use answer::Answer;
 pub use array_part::ArrayPart;
+pub use fallback::Fallback;
 pub use given::GivenWalk;
-pub use leaves::{leaf, leaf_stored, leaf_until, leaf_with, unwalked};
+pub use leaves::{leaf, leaf_in_order, leaf_stored, leaf_until, leaf_with, unwalked};
 pub use outcome::Outcome;
 pub use part::{FoldPart, Part};
 pub use plan_laws::{
@@ -64,6 +67,6 @@ pub use segment::{Fold, JobPlan, Named, Plan, Prefix, Segment, SegmentEnd};
 pub use settings::{Form, Settings};
 pub use source::Source;
 pub use sources::PlainSources;
-pub use streaming::streamed;
+pub use streaming::{streamed, streamed_in_order};
 pub use values::Values;
 pub use walks::{SplitTree, walk, walk_tree};

@@ -38,8 +38,11 @@ impl<'p> Link<'p> {
                 segment,
                 rest: SliceRest::of(slice),
             }),
-            SegmentEnd::Fold(_) | SegmentEnd::Find(_) | SegmentEnd::Array | SegmentEnd::Prefix(_) =>
-                None,
+            SegmentEnd::Fold(_)
+            | SegmentEnd::Find(_)
+            | SegmentEnd::Array
+            | SegmentEnd::Prefix(_)
+            | SegmentEnd::ExactSum => None,
         }
     }
 
@@ -209,9 +212,11 @@ fn after_links(segments: &[Segment]) -> &[Segment]
     };
     match segment.end {
         SegmentEnd::Slice(_) => after_links(later),
-        SegmentEnd::Fold(_) | SegmentEnd::Find(_) | SegmentEnd::Array | SegmentEnd::Prefix(_) => {
-            segments
-        }
+        SegmentEnd::Fold(_)
+        | SegmentEnd::Find(_)
+        | SegmentEnd::Array
+        | SegmentEnd::Prefix(_)
+        | SegmentEnd::ExactSum => { segments }
     }
 }
 
@@ -221,9 +226,11 @@ fn ends_in_slice(end: &SegmentEnd) -> bool
 {
     match end {
         SegmentEnd::Slice(_) => true,
-        SegmentEnd::Fold(_) | SegmentEnd::Find(_) | SegmentEnd::Array | SegmentEnd::Prefix(_) => {
-            false
-        }
+        SegmentEnd::Fold(_)
+        | SegmentEnd::Find(_)
+        | SegmentEnd::Array
+        | SegmentEnd::Prefix(_)
+        | SegmentEnd::ExactSum => { false }
     }
 }
 

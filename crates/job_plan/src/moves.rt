@@ -49,6 +49,7 @@ fn comes_first(stages: &[Stage], end: &SegmentEnd) -> bool
         | SegmentEnd::Fold(_)
         | SegmentEnd::Find(_)
         | SegmentEnd::Array
+        | SegmentEnd::ExactSum
         | SegmentEnd::Prefix(_) => false,
     }
 }
@@ -191,6 +192,7 @@ impl<'c> JobPlan<'c> {
             likely_size: _,
             sources,
             segments,
+            fallback,
         } = self;
         let segments = with_slices_first(alloc, segments)?;
         let likely_size = likely_size(&sources, &segments, before);
@@ -200,6 +202,7 @@ impl<'c> JobPlan<'c> {
             likely_size,
             sources,
             segments,
+            fallback,
         })
     }
 }

@@ -1,7 +1,12 @@
 //! What a segment gives.
 
+ghost use Rattle.std.specs.Prelude.{◌≡◌};
+ghost use Rattle.job_plan.specs.Walks.{exact_answer, found_answer};
+
 use crate::answer::Answer;
 use crate::given::GivenWalk;
+use find_ops::Found;
+use trace::Fault;
 
 /// What a segment makes of its source.
 #[derive(Drop)]
@@ -11,4 +16,25 @@ pub enum Outcome<'a> {
     Source(GivenWalk<'a>),
     /// Of the last segment: the answer of the job.
     Answer(Answer),
+}
+
+/// What a find or a match answers.
+pub(crate) fn answer_of(found: Result<Found, Fault>) -> Answer
+    ensures { result ≡ found_answer found }
+{
+    match found {
+        Ok(Found::Value(value)) => Answer::Optional(value),
+        Ok(Found::Truth(truth)) => Answer::Truth(truth),
+        Err(fault) => Answer::Fault(fault),
+    }
+}
+
+/// What an exact sum answers.
+pub(crate) fn exact_answer(sum: Result<i64, Fault>) -> Answer
+    ensures { result ≡ exact_answer sum }
+{
+    match sum {
+        Ok(sum) => Answer::Number(sum),
+        Err(fault) => Answer::Fault(fault),
+    }
 }

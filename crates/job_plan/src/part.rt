@@ -1,30 +1,31 @@
 //! What a piece of a segment's source gives to the end of the segment.
 
 ghost use Rattle.batch_eval.specs.Batches.{flagged_values};
-ghost use Rattle.std.specs.Prelude.{◌≡◌, ◌<◌, ◌≤◌, ℕ, ℤ, Bool, false, true, List, [], ◌∷◌, length, map, Option, IfOk, IfErr, OnOk, OnErr};
+ghost use Rattle.std.specs.Prelude.{◌≡◌, ◌<◌, ◌≤◌, ℕ, ℤ, Bool, false, true, List, [], ◌∷◌, length, map, Option, Ok, IfOk, IfErr, IfNone, IfSome, OnOk, OnErr, if◌then◌else◌};
 ghost use Rattle.lambda_expr.specs.Earlier.{Numbers};
 ghost use Rattle.trace.specs.Trace.{Trace, trace, nothing, append};
 ghost use Rattle.trace.specs.declared.item.End.TheVariants as end;
 ghost use Rattle.trace.specs.declared.item.Item.{Item as item};
 ghost use Rattle.reduce_ops.specs.declared.op.Op.{Op};
-ghost use Rattle.job_plan.specs.Parts.{EndsFor, IsFold, StandsFor, end_in, is_fault, is_settled, keeps_items};
+ghost use Rattle.job_plan.specs.Parts.{EndsFor, IsFold, StandsFor, end_in, is_fault, is_running, is_settled, keeps_items, may_search};
 ghost use Rattle.job_plan.specs.Plans.{AbstractEnd, AbstractSegment, counted_as, folded, outcome_of};
-ghost use Rattle.job_plan.specs.Walks.{found_answer, unless_fault};
+ghost use Rattle.job_plan.specs.Walks.{unless_fault};
 
 use crate::answer::Answer;
 use crate::array_part::ArrayPart;
 use crate::folding::{folded, folded_flagged};
 use crate::fronts::{front, undecided};
 use crate::given::GivenWalk;
-use crate::outcome::Outcome;
+use crate::merging::{merge_arrays, merge_prefixes, merge_slices};
+use crate::outcome::{Outcome, answer_of, exact_answer};
 use crate::prefix_part::PrefixPart;
 use crate::segment::{Fold, SegmentEnd};
-use find_ops::{FindPart, FindTerminal, Found};
+use find_ops::{FindPart, FindTerminal};
 use lambda_expr::Env;
-use reduce_ops::Partial;
+use reduce_ops::{Partial, SumPart};
 use slice_ops::SlicePart;
 use std::alloc::Global;
-use trace::{Chunk, End, Fault, Item, NoMemory, SourceItems};
+use trace::{Chunk, End, Item, NoMemory, SourceItems};
 
 /// The fold of a piece.
 #[derive(Clone, Copy)]
@@ -36,7 +37,7 @@ pub struct FoldPart {
 
 /// What a piece of a segment's source gives to the end of the segment.
 ///
-/// A fold and a find have a constant size, `limit(n)` keeps `n` items at most, `takeWhile` those before the first at
+/// A fold, an exact sum and a find have a constant size, `limit(n)` keeps `n` items at most, `takeWhile` those before the first at
 /// which its test isn't true. The other slices keep all items, and `toArray` all values. A prefix keeps all items, but borrows values of the
 /// sources if no stage comes before it.
 #[derive(Drop)]
@@ -46,6 +47,7 @@ pub enum Part<'p> {
     Find(FindPart),
     Array(ArrayPart),
     Prefix(PrefixPart<'p>),
+    Exact(SumPart),
 }
 
 impl FoldPart {
@@ -150,6 +152,18 @@ impl<'p> Part<'p> {
             SegmentEnd::Find(find) => Part::Find(FindPart::none(find, End::Done)),
             SegmentEnd::Array => Part::Array(ArrayPart::none(alloc)),
             SegmentEnd::Prefix(prefix) => Part::Prefix(PrefixPart::none(alloc, *prefix, stage)),
+            SegmentEnd::ExactSum => Part::Exact(SumPart::none()),
+        }
+    }
+
+    /// The part of no item of a walk that goes over a whole source in order. It takes no memory.
+    pub(crate) fn first(alloc: Global, end: &'p SegmentEnd, stage: u32, env: &Env) -> Part<'p>
+        ensures stands { EndsFor (end_in end.now) stage env.now result nothing }
+        ensures kind { may_search result ≡ false }
+    {
+        match end {
+            SegmentEnd::ExactSum => Part::Exact(SumPart::first()),
+            other => Part::none(alloc, other, stage, env),
         }
     }
 
@@ -167,6 +181,7 @@ impl<'p> Part<'p> {
         ensures ok { OnOk result ((t : Trace) → EndsFor (end_in close.now) stage env.now self.old t
             → EndsFor (end_in close.now) stage env.now self.new (append t (trace (item ∷ []) end.Done))) }
         ensures err { OnErr result (self.new ≡ self.old) }
+        ensures kind { may_search self.new ≡ may_search self.old }
     {
         match self {
             Part::Slice(part) => part.push(env, item),
@@ -182,6 +197,10 @@ impl<'p> Part<'p> {
             }
             Part::Array(part) => part.push_all(&[item.value]),
             Part::Prefix(part) => part.push(item),
+            Part::Exact(part) => {
+                part.push(stage, item);
+                Ok(())
+            }
         }
     }
 
@@ -204,6 +223,7 @@ impl<'p> Part<'p> {
             → EndsFor (end_in close.now) stage env.now self.new (append t (trace (I.items source.now) end.Done))) }
         ensures err { OnErr result (self.new ≡ self.old) }
         ensures refused { OnErr result (0 < length (I.items source.now)) }
+        ensures kind { may_search self.new ≡ may_search self.old }
     {
         match self {
             Part::Slice(part) => {
@@ -223,6 +243,10 @@ impl<'p> Part<'p> {
             }
             Part::Array(part) => part.push_all(values),
             Part::Prefix(part) => part.push_all(source, values),
+            Part::Exact(part) => {
+                part.push_all(stage, source, values);
+                Ok(())
+            }
         }
     }
 
@@ -232,7 +256,7 @@ impl<'p> Part<'p> {
         match self {
             Part::Fold(part) => part.partial.op().identity().is_some(),
             Part::Find(_) => matches!(close, SegmentEnd::Find(FindTerminal::First)),
-            Part::Slice(_) | Part::Array(_) | Part::Prefix(_) => false,
+            Part::Slice(_) | Part::Array(_) | Part::Prefix(_) | Part::Exact(_) => false,
         }
     }
 
@@ -245,17 +269,21 @@ impl<'p> Part<'p> {
             → EndsFor e stage env self.old t → EndsFor e stage env self.new (append t (trace xs end.Done)) }
         ensures open { is_settled self.new ≡ false }
         ensures other { result ≡ false → self.new ≡ self.old }
+        ensures kind { may_search self.new ≡ may_search self.old }
     {
         match self {
             Part::Fold(part) => part.push_flagged(values, flags),
-            Part::Slice(_) | Part::Find(_) | Part::Array(_) | Part::Prefix(_) => false,
+            Part::Slice(_) | Part::Find(_) | Part::Array(_) | Part::Prefix(_) | Part::Exact(_) => {
+                false
+            }
         }
     }
 
     /// Ends the piece so, unless it is settled. It takes no memory.
     pub(crate) fn end_with(&mut self, ending: End)
-        ensures { (e : AbstractEnd) (stage : ℕ) (env : Numbers) (t : Trace) → EndsFor e stage env self.old t
+        ensures stands { (e : AbstractEnd) (stage : ℕ) (env : Numbers) (t : Trace) → EndsFor e stage env self.old t
             → EndsFor e stage env self.new (append t (trace [] ending)) }
+        ensures kind { may_search self.new ≡ may_search self.old }
     {
         match self {
             Part::Slice(part) => part.end_with(ending),
@@ -263,6 +291,7 @@ impl<'p> Part<'p> {
             Part::Find(part) => *part = part.end_with(ending),
             Part::Array(part) => part.end_with(ending),
             Part::Prefix(part) => part.end_with(ending),
+            Part::Exact(part) => part.end_with(ending),
         }
     }
 
@@ -276,6 +305,17 @@ impl<'p> Part<'p> {
             Part::Find(part) => part.is_decided(),
             Part::Array(part) => is_fault(part.end()),
             Part::Prefix(part) => is_fault(part.end()),
+            Part::Exact(part) => part.is_settled(),
+        }
+    }
+
+    /// Whether the part settles what the segment gives, also for a piece that doesn't begin at the first item.
+    pub fn settles(&self) -> bool
+        ensures { result ≡ (if is_running self.now then false else is_settled self.now) }
+    {
+        match self {
+            Part::Exact(part) => !part.is_running() && part.is_settled(),
+            _ => self.is_settled(),
         }
     }
 
@@ -301,69 +341,31 @@ impl<'p> Part<'p> {
             },
             Part::Array(left) => merge_arrays(left, right),
             Part::Prefix(left) => merge_prefixes(left, right),
+            Part::Exact(left) => match right {
+                Part::Exact(right) => Ok(Part::Exact(left.merge(right))),
+                _ => Ok(Part::Exact(left)),
+            },
         }
     }
 
-    /// What the segment gives. Only the values of an array in several pieces take memory, 8 bytes each.
-    pub fn finish(self, alloc: Global, env: &Env) -> Result<Outcome<'p>, NoMemory>
-        ensures { IfOk result (λ outcome. (s : AbstractSegment) (t : Trace) → StandsFor s env.now self.entry t
-            → outcome ≡ outcome_of s env.now t) }
+    /// What the segment gives. `None` if the source has to be walked once more, in order. Only the values of an array in several
+    /// pieces take memory, 8 bytes each.
+    pub fn finish(self, alloc: Global, env: &Env) -> Result<Option<Outcome<'p>>, NoMemory>
+        ensures some { IfOk result (λ found. IfSome found (λ outcome. (s : AbstractSegment) (t : Trace) → StandsFor s env.now self.entry t
+            → outcome ≡ outcome_of s env.now t)) }
+        ensures none { IfOk result (λ found. IfNone found (may_search self.entry ≡ true)) }
     {
         match self {
-            Part::Slice(part) => Ok(Outcome::Source(GivenWalk::of(alloc, part.finish(env)))),
-            Part::Fold(part) => Ok(Outcome::Answer(part.finish())),
-            Part::Find(part) => Ok(Outcome::Answer(answer_of(part.finish()))),
-            Part::Array(part) => Ok(Outcome::Answer(part.finish(alloc)?)),
-            Part::Prefix(part) => Ok(Outcome::Source(part.finish(alloc)?)),
+            Part::Slice(part) => Ok(Some(Outcome::Source(GivenWalk::of(alloc, part.finish(env))))),
+            Part::Fold(part) => Ok(Some(Outcome::Answer(part.finish()))),
+            Part::Find(part) => Ok(Some(Outcome::Answer(answer_of(part.finish())))),
+            Part::Array(part) => Ok(Some(Outcome::Answer(part.finish(alloc)?))),
+            Part::Prefix(part) => Ok(Some(Outcome::Source(part.finish(alloc)?))),
+            Part::Exact(part) => match part.finish() {
+                Some(sum) => Ok(Some(Outcome::Answer(exact_answer(sum)))),
+                None => Ok(None),
+            },
         }
-    }
-}
-
-/// The part of two pieces side by side, the left one of a slice.
-fn merge_slices<'p>(left: SlicePart<'p>, right: Part<'p>) -> Result<Part<'p>, (Part<'p>, Part<'p>)>
-    ensures ok { IfOk result (λ part. (s : AbstractSegment) (env : Numbers) (a b : Trace) → StandsFor s env (Part.Slice left.entry) a
-        → StandsFor s env right.entry b → StandsFor s env part (append a b)) }
-    ensures err { IfErr result (λ parts. (parts.0 ≡ Part.Slice left.entry) × (parts.1 ≡ right.entry)) }
-{
-    match right {
-        Part::Slice(right) => match left.join(right) {
-            Ok(part) => Ok(Part::Slice(part)),
-            Err((left, right)) => Err((Part::Slice(left), Part::Slice(right))),
-        },
-        _ => Ok(Part::Slice(left)),
-    }
-}
-
-/// The part of two pieces side by side, the left one of an array.
-fn merge_arrays<'p>(mut left: ArrayPart, right: Part<'p>) -> Result<Part<'p>, (Part<'p>, Part<'p>)>
-    ensures ok { IfOk result (λ part. (s : AbstractSegment) (env : Numbers) (a b : Trace) → StandsFor s env (Part.Array left) a
-        → StandsFor s env right.entry b → StandsFor s env part (append a b)) }
-    ensures err { IfErr result (λ parts. (parts.0 ≡ Part.Array left) × (parts.1 ≡ right.entry)) }
-{
-    match right {
-        Part::Array(right) => match left.append(right) {
-            Ok(()) => Ok(Part::Array(left)),
-            Err(right) => Err((Part::Array(left), Part::Array(right))),
-        },
-        _ => Ok(Part::Array(left)),
-    }
-}
-
-/// The part of two pieces side by side, the left one of a prefix.
-fn merge_prefixes<'p>(
-    mut left: PrefixPart<'p>,
-    right: Part<'p>,
-) -> Result<Part<'p>, (Part<'p>, Part<'p>)>
-    ensures ok { IfOk result (λ part. (s : AbstractSegment) (env : Numbers) (a b : Trace) → StandsFor s env (Part.Prefix left.entry) a
-        → StandsFor s env right.entry b → StandsFor s env part (append a b)) }
-    ensures err { IfErr result (λ parts. (parts.0 ≡ Part.Prefix left.entry) × (parts.1 ≡ right.entry)) }
-{
-    match right {
-        Part::Prefix(right) => match left.append(right) {
-            Ok(()) => Ok(Part::Prefix(left)),
-            Err(right) => Err((Part::Prefix(left), Part::Prefix(right))),
-        },
-        _ => Ok(Part::Prefix(left)),
     }
 }
 
@@ -385,15 +387,4 @@ fn is_fault(end: End) -> bool
     ensures { result ≡ is_fault end }
 {
     matches!(end, End::Fault(_))
-}
-
-/// What a find or a match answers.
-fn answer_of(found: Result<Found, Fault>) -> Answer
-    ensures { result ≡ found_answer found }
-{
-    match found {
-        Ok(Found::Value(value)) => Answer::Optional(value),
-        Ok(Found::Truth(truth)) => Answer::Truth(truth),
-        Err(fault) => Answer::Fault(fault),
-    }
 }

@@ -6,6 +6,7 @@ ghost use Rattle.job_language.specs.Jobs.{AbstractJobStage, AbstractTerminal, jo
 ghost use Rattle.job_plan.specs.Parts.{end_in, plan_in, plan_names, plans_in, segment_in, segments_in};
 ghost use Rattle.job_plan.specs.Plans.{end_of, plan_of, plans_of, segments_from};
 
+use crate::fallback::fallback_of;
 use crate::likely::likely_size;
 use crate::names::named_in;
 use crate::segment::{Fold, JobPlan, Plan, Prefix, Segment, SegmentEnd};
@@ -41,7 +42,9 @@ impl<'c> JobPlan<'c> {
             sources,
             stages,
             terminal,
+            on_fault,
         } = job;
+        let fallback = fallback_of(&terminal, on_fault);
         let segments = cut(alloc, stages, terminal)?;
         let likely_size = likely_size(&sources, &segments, before);
         Ok(JobPlan {
@@ -50,6 +53,7 @@ impl<'c> JobPlan<'c> {
             likely_size,
             sources,
             segments,
+            fallback,
         })
     }
 }
@@ -68,6 +72,7 @@ impl SegmentEnd {
             Terminal::ReduceFrom { identity, op } => folding(op, Some(identity), false),
             Terminal::ToArray => SegmentEnd::Array,
             Terminal::Find(find) => SegmentEnd::Find(find),
+            Terminal::ExactSum => SegmentEnd::ExactSum,
         }
     }
 }

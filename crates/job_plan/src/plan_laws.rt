@@ -10,7 +10,7 @@ ghost use Rattle.job_plan.specs.Pieces.{piece_of};
 ghost use Rattle.job_plan.specs.PlannedAnswers.{planned_meaning};
 ghost use Rattle.job_plan.specs.Plans.{AbstractPlan, AbstractSegment, plan_of, plans_of, planned_answer, segments_answer};
 ghost use Rattle.job_plan.specs.Spans.{IsNotAfter};
-ghost use Rattle.job_plan.specs.Walks.{answer_of_job};
+ghost use Rattle.job_plan.specs.Walks.{answer_of_job, instead_of_fault};
 ghost use Rattle.job_plan.specs.Windows.{later_segments, selected_walk};
 
 /// The segments of a job, in turn, give the answer of its walk by stages.
@@ -25,10 +25,11 @@ pub fn later_segments_give_the_answers()
     ensures { (env : Numbers) (segments : List AbstractSegment) (t : Trace) → segments_answer (later_segments segments) env (selected_walk segments t) ≡ segments_answer segments env t }
 {}
 
-/// The segments after the slices that a walk goes through, over what those slices make of it, give the answer of the job.
+/// The segments after the slices that a walk goes through, over what those slices make of it, give the answer of the job, or the
+/// fault that its fallback replaces.
 #[tactic(auto, using(crate::proofs::LinkLemmas::walked_answer))]
 pub fn walked_segments_give_the_answers()
-    ensures { (env : Numbers) (plan : AbstractPlan) → segments_answer (walked_segments plan) env (walked_source env plan) ≡ planned_answer env plan }
+    ensures { (env : Numbers) (plan : AbstractPlan) → instead_of_fault plan.fallback (segments_answer (walked_segments plan) env (walked_source env plan)) ≡ planned_answer env plan }
 {}
 
 /// The jobs of a file, in segments and with the jobs that they name by their places, have the answers of the file.

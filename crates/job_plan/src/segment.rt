@@ -2,6 +2,7 @@
 
 ghost use Rattle.std.specs.Prelude.{◌+◌, ◌<◌, ◌^◌, length};
 
+use crate::fallback::Fallback;
 use find_ops::FindTerminal;
 use job_language::PlainSource;
 use reduce_ops::Op;
@@ -40,6 +41,8 @@ pub enum SegmentEnd {
     Array,
     /// `prefix`.
     Prefix(Prefix),
+    /// `reduce(0, Math::addExact)`.
+    ExactSum,
 }
 
 /// Stages that look at one item at a time, and what ends them.
@@ -79,6 +82,8 @@ pub struct JobPlan<'c> {
     pub likely_size: u64,
     pub sources: Vec<PlainSource<'c>>,
     pub segments: Vec<Segment>,
+    /// What it gives in place of a fault, if anything.
+    pub fallback: Option<Fallback>,
 }
 
 /// The jobs of a file in segments, in file order.

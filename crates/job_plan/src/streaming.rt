@@ -1,12 +1,12 @@
 //! A walk through slices into the part of the segment after them, a stretch of positions at a time. It keeps no more than a stretch.
 
-ghost use Rattle.std.specs.Prelude.{◌≡◌, ◌<◌, IfOk};
-ghost use Rattle.trace.specs.Trace.{Trace, append};
+ghost use Rattle.std.specs.Prelude.{◌≡◌, ◌<◌, false, IfOk};
+ghost use Rattle.trace.specs.Trace.{Trace, append, nothing};
 ghost use Rattle.job_plan.specs.Links.{first_links, linked};
-ghost use Rattle.job_plan.specs.Parts.{StandsFor, segment_in, segments_in, walk_in};
+ghost use Rattle.job_plan.specs.Parts.{StandsFor, may_search, segment_in, segments_in, walk_in};
 
 use crate::given::{GivenWalk, items_in};
-use crate::leaves::{leaf_copied, unwalked};
+use crate::leaves::{first_part, leaf_from, unwalked};
 use crate::links::Links;
 use crate::part::Part;
 use crate::segment::Segment;
@@ -45,23 +45,20 @@ fn merged<'p>(
     env: &Env,
     registers: &mut Registers,
 ) -> Result<Part<'p>, NoMemory>
-    ensures { IfOk result (λ merged. (before : Trace) → StandsFor (segment_in segment.now) env.now part.entry before
+    ensures stands { IfOk result (λ merged. (before : Trace) → StandsFor (segment_in segment.now) env.now part.entry before
         → StandsFor (segment_in segment.now) env.now merged (append before walk)) }
+    ensures kind { IfOk result (λ merged. may_search merged ≡ may_search part.entry) }
 {
     let given = GivenWalk::of(alloc, walk);
-    let right = leaf_copied(
-        alloc,
+    leaf_from(
+        part,
         segment,
         &Source::of_given(&given),
         0,
         None,
         env,
         registers,
-    )?;
-    match part.merge(right) {
-        Ok(merged) => Ok(merged),
-        Err(_parts) => Err(NoMemory),
-    }
+    )
 }
 
 /// The part of a segment after slices: the whole walk of a source goes through the first of these segments, as far as they end in
@@ -76,10 +73,44 @@ pub fn streamed<'p>(
 ) -> Result<Part<'p>, NoMemory>
     ensures { IfOk result (λ part. StandsFor (segment_in last.now) env.now part (linked (first_links (segments_in segments.now)) env.now (walk_in source.now))) }
 {
+    let none = unwalked(alloc, last, env);
+    streamed_from(alloc, none, segments, last, source, env, registers)
+}
+
+/// The same, of a walk that never has to be done once more.
+pub fn streamed_in_order<'p>(
+    alloc: Global,
+    segments: &'p [Segment],
+    last: &'p Segment,
+    source: &Source,
+    env: &Env,
+    registers: &mut Registers,
+) -> Result<Part<'p>, NoMemory>
+    ensures stands { IfOk result (λ part. StandsFor (segment_in last.now) env.now part (linked (first_links (segments_in segments.now)) env.now (walk_in source.now))) }
+    ensures kind { IfOk result (λ part. may_search part ≡ false) }
+{
+    let none = first_part(alloc, last, env);
+    streamed_from(alloc, none, segments, last, source, env, registers)
+}
+
+/// The same, from the part of no item.
+fn streamed_from<'p>(
+    alloc: Global,
+    none: Part<'p>,
+    segments: &'p [Segment],
+    last: &'p Segment,
+    source: &Source,
+    env: &Env,
+    registers: &mut Registers,
+) -> Result<Part<'p>, NoMemory>
+    requires none { StandsFor (segment_in last.now) env.now none nothing }
+    ensures stands { IfOk result (λ part. StandsFor (segment_in last.now) env.now part (linked (first_links (segments_in segments.now)) env.now (walk_in source.now))) }
+    ensures kind { IfOk result (λ part. may_search part ≡ may_search none.entry) }
+{
     let Some(mut links) = Links::of(alloc, segments)? else {
-        return leaf_copied(alloc, last, source, 0, None, env, registers);
+        return leaf_from(none, last, source, 0, None, env, registers);
     };
-    let mut part = unwalked(alloc, last, env);
+    let mut part = none;
     let size = source.size();
     let mut stretch = FIRST_STRETCH;
     let mut position = 0;

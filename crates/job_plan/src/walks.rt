@@ -7,7 +7,7 @@ ghost use Rattle.job_plan.specs.Pieces.{piece_of};
 ghost use Rattle.job_plan.specs.Plans.{outcome_of, planned_answer, segments_answer};
 
 use crate::answer::Answer;
-use crate::leaves::leaf_with;
+use crate::leaves::{leaf_in_order, leaf_with};
 use crate::outcome::Outcome;
 use crate::part::Part;
 use crate::segment::{JobPlan, Segment};
@@ -38,14 +38,15 @@ pub fn walk_tree(
     ensures { IfOk result (λ answer. answer ≡ planned_answer env.now (plan_in job.now)) }
 {
     let mut registers = Registers::new(alloc);
-    walk_segments(
+    let given = walk_segments(
         alloc,
         job.later_segments(),
         &Source::of_selected(job),
         tree,
         env,
         &mut registers,
-    )
+    )?;
+    Ok(job.without_fault(given))
 }
 
 /// The answer of a job, each segment in one piece.
@@ -94,8 +95,14 @@ fn walk_segment<'p>(
     ensures { IfOk result (λ outcome. outcome ≡ outcome_of (segment_in segment.now) env.now (walk_in source.now)) }
 {
     let part = walk_piece(alloc, segment, source, 0, None, tree, env, registers)?;
-    let outcome = part.finish(alloc, env)?;
-    Ok(outcome)
+    if let Some(outcome) = part.finish(alloc, env)? {
+        return Ok(outcome);
+    }
+    let part = leaf_in_order(alloc, segment, source, env, registers)?;
+    match part.finish(alloc, env)? {
+        Some(outcome) => Ok(outcome),
+        None => Ok(Outcome::Answer(Answer::Number(0))),
+    }
 }
 
 /// The part of the items at these positions, in the pieces of a tree.

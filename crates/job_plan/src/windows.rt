@@ -62,8 +62,11 @@ impl Window {
     {
         match end {
             SegmentEnd::Slice(slice) => self.sliced(slice),
-            SegmentEnd::Fold(_) | SegmentEnd::Find(_) | SegmentEnd::Array | SegmentEnd::Prefix(_) =>
-                self,
+            SegmentEnd::Fold(_)
+            | SegmentEnd::Find(_)
+            | SegmentEnd::Array
+            | SegmentEnd::Prefix(_)
+            | SegmentEnd::ExactSum => self,
         }
     }
 }
@@ -88,6 +91,7 @@ fn end_selects(end: &SegmentEnd) -> bool
         | SegmentEnd::Fold(_)
         | SegmentEnd::Find(_)
         | SegmentEnd::Array
+        | SegmentEnd::ExactSum
         | SegmentEnd::Prefix(_) => false,
     }
 }

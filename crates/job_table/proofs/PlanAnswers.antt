@@ -1,5 +1,5 @@
 -- The segments of a plan, from the first to the one that gives the answer.
-use Rattle.std.proofs.Common.{◌≡◌, ℕ, zero, suc, ◌<◌, ◌≤◌, pos, List, [], ◌∷◌, length, Option, Some, None, slice_get, get_or, ap, sym, ◌∙◌, refl, arith}
+use Rattle.std.proofs.Common.{◌≡◌, ℕ, zero, suc, ◌<◌, ◌≤◌, pos, List, [], ◌∷◌, length, Option, Some, None, slice_get, get_or, ap, sym, subst, ◌∙◌, refl, arith}
 use Rattle.lambda_expr.specs.Earlier.{Numbers}
 use Rattle.trace.specs.Trace.{Trace}
 use Rattle.job_plan.specs.declared.answer.Answer.{Answer}
@@ -9,7 +9,7 @@ use Rattle.job_plan.specs.declared.outcome.Outcome.TheVariants as outcome
 use Rattle.job_plan.specs.declared.segment.JobPlan.{JobPlan}
 use Rattle.job_plan.specs.declared.segment.Segment.{Segment}
 use Rattle.job_plan.specs.Parts.{plan_in, plans_in, segment_in, segments_in}
-use Rattle.job_plan.specs.Plans.{AbstractEnd, slicing, folding, finding, collecting, scanning, AbstractSegment, ended, last_stage, walk_of, on_outcome, outcome_of, segments_answer}
+use Rattle.job_plan.specs.Plans.{AbstractEnd, slicing, folding, finding, collecting, exactly, scanning, AbstractSegment, ended, last_stage, walk_of, on_outcome, outcome_of, segments_answer}
 use Rattle.job_table.specs.PlanSegments.{given_walk, one_more, plan_at, slices_first, source_at}
 
 -- the answer that a segment gives; of one that gives a walk, and of none, it is 0
@@ -32,6 +32,7 @@ module _ (env : Numbers) where
   ends_there (folding g a counts) f same n w s ss t is later = sym (ap given_answer (is ∙ ap (λ e. ended e n env w) same))
   ends_there (finding d) f same n w s ss t is later = sym (ap given_answer (is ∙ ap (λ e. ended e n env w) same))
   ends_there collecting f same n w s ss t is later = sym (ap given_answer (is ∙ ap (λ e. ended e n env w) same))
+  ends_there exactly f same n w s ss t is later = sym (ap given_answer (is ∙ ap (λ e. ended e n env w) same))
   ends_there (scanning g r) f same n w s ss t is later =
       let o = is ∙ ap (λ e. ended e n env w) same in
       later (given_walk (ended (scanning g r) n env w)) ∙ ap (λ (x : Outcome). answer_at (slice_get ss (slices_first ss)) (source_at env (slices_first ss) ss (given_walk x))) (sym o)
@@ -54,12 +55,22 @@ more_than (slicing d) k n h = omega arith
 more_than (folding f a counts) k n h = absurd (omega arith)
 more_than (finding d) k n h = absurd (omega arith)
 more_than collecting k n h = absurd (omega arith)
+more_than exactly k n h = absurd (omega arith)
 more_than (scanning g r) k n h = omega arith
 
 pub stands_there : (ss : List AbstractSegment) (k : ℕ) → k < slices_first ss → slice_get ss k ≡ None → ⊥
 stands_there [] k h e = omega arith
 stands_there (s ∷ ss) zero h e = let z : Some s ≡ None = e in cc
 stands_there (s ∷ ss) (suc k) h e = stands_there ss k (more_than s.ending k (slices_first ss) h) e
+
+-- before the answer no segment ends in an exact sum
+pub not_exact : (ss : List AbstractSegment) (k : ℕ) (s : AbstractSegment) → k < slices_first ss → slice_get ss k ≡ Some s → s.ending ≡ exactly → ⊥
+not_exact [] k s h e x = omega arith
+not_exact (r ∷ ss) zero s h e x =
+    let same : r ≡ s = (let z : Some r ≡ Some s = e in cc) in
+    let none : 0 < one_more exactly (slices_first ss) = subst (λ (d : AbstractEnd). 0 < one_more d (slices_first ss)) (ap (λ (q : AbstractSegment). q.ending) same ∙ x) h in
+    omega (arith, none)
+not_exact (r ∷ ss) (suc k) s h e x = not_exact ss k s (more_than r.ending k (slices_first ss) h) e x
 
 -- a segment of the program, as definitions see it
 pub segment_got : (ss : List Segment) (k : ℕ) (s : Segment) → k < length ss → s ≡ get_or ss k s → slice_get (segments_in ss) k ≡ Some (segment_in s)

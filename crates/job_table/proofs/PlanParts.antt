@@ -9,17 +9,19 @@ use Rattle.std.proofs.lemmas.List.{length-take}
 use Rattle.early_stop.specs.Decisive.{Decides}
 use Rattle.early_stop.specs.Leaving.{IsEnough}
 use Rattle.early_stop.proofs.Leaving.{enough_as, enough_gives, enough_joined, enough_left}
-use Rattle.job_plan.specs.Parts.{StandsEnough, StandsFor, is_settled}
+use Rattle.job_plan.specs.Parts.{StandsEnough, StandsFor, is_running, is_settled, may_search}
 use Rattle.job_plan.proofs.Elements.{length_dropped}
 use Rattle.job_plan.proofs.EnoughLemmas.{whole_enough}
+use Rattle.job_plan.proofs.ExactLemmas.{other_ends}
 use Rattle.job_plan.proofs.SettleLemmas.{settled_decides}
 use Rattle.job_plan.specs.Pieces.{piece_of}
-use Rattle.job_plan.specs.Plans.{AbstractSegment, AbstractPlan, outcome_of, planned_answer, segments_answer}
+use Rattle.job_plan.specs.Plans.{AbstractSegment, AbstractPlan, last_stage, outcome_of, walk_of, planned_answer, segments_answer}
+use Rattle.job_plan.specs.Walks.{instead_of_fault}
 use Rattle.job_plan.specs.Spans.{IsNotAfter}
 use Rattle.job_plan.proofs.SideBySide.{pieces_joined, whole_piece}
 use Rattle.job_plan.proofs.LinkLemmas.{walked_answer}
 use Rattle.job_table.specs.PlanSegments.{AbstractChain, PartStands, chain_of, given_by, given_walk, gives_at, piece_between, size_at, slices_first, upto, walk_at, walk_size}
-use Rattle.job_table.proofs.PlanAnswers.{answer_at, answer_there, given_answer, goes_on, stands_there}
+use Rattle.job_table.proofs.PlanAnswers.{answer_at, answer_there, given_answer, goes_on, not_exact, stands_there}
 
 upto_middle : (size middle : ℕ) → middle < size → upto size middle ≡ Some middle
 upto_middle size middle h = ap (λ (b : Bool). if b then None else Some middle) (ne_eqb middle size (λ e. omega arith))
@@ -97,12 +99,12 @@ left_stands chain segment from to p c h ok stands = by (slice_get chain.segments
     by (Some s) d a = (nothing, enough_left (Decides (outcome_of s chain.numbers) (walk_at chain segment)) from c (piece_between (size_at chain segment) from to (walk_at chain segment)) nothing d h, a)
 
 -- after a settled part nothing matters
-pub part_decides : (chain : AbstractChain) (segment from to : ℕ) (p : Part) → from ≤ to → to < size_at chain segment → is_settled p ≡ true → PartStands chain segment from to p → Decides (gives_at chain segment) (walk_at chain segment) to
-part_decides chain segment from to p h w settled stands = by (slice_get chain.segments segment) stands
+pub part_decides : (chain : AbstractChain) (segment from to : ℕ) (p : Part) → from ≤ to → to < size_at chain segment → is_settled p ≡ true → is_running p ≡ false → PartStands chain segment from to p → Decides (gives_at chain segment) (walk_at chain segment) to
+part_decides chain segment from to p h w settled after stands = by (slice_get chain.segments segment) stands
   where
     by : (o : Option AbstractSegment) → IfSome o (λ s. StandsEnough (Decides (outcome_of s chain.numbers) (walk_at chain segment)) s chain.numbers p from (piece_between (size_at chain segment) from to (walk_at chain segment))) → Decides (given_by chain.numbers o) (walk_at chain segment) to
     by None a = λ t b. refl
-    by (Some s) a = let fits = size_within chain segment in settled_decides s chain.numbers p (walk_at chain segment) from to h (omega arith) settled
+    by (Some s) a = let fits = size_within chain segment in settled_decides s chain.numbers p (walk_at chain segment) from to h (omega arith) settled after
         (subst (λ (o : Option ℕ). StandsEnough (Decides (outcome_of s chain.numbers) (walk_at chain segment)) s chain.numbers p from (piece_of from o (walk_at chain segment))) (upto_middle (size_at chain segment) to w) a)
 
 module _ (chain : AbstractChain) (segment : ℕ) (part : Part) (o : Outcome) (ends : (s : AbstractSegment) (t : Trace) → StandsFor s chain.numbers part t → o ≡ outcome_of s chain.numbers t) where
@@ -133,6 +135,37 @@ module _ (chain : AbstractChain) (segment : ℕ) (part : Part) (o : Outcome) (en
 pub no_answer : (chain : AbstractChain) → slice_get chain.segments (slices_first chain.segments) ≡ None → answer.Number (pos 0) ≡ segments_answer chain.segments chain.numbers chain.source
 no_answer chain e = sym (answer_there chain.numbers chain.segments chain.source ∙ ap (λ (x : Option AbstractSegment). answer_at chain.numbers x (walk_at chain (slices_first chain.segments))) e)
 
+-- the part of a segment before the answer never leaves it open what it gives
+pub never_searches : (chain : AbstractChain) (segment : ℕ) (p : Part) → segment < slices_first chain.segments → PartStands chain segment 0 (size_at chain segment) p → may_search p ≡ true → ⊥
+never_searches chain segment p before stands may = by (slice_get chain.segments segment) refl stands
+  where
+    by : (x : Option AbstractSegment) → slice_get chain.segments segment ≡ x
+        → IfSome x (λ s. StandsEnough (Decides (outcome_of s chain.numbers) (walk_at chain segment)) s chain.numbers p 0 (piece_between (size_at chain segment) 0 (size_at chain segment) (walk_at chain segment))) → ⊥
+    by None e h = stands_there chain.segments segment before e
+    by (Some s) e (t, enough, h) =
+        let shut = other_ends s.ending (last_stage s) chain.numbers p (walk_of s chain.numbers t) (not_exact chain.segments segment s before e) h in
+        let z : true ≡ false = sym may ∙ shut in cc
+
+-- whether a part settles what a segment gives
+pub settles_both : (p : Part) → (if is_running p then false else is_settled p) ≡ true → (is_settled p ≡ true) × (is_running p ≡ false)
+settles_both p h = by (is_running p) h
+  where
+    by : (b : Bool) → (if b then false else is_settled p) ≡ true → (is_settled p ≡ true) × (b ≡ false)
+    by true h = absurd (let z : false ≡ true = h in cc)
+    by false h = (h, refl)
+
+-- the part of a whole walk
+pub all_stands : {F : Type 0} (chain : AbstractChain) (segment : ℕ) (s : AbstractSegment) (r : Result Part F) (env : Numbers) (w : Trace) → slice_get chain.segments segment ≡ Some s → env ≡ chain.numbers → w ≡ walk_at chain segment
+    → IfOk r (λ part. StandsFor s env part w) → IfOk r (λ part. PartStands chain segment 0 (size_at chain segment) part)
+all_stands chain segment s (Ok p) env w got alone walks h =
+    let size = size_at chain segment in
+    let t = walk_at chain segment in
+    let whole : w ≡ piece_between size 0 size t = walks ∙ sym (between_all t size) in
+    let stands = subst (λ (e : Numbers). StandsFor s e p (piece_between size 0 size t)) alone (subst (λ (u : Trace). StandsFor s env p u) whole h) in
+    subst (λ (o : Option AbstractSegment). IfSome o (λ s. StandsEnough (Decides (outcome_of s chain.numbers) t) s chain.numbers p 0 (piece_between size 0 size t))) (sym got)
+    (whole_enough s chain.numbers p (Decides (outcome_of s chain.numbers) t) 0 (piece_between size 0 size t) stands)
+all_stands chain segment s (Err e) env w got alone walks h = tt
+
 -- the end of a piece, by a test whether it is the last position
 pub upto_all : (size n to : ℕ) (u : Option ℕ) → n ≡ size → to ≡ n → u ≡ None → u ≡ upto size to
 upto_all size n to u same here e = e ∙ sym (ap (λ (b : Bool). if b then None else Some to) (eq-eqb to size (here ∙ same)))
@@ -158,8 +191,8 @@ pub any_part : (chain : AbstractChain) (segment from to : ℕ) (p : Part) → sl
 any_part chain segment from to p none_there =
     subst (λ (o : Option AbstractSegment). IfSome o (λ s. StandsEnough (Decides (outcome_of s chain.numbers) (walk_at chain segment)) s chain.numbers p from (piece_between (size_at chain segment) from to (walk_at chain segment)))) (sym none_there) tt
 
--- the segments that a run walks give the answer of the job
-pub chain_answer : (env : Numbers) (plan : AbstractPlan) → segments_answer (chain_of env plan).segments env (chain_of env plan).source ≡ planned_answer env plan
+-- the segments that a run walks give the answer of the job, or the fault that its fallback replaces
+pub chain_answer : (env : Numbers) (plan : AbstractPlan) → instead_of_fault plan.fallback (segments_answer (chain_of env plan).segments env (chain_of env plan).source) ≡ planned_answer env plan
 chain_answer env plan = walked_answer env plan
 
 -- the one piece of a walk that goes through slices

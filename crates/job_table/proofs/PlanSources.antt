@@ -1,5 +1,5 @@
 -- What the first segment of a job goes over, and the answer of its last one.
-use Rattle.std.proofs.Common.{◌≡◌, ℕ, ◌+◌, ◌<◌, Bool, false, List, [], ◌∷◌, ◌++◌, Some, None, Result, Ok, Err, IfOk, length, get_or, drop, append_assoc, ap, sym, subst, ◌∙◌, refl}
+use Rattle.std.proofs.Common.{◌≡◌, ℕ, ◌+◌, ◌<◌, Bool, false, List, [], ◌∷◌, ◌++◌, Some, None, length, get_or, drop, append_assoc, ap, sym, subst, ◌∙◌, refl}
 use Rattle.std.proofs.lemmas.List.{drop_more}
 use Rattle.lambda_expr.specs.Earlier.{Numbers}
 use Rattle.job_language.specs.declared.job.PlainSource.{PlainSource}
@@ -11,7 +11,7 @@ use Rattle.job_plan.specs.declared.part.Part.{Part}
 use Rattle.job_plan.specs.declared.segment.Named.{Named}
 use Rattle.job_plan.specs.PlannedAnswers.{all_put_at, first_unusable_at, put_at, put_into}
 use Rattle.job_plan.specs.Plans.{AbstractPlan, segments_answer}
-use Rattle.job_plan.specs.Walks.{source_walk}
+use Rattle.job_plan.specs.Walks.{instead_of_fault, source_walk}
 use Rattle.job_plan.specs.Links.{first_links, linked, plan_streams, walked_segments}
 use Rattle.job_plan.specs.Windows.{later_segments, selected_source, selected_walk}
 use Rattle.job_plan.proofs.LinkLemmas.{unlinked}
@@ -48,16 +48,18 @@ module _ (plans : List AbstractPlan) (job : ℕ) (p : AbstractPlan) (same : p �
   pub same_segments : (chain_at plans job).segments ≡ walked_segments p
   same_segments = sym (ap (λ (q : AbstractPlan). walked_segments q) same)
 
-  -- the answer of a job that is walked
-  pub answered : {F : Type 0} (env : Numbers) (part : Part) (r : Result Answer F) → job < length plans → first_unusable_at (answers_before plans job) (plan_at plans job).named ≡ None → env ≡ (chain_at plans job).numbers
+  -- the answer of a job that is walked, of what its last segment gives
+  pub answered : (env : Numbers) (part : Part) (a r : Answer) → r ≡ instead_of_fault p.fallback a → job < length plans → first_unusable_at (answers_before plans job) (plan_at plans job).named ≡ None → env ≡ (chain_at plans job).numbers
       → PartStands (chain_at plans job) (slices_first (chain_at plans job).segments) 0 (size_at (chain_at plans job) (slices_first (chain_at plans job).segments)) part
-      → IfOk r (λ answer. (chain : AbstractChain) → chain.segments ≡ walked_segments p → chain.numbers ≡ env → PartStands chain (slices_first chain.segments) 0 (size_at chain (slices_first chain.segments)) part
-      → answer ≡ segments_answer chain.segments chain.numbers chain.source)
-      → IfOk r (λ answer. answer ≡ answer_of plans job)
-  answered env part (Ok a) low usable numbers stands h =
+      → ((chain : AbstractChain) → chain.segments ≡ walked_segments p → chain.numbers ≡ env → PartStands chain (slices_first chain.segments) 0 (size_at chain (slices_first chain.segments)) part
+      → a ≡ segments_answer chain.segments chain.numbers chain.source)
+      → r ≡ answer_of plans job
+  answered env part a r is low usable numbers stands h =
       let chain = chain_at plans job in
-      h chain same_segments (sym numbers) stands ∙ chain_answer chain.numbers (put_into (answers_before plans job) (plan_at plans job)) ∙ walked_answer plans job low usable
-  answered env part (Err e) low usable numbers stands h = tt
+      is
+      ∙ (λ i. instead_of_fault (same i).fallback (h chain same_segments (sym numbers) stands i))
+      ∙ chain_answer chain.numbers (put_into (answers_before plans job) (plan_at plans job))
+      ∙ walked_answer plans job low usable
 
 -- ---- sources with arrays put in
 

@@ -11,7 +11,7 @@ use Rattle.early_stop.specs.Decisive.{Decides}
 use Rattle.job_plan.specs.Parts.{StandsEnough}
 use Rattle.job_plan.specs.Pieces.{piece_of}
 use Rattle.job_plan.specs.PlannedAnswers.{numbers_at, planned_meaning, put_into}
-use Rattle.job_plan.specs.Plans.{AbstractEnd, slicing, folding, finding, collecting, scanning, AbstractSegment, AbstractPlan, outcome_of}
+use Rattle.job_plan.specs.Plans.{AbstractEnd, slicing, folding, finding, collecting, exactly, scanning, AbstractSegment, AbstractPlan, outcome_of}
 use Rattle.slice_ops.specs.Slices.{AbstractSlice, limit, skip, take_while, drop_while}
 use Rattle.job_plan.specs.Links.{plan_streams, walked_segments, walked_source}
 
@@ -28,7 +28,7 @@ chain_of env plan = record { segments = walked_segments plan; source = walked_so
 
 -- the job with this number
 abbrev pub plan_at : List AbstractPlan → ℕ → AbstractPlan
-plan_at plans job = slice_index_or plans job (record { name = []; named = []; sources = []; segments = [] })
+plan_at plans job = slice_index_or plans job (record { name = []; named = []; sources = []; segments = []; fallback = None })
 
 -- the answer of the job with this number
 abbrev pub answer_of : List AbstractPlan → ℕ → Answer
@@ -48,6 +48,7 @@ one_more (slicing d) n = suc n
 one_more (folding f a counts) n = 0
 one_more (finding d) n = 0
 one_more collecting n = 0
+one_more exactly n = 0
 one_more (scanning f r) n = suc n
 
 -- how many of the first segments end in such a stage: the number of the segment that gives the answer
@@ -114,6 +115,7 @@ end_divides (slicing d) = slice_divides d
 end_divides (folding f a counts) = true
 end_divides (finding d) = true
 end_divides collecting = true
+end_divides exactly = true
 end_divides (scanning f r) = true
 
 abbrev pub segment_divides : Option AbstractSegment → Bool

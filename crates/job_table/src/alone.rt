@@ -71,7 +71,7 @@ fn walk_alone<S: Segments, G: Gate>(
         earlier,
         &mut scratch,
     )?;
-    jobs.answer(alloc, job, part, given)
+    jobs.answer(alloc, job, part, &source, given, earlier, &mut scratch)
 }
 
 /// Works a job out after the jobs before it.

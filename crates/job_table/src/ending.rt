@@ -1,18 +1,48 @@
 //! Segments that were walked whole: the next one begins, or the job ends, and those that wait for it begin.
-ghost use Rattle.std.specs.Prelude.{◌<◌, ◌+◌, ◌++◌, ◌∷◌, [], List, ℕ, drop, length, IfSome, IfOk};
+ghost use Rattle.std.specs.Prelude.{◌≡◌, ◌<◌, ◌+◌, ◌++◌, ◌∷◌, [], List, ℕ, drop, length, IfSome, IfOk};
 ghost use Rattle.job_table.specs.Cuts.{StandsWhole};
 ghost use Rattle.job_table.specs.Tasks.{HasKept};
 ghost use Rattle.job_table.specs.Waits.{nodes_in};
 
+use crate::NoMemory;
 use crate::cut::{SegmentPart, TableKept, TablePart, TableSeat};
 use crate::earlier::Earlier;
-use crate::places::{keep_answer, keep_given, keep_source, kept_given};
+use crate::places::{keep_answer, keep_given, keep_source, kept_given, kept_source};
 use crate::segments::{Begun, Segments};
 use crate::start::Waiting;
 use crate::task::{JobSeat, Running, TableJobSeat, TableSpare, TableTask, TableWhole, Task, Whole};
 use crate::watch::Watch;
-use crate::work::{JobWork, size_of};
+use crate::work::{JobWork, TableWork, size_of};
 use worker_pool::{Gate, Spawn};
+
+/// The answer of a job, of the part of its whole last segment.
+fn last_answer<S: Segments, R: Running>(
+    work: &TableWork<S, R>,
+    job: usize,
+    segment: usize,
+    part: S::Part,
+    given: &S::Given,
+    scratch: &mut S::Scratch,
+) -> Result<S::Answer, NoMemory>
+    requires known { job < S.job_count }
+    requires last { segment ≡ S.last_of job }
+    requires given { S.is_given job given.now }
+    requires part { S.stands_for job segment 0 (S.size_of job segment) part }
+    ensures { IfOk result (λ answer. S.is_answer job answer) }
+{
+    let earlier = Earlier::in_places(&work.places);
+    if segment == 0 {
+        let source = work.jobs.first_source(job);
+        return work
+            .jobs
+            .answer(work.alloc, job, part, &source, given, &earlier, scratch);
+    }
+    let Some(source) = kept_source(&work.places, job, segment) else {
+        return Err(NoMemory);
+    };
+    work.jobs
+        .answer(work.alloc, job, part, source, given, &earlier, scratch)
+}
 
 impl<'a, S: Segments, R: Running> JobWork<'a, S, TablePart<S>, TableKept<S>, R> {
     /// Leaves what a job takes of earlier answers in its place, or its answer, if there is nothing to walk.
@@ -81,7 +111,7 @@ impl<'a, S: Segments, R: Running> JobWork<'a, S, TablePart<S>, TableKept<S>, R> 
             };
             return Ok(self.begin(gate, begun, segment + 1, size, spawn, scratch, watch, spare));
         }
-        if let Ok(answer) = self.jobs.answer(self.alloc, job, part, given) {
+        if let Ok(answer) = last_answer(self, job, segment, part, given, scratch) {
             keep_answer(&self.places, job, answer);
         }
         Err(begun)

@@ -1,8 +1,8 @@
 //! The segments of one job of a plan: how a piece is walked, and what comes of a whole segment.
-ghost use Rattle.std.specs.Prelude.{◌≡◌, ◌+◌, ◌<◌, ◌≤◌, ℕ, true, length, slice_get, IfOk, IfSome};
+ghost use Rattle.std.specs.Prelude.{◌≡◌, ◌+◌, ◌<◌, ◌≤◌, ℕ, false, true, length, slice_get, IfNone, IfOk, IfSome};
 ghost use Rattle.trace.specs.Trace.{nothing};
 ghost use Rattle.early_stop.specs.Decisive.{Decides};
-ghost use Rattle.job_plan.specs.Parts.{StandsFor, end_in, plan_in, segments_in, walk_in};
+ghost use Rattle.job_plan.specs.Parts.{StandsFor, end_in, may_search, plan_in, segments_in, walk_in};
 ghost use Rattle.job_plan.specs.Plans.{segments_answer};
 ghost use Rattle.job_plan.specs.Links.{first_links, linked, walked_segments};
 ghost use Rattle.job_plan.specs.Windows.{later_segments};
@@ -12,8 +12,8 @@ use crate::NoMemory;
 use batch_eval::Registers;
 use early_stop::Stop;
 use job_plan::{
-    Answer, ArrayPart, GivenWalk, JobPlan, Outcome, Part, Segment, SegmentEnd, Source, leaf_stored,
-    leaf_until, streamed, unwalked,
+    Answer, ArrayPart, GivenWalk, JobPlan, Outcome, Part, Segment, SegmentEnd, Source,
+    leaf_in_order, leaf_stored, leaf_until, streamed, streamed_in_order, unwalked,
 };
 use lambda_expr::Env;
 use slice_ops::Slice;
@@ -30,7 +30,7 @@ pub(crate) fn slices_first(segments: &[Segment]) -> usize
     };
     match segment.end {
         SegmentEnd::Slice(_) | SegmentEnd::Prefix(_) => slices_first(later) + 1,
-        SegmentEnd::Fold(_) | SegmentEnd::Find(_) | SegmentEnd::Array => 0,
+        SegmentEnd::Fold(_) | SegmentEnd::Find(_) | SegmentEnd::Array | SegmentEnd::ExactSum => 0,
     }
 }
 
@@ -45,6 +45,7 @@ fn end_divides(end: &SegmentEnd) -> bool
         | SegmentEnd::Fold(_)
         | SegmentEnd::Find(_)
         | SegmentEnd::Array
+        | SegmentEnd::ExactSum
         | SegmentEnd::Prefix(_) => true,
     }
 }
@@ -145,30 +146,77 @@ pub(crate) fn next_walk<'a>(
     ensures { IfOk result (λ given. (chain : AbstractChain) (segment : ℕ) → chain.numbers ≡ env.now → segment < slices_first chain.segments
         → PartStands chain segment 0 (size_at chain segment) part.entry → given ≡ walk_at chain (segment + 1)) }
 {
-    match part.finish(alloc, env)? {
+    let Some(outcome) = part.finish(alloc, env)? else {
+        return Ok(GivenWalk::of(alloc, Chunk::ending(alloc, End::Done)));
+    };
+    match outcome {
         Outcome::Source(given) => Ok(given),
         Outcome::Answer(_) => Ok(GivenWalk::of(alloc, Chunk::ending(alloc, End::Done))),
     }
 }
 
-/// The answer of a job, of the part of its whole last segment. It is 0 if there is no such segment.
+/// The part of a whole segment, whose source is walked in order, so that `last_answer` gives an answer. A segment that isn't there has a
+/// part that says nothing.
+pub(crate) fn part_in_order<'a>(
+    alloc: Global,
+    plan: &'a JobPlan,
+    segment: usize,
+    source: &Source,
+    env: &Env,
+    registers: &mut Registers,
+) -> Result<Part<'a>, NoMemory>
+    ensures stands { (chain : AbstractChain) → chain.segments ≡ walked_segments (plan_in plan.now) → chain.numbers ≡ env.now
+        → walk_in source.now ≡ walk_at chain segment → IfOk result (λ part. PartStands chain segment 0 (size_at chain segment) part) }
+    ensures kind { IfOk result (λ part. may_search part ≡ false) }
+{
+    let Some(of) = plan.walked_segments().get(segment) else {
+        return Ok(Part::Array(ArrayPart::none(alloc)));
+    };
+    leaf_in_order(alloc, of, source, env, registers)
+}
+
+/// The same of the first segment, if the walk of the job's sources goes through slices before it.
+pub(crate) fn streamed_part<'a>(
+    alloc: Global,
+    plan: &'a JobPlan,
+    source: &Source,
+    env: &Env,
+    registers: &mut Registers,
+) -> Result<Part<'a>, NoMemory>
+    ensures stands { (chain : AbstractChain) → chain.segments ≡ walked_segments (plan_in plan.now) → chain.numbers ≡ env.now → chain.streams ≡ true
+        → linked (first_links (later_segments (plan_in plan.now).segments)) env.now (walk_in source.now) ≡ chain.source
+        → IfOk result (λ part. PartStands chain 0 0 0 part) }
+    ensures kind { IfOk result (λ part. may_search part ≡ false) }
+{
+    let Some(first) = plan.walked_segments().get(0) else {
+        return Ok(Part::Array(ArrayPart::none(alloc)));
+    };
+    streamed_in_order(alloc, plan.later_segments(), first, source, env, registers)
+}
+
+/// The answer of a job, of the part of its whole last segment. It is 0 if there is no such segment. `None` if the source of the segment
+/// has to be walked once more, in order.
 pub(crate) fn last_answer(
     alloc: Global,
     plan: &JobPlan,
     part: Part<'_>,
     env: &Env,
-) -> Result<Answer, NoMemory>
-    ensures { IfOk result (λ answer. (chain : AbstractChain) → chain.segments ≡ walked_segments (plan_in plan.now) → chain.numbers ≡ env.now
+) -> Result<Option<Answer>, NoMemory>
+    ensures some { IfOk result (λ found. IfSome found (λ answer. (chain : AbstractChain) → chain.segments ≡ walked_segments (plan_in plan.now) → chain.numbers ≡ env.now
         → PartStands chain (slices_first chain.segments) 0 (size_at chain (slices_first chain.segments)) part.entry
-        → answer ≡ segments_answer chain.segments chain.numbers chain.source) }
+        → answer ≡ segments_answer chain.segments chain.numbers chain.source)) }
+    ensures none { IfOk result (λ found. IfNone found (may_search part.entry ≡ true)) }
 {
     let segments = plan.walked_segments();
     let last = slices_first(segments);
     if last == segments.len() {
-        return Ok(Answer::Number(0));
+        return Ok(Some(Answer::Number(0)));
     }
-    match part.finish(alloc, env)? {
-        Outcome::Answer(answer) => Ok(answer),
-        Outcome::Source(_) => Ok(Answer::Number(0)),
+    let Some(outcome) = part.finish(alloc, env)? else {
+        return Ok(None);
+    };
+    match outcome {
+        Outcome::Answer(answer) => Ok(Some(answer)),
+        Outcome::Source(_) => Ok(Some(Answer::Number(0))),
     }
 }

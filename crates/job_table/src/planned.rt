@@ -1,7 +1,8 @@
 //! The jobs of a plan as segments of a run.
-ghost use Rattle.std.specs.Prelude.{◌≡◌, ◌<◌, ◌≤◌, ◌+◌, ℕ, List, [], length, slice_get, IfOk};
+ghost use Rattle.std.specs.Prelude.{◌≡◌, ◌<◌, ◌≤◌, ◌+◌, ℕ, false, List, [], length, slice_get, IfOk};
+ghost use Rattle.job_plan.specs.declared.answer.Answer.{Answer as answers};
 ghost use Rattle.job_plan.specs.declared.segment.JobPlan.{JobPlan as job_plan};
-ghost use Rattle.job_plan.specs.Parts.{plan_in, plans_in};
+ghost use Rattle.job_plan.specs.Parts.{may_search, plan_in, plans_in};
 ghost use Rattle.job_plan.specs.PlannedAnswers.{planned_meaning};
 ghost use Rattle.job_table.specs.Cuts.{IsPiece};
 ghost use Rattle.early_stop.specs.Decisive.{Decides};
@@ -16,7 +17,8 @@ use crate::earlier::EarlierAnswers;
 use crate::kept::{SegmentSource, Taken};
 use crate::plan_names::different;
 use crate::plan_parts::{
-    is_divided, last_answer, left_out, next_walk, piece, slices_first, stored_piece, streamed_piece,
+    is_divided, last_answer, left_out, next_walk, part_in_order, piece, slices_first, stored_piece,
+    streamed_part, streamed_piece,
 };
 use crate::run::run_all;
 use crate::segments::{Begun, Segments};
@@ -71,6 +73,51 @@ impl<'a, 'c, P: Planned> PlanJobs<'a, 'c, P> {
         ensures { plan_in result.now ≡ plan_at (plans_in P.jobs) job }
     {
         self.job(job)
+    }
+
+    /// The part of the last segment of a job, whose source is walked in order.
+    fn in_order<E: EarlierAnswers<Answer>>(
+        &self,
+        alloc: Global,
+        job: usize,
+        source: &SegmentSource<'a>,
+        given: &Taken,
+        earlier: &E,
+        registers: &mut Registers,
+    ) -> Result<Part<'a>, NoMemory>
+        requires job { job < length P.jobs }
+        requires source { IsKept (chain_at (plans_in P.jobs) job) (slices_first (chain_at (plans_in P.jobs) job).segments) source.now }
+        requires given { IsTaken (plans_in P.jobs) job given.now }
+        requires earlier { (j : ℕ) (a : answers) → E.is_answer j a → a ≡ answer_of (plans_in P.jobs) j }
+        ensures stands { IfOk result (λ part. PartStands (chain_at (plans_in P.jobs) job) (slices_first (chain_at (plans_in P.jobs) job).segments) 0
+            (size_at (chain_at (plans_in P.jobs) job) (slices_first (chain_at (plans_in P.jobs) job).segments)) part) }
+        ensures kind { IfOk result (λ part. may_search part ≡ false) }
+    {
+        let plan = self.job(job);
+        let env = &given.numbers;
+        match source {
+            SegmentSource::Own if plan.takes_arrays() => {
+                let own = self.own(job);
+                let sources = self.put_sources(alloc, job, own, earlier)?;
+                let source = Source::of_sources(&sources, own);
+                if plan.streams() {
+                    return streamed_part(alloc, plan, &source, env, registers);
+                }
+                part_in_order(alloc, plan, 0, &source, env, registers)
+            }
+            SegmentSource::Own => {
+                let source = Source::of_selected(plan);
+                if plan.streams() {
+                    return streamed_part(alloc, plan, &source, env, registers);
+                }
+                part_in_order(alloc, plan, 0, &source, env, registers)
+            }
+            SegmentSource::Kept(walk) => {
+                let last = slices_first(plan.walked_segments());
+                let source = Source::of_given(walk);
+                part_in_order(alloc, plan, last, &source, env, registers)
+            }
+        }
     }
 }
 
@@ -188,7 +235,7 @@ impl<'a, 'c, P: Planned> Segments for PlanJobs<'a, 'c, P> {
         _to: u64,
         part: &Part<'a>,
     ) -> bool {
-        part.is_settled()
+        part.settles()
     }
 
     fn leaf<E: EarlierAnswers<Answer>, W: Stop>(
@@ -260,14 +307,25 @@ impl<'a, 'c, P: Planned> Segments for PlanJobs<'a, 'c, P> {
         Ok(SegmentSource::Kept(next_walk(alloc, part, &given.numbers)?))
     }
 
-    fn answer(
+    fn answer<E: EarlierAnswers<Answer>>(
         &self,
         alloc: Global,
         job: usize,
         part: Part<'a>,
+        source: &SegmentSource<'a>,
         given: &Taken,
+        earlier: &E,
+        registers: &mut Registers,
     ) -> Result<Answer, NoMemory> {
-        last_answer(alloc, self.job(job), part, &given.numbers)
+        let plan = self.job(job);
+        if let Some(answer) = last_answer(alloc, plan, part, &given.numbers)? {
+            return Ok(plan.without_fault(answer));
+        }
+        let again = self.in_order(alloc, job, source, given, earlier, registers)?;
+        match last_answer(alloc, plan, again, &given.numbers)? {
+            Some(answer) => Ok(plan.without_fault(answer)),
+            None => Ok(plan.without_fault(Answer::Number(0))),
+        }
     }
 }
 

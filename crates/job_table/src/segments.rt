@@ -198,16 +198,22 @@ pub trait Segments {
         requires part { stands_for job segment 0 (size_of job segment) part }
         ensures { IfOk result (λ source. is_source job (segment + 1) source) };
 
-    /// Makes the answer of a job of the part of its whole last segment.
-    fn answer(
+    /// Makes the answer of a job of the part of its whole last segment, which may be walked once more for it. `NoMemory` also if an
+    /// answer that the job names isn't there.
+    fn answer<E: EarlierAnswers<Self::Answer>>(
         &self,
         alloc: Global,
         job: usize,
         part: Self::Part,
+        source: &Self::Source,
         given: &Self::Given,
+        earlier: &E,
+        scratch: &mut Self::Scratch,
     ) -> Result<Self::Answer, NoMemory>
         requires job { job < job_count }
+        requires source { is_source job (last_of job) source.now }
         requires given { is_given job given.now }
+        requires earlier { (j : ℕ) (answer : Self.Answer) → E.is_answer j answer → is_answer j answer }
         requires part { stands_for job (last_of job) 0 (size_of job (last_of job)) part }
         ensures { IfOk result (λ answer. is_answer job answer) };
 }

@@ -5,7 +5,7 @@ use lambda_expr::ReadFault;
 use std::alloc::Global;
 use std::test::Fail;
 
-/// The cause if `total` gives a number, `any` a boolean and `list` an array, above the job.
+/// The cause in version 2 if `total` gives a number, `any` a boolean and `list` an array, above the job.
 fn cause_in(alloc: Global, columns: &Columns, text: &[u8]) -> Option<Cause> {
     let number = EarlierJob {
         name: b"total",
@@ -21,6 +21,7 @@ fn cause_in(alloc: Global, columns: &Columns, text: &[u8]) -> Option<Cause> {
     };
     let jobs = [number, boolean, array];
     let scope = Scope {
+        version: 2,
         jobs: &jobs,
         columns,
     };
@@ -32,7 +33,7 @@ fn the_first_cause_in_order_of_writing_is_reported(rt: HostRuntime) {
     let columns = read_columns(rt.alloc(), &mut Counted::new(b"a,b c\n1,2\n".as_slice()));
     let columns = columns.unwrap_or(Columns::none());
     let well =
-        r#"s = of(1).map(x -> x + $total).reduce(0, (a, b) -> (a) + b)|s = of(1).reduce(-9223372036854775808, (long f, long g) -> Math.max(f, g))|s = column("a").limit(0).sum()|s = column("b c").skip(Long.MAX_VALUE).sum()|s = result(list).prefix(0, 0, sum).sum()|s = of(-9223372036854775808).limit(9223372036854775807).sum()|s = of(1).flatMap(x -> LongStream.range(0, x + $total)).flatMap(x -> of()).sum()"#;
+        r#"s = of(1).map(x -> x + $total).reduce(0, (a, b) -> (a) + b)|s = of(1).reduce(-9223372036854775808, (long f, long g) -> Math.max(f, g))|s = column("a").limit(0).sum()|s = column("b c").skip(Long.MAX_VALUE).sum()|s = result(list).prefix(0, 0, sum).sum()|s = of(-9223372036854775808).limit(9223372036854775807).sum()|s = of(1).flatMap(x -> LongStream.range(0, x + $total)).flatMap(x -> of()).sum()|s = of(1).reduce(0, Math::addExact)|s = of(1).reduce(0, (u, v) -> (Math.addExact(u, (v))))"#;
     let same_name = r#"list = column("z").limit(-1).sum()|any = of(1).limit(1).sum()"#;
     let unknown_column =
         r#"s = column("c").limit(-1).sum()|s = column("").limit(1).sum()|s = column("A").limit(1).sum()|s = column("a ").limit(1).sum()"#;
@@ -42,23 +43,27 @@ fn the_first_cause_in_order_of_writing_is_reported(rt: HostRuntime) {
     let bad_range = "s = of(1).prefix(3, 2, avg).sum()|s = of(1).prefix(-1, 2, sum).sum()";
     let too_large = "s = of(1, 9223372036854775808).limit(-1).sum()|\
 s = of(-9223372036854775809).limit(-1).sum()|s = of(1).limit(9223372036854775808).sum()|\
-s = of(1).prefix(3, 9223372036854775808, avg).sum()|s = of(1).limit(1).reduce(9223372036854775808, avg)";
+s = of(1).prefix(3, 9223372036854775808, avg).sum()|s = of(1).limit(1).reduce(9223372036854775808, avg)|\
+s = of(1).reduce(9223372036854775808, Math::addExact)";
     let column_9 = "s = of(1).map(x -> x +).sum()|s = of(1).filter(x -> x +).limit(-1).sum()|\
 s = of(1).flatMap(x -> of + 1).limit(-1).sum()|s = of(1).flatMap(x -> of(, x)).sum()";
     let wrong_type =
         "s = of(1).map(x -> x > 1).sum()|s = of(1).anyMatch(x -> x)|s = of(1).flatMap(x -> of(x > 1)).limit(-1).sum()";
     let not_listed =
-        "s = of(1).reduce(1, avg)|s = of(1).prefix(Math::sum).sum()|s = of(1).reduce(true)";
+        "s = of(1).reduce(Math::addExact)|s = of(1).prefix(0, 1, Math::addExact).sum()|s = of(1).reduce(1, avg)|s = of(1).prefix(Math::sum).sum()|s = of(1).reduce(true)";
     let not_listed_lambda =
         "s = of(1).reduce((a, b) -> a - b)|s = of(1).reduce(0, (a, b) -> +a + b)|\
-s = of(1).prefix((a, b) -> b + a).sum()|s = of(1).reduce((a, b) -> $z)";
+s = of(1).prefix((a, b) -> b + a).sum()|s = of(1).reduce((a, b) -> $z)|\
+s = of(1).prefix((a, b) -> Math.addExact(a, b)).sum()|s = of(1).reduce(0, (a, b) -> Math.addExact(b, a))|\
+s = of(1).reduce(0, Long::addExact)";
     let unknown_reference =
         "s = of(1).map(x -> x + $lists + $any).sum()|s = of(1).filter(x -> x > $s).sum()|\
 s = of(1).flatMap(x -> range($z, $list)).sum()";
     let not_a_number =
         "s = of(1).map(x -> $total + $any + $z).sum()|s = of(1).filter(x -> $list > 1).limit(-1).sum()|s = of(1).flatMap(x -> of(x, $any, $z)).sum()";
     let no_identity = "s = of(1).reduce(0, last)|s = of(1).reduce(1, (a, b) -> a)";
-    let not_identity = "s = of(1).reduce(1, Long::sum)|s = of(1).reduce(0, Math::min)";
+    let not_identity = "s = of(1).reduce(1, Long::sum)|s = of(1).reduce(0, Math::min)|\
+s = of(1).reduce(1, Math::addExact)|s = of(1).reduce(-1, (a, b) -> Math.addExact(a, b))";
     for (texts, cause) in [
         (well, None),
         (same_name, Some(Cause::SameName)),
@@ -85,9 +90,34 @@ s = of(1).flatMap(x -> range($z, $list)).sum()";
 }
 
 #[test]
+fn a_fallback_stands_after_a_terminal_that_gives_a_number(rt: HostRuntime) {
+    let well =
+        "s = of(1).sum().onFault(-9223372036854775808);|s = of(1).findFirst().onFault(Long.MAX_VALUE)|\
+s = of(1).reduce(0, Math::addExact).onFault(0)|s = of(1).reduce(last).onFault(0);|s = of(1).map(x -> x + $total).min() . onFault (1)";
+    let not_scalar = "s = of(1).toArray().onFault(0)|s = of(1).anyMatch(x -> x > 1).onFault(0)|\
+s = of(1).allMatch(x -> x > 1).onFault(-1);|s = of(1).noneMatch(x -> x > 1).onFault(0)";
+    let too_large =
+        "s = of(1).toArray().onFault(9223372036854775808)|s = of(1).sum().onFault(-9223372036854775809)";
+    let syntax =
+        "s = of(1).onFault(0)|s = of(1).sum().onFault(0).onFault(0)|list = of(1).sum().onFault()|\
+s = of(1).sum().onFault(1, 2)|s = of(1).sum(); .onFault(1)|s = of(1).onFault(0).sum()|s = concat(of(1), onFault(1)).sum()";
+    for (texts, cause) in [
+        (well, None),
+        (not_scalar, Some(Cause::NotScalar)),
+        (too_large, Some(Cause::Expr(ReadFault::LiteralTooLarge))),
+        (syntax, Some(Cause::Syntax)),
+    ] {
+        for text in texts.split('|') {
+            let found = cause_in(rt.alloc(), &Columns::none(), text.as_bytes());
+            assert!(rt; found == cause, "{text}");
+        }
+    }
+}
+
+#[test]
 fn each_cause_has_its_line(rt: HostRuntime) -> Result<(), Fail> {
     let texts =
-        "syntax|same name|unknown column|unknown job|not a number|not an array|negative count|not identity|no identity|operator not listed|bad range|too long|expression syntax at column 9|wrong type|unknown name|too deep|literal too large";
+        "syntax|same name|unknown column|unknown job|not a number|not an array|negative count|not identity|no identity|operator not listed|bad range|too long|not scalar|expression syntax at column 9|wrong type|unknown name|too deep|literal too large";
     let causes = [
         Cause::Syntax,
         Cause::SameName,
@@ -101,6 +131,7 @@ fn each_cause_has_its_line(rt: HostRuntime) -> Result<(), Fail> {
         Cause::OperatorNotListed,
         Cause::BadRange,
         Cause::TooLong,
+        Cause::NotScalar,
         Cause::Expr(ReadFault::Syntax { column: 9 }),
         Cause::Expr(ReadFault::WrongType),
         Cause::Expr(ReadFault::UnknownName),

@@ -100,7 +100,17 @@ a = of(1).sum()|# a comment|b = of(1).map(x -> x + $a)|  .map(x -> x + $c).sum()
 a = of(1).toArray()|b = result(a).map(x -> x).sum() => none
 a = of(1).sum()|b = of(1).map(x -> x + $a).sum(); => none
 a = column(\"b\").sum() => jobs: line 1: unknown column
- .sum()|a = of(1).sum() => jobs: line 1: syntax";
+ .sum()|a = of(1).sum() => jobs: line 1: syntax
+version 2|z = of(0).map(x -> 1 / x).sum().onFault(-1)|n = empty().min()|.onFault(9) => none
+# first||version 2|t = of(1).toArray().onFault(0) => jobs: line 4: not scalar
+s = of(1).sum().onFault(0) => jobs: line 1: syntax
+version 2|version 2 => jobs: line 2: syntax
+version 2|.sum()|a = of(1).sum() => jobs: line 2: syntax
+version 1|a = of(1).sum() => jobs: line 1: syntax
+# one|a = of(1).sum()|version 2 => jobs: line 3: syntax
+a = of(1).sum()|a = of(1).toArray().onFault(9223372036854775808) => jobs: line 2: syntax
+version 2|a = of(1).sum()|a = of(1).toArray().onFault(9223372036854775808) => jobs: line 3: same name
+version 2|onFault = of(1).sum()|version = of(1).map(x -> x + $onFault).sum().onFault(1) => none";
 
 /// The line of the fault of these bytes, or `none`.
 fn line_of(alloc: Global, bytes: &[u8]) -> Result<String, Fail> {

@@ -3,7 +3,7 @@ use Rattle.std.specs.Prelude.{ℕ, zero, suc, Option, Some}
 use Rattle.lambda_expr.specs.declared.check.Form.{Form}
 use Rattle.lambda_expr.specs.declared.check.Form.TheVariants.{Operands, Whole}
 use Rattle.lambda_expr.specs.declared.lambda.PairForm.{PairForm}
-use Rattle.lambda_expr.specs.declared.lambda.PairForm.TheVariants.{First, Second, Sum, Product, Min, Max, And, Or, Xor, Other}
+use Rattle.lambda_expr.specs.declared.lambda.PairForm.TheVariants.{First, Second, Sum, Product, Min, Max, And, Or, Xor, ExactSum, Other}
 use Rattle.lambda_expr.specs.declared.sign.Sign.{Sign}
 use Rattle.lambda_expr.specs.declared.sign.Sign.TheVariants as sign
 use Rattle.lambda_expr.specs.declared.step.Opening.{Opening}
@@ -35,11 +35,12 @@ abbrev pub binary_form : Sign → Form → Form → Form
 binary_form s (Whole First) (Whole Second) = sign_form s
 binary_form s f g = Whole Other
 
--- a method of the two parameters: `Long.sum(a, b)`; `min` and `max` of Math and Long
+-- a method of the two parameters: `Long.sum(a, b)`; `min` and `max` of Math and Long; `Math.addExact(a, b)`
 abbrev pub method_form : Option Function → Form
 method_form (Some (Binary binary_operator.Add)) = Whole Sum
 method_form (Some (Binary binary_operator.Min)) = Whole Min
 method_form (Some (Binary binary_operator.Max)) = Whole Max
+method_form (Some (Binary binary_operator.AddExact)) = Whole ExactSum
 method_form f = Whole Other
 
 abbrev pub called_form : Option Function → Form → Form

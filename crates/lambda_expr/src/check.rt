@@ -98,6 +98,7 @@ fn method_form(function: Option<Function>) -> Form
         Some(Function::Binary(BinaryOperator::Add)) => Form::Whole(PairForm::Sum),
         Some(Function::Binary(BinaryOperator::Min)) => Form::Whole(PairForm::Min),
         Some(Function::Binary(BinaryOperator::Max)) => Form::Whole(PairForm::Max),
+        Some(Function::Binary(BinaryOperator::AddExact)) => Form::Whole(PairForm::ExactSum),
         _ => Form::Whole(PairForm::Other),
     }
 }

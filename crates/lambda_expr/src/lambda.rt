@@ -52,6 +52,8 @@ pub enum PairForm {
     Or,
     /// `a ^ b`
     Xor,
+    /// `Math.addExact(a, b)`
+    ExactSum,
     /// Every other body.
     Other,
 }

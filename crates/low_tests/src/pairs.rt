@@ -16,7 +16,8 @@ fn a_lambda_of_two_parameters_is_read_as_the_form_of_its_body(rt: HostRuntime) {
 (a, b) -> a;(a, b) -> (b);(long x, long y) -> ((x) + (y));(a, b) -> Long.sum(a, (b));\
 (a, b) -> a * b;(min, max) -> Math.min(min, max);(a, b) -> Long.max(a, b);(a, b) -> a & b;\
 (a, b) -> a | b;(a, b) -> a ^ b;(a, b) -> b + a;(a, b) -> a - b;(a, b) -> +a;(a, b) -> $n;\
-(a, b) -> a + b + 0;(a, b) -> Math.addExact(a, b);(a, b) -> a < b ? a : b";
+(a, b) -> a + b + 0;(a, b) -> Math.addExact(b, a);(a, b) -> a < b ? a : b;\
+(x, y) -> (Math.addExact((x), y));(a, b) -> Math.subtractExact(a, b)";
     let forms = [
         PairForm::First,
         PairForm::Second,
@@ -34,6 +35,8 @@ fn a_lambda_of_two_parameters_is_read_as_the_form_of_its_body(rt: HostRuntime) {
         PairForm::Other,
         PairForm::Other,
         PairForm::Other,
+        PairForm::Other,
+        PairForm::ExactSum,
         PairForm::Other,
     ];
     for (text, form) in texts.split(';').zip(forms) {

@@ -127,10 +127,15 @@ fn a_token_gives_its_bytes(rt: HostRuntime) -> Result<(), Fail> {
     Ok(())
 }
 
-/// The jobs of a file: each has the number of its line, a colon, its text, and a bar.
+/// The jobs of a file: each has the number of its line, a colon, its text, and a bar. A version that isn't 1 and
+/// a bar stand before them.
 fn jobs_of(alloc: Global, bytes: &[u8]) -> Result<Vec<u8>, TextFault> {
     let mut all = Vec::new(alloc);
-    for job in job_texts(alloc, bytes)? {
+    let (version, texts) = job_texts(alloc, bytes)?;
+    if version != 1 {
+        all.extend_from_slice(format!(in alloc; "{version}|")?.as_bytes())?;
+    }
+    for job in texts {
         all.extend_from_slice(format!(in alloc; "{}:", job.line)?.as_bytes())?;
         all.extend_from_slice(job.text.as_slice())?;
         all.push(b'|')?;
@@ -164,7 +169,7 @@ fn a_line_ends_with_a_line_feed_and_may_have_a_return_before_it(rt: HostRuntime)
 
 #[test]
 fn lines_are_skipped_or_joined_or_begin_a_job(rt: HostRuntime) {
-    let files: [&[u8]; 7] = [
+    let files: [&[u8]; 12] = [
         b"\n \t\n\r\n a \n\nb",
         b"\xef\xbb\xbfa\n",
         b"a\n.b\n  .c \nd",
@@ -172,15 +177,26 @@ fn lines_are_skipped_or_joined_or_begin_a_job(rt: HostRuntime) {
         b"# a\n//b\n / c",
         b"\n#\na #b\n..",
         b"a\n/.\n\t.",
+        b"version 2\na\nversion 2",
+        b"\xef\xbb\xbf#\n \tversion \t 2 \r\na\n.b",
+        b"a\nversion 2",
+        b"version 2;\n.b\nversion 2",
+        b"version2\nversion 02\nversion 3\nversion 2L\nversion\n2",
     ];
-    let jobs =
-        "4: a |6:b|~1:a|~1:a .b   .c |4:d|~1:a \t.b|6:c .d|~3: / c|~3:a #b ..|~1:a|2:/. \t.|";
+    let jobs = "4: a |6:b|~1:a|~1:a .b   .c |4:d|~1:a \t.b|6:c .d|~3: / c|~3:a #b ..|~1:a|2:/. \t.|~\
+2|2:a|3:version 2|~2|3:a .b|~1:a|2:version 2|~1:version 2; .b|3:version 2|~\
+1:version2|2:version 02|3:version 3|4:version 2L|5:version|6:2|";
     for (file, jobs) in files.into_iter().zip(jobs.split('~')) {
         assert!(rt; are_jobs(rt.alloc(), file, jobs), "{file:?}");
     }
     // A line that continues no job is a fault there.
-    let files: [&[u8]; 3] = [b".a", b"\xef\xbb\xbf\n#\n \t.a\nb", b"\n\n\n."];
-    for (file, line) in files.into_iter().zip([1, 3, 4]) {
+    let files: [&[u8]; 4] = [
+        b".a",
+        b"\xef\xbb\xbf\n#\n \t.a\nb",
+        b"\n\n\n.",
+        b"version 2\n#\n.a\nb",
+    ];
+    for (file, line) in files.into_iter().zip([1, 3, 4, 3]) {
         let found = jobs_of(rt.alloc(), file).err();
         assert!(rt; found == Some(TextFault::Syntax { line }), "{line}");
     }

@@ -1,5 +1,5 @@
 -- Folds of joined lists, by operators that may be grouped in any way.
-use Rattle.std.proofs.Common.{◌≡◌, ℤ, pos, ◌+ℤ◌, List, [], ◌∷◌, ◌++◌, Option, Some, None, Ok, sym, refl, ap, ◌∙◌, arith, rules, length, FitsSigned}
+use Rattle.std.proofs.Common.{◌≡◌, ℤ, pos, ◌+ℤ◌, List, [], ◌∷◌, ◌++◌, Option, Some, None, Ok, sym, refl, ap, ◌∙◌, arith, rules, length}
 use Rattle.std.proofs.Math.IntN.{+ℤ_assoc}
 use Rattle.std.specs.Int.{w64, int_wrap}
 use Rattle.std.proofs.lemmas.Int.{ints, int_wrap_fits, SFits-int_wrap, int_wrap-add_left}
@@ -12,12 +12,10 @@ use Rattle.trace.specs.Trace.{Trace, trace, then_on, append}
 use Rattle.reduce_ops.specs.declared.op.Op.{Op}
 use Rattle.reduce_ops.specs.declared.op.Op.TheVariants.{Sum}
 use Rattle.reduce_ops.specs.declared.partial.Partial.{Partial}
-use Rattle.reduce_ops.specs.Operators.{value_of, identity_of, IsAssociative}
-use Rattle.std.specs.Option.{unwrap_or}
+use Rattle.reduce_ops.specs.Operators.{value_of, IsAssociative}
 use Rattle.reduce_ops.specs.Folds.{fold_from, fold_items, onto, unless_faulted, reduced, reduced_from, total, ones}
 use Rattle.reduce_ops.specs.Parts.{StandsFor}
 use Rattle.reduce_ops.proofs.Associativity.{all_associative}
-use Rattle.reduce_ops.proofs.Identities.{all_identities}
 
 fold_more : (f : ℤ → ℤ → ℤ) (a : ℤ) (xs ys : List Item) → fold_from f a (xs ++ ys) ≡ fold_from f (fold_from f a xs) ys
 fold_more f a [] ys = refl

@@ -4,3 +4,5 @@ mod Affine
 mod Associativity
 pub mod Identities
 pub mod FoldLemmas
+pub mod ExactLemmas
+pub mod SettledSums

@@ -10,13 +10,22 @@
 //! Java: `Long::sum`, `Long::min`, `Long::max` and `reduce` of `LongStream` (Java SE 17, `java.util.stream`).
 #![tactic(auto)]
 
+mod exact_part;
 mod laws;
 mod op;
 mod partial;
+mod reach;
+mod reaching;
+mod running_sum;
+mod sum_part;
 
+pub use exact_part::{Exact, ExactPart};
 pub use laws::{
     affine_composes_maps, counts_are_sums_of_ones, identities_are_two_sided,
     operators_are_associative, sums_are_wrapped_totals,
 };
 pub use op::Op;
 pub use partial::Partial;
+pub use reach::Reach;
+pub use running_sum::RunningSum;
+pub use sum_part::SumPart;

@@ -1,6 +1,6 @@
 -- Meaning: the texts of the jobs of a file, each with the number of the line that begins it.
-use Rattle.std.specs.Prelude.{ℕ, ◌+◌, ◌++◌, ◌||◌, nat_eq, List, [], ◌∷◌, drop, if◌then◌else◌, Result, Ok, Err}
-use Rattle.std.specs.List.{starts_with}
+use Rattle.std.specs.Prelude.{ℕ, ◌+◌, ◌++◌, ◌||◌, ◌&&◌, Bool, false, nat_eq, List, [], ◌∷◌, codes, drop, if◌then◌else◌, Result, Ok, Err}
+use Rattle.std.specs.List.{starts_with, list_all}
 use Rattle.stream_tokens.specs.declared.job_text.JobText.{JobText}
 use Rattle.stream_tokens.specs.declared.job_text.TextFault.{TextFault}
 use Rattle.stream_tokens.specs.declared.job_text.TextFault.TheVariants.{Syntax}
@@ -56,6 +56,41 @@ jobs_of_lines [] = Ok []
 jobs_of_lines (line ∷ lines) =
     by_kind (kind_of line.bytes) (jobs_of_lines lines) (Err (Syntax line.number)) (Ok (jobs_after (begun line) lines))
 
+-- the bytes from the first on that is no blank
+abbrev pub without_blanks : List ℕ → List ℕ
+without_blanks [] = []
+without_blanks (b ∷ bs) = if is_blank b then without_blanks bs else b ∷ bs
+
+-- the bytes begin with a blank
+abbrev pub begins_blank : List ℕ → Bool
+begins_blank [] = false
+begins_blank (b ∷ bs) = is_blank b
+
+-- `2`, and no more than blanks after it
+abbrev pub is_two : List ℕ → Bool
+is_two bytes = starts_with nat_eq bytes (50 ∷ []) && list_all is_blank (drop 1 bytes)
+
+-- `version`, blanks, and `2`
+abbrev pub is_version_two : List ℕ → Bool
+is_version_two bytes =
+    starts_with nat_eq bytes (codes "version") && (begins_blank (drop 7 bytes) && is_two (without_blanks (drop 7 bytes)))
+
+-- a line of two tokens, `version` and `2`: blanks stand between them, and may stand before and after
+abbrev pub is_version_line : List ℕ → Bool
+is_version_line line = is_version_two (without_blanks line)
+
+-- the version that the first line says that isn't skipped: 2 if it is `version 2`, else 1
+abbrev pub version_in : List NumberedLine → ℕ
+version_in [] = 1
+version_in (line ∷ lines) = by_kind (kind_of line.bytes) (version_in lines) 1 (if is_version_line line.bytes then 2 else 1)
+
+-- the jobs of some lines; a first line `version 2` begins none, and nothing continues it
+abbrev pub texts_of_lines : List NumberedLine → Result (List JobText) TextFault
+texts_of_lines [] = Ok []
+texts_of_lines (line ∷ lines) =
+    by_kind (kind_of line.bytes) (texts_of_lines lines) (Err (Syntax line.number))
+    (if is_version_line line.bytes then jobs_of_lines lines else jobs_of_lines (line ∷ lines))
+
 -- a byte order mark: the three bytes of U+FEFF in UTF-8
 abbrev pub byte_order_mark : List ℕ
 byte_order_mark = 239 ∷ 187 ∷ 191 ∷ []
@@ -64,6 +99,14 @@ byte_order_mark = 239 ∷ 187 ∷ 191 ∷ []
 abbrev pub without_mark : List ℕ → List ℕ
 without_mark bytes = if starts_with nat_eq bytes byte_order_mark then drop 3 bytes else bytes
 
--- the texts of the jobs, or the line that continues nothing; lines count from 1, skipped ones too
+-- the lines of a file, counted from 1, skipped ones too
+abbrev pub lines_in : List ℕ → List NumberedLine
+lines_in bytes = numbered 1 (lines_of (without_mark bytes))
+
+-- the version of the language in which a file is written, 1 or 2
+unfoldable pub version_of : List ℕ → ℕ
+version_of bytes = version_in (lines_in bytes)
+
+-- the texts of the jobs, or the line that continues nothing
 unfoldable pub job_texts_of : List ℕ → Result (List JobText) TextFault
-job_texts_of bytes = jobs_of_lines (numbered 1 (lines_of (without_mark bytes)))
+job_texts_of bytes = texts_of_lines (lines_in bytes)

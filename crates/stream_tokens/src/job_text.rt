@@ -1,11 +1,12 @@
 //! The texts of the jobs of a file.
 ghost use Rattle.std.specs.Prelude.{◌≡◌, ◌≢◌, [], Ok, Err, IfOk, IfErr, IfSome, IfNone};
-ghost use Rattle.stream_tokens.specs.JobTexts.{job_texts_of, jobs_after, jobs_of_lines};
+ghost use Rattle.stream_tokens.specs.JobTexts.{job_texts_of, jobs_after, jobs_of_lines, version_of};
 ghost use Rattle.stream_tokens.specs.TextsLeft.{Gives, HasText, IsWhole, lines_at};
 
-use crate::line::{LineKind, kind_of, without_mark};
+use crate::line::{LineKind, kind_of};
 use crate::lines_left::LinesLeft;
 use crate::text::Text;
+use crate::version::{job_lines, version_of};
 use std::alloc::{AllocError, AllocFailed, Global};
 use std::marker::Model;
 
@@ -67,13 +68,12 @@ impl<'a> Model for JobTexts<'a> {
 }
 
 impl<'a> JobTexts<'a> {
-    /// All texts of a file. Takes no memory.
-    #[tactic(auto, unfolding(crate::specs::JobTexts::job_texts_of))]
+    /// All texts of a file; a first line `version 2` is none of them. Takes no memory.
     pub fn of(bytes: &'a [u8]) -> JobTexts<'a>
         ensures { result ≡ job_texts_of bytes.now }
     {
         JobTexts {
-            lines: LinesLeft::of(without_mark(bytes)),
+            lines: job_lines(bytes),
         }
     }
 
@@ -142,14 +142,16 @@ fn join_lines<'a>(
     Ok(job)
 }
 
-/// The texts of the jobs, in the order of the file.
+/// The version of the language, 1 or 2, and the texts of the jobs, in the order of the file.
 ///
+/// A file is of version 2 if its first line that isn't skipped is `version 2`, which begins no job.
 /// Lines end with LF or CR LF. A blank line and one that begins with `#` or `//` are skipped, one that begins
 /// with `.` continues the job above it, and every other line begins a job; blanks before that don't matter.
 /// A byte order mark at the start of the file is skipped. Takes memory for the vector, and for the bytes of
 /// texts of more than one line; time in proportion to the bytes.
-pub fn job_texts<'a>(alloc: Global, bytes: &'a [u8]) -> Result<Vec<JobText<'a>>, TextFault>
-    ensures ok { IfOk result (λ texts. job_texts_of bytes.now ≡ Ok texts.items) }
+pub fn job_texts<'a>(alloc: Global, bytes: &'a [u8]) -> Result<(u8, Vec<JobText<'a>>), TextFault>
+    ensures version { IfOk result (λ found. version_of bytes.now ≡ found.0) }
+    ensures texts { IfOk result (λ found. job_texts_of bytes.now ≡ Ok found.1.items) }
     ensures refused { IfErr result
         (λ fault. fault ≢ TextFault.NoMemory → job_texts_of bytes.now ≡ Err fault) }
     ensures memory { IfErr result
@@ -160,5 +162,5 @@ pub fn job_texts<'a>(alloc: Global, bytes: &'a [u8]) -> Result<Vec<JobText<'a>>,
     while let Some(text) = left.next_text(alloc)? {
         texts.push(text)?;
     }
-    Ok(texts)
+    Ok((version_of(bytes), texts))
 }

@@ -2,8 +2,8 @@
 //!
 //! A text of a job or of a lambda is cut into names, numbers, strings, references and symbols, from
 //! left to right and the longest first (`cut`); a file of jobs is taken apart into the texts of its
-//! jobs, each with the number of its line, all at once (`job_texts`) or one by one (`JobTexts`). Each
-//! takes every byte string.
+//! jobs, each with the number of its line, all at once (`job_texts`) or one by one (`JobTexts`), and
+//! has a version of the language (`version_of`). Each takes every byte string.
 //!
 //! Stands on std alone. The readers of lambdas and of jobs stand on it: `cut`, clause `tokens`, gives
 //! them the one list of tokens that a text has (`one_cut`), and `JobTexts::next_text`, clause `gives`,
@@ -26,6 +26,7 @@ mod scanner;
 mod symbol;
 mod text;
 mod token;
+mod version;
 
 pub use bytes::Bytes;
 pub use cut_text::{CutText, tokens_of_a_part};
@@ -35,3 +36,4 @@ pub use std::alloc::AllocError as NoMemory;
 pub use symbol::Symbol;
 pub use text::Text;
 pub use token::{Token, TokenKind};
+pub use version::version_of;

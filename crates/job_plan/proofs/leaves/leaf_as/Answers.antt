@@ -1,26 +1,23 @@
-use Rattle.std.proofs.Common.{◌≡◌, ◌+◌, suc, List, [], ◌++◌, length, take, sym, ap, subst, ◌∙◌, rules}
+use Rattle.std.proofs.Common.{◌≡◌, ◌+◌, suc, List, [], ◌++◌, length, take, refl, sym, ap, subst, ◌∙◌, rules}
 use Rattle.trace.specs.declared.item.Item.{Item}
 use Rattle.trace.specs.declared.item.End.{End}
 use Rattle.trace.specs.declared.item.End.TheVariants as end
 use Rattle.trace.specs.Trace.{Trace, trace, nothing, append}
+use Rattle.trace.proofs.JoinLemmas.{pipe_ended}
 use Rattle.job_plan.specs.declared.part.Part.{Part}
-use Rattle.job_plan.specs.Parts.{EndsFor, StandsFor, end_in, is_settled, segment_in, walk_in}
+use Rattle.job_plan.specs.Parts.{EndsFor, HasTaken, StandsFor, end_in, is_settled, may_search, segment_in, walk_in}
 use Rattle.job_plan.specs.Pieces.{elements, piece_of}
 use Rattle.job_plan.specs.Plans.{last_stage, walk_of}
 use Rattle.job_plan.proofs.PartLemmas.{length-stages_of}
-use Rattle.job_plan.proofs.WalkLemmas.{after_enough, after_fault, after_more, enough_is_settled, same_ending, settled_first, unpinned}
+use Rattle.job_plan.proofs.WalkLemmas.{after_enough, after_fault, after_more, enough_is_settled, same_ending, settled_first, taken_none, unpinned}
 use Rattle.job_plan.proofs.leaves.leaf_as.Goals.{in-More, in-Fault, in-Enough}
 use Rattle.job_plan.proofs.leaves.leaf_as.Goals as goal
 
 pub returns-then-is_settled : goal.returns-then-is_settled
-returns-then-is_settled g c =
-    let s = segment_in c.args.segment.now in
-    let e = end_in c.args.segment.now.end in
-    let env = c.args.env.now in
-    let len : c.len.result ≡ length c.args.segment.now.stages.items = search rules in
-    let stage = ap (λ m. c.args.segment.now.first_stage + m) (len ∙ sym (length-stages_of c.args.segment.now.stages.items)) in
-    settled_first s env c.none-part.result (walk_in c.args.source.now) c.args.from c.args.to (sym c.is_settled.ensures ∙ c.if-is_settled.true)
-    (subst (λ m. EndsFor e m env c.none-part.result nothing) stage c.none-part.ensures)
+returns-then-is_settled g c = record {
+  stands = λ before h. settled_first (segment_in c.args.segment.now) c.args.env.now c.args.part before (walk_in c.args.source.now) c.args.from c.args.to (sym c.is_settled.ensures ∙ c.if-is_settled.true) h;
+  kind = refl;
+}
 
 pub returns : goal.returns
 returns g c =
@@ -31,35 +28,46 @@ returns g c =
     let n = g.K.Ending.stage in
     let env = c.args.env.now in
     let named = g.K.Ending.env in
+    let begun = g.K.Ending.begun in
     let t = walk_in c.args.source.now in
     let from = c.args.from in
     let to = c.args.to in
     let len : c.len.result ≡ length c.args.segment.now.stages.items = search rules in
     let stage = ap (λ k. c.args.segment.now.first_stage + k) (len ∙ sym (length-stages_of c.args.segment.now.stages.items)) in
     let ends : e ≡ f = ap end_in c.requires.last in
-    let none = unpinned f e n m named env c.none-part.result nothing (sym ends) (sym c.requires.stage) (sym c.requires.env) (subst (λ k. EndsFor e k env c.none-part.result nothing) stage c.none-part.ensures) in
-    let walk = walk_of s env (trace (elements from to t.items) end.Done) in
     let no_items : List Item = [] in
-    let fed = c.in_ok-feed.ensures.fed no_items (c.requires.last, stage ∙ c.requires.stage, c.requires.env, none) in
+    let first : HasTaken f n named begun c.args.part no_items = subst (λ (b : Part). HasTaken f n named b c.args.part no_items) c.requires.begun (taken_none f n named c.args.part) in
+    let walk = walk_of s env (trace (elements from to t.items) end.Done) in
+    let fed = c.in_ok-feed.ensures.fed no_items (c.requires.last, stage ∙ c.requires.stage, c.requires.env, first) in
     let part = c.feed.new.sink.part in
-    elim c.match-branch-2.branch [
-      | in-More w ↦
-          let given = rw w.in-More.is at fed in
-          let front : Trace = trace (no_items ++ walk.items) end.Done in
-          let x : EndsFor e m env part front = unpinned e f m n env named part front ends c.requires.stage c.requires.env given.0.3 in
-          let y = w.end_with.ensures e m env front x in
-          let z = subst (λ (h : End). EndsFor e m env w.end_with.new.self (append front (trace [] h))) (w.piece_end.ensures ∙ same_ending from to t) y in
-          subst (λ (p : Part). StandsFor s env p (piece_of from to t)) (sym (ap (λ k. k.part) w.sink-is)) (after_more s env w.end_with.new.self t from to given.1 z)
-      | in-Fault w ↦
-          let given = rw w.in-Fault.is at fed in
-          let front : Trace = trace (no_items ++ walk.items) end.Done in
-          let x : EndsFor e m env part front = unpinned e f m n env named part front ends c.requires.stage c.requires.env given.0.3 in
-          let y = w.end_with-in-Fault.ensures e m env front x in
-          subst (λ (p : Part). StandsFor s env p (piece_of from to t)) (sym (ap (λ k. k.part) w.sink-is)) (after_fault s env w.end_with-in-Fault.new.self t from to w.in-Fault.fault given.1 y)
-      | in-Enough w ↦
-          let given = rw w.in-Enough.is at fed in
-          let flow = rw w.in-Enough.is at c.in_ok-feed.ensures.flow in
-          let front : Trace = trace (no_items ++ take (suc given.0) walk.items) end.Done in
-          let x : EndsFor e m env part front = unpinned e f m n env named part front ends c.requires.stage c.requires.env given.2.3 in
-          subst (λ (p : Part). StandsFor s env p (piece_of from to t)) (sym (ap (λ k. k.part) w.sink-is)) (after_enough s env part t from to (suc given.0) (enough_is_settled (is_settled part) flow) x)
-    ]
+    record {
+      stands = λ before h.
+          let w_before = walk_of s env before in
+          let at_first : EndsFor f n named begun w_before = subst (λ (b : Part). EndsFor f n named b w_before) c.requires.begun (unpinned f e n m named env c.args.part w_before (sym ends) (sym c.requires.stage) (sym c.requires.env) h) in
+          elim c.match-branch-2.branch [
+            | in-More w ↦
+                let given = rw w.in-More.is at fed in
+                let front : Trace = append w_before (trace (no_items ++ walk.items) end.Done) in
+                let x : EndsFor e m env part front = unpinned e f m n env named part front ends c.requires.stage c.requires.env (given.0.3.0 w_before at_first) in
+                let y = w.end_with.ensures.stands e m env front x in
+                let z = subst (λ (k : End). EndsFor e m env w.end_with.new.self (append front (trace [] k))) (w.piece_end.ensures ∙ same_ending from to t) y in
+                subst (λ (p : Part). StandsFor s env p (append before (piece_of from to t))) (sym (ap (λ k. k.part) w.sink-is)) (after_more s env w.end_with.new.self before t from to given.1 z)
+            | in-Fault w ↦
+                let given = rw w.in-Fault.is at fed in
+                let front : Trace = append w_before (trace (no_items ++ walk.items) end.Done) in
+                let x : EndsFor e m env part front = unpinned e f m n env named part front ends c.requires.stage c.requires.env (given.0.3.0 w_before at_first) in
+                let y = w.end_with-in-Fault.ensures.stands e m env front x in
+                subst (λ (p : Part). StandsFor s env p (append before (piece_of from to t))) (sym (ap (λ k. k.part) w.sink-is)) (after_fault s env w.end_with-in-Fault.new.self before t from to w.in-Fault.fault given.1 y)
+            | in-Enough w ↦
+                let given = rw w.in-Enough.is at fed in
+                let flow = rw w.in-Enough.is at c.in_ok-feed.ensures.flow in
+                let front : Trace = append w_before (trace (no_items ++ take (suc given.0) walk.items) end.Done) in
+                let x : EndsFor e m env part front = unpinned e f m n env named part front ends c.requires.stage c.requires.env (given.2.3.0 w_before at_first) in
+                subst (λ (p : Part). StandsFor s env p (append before (piece_of from to t))) (sym (ap (λ k. k.part) w.sink-is)) (after_enough s env part before t from to (suc given.0) (enough_is_settled (is_settled part) flow) x)
+          ];
+      kind = elim c.match-branch-2.branch [
+        | in-More w ↦ let given = rw w.in-More.is at fed in ap (λ k. may_search k.part) w.sink-is ∙ w.end_with.ensures.kind ∙ given.0.3.1 ∙ ap may_search (sym c.requires.begun)
+        | in-Fault w ↦ let given = rw w.in-Fault.is at fed in ap (λ k. may_search k.part) w.sink-is ∙ w.end_with-in-Fault.ensures.kind ∙ given.0.3.1 ∙ ap may_search (sym c.requires.begun)
+        | in-Enough w ↦ let given = rw w.in-Enough.is at fed in ap (λ k. may_search k.part) w.sink-is ∙ given.2.3.1 ∙ ap may_search (sym c.requires.begun)
+      ];
+    }

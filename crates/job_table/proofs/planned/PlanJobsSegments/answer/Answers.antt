@@ -10,4 +10,6 @@ returns g c =
     let l = plans_length js in
     let low : c.args.job < length (plans_in js) = omega (arith, c.requires.job, l) in
     let taken = c.requires.given in
-    answered (plans_in js) c.args.job (plan_in c.job.result.now) c.job.ensures c.args.given.now.numbers c.args.part c.last_answer.result low taken.0 taken.1.0 c.requires.part c.last_answer.ensures
+    let plan = c.job-plan.result.now in
+    answered (plans_in js) c.args.job (plan_in plan) c.job-plan.ensures c.args.given.now.numbers c.args.part c.in_ok-answer.answer c.without_fault.result c.without_fault.ensures low taken.0 taken.1.0 c.requires.part
+    c.in_ok-answer.ensures

@@ -1,9 +1,10 @@
 use Rattle.std.proofs.Common.{◌∙◌, sym}
 use Rattle.job_plan.specs.Parts.{plans_in}
 use Rattle.job_table.specs.PlanSegments.{chain_at}
-use Rattle.job_table.proofs.PlanParts.{part_decides}
+use Rattle.job_table.proofs.PlanParts.{part_decides, settles_both}
 use Rattle.job_table.proofs.planned.PlanJobsSegments.is_settled.Goals as goal
 
 pub returns : goal.returns
 returns g c = λ yes.
-    part_decides (chain_at (plans_in g.P.Planned.jobs) c.args._job) c.args._segment c.args._from c.args._to c.args.part.now c.requires.within.0 c.requires.within.1 (sym c.is_settled.ensures ∙ yes) c.requires.part
+    let both = settles_both c.args.part.now (sym c.settles.ensures ∙ yes) in
+    part_decides (chain_at (plans_in g.P.Planned.jobs) c.args._job) c.args._segment c.args._from c.args._to c.args.part.now c.requires.within.0 c.requires.within.1 both.0 both.1 c.requires.part

@@ -1,0 +1,72 @@
+//! What a job gives in place of a fault.
+
+ghost use Rattle.std.specs.Prelude.{◌≡◌, option_map};
+ghost use Rattle.job_language.specs.Jobs.{terminal_of};
+ghost use Rattle.job_plan.specs.Parts.{fallback_in, plan_in};
+ghost use Rattle.job_plan.specs.Walks.{instead_of_fault, number_as};
+
+use crate::answer::Answer;
+use crate::segment::JobPlan;
+use job_language::Terminal;
+
+/// What a job gives in place of a fault, in the form of what its terminal gives.
+#[derive(Clone, Copy)]
+pub enum Fallback {
+    /// Of `sum`, `count`, and `reduce` from a number.
+    Number(i64),
+    /// Of a terminal that gives an optional.
+    Optional(i64),
+}
+
+impl Fallback {
+    /// The fallback as an answer.
+    fn answer(self) -> Answer
+        ensures { result ≡ fallback_in self }
+    {
+        match self {
+            Fallback::Number(number) => Answer::Number(number),
+            Fallback::Optional(number) => Answer::Optional(Some(number)),
+        }
+    }
+}
+
+/// A number as a terminal gives it.
+fn number_as(terminal: &Terminal, number: i64) -> Fallback
+    ensures { fallback_in result ≡ number_as (terminal_of terminal.now) number }
+{
+    match terminal {
+        Terminal::Sum | Terminal::Count | Terminal::ReduceFrom { .. } | Terminal::ExactSum => {
+            Fallback::Number(number)
+        }
+        Terminal::Min
+        | Terminal::Max
+        | Terminal::ToArray
+        | Terminal::Reduce(_)
+        | Terminal::Find(_) => Fallback::Optional(number),
+    }
+}
+
+/// What stands in place of a fault, if a number does: this number, as the terminal gives numbers.
+pub(crate) fn fallback_of(terminal: &Terminal, number: Option<i64>) -> Option<Fallback>
+    ensures { option_map fallback_in result ≡ option_map (number_as (terminal_of terminal.now)) number }
+{
+    match number {
+        Some(number) => Some(number_as(terminal, number)),
+        None => None,
+    }
+}
+
+impl<'c> JobPlan<'c> {
+    /// The answer of the job, by what its segments give: the fallback, if there is one, stands in place of a fault.
+    pub fn without_fault(&self, given: Answer) -> Answer
+        ensures { result ≡ instead_of_fault (plan_in self.now).fallback given }
+    {
+        let Some(fallback) = self.fallback else {
+            return given;
+        };
+        match given {
+            Answer::Fault(_) => fallback.answer(),
+            _ => given,
+        }
+    }
+}
