@@ -88,7 +88,11 @@ number_as sum z = answer.Number z
 number_as count z = answer.Number z
 number_as (reduce_from a f) z = answer.Number z
 number_as exact_sum z = answer.Number z
-number_as d z = answer.Optional (Some z)
+number_as min z = answer.Optional (Some z)
+number_as max z = answer.Optional (Some z)
+number_as (reduce f) z = answer.Optional (Some z)
+number_as (find d) z = answer.Optional (Some z)
+number_as to_array z = answer.Optional (Some z)
 
 -- what a job gives in place of a fault, if it says so (`onFault`)
 abbrev pub fallback_of : AbstractJob → Option Answer
@@ -96,8 +100,13 @@ fallback_of job = option_map (number_as job.terminal) job.on_fault
 
 -- this answer, if there is one, in place of a fault
 abbrev pub instead_of_fault : Option Answer → Answer → Answer
+instead_of_fault None a = a
 instead_of_fault (Some b) (answer.Fault f) = b
-instead_of_fault o a = a
+instead_of_fault (Some b) (answer.Number z) = answer.Number z
+instead_of_fault (Some b) (answer.Truth t) = answer.Truth t
+instead_of_fault (Some b) (answer.Optional v) = answer.Optional v
+instead_of_fault (Some b) (answer.Array vs) = answer.Array vs
+instead_of_fault (Some b) (answer.Unusable place) = answer.Unusable place
 
 -- the answer of the walk of a job with the numbers of earlier jobs: its sources, through its stages, which are numbered
 -- from 1, to its terminal, which is the stage after the last
