@@ -10,6 +10,7 @@ from page_text import DEFINITION, read
 DEFAULTS = '''
 engine Statuses status_of_cause
 engine Statuses status_of_columns
+job_language Arguments pair_argument
 job_language Calls bracket_of
 job_language Causes number_in
 job_language Grammar is_sound
@@ -20,7 +21,9 @@ job_language Verdicts abstract_call
 job_language Verdicts abstract_source
 job_language Verdicts abstract_stage
 job_language Verdicts abstract_terminal
+job_language Verdicts below_terminal
 job_language Verdicts count_stage
+job_language Verdicts exact_cause
 job_language Verdicts given_by
 job_language Verdicts match_terminal
 job_language Verdicts number_source
