@@ -1,5 +1,5 @@
 -- Meaning: the walk of a job, and the answer that its terminal gives.
-use Rattle.std.specs.Prelude.{ℕ, suc, ℤ, pos, ◌+ℤ◌, List, [], ◌∷◌, ◌++◌, length, map as each_of, Option, Some, Result, Ok, Err, option_map}
+use Rattle.std.specs.Prelude.{ℕ, suc, ℤ, pos, ◌+ℤ◌, List, [], ◌∷◌, ◌++◌, length, map as each_of, Option, Some, None, Result, Ok, Err, option_map}
 use Rattle.lambda_expr.specs.Earlier.{Numbers}
 use Rattle.lambda_expr.specs.Streams.{counted, distance}
 use Rattle.lambda_expr.specs.Wrap.{wrap}
