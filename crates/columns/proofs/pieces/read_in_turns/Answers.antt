@@ -2,7 +2,7 @@ use Rattle.std.proofs.Common.{◌≡◌, length, map, rules}
 use Rattle.std.proofs.lemmas.List.{length-map}
 use Rattle.columns.specs.TableOfColumns.{named}
 use Rattle.columns.proofs.PlainRowLemmas.{AreRead-join}
-use Rattle.columns.proofs.pieces.read_plain_rows_by.Goals as goal
+use Rattle.columns.proofs.pieces.read_in_turns.Goals as goal
 
 pub loop-preserved : goal.loop-preserved
 loop-preserved g c =
