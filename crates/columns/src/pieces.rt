@@ -3,8 +3,13 @@
 //! A text is cut after line feeds. Each piece is read as if a record began with it, and its rows are put
 //! under those of the piece before only if that one was read to this very place. So a cut inside quotes is
 //! never taken for one between records.
-ghost use Rattle.std.specs.Prelude.{◌≡◌, ◌<◌, ◌≤◌, [], true, All, IfSome, IfOk, OnOk, length, map, drop};
-ghost use Rattle.columns.specs.Pieces.{IsPieceThere, append_columns, blanks};
+//!
+//! As many pieces at a time as there are workers are read, each on a thread. Then each column gets their cells on a
+//! thread of its own. The vectors of the pieces are used again, since memory that is new to the system costs more time
+//! than the parsing of what is put there.
+ghost use Rattle.std.specs.Prelude.{◌≡◌, ◌<◌, ◌≤◌, [], true, All, IfSome, length, map, drop};
+ghost use Rattle.std.specs.List.{list_all};
+ghost use Rattle.columns.specs.Pieces.{ArePut, IsPieceThere, IsPut, blanks};
 ghost use Rattle.columns.specs.PlainRows.{AreRead};
 ghost use Rattle.columns.specs.TableOfColumns.{named};
 
@@ -15,11 +20,12 @@ use std::alloc::{AllocError, Global};
 use std::thread;
 use std::thread::Threads;
 
-/// The rows of a part of a text, under columns without names.
+/// The rows of a part of a text, under columns without names, if they were read.
 #[derive(Drop)]
 struct Piece {
     from: usize,
     to: usize,
+    is_read: bool,
     columns: Vec<Column>,
 }
 
@@ -41,13 +47,68 @@ pub(crate) fn read_plain_rows_by<H: Threads + Sync>(
     if workers < 2 || text.len() - from <= bytes {
         return read_plain_rows(text, from, text.len(), columns);
     }
+    let first = &text[from..from.saturating_add(bytes).min(text.len())];
+    let rows = rows_to_expect(first, columns.len());
+    let count = workers.min((text.len() - from).div_ceil(bytes.max(1)));
+    let Ok(mut pieces) = empty_pieces(alloc, count, columns.len(), rows) else {
+        return false;
+    };
+    read_in_turns(rt, text, from, bytes, pieces.as_mut_slice(), columns)
+}
+
+/// Pieces of which none is read, with room for this many rows each.
+fn empty_pieces(
+    alloc: Global,
+    count: usize,
+    width: usize,
+    rows: usize,
+) -> Result<Vec<Piece>, AllocError> {
+    let mut pieces = Vec::with_capacity(alloc, count)?;
+    for _ in 0..count {
+        pieces.push(Piece {
+            from: 0,
+            to: 0,
+            is_read: false,
+            columns: nameless_columns(alloc, width, rows)?,
+        })?;
+    }
+    Ok(pieces)
+}
+
+/// Columns without names and cells, with room for this many rows.
+fn nameless_columns(alloc: Global, width: usize, rows: usize) -> Result<Vec<Column>, AllocError> {
+    let mut columns = Vec::with_capacity(alloc, width)?;
+    for _ in 0..width {
+        columns.push(Column {
+            name: Vec::new(alloc),
+            cells: Vec::with_capacity(alloc, rows)?,
+            is_whole: true,
+        })?;
+    }
+    Ok(columns)
+}
+
+/// Reads the rows from place `from` on, as many pieces in each turn as there are.
+fn read_in_turns<H: Threads + Sync>(
+    rt: &H,
+    text: &[u8],
+    from: usize,
+    bytes: usize,
+    pieces: &mut [Piece],
+    columns: &mut [Column],
+) -> bool
+    requires within { from ≤ length text.now }
+    requires some_column { 0 < length columns.old }
+    ensures { result ≡ true → AreRead (drop from text.now) [] (map named columns.old) (map named columns.new) }
+{
     let mut at = from;
     // Each turn takes a byte at least.
     for _ in from..text.len() {
         if at == text.len() {
             break;
         }
-        match read_pieces(rt, alloc, text, at, workers, bytes, columns) {
+        read_pieces(rt, text, at, bytes, pieces, columns.len());
+        match put_pieces(rt, text, at, pieces, columns) {
             Some(next) => at = next,
             None => return false,
         }
@@ -55,45 +116,32 @@ pub(crate) fn read_plain_rows_by<H: Threads + Sync>(
     at == text.len()
 }
 
-/// Reads one piece for each worker from place `from` on, and answers where the last one ends, if all are plain.
+/// Reads the pieces from place `from` on.
 fn read_pieces<H: Threads + Sync>(
     rt: &H,
-    alloc: Global,
     text: &[u8],
     from: usize,
-    workers: usize,
     bytes: usize,
-    columns: &mut [Column],
-) -> Option<usize>
-    requires within { from ≤ length text.now }
-    requires some_column { 0 < length columns.old }
-    ensures read { IfSome result (λ to.
-        AreRead (drop from text.now) (drop to text.now) (map named columns.old) (map named columns.new)) }
-    ensures ends { IfSome result (λ to. to ≤ length text.now) }
-{
-    let width = columns.len();
-    let part = |index: usize| -> Option<Piece>
-        requires { (from ≤ length text.now) × (0 < width) }
-        ensures { IsPieceThere text.entry.now width result }
-    { read_piece(alloc, text, from, index, bytes, width) };
-    match thread::map_indices(rt, alloc, workers, &part) {
-        Ok(pieces) => put_pieces(text, from, pieces.as_slice(), columns),
-        Err(_) => None,
-    }
-}
-
-/// Reads the piece of this number of those from `from` on.
-fn read_piece(
-    alloc: Global,
-    text: &[u8],
-    from: usize,
-    index: usize,
-    bytes: usize,
+    pieces: &mut [Piece],
     width: usize,
-) -> Option<Piece>
+)
     requires within { from ≤ length text.now }
     requires some_column { 0 < width }
-    ensures { IsPieceThere text.now width result }
+    ensures { All (IsPieceThere text.now width) pieces.new }
+{
+    let count = pieces.len().max(1);
+    let read = |index: usize, piece: &mut Piece|
+        requires { (from ≤ length text.now) × (0 < width) }
+        ensures { IsPieceThere text.entry.now width piece.new }
+    { read_piece(text, from, index, bytes, width, piece) };
+    thread::for_each_mut(rt, pieces, count, &read);
+}
+
+/// Reads the piece of this number of those from `from` on. A piece of another width stays unread.
+fn read_piece(text: &[u8], from: usize, index: usize, bytes: usize, width: usize, piece: &mut Piece)
+    requires within { from ≤ length text.now }
+    requires some_column { 0 < width }
+    ensures { IsPieceThere text.now width piece.new }
 {
     let start = from
         .saturating_add(index.saturating_mul(bytes))
@@ -105,18 +153,21 @@ fn read_piece(
     };
     let end = start.saturating_add(bytes).min(text.len());
     let to = line_start(text, end.max(first));
-    let rows = rows_to_expect(&text[first..to], width);
-    let Ok(mut columns) = blank_columns(alloc, width, rows) else {
-        return None;
-    };
-    if !read_plain_rows(text, first, to, columns.as_mut_slice()) {
-        return None;
+    empty(piece.columns.as_mut_slice());
+    piece.from = first;
+    piece.to = to;
+    piece.is_read = piece.columns.len() == width
+        && read_plain_rows(text, first, to, piece.columns.as_mut_slice());
+}
+
+/// Takes the names and the cells away, and keeps the room for them.
+fn empty(columns: &mut [Column])
+    ensures { map named columns.new ≡ blanks (length columns.old) }
+{
+    for column in columns.iter_mut() {
+        column.name.clear();
+        column.cells.clear();
     }
-    Some(Piece {
-        from: first,
-        to,
-        columns,
-    })
 }
 
 /// The first place from `at` on at which a line starts, or the end of the text.
@@ -132,26 +183,13 @@ fn line_start(text: &[u8], at: usize) -> usize
     text.len()
 }
 
-/// Columns without names and cells, with room for this many rows.
-fn blank_columns(alloc: Global, width: usize, rows: usize) -> Result<Vec<Column>, AllocError>
-    ensures { IfOk result (λ columns. map named columns.items ≡ blanks width) }
-{
-    let mut columns = Vec::with_capacity(alloc, width)?;
-    for _ in 0..width {
-        columns.push(Column {
-            name: Vec::new(alloc),
-            cells: Vec::with_capacity(alloc, rows)?,
-        })?;
-    }
-    Ok(columns)
-}
-
 /// Puts the rows of pieces under the columns, the first of which starts at `from`, and answers where the last one
 /// ends, if all were read and each starts where the one before it ends.
-fn put_pieces(
+fn put_pieces<H: Threads + Sync>(
+    rt: &H,
     text: &[u8],
     from: usize,
-    pieces: &[Option<Piece>],
+    pieces: &[Piece],
     columns: &mut [Column],
 ) -> Option<usize>
     requires within { from ≤ length text.now }
@@ -162,26 +200,48 @@ fn put_pieces(
 {
     let mut at = from;
     for piece in pieces {
-        let Some(piece) = piece else {
-            return None;
-        };
-        if piece.from != at || append_columns(columns, &piece.columns).is_err() {
+        if !piece.is_read || piece.from != at {
             return None;
         }
         at = piece.to;
     }
-    Some(at)
+    put_columns(rt, pieces, columns);
+    if are_whole(columns) { Some(at) } else { None }
 }
 
-/// Puts the cells of each column of a piece under those of the column in its place.
-fn append_columns(columns: &mut [Column], piece: &[Column]) -> Result<(), AllocError>
-    requires { length piece.now ≡ length columns.old }
-    ensures { OnOk result (map named columns.new ≡ append_columns (map named columns.old) (map named piece.now)) }
+fn are_whole(columns: &[Column]) -> bool
+    ensures { result ≡ list_all (λ c. c.is_whole) columns.now }
 {
-    for (place, column) in columns.iter_mut().enumerate() {
-        column
+    columns.iter().all(|column| column.is_whole)
+}
+
+/// Puts the cells of all pieces under the columns in their places; those that are whole after it have all of them.
+fn put_columns<H: Threads + Sync>(rt: &H, pieces: &[Piece], columns: &mut [Column])
+    ensures { ArePut pieces.now columns.old columns.new }
+{
+    let count = pieces.len().max(1);
+    let put = |place: usize, column: &mut Column|
+        ensures { IsPut pieces.entry.now place column.old column.new }
+    { put_column(pieces, place, column) };
+    thread::for_each_mut(rt, columns, count, &put);
+}
+
+/// Puts the cells of each piece's column in this place under the column.
+fn put_column(pieces: &[Piece], place: usize, column: &mut Column)
+    ensures { IsPut pieces.now place column.old column.new }
+{
+    column.is_whole = false;
+    for piece in pieces {
+        let Some(part) = piece.columns.get(place) else {
+            return;
+        };
+        if column
             .cells
-            .extend_from_slice(piece[place].cells.as_slice())?;
+            .extend_from_slice(part.cells.as_slice())
+            .is_err()
+        {
+            return;
+        }
     }
-    Ok(())
+    column.is_whole = true;
 }

@@ -52,9 +52,10 @@ pub fn read_columns<R: CountedRead>(alloc: Global, reader: &mut R) -> Result<Col
 /// The same columns or the same fault as `read_columns` gives. Pieces of at least `piece` bytes are cut after line
 /// feeds and read on threads, as many at a time as there are workers.
 ///
-/// A thread is started for each worker but one whenever that many pieces are read. With one worker, and for a file of one
-/// piece, none is. If a row isn't plain, the whole file is read again on one thread: if it is refused, or a number is
-/// quoted in part. Beside what `read_columns` holds, the cells of the pieces in hand are held.
+/// A thread is started for each worker but one whenever that many pieces are read, and again, if there are as many
+/// columns, whenever their cells are put under the columns. With one worker, and for a file of one piece, none is. If a
+/// row isn't plain, the whole file is read again on one thread: if it is refused, or a number is quoted in part. Beside
+/// what `read_columns` holds, the cells of the pieces in hand are held.
 pub fn read_columns_by<H: Threads + Sync, R: CountedRead>(
     rt: &H,
     alloc: Global,

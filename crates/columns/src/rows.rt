@@ -51,6 +51,7 @@ fn columns_named(alloc: Global, header: &ByteRecord, rows: usize) -> Result<Vec<
         columns.push(Column {
             name: Vec::from_slice(alloc, name)?,
             cells: Vec::with_capacity(alloc, rows)?,
+            is_whole: true,
         })?;
     }
     Ok(columns)

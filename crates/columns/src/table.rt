@@ -6,11 +6,13 @@ ghost use Rattle.columns.specs.Table.{cells_named};
 
 use std::marker::Model;
 
-/// One column: its name and its cells, from the top.
+/// One column: its name and its cells, from the top. If it isn't whole, some of a piece's cells are missing, since an
+/// allocation failed.
 #[derive(Debug, Drop)]
 pub(crate) struct Column {
     pub(crate) name: Vec<u8>,
     pub(crate) cells: Vec<i64>,
+    pub(crate) is_whole: bool,
 }
 
 /// The columns of a file, in its order. Those of `read_columns` have one length and different names.
