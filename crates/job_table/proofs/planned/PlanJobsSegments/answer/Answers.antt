@@ -27,5 +27,4 @@ returns-in-Some-2 g c =
 
 pub returns-in-None : goal.returns-in-None
 returns-in-None g c =
-    let z : true ≡ false = sym (rw c.in-None.is at c.in_ok-answer-2.ensures.none) ∙ c.in_ok-again.ensures.kind in
-    absurd z
+    absurd (let z : true ≡ false = sym (rw c.in-None.is at c.in_ok-answer-2.ensures.none) ∙ c.in_ok-again.ensures.kind in cc)
