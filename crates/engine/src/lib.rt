@@ -12,8 +12,10 @@
 //! `long`.
 #![tactic(auto)]
 
+mod gate;
 mod running;
 mod telling;
 
+pub use gate::RunGate;
 pub use running::{EngineFault, run};
 pub use telling::tell;

@@ -14,6 +14,7 @@ ghost use Rattle.std.specs.Io.KnownBytes.{Keeps};
 ghost use Rattle.std.specs.Prelude.{◌≡◌, ◌≢◌, ℕ, All, List, length, map, Option, Ok, IfErr, IfOk, OnOk};
 ghost use Rattle.stream_tokens.specs.Forms.{IsName};
 
+use crate::gate::RunGate;
 use columns::{ColumnFault, Columns, CountedRead, ReadAllFault, read_all_of, read_columns_by};
 use job_language::{Job, JobFault, read_jobs};
 use job_plan::{Answer, Form, JobPlan, Plan, Settings};
@@ -24,7 +25,6 @@ use std::sync::Wait;
 use std::thread::Threads;
 use stream_tokens::{Bytes, NoMemory};
 use thiserror::Error;
-use worker_pool::Gate;
 
 /// Why a run gives no report, or only a part of it. Unless it is `Write`, nothing was written.
 ///
@@ -55,7 +55,7 @@ const PIECE: usize = 4 * 1024 * 1024;
 /// builds the report whole and writes it.
 ///
 /// The columns are read and the jobs run on as many threads as the settings say, the jobs in pieces of at most their
-/// threshold; the gate is called before each of these, and one that lets all pass will do. Neither changes the report.
+/// threshold; the gate is called before each of these, and one that does nothing will do. Neither changes the report.
 /// The cells of the columns, the job file and the report are each held in memory once, and while the cells are read the
 /// column file and the cells of one piece for each thread. If the column file is refused, the job file isn't read.
 pub fn run<
@@ -63,7 +63,7 @@ pub fn run<
     C: CountedRead,
     J: CountedRead,
     W: CountedWrite,
-    G: Gate + Sync,
+    G: RunGate + Sync,
 >(
     rt: &H,
     alloc: Global,
@@ -110,6 +110,7 @@ pub fn run<
         Ok(report) => report,
         Err(fault) => return Err(fault),
     };
+    gate.before_report();
     match write_all_of(writer, &report) {
         Ok(()) => Ok(()),
         Err(WriteFault { written }) => Err(EngineFault::Write { written }),
@@ -117,7 +118,7 @@ pub fn run<
 }
 
 /// The report of the job file that this reader has left, with these columns.
-fn report_from<H: Threads + Wait + Sync, J: CountedRead, G: Gate + Sync>(
+fn report_from<H: Threads + Wait + Sync, J: CountedRead, G: RunGate + Sync>(
     rt: &H,
     alloc: Global,
     columns: &Columns,
@@ -144,7 +145,7 @@ fn report_from<H: Threads + Wait + Sync, J: CountedRead, G: Gate + Sync>(
 }
 
 /// The report of the jobs that these bytes spell, with these columns.
-fn report_of<H: Threads + Wait + Sync, G: Gate + Sync>(
+fn report_of<H: Threads + Wait + Sync, G: RunGate + Sync>(
     rt: &H,
     alloc: Global,
     columns: &Columns,
@@ -169,7 +170,7 @@ fn report_of<H: Threads + Wait + Sync, G: Gate + Sync>(
 }
 
 /// The report of jobs.
-fn written<H: Threads + Wait + Sync, G: Gate + Sync>(
+fn written<H: Threads + Wait + Sync, G: RunGate + Sync>(
     rt: &H,
     alloc: Global,
     jobs: Vec<Job>,
@@ -182,12 +183,21 @@ fn written<H: Threads + Wait + Sync, G: Gate + Sync>(
 {
     let plan = Plan::of(alloc, jobs)?;
     let plan = plan.with_slices_first(alloc)?;
+    announce(&plan, gate);
     let answers = match run_jobs(rt, alloc, &plan, settings, gate) {
         Ok(answers) => answers,
         Err(RunFault::NoMemory) => return Err(NoMemory),
     };
     let names = names_in(alloc, plan.jobs)?;
     printed(alloc, &names, &answers, settings.form())
+}
+
+/// Says to the gate which jobs there are.
+fn announce<G: RunGate>(plan: &Plan, gate: &G) {
+    for (number, job) in plan.jobs.iter().enumerate() {
+        let items = if job.streams() { 0 } else { job.likely_size };
+        gate.before_job(number, items);
+    }
 }
 
 /// The report of answers in a form.

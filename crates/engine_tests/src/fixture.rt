@@ -1,7 +1,7 @@
 //! What the tests share: a run over bytes in memory, and what it wrote.
 
 use columns::{Counted, CountedRead};
-use engine::{EngineFault, run, tell};
+use engine::{EngineFault, RunGate, run, tell};
 use job_plan::{Form, Settings};
 use report::{CountedOut, CountedWrite};
 use std::alloc::Global;
@@ -23,6 +23,8 @@ struct OpenGate;
 impl Gate for OpenGate {
     fn at_leaf(&self, _job: usize, _from: u64, _to: u64) {}
 }
+
+impl RunGate for OpenGate {}
 
 /// A run with the settings of the program and a report in this form; `NoMemory` if they are none.
 pub fn run_as<

@@ -2,6 +2,7 @@
 //!
 //! They hold what no contract says: reports worked out by hand and by Java 17, the text of each fault, and readers
 //! and writers that give or take little, or fail.
+//! Begin with `fixture.rt`, which runs job files over bytes in memory. Nothing stands on this crate.
 #![tactic(auto)]
 
 #[cfg(test)]

@@ -27,6 +27,18 @@ pub fn read_arguments<'a>(alloc: Global, words: &'a [&'a str]) -> Result<Argumen
     })
 }
 
+/// What the help says below the options.
+const EXAMPLE_AND_STATUSES: &str =
+    r#"Example, with units = column("quantity").sum() in the file sales.jobs:
+  streamrun --columns sales.csv sales.jobs
+
+Exit status:
+  0  the report was written; faults of jobs are answers
+  1  the job file or the column file is refused
+  2  the command line is refused
+  3  out of memory
+  4  a file can't be opened, read or written"#;
+
 /// The command with its files.
 fn command_of<'a>(alloc: Global) -> Result<Command<'a>, AllocError> {
     let jobs = Arg::new(alloc, "JOBS")
@@ -40,30 +52,35 @@ fn command_of<'a>(alloc: Global) -> Result<Command<'a>, AllocError> {
         .action(ArgAction::Set);
     Command::new(alloc, "streamrun")
         .about("Runs pipelines over 64-bit integers and writes a report with one answer per job")
+        .after_help(EXAMPLE_AND_STATUSES)
         .arg(jobs)?
         .arg(columns)
 }
 
-/// The command with an option for each setting.
+/// The command with an option for each setting. The name of a value is its limits, so that each refusal that names an
+/// option says them; a negative number is a value too, which is refused as one.
 fn with_settings<'a>(alloc: Global, command: Command<'a>) -> Result<Command<'a>, AllocError> {
     let workers = Arg::new(alloc, "workers")
         .long("workers")
-        .value_name("N")
-        .help("Threads, 1 to 64")
+        .value_name("1 to 64")
+        .allow_negative_numbers(true)
+        .help("Threads")
         .default_value("4")
         .action(ArgAction::Set)
         .value_parser(value_parser!(u64).range(1..=64));
     let threshold = Arg::new(alloc, "threshold")
         .long("threshold")
-        .value_name("N")
-        .help("Items of a piece, 1 to 1048576")
+        .value_name("1 to 1048576")
+        .allow_negative_numbers(true)
+        .help("Items of a piece")
         .default_value("1024")
         .action(ArgAction::Set)
         .value_parser(value_parser!(u64).range(1..=1_048_576));
     let nodes = Arg::new(alloc, "nodes")
         .long("nodes")
-        .value_name("N")
-        .help("Nodes for splits, 0 to 1048576")
+        .value_name("0 to 1048576")
+        .allow_negative_numbers(true)
+        .help("Nodes for splits")
         .default_value("4096")
         .action(ArgAction::Set)
         .value_parser(value_parser!(u64).range(0..=1_048_576));

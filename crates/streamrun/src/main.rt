@@ -5,18 +5,20 @@
 //! writers that count their failures, and on `clap` for the command line. It promises nothing of its
 //! own: the promise is the contract of `engine::run`, which this program calls on the two files and on
 //! standard output. Begin with `engine/specs/Run.antt`; here there is only the command line, the
-//! opening of the files and the exit status.
+//! opening of the files, the exit status, and the line that says on a terminal how far a long run is.
 //! Not promised: that a file can be read or written, or that memory is there; the line on standard
 //! error says which it was.
 #![tactic(auto)]
 
 mod command_line;
+mod progress;
 
 use clap::error::ErrorKind as ArgumentErrorKind;
 use columns::Counted;
 use command_line::{Arguments, read_arguments};
 use engine::{EngineFault, run, tell};
 use job_plan::Settings;
+use progress::Progress;
 use report::CountedOut;
 use std::alloc::AllocError;
 use std::fs::File;
@@ -24,22 +26,13 @@ use std::io::{ErrorKind, Write};
 use std::process::ExitCode;
 use std::sync::Wait;
 use std::thread::Threads;
-use std::{env, fs};
-use worker_pool::Gate;
+use std::{env, fs, thread};
 
 /// The exit status if the command line is refused.
 const REFUSED: u8 = 2;
 
 /// The exit status if a file can't be opened.
 const NOT_OPENED: u8 = 4;
-
-/// A gate that lets every piece of a job pass.
-#[derive(Drop)]
-struct OpenGate;
-
-impl Gate for OpenGate {
-    fn at_leaf(&self, _job: usize, _from: u64, _to: u64) {}
-}
 
 fn main(rt: HostRuntime) -> ExitCode {
     ExitCode::from(match status_of(&rt, &rt) {
@@ -88,7 +81,7 @@ fn status_of_arguments<H: Threads + Wait + Sync>(
         None => None,
     };
     match opened(rt, arguments.jobs, "jobs")? {
-        Some(jobs) => Ok(report_of_files(rt, threads, columns, jobs, &settings)),
+        Some(jobs) => Ok(watched_report(rt, threads, columns, jobs, &settings)),
         None => Ok(NOT_OPENED),
     }
 }
@@ -105,6 +98,26 @@ fn opened(rt: &HostRuntime, path: &str, which: &str) -> Result<Option<File>, All
     }
 }
 
+/// Runs the jobs of an open file, and answers the exit status. If standard error is a terminal, a line there says how far a long run is,
+/// on a thread of its own; without that thread there is no line.
+fn watched_report<H: Threads + Wait + Sync>(
+    rt: &HostRuntime,
+    threads: &H,
+    columns: Option<Counted<File>>,
+    jobs: File,
+    settings: &Settings,
+) -> u8 {
+    let progress = Progress::new(rt, threads);
+    if !progress.is_counted() {
+        return report_of_files(rt, threads, columns, jobs, settings, &progress);
+    }
+    let progress = &progress;
+    thread::scope(thread::scope_env(), threads, move |scope| -> u8 {
+        let _ = scope.spawn(move || progress.keep_shown());
+        report_of_files(rt, threads, columns, jobs, settings, progress)
+    })
+}
+
 /// Runs the jobs of an open file over the columns of another one, and answers the exit status.
 fn report_of_files<H: Threads + Wait + Sync>(
     rt: &HostRuntime,
@@ -112,19 +125,22 @@ fn report_of_files<H: Threads + Wait + Sync>(
     columns: Option<Counted<File>>,
     jobs: File,
     settings: &Settings,
+    progress: &Progress<'_, H>,
 ) -> u8 {
     let mut columns = columns;
     let mut jobs = Counted::new(jobs);
     let mut writer = CountedOut::new(rt.stdout());
-    match run(
+    let answer = run(
         threads,
         rt.alloc(),
         columns.as_mut(),
         &mut jobs,
         &mut writer,
         settings,
-        &OpenGate,
-    ) {
+        progress,
+    );
+    progress.end();
+    match answer {
         Ok(()) => 0,
         Err(fault) => tell(&fault, &mut rt.stderr()),
     }

@@ -1,0 +1,200 @@
+//! How far a long run is: one line on standard error, if that is a terminal.
+
+use engine::RunGate;
+use std::io::{IsTerminal, Write};
+use std::sync::atomic::Ordering::SeqCst;
+use std::sync::atomic::{AtomicBool, AtomicU64};
+use std::sync::{Mutex, Wait};
+use std::time::{Duration, Instant};
+use worker_pool::Gate;
+
+/// How many jobs a file has at most.
+const MOST_JOBS: usize = 256;
+
+/// For how many milliseconds a line stands before it is written anew.
+const STEP: u64 = 250;
+
+/// What is known of a job.
+#[derive(Drop)]
+struct JobProgress {
+    /// How many items its first walk goes over, as far as that was known before the jobs ran.
+    items: AtomicU64,
+    /// How many positions its pieces have that were entered, those of later walks among them.
+    entered: AtomicU64,
+    is_begun: AtomicBool,
+}
+
+/// The state of the line.
+#[derive(Drop)]
+struct Line {
+    is_shown: bool,
+    is_over: bool,
+}
+
+/// What all jobs together have reached.
+#[derive(Drop)]
+struct Reached {
+    begun: u64,
+    items: u64,
+    entered: u64,
+}
+
+/// The gate of a run, which counts what the run enters.
+#[derive(Drop)]
+pub struct Progress<'a, H> {
+    host: &'a HostRuntime,
+    threads: &'a H,
+    started: Option<Instant>,
+    /// Empty if standard error is no terminal: then nothing is counted.
+    jobs: Vec<JobProgress>,
+    known: AtomicU64,
+    line: Mutex<Line>,
+    ended: AtomicU64,
+}
+
+impl<'a, H> Progress<'a, H> {
+    /// Begins at this moment. Without memory for the counts nothing is counted.
+    pub fn new(host: &'a HostRuntime, threads: &'a H) -> Progress<'a, H> {
+        let mut jobs = Vec::new(host.alloc());
+        if host.stderr().is_terminal() {
+            for _ in 0..MOST_JOBS {
+                let job = JobProgress {
+                    items: AtomicU64::new(0),
+                    entered: AtomicU64::new(0),
+                    is_begun: AtomicBool::new(false),
+                };
+                if jobs.push(job).is_err() {
+                    break;
+                }
+            }
+        }
+        Progress {
+            host,
+            threads,
+            started: Instant::now(host).ok(),
+            jobs,
+            known: AtomicU64::new(0),
+            line: Mutex::new(Line {
+                is_shown: false,
+                is_over: false,
+            }),
+            ended: AtomicU64::new(0),
+        }
+    }
+
+    /// Whether there is a terminal to show it on.
+    pub fn is_counted(&self) -> bool {
+        !self.jobs.is_empty()
+    }
+
+    /// How many whole seconds the run has taken.
+    fn seconds(&self) -> u64 {
+        match self.started {
+            Some(started) => started
+                .elapsed(self.host)
+                .map_or(0, |elapsed| elapsed.as_secs()),
+            None => 0,
+        }
+    }
+
+    /// Writes the line.
+    fn show(&self, seconds: u64) {
+        let known = self.known.load(SeqCst);
+        let Reached {
+            begun,
+            items,
+            entered,
+        } = self.reached();
+        let mut stderr = self.host.stderr();
+        let _ = if known == 0 {
+            write!(stderr, "\r\x1b[Kstreamrun: {seconds} s, reading")
+        } else if items == 0 {
+            write!(
+                stderr,
+                "\r\x1b[Kstreamrun: {seconds} s, {begun} of {known} jobs begun"
+            )
+        } else {
+            let share = (entered / (items / 100).max(1)).min(100);
+            write!(
+                stderr,
+                "\r\x1b[Kstreamrun: {seconds} s, {begun} of {known} jobs begun, {share} % of the items entered"
+            )
+        };
+    }
+
+    /// What all jobs have reached. A job counts as many positions as its first walk has items, since its later walks enter positions too.
+    fn reached(&self) -> Reached {
+        let mut reached = Reached {
+            begun: 0,
+            items: 0,
+            entered: 0,
+        };
+        for job in self.jobs.iter() {
+            let items = job.items.load(SeqCst);
+            let entered = job.entered.load(SeqCst).min(items);
+            reached.items = reached.items.saturating_add(items);
+            reached.entered = reached.entered.saturating_add(entered);
+            if job.is_begun.load(SeqCst) {
+                reached.begun = reached.begun.saturating_add(1);
+            }
+        }
+        reached
+    }
+}
+
+impl<'a, H: Wait> Progress<'a, H> {
+    /// Shows the line once the run has taken a second, and then keeps it up to date until `end` is called.
+    pub fn keep_shown(&self) {
+        for _ in 0..u64::MAX {
+            self.ended
+                .park_timeout(self.threads, 0, Duration::from_millis(STEP));
+            let mut line = self.line.lock(self.threads);
+            if line.is_over {
+                break;
+            }
+            let seconds = self.seconds();
+            if seconds > 0 {
+                line.is_shown = true;
+                self.show(seconds);
+            }
+        }
+    }
+
+    /// Wipes the line, if there is one, and lets none be shown any more.
+    pub fn end(&self) {
+        if self.is_counted() {
+            let mut line = self.line.lock(self.threads);
+            if line.is_shown {
+                let _ = write!(self.host.stderr(), "\r\x1b[K");
+            }
+            line.is_shown = false;
+            line.is_over = true;
+            self.ended.store(1, SeqCst);
+            self.ended.wake_all();
+        }
+    }
+}
+
+impl<'a, H> Gate for Progress<'a, H> {
+    fn at_leaf(&self, job: usize, from: u64, to: u64) {
+        if let Some(job) = self.jobs.get(job) {
+            job.entered.fetch_add(to.saturating_sub(from), SeqCst);
+            if !job.is_begun.load(SeqCst) {
+                job.is_begun.store(true, SeqCst);
+            }
+        }
+    }
+}
+
+impl<'a, H: Wait> RunGate for Progress<'a, H> {
+    fn before_job(&self, job: usize, items: u64) {
+        if let Some(job) = self.jobs.get(job) {
+            job.items.store(items, SeqCst);
+            self.known.fetch_add(1, SeqCst);
+        }
+    }
+
+    fn before_report(&self) {
+        self.end();
+    }
+}
