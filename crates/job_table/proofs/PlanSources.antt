@@ -48,18 +48,19 @@ module _ (plans : List AbstractPlan) (job : ℕ) (p : AbstractPlan) (same : p �
   pub same_segments : (chain_at plans job).segments ≡ walked_segments p
   same_segments = sym (ap (λ (q : AbstractPlan). walked_segments q) same)
 
-  -- the answer of a job that is walked, of what its last segment gives
-  pub answered : (env : Numbers) (part : Part) (a r : Answer) → r ≡ instead_of_fault p.fallback a → job < length plans → first_unusable_at (answers_before plans job) (plan_at plans job).named ≡ None → env ≡ (chain_at plans job).numbers
+  -- the answer of a job that is walked
+  pub answered : {F : Type 0} (env : Numbers) (part : Part) (r : Result Answer F) → job < length plans → first_unusable_at (answers_before plans job) (plan_at plans job).named ≡ None → env ≡ (chain_at plans job).numbers
       → PartStands (chain_at plans job) (slices_first (chain_at plans job).segments) 0 (size_at (chain_at plans job) (slices_first (chain_at plans job).segments)) part
-      → ((chain : AbstractChain) → chain.segments ≡ walked_segments p → chain.numbers ≡ env → PartStands chain (slices_first chain.segments) 0 (size_at chain (slices_first chain.segments)) part
-      → a ≡ segments_answer chain.segments chain.numbers chain.source)
-      → r ≡ answer_of plans job
-  answered env part a r is low usable numbers stands h =
+      → IfOk r (λ answer. (chain : AbstractChain) → chain.segments ≡ walked_segments p → chain.numbers ≡ env → PartStands chain (slices_first chain.segments) 0 (size_at chain (slices_first chain.segments)) part
+      → answer ≡ instead_of_fault p.fallback (segments_answer chain.segments chain.numbers chain.source))
+      → IfOk r (λ answer. answer ≡ answer_of plans job)
+  answered env part (Ok a) low usable numbers stands h =
       let chain = chain_at plans job in
-      is
-      ∙ (λ i. instead_of_fault (same i).fallback (h chain same_segments (sym numbers) stands i))
+      h chain same_segments (sym numbers) stands
+      ∙ (λ i. instead_of_fault (same i).fallback (segments_answer chain.segments chain.numbers chain.source))
       ∙ chain_answer chain.numbers (put_into (answers_before plans job) (plan_at plans job))
       ∙ walked_answer plans job low usable
+  answered env part (Err e) low usable numbers stands h = tt
 
 -- ---- sources with arrays put in
 

@@ -5,6 +5,7 @@ ghost use Rattle.early_stop.specs.Decisive.{Decides};
 ghost use Rattle.job_plan.specs.Parts.{StandsFor, end_in, may_search, plan_in, segments_in, walk_in};
 ghost use Rattle.job_plan.specs.Plans.{segments_answer};
 ghost use Rattle.job_plan.specs.Links.{first_links, linked, walked_segments};
+ghost use Rattle.job_plan.specs.Walks.{instead_of_fault};
 ghost use Rattle.job_plan.specs.Windows.{later_segments};
 ghost use Rattle.job_table.specs.PlanSegments.{AbstractChain, PartStands, end_divides, gives_at, segment_divides, size_at, slices_first, walk_at, walk_size};
 
@@ -194,7 +195,7 @@ pub(crate) fn streamed_part<'a>(
     streamed_in_order(alloc, plan.later_segments(), first, source, env, registers)
 }
 
-/// The answer of a job, of the part of its whole last segment. It is 0 if there is no such segment. `None` if the source of the segment
+/// The answer that the part of the whole last segment of a job gives. It is 0 if there is no such segment. `None` if the source of the segment
 /// has to be walked once more, in order.
 pub(crate) fn last_answer(
     alloc: Global,
@@ -218,5 +219,23 @@ pub(crate) fn last_answer(
     match outcome {
         Outcome::Answer(answer) => Ok(Some(answer)),
         Outcome::Source(_) => Ok(Some(Answer::Number(0))),
+    }
+}
+
+/// The answer of a job, of the part of its whole last segment, with what the job gives in place of a fault.
+pub(crate) fn job_answer(
+    alloc: Global,
+    plan: &JobPlan,
+    part: Part<'_>,
+    env: &Env,
+) -> Result<Option<Answer>, NoMemory>
+    ensures some { IfOk result (λ found. IfSome found (λ answer. (chain : AbstractChain) → chain.segments ≡ walked_segments (plan_in plan.now) → chain.numbers ≡ env.now
+        → PartStands chain (slices_first chain.segments) 0 (size_at chain (slices_first chain.segments)) part.entry
+        → answer ≡ instead_of_fault (plan_in plan.now).fallback (segments_answer chain.segments chain.numbers chain.source))) }
+    ensures none { IfOk result (λ found. IfNone found (may_search part.entry ≡ true)) }
+{
+    match last_answer(alloc, plan, part, env)? {
+        Some(answer) => Ok(Some(plan.without_fault(answer))),
+        None => Ok(None),
     }
 }

@@ -17,7 +17,7 @@ use crate::earlier::EarlierAnswers;
 use crate::kept::{SegmentSource, Taken};
 use crate::plan_names::different;
 use crate::plan_parts::{
-    is_divided, last_answer, left_out, next_walk, part_in_order, piece, slices_first, stored_piece,
+    is_divided, job_answer, left_out, next_walk, part_in_order, piece, slices_first, stored_piece,
     streamed_part, streamed_piece,
 };
 use crate::run::run_all;
@@ -318,13 +318,13 @@ impl<'a, 'c, P: Planned> Segments for PlanJobs<'a, 'c, P> {
         registers: &mut Registers,
     ) -> Result<Answer, NoMemory> {
         let plan = self.job(job);
-        if let Some(answer) = last_answer(alloc, plan, part, &given.numbers)? {
-            return Ok(plan.without_fault(answer));
+        if let Some(answer) = job_answer(alloc, plan, part, &given.numbers)? {
+            return Ok(answer);
         }
         let again = self.in_order(alloc, job, source, given, earlier, registers)?;
-        match last_answer(alloc, plan, again, &given.numbers)? {
-            Some(answer) => Ok(plan.without_fault(answer)),
-            None => Ok(plan.without_fault(Answer::Number(0))),
+        match job_answer(alloc, plan, again, &given.numbers)? {
+            Some(answer) => Ok(answer),
+            None => Ok(Answer::Number(0)),
         }
     }
 }

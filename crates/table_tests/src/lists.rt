@@ -224,12 +224,15 @@ impl<'a, P: Planned + Sync> Segments for Lists<'a, P> {
     }
 
     #[tactic(auto, using(crate::proofs::Slices::whole_slice))]
-    fn answer(
+    fn answer<E: EarlierAnswers<Vec<i64>>>(
         &self,
         _alloc: Global,
         _job: usize,
         part: Vec<i64>,
+        _source: &ListSource,
         _given: &(),
+        _earlier: &E,
+        _scratch: &mut (),
     ) -> Result<Vec<i64>, NoMemory> {
         Ok(part)
     }

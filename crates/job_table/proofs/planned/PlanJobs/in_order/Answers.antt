@@ -39,10 +39,10 @@ returns-else-streams-2 g c =
     let alone : plan_streams p ≡ false = sym c.streams-in-Own-2.ensures ∙ c.if-streams-2.false in
     let none = sym (c.takes_arrays.ensures c.if-takes_arrays.false (answers_before plans job) p.named) in
     record {
-      stands = subst (λ (k : ℕ). IfOk c.part_in_order-else-streams-2.result (λ part. PartStands chain k 0 (size_at chain k) part)) (sym first)
-          (c.part_in_order-else-streams-2.ensures.stands chain (same_segments plans job p c.job-plan.ensures) (sym c.requires.given.1.0)
+      stands = subst (λ (k : ℕ). IfOk c.part_in_order-in-Own-2.result (λ part. PartStands chain k 0 (size_at chain k) part)) (sym first)
+          (c.part_in_order-in-Own-2.ensures.stands chain (same_segments plans job p c.job-plan.ensures) (sym c.requires.given.1.0)
           (c.of_selected-source.ensures ∙ put_walk plans job p c.job-plan.ensures 0 p.sources refl none alone));
-      kind = c.part_in_order-else-streams-2.ensures.kind;
+      kind = c.part_in_order-in-Own-2.ensures.kind;
     }
 
 pub returns-in-Kept : goal.returns-in-Kept
