@@ -374,7 +374,7 @@ all_moved ss us s h w u is there = segments_more ss us s u ∙ ap (λ (x : Abstr
 same_answer : (before : List Answer) (p q : AbstractPlan) → IsSamePlan p q → planned_after before p ≡ planned_after before q
 same_answer before p q h =
     (λ i. unless_unusable (first_unusable_at before (h.named i))
-        (instead_of_fault (h.fallback i) (segments_answer p.segments (numbers_at before (h.named i)) (source_walk (all_put_at before (h.named i) (h.sources i))))))
+    (instead_of_fault (h.fallback i) (segments_answer p.segments (numbers_at before (h.named i)) (source_walk (all_put_at before (h.named i) (h.sources i))))))
     ∙ ap (λ (a : Answer). unless_unusable (first_unusable_at before q.named) (instead_of_fault q.fallback a)) (h.answers (numbers_at before q.named) (source_walk (all_put_at before q.named q.sources)))
 
 same_from : (ps qs : List AbstractPlan) → AllSamePlans ps qs → (before : List Answer) → planned_from before ps ≡ planned_from before qs

@@ -183,7 +183,8 @@ fn lines_are_skipped_or_joined_or_begin_a_job(rt: HostRuntime) {
         b"version 2;\n.b\nversion 2",
         b"version2\nversion 02\nversion 3\nversion 2L\nversion\n2",
     ];
-    let jobs = "4: a |6:b|~1:a|~1:a .b   .c |4:d|~1:a \t.b|6:c .d|~3: / c|~3:a #b ..|~1:a|2:/. \t.|~\
+    let jobs =
+        "4: a |6:b|~1:a|~1:a .b   .c |4:d|~1:a \t.b|6:c .d|~3: / c|~3:a #b ..|~1:a|2:/. \t.|~\
 2|2:a|3:version 2|~2|3:a .b|~1:a|2:version 2|~1:version 2; .b|3:version 2|~\
 1:version2|2:version 02|3:version 3|4:version 2L|5:version|6:2|";
     for (file, jobs) in files.into_iter().zip(jobs.split('~')) {
