@@ -6,7 +6,7 @@ from scatter_lib import merging, plan, running, tables
 
 from . import by_parts
 
-MOST_FILES = 300
+MOST_FILES = 1000
 
 
 def in_another_order(merge):
