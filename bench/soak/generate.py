@@ -254,15 +254,42 @@ class Writer(LambdaWriter):
         return [*parts, *stages, *self.random.choice(ends)]
 
     def endless(self):
-        """The same, with stages that drop or gather items before few of them are asked for."""
-        source, near = Source(f'range(0, {2 ** 62})', 3000, lambda at: at), self.place(3000)
-        before = self.pick(f'skip({near})', f'dropWhile(x -> x < {near})', 'takeWhile(x -> x >= 0)', f'limit({2 ** 40})',
-                           f'takeWhile(x -> x < {2 ** 40})', 'flatMap(x -> of(x, -x))', f'skip({near})')
+        """The same, with up to six slices among other stages before few of the items are asked for."""
+        near, half = self.place(3000), 2 ** 61
+        begin = self.pick([f'range(0, {2 ** 62})'], [f'range(0, {2 ** 62})'], [f'range({-half}, {half})', f'skip({half})'],
+                          ['of(0, 1)', f'flatMap(x -> range(x, {2 ** 62} - x))'],
+                          [f'of(0, {2 ** 62 - 2})', f'map(x -> {2 ** 62 - 1} - x)', 'flatMap(x -> range(0, x))'],
+                          [f'concat(range(0, 1000), range(1000, {2 ** 62}))'])
+        stages = []
+        for _ in range(self.random.randint(1, 6)):
+            stages += self.pick([], [], ['map(x -> x + 1)'], ['map(x -> x)'], ['filter(x -> x % 3 != 1)'], ['filter(x -> (x & 1) == 0)'],
+                                ['flatMap(x -> of(x, -x))'], [f'flatMap(x -> range(x, x + {self.pick(1, 2)}))'],
+                                [f'map(x -> x + 9 / (x - {near + self.place(3000)}))'])
+            stages.append(self.pick(f'skip({self.place(3000)})', 'skip(1)', f'dropWhile(x -> x < {self.place(3000)})',
+                                    f'limit({2 ** 40})', f'takeWhile(x -> x < {2 ** 40})', f'limit({self.place(9000)})',
+                                    f'takeWhile(x -> x != {self.place(9000)})', f'dropWhile(x -> 7 / (x - {self.place(9000)}) < 2)'))
+        source = Source(begin[0], 3000, lambda at: at)
         end = self.pick([f'limit({self.place(3000)})', self.terminal(source)], ['findFirst()'], [f'anyMatch(x -> x > {near + 9})'],
                         [f'map(x -> x > {near + self.place(3000)} ? 9 / (x - x) : x)', self.terminal(source)],
                         [f'limit({near})', self.prefix(near), self.terminal(source)])
-        first = self.pick('map(x -> x + 1)', 'map(x -> x)', 'filter(x -> x % 3 != 1)', f'flatMap(x -> range(x, x + {self.pick(1, 2)}))')
-        return [source.text, first, before, *self.random.choice([[], [], ['skip(1)'], ['filter(x -> (x & 1) == 0)']]), *end]
+        return [*begin, *stages, *end]
+
+    def sums(self):
+        """An exact sum that comes near an end of the range of 64 bits, and back."""
+        far = self.pick(MAX, MAX, MAX - 1, MIN, MIN, MIN + 1, 2 ** 62, -2 ** 62, 2 ** 61)
+        if self.often(0.4):
+            some = [self.pick(far, -far - 1, -far, 1, -1, 0, 2, MAX, MIN, MAX // 2, self.random.randint(-9, 9))
+                    for _ in range(self.random.randint(1, 30))]
+            some = [max(min(it, MAX), MIN) for it in some]
+            source = Source('of({})'.format(', '.join(map(str, some))), len(some), lambda at: some[at])
+            stages = []
+        else:
+            source = self.source()
+            step, at = far // self.pick(1, 2, 3, max(source.length, 1), max(source.length // 2, 1)), self.value_in(source)
+            stages = [self.pick(f'map(x -> {step})', f'map(x -> x == {at} ? {far} : 1)', f'map(x -> x == {at} ? {far} : x == {at} + 1 ? -1 : 0)',
+                                f'map(x -> (x & 1) == 0 ? {max(step, MIN + 1)} : -({max(step, MIN + 1)}))', f'map(x -> {step} + (x % 3 - 1))')]
+        more = self.stages(source, ['filter', 'flatMap', 'slice', 'while', 'fault'], 1)
+        return [source.text, *stages, *more, self.terminal(source, ['exact'])]
 
     # Files
 
@@ -359,7 +386,7 @@ def quoted(name):
 # What stands in a file: jobs of these kinds; 'columns' gives a column file too, 'refused' damages some of the bytes.
 KINDS = {'values': Writer.values, 'folds': Writer.folds, 'flatmaps': Writer.flat_maps, 'slices': Writer.slices,
          'finds': Writer.finds, 'faults': Writer.faults, 'prefix': Writer.prefixes, 'names': Writer.named,
-         'long': Writer.long_sources, 'endless': Writer.endless, 'many': Writer.values, 'tables': Writer.tables,
+         'sums': Writer.sums, 'long': Writer.long_sources, 'endless': Writer.endless, 'many': Writer.values, 'tables': Writer.tables,
          'columns': None, 'refused': None}
 # Those that take long, or that few programs can do, are only there if they are asked for.
 DEFAULT_KINDS = [kind for kind in KINDS if kind not in ('tables', 'endless')]
