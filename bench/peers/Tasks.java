@@ -70,6 +70,18 @@ public final class Tasks {
         return sums;
     }
 
+    /** Each sum takes the one before it. */
+    private static List<Object> chain() {
+        List<Object> sums = new ArrayList<>();
+        long last = 0;
+        for (int i = 0; i < 256; i++) {
+            long before = last;
+            last = mode(LongStream.range(0, 100)).map(x -> x ^ before).sum();
+            sums.add(last);
+        }
+        return sums;
+    }
+
     private static List<Object> run(String task) {
         return switch (task) {
             case "one_sum" -> List.of(over(b).sum());
@@ -80,6 +92,7 @@ public final class Tasks {
             case "to_array" -> List.of(mode(LongStream.range(0, 1_000_000)).map(x -> x * 7).toArray());
             case "to_array_10" -> List.of(mode(LongStream.range(0, 10_000_000)).map(x -> x * 7).toArray());
             case "small_jobs" -> smallJobs();
+            case "chain" -> chain();
             case "shallow_find" -> List.of(
                     mode(LongStream.range(0, 1L << 62)).filter(x -> x % 1001 == 1000).findFirst());
             default -> throw new IllegalArgumentException(task);
@@ -112,7 +125,7 @@ public final class Tasks {
         List<Object> answers = run(task);
         StringBuilder out = new StringBuilder();
         for (int i = 0; i < answers.size(); i++) {
-            String name = task.equals("small_jobs") ? "j" + i : task.equals("twelve") ? "j" + (i + 1)
+            String name = task.equals("small_jobs") || task.equals("chain") ? "j" + i : task.equals("twelve") ? "j" + (i + 1)
                     : task.startsWith("to_array") ? "a" : task.equals("shallow_find") ? "f" : "s";
             out.append(name).append(" = ").append(text(answers.get(i))).append('\n');
         }

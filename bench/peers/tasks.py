@@ -23,6 +23,9 @@ j12 = column("e").map(x -> x < 0 ? -x : x).sum()
 
 SMALL = "".join(f"j{i} = range(0, 100).map(x -> x * {i}).filter(x -> x % 3 == 0).sum()\n" for i in range(256))
 
+# Each job waits for the one before it.
+CHAIN = "j0 = range(0, 100).sum()\n" + "".join(f"j{i} = range(0, 100).map(x -> x ^ $j{i - 1}).sum()\n" for i in range(1, 256))
+
 JOBS = {
     "one_sum": 's = column("b").sum()\n',
     "twelve": TWELVE,
@@ -31,6 +34,7 @@ JOBS = {
     "to_array": "a = range(0, 1000000).map(x -> x * 7).toArray()\n",
     "to_array_10": "a = range(0, 10000000).map(x -> x * 7).toArray()\n",
     "small_jobs": SMALL,
+    "chain": CHAIN,
     "shallow_find": "f = range(0, 4611686018427387904).filter(x -> x % 1001 == 1000).findFirst()\n",
 }
 
