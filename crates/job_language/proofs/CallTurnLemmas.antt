@@ -1,26 +1,24 @@
 -- The calls of a job, in turn.
-use Rattle.std.proofs.Common.{◌≡◌, ℕ, suc, ◌+◌, ◌<◌, ◌≤◌, ℤ, inl, inr, List, [], ◌∷◌, ◌++◌, length, drop, get_or, Option, Some, None, Result, Ok, Err, refl, sym, ap, subst, ◌∙◌, arith}
-use Rattle.std.specs.Prelude.{nat_le}
+use Rattle.std.proofs.Common.{◌≡◌, ℕ, suc, ◌+◌, ◌<◌, ◌≤◌, ℤ, Bool, true, false, inl, inr, List, [], ◌∷◌, ◌++◌, length, drop, get_or, Option, Some, None, Result, Ok, Err, refl, sym, ap, subst, ◌∙◌, arith}
+use Rattle.std.specs.Prelude.{nat_le, if◌then◌else◌}
 use Rattle.std.proofs.lemmas.List.{drop_more, drop_all, length-append}
 use Rattle.std.proofs.lemmas.Grind.{common_steps}
 use Rattle.stream_tokens.specs.CutTexts.{TokenizedText}
 use Rattle.lambda_expr.specs.Words.{Word}
 use Rattle.job_language.specs.declared.piece.WrittenCall as written
-use Rattle.job_language.specs.declared.call_part.CallPart.{CallPart}
+use Rattle.job_language.specs.declared.row.CallPart.{CallPart}
 use Rattle.job_language.specs.declared.fault.Cause.{Cause}
 use Rattle.job_language.specs.declared.fault.Cause.TheVariants as cause
-use Rattle.job_language.specs.declared.operation.Role.{Role}
-use Rattle.job_language.specs.declared.operation.Role.TheVariants as role
 use Rattle.job_language.specs.declared.scope.Gives.{Gives}
 use Rattle.job_language.specs.declared.scope.Gives.TheVariants as gives
-use Rattle.job_language.specs.Table.{role_of}
-use Rattle.job_language.specs.declared.operation.Operation.{Operation}
+use Rattle.job_language.specs.Rows.{AbstractCall, Argument, Row, as_source, as_concat, as_stage, as_terminal, as_fallback, taken, made, built_by, role_in, source, stage, terminal, fallback}
+use Rattle.job_language.specs.Table.{row, role_of}
 use Rattle.job_language.specs.declared.job.JobStage.{JobStage}
 use Rattle.job_language.specs.declared.job.PlainSource.{PlainSource}
 use Rattle.job_language.specs.Jobs.{AbstractJob, source_of, sources_of, job_stage_of, job_stages_of}
 use Rattle.job_language.specs.Causes.{Scope, first_cause, when, stage_cause, early_causes, numbers_of}
-use Rattle.job_language.specs.Arguments.{Argument, PlacedCall, IsArgumentRead}
-use Rattle.job_language.specs.Verdicts.{AbstractCall, abstract_call, abstract_stage, call_answer, identity_cause, unless, added, below_terminal, fallback, fallback_for, given_by, IsReadAfter, IsCallRead, IsReadInTurn, IsNextCall, AreRead}
+use Rattle.job_language.specs.Arguments.{PlacedCall, IsArgumentRead}
+use Rattle.job_language.specs.Verdicts.{call_answer, added, below_terminal, fallback_for, given_by, IsReadAfter, IsCallRead, IsReadInTurn, IsNextCall, AreRead}
 use Rattle.job_language.specs.Shapes.{placed_in, all_placed}
 use Rattle.job_language.specs.Parts.{part_in, answer_in, Answers}
 
@@ -39,20 +37,26 @@ whole s t c ks a (Err e) h k arg eq = λ other. subst (λ f. IsReadAfter f s t c
 below : (n : ℕ) → when (nat_le 32 n) cause.TooLong ≡ None → n < 32
 below n h = grind (arith, common_steps)
 
-grown : (j : AbstractJob) (r : Role) (o : Operation) (ks : List ℤ) (a : Argument) → stage_cause (length j.stages) r ≡ None → length j.stages ≤ 32 → length (added j (abstract_call r o ks a)).stages ≤ 32
-grown j role.Stage o ks a h le = let lt = below (length j.stages) h in let one = length-append j.stages (abstract_stage o ks a ∷ []) in omega arith
-grown j role.Source o ks a h le = le
-grown j role.Concatenation o ks a h le = le
-grown j role.Terminal o ks a h le = le
-grown j role.Fallback o ks a h le = le
+-- what is built of what is taken
+what : {A : Type 0} (f : A → AbstractCall) (x : Result A Cause) (g : AbstractCall) → made f x ≡ Ok g → (v : A) × (f v ≡ g)
+what f (Ok v) g e = (v, cc)
+what f (Err c) g e = absurd cc
 
-kept : (j : AbstractJob) (r : Role) (o : Operation) (ks : List ℤ) (a : Argument) (i : Option Cause) (g : AbstractCall) → unless i (abstract_call r o ks a) ≡ Ok g → stage_cause (length j.stages) r ≡ None → length j.stages ≤ 32 → length (added j g).stages ≤ 32
-kept j r o ks a None g e h le = let same : abstract_call r o ks a ≡ g = cc in subst (λ v. length (added j v).stages ≤ 32) same (grown j r o ks a h le)
-kept j r o ks a (Some x) g e h le = absurd cc
+grown : (j : AbstractJob) (r : Row) (a : Argument) (ks : List ℤ) (g : AbstractCall) → built_by r a ks ≡ Ok g → stage_cause (length j.stages) (role_in r) ≡ None → length j.stages ≤ 32 → length (added j g).stages ≤ 32
+grown j (as_source t) a ks g e h le = let w = what source (taken t a ks) g e in subst (λ v. length (added j v).stages ≤ 32) w.1 le
+grown j as_concat a ks g e h le = absurd cc
+grown j (as_stage t) a ks g e h le =
+    let w = what stage (taken t a ks) g e in
+    let lt = below (length j.stages) h in
+    let one = length-append j.stages (w.0 ∷ []) in
+    let more : length (added j (stage w.0)).stages ≤ 32 = omega arith in
+    subst (λ v. length (added j v).stages ≤ 32) w.1 more
+grown j (as_terminal t) a ks g e h le = let w = what terminal (taken t a ks) g e in subst (λ v. length (added j v).stages ≤ 32) w.1 le
+grown j (as_fallback t) a ks g e h le = let w = what fallback (taken t a ks) g e in subst (λ v. length (added j v).stages ≤ 32) w.1 le
 
 after_call : (j : AbstractJob) (s : Scope) (t : TokenizedText) (c : PlacedCall) (g : AbstractCall) (f : Option Cause) → IsReadAfter f s t c (Ok g) → stage_cause (length j.stages) (role_of c.call.operation) ≡ None → length j.stages ≤ 32 → length (added j g).stages ≤ 32
 after_call j s t c g (Some e) r h le = absurd cc
-after_call j s t c g None (Ok a, arg, eq) h le = let o = c.call.operation in let ks = numbers_of o (length c.call.parts) 0 c.call.parts in kept j (role_of o) o ks a (identity_cause o ks a) g eq h le
+after_call j s t c g None (Ok a, arg, eq) h le = let o = c.call.operation in grown j (row o) a (numbers_of o (length c.call.parts) 0 c.call.parts) g eq h le
 after_call j s t c g None (Err e, arg, eq) h le = absurd cc
 
 in_turn : (j : AbstractJob) (s : Scope) (t : TokenizedText) (c : PlacedCall) (g : AbstractCall) (late : Option Cause) → stage_cause (length j.stages) (role_of c.call.operation) ≡ late → IsReadInTurn late s t c (Ok g) → length j.stages ≤ 32 → length (added j g).stages ≤ 32
@@ -103,6 +107,15 @@ sources_push (x ∷ xs) ys = ap (λ v. source_of x ∷ v) (sources_push xs ys)
 pub stages_push : (xs ys : List JobStage) → job_stages_of (xs ++ ys) ≡ job_stages_of xs ++ job_stages_of ys
 stages_push [] ys = refl
 stages_push (x ∷ xs) ys = ap (λ v. job_stage_of x ∷ v) (stages_push xs ys)
+
+-- the stages after a push that may fail
+pub few_pushed : (pushed : Bool) (gs hs : List JobStage) (g : JobStage) → hs ≡ (if pushed then gs ++ g ∷ [] else gs) → length (job_stages_of gs ++ job_stage_of g ∷ []) ≤ 32 → length gs ≤ 32 → length hs ≤ 32
+few_pushed true gs hs g e more few =
+    let one = length-append (job_stages_of gs) (job_stage_of g ∷ []) in
+    let same = length_stages gs in
+    let two = length-append gs (g ∷ []) in
+    subst (λ v. length v ≤ 32) (sym e) (omega arith)
+few_pushed false gs hs g e more few = subst (λ v. length v ≤ 32) (sym e) few
 
 pub none_left : (s : Scope) (t : TokenizedText) (j : AbstractJob) (ws : List Word) (cs : List written.WrittenCall) (i : ℕ) → length cs ≤ i → AreRead s t j (all_placed ws (drop i cs)) (Ok j)
 none_left s t j ws cs i far = subst (λ v. AreRead s t j (all_placed ws v) (Ok j)) (sym (drop_all i cs far)) refl

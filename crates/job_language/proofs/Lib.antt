@@ -22,5 +22,6 @@ pub mod ReferenceLemmas
 pub mod ShapeLemmas
 pub mod SoundWordLemmas
 pub mod Splits
+pub mod TakenParts
 pub mod WholeTextLemmas
 pub mod WordLists

@@ -5,39 +5,15 @@ use Rattle.std.specs.Cmp.Lexicographic.{pointwise}
 use Rattle.std.proofs.lemmas.List.{drop_more}
 use Rattle.job_language.specs.declared.operation.Operation.{Operation}
 use Rattle.job_language.specs.declared.operation.Operation.TheVariants as op
-use Rattle.job_language.specs.Table.{name_of, operation_of, row_of}
+use Rattle.job_language.specs.Table.{name_of, operation_of, operation_among}
 
 pub named_back : (o : Operation) → operation_of (name_of o) ≡ Some o
 named_back op.Range = refl
-named_back op.RangeClosed = refl
-named_back op.Of = refl
-named_back op.Empty = refl
-named_back op.Column = refl
-named_back op.Result = refl
-named_back op.Concat = refl
-named_back op.Map = refl
-named_back op.Filter = refl
-named_back op.FlatMap = refl
-named_back op.Limit = refl
-named_back op.Skip = refl
-named_back op.TakeWhile = refl
-named_back op.DropWhile = refl
-named_back op.Prefix = refl
-named_back op.Sum = refl
-named_back op.Count = refl
-named_back op.Min = refl
-named_back op.Max = refl
-named_back op.FindFirst = refl
-named_back op.ToArray = refl
-named_back op.Reduce = refl
-named_back op.AnyMatch = refl
-named_back op.AllMatch = refl
-named_back op.NoneMatch = refl
-named_back op.OnFault = refl
+named_back o = refl
 
 pub one_name : (a b : Operation) → name_of a ≡ name_of b → a ≡ b
 one_name a b h = let e : Some a ≡ Some b = sym (named_back a) ∙ ap operation_of h ∙ named_back b in cc
 
 -- a row with another name is skipped
-pub row_more : (os : List Operation) (i : ℕ) (w : List ℕ) (d : Operation) → i < length os → pointwise nat_eq w (name_of (get_or os i d)) ≡ false → row_of (drop i os) w ≡ row_of (drop (i + 1) os) w
-row_more os i w d lt other = ap (λ v. row_of v w) (drop_more os i d lt) ∙ ap (λ b. if b then Some (get_or os i d) else row_of (drop (i + 1) os) w) other
+pub row_more : (os : List Operation) (i : ℕ) (w : List ℕ) (d : Operation) → i < length os → pointwise nat_eq w (name_of (get_or os i d)) ≡ false → operation_among (drop i os) w ≡ operation_among (drop (i + 1) os) w
+row_more os i w d lt other = ap (λ v. operation_among v w) (drop_more os i d lt) ∙ ap (λ b. if b then Some (get_or os i d) else operation_among (drop (i + 1) os) w) other

@@ -20,13 +20,14 @@ use Rattle.reduce_ops.specs.declared.op.Op.{Op}
 use Rattle.job_language.specs.declared.fault.Cause.{Cause}
 use Rattle.job_language.specs.declared.operation.Param.{Param}
 use Rattle.job_language.specs.declared.operation.Param.TheVariants as param
+use Rattle.job_language.specs.Rows.{AbstractCall, Argument, source, stage, terminal, fallback}
 use Rattle.job_language.specs.Table.{role_of}
 use Rattle.job_language.specs.Grammar.{Job, IsJob, IsNoJob, pieces_words, job_pieces}
 use Rattle.job_language.specs.Jobs.{AbstractJob}
 use Rattle.job_language.specs.Causes.{Scope, first_cause, stage_cause, early_causes, numbers_of}
 use Rattle.job_language.specs.Operators.{is_add_exact, spelled_op}
-use Rattle.job_language.specs.Arguments.{Argument, PlacedCall, IsOutcome, lambda_answer, IsLambdaRead, IsOperatorRead, IsReadBy, IsArgumentRead, last_param, last_part, argument_text}
-use Rattle.job_language.specs.Verdicts.{AbstractCall, source, stage, terminal, fallback, call_answer, added, below_terminal, IsNextCall, job_named, placed_calls, IsReadAfter, IsReadInTurn, AreRead, IsJobRead, IsRead, IsInside}
+use Rattle.job_language.specs.Arguments.{PlacedCall, IsOutcome, lambda_answer, IsLambdaRead, IsOperatorRead, IsReadBy, IsArgumentRead, last_param, last_part, argument_text}
+use Rattle.job_language.specs.Verdicts.{call_answer, added, below_terminal, IsNextCall, job_named, placed_calls, IsReadAfter, IsReadInTurn, AreRead, IsJobRead, IsRead, IsInside}
 use Rattle.job_language.specs.Verdicts as verdict
 use Rattle.job_language.specs.Parts.{causes_before}
 use Rattle.job_language.proofs.ShapeLemmas.{one_spelled}

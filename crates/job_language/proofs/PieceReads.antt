@@ -9,7 +9,7 @@ use Rattle.job_language.specs.declared.operation.Operation.{Operation}
 use Rattle.job_language.specs.declared.operation.Operation.TheVariants as op
 use Rattle.job_language.specs.declared.operation.Role.TheVariants as role
 use Rattle.job_language.specs.declared.piece.Mark.{Mark}
-use Rattle.job_language.specs.Table.{name_of, operations, row_of, role_of}
+use Rattle.job_language.specs.Table.{name_of, operations, operation_among, role_of}
 use Rattle.job_language.specs.Calls.{call_words, parts_words}
 use Rattle.job_language.specs.Splitting.{pieces, AreEnds, Completes, call_at, IsReadAs, IsNoCallOf}
 use Rattle.job_language.specs.Grammar.{call, begin_concat, owner}
@@ -35,11 +35,11 @@ open_within (w ∷ ws) zero h = omega arith
 open_within (w ∷ ws) (suc i) h = let k = open_within ws i h in omega arith
 
 -- the operation of a name has that name
-named_by : (os : List Operation) (p : Operation) (w : List ℕ) (o : Operation) (b : Bool) → pointwise nat_eq w (name_of p) ≡ b → (row_of os w ≡ Some o → w ≡ name_of o) → (if b then Some p else row_of os w) ≡ Some o → w ≡ name_of o
+named_by : (os : List Operation) (p : Operation) (w : List ℕ) (o : Operation) (b : Bool) → pointwise nat_eq w (name_of p) ≡ b → (operation_among os w ≡ Some o → w ≡ name_of o) → (if b then Some p else operation_among os w) ≡ Some o → w ≡ name_of o
 named_by os p w o true h further k = let e : p ≡ o = cc in same_text w (name_of p) (sym h) ∙ ap name_of e
 named_by os p w o false h further k = further k
 
-named_row : (os : List Operation) (w : List ℕ) (o : Operation) → row_of os w ≡ Some o → w ≡ name_of o
+named_row : (os : List Operation) (w : List ℕ) (o : Operation) → operation_among os w ≡ Some o → w ≡ name_of o
 named_row [] w o h = absurd cc
 named_row (p ∷ os) w o h = named_by os p w o (pointwise nat_eq w (name_of p)) refl (named_row os w o) h
 

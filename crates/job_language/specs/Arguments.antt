@@ -4,8 +4,6 @@ use Rattle.stream_tokens.specs.declared.token.Token.{Token}
 use Rattle.stream_tokens.specs.declared.token.TokenKind.TheVariants.{Bad}
 use Rattle.stream_tokens.specs.CutTexts.{TokenizedText, between}
 use Rattle.lambda_expr.specs.Words.{Word, named, quoted}
-use Rattle.lambda_expr.specs.Term.{Long, Truth}
-use Rattle.lambda_expr.specs.Streams.{Inner}
 use Rattle.lambda_expr.specs.Refusals.{AbstractLambda, long, boolean, stream as inner_stream, pair, Judged, IsRefused}
 use Rattle.lambda_expr.specs.References.{names_of}
 use Rattle.lambda_expr.specs.declared.fault.ReadFault.{ReadFault}
@@ -16,6 +14,7 @@ use Rattle.lambda_expr.specs.declared.lambda.Want.{Want}
 use Rattle.lambda_expr.specs.declared.lambda.Want.TheVariants as want
 use Rattle.columns.specs.Table.{cells_named}
 use Rattle.reduce_ops.specs.declared.op.Op.{Op}
+use Rattle.reduce_ops.specs.declared.op.Op.TheVariants as op
 use Rattle.job_language.specs.declared.fault.Cause.{Cause}
 use Rattle.job_language.specs.declared.fault.Cause.TheVariants as cause
 use Rattle.job_language.specs.declared.operation.Operation.{Operation}
@@ -23,22 +22,11 @@ use Rattle.job_language.specs.declared.operation.Param.{Param}
 use Rattle.job_language.specs.declared.operation.Param.TheVariants as param
 use Rattle.job_language.specs.declared.scope.Gives.{Gives}
 use Rattle.job_language.specs.declared.scope.Gives.TheVariants as gives
+use Rattle.job_language.specs.Rows.{Argument, nothing, column, job, number, test, stream, operator, exact}
 use Rattle.job_language.specs.Table.{param_of}
 use Rattle.job_language.specs.Calls.{Call}
 use Rattle.job_language.specs.Causes.{Scope, given, first_cause, inside_quotes}
-use Rattle.job_language.specs.Operators.{is_add_exact, spelled_op, op_of_form}
-
--- what a part is: the cells of a column, the name of an earlier job, the expression of a lambda, an operator, the
--- addition of exact sums; nothing if the last part is a number, or there is none
-pub data Argument : Type 0 where
-  nothing : Argument
-  column : List ℤ → Argument
-  job : List ℕ → Argument
-  number : Long → Argument
-  test : Truth → Argument
-  stream : Inner → Argument
-  operator : Op → Argument
-  exact : Argument
+use Rattle.job_language.specs.Operators.{is_add_exact, spelled_op}
 
 -- a call of a job, and the place of its opening parenthesis among the words
 pub record PlacedCall : Type 0 where
@@ -123,8 +111,17 @@ listed (Some f) = Ok (operator f)
 
 -- a lambda of two parameters is an operator, or the addition of exact sums
 abbrev pub pair_argument : PairForm → Result Argument Cause
+pair_argument form.First = Ok (operator op.First)
+pair_argument form.Second = Ok (operator op.Last)
+pair_argument form.Sum = Ok (operator op.Sum)
+pair_argument form.Product = Ok (operator op.Product)
+pair_argument form.Min = Ok (operator op.Min)
+pair_argument form.Max = Ok (operator op.Max)
+pair_argument form.And = Ok (operator op.And)
+pair_argument form.Or = Ok (operator op.Or)
+pair_argument form.Xor = Ok (operator op.Xor)
 pair_argument form.ExactSum = Ok exact
-pair_argument f = listed (op_of_form f)
+pair_argument form.Other = Err cause.OperatorNotListed
 
 abbrev pub argument_of : AbstractLambda → Result Argument Cause
 argument_of (long e) = Ok (number e)

@@ -6,15 +6,16 @@ use Rattle.lambda_expr.specs.Words.{Word}
 use Rattle.lambda_expr.specs.declared.fault.ReadFault.TheVariants.{LiteralTooLarge}
 use Rattle.columns.specs.Table.{NamedColumn}
 use Rattle.job_language.specs.declared.operation.Operation.{Operation}
-use Rattle.job_language.specs.declared.operation.Operation.TheVariants as op
 use Rattle.job_language.specs.declared.operation.Param.{Param}
 use Rattle.job_language.specs.declared.operation.Param.TheVariants as param
+use Rattle.job_language.specs.declared.operation.Params.{Params}
+use Rattle.job_language.specs.declared.operation.Params.TheVariants as params
 use Rattle.job_language.specs.declared.operation.Role.{Role}
 use Rattle.job_language.specs.declared.operation.Role.TheVariants as role
 use Rattle.job_language.specs.declared.scope.Gives.{Gives}
 use Rattle.job_language.specs.declared.fault.Cause.{Cause}
 use Rattle.job_language.specs.declared.fault.Cause.TheVariants as cause
-use Rattle.job_language.specs.Table.{param_of}
+use Rattle.job_language.specs.Table.{param_of, params_of}
 use Rattle.job_language.specs.Calls.{Call}
 use Rattle.job_language.specs.Grammar.{Job, plain_sources}
 use Rattle.job_language.specs.Numbers.{literal_fits, number_of}
@@ -53,9 +54,9 @@ abbrev pub name_causes : Scope → List ℕ → List (Option Cause)
 name_causes scope w = when (nat_lt 64 (length w)) cause.TooLong ∷ when (is_some (given scope.jobs w)) cause.SameName ∷ []
 
 -- `of` has at most 1,024 values
-abbrev pub count_of : Operation → ℕ → Option Cause
-count_of op.Of n = when (nat_lt 1024 n) cause.TooLong
-count_of o n = None
+abbrev pub count_of : Params → ℕ → Option Cause
+count_of params.Values n = when (nat_lt 1024 n) cause.TooLong
+count_of p n = None
 
 -- each number has 64 bits
 abbrev pub number_cause : Param → List Word → Option Cause
@@ -76,24 +77,29 @@ inside_quotes w = take (length w - 2) (drop 1 w)
 -- the numbers of a call, from part i on
 abbrev pub number_in : Param → List Word → List ℤ
 number_in param.Number ws = number_of ws ∷ []
-number_in p ws = []
+number_in param.Text ws = []
+number_in param.Name ws = []
+number_in param.Long ws = []
+number_in param.Bool ws = []
+number_in param.Stream ws = []
+number_in param.Operator ws = []
 
 abbrev pub numbers_of : Operation → ℕ → ℕ → List (List Word) → List ℤ
 numbers_of o n i [] = []
 numbers_of o n i (a ∷ xs) = number_in (param_of o n i) a ++ numbers_of o n (suc i) xs
 
 -- a count below 0; a range that begins below 0, or ends before it begins
-abbrev pub values_cause : Operation → List ℤ → Option Cause
-values_cause op.Limit (k ∷ []) = when (is_negative k) cause.NegativeCount
-values_cause op.Skip (k ∷ []) = when (is_negative k) cause.NegativeCount
-values_cause op.Prefix (a ∷ b ∷ []) = when (is_negative a || int_lt b a) cause.BadRange
-values_cause o ks = None
+abbrev pub values_cause : Params → List ℤ → Option Cause
+values_cause params.Count (k ∷ []) = when (is_negative k) cause.NegativeCount
+values_cause params.Positions (a ∷ b ∷ []) = when (is_negative a || int_lt b a) cause.BadRange
+values_cause p ks = None
 
 -- the causes of a call before that of its last part
 abbrev pub early_causes : Call → List (Option Cause)
 early_causes c =
     let n = length c.parts in
-    count_of c.operation n ∷ (number_causes c.operation n 0 c.parts ++ values_cause c.operation (numbers_of c.operation n 0 c.parts) ∷ [])
+    let p = params_of c.operation in
+    count_of p n ∷ (number_causes c.operation n 0 c.parts ++ values_cause p (numbers_of c.operation n 0 c.parts) ∷ [])
 
 -- a stage after 32 others
 abbrev pub stage_cause : ℕ → Role → Option Cause

@@ -3,8 +3,6 @@ use Rattle.std.specs.Prelude.{ℕ, Bool, true, false, ◌&&◌, nat_eq, if◌the
 use Rattle.std.specs.Cmp.Lexicographic.{pointwise}
 use Rattle.stream_tokens.specs.declared.symbol.Symbol.TheVariants as symbol
 use Rattle.lambda_expr.specs.Words.{Word, named, sign}
-use Rattle.lambda_expr.specs.declared.lambda.PairForm.{PairForm}
-use Rattle.lambda_expr.specs.declared.lambda.PairForm.TheVariants as form
 use Rattle.reduce_ops.specs.declared.op.Op.{Op}
 use Rattle.reduce_ops.specs.declared.op.Op.TheVariants as op
 
@@ -70,17 +68,3 @@ spelled_op ws = None
 abbrev pub is_add_exact : List Word → Bool
 is_add_exact (named o ∷ sign symbol.DoubleColon ∷ named w ∷ []) = is_text o (codes "Math") && is_text w (codes "addExact")
 is_add_exact ws = false
-
--- the operator that a lambda of two parameters is, by the form of its body
-abbrev pub op_of_form : PairForm → Option Op
-op_of_form form.First = Some op.First
-op_of_form form.Second = Some op.Last
-op_of_form form.Sum = Some op.Sum
-op_of_form form.Product = Some op.Product
-op_of_form form.Min = Some op.Min
-op_of_form form.Max = Some op.Max
-op_of_form form.And = Some op.And
-op_of_form form.Or = Some op.Or
-op_of_form form.Xor = Some op.Xor
-op_of_form form.ExactSum = None
-op_of_form form.Other = None

@@ -1,19 +1,17 @@
 -- Condition: what the program keeps of the parts of a job stands for.
-use Rattle.std.specs.Prelude.{◌≢◌, ℕ, List, Option, Result, Ok, Err}
+use Rattle.std.specs.Prelude.{◌≢◌, Option, Result, Ok, Err}
 use Rattle.lambda_expr.specs.Term.{long_of, truth_of}
 use Rattle.lambda_expr.specs.Streams.{inner_of}
 use Rattle.job_language.specs.declared.argument.Argument as code
 use Rattle.job_language.specs.declared.argument.Argument.TheVariants as code_argument
-use Rattle.job_language.specs.declared.call_part.CallPart as call_part
-use Rattle.job_language.specs.declared.call_part.CallPart.TheVariants as code_part
-use Rattle.job_language.specs.declared.parts.Parts as parts
+use Rattle.job_language.specs.declared.row.CallPart as call_part
+use Rattle.job_language.specs.declared.row.CallPart.TheVariants as code_part
 use Rattle.job_language.specs.declared.fault.Cause.{Cause}
 use Rattle.job_language.specs.declared.fault.Cause.TheVariants.{NoMemory}
 use Rattle.job_language.specs.Grammar.{Job}
 use Rattle.job_language.specs.Causes.{Scope, first_cause, causes_of}
-use Rattle.job_language.specs.Arguments.{Argument, nothing, column, job, number, test, stream, operator, exact}
-use Rattle.job_language.specs.Jobs.{AbstractJob, source_of, sources_of, job_stage_of, job_stages_of, terminal_of}
-use Rattle.job_language.specs.Verdicts.{AbstractCall, source, stage, terminal, fallback}
+use Rattle.job_language.specs.Rows.{Argument, nothing, column, job, number, test, stream, operator, exact, AbstractCall, source, stage, terminal, fallback}
+use Rattle.job_language.specs.Jobs.{source_of, job_stage_of, terminal_of}
 
 -- what a last part of the program stands for
 abbrev pub argument_in : code.Argument → Argument
@@ -42,10 +40,6 @@ answer_in f (Err e) = Err e
 abbrev pub Answers : {A T : Type 0} → (A → T) → (Result T Cause → Type 0) → Result A Cause → Type 0
 Answers f P (Ok a) = P (Ok (f a))
 Answers f P (Err e) = e ≢ NoMemory → P (Err e)
-
--- the job that was read up to a place
-abbrev pub job_so_far : List ℕ → parts.Parts → AbstractJob
-job_so_far w p = record { name = w; sources = sources_of p.sources.items; stages = job_stages_of p.stages.items; terminal = terminal_of p.terminal; on_fault = p.on_fault }
 
 -- why a job is refused before its calls
 abbrev pub causes_before : Scope → Job → Option Cause

@@ -1,15 +1,22 @@
--- Meaning: the operations of jobs, one row each: its name, where it stands, how many parts a call of it has between its
--- parentheses, and what each part is.
-use Rattle.std.specs.Prelude.{ℕ, ◌+◌, Bool, true, false, ◌==◌, ◌||◌, ◌&&◌, nat_eq, nat_lt, List, [], ◌∷◌, codes, if◌then◌else◌, Option, Some, None}
+-- Meaning: the operations of jobs, one row each: where it stands, what a call of it takes between its parentheses, and
+-- what it builds.
+use Rattle.std.specs.Prelude.{ℕ, ◌+◌, ℤ, Bool, true, false, ◌==◌, ◌||◌, ◌&&◌, nat_eq, nat_lt, List, [], ◌∷◌, codes, if◌then◌else◌, Option, Some, None, Result}
 use Rattle.std.specs.Cmp.Lexicographic.{pointwise}
 use Rattle.stream_tokens.specs.declared.symbol.Symbol.TheVariants as symbol
 use Rattle.lambda_expr.specs.Words.{Word, named, numeral, quoted, sign}
+use Rattle.trace.specs.Stages.{map, filter, flat_map}
+use Rattle.slice_ops.specs.Slices.{limit, skip, take_while, drop_while}
+use Rattle.find_ops.specs.Finds as find
+use Rattle.job_language.specs.declared.fault.Cause.{Cause}
 use Rattle.job_language.specs.declared.operation.Operation.{Operation}
 use Rattle.job_language.specs.declared.operation.Operation.TheVariants as op
 use Rattle.job_language.specs.declared.operation.Role.{Role}
-use Rattle.job_language.specs.declared.operation.Role.TheVariants as role
 use Rattle.job_language.specs.declared.operation.Param.{Param}
 use Rattle.job_language.specs.declared.operation.Param.TheVariants as param
+use Rattle.job_language.specs.declared.operation.Params.{Params}
+use Rattle.job_language.specs.declared.operation.Params.TheVariants as params
+use Rattle.job_language.specs.Jobs as job
+use Rattle.job_language.specs.Rows.{Argument, AbstractCall, Row, as_source, as_concat, as_stage, as_terminal, as_fallback, of_nothing, of_bounds, of_values, of_number, of_count, of_column, of_job, of_long, of_test, of_stream, of_positions, of_identity, role_in, params_in, built_by}
 
 -- how an operation is written
 abbrev pub name_of : Operation → List ℕ
@@ -40,79 +47,96 @@ name_of op.AllMatch = codes "allMatch"
 name_of op.NoneMatch = codes "noneMatch"
 name_of op.OnFault = codes "onFault"
 
--- where it stands in a job
+-- all operations
+abbrev pub operations : List Operation
+operations = op.Range ∷ op.RangeClosed ∷ op.Of ∷ op.Empty ∷ op.Column ∷ op.Result ∷ op.Concat ∷ op.Map ∷ op.Filter ∷ op.FlatMap ∷ op.Limit ∷ op.Skip ∷ op.TakeWhile ∷ op.DropWhile ∷ op.Prefix ∷ op.Sum ∷ op.Count ∷ op.Min ∷ op.Max ∷ op.FindFirst ∷ op.ToArray ∷ op.Reduce ∷ op.AnyMatch ∷ op.AllMatch ∷ op.NoneMatch ∷ op.OnFault ∷ []
+
+-- the first of these operations with this name
+abbrev pub operation_among : List Operation → List ℕ → Option Operation
+operation_among [] w = None
+operation_among (o ∷ os) w = if pointwise nat_eq w (name_of o) then Some o else operation_among os w
+
+abbrev pub operation_of : List ℕ → Option Operation
+operation_of w = operation_among operations w
+
+-- the row of an operation: where it stands, what it takes, and what it builds
+abbrev pub row : Operation → Row
+row op.Range = as_source (of_bounds job.range)
+row op.RangeClosed = as_source (of_bounds job.range_closed)
+row op.Of = as_source (of_values job.values)
+row op.Empty = as_source (of_nothing (job.values []))
+row op.Column = as_source (of_column job.values)
+row op.Result = as_source (of_job job.result)
+row op.Concat = as_concat
+row op.Map = as_stage (of_long (λ e. job.item (map e)))
+row op.Filter = as_stage (of_test (λ p. job.item (filter p)))
+row op.FlatMap = as_stage (of_stream (λ g. job.item (flat_map g)))
+row op.Limit = as_stage (of_count (λ k. job.slice (limit k)))
+row op.Skip = as_stage (of_count (λ k. job.slice (skip k)))
+row op.TakeWhile = as_stage (of_test (λ p. job.slice (take_while p)))
+row op.DropWhile = as_stage (of_test (λ p. job.slice (drop_while p)))
+row op.Prefix = as_stage (of_positions job.prefix)
+row op.Sum = as_terminal (of_nothing job.sum)
+row op.Count = as_terminal (of_nothing job.count)
+row op.Min = as_terminal (of_nothing job.min)
+row op.Max = as_terminal (of_nothing job.max)
+row op.FindFirst = as_terminal (of_nothing (job.find find.first))
+row op.ToArray = as_terminal (of_nothing job.to_array)
+row op.Reduce = as_terminal (of_identity job.reduce job.reduce_from job.exact_sum)
+row op.AnyMatch = as_terminal (of_test (λ p. job.find (find.any_match p)))
+row op.AllMatch = as_terminal (of_test (λ p. job.find (find.all_match p)))
+row op.NoneMatch = as_terminal (of_test (λ p. job.find (find.none_match p)))
+row op.OnFault = as_fallback (of_number (λ k. k))
+
+-- where an operation stands in a job
 abbrev pub role_of : Operation → Role
-role_of op.Range = role.Source
-role_of op.RangeClosed = role.Source
-role_of op.Of = role.Source
-role_of op.Empty = role.Source
-role_of op.Column = role.Source
-role_of op.Result = role.Source
-role_of op.Concat = role.Concatenation
-role_of op.Map = role.Stage
-role_of op.Filter = role.Stage
-role_of op.FlatMap = role.Stage
-role_of op.Limit = role.Stage
-role_of op.Skip = role.Stage
-role_of op.TakeWhile = role.Stage
-role_of op.DropWhile = role.Stage
-role_of op.Prefix = role.Stage
-role_of op.Sum = role.Terminal
-role_of op.Count = role.Terminal
-role_of op.Min = role.Terminal
-role_of op.Max = role.Terminal
-role_of op.FindFirst = role.Terminal
-role_of op.ToArray = role.Terminal
-role_of op.Reduce = role.Terminal
-role_of op.AnyMatch = role.Terminal
-role_of op.AllMatch = role.Terminal
-role_of op.NoneMatch = role.Terminal
-role_of op.OnFault = role.Fallback
+role_of o = role_in (row o)
+
+-- what stands between the parentheses of a call of it
+abbrev pub params_of : Operation → Params
+params_of o = params_in (row o)
+
+-- what a call of it builds of its last part and its numbers, or what it is refused for
+abbrev pub built_of : Operation → Argument → List ℤ → Result AbstractCall Cause
+built_of o a ks = built_by (row o) a ks
 
 -- whether a call may have this number of parts; what stands in a `concat` are sources, by the grammar of sources
+abbrev pub allowed : Params → ℕ → Bool
+allowed params.Nothing n = n == 0
+allowed params.Bounds n = n == 2
+allowed params.Values n = true
+allowed params.Number n = n == 1
+allowed params.Count n = n == 1
+allowed params.Column n = n == 1
+allowed params.Job n = n == 1
+allowed params.Long n = n == 1
+allowed params.Test n = n == 1
+allowed params.Stream n = n == 1
+allowed params.Positions n = (n == 1) || (n == 3)
+allowed params.Identity n = (n == 1) || (n == 2)
+allowed params.Sources n = false
+
 abbrev pub allows : Operation → ℕ → Bool
-allows op.Range n = n == 2
-allows op.RangeClosed n = n == 2
-allows op.Of n = true
-allows op.Empty n = n == 0
-allows op.Column n = n == 1
-allows op.Result n = n == 1
-allows op.Concat n = false
-allows op.Map n = n == 1
-allows op.Filter n = n == 1
-allows op.FlatMap n = n == 1
-allows op.Limit n = n == 1
-allows op.Skip n = n == 1
-allows op.TakeWhile n = n == 1
-allows op.DropWhile n = n == 1
-allows op.Prefix n = (n == 1) || (n == 3)
-allows op.Sum n = n == 0
-allows op.Count n = n == 0
-allows op.Min n = n == 0
-allows op.Max n = n == 0
-allows op.FindFirst n = n == 0
-allows op.ToArray n = n == 0
-allows op.Reduce n = (n == 1) || (n == 2)
-allows op.AnyMatch n = n == 1
-allows op.AllMatch n = n == 1
-allows op.NoneMatch n = n == 1
-allows op.OnFault n = n == 1
+allows o n = allowed (params_of o) n
 
 -- of n parts, what part i is
+abbrev pub param_at : Params → ℕ → ℕ → Param
+param_at params.Nothing n i = param.Number
+param_at params.Bounds n i = param.Number
+param_at params.Values n i = param.Number
+param_at params.Number n i = param.Number
+param_at params.Count n i = param.Number
+param_at params.Column n i = param.Text
+param_at params.Job n i = param.Name
+param_at params.Long n i = param.Long
+param_at params.Test n i = param.Bool
+param_at params.Stream n i = param.Stream
+param_at params.Positions n i = if nat_lt (i + 1) n then param.Number else param.Operator
+param_at params.Identity n i = if nat_lt (i + 1) n then param.Number else param.Operator
+param_at params.Sources n i = param.Number
+
 abbrev pub param_of : Operation → ℕ → ℕ → Param
-param_of op.Column n i = param.Text
-param_of op.Result n i = param.Name
-param_of op.Map n i = param.Long
-param_of op.Filter n i = param.Bool
-param_of op.FlatMap n i = param.Stream
-param_of op.TakeWhile n i = param.Bool
-param_of op.DropWhile n i = param.Bool
-param_of op.Prefix n i = if nat_lt (i + 1) n then param.Number else param.Operator
-param_of op.Reduce n i = if nat_lt (i + 1) n then param.Number else param.Operator
-param_of op.AnyMatch n i = param.Bool
-param_of op.AllMatch n i = param.Bool
-param_of op.NoneMatch n i = param.Bool
-param_of o n i = param.Number
+param_of o n i = param_at (params_of o) n i
 
 -- the words of a number: digits, a minus, and the constants of `Long`
 abbrev pub is_digits : Word → Bool
@@ -164,15 +188,3 @@ fits param.Long ws = is_some ws
 fits param.Bool ws = is_some ws
 fits param.Stream ws = is_some ws
 fits param.Operator ws = is_some ws
-
--- all operations
-abbrev pub operations : List Operation
-operations = op.Range ∷ op.RangeClosed ∷ op.Of ∷ op.Empty ∷ op.Column ∷ op.Result ∷ op.Concat ∷ op.Map ∷ op.Filter ∷ op.FlatMap ∷ op.Limit ∷ op.Skip ∷ op.TakeWhile ∷ op.DropWhile ∷ op.Prefix ∷ op.Sum ∷ op.Count ∷ op.Min ∷ op.Max ∷ op.FindFirst ∷ op.ToArray ∷ op.Reduce ∷ op.AnyMatch ∷ op.AllMatch ∷ op.NoneMatch ∷ op.OnFault ∷ []
-
--- the first of these operations with this name
-abbrev pub row_of : List Operation → List ℕ → Option Operation
-row_of [] w = None
-row_of (o ∷ os) w = if pointwise nat_eq w (name_of o) then Some o else row_of os w
-
-abbrev pub operation_of : List ℕ → Option Operation
-operation_of w = row_of operations w

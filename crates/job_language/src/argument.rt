@@ -8,14 +8,15 @@ ghost use Rattle.job_language.specs.Scopes.{scope_of};
 ghost use Rattle.job_language.specs.Causes.{first_cause};
 ghost use Rattle.job_language.specs.Operators.{is_add_exact, spelled_op};
 ghost use Rattle.job_language.specs.Arguments.{column_answer, text_answer, result_answer, name_answer, argument_of, pair_argument, reference_cause, reference_causes, lambda_answer, argument_text, last_param, last_part, listed, IsLambdaRead, IsOperatorRead, IsReadBy, IsArgumentRead};
-ghost use Rattle.job_language.specs.Arguments.{job as named_job};
+ghost use Rattle.job_language.specs.Rows.{job as named_job};
 ghost use Rattle.job_language.specs.Parts.{argument_in, Answers};
 
 use crate::causes::{inside_quotes, part_of, part_start};
 use crate::fault::Cause;
-use crate::operation::{Param, param_of};
-use crate::operator::{is_add_exact, op_of_form, spelled_op};
+use crate::operation::Param;
+use crate::operator::{is_add_exact, spelled_op};
 use crate::piece::WrittenCall;
+use crate::row::param_of;
 use crate::scope::{Gives, Scope, given};
 use crate::word::{Word, name_in, string_in};
 use lambda_expr::{Body, BoolExpr, InnerExpr, Lambda, LongExpr, PairForm, Want, read_lambda_of};
@@ -98,13 +99,24 @@ fn listed<'c>(op: Option<Op>) -> Result<Argument<'c>, Cause>
     }
 }
 
+/// What a lambda of two parameters is, by the form of its body.
 fn pair_argument<'c>(form: PairForm) -> Result<Argument<'c>, Cause>
     ensures { Answers argument_in (λ r. pair_argument form ≡ r) result }
 {
-    match form {
-        PairForm::ExactSum => Ok(Argument::ExactSum),
-        _ => listed(op_of_form(form)),
-    }
+    let op = match form {
+        PairForm::First => Op::First,
+        PairForm::Second => Op::Last,
+        PairForm::Sum => Op::Sum,
+        PairForm::Product => Op::Product,
+        PairForm::Min => Op::Min,
+        PairForm::Max => Op::Max,
+        PairForm::And => Op::And,
+        PairForm::Or => Op::Or,
+        PairForm::Xor => Op::Xor,
+        PairForm::ExactSum => return Ok(Argument::ExactSum),
+        PairForm::Other => return Err(Cause::OperatorNotListed),
+    };
+    Ok(Argument::Operator(op))
 }
 
 fn argument_of<'c>(body: Body) -> Result<Argument<'c>, Cause>

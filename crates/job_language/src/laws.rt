@@ -1,13 +1,17 @@
 //! Laws of the definitions. The functions do nothing; their contracts are the laws.
-ghost use Rattle.std.specs.Prelude.{◌≡◌, ◌⊎◌, ℕ, List, Result, Ok};
+ghost use Rattle.std.specs.Prelude.{◌≡◌, ◌⊎◌, ℕ, List, Result, Ok, Err};
 ghost use Rattle.stream_tokens.specs.Forms.{IsName};
+ghost use Rattle.stream_tokens.specs.CutTexts.{TokenizedText};
 ghost use Rattle.columns.specs.Table.{NamedColumn};
 ghost use Rattle.job_language.specs.declared.fault.Cause.{Cause as meant_cause};
 ghost use Rattle.job_language.specs.declared.fault.JobFault.{JobFault as meant_fault};
 ghost use Rattle.job_language.specs.Files.{IsRefused, SpellsJobs};
 ghost use Rattle.job_language.specs.Jobs.{AbstractJob};
 ghost use Rattle.job_language.specs.Causes.{Scope as meant_scope};
-ghost use Rattle.job_language.specs.Verdicts.{IsRead};
+ghost use Rattle.job_language.specs.declared.fault.Cause.TheVariants.{Syntax};
+ghost use Rattle.job_language.specs.Calls.{IsCall};
+ghost use Rattle.job_language.specs.Arguments.{PlacedCall};
+ghost use Rattle.job_language.specs.Verdicts.{IsCallRead, IsRead};
 
 /// A text is read as one thing at most: one job, or one cause.
 pub fn one_verdict()
@@ -18,6 +22,12 @@ pub fn one_verdict()
 /// Each text is read as something: a job, or a cause for which it is refused.
 pub fn each_text_has_a_verdict()
     ensures { (s : meant_scope) (text : List ℕ) → (r : Result AbstractJob meant_cause) × IsRead s text r }
+{}
+
+/// No call of the grammar is a syntax fault: whatever its parts are read as, its row takes them.
+pub fn a_call_is_no_syntax_fault()
+    ensures { (s : meant_scope) (t : TokenizedText) (c : PlacedCall) → IsCall c.call
+        → IsCallRead s t c (Err Syntax) → ⊥ }
 {}
 
 /// The name of a job is a letter or `_`, then letters, digits and `_`.

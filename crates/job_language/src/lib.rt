@@ -2,9 +2,9 @@
 //!
 //! A job is `NAME = SOURCE`, stages and a terminal, each after a dot, and at most one `;`; in version 2 of the
 //! language a fallback may stand after the terminal. Each source, stage, terminal and fallback is a call of an
-//! operation, and each operation is one row of a table (`operation.rt`, `specs/Table.antt`): its name, where it
-//! stands, how many parts stand between its parentheses, and what each is. The grammar, the reader and what a
-//! job means share that table.
+//! operation, and each operation is one row of a table (`row.rt`, `specs/Table.antt`): where it stands, what a call
+//! takes between its parentheses, and what it builds of that. The grammar, the reader and what a job means share
+//! that table.
 //!
 //! Stands on `stream_tokens`, which cuts the text of a job once (`CutText`), on `lambda_expr`, which reads a
 //! lambda from its part of that text, on `columns`, and on the crates whose stages, terminals and operators a job
@@ -22,7 +22,6 @@
 
 mod argument;
 mod call;
-mod call_part;
 mod causes;
 mod fault;
 mod file;
@@ -36,6 +35,7 @@ mod operator;
 mod parts;
 mod piece;
 mod read;
+mod row;
 mod scope;
 mod shape;
 mod sound;
@@ -47,13 +47,13 @@ pub use fault::{Cause, JobFault};
 pub use file::read_jobs;
 pub use job::{Job, JobStage, PlainSource, Terminal};
 pub use laws::{
-    a_job_has_a_name, each_file_has_an_answer, each_text_has_a_verdict, one_file, one_verdict,
+    a_call_is_no_syntax_fault, a_job_has_a_name, each_file_has_an_answer, each_text_has_a_verdict,
+    one_file, one_verdict,
 };
-pub use operation::{
-    Operation, Param, Role, allows, name_of, one_operation, operation_of, param_of, role_of,
-};
+pub use operation::{Operation, Param, Params, Role, name_of, one_operation, operation_of};
 pub use piece::WrittenCall;
 pub use read::read_job;
+pub use row::{allows, param_of, params_of, role_of};
 pub use scope::{EarlierJob, Gives, Scope};
 pub use shape::{ParsedJob, one_job, parse_job};
 pub use word::Word;

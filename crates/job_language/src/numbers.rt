@@ -1,6 +1,7 @@
 //! The numbers of a call, and what they are refused for.
 ghost use Rattle.std.specs.Prelude.{◌≡◌, ◌≢◌, ◌∷◌, ◌++◌, [], length, IfErr, IfOk, None, Some};
 ghost use Rattle.job_language.specs.declared.fault.Cause.TheVariants.{NoMemory};
+ghost use Rattle.job_language.specs.Table.{params_of};
 ghost use Rattle.job_language.specs.Splitting.{words_in};
 ghost use Rattle.job_language.specs.Shapes.{StandsIn, call_in};
 ghost use Rattle.job_language.specs.Causes.{first_cause, when, count_of, number_cause, number_causes, number_in, numbers_of, values_cause, early_causes};
@@ -8,8 +9,9 @@ ghost use Rattle.job_language.specs.Causes.{first_cause, when, count_of, number_
 use crate::causes::{part_of, when};
 use crate::fault::Cause;
 use crate::number::number_in;
-use crate::operation::{Operation, Param, param_of};
+use crate::operation::{Param, Params};
 use crate::piece::WrittenCall;
+use crate::row::{param_of, params_of};
 use crate::word::Word;
 use lambda_expr::ReadFault;
 use std::alloc::Global;
@@ -17,12 +19,12 @@ use std::alloc::Global;
 /// How many values `of` may have.
 const MAX_VALUES: usize = 1024;
 
-/// Whether `of` has too many values.
+/// Whether a call has too many values.
 fn count_cause(call: &WrittenCall) -> Option<Cause>
-    ensures { result ≡ count_of call.now.operation (length call.now.ends.items) }
+    ensures { result ≡ count_of (params_of call.now.operation) (length call.now.ends.items) }
 {
-    match call.operation {
-        Operation::Of => when(call.ends.as_slice().len() > MAX_VALUES, Cause::TooLong),
+    match params_of(call.operation) {
+        Params::Values => when(call.ends.as_slice().len() > MAX_VALUES, Cause::TooLong),
         _ => None,
     }
 }
@@ -66,8 +68,7 @@ fn read_numbers(alloc: Global, words: &[Word], call: &WrittenCall) -> Result<Vec
 }
 
 fn count_below(numbers: &[i64]) -> Option<Cause>
-    ensures limit { result ≡ values_cause Operation.Limit numbers.now }
-    ensures skip { result ≡ values_cause Operation.Skip numbers.now }
+    ensures { result ≡ values_cause Params.Count numbers.now }
 {
     match numbers {
         [count] => when(*count < 0, Cause::NegativeCount),
@@ -76,7 +77,7 @@ fn count_below(numbers: &[i64]) -> Option<Cause>
 }
 
 fn bad_range(numbers: &[i64]) -> Option<Cause>
-    ensures { result ≡ values_cause Operation.Prefix numbers.now }
+    ensures { result ≡ values_cause Params.Positions numbers.now }
 {
     match numbers {
         [from, to] => when(*from < 0 || *to < *from, Cause::BadRange),
@@ -85,12 +86,12 @@ fn bad_range(numbers: &[i64]) -> Option<Cause>
 }
 
 /// Why the numbers of a call are refused.
-fn values_cause(operation: Operation, numbers: &[i64]) -> Option<Cause>
-    ensures { result ≡ values_cause operation numbers.now }
+fn values_cause(params: Params, numbers: &[i64]) -> Option<Cause>
+    ensures { result ≡ values_cause params numbers.now }
 {
-    match operation {
-        Operation::Limit | Operation::Skip => count_below(numbers),
-        Operation::Prefix => bad_range(numbers),
+    match params {
+        Params::Count => count_below(numbers),
+        Params::Positions => bad_range(numbers),
         _ => None,
     }
 }
@@ -108,7 +109,7 @@ pub fn read_values(alloc: Global, words: &[Word], call: &WrittenCall) -> Result<
         return Err(cause);
     }
     let numbers = read_numbers(alloc, words, call)?;
-    match values_cause(call.operation, &numbers) {
+    match values_cause(params_of(call.operation), &numbers) {
         Some(cause) => Err(cause),
         None => Ok(numbers),
     }

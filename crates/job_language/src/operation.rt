@@ -1,7 +1,7 @@
-//! The operations of jobs: the table that the grammar, the reader and the refusals share.
-ghost use Rattle.std.specs.Prelude.{◌≡◌, ◌<◌};
+//! The operations of jobs and their names, and the words of the table of operations.
+ghost use Rattle.std.specs.Prelude.{◌≡◌};
 ghost use Rattle.job_language.specs.declared.operation.Operation.{Operation as operation};
-ghost use Rattle.job_language.specs.Table.{name_of, role_of, operation_of, allows, param_of};
+ghost use Rattle.job_language.specs.Table.{name_of, operation_of};
 
 /// An operation of a job.
 #[derive(Clone, Copy, PartialEq, Eq)]
@@ -93,6 +93,35 @@ pub enum Param {
     Operator,
 }
 
+/// What stands between the parentheses of a call.
+#[derive(Clone, Copy, PartialEq, Eq)]
+pub enum Params {
+    Nothing,
+    /// Two numbers.
+    Bounds,
+    /// Numbers, as many as there are.
+    Values,
+    Number,
+    /// A number that isn't negative.
+    Count,
+    /// The name of a column.
+    Column,
+    /// The name of an earlier job.
+    Job,
+    /// A lambda from a number to a number.
+    Long,
+    /// A lambda from a number to a boolean.
+    Test,
+    /// A lambda from a number to a stream.
+    Stream,
+    /// An operator, or two positions and an operator.
+    Positions,
+    /// An operator, or its identity and the operator.
+    Identity,
+    /// Sources.
+    Sources,
+}
+
 /// All operations.
 const OPERATIONS: [Operation; 26] = [
     Operation::Range,
@@ -167,94 +196,6 @@ pub fn operation_of(name: &[u8]) -> Option<Operation>
         }
     }
     None
-}
-
-/// Where an operation stands in a job.
-pub fn role_of(operation: Operation) -> Role
-    ensures { result ≡ role_of operation }
-{
-    match operation {
-        Operation::Range
-        | Operation::RangeClosed
-        | Operation::Of
-        | Operation::Empty
-        | Operation::Column
-        | Operation::Result => Role::Source,
-        Operation::Concat => Role::Concatenation,
-        Operation::Map
-        | Operation::Filter
-        | Operation::FlatMap
-        | Operation::Limit
-        | Operation::Skip
-        | Operation::TakeWhile
-        | Operation::DropWhile
-        | Operation::Prefix => Role::Stage,
-        Operation::Sum
-        | Operation::Count
-        | Operation::Min
-        | Operation::Max
-        | Operation::FindFirst
-        | Operation::ToArray
-        | Operation::Reduce
-        | Operation::AnyMatch
-        | Operation::AllMatch
-        | Operation::NoneMatch => Role::Terminal,
-        Operation::OnFault => Role::Fallback,
-    }
-}
-
-/// Whether a call may have this number of parts.
-pub fn allows(operation: Operation, count: usize) -> bool
-    ensures { result ≡ allows operation count }
-{
-    match operation {
-        Operation::Range | Operation::RangeClosed => count == 2,
-        Operation::Of => true,
-        Operation::Concat => false,
-        Operation::Empty
-        | Operation::Sum
-        | Operation::Count
-        | Operation::Min
-        | Operation::Max
-        | Operation::FindFirst
-        | Operation::ToArray => count == 0,
-        Operation::Column
-        | Operation::Result
-        | Operation::Map
-        | Operation::Filter
-        | Operation::FlatMap
-        | Operation::Limit
-        | Operation::Skip
-        | Operation::TakeWhile
-        | Operation::DropWhile
-        | Operation::AnyMatch
-        | Operation::AllMatch
-        | Operation::NoneMatch
-        | Operation::OnFault => count == 1,
-        Operation::Prefix => count == 1 || count == 3,
-        Operation::Reduce => count == 1 || count == 2,
-    }
-}
-
-/// What part `place` of a call of `count` parts is.
-pub fn param_of(operation: Operation, count: usize, place: usize) -> Param
-    requires { place < count }
-    ensures { result ≡ param_of operation count place }
-{
-    match operation {
-        Operation::Column => Param::Text,
-        Operation::Result => Param::Name,
-        Operation::Map => Param::Long,
-        Operation::FlatMap => Param::Stream,
-        Operation::Filter
-        | Operation::TakeWhile
-        | Operation::DropWhile
-        | Operation::AnyMatch
-        | Operation::AllMatch
-        | Operation::NoneMatch => Param::Bool,
-        Operation::Prefix | Operation::Reduce if place + 1 == count => Param::Operator,
-        _ => Param::Number,
-    }
 }
 
 /// A name is that of one operation at most.

@@ -1,10 +1,9 @@
 //! The operators of `prefix` and `reduce`: the table of how they are written.
 ghost use Rattle.std.specs.Prelude.{◌≡◌, ◌∷◌, []};
-ghost use Rattle.job_language.specs.Operators.{op_name, op_named, op_method, in_math, in_long, is_add_exact, spelled_op, op_of_form};
+ghost use Rattle.job_language.specs.Operators.{op_name, op_named, op_method, in_math, in_long, is_add_exact, spelled_op};
 ghost use Rattle.job_language.specs.Splitting.{word_of, words_in};
 
 use crate::word::Word;
-use lambda_expr::PairForm;
 use reduce_ops::Op;
 use stream_tokens::Symbol;
 
@@ -139,23 +138,5 @@ pub fn is_add_exact(words: &[Word]) -> bool
     match words {
         [owner, colons, name] => is_method_add_exact(*owner, *colons, *name),
         _ => false,
-    }
-}
-
-/// The operator that a lambda of two parameters is, by the form of its body.
-pub fn op_of_form(form: PairForm) -> Option<Op>
-    ensures { result ≡ op_of_form form }
-{
-    match form {
-        PairForm::First => Some(Op::First),
-        PairForm::Second => Some(Op::Last),
-        PairForm::Sum => Some(Op::Sum),
-        PairForm::Product => Some(Op::Product),
-        PairForm::Min => Some(Op::Min),
-        PairForm::Max => Some(Op::Max),
-        PairForm::And => Some(Op::And),
-        PairForm::Or => Some(Op::Or),
-        PairForm::Xor => Some(Op::Xor),
-        PairForm::ExactSum | PairForm::Other => None,
     }
 }

@@ -1,54 +1,29 @@
 //! The parts of a job, one call after the other.
-ghost use Rattle.std.specs.Prelude.{◌≡◌, ◌≢◌, ◌≤◌, ℕ, List, IfErr, IfOk, Ok, Err, length};
+ghost use Rattle.std.specs.Prelude.{◌≡◌, ◌≤◌, IfOk, Ok, length};
 ghost use Rattle.lambda_expr.specs.Words.{words_of};
-ghost use Rattle.job_language.specs.declared.fault.Cause.TheVariants.{NoMemory};
 ghost use Rattle.job_language.specs.Splitting.{words_in};
 ghost use Rattle.job_language.specs.Table.{role_of};
 ghost use Rattle.job_language.specs.Shapes.{StandsIn, StandIn, placed_in, all_placed};
 ghost use Rattle.job_language.specs.Scopes.{scope_of};
 ghost use Rattle.job_language.specs.Causes.{stage_cause};
-ghost use Rattle.job_language.specs.Verdicts.{call_answer, added, below_terminal, job_named, IsCallRead, IsNextCall, IsReadInTurn, AreRead};
-ghost use Rattle.job_language.specs.Jobs.{terminal_of};
-ghost use Rattle.job_language.specs.Parts.{argument_in, part_in, answer_in, Answers, job_so_far};
+ghost use Rattle.job_language.specs.Verdicts.{added, below_terminal, job_named, IsCallRead, IsNextCall, IsReadInTurn, AreRead};
+ghost use Rattle.job_language.specs.Jobs.{job_of, terminal_of};
+ghost use Rattle.job_language.specs.Parts.{part_in, answer_in, Answers};
 
-use crate::argument::{Argument, read_argument};
-use crate::call_part::{CallPart, call_part, identity_cause};
+use crate::argument::read_argument;
 use crate::fault::Cause;
-use crate::job::{JobStage, PlainSource, Terminal};
+use crate::job::{Job, Terminal};
 use crate::numbers::read_values;
-use crate::operation::{Operation, Role, role_of};
+use crate::operation::Role;
 use crate::piece::WrittenCall;
+use crate::row::{CallPart, built, role_of};
 use crate::scope::{Gives, Scope};
 use crate::word::Word;
 use std::alloc::{AllocError, Global};
-use stream_tokens::CutText;
+use stream_tokens::{Bytes, CutText};
 
 /// How many stages a job may have.
 const MAX_STAGES: usize = 32;
-
-/// The parts of a job that were read. The terminal is a sum until it is read.
-#[derive(Drop)]
-pub struct Parts<'c> {
-    pub sources: Vec<PlainSource<'c>>,
-    pub stages: Vec<JobStage>,
-    pub terminal: Terminal,
-    pub on_fault: Option<i64>,
-}
-
-/// A call with these numbers and this last part.
-fn finish_call<'c>(
-    operation: Operation,
-    numbers: Vec<i64>,
-    last: Argument<'c>,
-) -> Result<CallPart<'c>, Cause>
-    ensures { answer_in part_in result
-        ≡ call_answer operation numbers.items (Ok (argument_in last.entry)) }
-{
-    match identity_cause(operation, &numbers, &last) {
-        Some(cause) => Err(cause),
-        None => Ok(call_part(operation, numbers, last)),
-    }
-}
 
 /// Reads a call, each of its parts once.
 fn read_call<'c>(
@@ -65,31 +40,43 @@ fn read_call<'c>(
 {
     let numbers = read_values(alloc, words, call)?;
     let last = read_argument(alloc, scope, text, words, call)?;
-    finish_call(call.operation, numbers, last)
+    built(call.operation, numbers, last)
 }
 
-impl<'c> Parts<'c> {
-    /// Puts a part after the others.
-    fn add(&mut self, part: CallPart<'c>) -> Result<(), AllocError>
-        ensures { IfOk result (λ _. (w : List ℕ)
-            → job_so_far w self.new ≡ added (job_so_far w self.old) (part_in part.entry)) }
-    {
-        match part {
-            CallPart::Source(source) => {
-                self.sources.push(source)?;
-            }
-            CallPart::Stage(stage) => {
-                self.stages.push(stage)?;
-            }
-            CallPart::Terminal(terminal) => {
-                self.terminal = terminal;
-            }
-            CallPart::Fallback(number) => {
-                self.on_fault = Some(number);
-            }
+/// A job before its calls. The terminal is a sum until it is read.
+fn named<'c>(alloc: Global, name: &[u8]) -> Result<Job<'c>, AllocError>
+    ensures { IfOk result (λ job. job_of job ≡ job_named name.now) }
+{
+    let bytes = name.to_vec(alloc)?;
+    Ok(Job {
+        name: Bytes::from(bytes),
+        sources: Vec::new(alloc),
+        stages: Vec::new(alloc),
+        terminal: Terminal::Sum,
+        on_fault: None,
+    })
+}
+
+/// Puts what a call builds after the others.
+fn add<'c>(job: &mut Job<'c>, part: CallPart<'c>) -> Result<(), AllocError>
+    requires { length (added (job_of job.old) (part_in part)).stages ≤ 32 }
+    ensures { IfOk result (λ _. job_of job.new ≡ added (job_of job.old) (part_in part.entry)) }
+{
+    match part {
+        CallPart::Source(source) => {
+            job.sources.push(source)?;
         }
-        Ok(())
+        CallPart::Stage(stage) => {
+            job.stages.push(stage)?;
+        }
+        CallPart::Terminal(terminal) => {
+            job.terminal = terminal;
+        }
+        CallPart::Fallback(number) => {
+            job.on_fault = Some(number);
+        }
     }
+    Ok(())
 }
 
 /// Why a call that stands after some stages is refused before it is read.
@@ -132,13 +119,13 @@ fn below_terminal<'c>(terminal: &Terminal, part: CallPart<'c>) -> Result<CallPar
             Gives::Number => Ok(CallPart::Fallback(number)),
             _ => Err(Cause::NotScalar),
         },
-        _ => Ok(part),
+        part => Ok(part),
     }
 }
 
-/// Reads the call that stands after these parts.
+/// Reads the call that stands after those of this job.
 fn read_next_call<'c>(
-    parts: &Parts<'c>,
+    job: &Job<'c>,
     alloc: Global,
     scope: Scope<'_, 'c>,
     text: &CutText,
@@ -147,39 +134,31 @@ fn read_next_call<'c>(
 ) -> Result<CallPart<'c>, Cause>
     requires words { words_in words.now ≡ words_of text.now.bytes text.now.tokens }
     requires stands { StandsIn (words_in words.now) call.now }
-    ensures { (w : List ℕ) → Answers part_in (IsNextCall (job_so_far w parts.now)
-        (scope_of scope.entry) text.now (placed_in (words_in words.now) call.now)) result }
+    ensures { Answers part_in (IsNextCall (job_of job.now) (scope_of scope.entry) text.now
+        (placed_in (words_in words.now) call.now)) result }
 {
-    let part = read_in_turn(parts.stages.len(), alloc, scope, text, words, call)?;
-    below_terminal(&parts.terminal, part)
+    let part = read_in_turn(job.stages.len(), alloc, scope, text, words, call)?;
+    below_terminal(&job.terminal, part)
 }
 
-/// Reads the calls of a job in order of writing.
+/// Reads the calls of the job with this name in order of writing.
 pub fn read_parts<'c>(
     alloc: Global,
     scope: Scope<'_, 'c>,
     text: &CutText,
+    name: &[u8],
     words: &[Word],
     calls: &[WrittenCall],
-) -> Result<Parts<'c>, Cause>
+) -> Result<Job<'c>, Cause>
     requires words { words_in words.now ≡ words_of text.now.bytes text.now.tokens }
     requires stand { StandIn (words_in words.now) calls.now }
-    ensures ok { IfOk result (λ parts. (w : List ℕ) → AreRead (scope_of scope.entry) text.now (job_named w)
-        (all_placed (words_in words.now) calls.now) (Ok (job_so_far w parts))) }
-    ensures refused { IfErr result (λ cause. cause ≢ NoMemory → (w : List ℕ)
-        → AreRead (scope_of scope.entry) text.now (job_named w)
-        (all_placed (words_in words.now) calls.now) (Err cause)) }
-    ensures few { IfOk result (λ parts. length parts.stages.items ≤ 32) }
+    ensures { Answers job_of (AreRead (scope_of scope.entry) text.now (job_named name.now)
+        (all_placed (words_in words.now) calls.now)) result }
 {
-    let mut parts = Parts {
-        sources: Vec::new(alloc),
-        stages: Vec::new(alloc),
-        terminal: Terminal::Sum,
-        on_fault: None,
-    };
+    let mut job = named(alloc, name)?;
     for call in calls {
-        let part = read_next_call(&parts, alloc, scope, text, words, call)?;
-        parts.add(part)?;
+        let part = read_next_call(&job, alloc, scope, text, words, call)?;
+        add(&mut job, part)?;
     }
-    Ok(parts)
+    Ok(job)
 }

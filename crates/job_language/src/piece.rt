@@ -6,7 +6,8 @@ ghost use Rattle.job_language.specs.Splitting.{word_of, words_in};
 ghost use Rattle.job_language.specs.Shapes.{mark_of_symbol, width, is_open, operation_in, IsNoPiece, IsPieceRead, IsMarkOf};
 
 use crate::call::read_call;
-use crate::operation::{Operation, Role, operation_of, role_of};
+use crate::operation::{Operation, Role, operation_of};
+use crate::row::role_of;
 use crate::word::{Word, after};
 use std::alloc::{AllocError, Global};
 use stream_tokens::Symbol;

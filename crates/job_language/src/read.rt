@@ -10,19 +10,20 @@ ghost use Rattle.job_language.specs.Causes.{when};
 ghost use Rattle.job_language.specs.Jobs.{job_of};
 ghost use Rattle.job_language.specs.Scopes.{scope_of};
 ghost use Rattle.job_language.specs.Verdicts.{IsJobRead, IsRead};
-ghost use Rattle.job_language.specs.Parts.{Answers, job_so_far, causes_before};
+ghost use Rattle.job_language.specs.Parts.{Answers, causes_before};
 
 use crate::causes::{name_cause, when};
 use crate::fault::Cause;
 use crate::job::Job;
-use crate::operation::{Role, role_of};
-use crate::parts::{Parts, read_parts};
+use crate::operation::Role;
+use crate::parts::read_parts;
 use crate::piece::WrittenCall;
+use crate::row::role_of;
 use crate::scope::Scope;
 use crate::shape::parse_job;
 use crate::word::Word;
-use std::alloc::{AllocError, Global};
-use stream_tokens::{Bytes, CutText, cut};
+use std::alloc::Global;
+use stream_tokens::{CutText, cut};
 
 /// How many bytes the text of a job may have.
 const MAX_BYTES: usize = 65_536;
@@ -102,27 +103,6 @@ fn early_cause(scope: Scope, words: &[Word], calls: &[WrittenCall]) -> Option<Ca
     None
 }
 
-/// A job with this name and these parts.
-fn named<'c>(alloc: Global, name: &[u8], parts: Parts<'c>) -> Result<Job<'c>, AllocError>
-    requires { length parts.stages.items ≤ 32 }
-    ensures { IfOk result (λ job. job_of job ≡ job_so_far name.now parts.entry) }
-{
-    let bytes = name.to_vec(alloc)?;
-    let Parts {
-        sources,
-        stages,
-        terminal,
-        on_fault,
-    } = parts;
-    Ok(Job {
-        name: Bytes::from(bytes),
-        sources,
-        stages,
-        terminal,
-        on_fault,
-    })
-}
-
 /// Reads a job from its words and calls.
 fn read_parsed<'c>(
     alloc: Global,
@@ -141,8 +121,7 @@ fn read_parsed<'c>(
     if let Some(cause) = early_cause(scope, words, calls) {
         return Err(cause);
     }
-    let parts = read_parts(alloc, scope, text, words, calls)?;
-    Ok(named(alloc, first_name(words), parts)?)
+    read_parts(alloc, scope, text, first_name(words), words, calls)
 }
 
 /// Reads a job from its text and tokens.

@@ -1,9 +1,10 @@
 use Rattle.std.proofs.Common.{◌≡◌, Ok, refl, sym, ap, subst, ◌∙◌, rules}
 use Rattle.job_language.specs.declared.operation.Param.TheVariants as param
+use Rattle.job_language.specs.Rows.{nothing}
 use Rattle.job_language.specs.Splitting.{words_in}
 use Rattle.job_language.specs.Scopes.{scope_of}
 use Rattle.job_language.specs.Shapes.{placed_in, StandsIn}
-use Rattle.job_language.specs.Arguments.{nothing, last_part, argument_text, IsReadBy}
+use Rattle.job_language.specs.Arguments.{last_part, argument_text, IsReadBy}
 use Rattle.job_language.specs.Parts.{argument_in, Answers}
 use Rattle.job_language.proofs.argument.read_argument.Goals as goal
 

@@ -21,4 +21,4 @@ returns-in_err-last c =
 pub returns : goal.returns
 returns c =
     let k = placed_in (words_in c.args.words.now) c.args.call.now in
-    whole (scope_of c.args.scope) c.args.text.now k c.in_ok-numbers.numbers.items (argument_in c.in_ok-last.last) c.finish_call.result c.in_ok-numbers.ensures.ok.0 c.in_ok-numbers.ensures.ok.1 c.in_ok-last.ensures c.finish_call.ensures
+    whole (scope_of c.args.scope) c.args.text.now k c.in_ok-numbers.numbers.items (argument_in c.in_ok-last.last) c.built.result c.in_ok-numbers.ensures.ok.0 c.in_ok-numbers.ensures.ok.1 c.in_ok-last.ensures c.built.ensures

@@ -4,9 +4,10 @@ use Rattle.job_language.specs.Table.{role_of}
 use Rattle.job_language.specs.Splitting.{words_in}
 use Rattle.job_language.specs.Scopes.{scope_of}
 use Rattle.job_language.specs.Shapes.{placed_in}
+use Rattle.job_language.specs.Jobs.{job_of}
 use Rattle.job_language.specs.Causes.{stage_cause}
 use Rattle.job_language.specs.Verdicts.{IsReadInTurn}
-use Rattle.job_language.specs.Parts.{part_in, job_so_far}
+use Rattle.job_language.specs.Parts.{part_in}
 use Rattle.job_language.proofs.CallTurnLemmas.{length_stages, next_read, next_refused}
 use Rattle.job_language.proofs.parts.read_next_call.Goals as goal
 
@@ -16,22 +17,22 @@ returns-in_err-part c =
     let t = c.args.text.now in
     let x = c.args.call.now in
     let k = placed_in (words_in c.args.words.now) x in
-    let parts = c.args.parts.now in
+    let job = c.args.job.now in
     let p = err_from_is_err_and c.from_residual.result c.from_residual.ensures.1 in
     let said = c.len.ensures in
-    let count : c.len.result ≡ length parts.stages.items = omega (arith, parts.stages.ok.0) in
-    rw (p.1, p.2) (λ w other. next_refused (job_so_far w parts) s t k c.in_err-part.field-0.0
-    (subst (λ n. IsReadInTurn (stage_cause n (role_of x.operation)) s t k (Err c.in_err-part.field-0.0)) (count ∙ sym (length_stages parts.stages.items)) (c.in_err-part.ensures other)))
+    let count : c.len.result ≡ length job.stages.items = omega (arith, job.stages.ok.0) in
+    rw (p.1, p.2) (λ other. next_refused (job_of job) s t k c.in_err-part.field-0.0
+    (subst (λ n. IsReadInTurn (stage_cause n (role_of x.operation)) s t k (Err c.in_err-part.field-0.0)) (count ∙ sym (length_stages job.stages.items)) (c.in_err-part.ensures other)))
 
 pub returns : goal.returns
-returns c = λ w.
+returns c =
     let s = scope_of c.args.scope in
     let t = c.args.text.now in
     let x = c.args.call.now in
     let k = placed_in (words_in c.args.words.now) x in
-    let parts = c.args.parts.now in
+    let job = c.args.job.now in
     let g = part_in c.in_ok-part.part in
     let said = c.len.ensures in
-    let count : c.len.result ≡ length parts.stages.items = omega (arith, parts.stages.ok.0) in
-    next_read (job_so_far w parts) s t k g c.below_terminal.result
-    (subst (λ n. IsReadInTurn (stage_cause n (role_of x.operation)) s t k (Ok g)) (count ∙ sym (length_stages parts.stages.items)) c.in_ok-part.ensures) c.below_terminal.ensures
+    let count : c.len.result ≡ length job.stages.items = omega (arith, job.stages.ok.0) in
+    next_read (job_of job) s t k g c.below_terminal.result
+    (subst (λ n. IsReadInTurn (stage_cause n (role_of x.operation)) s t k (Ok g)) (count ∙ sym (length_stages job.stages.items)) c.in_ok-part.ensures) c.below_terminal.ensures

@@ -1,17 +1,15 @@
-use Rattle.std.proofs.Common.{◌≤◌, ℕ, List, drop, length, Result}
+use Rattle.std.proofs.Common.{drop, Result}
 use Rattle.job_language.specs.declared.fault.Cause.{Cause}
-use Rattle.job_language.specs.Jobs.{AbstractJob}
+use Rattle.job_language.specs.Jobs.{AbstractJob, job_of}
 use Rattle.job_language.specs.Splitting.{words_in}
 use Rattle.job_language.specs.Shapes.{all_placed}
 use Rattle.job_language.specs.Scopes.{scope_of}
 use Rattle.job_language.specs.Verdicts.{job_named, AreRead}
-use Rattle.job_language.specs.Parts.{job_so_far}
 use Rattle.job_language.proofs.parts.read_parts.Given as goal
 
 -- what the calls that are left are read as, all calls are
 abbrev pub invariant-loop-call : goal.invariant-loop-call
 invariant-loop-call l =
-    (length l.parts.stages.items ≤ 32)
-    × ((w : List ℕ) (r : Result AbstractJob Cause)
-    → AreRead (scope_of l.scope) l.text (job_so_far w l.parts) (all_placed (words_in l.words) (drop l.call-index l.calls)) r
-    → AreRead (scope_of l.scope) l.text (job_named w) (all_placed (words_in l.words) l.calls) r)
+    (r : Result AbstractJob Cause)
+    → AreRead (scope_of l.scope) l.text (job_of l.job) (all_placed (words_in l.words) (drop l.call-index l.calls)) r
+    → AreRead (scope_of l.scope) l.text (job_named l.name) (all_placed (words_in l.words) l.calls) r
