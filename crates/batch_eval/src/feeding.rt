@@ -47,6 +47,64 @@ pub fn feed_batches<I: BatchSource, S: BatchSink>(
     ensures flow { S.flow sink.new ≡ flow_after result }
     ensures refused { OnErr result S.takes_memory }
 {
+    feed_from(
+        stages,
+        first_stage,
+        env,
+        source,
+        FIRST_BATCH,
+        registers,
+        sink,
+    )
+}
+
+/// The same, with as many items as a batch holds in the first one already: for items that were in a batch together, so that
+/// there is one batch for each of theirs.
+pub fn feed_at_once<I: BatchSource, S: BatchSink>(
+    stages: &[Stage],
+    first_stage: u32,
+    env: &Env,
+    source: &I,
+    registers: &mut Registers,
+    sink: &mut S,
+) -> Result<Fed, NoMemory>
+    requires numbered { first_stage + length stages.now < 2 ^ 32 }
+    requires wants { S.flow sink.old ≡ Flow.More }
+    ensures fed { (xs : List Item) → S.has_taken sink.old xs → IsFed S.has_taken xs
+        (pipe first_stage (stages_of stages.now) env.now (trace (I.items source.now) end.Done)) result sink.new }
+    ensures flow { S.flow sink.new ≡ flow_after result }
+    ensures refused { OnErr result S.takes_memory }
+{
+    feed_from(
+        stages,
+        first_stage,
+        env,
+        source,
+        LANES as u64,
+        registers,
+        sink,
+    )
+}
+
+/// The same, with a first batch of this size.
+fn feed_from<I: BatchSource, S: BatchSink>(
+    stages: &[Stage],
+    first_stage: u32,
+    env: &Env,
+    source: &I,
+    first: u64,
+    registers: &mut Registers,
+    sink: &mut S,
+) -> Result<Fed, NoMemory>
+    requires numbered { first_stage + length stages.now < 2 ^ 32 }
+    requires wants { S.flow sink.old ≡ Flow.More }
+    requires some { 0 < first }
+    requires few { first ≤ 1024 }
+    ensures fed { (xs : List Item) → S.has_taken sink.old xs → IsFed S.has_taken xs
+        (pipe first_stage (stages_of stages.now) env.now (trace (I.items source.now) end.Done)) result sink.new }
+    ensures flow { S.flow sink.new ≡ flow_after result }
+    ensures refused { OnErr result S.takes_memory }
+{
     let Some(mut space) = registers.take_for(stages, sink.test(), source.count()) else {
         return feed_all(stages, first_stage, env, source, sink);
     };
@@ -55,6 +113,7 @@ pub fn feed_batches<I: BatchSource, S: BatchSink>(
         first_stage,
         env,
         source,
+        first,
         &mut space.batch,
         &mut space.nested,
         &mut space.room,
@@ -70,6 +129,7 @@ fn feed_pieces<I: BatchSource, S: BatchSink>(
     first_stage: u32,
     env: &Env,
     source: &I,
+    first: u64,
     batch: &mut Batch,
     nested: &mut [Batch],
     room: &mut [i64],
@@ -77,6 +137,8 @@ fn feed_pieces<I: BatchSource, S: BatchSink>(
 ) -> Result<Fed, NoMemory>
     requires numbered { first_stage + length stages.now < 2 ^ 32 }
     requires wants { S.flow sink.old ≡ Flow.More }
+    requires some { 0 < first }
+    requires few { first ≤ 1024 }
     requires room { FitsStages (stages_of stages.now) (length room.old) }
     ensures fed { (xs : List Item) → S.has_taken sink.old xs → IsFed S.has_taken xs
         (pipe first_stage (stages_of stages.now) env.now (trace (I.items source.now) end.Done)) result sink.new }
@@ -85,7 +147,7 @@ fn feed_pieces<I: BatchSource, S: BatchSink>(
 {
     let count = source.count();
     let mut position = 0;
-    let mut size = FIRST_BATCH;
+    let mut size = first;
     while position < count {
         let taken = size.min(count - position);
         match feed_piece(

@@ -35,11 +35,11 @@ mod source;
 mod staging;
 
 pub use batch::Batch;
-pub use feeding::feed_batches;
+pub use feeding::{feed_at_once, feed_batches};
 pub use flag::is_set;
 pub use flagged::{FlaggedLanes, accept_each_flagged};
 pub use passing::count_passing;
 pub use placed::PlacedValues;
 pub use registers::Registers;
 pub use sink::{BatchSink, accept_each};
-pub use source::BatchSource;
+pub use source::{BatchSource, SourcePart};

@@ -3,8 +3,9 @@
 ghost use Rattle.std.specs.Prelude.{◌+◌, ◌≤◌, ◌^◌, length};
 ghost use Rattle.trace.specs.Cover.{placed};
 
+use crate::sink::BatchSink;
 use crate::source::BatchSource;
-use trace::{Item, SourceItems};
+use trace::{Fed, Item, NoMemory, SourceItems};
 
 /// Values in a slice, at places that count up from `origin`.
 #[derive(Clone, Copy)]
@@ -37,5 +38,9 @@ impl BatchSource for PlacedValues<'_> {
     fn values_at(&self, position: u64, count: u64) -> Option<&[i64]> {
         let first = position as usize;
         Some(&self.values[first..first + count as usize])
+    }
+
+    fn give<S: BatchSink>(&self, room: &mut [i64], sink: &mut S) -> Result<Fed, NoMemory> {
+        sink.accept_run(*self, room)
     }
 }

@@ -2,9 +2,16 @@
 
 ghost use Rattle.batch_eval.specs.Lanes.{at};
 ghost use Rattle.batch_eval.specs.Places.{CountsFrom, HasValue};
-ghost use Rattle.std.specs.Prelude.{◌≡◌, ◌+◌, ◌<◌, ◌≤◌, ℕ, IfSome, length};
+ghost use Rattle.std.specs.Prelude.{◌≡◌, ◌+◌, ◌<◌, ◌≤◌, ◌^◌, ℕ, List, IfSome, OnErr, drop, length, take};
+ghost use Rattle.trace.specs.Sinks.{IsFed, flow_after};
+ghost use Rattle.trace.specs.Trace.{trace};
+ghost use Rattle.trace.specs.declared.item.End.TheVariants as end;
+ghost use Rattle.trace.specs.declared.item.Item.{Item};
 
-use trace::{Item, RangeItems, SourceItems};
+use crate::batch::Batch;
+use crate::register::LANES;
+use crate::sink::{BatchSink, accept_each};
+use trace::{Fed, Flow, Item, MAX_SOURCE_SIZE, NoMemory, RangeItems, SourceItems};
 
 /// Items that batches are filled from.
 pub trait BatchSource: SourceItems {
@@ -21,6 +28,52 @@ pub trait BatchSource: SourceItems {
     {
         None
     }
+
+    /// Gives a sink all items until it has enough. The items of a batch, and values that lie side by side, go at once; others one
+    /// by one.
+    fn give<S: BatchSink>(&self, _room: &mut [i64], sink: &mut S) -> Result<Fed, NoMemory>
+        requires wants { S.flow sink.old ≡ Flow.More }
+        ensures fed { (xs : List Item) → S.has_taken sink.old xs → IsFed S.has_taken xs (trace (Self.items self.now) end.Done) result sink.new }
+        ensures flow { S.flow sink.new ≡ flow_after result }
+        ensures refused { OnErr result S.takes_memory }
+    {
+        accept_each(self, sink)
+    }
+}
+
+/// Some items of a source, one after the other.
+#[derive(Drop)]
+pub struct SourcePart<'a, I: BatchSource> {
+    pub source: &'a I,
+    pub from: u64,
+    pub count: u64,
+    ghost within: { from + count ≤ length (I.items source.now) },
+    ghost short: { length (I.items source.now) < 2 ^ 64 },
+}
+
+impl<I: BatchSource> SourceItems for SourcePart<'_, I> {
+    ghost items = { λ part. take part.count (drop part.from (I.items part.source.now)) };
+
+    fn count(&self) -> u64 {
+        self.count
+    }
+
+    fn item_at(&self, position: u64) -> Item {
+        self.source.item_at(self.from + position)
+    }
+}
+
+impl<I: BatchSource> BatchSource for SourcePart<'_, I> {
+    fn first_place(&self) -> Option<u64> {
+        match self.source.first_place() {
+            Some(first) => Some(first + self.from),
+            None => None,
+        }
+    }
+
+    fn values_at(&self, position: u64, count: u64) -> Option<&[i64]> {
+        self.source.values_at(self.from + position, count)
+    }
 }
 
 impl BatchSource for RangeItems {
@@ -32,5 +85,23 @@ impl BatchSource for RangeItems {
 impl BatchSource for Vec<Item> {
     fn first_place(&self) -> Option<u64> {
         None
+    }
+}
+
+impl BatchSource for Batch {
+    fn first_place(&self) -> Option<u64> {
+        match self.start {
+            Some(start) if start < MAX_SOURCE_SIZE - LANES as u64 => Some(start),
+            _ => None,
+        }
+    }
+
+    fn values_at(&self, position: u64, count: u64) -> Option<&[i64]> {
+        let first = position as usize;
+        Some(&self.values[first..first + count as usize])
+    }
+
+    fn give<S: BatchSink>(&self, room: &mut [i64], sink: &mut S) -> Result<Fed, NoMemory> {
+        sink.accept_batch(self, room)
     }
 }

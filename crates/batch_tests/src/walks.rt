@@ -66,6 +66,7 @@ pub(crate) fn no_items(alloc: Global, flags: bool) -> Items
     }
 }
 
+/// The fault of a division by zero in this stage, at the item of this place.
 pub(crate) const fn division_by_zero(stage: u32, origin: u64) -> Fault {
     Fault {
         kind: FaultKind::DivideByZero,

@@ -11,7 +11,9 @@ pub mod LinkLemmas
 pub mod MeaningLemmas
 pub mod MoveLemmas
 pub mod NameLemmas
+pub mod NestLemmas
 pub mod PartLemmas
+pub mod PassageLemmas
 pub mod Positions
 pub mod RunLemmas
 pub mod ScanLemmas

@@ -5,7 +5,7 @@ use Rattle.lambda_expr.specs.Earlier.{Numbers}
 use Rattle.trace.specs.declared.item.Item.{Item}
 use Rattle.trace.specs.declared.item.Fault.{Fault}
 use Rattle.trace.specs.declared.item.End.TheVariants as end
-use Rattle.trace.specs.Trace.{Trace, trace, nothing, append}
+use Rattle.trace.specs.Trace.{Trace, trace, append}
 use Rattle.trace.proofs.JoinLemmas.{append_grouped, append_nothing, pipe_append}
 use Rattle.job_plan.specs.declared.answer.Answer.{Answer}
 use Rattle.job_plan.specs.declared.outcome.Outcome.{Outcome}

@@ -7,6 +7,7 @@ pub mod Links
 pub mod Moves
 pub mod Names
 pub mod Parts
+pub mod Passages
 pub mod Pieces
 pub mod PlannedAnswers
 pub mod Plans

@@ -1,18 +1,15 @@
--- Condition: slices that a walk goes through one after the other, and what each does with the items to come.
-use Rattle.std.specs.Prelude.{◌≡◌, ℕ, Bool, true, false, List, [], ◌∷◌, Some}
+-- Condition: slices that a walk goes through one after the other.
+use Rattle.std.specs.Prelude.{◌≡◌, Bool, true, false, List, [], ◌∷◌}
 use Rattle.lambda_expr.specs.Earlier.{Numbers}
-use Rattle.trace.specs.Trace.{Trace, append}
-use Rattle.slice_ops.specs.Rests.{IsRestOf, rest_of}
+use Rattle.trace.specs.Trace.{Trace}
+use Rattle.slice_ops.specs.Rests.{rest_of}
 use Rattle.slice_ops.specs.Slices.{AbstractSlice, sliced}
 use Rattle.job_plan.specs.declared.links.Link.{Link}
-use Rattle.job_plan.specs.declared.links.Links.{Links}
-use Rattle.job_plan.specs.declared.part.Part.{Part}
-use Rattle.job_plan.specs.Parts.{StandsFor, segment_in}
-use Rattle.job_plan.specs.Pieces.{piece_of}
+use Rattle.job_plan.specs.Parts.{segment_in}
 use Rattle.job_plan.specs.Plans.{AbstractEnd, slicing, folding, finding, collecting, exactly, scanning, AbstractSegment, AbstractPlan, last_stage, walk_of}
 use Rattle.job_plan.specs.Windows.{later_segments, selected_source}
 
--- a segment that ends in a slice, and what this slice does with the items to come
+-- a segment that ends in a slice, and this slice
 pub record AbstractLink : Type 0 where
   pub segment : AbstractSegment
   pub rest : AbstractSlice
@@ -79,9 +76,9 @@ walked_segments plan = after_links (later_segments plan.segments)
 abbrev pub walked_source : Numbers → AbstractPlan → Trace
 walked_source env plan = linked (first_links (later_segments plan.segments)) env (selected_source plan)
 
--- the segment ends in a slice, of which this is left
+-- the segment ends in this slice
 abbrev pub Fits : AbstractLink → Type 0
-Fits l = (d : AbstractSlice) × (l.segment.ending ≡ slicing d) × IsRestOf d l.rest
+Fits l = l.segment.ending ≡ slicing l.rest
 
 abbrev pub AllFit : List AbstractLink → Type 0
 AllFit [] = Unit {0}
@@ -94,16 +91,3 @@ link_in l = record { segment = segment_in l.segment.now; rest = rest_of l.rest }
 abbrev pub each_link_in : List Link → List AbstractLink
 each_link_in [] = []
 each_link_in (l ∷ ls) = link_in l ∷ each_link_in ls
-
-abbrev pub links_in : Links → List AbstractLink
-links_in ls = link_in ls.first ∷ each_link_in ls.later.items
-
--- a piece of a walk went through links and became this; the links go on with what comes after it
-abbrev pub GoesOn : List AbstractLink → Numbers → Trace → Trace → List AbstractLink → Type 0
-GoesOn before env piece made after = (later : Trace) → linked before env (append piece later) ≡ append made (linked after env later)
-
--- a walk went up to a position through links, into the part of a segment
-pub record HasStreamed (begun now : List AbstractLink) (env : Numbers) (t : Trace) (position : ℕ) (s : AbstractSegment) (p : Part) : Type 0 where
-  pub fit : AllFit now
-  pub goes_on : GoesOn begun env (piece_of 0 (Some position) t) (linked begun env (piece_of 0 (Some position) t)) now
-  pub stands : StandsFor s env p (linked begun env (piece_of 0 (Some position) t))

@@ -131,9 +131,13 @@ may_search (part.Array c) = false
 may_search (part.Prefix p) = false
 may_search (part.Exact p) = not (is_running_sum p)
 
+-- a part goes on from another one with this walk
+abbrev pub GoesOnFrom : AbstractEnd → ℕ → Numbers → Part → Part → Trace → Type 0
+GoesOnFrom e n env begun p u = ((t : Trace) → EndsFor e n env begun t → EndsFor e n env p (append t u)) × (may_search p ≡ may_search begun)
+
 -- a part goes on from another one with these items
 abbrev pub HasTaken : AbstractEnd → ℕ → Numbers → Part → Part → List Item → Type 0
-HasTaken e n env begun p xs = ((t : Trace) → EndsFor e n env begun t → EndsFor e n env p (append t (trace xs end.Done))) × (may_search p ≡ may_search begun)
+HasTaken e n env begun p xs = GoesOnFrom e n env begun p (trace xs end.Done)
 
 -- a part stands for a piece of a segment's source
 abbrev pub StandsFor : AbstractSegment → Numbers → Part → Trace → Type 0

@@ -4,13 +4,14 @@ ghost use Rattle.std.specs.Prelude.{◌≡◌, ℕ, List, None, map, take};
 ghost use Rattle.trace.specs.declared.item.Item.{Item as item};
 ghost use Rattle.find_ops.specs.Finds.{find_of, first_decision};
 ghost use Rattle.slice_ops.specs.Parts.{IsFront};
+ghost use Rattle.slice_ops.specs.Rests.{IsTested, rest_of};
 ghost use Rattle.slice_ops.specs.Slices.{slice_of};
 
 use crate::segment::SegmentEnd;
 use batch_eval::count_passing;
 use find_ops::FindTerminal;
 use lambda_expr::{BoolExpr, Env};
-use slice_ops::Slice;
+use slice_ops::{Slice, SliceRest};
 
 /// The test that an end asks of items while it takes them, if it asks one.
 pub(crate) fn test_of(end: &SegmentEnd) -> Option<&BoolExpr> {
@@ -42,5 +43,16 @@ pub(crate) fn front(slice: &Slice, env: &Env, values: &[i64], room: &mut [i64]) 
     match slice {
         Slice::TakeWhile(test) => count_passing(test, true, env, values, room) as u64,
         Slice::Limit(_) | Slice::Skip(_) | Slice::DropWhile(_) => 0,
+    }
+}
+
+/// How many items with these values come before the first one at which the test of a slice isn't true.
+pub(crate) fn tested(rest: &SliceRest, env: &Env, values: &[i64], room: &mut [i64]) -> u64
+    ensures { (stage : ℕ) (xs : List item) → map (λ x. x.value) xs ≡ values.now → IsTested (rest_of rest.now) stage env.now xs result }
+{
+    match *rest {
+        SliceRest::TakeWhile(test) => count_passing(test, true, env, values, room) as u64,
+        SliceRest::DropWhile(test) => count_passing(test, true, env, values, room) as u64,
+        SliceRest::Limit(_) | SliceRest::Skip(_) => 0,
     }
 }

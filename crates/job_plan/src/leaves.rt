@@ -55,12 +55,12 @@ impl Ending for Brand {
 
 /// A sink that puts each item into a part, until nothing more matters.
 #[derive(Drop)]
-struct PartSink<'p, 'e, K: Ending> {
-    part: Part<'p>,
-    segment: &'p Segment,
-    stage: u32,
-    env: &'e Env,
-    of: PhantomData<K>,
+pub(crate) struct PartSink<'p, 'e, K: Ending> {
+    pub(crate) part: Part<'p>,
+    pub(crate) segment: &'p Segment,
+    pub(crate) stage: u32,
+    pub(crate) env: &'e Env,
+    pub(crate) of: PhantomData<K>,
 }
 
 impl<K: Ending> LongSink for PartSink<'_, '_, K> {

@@ -12,6 +12,7 @@
 
 mod answer;
 mod array_part;
+mod closing;
 mod fallback;
 mod faultless;
 mod folded_piece;
@@ -24,11 +25,13 @@ mod kept;
 mod leaves;
 mod lent_part;
 mod likely;
+mod link_sink;
 mod links;
 mod merging;
 mod moves;
 mod named;
 mod names;
+mod nest;
 mod outcome;
 mod part;
 mod piece_items;

@@ -5,7 +5,7 @@
 //! a call succeeds if there is memory. A table is one text: that costs the least to check.
 //!
 //! `fixture.rt` has the reader of the tables, the trees and the texts of answers; `trees.rt` walks each job of a table on
-//! each tree over six items, `ends.rt` ends that ask a test of items, `prefixes.rt` prefixes,
+//! each tree over six items, `ends.rt` ends that ask a test of items, `prefixes.rt` prefixes, `streams.rt` slices after other stages,
 //! `plans.rt` is for plans of several jobs and for the jobs that can be run.
 //!
 //! Nothing stands on this crate, and it promises nothing.
@@ -19,5 +19,7 @@ mod fixture;
 mod plans;
 #[cfg(test)]
 mod prefixes;
+#[cfg(test)]
+mod streams;
 #[cfg(test)]
 mod trees;

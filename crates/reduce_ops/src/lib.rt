@@ -4,10 +4,15 @@
 //! thread, or in pieces. What it promises to them: `Op::apply` is `value_of` of `specs/Operators.antt`, and
 //! `Partial::merge`, clause `stands`, gives the fold of two pieces side by side, where the first fault ends
 //! the whole. `laws.rt` says why: each operator is associative, and each identity works on both sides.
-//! Begin with `specs/Operators.antt` and `specs/Folds.antt`, then `op.rt` and `partial.rt`. No call takes
-//! memory.
+//! An exact sum is a fold of another kind, since the order of its steps decides whether it has a fault. `ExactPart` keeps
+//! of a piece its total with the least and the greatest of its running sums (`Reach`), and merges in the same way;
+//! `finish` gives the sum, a fault, or `Search`: then `RunningSum` finds the first item at which a sum from the left
+//! overflows. `SumPart` is one or the other, as a walk needs it.
+//! Begin with `specs/Operators.antt` and `specs/Folds.antt`, then `op.rt` and `partial.rt`; for exact sums with
+//! `specs/ExactSums.antt` and `exact_part.rt`. No call takes memory.
 //! Not promised: that an operator is commutative; `affine`, `first` and `last` are not.
-//! Java: `Long::sum`, `Long::min`, `Long::max` and `reduce` of `LongStream` (Java SE 17, `java.util.stream`).
+//! Java: `Long::sum`, `Long::min`, `Long::max`, `Math::addExact` and `reduce` of `LongStream` (Java SE 17,
+//! `java.util.stream`).
 #![tactic(auto)]
 
 mod exact_part;

@@ -44,7 +44,7 @@ module _ (g : Item → Option End) where
             omega (arith, few, here)
 
     -- the whole walk is the front
-    whole_front : front ≡ length xs → stop_at g xs ≡ None
+    pub whole_front : front ≡ length xs → stop_at g xs ≡ None
     whole_front all = by (stop_at g xs) refl
       where
         by : (o : Option (ℕ × End)) → stop_at g xs ≡ o → stop_at g xs ≡ None
@@ -63,7 +63,7 @@ module _ (g : Item → Option End) where
         ∙ sym (ap (λ (e : End). then_on t.items e (trace xs end.Done)) done) ∙ ap (λ o. append t (kept_before o (trace xs end.Done))) (sym (whole_front all))
 
     -- the item after the front ends it
-    stopped_there : (x : Item) → slice_get xs front ≡ Some x → (v : End) × (g x ≡ Some v) × (stop_at g xs ≡ Some (front, v))
+    pub stopped_there : (x : Item) → slice_get xs front ≡ Some x → (v : End) × (g x ≡ Some v) × (stop_at g xs ≡ Some (front, v))
     stopped_there x here = by (stop_at g xs) refl
       where
         within : front < length xs

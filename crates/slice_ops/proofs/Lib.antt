@@ -1,3 +1,4 @@
+pub mod CutLemmas
 pub mod FrontLemmas
 pub mod GrownPartLemmas
 pub mod JoinLemmas

@@ -1,5 +1,5 @@
 -- What slices make of a walk and what comes after it.
-use Rattle.std.proofs.Common.{◌≡◌, ◌⊎◌, inl, inr, Bor, ℕ, zero, suc, ◌-◌, ◌<◌, ◌≤◌, Bool, true, false, not, nat_lt, is_some, List, [], ◌∷◌, ◌++◌, length, length-append, take, drop, Option, Some, None, refl, sym, ap, ◌∙◌, arith}
+use Rattle.std.proofs.Common.{◌≡◌, ℕ, ◌-◌, ◌<◌, ◌≤◌, Bool, true, false, nat_lt, is_some, List, [], ◌∷◌, ◌++◌, length, length-append, take, drop, Option, Some, None, refl, sym, ap, ◌∙◌, arith}
 use Rattle.std.proofs.Math.Seq.{drop-append-add}
 use Rattle.std.proofs.lemmas.List.{drop_all, drop-append-le, length-drop}
 use Rattle.lambda_expr.specs.Earlier.{Numbers}
@@ -12,14 +12,9 @@ use Rattle.trace.specs.Trace.{Trace, trace, nothing, then_on, append}
 use Rattle.trace.proofs.CutLemmas.{take_past, drop_past}
 use Rattle.trace.proofs.JoinLemmas.{append_nothing, append_faulted}
 use Rattle.trace.proofs.StopLemmas.{stop_within}
-use Rattle.slice_ops.specs.Parts.{kept_of, stops}
-use Rattle.slice_ops.specs.Rests.{IsRestOf, rest_of}
-use Rattle.slice_ops.specs.declared.rest.SliceRest.{SliceRest}
-use Rattle.slice_ops.specs.declared.rest.SliceRest.TheVariants as rest
-use Rattle.lambda_expr.specs.declared.expr.BoolExpr.{BoolExpr}
-use Rattle.slice_ops.specs.Slices.{AbstractSlice, limit, skip, take_while, drop_while, limited, skipped, sliced, taken, dropped, front_ends}
+use Rattle.slice_ops.specs.Slices.{limited, skipped, taken, dropped, front_ends}
 use Rattle.slice_ops.proofs.GrownPartLemmas.{is_below, is_above}
-use Rattle.slice_ops.proofs.JoinLemmas.{at_least, limited_enough, limited_few, limit_stays, take_all_of, take_twice, front_stays, still_stops, after_front, fronts_join, not_false, not_some, the_some}
+use Rattle.slice_ops.proofs.JoinLemmas.{at_least, limited_enough, limited_few, front_stays, still_stops, after_front, fronts_join, not_some, the_some}
 
 take_none : (xs : List Item) → take 0 xs ≡ []
 take_none [] = refl
@@ -33,7 +28,7 @@ drop_none (x ∷ xs) = refl
 pub closed : (t : Trace) → limited 0 t ≡ nothing
 closed t = limited_enough 0 t (omega arith) ∙ ap (λ (xs : List Item). trace xs end.Done) (take_none t.items)
 
-then_closed : (b later : Trace) → append b (limited 0 later) ≡ b
+pub then_closed : (b later : Trace) → append b (limited 0 later) ≡ b
 then_closed b later = ap (append b) (closed later) ∙ append_nothing b
 
 -- ---- limit
@@ -58,15 +53,6 @@ module _ (k : ℕ) (xs : List Item) (few : length xs < k) (later : Trace) where
 
 pub limit_goes_on : (k : ℕ) (a later : Trace) → length a.items < k → limited k (append a later) ≡ append a (limited (k - length a.items) later)
 limit_goes_on k a later h = limit_on k a.items h later a.ending
-
--- fewer items than pass: as many fewer still pass
-pub limit_before : (k : ℕ) (a new later : Trace) (left : ℕ) → not (nat_lt (length a.items) k) ≡ false → new ≡ limited k a → left ≡ k - length new.items → limited k (append a later) ≡ append new (limited left later)
-limit_before k a new later left h is is_left =
-    let few = not_false (nat_lt (length a.items) k) h in
-    let same : new ≡ a = is ∙ limited_few k a few in
-    limit_goes_on k a later (is_above (length a.items) k few)
-    ∙ (λ i. append (sym same i) (limited (k - length (sym same i).items) later))
-    ∙ ap (λ n. append new (limited n later)) (sym is_left)
 
 -- ---- skip
 
@@ -161,86 +147,3 @@ module _ (p : Truth) (n : ℕ) (env : Numbers) where
       let size = ap (λ (t : Trace). length t.items) is in
       unopened_on (front_ends p n env) a.items a.ending later (stop_at (front_ends p n env) a.items) refl (omega arith)
       ∙ ap (λ (t : Trace). append t (dropped p n env later)) (sym is)
-
--- ---- all slices
-
--- no item becomes none
-pub sliced_nothing : (d : AbstractSlice) (n : ℕ) (env : Numbers) → sliced d n env nothing ≡ nothing
-sliced_nothing (limit zero) n env = refl
-sliced_nothing (limit (suc k)) n env = limited_few (suc k) nothing (is_below 0 (suc k) (omega arith))
-sliced_nothing (skip zero) n env = refl
-sliced_nothing (skip (suc k)) n env = refl
-sliced_nothing (take_while p) n env = refl
-sliced_nothing (drop_while p) n env = refl
-
--- a test that has ended a walk lets nothing pass
-pub test_closes : (d : AbstractSlice) (q : Truth) → IsRestOf d (take_while q) → IsRestOf d (limit 0)
-test_closes (limit k) q h = absurd h
-test_closes (skip k) q h = absurd h
-test_closes (take_while p) q h = refl
-test_closes (drop_while p) q h = absurd h
-
-module _ (n : ℕ) (env : Numbers) (t later chunk : Trace) where
-  pub test_stopped : (d : AbstractSlice) (q : Truth) → IsRestOf d (take_while q) → chunk ≡ kept_of d n env t → stops d n env t ≡ true
-      → taken q n env (append t later) ≡ append chunk (limited 0 later)
-  test_stopped (limit k) q h is stop = absurd h
-  test_stopped (skip k) q h is stop = absurd h
-  test_stopped (take_while p) q h is stop = ap (λ r. taken r n env (append t later)) h ∙ take_closes p n env t later stop ∙ ap (λ u. append u (limited 0 later)) (sym is)
-  test_stopped (drop_while p) q h is stop = absurd h
-
-  pub test_passed : (d : AbstractSlice) (q : Truth) → IsRestOf d (take_while q) → chunk ≡ kept_of d n env t → stops d n env t ≡ false
-      → taken q n env (append t later) ≡ append chunk (taken q n env later)
-  test_passed (limit k) q h is stop = absurd h
-  test_passed (skip k) q h is stop = absurd h
-  test_passed (take_while p) q h is stop =
-      ap (λ r. taken r n env (append t later)) h ∙ take_goes_on p n env t later stop ∙ ap (λ u. append u (taken p n env later)) (sym is)
-      ∙ ap (λ r. append chunk (taken r n env later)) (sym h)
-  test_passed (drop_while p) q h is stop = absurd h
-
--- what a part keeps of a piece is enough for what is left of the slice
-module _ (k j : ℕ) (fewer : j ≤ k) (t later : Trace) where
-  cut_before : (b : Bool) → nat_lt (length t.items) k ≡ b → limited j (append t later) ≡ limited j (append (limited k t) later)
-  cut_before true h = ap (λ u. limited j (append u later)) (sym (limited_few k t h))
-  cut_before false h =
-      let many : k ≤ length t.items = at_least (length t.items) k h in
-      let size = take_all_of k t.items many in
-      limit_stays j t.items t.ending later (omega arith)
-      ∙ limited_enough j t (omega arith)
-      ∙ ap (λ (xs : List Item). trace xs end.Done) (sym (take_twice j k t.items fewer))
-      ∙ sym (limited_enough j (trace (take k t.items) end.Done) (omega arith))
-      ∙ sym (limit_stays j (take k t.items) end.Done later (omega arith))
-      ∙ ap (λ u. limited j (append u later)) (sym (limited_enough k t many))
-
-abbrev pub is_test : AbstractSlice → Bool
-is_test (limit k) = false
-is_test (skip k) = false
-is_test (take_while p) = true
-is_test (drop_while p) = false
-
--- what is left of a slice that isn't `takeWhile`
-pub no_test : (r : SliceRest) → ((k : ℕ) × (r ≡ rest.Limit k)) ⊎ (((k : ℕ) × (r ≡ rest.Skip k)) ⊎ ((p : Bor BoolExpr) × (r ≡ rest.DropWhile p))) → is_test (rest_of r) ≡ false
-no_test r (inl (k, is)) = ap (λ (s : SliceRest). is_test (rest_of s)) is
-no_test r (inr (inl (k, is))) = ap (λ (s : SliceRest). is_test (rest_of s)) is
-no_test r (inr (inr (p, is))) = ap (λ (s : SliceRest). is_test (rest_of s)) is
-
-both_closed : (j : ℕ) (a b : Trace) → j ≡ 0 → limited j a ≡ limited j b
-both_closed j a b h = ap (λ m. limited m a) h ∙ closed a ∙ sym (closed b) ∙ ap (λ m. limited m b) (sym h)
-
-module _ (n : ℕ) (env : Numbers) (t later : Trace) where
-  pub kept_is_enough : (d r : AbstractSlice) → IsRestOf d r → is_test r ≡ false → sliced r n env (append t later) ≡ sliced r n env (append (kept_of d n env t) later)
-  kept_is_enough (limit k) (limit j) h other = cut_before k j h t later (nat_lt (length t.items) k) refl
-  kept_is_enough (limit k) (skip j) h other = absurd h
-  kept_is_enough (limit k) (take_while q) h other = absurd h
-  kept_is_enough (limit k) (drop_while q) h other = absurd h
-  kept_is_enough (skip k) (limit j) h other = absurd h
-  kept_is_enough (skip k) (skip j) h other = refl
-  kept_is_enough (skip k) (take_while q) h other = absurd h
-  kept_is_enough (skip k) (drop_while q) h other = absurd h
-  kept_is_enough (take_while p) (limit j) h other = both_closed j (append t later) (append (taken p n env t) later) h
-  kept_is_enough (take_while p) (skip j) h other = absurd h
-  kept_is_enough (take_while p) (take_while q) h other = absurd (let z : true ≡ false = other in cc)
-  kept_is_enough (take_while p) (drop_while q) h other = absurd h
-  kept_is_enough (drop_while p) (limit j) h other = absurd h
-  kept_is_enough (drop_while p) (skip j) h other = refl
-  kept_is_enough (drop_while p) (take_while q) h other = absurd h
-  kept_is_enough (drop_while p) (drop_while q) h other = refl

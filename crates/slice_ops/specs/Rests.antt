@@ -1,9 +1,14 @@
 -- Condition: what a slice makes of the items to come.
-use Rattle.std.specs.Prelude.{◌≡◌, ◌≤◌}
+use Rattle.std.specs.Prelude.{◌≡◌, ℕ, List, Option, Some, None}
+use Rattle.lambda_expr.specs.Earlier.{Numbers}
 use Rattle.lambda_expr.specs.Term.{truth_of}
+use Rattle.trace.specs.declared.item.Item.{Item}
+use Rattle.trace.specs.declared.item.End.{End}
+use Rattle.trace.specs.Stops.{stop_at}
+use Rattle.slice_ops.specs.Parts.{before_stop}
 use Rattle.slice_ops.specs.declared.rest.SliceRest.{SliceRest}
 use Rattle.slice_ops.specs.declared.rest.SliceRest.TheVariants as rest
-use Rattle.slice_ops.specs.Slices.{AbstractSlice, limit, skip, take_while, drop_while}
+use Rattle.slice_ops.specs.Slices.{AbstractSlice, limit, skip, take_while, drop_while, front_ends}
 
 -- the slice that the walk of the items to come passes
 abbrev pub rest_of : SliceRest → AbstractSlice
@@ -12,21 +17,14 @@ rest_of (rest.Skip k) = skip k
 rest_of (rest.TakeWhile p) = take_while (truth_of p.now)
 rest_of (rest.DropWhile p) = drop_while (truth_of p.now)
 
--- this is what is left of a slice: fewer items of `limit` or `skip`, the same test, or a test that has ended it
-abbrev pub IsRestOf : AbstractSlice → AbstractSlice → Type 0
-IsRestOf (limit k) (limit left) = left ≤ k
-IsRestOf (limit k) (skip left) = ⊥
-IsRestOf (limit k) (take_while p) = ⊥
-IsRestOf (limit k) (drop_while p) = ⊥
-IsRestOf (skip k) (limit left) = ⊥
-IsRestOf (skip k) (skip left) = Unit {0}
-IsRestOf (skip k) (take_while p) = ⊥
-IsRestOf (skip k) (drop_while p) = ⊥
-IsRestOf (take_while p) (limit left) = left ≡ 0
-IsRestOf (take_while p) (skip left) = ⊥
-IsRestOf (take_while p) (take_while q) = q ≡ p
-IsRestOf (take_while p) (drop_while q) = ⊥
-IsRestOf (drop_while p) (limit left) = ⊥
-IsRestOf (drop_while p) (skip left) = Unit {0}
-IsRestOf (drop_while p) (take_while q) = ⊥
-IsRestOf (drop_while p) (drop_while q) = q ≡ p
+-- as many of the items come before the first one at which the test of the slice isn't true; `limit` and `skip` ask nothing
+abbrev pub IsTested : AbstractSlice → ℕ → Numbers → List Item → ℕ → Type 0
+IsTested (limit k) n env xs front = Unit {0}
+IsTested (skip k) n env xs front = Unit {0}
+IsTested (take_while p) n env xs front = front ≡ before_stop (stop_at (front_ends p n env) xs) xs
+IsTested (drop_while p) n env xs front = front ≡ before_stop (stop_at (front_ends p n env) xs) xs
+
+-- the front ends so after as many items, if it ends
+abbrev pub stop_after : ℕ → Option End → Option (ℕ × End)
+stop_after front None = None
+stop_after front (Some e) = Some (front, e)

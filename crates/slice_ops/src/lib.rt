@@ -2,8 +2,8 @@
 //!
 //! Stands on `trace`, for chunks, and on `lambda_expr`, for the tests. Used by whatever runs such a stage. What it
 //! promises to them: `SlicePart::join`, clause `ok`, gives the part of two pieces side by side, and
-//! `SlicePart::finish` what the stage makes of the whole, as `specs/Slices.antt` says. `SliceRest::shorten`, clause `rest`,
-//! shortens a walk that comes in parts, one after the other.
+//! `SlicePart::finish` what the stage makes of the whole, as `specs/Slices.antt` says. `SliceRest::cut`, clause `passes`,
+//! says which of the next items of a walk pass, and what is then left of the slice.
 //! Begin with `specs/Slices.antt`, then `shorten.rt`, `slice_part.rt` and `rest.rt`. The four calls on a chunk shorten it
 //! in place and take no memory.
 //! Not promised: that a piece is walked no further than needed.
@@ -14,6 +14,6 @@ mod rest;
 mod shorten;
 mod slice_part;
 
-pub use rest::SliceRest;
+pub use rest::{Cut, SliceRest};
 pub use shorten::{drop_while, limit, skip, take_while};
 pub use slice_part::{Slice, SlicePart};

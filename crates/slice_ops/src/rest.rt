@@ -1,15 +1,19 @@
 // What slices do with a walk that comes in parts, one after the other.
 
-ghost use Rattle.std.specs.Prelude.{◌≡◌, ◌-◌, ◌^◌, ℕ, true, flat_map, length, min};
+ghost use Rattle.std.specs.Prelude.{◌≡◌, ◌≤◌, ◌-◌, ℕ, [], true, length, take, drop};
 ghost use Rattle.lambda_expr.specs.Earlier.{Numbers};
-ghost use Rattle.trace.specs.Trace.{Trace, append, nothing};
-ghost use Rattle.slice_ops.specs.Rests.{IsRestOf, rest_of};
-ghost use Rattle.slice_ops.specs.Slices.{AbstractSlice, slice_of, sliced};
+ghost use Rattle.lambda_expr.specs.Term.{truth_of};
+ghost use Rattle.trace.specs.Stops.{stop_at};
+ghost use Rattle.trace.specs.Trace.{Trace, append, nothing, trace};
+ghost use Rattle.trace.specs.declared.item.End.TheVariants as end;
+ghost use Rattle.slice_ops.specs.Parts.{before_stop};
+ghost use Rattle.slice_ops.specs.Rests.{IsTested, rest_of, stop_after};
+ghost use Rattle.slice_ops.specs.Slices.{dropped, front_ends, slice_of, sliced, taken};
 
-use super::shorten::{drop_while, limit, skip, take_while};
+use super::shorten::Front;
 use super::slice_part::Slice;
 use lambda_expr::{BoolExpr, Env};
-use trace::{Chunk, Item};
+use trace::{End, SourceItems, Stop};
 
 /// What a slice does with the items to come, after the ones that went through it.
 #[derive(Clone, Copy)]
@@ -24,11 +28,22 @@ pub enum SliceRest<'a> {
     DropWhile(&'a BoolExpr),
 }
 
+/// What a slice makes of items after which the walk goes on.
+#[derive(Clone, Copy)]
+pub struct Cut<'a> {
+    /// The position of the first item that passes, and that after the last one.
+    pub from: u64,
+    pub to: u64,
+    /// `Done`, or the fault of the slice's test that ends the walk after them.
+    pub end: End,
+    /// What the slice does with what comes after all of the items.
+    pub rest: SliceRest<'a>,
+}
+
 impl<'a> SliceRest<'a> {
     /// Of a slice that no item went through.
     pub fn of(slice: &'a Slice) -> SliceRest<'a>
-        ensures rest { rest_of result ≡ slice_of slice.now }
-        ensures fits { IsRestOf (slice_of slice.now) (rest_of result) }
+        ensures { rest_of result ≡ slice_of slice.now }
     {
         match slice {
             Slice::Limit(n) => SliceRest::Limit(*n),
@@ -38,47 +53,56 @@ impl<'a> SliceRest<'a> {
         }
     }
 
-    /// Shortens the next items of a walk in place, in which they stand with how the walk ends after them, `Done` if it
-    /// goes on. It takes no memory.
+    /// What the slice makes of the items of a source. Of `takeWhile` and `dropWhile`, `front` is how many of them come before the
+    /// first one at which the test isn't true; the test is evaluated at that one alone. It takes no memory.
     ///
     /// The slice is the stage with this number.
-    pub fn shorten(&mut self, stage: u32, env: &Env, chunk: &mut Chunk)
-        ensures items { chunk.new ≡ sliced (rest_of self.old) stage env.now chunk.old }
-        ensures rest { (later : Trace) → sliced (rest_of self.old) stage env.now (append chunk.old later)
-            ≡ append chunk.new (sliced (rest_of self.new) stage env.now later) }
-        ensures fits { (slice : AbstractSlice) → IsRestOf slice (rest_of self.old) → IsRestOf slice (rest_of self.new) }
+    pub fn cut<I: SourceItems>(self, stage: u32, env: &Env, source: &I, front: u64) -> Cut<'a>
+        requires front { IsTested (rest_of self) stage env.now (I.items source.now) front }
+        ensures ordered { result.from ≤ result.to }
+        ensures within { result.to ≤ length (I.items source.now) }
+        ensures passes { (later : Trace) → sliced (rest_of self.entry) stage env.now (append (trace (I.items source.now) end.Done) later)
+            ≡ append (trace (take (result.to - result.from) (drop result.from (I.items source.now))) result.end) (sliced (rest_of result.rest) stage env.now later) }
     {
-        *self = match *self {
-            SliceRest::Limit(n) => {
-                if limit(chunk, n) {
-                    SliceRest::Limit(0)
-                } else {
-                    SliceRest::Limit(left_after(chunk, n))
-                }
-            }
-            SliceRest::Skip(0) => SliceRest::Skip(0),
-            SliceRest::Skip(n) => {
-                let left = left_after(chunk, n);
-                skip(chunk, n);
-                SliceRest::Skip(left)
-            }
-            SliceRest::TakeWhile(test) => {
-                if take_while(chunk, stage, test, env) {
-                    SliceRest::Limit(0)
-                } else {
-                    SliceRest::TakeWhile(test)
-                }
-            }
-            SliceRest::DropWhile(test) => {
-                drop_while(chunk, stage, test, env);
-                let opened = chunk.has_items(1);
-                if opened {
-                    SliceRest::Skip(0)
-                } else {
-                    SliceRest::DropWhile(test)
-                }
-            }
-        };
+        let count = source.count();
+        match self {
+            SliceRest::Limit(n) => Cut {
+                from: 0,
+                to: n.min(count),
+                end: End::Done,
+                rest: SliceRest::Limit(n.saturating_sub(count)),
+            },
+            SliceRest::Skip(n) => Cut {
+                from: n.min(count),
+                to: count,
+                end: End::Done,
+                rest: SliceRest::Skip(n.saturating_sub(count)),
+            },
+            SliceRest::TakeWhile(test) => cut_after(test, stage, env, source, front),
+            SliceRest::DropWhile(test) => cut_before(test, stage, env, source, front),
+        }
+    }
+
+    /// How a walk ends after the slice that ends so with no further item.
+    pub fn end_after(&self, end: End) -> End
+        ensures { (stage : ℕ) (env : Numbers) → sliced (rest_of self.now) stage env (trace [] end) ≡ trace [] result }
+    {
+        match *self {
+            SliceRest::Limit(0) => End::Done,
+            SliceRest::Limit(_) => end,
+            SliceRest::Skip(_) => end,
+            SliceRest::TakeWhile(_) => end,
+            SliceRest::DropWhile(_) => end,
+        }
+    }
+
+    /// The test that the slice asks of the next items, if it asks one.
+    pub fn test(&self) -> Option<&'a BoolExpr> {
+        match *self {
+            SliceRest::TakeWhile(test) => Some(test),
+            SliceRest::DropWhile(test) => Some(test),
+            SliceRest::Limit(_) | SliceRest::Skip(_) => None,
+        }
     }
 
     /// Whether no item passes any more: then nothing that comes matters, not even a fault.
@@ -89,20 +113,87 @@ impl<'a> SliceRest<'a> {
     }
 }
 
-/// By how much `n` is more than the number of items of a chunk; 0 if it is not.
-fn left_after(chunk: &Chunk, n: u64) -> u64
-    ensures { result ≡ n - length chunk.now.items }
+/// What a `takeWhile` that goes on makes of the items of a source: it lets the front pass.
+fn cut_after<'a, I: SourceItems>(
+    test: &'a BoolExpr,
+    stage: u32,
+    env: &Env,
+    source: &I,
+    front: u64,
+) -> Cut<'a>
+    requires front { front ≡ before_stop (stop_at (front_ends (truth_of test.now) stage env.now) (I.items source.now)) (I.items source.now) }
+    ensures ordered { result.from ≤ result.to }
+    ensures within { result.to ≤ length (I.items source.now) }
+    ensures passes { (later : Trace) → taken (truth_of test.now) stage env.now (append (trace (I.items source.now) end.Done) later)
+        ≡ append (trace (take (result.to - result.from) (drop result.from (I.items source.now))) result.end) (sliced (rest_of result.rest) stage env.now later) }
 {
-    n.saturating_sub(items_in(chunk.pieces()))
+    match stop_in(test, stage, env, source, front) {
+        Some(end) => Cut {
+            from: 0,
+            to: front,
+            end,
+            rest: SliceRest::Limit(0),
+        },
+        None => Cut {
+            from: 0,
+            to: source.count(),
+            end: End::Done,
+            rest: SliceRest::TakeWhile(test),
+        },
+    }
 }
 
-/// How many items there are in pieces, or the greatest `u64` if there are more.
-fn items_in(pieces: &[Vec<Item>]) -> u64
-    ensures { result ≡ min (length (flat_map (λ piece. piece.items) pieces.now)) (2 ^ 64 - 1) }
+/// What a `dropWhile` that goes on makes of the items of a source: it drops the front.
+fn cut_before<'a, I: SourceItems>(
+    test: &'a BoolExpr,
+    stage: u32,
+    env: &Env,
+    source: &I,
+    front: u64,
+) -> Cut<'a>
+    requires front { front ≡ before_stop (stop_at (front_ends (truth_of test.now) stage env.now) (I.items source.now)) (I.items source.now) }
+    ensures ordered { result.from ≤ result.to }
+    ensures within { result.to ≤ length (I.items source.now) }
+    ensures passes { (later : Trace) → dropped (truth_of test.now) stage env.now (append (trace (I.items source.now) end.Done) later)
+        ≡ append (trace (take (result.to - result.from) (drop result.from (I.items source.now))) result.end) (sliced (rest_of result.rest) stage env.now later) }
 {
-    let mut items = 0u64;
-    for piece in pieces {
-        items = items.saturating_add(piece.len() as u64);
+    let count = source.count();
+    match stop_in(test, stage, env, source, front) {
+        Some(End::Done) => Cut {
+            from: front,
+            to: count,
+            end: End::Done,
+            rest: SliceRest::Skip(0),
+        },
+        Some(End::Fault(fault)) => Cut {
+            from: front,
+            to: front,
+            end: End::Fault(fault),
+            rest: SliceRest::DropWhile(test),
+        },
+        None => Cut {
+            from: count,
+            to: count,
+            end: End::Done,
+            rest: SliceRest::DropWhile(test),
+        },
     }
-    items
+}
+
+/// How the front of a source's items ends, of which as many come before its end: `None` if it is all of them.
+fn stop_in<I: SourceItems>(
+    test: &BoolExpr,
+    stage: u32,
+    env: &Env,
+    source: &I,
+    front: u64,
+) -> Option<End>
+    requires front { front ≡ before_stop (stop_at (front_ends (truth_of test.now) stage env.now) (I.items source.now)) (I.items source.now) }
+    ensures { stop_at (front_ends (truth_of test.now) stage env.now) (I.items source.now) ≡ stop_after front result }
+{
+    if front == source.count() {
+        return None;
+    }
+    let first = Front { stage, test, env };
+    first.end_before(source.item_at(front))
 }

@@ -7,10 +7,8 @@ ghost use Rattle.trace.specs.Stops.{stop_at};
 ghost use Rattle.trace.specs.Trace.{Trace, trace, append};
 ghost use Rattle.trace.specs.declared.item.End.TheVariants as end;
 ghost use Rattle.slice_ops.specs.Parts.{AreAdded, IsAdded, IsFront, IsJoined, StandsFor, before_stop, is_settled};
-ghost use Rattle.slice_ops.specs.Rests.{IsRestOf, rest_of};
 ghost use Rattle.slice_ops.specs.Slices.{AbstractSlice, front_ends, slice_of, sliced, taken};
 
-use super::rest::SliceRest;
 use super::shorten::{Front, drop_while, limit, skip, take_while};
 use lambda_expr::{BoolExpr, Env};
 use trace::{Chunk, End, Item, NoMemory, SourceItems, Stop};
@@ -151,34 +149,6 @@ impl<'a> SlicePart<'a> {
         }
         self.stopped = shorten_joined(self.slice, &mut self.chunk, stopped);
         Ok(self)
-    }
-
-    /// What the stage makes of the piece if this is left of it for the piece, and what is then left for the items after it. It takes
-    /// no memory.
-    pub fn pass(self, rest: SliceRest<'a>, env: &Env) -> (Chunk, SliceRest<'a>)
-        requires fits { IsRestOf (slice_of self.slice.now) (rest_of rest) }
-        ensures fits { IsRestOf (slice_of self.entry.slice.now) (rest_of result.1) }
-        ensures goes_on { (t : Trace) → StandsFor (slice_of self.entry.slice.now) self.entry.stage env.now self.entry t → (later : Trace)
-            → sliced (rest_of rest.entry) self.entry.stage env.now (append t later) ≡ append result.0 (sliced (rest_of result.1) self.entry.stage env.now later) }
-    {
-        let SlicePart {
-            slice: _,
-            stage,
-            mut chunk,
-            stopped,
-        } = self;
-        let mut rest = rest;
-        match rest {
-            SliceRest::TakeWhile(_) => {
-                if stopped {
-                    rest = SliceRest::Limit(0);
-                }
-            }
-            SliceRest::Limit(_) | SliceRest::Skip(_) | SliceRest::DropWhile(_) => {
-                rest.shorten(stage, env, &mut chunk);
-            }
-        }
-        (chunk, rest)
     }
 
     /// What the stage makes of the whole walk. It takes no memory.

@@ -9,8 +9,8 @@ pub loop-position-init : goal.loop-position-init
 loop-position-init g c =
     record {
       within = omega arith;
-      some = omega arith;
-      few = omega arith;
+      some = omega (arith, c.requires.some);
+      few = c.requires.few;
       room = c.requires.room;
       wants = c.requires.wants;
       fed = λ xs took. IsFed_none g.S.LongSink.has_taken c.args.first_stage (stages_of c.args.stages.now) c.args.env.now xs c.args.sink.now took;

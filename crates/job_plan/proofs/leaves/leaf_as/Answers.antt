@@ -2,8 +2,7 @@ use Rattle.std.proofs.Common.{◌≡◌, ◌+◌, suc, List, [], ◌++◌, lengt
 use Rattle.trace.specs.declared.item.Item.{Item}
 use Rattle.trace.specs.declared.item.End.{End}
 use Rattle.trace.specs.declared.item.End.TheVariants as end
-use Rattle.trace.specs.Trace.{Trace, trace, nothing, append}
-use Rattle.trace.proofs.JoinLemmas.{pipe_ended}
+use Rattle.trace.specs.Trace.{Trace, trace, append}
 use Rattle.job_plan.specs.declared.part.Part.{Part}
 use Rattle.job_plan.specs.Parts.{EndsFor, HasTaken, StandsFor, end_in, is_settled, may_search, segment_in, walk_in}
 use Rattle.job_plan.specs.Pieces.{elements, piece_of}

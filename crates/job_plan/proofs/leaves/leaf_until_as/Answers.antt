@@ -1,11 +1,11 @@
-use Rattle.std.proofs.Common.{◌≡◌, ◌+◌, suc, List, [], ◌++◌, Some, length, take, refl, sym, ap, subst, ◌∙◌, rules}
+use Rattle.std.proofs.Common.{◌≡◌, ◌+◌, suc, List, [], ◌++◌, Some, length, take, sym, ap, subst, ◌∙◌, rules}
 use Rattle.trace.specs.declared.item.Item.{Item}
 use Rattle.trace.specs.declared.item.End.{End}
 use Rattle.trace.specs.declared.item.End.TheVariants as end
 use Rattle.trace.specs.Trace.{Trace, trace, nothing, append}
 use Rattle.trace.proofs.JoinLemmas.{pipe_ended}
 use Rattle.job_plan.specs.declared.part.Part.{Part}
-use Rattle.job_plan.specs.Parts.{EndsFor, HasTaken, StandsFor, end_in, is_settled, may_search, segment_in, walk_in}
+use Rattle.job_plan.specs.Parts.{EndsFor, HasTaken, StandsFor, end_in, is_settled, segment_in, walk_in}
 use Rattle.job_plan.specs.Pieces.{elements, piece_of}
 use Rattle.job_plan.specs.Plans.{last_stage, walk_of}
 use Rattle.job_plan.proofs.PartLemmas.{length-stages_of}

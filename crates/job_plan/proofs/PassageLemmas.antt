@@ -1,0 +1,154 @@
+-- What goes on from a slice in the middle of a walk.
+use Rattle.std.proofs.Common.{◌≡◌, ℕ, suc, ◌<◌, List, [], ◌++◌, length, take, drop, Result, Ok, Err, IfOk, refl, sym, ap, subst, ◌∙◌, append_assoc}
+use Rattle.std.proofs.lemmas.List.{append-nil, take-append-drop}
+use Rattle.lambda_expr.specs.Earlier.{Numbers}
+use Rattle.trace.specs.declared.item.Item.{Item}
+use Rattle.trace.specs.declared.item.Fault.{Fault}
+use Rattle.trace.specs.declared.item.End.{End}
+use Rattle.trace.specs.declared.item.End.TheVariants as end
+use Rattle.trace.specs.declared.feeding.Fed.{Fed}
+use Rattle.trace.specs.declared.feeding.Fed.TheVariants as fed
+use Rattle.trace.specs.declared.sink.Flow.{Flow}
+use Rattle.trace.specs.declared.sink.Flow.TheVariants as flow
+use Rattle.trace.specs.Sinks.{IsFed, flow_after}
+use Rattle.trace.specs.Trace.{Trace, trace, nothing, append}
+use Rattle.trace.proofs.JoinLemmas.{append_faulted, append_grouped, pipe_append, pipe_ended, pipe_more}
+use Rattle.slice_ops.specs.Slices.{AbstractSlice, sliced}
+use Rattle.job_plan.specs.declared.link_sink.Passage.{Passage}
+use Rattle.job_plan.specs.declared.link_sink.Passage.TheVariants as passage
+use Rattle.job_plan.specs.Passages.{HasPassed, IsAfter, fed_by, onward, passage_flow, through_link}
+use Rattle.job_plan.specs.Plans.{AbstractSegment, walk_of}
+use Rattle.job_plan.proofs.WalkLemmas.{enough_at_last}
+
+-- what a slice answers is what it wants
+pub answered_flow : (r : Fed) (p : Passage) (e : End) (left : AbstractSlice) (f : Flow) → IsAfter r e left p → f ≡ flow_after (Ok r) → passage_flow p f ≡ flow_after (Ok (fed_by p))
+answered_flow fed.More passage.Open e left f next wants = wants
+answered_flow fed.More passage.Enough e left f next wants = absurd next
+answered_flow fed.More (passage.Ended k) e left f next wants = refl
+answered_flow fed.More passage.Refused e left f next wants = absurd next
+answered_flow (fed.Fault x) p e left f next wants = ap (λ (q : Passage). passage_flow q f) next ∙ sym (ap (λ (q : Passage). flow_after (Ok (fed_by q))) next)
+answered_flow fed.Enough p e left f next wants = ap (λ (q : Passage). passage_flow q f) next ∙ sym (ap (λ (q : Passage). flow_after (Ok (fed_by q))) next)
+
+-- all items were taken: the last one is the one after which the slice had enough, if it had
+pub answered : {T : Type 0} (has : T → List Item → Type 0) (t : T) (xs items : List Item) (p : Passage) → 0 < length items → has t (xs ++ items) → IsFed has xs (trace items end.Done) (Ok (fed_by p)) t
+answered has t xs items passage.Open some_item took = (took, refl)
+answered has t xs items passage.Enough some_item took = enough_at_last (has t) xs items some_item took
+answered has t xs items (passage.Ended e) some_item took = enough_at_last (has t) xs items some_item took
+answered has t xs items passage.Refused some_item took = enough_at_last (has t) xs items some_item took
+
+pub if_ok_map : {A E : Type 0} (P Q : A → Type 0) (r : Result A E) → ((a : A) → P a → Q a) → IfOk r P → IfOk r Q
+if_ok_map P Q (Ok a) f h = f a h
+if_ok_map P Q (Err e) f h = h
+
+module _ {S : Type 0} (h : S → List Item → Type 0) (f : S → Flow) (begun : AbstractSlice) (n : ℕ) (g : AbstractSegment) (env : Numbers) where
+  abbrev Passed : AbstractSlice → Passage → S → List Item → Type 0
+  Passed = HasPassed h f begun n g env
+
+  -- before any item
+  passed_none : (s : S) → h s [] → Passed begun passage.Open s []
+  passed_none s took = ([], took, λ later. refl)
+
+  closed_none : (s : S) → h s [] → ((m : ℕ) (e : Numbers) (later : Trace) → sliced begun m e later ≡ nothing) → Passed begun (passage.Ended end.Done) s []
+  closed_none s took closed = ([], took, λ later. ap (walk_of g env) (closed n env later) ∙ pipe_ended g.first g.stages env end.Done)
+
+  pub passed_first : (p : Passage) (s : S) → h s [] → IsAfter fed.More end.Done begun p → Passed begun p s []
+  passed_first passage.Open s took next = passed_none s took
+  passed_first passage.Enough s took next = absurd next
+  passed_first (passage.Ended e) s took next = subst (λ (k : End). Passed begun (passage.Ended k) s []) (sym next.0) (closed_none s took (next.1 refl))
+  passed_first passage.Refused s took next = absurd next
+
+  module _ (xs items win : List Item) (e : End) (rest left : AbstractSlice) (ys : List Item) (s : S)
+      (so_far : (later : Trace) → onward h f begun n g env xs later ≡ append (trace ys end.Done) (through_link rest n g env later))
+      (cut : (later : Trace) → sliced rest n env (append (trace items end.Done) later) ≡ append (trace win e) (sliced left n env later)) where
+    -- what the items that pass become
+    abbrev w : Trace
+    w = walk_of g env (trace win end.Done)
+
+    -- what comes after them
+    abbrev behind : Trace → Trace
+    behind later = append (trace [] e) (through_link left n g env later)
+
+    with_end : walk_of g env (trace win e) ≡ append w (trace [] e)
+    with_end =
+        let none : List Item = [] in
+        ap (λ (zs : List Item). walk_of g env (trace zs e)) (sym (append-nil win)) ∙ pipe_more g.first g.stages env win none e ∙ ap (append w) (pipe_ended g.first g.stages env e)
+
+    went : (later : Trace) → onward h f begun n g env (xs ++ items) later ≡ append (trace ys end.Done) (append w (behind later))
+    went later =
+        let u : Trace = sliced left n env later in
+        ap (λ (zs : List Item). through_link begun n g env (trace zs later.ending)) (append_assoc xs items later.items)
+        ∙ so_far (append (trace items end.Done) later)
+        ∙ ap (λ (t : Trace). append (trace ys end.Done) (walk_of g env t)) (cut later)
+        ∙ ap (append (trace ys end.Done)) (pipe_append g.first g.stages env (trace win e) u ∙ ap (λ (t : Trace). append t (walk_of g env u)) with_end ∙ append_grouped w (trace [] e) (walk_of g env u))
+
+    grown : (zs : List Item) (t : Trace) → append (trace ys end.Done) (append (trace zs end.Done) t) ≡ append (trace (ys ++ zs) end.Done) t
+    grown zs t = ap (λ (us : List Item). trace us t.ending) (sym (append_assoc ys zs t.items))
+
+    all_went : w.ending ≡ end.Done → (later : Trace) → onward h f begun n g env (xs ++ items) later ≡ append (trace (ys ++ w.items) end.Done) (behind later)
+    all_went done later = went later ∙ ap (λ (k : End). append (trace ys end.Done) (append (trace w.items k) (behind later))) done ∙ grown w.items (behind later)
+
+    -- after a fault of the slice nothing comes, nor after a slice that lets nothing pass
+    ends : (later : Trace) → (e ≡ end.Done → (m : ℕ) (v : Numbers) (u : Trace) → sliced left m v u ≡ nothing) → behind later ≡ trace [] e
+    ends later closed = by e refl
+      where
+        by : (k : End) → e ≡ k → behind later ≡ trace [] e
+        by end.Done is =
+            ap (λ (k : End). append (trace [] k) (through_link left n g env later)) is ∙ ap (walk_of g env) (closed is n env later) ∙ pipe_ended g.first g.stages env end.Done ∙ ap (λ (k : End). trace [] k) (sym is)
+        by (end.Fault x) is = ap (λ (k : End). append (trace [] k) (through_link left n g env later)) is ∙ ap (λ (k : End). trace [] k) (sym is)
+
+    -- all items that passed went on
+    went_on : (p : Passage) → IsFed h ys w (Ok fed.More) s → IsAfter fed.More e left p → Passed left p s (xs ++ items)
+    went_on passage.Open took next = (ys ++ w.items, took.0, λ later. all_went took.1 later ∙ ap (λ (k : End). append (trace (ys ++ w.items) end.Done) (append (trace [] k) (through_link left n g env later))) next)
+    went_on passage.Enough took next = absurd next
+    went_on (passage.Ended k) took next = (
+      ys ++ w.items,
+      took.0,
+      λ later. all_went took.1 later ∙ ap (append (trace (ys ++ w.items) end.Done)) (ends later next.1 ∙ ap (λ (z : End). trace [] z) (sym next.0)),
+    )
+    went_on passage.Refused took next = absurd next
+
+    -- one of them ended the walk in a fault of a later stage
+    went_faulted : (x : Fault) → IsFed h ys w (Ok (fed.Fault x)) s → Passed left (passage.Ended (end.Fault x)) s (xs ++ items)
+    went_faulted x took = (
+      ys ++ w.items,
+      took.0,
+      λ later. went later ∙ ap (append (trace ys end.Done)) (append_faulted w (behind later) x took.1) ∙ (λ i. trace (sym (append-nil (ys ++ w.items)) i) (took.1 i)),
+    )
+
+    -- the next sink has enough
+    went_enough : IsFed h ys w (Ok fed.Enough) s → f s ≡ flow.Enough → Passed left passage.Enough s (xs ++ items)
+    went_enough took enough =
+        let k = suc took.0 in
+        let front : Trace = trace (take k w.items) end.Done in
+        let back : Trace = trace (drop k w.items) w.ending in (
+          ys ++ take k w.items,
+          took.2,
+          enough,
+          λ later. (
+            append back (behind later),
+            went later
+                ∙ ap (append (trace ys end.Done)) (ap (λ (zs : List Item). append (trace zs w.ending) (behind later)) (sym (take-append-drop k w.items)) ∙ append_grouped front back (behind later))
+                ∙ grown (take k w.items) (append back (behind later)),
+          ),
+        )
+
+    pub passed_on : (r : Fed) (p : Passage) → IsFed h ys w (Ok r) s → f s ≡ flow_after (Ok r) → IsAfter r e left p → Passed left p s (xs ++ items)
+    passed_on fed.More p took wants next = went_on p took next
+    passed_on (fed.Fault x) p took wants next = subst (λ (q : Passage). Passed left q s (xs ++ items)) (sym next) (went_faulted x took)
+    passed_on fed.Enough p took wants next = subst (λ (q : Passage). Passed left q s (xs ++ items)) (sym next) (went_enough took wants)
+
+  -- what a next sink makes that is closed in place of the slice
+  module _ (P : Trace → Type 0) (rest : AbstractSlice) (s : S) (xs : List Item) where
+    pub closed_open : (e k : End) → sliced rest n env (trace [] e) ≡ trace [] k → Passed rest passage.Open s xs → ((ys : List Item) → h s ys → P (append (trace ys end.Done) (trace [] k)))
+        → P (onward h f begun n g env xs (trace [] e))
+    closed_open e k ends took p =
+        subst P (sym (took.2 (trace [] e) ∙ ap (λ (t : Trace). append (trace took.0 end.Done) (walk_of g env t)) ends ∙ ap (append (trace took.0 end.Done)) (pipe_ended g.first g.stages env k))) (p took.0 took.1)
+
+    pub enough_open : (later : Trace) → Passed rest passage.Open s xs → ((ys : List Item) (u : Trace) → h s ys → P (append (trace ys end.Done) u)) → P (onward h f begun n g env xs later)
+    enough_open later took p = subst P (sym (took.2 later)) (p took.0 (through_link rest n g env later) took.1)
+
+    pub closed_enough : (later : Trace) → Passed rest passage.Enough s xs → (f s ≡ flow.Enough → (ys : List Item) (u : Trace) → h s ys → P (append (trace ys end.Done) u)) → P (onward h f begun n g env xs later)
+    closed_enough later took p = subst P (sym (took.3 later).1) (p took.2 took.0 (took.3 later).0 took.1)
+
+    pub closed_ended : (e : End) (later : Trace) → Passed rest (passage.Ended e) s xs → ((ys : List Item) → h s ys → P (append (trace ys end.Done) (trace [] e))) → P (onward h f begun n g env xs later)
+    closed_ended e later took p = subst P (sym (took.2 later)) (p took.0 took.1)

@@ -1,0 +1,55 @@
+-- Condition: a slice in the middle of a walk, and what went on from it.
+use Rattle.std.specs.Prelude.{◌≡◌, ℕ, List, [], ⊤}
+use Rattle.lambda_expr.specs.Earlier.{Numbers}
+use Rattle.trace.specs.declared.item.Item.{Item}
+use Rattle.trace.specs.declared.item.End.{End}
+use Rattle.trace.specs.declared.item.End.TheVariants as end
+use Rattle.trace.specs.declared.feeding.Fed.{Fed}
+use Rattle.trace.specs.declared.feeding.Fed.TheVariants as fed
+use Rattle.trace.specs.declared.sink.Flow.{Flow}
+use Rattle.trace.specs.declared.sink.Flow.TheVariants as flow
+use Rattle.trace.specs.Trace.{Trace, trace, nothing, append}
+use Rattle.slice_ops.specs.Slices.{AbstractSlice, sliced}
+use Rattle.job_plan.specs.declared.link_sink.Passage.{Passage}
+use Rattle.job_plan.specs.declared.link_sink.Passage.TheVariants as passage
+use Rattle.job_plan.specs.Plans.{AbstractSegment, walk_of}
+
+-- what a walk becomes in a slice, the stage with this number, and then in the stages of the next segment
+abbrev pub through_link : AbstractSlice → ℕ → AbstractSegment → Numbers → Trace → Trace
+through_link d n next env t = walk_of next env (sliced d n env t)
+
+-- whether a slice wants items, if the next sink wants so
+abbrev pub passage_flow : Passage → Flow → Flow
+passage_flow passage.Open f = f
+passage_flow passage.Enough f = flow.Enough
+passage_flow (passage.Ended e) f = flow.Enough
+passage_flow passage.Refused f = flow.More
+
+-- how a slice goes on after items that it cut, if this became of those that pass, and the walk goes on after them or ends in a fault of the
+-- slice: nothing comes any more after a fault, nor from a slice that lets nothing pass
+abbrev pub IsAfter : Fed → End → AbstractSlice → Passage → Type 0
+IsAfter fed.More e rest passage.Open = e ≡ end.Done
+IsAfter fed.More e rest passage.Enough = ⊥
+IsAfter fed.More e rest (passage.Ended k) = (k ≡ e) × (e ≡ end.Done → (n : ℕ) (env : Numbers) (later : Trace) → sliced rest n env later ≡ nothing)
+IsAfter fed.More e rest passage.Refused = ⊥
+IsAfter (fed.Fault f) e rest p = p ≡ passage.Ended (end.Fault f)
+IsAfter fed.Enough e rest p = p ≡ passage.Enough
+
+-- what a slice answers that goes on so
+abbrev pub fed_by : Passage → Fed
+fed_by passage.Open = fed.More
+fed_by passage.Enough = fed.Enough
+fed_by (passage.Ended e) = fed.Enough
+fed_by passage.Refused = fed.Enough
+
+module _ {S : Type 0} (has_taken : S → List Item → Type 0) (wants : S → Flow) (begun : AbstractSlice) (n : ℕ) (next : AbstractSegment) (env : Numbers) where
+  -- what goes into the next sink, if these items went into the slice, and then this walk
+  abbrev pub onward : List Item → Trace → Trace
+  onward xs later = through_link begun n next env (append (trace xs end.Done) later)
+
+  -- these items went into a slice, of which this is left, and the next sink has taken what became of them
+  abbrev pub HasPassed : AbstractSlice → Passage → S → List Item → Type 0
+  HasPassed rest passage.Open s xs = (ys : List Item) × has_taken s ys × ((later : Trace) → onward xs later ≡ append (trace ys end.Done) (through_link rest n next env later))
+  HasPassed rest passage.Enough s xs = (ys : List Item) × has_taken s ys × (wants s ≡ flow.Enough) × ((later : Trace) → (z : Trace) × (onward xs later ≡ append (trace ys end.Done) z))
+  HasPassed rest (passage.Ended e) s xs = (ys : List Item) × has_taken s ys × ((later : Trace) → onward xs later ≡ append (trace ys end.Done) (trace [] e))
+  HasPassed rest passage.Refused s xs = ⊤

@@ -1,0 +1,50 @@
+//! Sinks that make something of what they took, once the walk has ended.
+
+ghost use Rattle.std.specs.Prelude.{◌≡◌, [], List, IfOk};
+ghost use Rattle.trace.specs.Trace.{Trace, append, trace};
+ghost use Rattle.trace.specs.declared.item.End.TheVariants as end;
+ghost use Rattle.trace.specs.declared.item.Item.{Item};
+ghost use Rattle.job_plan.specs.Parts.{GoesOnFrom, end_in, flow_of};
+
+use crate::leaves::{Ending, PartSink};
+use crate::part::Part;
+use batch_eval::BatchSink;
+use trace::{End, Flow, NoMemory};
+
+/// A sink that makes something of what it took.
+pub(crate) trait Closing: BatchSink + Drop {
+    /// What the sink makes.
+    type Made;
+
+    // it stands for the walk that went into the sink
+    ghost stands: { Self.Made → Trace → Type 0 };
+
+    /// Whether the sink wants no further item.
+    fn has_enough(&self) -> bool
+        ensures { flow_of result ≡ Self.flow self.now };
+
+    /// What the sink makes of the items that it took, if the walk ends so after them. If the sink has enough, it makes the same
+    /// of any walk that begins with them.
+    fn close(self, ending: End) -> Result<Self::Made, NoMemory>
+        ensures closed { IfOk result (λ made. (xs : List Item) → Self.has_taken self xs → Self.stands made (append (trace xs end.Done) (trace [] ending))) }
+        ensures enough { IfOk result (λ made. Self.flow self ≡ Flow.Enough → (xs : List Item) (later : Trace) → Self.has_taken self xs → Self.stands made (append (trace xs end.Done) later)) };
+}
+
+impl<'p, K: Ending> Closing for PartSink<'p, '_, K> {
+    type Made = Part<'p>;
+
+    ghost stands = { GoesOnFrom (end_in K.last) K.stage K.env K.begun };
+
+    fn has_enough(&self) -> bool {
+        self.part.is_settled()
+    }
+
+    fn close(self, ending: End) -> Result<Part<'p>, NoMemory> {
+        let mut part = self.part;
+        if part.is_settled() {
+            return Ok(part);
+        }
+        part.end_with(ending);
+        Ok(part)
+    }
+}

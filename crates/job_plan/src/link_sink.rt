@@ -1,0 +1,286 @@
+//! A slice that comes after other stages, as a sink: what passes goes on at once, a batch at a time, through the stages after the
+//! slice and into the next sink. Nothing is kept.
+
+ghost use Rattle.std.specs.Prelude.{◌≡◌, ◌-◌, ◌<◌, ◌≤◌, ◌^◌, ℕ, List, [], drop, length, map, take, ⊤};
+ghost use Rattle.lambda_expr.specs.Earlier.{Numbers};
+ghost use Rattle.trace.specs.Sinks.{IsFed, flow_after};
+ghost use Rattle.trace.specs.Trace.{Trace, trace};
+ghost use Rattle.trace.specs.declared.feeding.Fed.TheVariants as fed;
+ghost use Rattle.trace.specs.declared.item.End.TheVariants as end;
+ghost use Rattle.trace.specs.declared.item.Item.{Item as item};
+ghost use Rattle.slice_ops.specs.Rests.{rest_of};
+ghost use Rattle.slice_ops.specs.Slices.{AbstractSlice, limit};
+ghost use Rattle.job_plan.specs.Parts.{segment_in};
+ghost use Rattle.job_plan.specs.Passages.{HasPassed, IsAfter, fed_by, passage_flow, through_link};
+ghost use Rattle.job_plan.specs.Plans.{AbstractSegment, collecting, walk_of};
+
+use crate::closing::Closing;
+use crate::fronts::tested;
+use crate::pieces::ItemPiece;
+use crate::segment::Segment;
+use batch_eval::{
+    Batch, BatchSink, BatchSource, PlacedValues, Registers, SourcePart, accept_each, feed_at_once,
+};
+use lambda_expr::{BoolExpr, Env};
+use slice_ops::{Cut, SliceRest};
+use std::marker::{Brand, PhantomData};
+use trace::{End, Fed, Flow, Item, LongSink, NoMemory, SourceItems, feed_all};
+
+/// So few items go through stages one by one.
+const FEW_ITEMS: u64 = 8;
+
+/// How a link of a walk began, and what comes after it, as contracts see it. No value has this type.
+pub(crate) trait LinkStart {
+    ghost rest: { AbstractSlice };
+
+    ghost stage: { ℕ };
+
+    ghost next: { AbstractSegment };
+
+    ghost env: { Numbers };
+}
+
+impl LinkStart for Brand {
+    ghost rest = { limit 0 };
+
+    ghost stage = { 0 };
+
+    ghost next = { record { first = 0; stages = []; ending = collecting } };
+
+    ghost env = { [] };
+}
+
+/// Whether items go on from a slice.
+#[derive(Clone, Copy)]
+pub(crate) enum Passage {
+    /// They do.
+    Open,
+    /// The next sink has enough.
+    Enough,
+    /// No item comes any more: the walk after the slice has ended so.
+    Ended(End),
+    /// Memory was refused.
+    Refused,
+}
+
+impl Passage {
+    /// How a slice goes on of which this is left, after items that all went on.
+    pub(crate) fn of(rest: &SliceRest<'_>) -> Passage
+        ensures { IsAfter fed.More end.Done (rest_of rest.now) result }
+    {
+        if rest.is_closed() {
+            Passage::Ended(End::Done)
+        } else {
+            Passage::Open
+        }
+    }
+}
+
+/// A slice in the middle of a walk.
+#[derive(Drop)]
+pub(crate) struct Passing<'p, S: Drop> {
+    pub(crate) rest: SliceRest<'p>,
+    pub(crate) passage: Passage,
+    /// What takes the items that pass, after the stages of the next segment.
+    pub(crate) inner: S,
+}
+
+/// A sink that lets items pass as a slice does, and takes them through the stages of the next segment into the next sink.
+#[derive(Drop)]
+pub(crate) struct LinkSink<'p, 'e, K: LinkStart, S: Drop> {
+    pub(crate) passing: Passing<'p, S>,
+    pub(crate) stage: u32,
+    pub(crate) next: &'p Segment,
+    pub(crate) env: &'e Env,
+    pub(crate) registers: Registers,
+    pub(crate) of: PhantomData<K>,
+}
+
+/// How a slice goes on after items that it cut so, and of those that pass this became.
+fn after(fed: Fed, cut: &Cut<'_>) -> Passage
+    ensures { IsAfter fed cut.now.end (rest_of cut.now.rest) result }
+{
+    match fed {
+        Fed::Enough => Passage::Enough,
+        Fed::Fault(fault) => Passage::Ended(End::Fault(fault)),
+        Fed::More => match cut.end {
+            End::Fault(_) => Passage::Ended(cut.end),
+            End::Done => Passage::of(&cut.rest),
+        },
+    }
+}
+
+/// What a slice answers that goes on so.
+fn answer(passage: Passage) -> Fed
+    ensures { result ≡ fed_by passage }
+{
+    match passage {
+        Passage::Open => Fed::More,
+        Passage::Enough | Passage::Ended(_) | Passage::Refused => Fed::Enough,
+    }
+}
+
+/// Takes some items of a source through the stages of a segment and into a sink.
+fn hand_on<I: BatchSource, S: BatchSink>(
+    next: &Segment,
+    env: &Env,
+    source: &I,
+    from: u64,
+    to: u64,
+    registers: &mut Registers,
+    room: &mut [i64],
+    sink: &mut S,
+) -> Result<Fed, NoMemory>
+    requires wants { S.flow sink.old ≡ Flow.More }
+    requires ordered { from ≤ to }
+    requires within { to ≤ length (I.items source.now) }
+    ensures fed { (xs : List item) → S.has_taken sink.old xs → IsFed S.has_taken xs
+        (walk_of (segment_in next.now) env.now (trace (take (to - from) (drop from (I.items source.now))) end.Done)) result sink.new }
+    ensures flow { S.flow sink.new ≡ flow_after result }
+{
+    let size = source.count();
+    let count = to - from;
+    let plain = next.stages.is_empty();
+    if plain && count == size {
+        return source.give(room, sink);
+    }
+    let part = SourcePart {
+        source,
+        from,
+        count,
+    };
+    if plain {
+        return accept_each(&part, sink);
+    }
+    if count < FEW_ITEMS {
+        return feed_all(&next.stages, next.first_stage, env, &part, sink);
+    }
+    feed_at_once(&next.stages, next.first_stage, env, &part, registers, sink)
+}
+
+/// Lets the items of a source, which have these values, pass as a slice does, and takes those that pass through the stages of the
+/// next segment.
+fn pass<I: BatchSource, S: BatchSink + Drop>(
+    passing: &mut Passing<'_, S>,
+    stage: u32,
+    next: &Segment,
+    env: &Env,
+    source: &I,
+    values: &[i64],
+    registers: &mut Registers,
+    room: &mut [i64],
+) -> Result<Fed, NoMemory>
+    requires wants { passage_flow passing.old.passage (S.flow passing.old.inner) ≡ Flow.More }
+    requires values { map (λ x. x.value) (I.items source.now) ≡ values.now }
+    ensures fed { (begun : AbstractSlice) (xs : List item) → HasPassed S.has_taken S.flow begun stage (segment_in next.now) env.now (rest_of passing.old.rest) passing.old.passage passing.old.inner xs
+        → IsFed (λ p. HasPassed S.has_taken S.flow begun stage (segment_in next.now) env.now (rest_of p.rest) p.passage p.inner) xs (trace (I.items source.now) end.Done) result passing.new }
+    ensures flow { passage_flow passing.new.passage (S.flow passing.new.inner) ≡ flow_after result }
+{
+    let Passage::Open = passing.passage else {
+        return Ok(Fed::More);
+    };
+    if values.is_empty() {
+        return Ok(Fed::More);
+    }
+    let front = tested(&passing.rest, env, values, room);
+    let cut = passing.rest.cut(stage, env, source, front);
+    let inner = &mut passing.inner;
+    let fed = match hand_on(next, env, source, cut.from, cut.to, registers, room, inner) {
+        Ok(fed) => fed,
+        Err(refused) => {
+            passing.passage = Passage::Refused;
+            return Err(refused);
+        }
+    };
+    let passage = after(fed, &cut);
+    passing.passage = passage;
+    passing.rest = cut.rest;
+    Ok(answer(passage))
+}
+
+impl<K: LinkStart, S: Closing> LongSink for LinkSink<'_, '_, K, S> {
+    ghost has_taken = { λ sink items. (segment_in sink.next.now ≡ K.next) × (sink.stage ≡ K.stage) × (sink.env.now ≡ K.env)
+        × HasPassed S.has_taken S.flow K.rest K.stage K.next K.env (rest_of sink.passing.rest) sink.passing.passage sink.passing.inner items };
+
+    ghost flow = { λ sink. passage_flow sink.passing.passage (S.flow sink.passing.inner) };
+
+    ghost takes_memory = { ⊤ };
+
+    fn accept(&mut self, item: Item) -> Result<Flow, NoMemory> {
+        let fed = pass(
+            &mut self.passing,
+            self.stage,
+            self.next,
+            self.env,
+            &ItemPiece { items: &[item] },
+            &[item.value],
+            &mut self.registers,
+            &mut [],
+        )?;
+        match fed {
+            Fed::Enough => Ok(Flow::Enough),
+            Fed::More | Fed::Fault(_) => Ok(Flow::More),
+        }
+    }
+}
+
+impl<K: LinkStart, S: Closing> BatchSink for LinkSink<'_, '_, K, S> {
+    fn accept_batch(&mut self, batch: &Batch, room: &mut [i64]) -> Result<Fed, NoMemory> {
+        let values = batch.values();
+        pass(
+            &mut self.passing,
+            self.stage,
+            self.next,
+            self.env,
+            batch,
+            values,
+            &mut self.registers,
+            room,
+        )
+    }
+
+    fn accept_run(&mut self, run: PlacedValues<'_>, room: &mut [i64]) -> Result<Fed, NoMemory> {
+        pass(
+            &mut self.passing,
+            self.stage,
+            self.next,
+            self.env,
+            &run,
+            run.values,
+            &mut self.registers,
+            room,
+        )
+    }
+
+    fn test(&self) -> Option<&BoolExpr> {
+        self.passing.rest.test()
+    }
+}
+
+impl<K: LinkStart, S: Closing> Closing for LinkSink<'_, '_, K, S> {
+    type Made = S::Made;
+
+    ghost stands = { λ made t. S.stands made (through_link K.rest K.stage K.next K.env t) };
+
+    fn has_enough(&self) -> bool {
+        match self.passing.passage {
+            Passage::Open => self.passing.inner.has_enough(),
+            Passage::Enough | Passage::Ended(_) => true,
+            Passage::Refused => false,
+        }
+    }
+
+    fn close(self, ending: End) -> Result<S::Made, NoMemory> {
+        let Passing {
+            rest,
+            passage,
+            inner,
+        } = self.passing;
+        match passage {
+            Passage::Open => inner.close(rest.end_after(ending)),
+            Passage::Enough => inner.close(End::Done),
+            Passage::Ended(end) => inner.close(end),
+            Passage::Refused => Err(NoMemory),
+        }
+    }
+}

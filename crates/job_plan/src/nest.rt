@@ -1,0 +1,146 @@
+//! A walk through several slices, each of which is a sink with the next one inside.
+
+ghost use Rattle.std.specs.Prelude.{◌≡◌, ◌≤◌, ℕ, suc, [], ◌∷◌, IfOk, length};
+ghost use Rattle.slice_ops.specs.Rests.{rest_of};
+ghost use Rattle.job_plan.specs.Links.{each_link_in, link_in, linked};
+ghost use Rattle.job_plan.specs.Parts.{segment_in, walk_in};
+ghost use Rattle.job_plan.specs.Plans.{last_stage, walk_of};
+
+use crate::closing::Closing;
+use crate::link_sink::{LinkSink, LinkStart, Passage, Passing};
+use crate::links::Link;
+use crate::segment::Segment;
+use crate::source::Source;
+use batch_eval::Registers;
+use lambda_expr::Env;
+use std::alloc::Global;
+use std::marker::{Brand, PhantomData};
+use trace::{End, Fed, NoMemory};
+
+/// How many slices a walk goes through into one part.
+pub(crate) const DEEPEST: usize = 8;
+
+/// The sinks of as many slices, one inside the other.
+pub(crate) type Deepest = Next<Next<Next<Next<Next<Next<Next<Next<Zero>>>>>>>>;
+
+/// Sinks one inside the other, up to a number of them. A sink is a type of its own at each depth, so the number is a type too.
+pub(crate) trait Nest {
+    ghost depth: { ℕ };
+
+    /// What a sink makes of the walk of a source that went through these links and then through the stages of `next`.
+    fn feed<'p, S: Closing>(
+        alloc: Global,
+        links: &[Link<'p>],
+        next: &'p Segment,
+        source: &Source,
+        env: &Env,
+        registers: &mut Registers,
+        sink: S,
+    ) -> Result<S::Made, NoMemory>
+        requires few { length links.now ≤ Self.depth }
+        requires begun { S.has_taken sink [] }
+        ensures { IfOk result (λ made. S.stands made (walk_of (segment_in next.now) env.now (linked (each_link_in links.now) env.now (walk_in source.now)))) };
+}
+
+/// No sink but the one that is given.
+pub(crate) struct Zero;
+
+/// One sink more.
+pub(crate) struct Next<N: Nest> {
+    of: PhantomData<N>,
+}
+
+impl Nest for Zero {
+    ghost depth = { 0 };
+
+    fn feed<'p, S: Closing>(
+        _alloc: Global,
+        _links: &[Link<'p>],
+        next: &'p Segment,
+        source: &Source,
+        env: &Env,
+        registers: &mut Registers,
+        sink: S,
+    ) -> Result<S::Made, NoMemory> {
+        feed_source(next, source, env, registers, sink)
+    }
+}
+
+impl<N: Nest> Nest for Next<N> {
+    ghost depth = { suc N.depth };
+
+    fn feed<'p, S: Closing>(
+        alloc: Global,
+        links: &[Link<'p>],
+        next: &'p Segment,
+        source: &Source,
+        env: &Env,
+        registers: &mut Registers,
+        sink: S,
+    ) -> Result<S::Made, NoMemory> {
+        match links.split_last() {
+            Some((link, before)) => {
+                feed_link::<Brand, N, S>(alloc, before, link, next, source, env, registers, sink)
+            }
+            None => feed_source(next, source, env, registers, sink),
+        }
+    }
+}
+
+/// The same of links of which the last one is `link`.
+fn feed_link<'p, K: LinkStart, N: Nest, S: Closing>(
+    alloc: Global,
+    before: &[Link<'p>],
+    link: &Link<'p>,
+    next: &'p Segment,
+    source: &Source,
+    env: &Env,
+    registers: &mut Registers,
+    sink: S,
+) -> Result<S::Made, NoMemory>
+    requires rest { rest_of link.now.rest ≡ K.rest }
+    requires stage { last_stage (segment_in link.now.segment.now) ≡ K.stage }
+    requires next { segment_in next.now ≡ K.next }
+    requires env { env.now ≡ K.env }
+    requires few { length before.now ≤ N.depth }
+    requires begun { S.has_taken sink [] }
+    ensures { IfOk result (λ made. S.stands made (walk_of (segment_in next.now) env.now (linked (link_in link.now ∷ []) env.now (linked (each_link_in before.now) env.now (walk_in source.now))))) }
+{
+    let segment = link.segment;
+    let passing = Passing {
+        rest: link.rest,
+        passage: Passage::of(&link.rest),
+        inner: sink,
+    };
+    let sink = LinkSink::<K, S> {
+        passing,
+        stage: segment.first_stage + segment.stages.len() as u32,
+        next,
+        env,
+        registers: Registers::new(alloc),
+        of: PhantomData,
+    };
+    N::feed(alloc, before, segment, source, env, registers, sink)
+}
+
+/// What a sink makes of the walk of a source through the stages of `next`.
+fn feed_source<S: Closing>(
+    next: &Segment,
+    source: &Source,
+    env: &Env,
+    registers: &mut Registers,
+    sink: S,
+) -> Result<S::Made, NoMemory>
+    requires begun { S.has_taken sink [] }
+    ensures { IfOk result (λ made. S.stands made (walk_of (segment_in next.now) env.now (walk_in source.now))) }
+{
+    if sink.has_enough() {
+        return sink.close(End::Done);
+    }
+    let mut sink = sink;
+    match source.feed(next, env, 0, None, registers, &mut sink)? {
+        Fed::More => sink.close(source.end()),
+        Fed::Fault(fault) => sink.close(End::Fault(fault)),
+        Fed::Enough => sink.close(End::Done),
+    }
+}
