@@ -19,7 +19,7 @@ use columns::{ColumnFault, Columns, CountedRead, ReadAllFault, read_all_of, read
 use job_language::{Job, JobFault, read_jobs};
 use job_plan::{Answer, Form, JobPlan, Plan, Settings};
 use job_table::{RunFault, run_jobs};
-use report::{CountedWrite, WriteFault, json, text, write_all_of};
+use report::{CountedWrite, Report, WriteFault, json, text_by, write_report};
 use std::alloc::Global;
 use std::sync::Wait;
 use std::thread::Threads;
@@ -111,7 +111,7 @@ pub fn run<
         Err(fault) => return Err(fault),
     };
     gate.before_report();
-    match write_all_of(writer, &report) {
+    match write_report(writer, &report) {
         Ok(()) => Ok(()),
         Err(WriteFault { written }) => Err(EngineFault::Write { written }),
     }
@@ -125,10 +125,10 @@ fn report_from<H: Threads + Wait + Sync, J: CountedRead, G: RunGate + Sync>(
     jobs: &mut J,
     settings: &Settings,
     gate: &G,
-) -> Result<Vec<u8>, EngineFault>
+) -> Result<Report, EngineFault>
     ensures ok { IfOk result (λ report. (bytes : List ℕ) × IsWhole (J.remaining jobs.old) bytes
         × ((file : Option (List ℕ)) → columns_of file ≡ Ok columns.now
-        → IsReport (record { columns = file; jobs = bytes; form = form_of settings.now }) report.items)) }
+        → IsReport (record { columns = file; jobs = bytes; form = form_of settings.now }) report)) }
     ensures err { IfErr result (λ fault. fault ≢ EngineFault.JobsRead
         → (bytes : List ℕ) × IsWhole (J.remaining jobs.old) bytes
         × ((file : Option (List ℕ)) → columns_of file ≡ Ok columns.now
@@ -152,9 +152,9 @@ fn report_of<H: Threads + Wait + Sync, G: RunGate + Sync>(
     bytes: &[u8],
     settings: &Settings,
     gate: &G,
-) -> Result<Vec<u8>, EngineFault>
+) -> Result<Report, EngineFault>
     ensures ok { IfOk result (λ report. (file : Option (List ℕ)) → columns_of file ≡ Ok columns.now
-        → IsReport (record { columns = file; jobs = bytes.now; form = form_of settings.now }) report.items) }
+        → IsReport (record { columns = file; jobs = bytes.now; form = form_of settings.now }) report) }
     ensures err { IfErr result (λ fault. (file : Option (List ℕ)) → columns_of file ≡ Ok columns.now
         → IsEarly (record { columns = file; jobs = bytes.now; form = form_of settings.now }) fault) }
     ensures read { IfErr result (λ fault. fault ≢ EngineFault.JobsRead) }
@@ -176,9 +176,9 @@ fn written<H: Threads + Wait + Sync, G: RunGate + Sync>(
     jobs: Vec<Job>,
     settings: &Settings,
     gate: &G,
-) -> Result<Vec<u8>, NoMemory>
+) -> Result<Report, NoMemory>
     requires names { All IsName (names_of (jobs_of jobs.items)) }
-    ensures { IfOk result (λ report. report.items
+    ensures { IfOk result (λ report. report
         ≡ report_in (form_of settings.now) (names_of (jobs_of jobs.entry.items)) (meaning_of (jobs_of jobs.entry.items))) }
 {
     let plan = Plan::of(alloc, jobs)?;
@@ -189,7 +189,7 @@ fn written<H: Threads + Wait + Sync, G: RunGate + Sync>(
         Err(RunFault::NoMemory) => return Err(NoMemory),
     };
     let names = names_in(alloc, plan.jobs)?;
-    printed(alloc, &names, &answers, settings.form())
+    printed(rt, alloc, &names, &answers, settings)
 }
 
 /// Says to the gate which jobs there are.
@@ -200,21 +200,22 @@ fn announce<G: RunGate>(plan: &Plan, gate: &G) {
     }
 }
 
-/// The report of answers in a form.
-fn printed(
+/// The report of answers in the form that the settings ask for.
+fn printed<H: Threads + Sync>(
+    rt: &H,
     alloc: Global,
     names: &[Bytes],
     answers: &[Answer],
-    form: Form,
-) -> Result<Vec<u8>, NoMemory>
+    settings: &Settings,
+) -> Result<Report, NoMemory>
     requires paired { length names.now ≡ length answers.now }
     requires named { All (IsNamed names.now) answers.now }
     requires text { All IsText names.now }
-    ensures { IfOk result (λ report. report.items ≡ report_in form names.now answers.now) }
+    ensures { IfOk result (λ report. report ≡ report_in (form_of settings.now) names.now answers.now) }
 {
-    match form {
-        Form::Text => text(alloc, names, answers),
-        Form::Json => json(alloc, names, answers),
+    match settings.form() {
+        Form::Text => text_by(rt, alloc, settings.workers() as usize, names, answers),
+        Form::Json => Ok(Report::of_bytes(alloc, json(alloc, names, answers)?)),
     }
 }
 

@@ -6,9 +6,10 @@ ghost use Rattle.report.specs.Named.{IsNamed, IsText};
 use crate::fixture::is_line;
 use job_plan::{Answer, Values};
 use lambda_expr::FaultKind;
-use report::{json, text};
+use report::{CountedOut, json, text, text_by, write_report};
 use std::alloc::{AllocError, Global};
 use std::test::Fail;
+use std::thread::Threads;
 use stream_tokens::Bytes;
 use trace::Fault;
 
@@ -39,6 +40,18 @@ fn has_json(alloc: Global, answer: Answer, want: &str) -> Result<bool, AllocErro
     Ok(is_line(&json(alloc, &names, &answers)?, line.as_str()))
 }
 
+/// Whether a long array is printed on threads as on one.
+fn is_same_on_threads<H: Threads + Sync>(rt: &H, alloc: Global) -> Result<bool, AllocError> {
+    let names = vec![in alloc; name(alloc, "q")?, name(alloc, "r")?]?;
+    let numbers = (-10..70_000).collect(alloc)?;
+    let array = Answer::Array(Values::from_vec(numbers));
+    let answers = vec![in alloc; array, Answer::Number(5)]?;
+    let report = text_by(rt, alloc, 2, &names, &answers)?;
+    let mut held = CountedOut::new(Vec::new(alloc));
+    let is_written = write_report(&mut held, &report) == Ok(());
+    Ok(is_written && held.into_inner() == text(alloc, &names, &answers)?)
+}
+
 #[test]
 fn numbers_arrays_booleans_and_optionals_are_printed_as_in_java(
     rt: HostRuntime,
@@ -64,6 +77,7 @@ fn numbers_arrays_booleans_and_optionals_are_printed_as_in_java(
     }
     assert!(rt; has_text(alloc, Answer::Truth(true), "true")?, "true");
     assert!(rt; has_text(alloc, Answer::Truth(false), "false")?, "false");
+    assert!(rt; is_same_on_threads(&rt, alloc)?);
     Ok(())
 }
 

@@ -1,3 +1,6 @@
 pub mod EachNamed
 mod NoFloats
+mod NumberLemmas
+mod PieceLemmas
+mod SentPieces
 mod WrittenTextLemmas

@@ -2,10 +2,11 @@
 ghost use Rattle.std.specs.Prelude.{◌≡◌, ◌≢◌, ◌++◌, [], All, length, IfOk, OnErr, OnOk};
 ghost use Rattle.std.specs.Fmt.{decimal, signed_decimal};
 ghost use Rattle.report.specs.Named.{IsNamed};
-ghost use Rattle.report.specs.Text.{answer_text, array_text, fault_text, further, line_of, optional_text, report_text};
+ghost use Rattle.report.specs.Text.{answer_text, array_text, fault_text, line_of, optional_text, report_text};
 
 use crate::NoMemory;
 use crate::kind::kind_name;
+use crate::numbers::write_further;
 use itoa::Buffer;
 use job_plan::Answer;
 use std::alloc::Global;
@@ -14,8 +15,8 @@ use trace::Fault;
 
 /// The report of answers: one line per job, in the order given.
 ///
-/// The bytes are written once, into one buffer that grows by doubling; each number is printed on the
-/// stack. Without answers nothing is allocated. If an allocation fails, the report is dropped.
+/// The bytes are written once, into one buffer that grows by doubling; numbers are printed on the stack.
+/// Without answers nothing is allocated. If an allocation fails, the report is dropped.
 pub fn text(alloc: Global, names: &[Bytes], answers: &[Answer]) -> Result<Vec<u8>, NoMemory>
     requires paired { length names.now ≡ length answers.now }
     requires named { All (IsNamed names.now) answers.now }
@@ -29,7 +30,7 @@ pub fn text(alloc: Global, names: &[Bytes], answers: &[Answer]) -> Result<Vec<u8
     Ok(report)
 }
 
-fn write_line(
+pub(crate) fn write_line(
     report: &mut Vec<u8>,
     names: &[Bytes],
     name: &[u8],
@@ -63,7 +64,7 @@ fn write_answer(report: &mut Vec<u8>, names: &[Bytes], answer: &Answer) -> Resul
     }
 }
 
-fn write_number(report: &mut Vec<u8>, value: i64) -> Result<(), NoMemory>
+pub(crate) fn write_number(report: &mut Vec<u8>, value: i64) -> Result<(), NoMemory>
     ensures { OnOk result (report.new.items ≡ report.old.items ++ signed_decimal value) }
 {
     report.extend_from_slice(Buffer::new().format(value).as_bytes())
@@ -93,16 +94,6 @@ fn write_array(report: &mut Vec<u8>, values: &[i64]) -> Result<(), NoMemory>
     write_number(report, *first)?;
     write_further(report, others)?;
     report.extend_from_slice(b"]")
-}
-
-fn write_further(report: &mut Vec<u8>, values: &[i64]) -> Result<(), NoMemory>
-    ensures { OnOk result (report.new.items ≡ report.old.items ++ further values.now) }
-{
-    for value in values {
-        report.extend_from_slice(b", ")?;
-        write_number(report, *value)?;
-    }
-    Ok(())
 }
 
 fn write_fault(report: &mut Vec<u8>, fault: Fault) -> Result<(), NoMemory>

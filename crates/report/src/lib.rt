@@ -2,15 +2,20 @@
 //!
 //! Stands on `job_plan`, whose answers it prints, on `stream_tokens` for the bytes of a name, on
 //! `counted_io`, whose writers it gives out, on `itoa` for digits and on `serde_json`. Used by `engine`.
-//! What it promises to it: `text` gives exactly the bytes that `specs/Text.antt` defines, and `json` those
-//! of `specs/Json.antt`.
-//! Begin with `specs/Text.antt`, then `as_text.rt`.
+//! What it promises to it: `text` and `text_by` give exactly the bytes that `specs/Text.antt` defines, `json` those of
+//! `specs/Json.antt`, and `write_report` writes them all, or says how many of the first ones went out.
+//! Begin with `specs/Text.antt`, then `as_text.rt`, and `long_text.rt` for arrays that are printed on threads.
 //! Not promised: what a file or a terminal holds afterwards; that is known of writers over memory.
 #![tactic(auto)]
 
 mod as_json;
 mod as_text;
+mod by_threads;
+mod draft;
 mod kind;
+mod long_text;
+mod numbers;
+mod pieces;
 mod printable;
 mod worked;
 
@@ -18,6 +23,8 @@ pub use as_json::json;
 pub use as_text::text;
 pub use counted_io::{CountedOut, CountedWrite, WriteFault, write_all_of};
 pub use kind::kind_name;
+pub use long_text::text_by;
+pub use pieces::{Report, write_report};
 pub use printable::a_meaning_has_a_report;
 pub use std::alloc::AllocError as NoMemory;
 pub use worked::worked_reports;

@@ -39,14 +39,14 @@ returns-in-Err-report_from-clause-write_failed g c n is =
     ] in
     absurd (early_no_write g.C.CountedRead.remaining c.args.columns (g.J.CountedRead.remaining c.args.jobs.now) (form_of c.args.settings.now) c.match-columns.table c.in-Err-report_from.fault n t c.in-Err-report_from.ensures.err is)
 
-pub returns-in-Ok-write_all_of-clause-report : goal.returns-in-Ok-write_all_of-clause-report
-returns-in-Ok-write_all_of-clause-report g c =
+pub returns-in-Ok-write_report-clause-report : goal.returns-in-Ok-write_report-clause-report
+returns-in-Ok-write_report-clause-report g c =
     let t : HasTable g.C.CountedRead.remaining c.args.columns c.match-columns.table = elim c.match-columns.branch [
       | in-Some+in-Ok w ↦ some_table g.C.CountedRead.remaining c.args.columns c.match-columns.table w.in-Some.reader w.read_columns_by.result w.in-Some.is w.read_columns_by.ensures.cells w.read_columns_by.ensures.some_bytes (search rules)
       | in-None w ↦ no_table g.C.CountedRead.remaining c.args.columns c.match-columns.table w.in-None.is (search rules)
     ] in
-    let (input, given, report) = report_for g.C.CountedRead.remaining c.args.columns (g.J.CountedRead.remaining c.args.jobs.now) (form_of c.args.settings.now) c.match-columns.table c.in-Ok-report_from.report.items t c.in-Ok-report_from.ensures.ok in
-    (input, given, (c.in-Ok-report_from.report.items, report, search rules))
+    let (input, given, report) = report_for g.C.CountedRead.remaining c.args.columns (g.J.CountedRead.remaining c.args.jobs.now) (form_of c.args.settings.now) c.match-columns.table c.in-Ok-report_from.report t c.in-Ok-report_from.ensures.ok in
+    (input, given, (c.in-Ok-report_from.report, report, search rules))
 
 pub returns-clause-fault : goal.returns-clause-fault
 returns-clause-fault g c =
@@ -54,11 +54,11 @@ returns-clause-fault g c =
       | in-Some+in-Ok w ↦ some_table g.C.CountedRead.remaining c.args.columns c.match-columns.table w.in-Some.reader w.read_columns_by.result w.in-Some.is w.read_columns_by.ensures.cells w.read_columns_by.ensures.some_bytes (search rules)
       | in-None w ↦ no_table g.C.CountedRead.remaining c.args.columns c.match-columns.table w.in-None.is (search rules)
     ] in
-    let (input, given, report) = report_for g.C.CountedRead.remaining c.args.columns (g.J.CountedRead.remaining c.args.jobs.now) (form_of c.args.settings.now) c.match-columns.table c.in-Ok-report_from.report.items t c.in-Ok-report_from.ensures.ok in
-    (input, given, (c.in-Ok-report_from.report.items, report, search rules, search rules))
+    let (input, given, report) = report_for g.C.CountedRead.remaining c.args.columns (g.J.CountedRead.remaining c.args.jobs.now) (form_of c.args.settings.now) c.match-columns.table c.in-Ok-report_from.report t c.in-Ok-report_from.ensures.ok in
+    (input, given, (c.in-Ok-report_from.report, report, search rules, search rules))
 
 pub returns-clause-unwritten : goal.returns-clause-unwritten
-returns-clause-unwritten g c = λ other. absurd (other c.in-Err-write_all_of.field-0.written refl)
+returns-clause-unwritten g c = λ other. absurd (other c.in-Err-write_report.field-0.written refl)
 
 pub returns-clause-untouched : goal.returns-clause-untouched
-returns-clause-untouched g c = λ other. absurd (other c.in-Err-write_all_of.field-0.written refl)
+returns-clause-untouched g c = λ other. absurd (other c.in-Err-write_report.field-0.written refl)

@@ -1,9 +1,9 @@
-use Rattle.std.proofs.Common.{◌≡◌, ℕ, List, length, map, Vec, Global, IfOk, ap, sym, ◌∙◌, subst}
+use Rattle.std.proofs.Common.{◌≡◌, ℕ, List, length, map, IfOk, ap, sym, ◌∙◌, subst}
 use Rattle.std.specs.Prelude.{All}
 use Rattle.engine.specs.Run.{report_in}
 use Rattle.job_language.specs.Jobs.{jobs_of, names_of}
 use Rattle.job_plan.specs.declared.answer.Answer.{Answer}
-use Rattle.job_plan.specs.declared.settings.Form.{Form}
+use Rattle.job_plan.specs.SettingsParts.{form_of}
 use Rattle.job_plan.specs.FileAnswers.{meaning_of}
 use Rattle.job_plan.specs.PlannedAnswers.{planned_meaning}
 use Rattle.job_plan.specs.Plans.{AbstractPlan}
@@ -24,19 +24,25 @@ answers : (g : Over) (c : After-deref-2 g) → meaning_of (jobs_of c.args.jobs.i
 answers g c =
     sym (c.deref-2.ensures.value ∙ c.in-Ok.ensures ∙ c.in_ok-plan-2.ensures.meaning ∙ ap planned_meaning c.in_ok-plan.ensures.ok ∙ planned (jobs_of c.args.jobs.items))
 
-pub printed-requires : goal.printed-requires
-printed-requires g c =
+pub printed-requires-clause-paired : goal.printed-requires-clause-paired
+printed-requires-clause-paired g c = λ lifetimes lives.
+    let b = (goal.at.printed-requires-clause-paired g c).After-deref-2 in
+    ap length (sym (names g b)) ∙ paired (jobs_of c.args.jobs.items) ∙ ap length (answers g b)
+
+pub printed-requires-clause-named : goal.printed-requires-clause-named
+printed-requires-clause-named g c = λ lifetimes lives.
     let js = jobs_of c.args.jobs.items in
-    let b = (goal.at.printed-requires g c).After-deref-2 in
-    record {
-      paired = ap length (sym (names g b)) ∙ paired js ∙ ap length (answers g b);
-      named = subst (λ (ns : List (List ℕ)). All (IsNamed ns) c.deref-2.result.now) (names g b) (subst (λ (bs : List Answer). All (IsNamed (names_of js)) bs) (answers g b) (named js));
-      text = subst (λ (ns : List (List ℕ)). All IsText ns) (names g b) (names_text (names_of js) c.requires.names);
-    }
+    let b = (goal.at.printed-requires-clause-named g c).After-deref-2 in
+    subst (λ (ns : List (List ℕ)). All (IsNamed ns) c.deref-2.result.now) (names g b) (subst (λ (bs : List Answer). All (IsNamed (names_of js)) bs) (answers g b) (named js))
+
+pub printed-requires-clause-text : goal.printed-requires-clause-text
+printed-requires-clause-text g c = λ lifetimes lives.
+    let js = jobs_of c.args.jobs.items in
+    let b = (goal.at.printed-requires-clause-text g c).After-deref-2 in
+    subst (λ (ns : List (List ℕ)). All IsText ns) (names g b) (names_text (names_of js) c.requires.names)
 
 pub returns : goal.returns
 returns g c =
     let b = (goal.at.returns g c).After-deref-2 in
-    subst (λ (wanted : Form). IfOk c.printed.result (λ (report : Vec ℕ Global). report.items ≡ report_in wanted (names_of (jobs_of c.args.jobs.items)) (meaning_of (jobs_of c.args.jobs.items)))) c.form.ensures
-    (subst (λ (ns : List (List ℕ)). IfOk c.printed.result (λ (report : Vec ℕ Global). report.items ≡ report_in c.form.result ns (meaning_of (jobs_of c.args.jobs.items)))) (sym (names g b))
-    (subst (λ (bs : List Answer). IfOk c.printed.result (λ (report : Vec ℕ Global). report.items ≡ report_in c.form.result c.deref.result.now bs)) (sym (answers g b)) c.printed.ensures))
+    subst (λ (ns : List (List ℕ)). IfOk c.printed.result (λ (report : List ℕ). report ≡ report_in (form_of c.args.settings.now) ns (meaning_of (jobs_of c.args.jobs.items)))) (sym (names g b))
+    (subst (λ (bs : List Answer). IfOk c.printed.result (λ (report : List ℕ). report ≡ report_in (form_of c.args.settings.now) c.deref.result.now bs)) (sym (answers g b)) c.printed.ensures)

@@ -1,0 +1,30 @@
+-- Numbers in a row, and their text.
+use Rattle.std.proofs.Common.{◌≡◌, ◌+◌, ◌-◌, ◌∷◌, ◌++◌, ◌∙◌, ℕ, ℤ, pos, negsuc, false, List, [], int_le, refl, sym, ap, append_assoc, take, drop, length, arith, true≢false, unsigned_abs}
+use lib.Dec.{leb-zero}
+use Rattle.std.proofs.Math.Seq.{take-add}
+use Rattle.std.proofs.lemmas.List.{take_rest}
+use Rattle.std.specs.Prelude.{codes}
+use Rattle.std.specs.Fmt.{decimal, signed_decimal}
+use Rattle.report.specs.Text.{further}
+
+-- a negative number is a minus and the digits of its size
+pub signed_minus : (z : ℤ) → int_le (pos 0) z ≡ false → 45 ∷ decimal (unsigned_abs z) ≡ signed_decimal z
+signed_minus (pos n) negative = absurd (true≢false (sym (leb-zero n) ∙ negative))
+signed_minus (negsuc n) negative = refl
+
+-- the text of numbers in a row is that of some, and then that of the others
+pub further-append : (xs ys : List ℤ) → further (xs ++ ys) ≡ further xs ++ further ys
+further-append [] ys = refl
+further-append (x ∷ xs) ys = ap (λ t. codes ", " ++ signed_decimal x ++ t) (further-append xs ys) ∙ sym (append_assoc (codes ", " ++ signed_decimal x) (further xs) (further ys))
+
+-- the text of some more numbers, which stands at the end of the room, was appended
+pub further_next : (start before after : List ℕ) (values : List ℤ) (at count : ℕ) (room : List ℕ) (from : ℕ) → before ≡ start ++ further (take at values)
+    → drop from room ≡ further (take (at + count - at) (drop at values)) → after ≡ before ++ take (length room - from) (drop from room)
+    → after ≡ start ++ further (take (at + count) values)
+further_next start before after values at count room from so_far put appended =
+    let n : at + count - at ≡ count = omega arith in
+    let some : drop from room ≡ further (take count (drop at values)) = put ∙ ap (λ k. further (take k (drop at values))) n in
+    let both : further (take (at + count) values) ≡ further (take at values) ++ further (take count (drop at values)) =
+    ap further (take-add at count values) ∙ further-append (take at values) (take count (drop at values)) in
+    appended ∙ ap (λ t. before ++ t) (take_rest room from ∙ some) ∙ ap (λ t. t ++ further (take count (drop at values))) so_far
+    ∙ append_assoc start (further (take at values)) (further (take count (drop at values))) ∙ ap (λ t. start ++ t) (sym both)
