@@ -15,7 +15,7 @@ import time
 
 WIPE = '\r\x1b[K'
 READING = re.compile(r'(?:\r\x1b\[Kstreamrun: \d+ s, reading)+\r\x1b\[K')
-WALKING = re.compile(r'(?:\r\x1b\[Kstreamrun: \d+ s, (?:reading|\d of 3 jobs begun, \d+ % of the items entered))+\r\x1b\[K')
+WALKING = re.compile(r'(?:\r\x1b\[Kstreamrun: \d+ s, (?:reading|\d of 3 jobs have answers, \d+ % of the items entered))+\r\x1b\[K')
 # Jobs of a file that comes late: the run waits for it for more than a second.
 LATE = 's = range(0, 10).sum()\n'
 REPORT = 's = 45\n'
@@ -24,7 +24,7 @@ REPORT = 's = 45\n'
 def run(program, jobs, one_terminal=False):
     """(status, standard output, what the terminal gets); with one terminal both go there."""
     terminal, end = pty.openpty()
-    child = subprocess.Popen([program, jobs], stdin=subprocess.DEVNULL, stdout=end if one_terminal else subprocess.PIPE, stderr=end)
+    child = subprocess.Popen([program, '--workers', '4', jobs], stdin=subprocess.DEVNULL, stdout=end if one_terminal else subprocess.PIPE, stderr=end)
     os.close(end)
     shown = []
     reader = threading.Thread(target=read_all, args=(terminal, shown))
@@ -88,7 +88,7 @@ def of_a_short_run(program, folder):
 
 
 def of_a_long_walk(program, folder):
-    """Walks more and more items, until it takes so long that a line is shown."""
+    """Walks more and more items, until it takes so long that a line is shown in which other workers have answered the two short jobs."""
     path = os.path.join(folder, 'long.jobs')
     for power in range(10, 27):
         count = 3 ** power
@@ -100,9 +100,12 @@ def of_a_long_walk(program, folder):
         if (status, written) != (0, f'a = {count // 2}\nb = 0\nc = OptionalLong[5]\n') or shown and not WALKING.fullmatch(shown):
             return False
         shares = [int(share) for share in re.findall(r'(\d+) %', shown)]
-        if shares:
-            return shares == sorted(shares) and shares[-1] <= 100
-        if seconds > 5:
+        answers = [int(count) for count in re.findall(r'(\d) of 3', shown)]
+        if shares != sorted(shares) or answers != sorted(answers) or shares and shares[-1] > 100:
+            return False
+        if answers and answers[-1] >= 2:
+            return True
+        if seconds > 10:
             break
     return False
 

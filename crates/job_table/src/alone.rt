@@ -74,7 +74,7 @@ fn walk_alone<S: Segments, G: Gate>(
     jobs.answer(alloc, job, part, &source, given, earlier, &mut scratch)
 }
 
-/// Works a job out after the jobs before it.
+/// Works a job out after the jobs before it, and calls the gate.
 pub(crate) fn answer_alone<S: Segments, G: Gate>(
     alloc: Global,
     gate: &G,
@@ -85,8 +85,10 @@ pub(crate) fn answer_alone<S: Segments, G: Gate>(
     requires job { job < S.job_count }
     ensures { IfOk result (λ answer. S.is_answer job answer) }
 {
-    match jobs.given(alloc, job, earlier)? {
-        Begun::Walk(given) => walk_alone(alloc, gate, jobs, job, &given, earlier),
-        Begun::Known(answer) => Ok(answer),
-    }
+    let answer = match jobs.given(alloc, job, earlier)? {
+        Begun::Walk(given) => walk_alone(alloc, gate, jobs, job, &given, earlier)?,
+        Begun::Known(answer) => answer,
+    };
+    gate.at_answer(job);
+    Ok(answer)
 }

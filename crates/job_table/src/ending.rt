@@ -46,7 +46,7 @@ fn last_answer<S: Segments, R: Running>(
 
 impl<'a, S: Segments, R: Running> JobWork<'a, S, TablePart<S>, TableKept<S>, R> {
     /// Leaves what a job takes of earlier answers in its place, or its answer, if there is nothing to walk.
-    fn prepare(&self, job: usize)
+    fn prepare<G: Gate>(&self, gate: &G, job: usize)
         requires { job < R.jobs }
     {
         match self
@@ -54,7 +54,7 @@ impl<'a, S: Segments, R: Running> JobWork<'a, S, TablePart<S>, TableKept<S>, R> 
             .given(self.alloc, job, &Earlier::in_places(&self.places))
         {
             Ok(Begun::Walk(given)) => keep_given(&self.places, job, given),
-            Ok(Begun::Known(answer)) => keep_answer(&self.places, job, answer),
+            Ok(Begun::Known(answer)) => keep_answer(&self.places, gate, job, answer),
             Err(_refused) => {}
         }
     }
@@ -69,7 +69,7 @@ impl<'a, S: Segments, R: Running> JobWork<'a, S, TablePart<S>, TableKept<S>, R> 
         watch: &mut Watch<'_, S, R>,
         spare: &mut Option<TableSpare<S, R>>,
     ) -> Option<TableJobSeat<S, R>> {
-        self.prepare(begun.job);
+        self.prepare(gate, begun.job);
         let Some(size) = size_of(self, begun.job, 0) else {
             return Some(begun);
         };
@@ -112,7 +112,7 @@ impl<'a, S: Segments, R: Running> JobWork<'a, S, TablePart<S>, TableKept<S>, R> 
             return Ok(self.begin(gate, begun, segment + 1, size, spawn, scratch, watch, spare));
         }
         if let Ok(answer) = last_answer(self, job, segment, part, given, scratch) {
-            keep_answer(&self.places, job, answer);
+            keep_answer(&self.places, gate, job, answer);
         }
         Err(begun)
     }

@@ -5,21 +5,28 @@ ghost use Rattle.job_plan.specs.SettingsParts.{nodes_of, threshold_of};
 use crate::segments::Segments;
 use job_plan::Settings;
 
+/// How many nodes a run has at least, if the settings allow it and a job has later segments: these may have more items than the first
+/// ones, as `flatMap` makes them, and how many isn't known before they are walked.
+const LEAST_FOR_LATER: u64 = 4_096;
+
 /// The most nodes that the pieces of a job can claim. A piece is cut if it has more positions than the threshold, so each side has at
-/// least half as many as that. How long the later segments are isn't known before they are walked.
+/// least half as many as that. A later segment counts with as many positions as the first one.
 fn most_cuts<S: Segments>(jobs: &S, job: usize, settings: Settings) -> u64
     requires { job < S.job_count }
 {
-    if jobs.last_segment(job) > 0 {
-        return settings.nodes();
-    }
     let size = jobs.likely_size(job);
     let threshold = settings.threshold();
-    if size <= threshold || !jobs.is_divided(job, 0) {
-        0
-    } else {
-        (size / threshold).saturating_mul(2).saturating_add(1)
+    if size <= threshold {
+        return 0;
     }
+    let each = (size / threshold).saturating_mul(2).saturating_add(1);
+    let mut cuts = 0u64;
+    for segment in 0..=jobs.last_segment(job) {
+        if jobs.is_divided(job, segment) {
+            cuts = cuts.saturating_add(each);
+        }
+    }
+    cuts
 }
 
 /// One start node for each job, and no more nodes for cuts than the settings allow and the jobs can use; 2^32 - 1 at most.
@@ -28,10 +35,15 @@ pub(crate) fn node_count<S: Segments>(jobs: &S, settings: Settings) -> u32
     ensures few { result ≤ S.job_count + nodes_of settings }
 {
     let mut cuts = 0u64;
+    let mut least = 0;
     for job in 0..jobs.jobs() {
         cuts = cuts.saturating_add(most_cuts(jobs, job, settings));
+        if jobs.last_segment(job) > 0 {
+            least = LEAST_FOR_LATER;
+        }
     }
     let all = cuts
+        .max(least)
         .min(settings.nodes())
         .saturating_add(jobs.jobs() as u64);
     all.min(u64::from(u32::MAX)) as u32

@@ -7,6 +7,7 @@ use crate::segments::Segments;
 use std::alloc::Global;
 use std::marker::PhantomData;
 use std::sync::OnceLock;
+use worker_pool::Gate;
 
 /// What a segment goes over, with the numbers of its job and of the segment.
 #[derive(Drop)]
@@ -188,8 +189,13 @@ pub(crate) fn kept_given<S: Segments>(places: &[JobPlaces<S>], job: usize) -> Op
     }
 }
 
-/// Leaves the answer of a job in its place.
-pub(crate) fn keep_answer<S: Segments>(places: &[JobPlaces<S>], job: usize, answer: S::Answer)
+/// Leaves the answer of a job in its place, and calls the gate.
+pub(crate) fn keep_answer<S: Segments, G: Gate>(
+    places: &[JobPlaces<S>],
+    gate: &G,
+    job: usize,
+    answer: S::Answer,
+)
     requires { S.is_answer job answer }
 {
     if let Some(of_job) = places.get(job) {
@@ -199,6 +205,7 @@ pub(crate) fn keep_answer<S: Segments>(places: &[JobPlaces<S>], job: usize, answ
             of: PhantomData,
         });
     }
+    gate.at_answer(job);
 }
 
 /// The answer of a job, if it was left in its place.

@@ -2,8 +2,8 @@
 
 use engine::RunGate;
 use std::io::{IsTerminal, Write};
+use std::sync::atomic::AtomicU64;
 use std::sync::atomic::Ordering::SeqCst;
-use std::sync::atomic::{AtomicBool, AtomicU64};
 use std::sync::{Mutex, Wait};
 use std::time::{Duration, Instant};
 use worker_pool::Gate;
@@ -21,7 +21,6 @@ struct JobProgress {
     items: AtomicU64,
     /// How many positions its pieces have that were entered, those of later walks among them.
     entered: AtomicU64,
-    is_begun: AtomicBool,
 }
 
 /// The state of the line.
@@ -34,7 +33,6 @@ struct Line {
 /// What all jobs together have reached.
 #[derive(Drop)]
 struct Reached {
-    begun: u64,
     items: u64,
     entered: u64,
 }
@@ -48,6 +46,8 @@ pub struct Progress<'a, H> {
     /// Empty if standard error is no terminal: then nothing is counted.
     jobs: Vec<JobProgress>,
     known: AtomicU64,
+    /// How many jobs have answers.
+    answered: AtomicU64,
     line: Mutex<Line>,
     ended: AtomicU64,
 }
@@ -61,7 +61,6 @@ impl<'a, H> Progress<'a, H> {
                 let job = JobProgress {
                     items: AtomicU64::new(0),
                     entered: AtomicU64::new(0),
-                    is_begun: AtomicBool::new(false),
                 };
                 if jobs.push(job).is_err() {
                     break;
@@ -74,6 +73,7 @@ impl<'a, H> Progress<'a, H> {
             started: Instant::now(host).ok(),
             jobs,
             known: AtomicU64::new(0),
+            answered: AtomicU64::new(0),
             line: Mutex::new(Line {
                 is_shown: false,
                 is_over: false,
@@ -100,24 +100,21 @@ impl<'a, H> Progress<'a, H> {
     /// Writes the line.
     fn show(&self, seconds: u64) {
         let known = self.known.load(SeqCst);
-        let Reached {
-            begun,
-            items,
-            entered,
-        } = self.reached();
+        let answered = self.answered.load(SeqCst);
+        let Reached { items, entered } = self.reached();
         let mut stderr = self.host.stderr();
         let _ = if known == 0 {
             write!(stderr, "\r\x1b[Kstreamrun: {seconds} s, reading")
         } else if items == 0 {
             write!(
                 stderr,
-                "\r\x1b[Kstreamrun: {seconds} s, {begun} of {known} jobs begun"
+                "\r\x1b[Kstreamrun: {seconds} s, {answered} of {known} jobs have answers"
             )
         } else {
             let share = (entered / (items / 100).max(1)).min(100);
             write!(
                 stderr,
-                "\r\x1b[Kstreamrun: {seconds} s, {begun} of {known} jobs begun, {share} % of the items entered"
+                "\r\x1b[Kstreamrun: {seconds} s, {answered} of {known} jobs have answers, {share} % of the items entered"
             )
         };
     }
@@ -125,7 +122,6 @@ impl<'a, H> Progress<'a, H> {
     /// What all jobs have reached. A job counts as many positions as its first walk has items, since its later walks enter positions too.
     fn reached(&self) -> Reached {
         let mut reached = Reached {
-            begun: 0,
             items: 0,
             entered: 0,
         };
@@ -134,9 +130,6 @@ impl<'a, H> Progress<'a, H> {
             let entered = job.entered.load(SeqCst).min(items);
             reached.items = reached.items.saturating_add(items);
             reached.entered = reached.entered.saturating_add(entered);
-            if job.is_begun.load(SeqCst) {
-                reached.begun = reached.begun.saturating_add(1);
-            }
         }
         reached
     }
@@ -179,9 +172,12 @@ impl<'a, H> Gate for Progress<'a, H> {
     fn at_leaf(&self, job: usize, from: u64, to: u64) {
         if let Some(job) = self.jobs.get(job) {
             job.entered.fetch_add(to.saturating_sub(from), SeqCst);
-            if !job.is_begun.load(SeqCst) {
-                job.is_begun.store(true, SeqCst);
-            }
+        }
+    }
+
+    fn at_answer(&self, _job: usize) {
+        if self.is_counted() {
+            self.answered.fetch_add(1, SeqCst);
         }
     }
 }

@@ -1,7 +1,11 @@
-//! What is called before each leaf.
+//! What is called before each leaf, and after each answer.
 
-/// Called before each leaf with the index of its job and its positions in the source: `from` up to but not including `to`.
-/// A gate may hold the leaf. It is how tests see which leaves are open at the same time.
+/// How the caller of a run follows it. No answer depends on it.
 pub trait Gate {
+    /// Called before each leaf with the index of its job and its positions in the source: `from` up to but not including `to`.
+    /// A gate may hold the leaf. It is how tests see which leaves are open at the same time.
     fn at_leaf(&self, job: usize, from: u64, to: u64);
+
+    /// Called after the answer of a job was made, if the work has such answers. It does nothing, unless a gate says otherwise.
+    fn at_answer(&self, _job: usize) {}
 }
