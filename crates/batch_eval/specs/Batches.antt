@@ -26,6 +26,10 @@ origin_at None origins k = slice_index origins k
 abbrev pub item_at : Option ℕ → List ℕ → List ℤ → ℕ → Item
 item_at start origins values k = record { origin = origin_at start origins k; value = at values k }
 
+-- the items of listed places and values, one after the other
+abbrev pub listed_items : List ℕ → List ℤ → List Item
+listed_items places values = lanes (length values) (item_at None places values)
+
 -- the first n lanes that pass, in turn
 abbrev pub picked : (ℕ → Bool) → ℕ → List ℕ
 picked p zero = []

@@ -1,6 +1,6 @@
 //! A batch of items in registers, and the stages over it.
 
-ghost use Rattle.batch_eval.specs.Batches.{CountsUp, StopsInside, end_after, item_at, origin_at};
+ghost use Rattle.batch_eval.specs.Batches.{CountsUp, StopsInside, end_after, item_at, listed_items, origin_at};
 ghost use Rattle.batch_eval.specs.Lanes.{at};
 ghost use Rattle.batch_eval.specs.Places.{HasValue};
 ghost use Rattle.batch_eval.specs.Rooms.{Fits, FitsTest};
@@ -14,7 +14,8 @@ ghost use Rattle.trace.specs.Trace.{each, trace};
 ghost use Rattle.trace.specs.declared.item.Item.{Item};
 
 use crate::flagged::give_passing;
-use crate::keep::{keep_from, keep_lanes};
+use crate::keep::{keep_from, keep_lanes, keep_listed};
+use crate::listed::ListedItems;
 use crate::placed::PlacedValues;
 use crate::reached::Reached;
 use crate::register::{LANES, eval_bool, eval_long};
@@ -184,6 +185,45 @@ impl Batch {
         self.start = None;
     }
 
+    /// The same of items that lie elsewhere.
+    pub(crate) fn filter_listed(
+        &mut self,
+        listed: ListedItems<'_>,
+        test: &BoolExpr,
+        stage: u32,
+        env: &Env,
+        room: &mut [i64],
+    )
+        requires lanes { length listed.values.now ≤ 1024 }
+        requires room { FitsTest (truth_of test.now) (length room.old) }
+        ensures { self.new ≡ each (of_item stage (filter (truth_of test.now)) env.now) (listed_items listed.entry.places.now listed.entry.values.now) End.Done }
+    {
+        let live = listed.values.len();
+        let reached = eval_bool(test, env, listed.values, live, &mut self.spare, room);
+        self.end = stopped(End::Done, stage, None, listed.places, reached);
+        self.live = keep_listed(
+            &self.spare,
+            reached.live,
+            listed.places,
+            listed.values,
+            &mut self.values,
+            &mut self.origins,
+        );
+        self.start = None;
+    }
+
+    /// Starts again with items that lie elsewhere.
+    pub(crate) fn copy(&mut self, listed: ListedItems<'_>)
+        requires lanes { length listed.values.now ≤ 1024 }
+        ensures { self.new ≡ trace (listed_items listed.entry.places.now listed.entry.values.now) End.Done }
+    {
+        copy_front(listed.values, &mut self.values);
+        copy_front(listed.places, &mut self.origins);
+        self.live = listed.values.len();
+        self.start = None;
+        self.end = End::Done;
+    }
+
     /// `filter` as the last stage: gives a sink the items at which the test is true, where they lie.
     pub(crate) fn give_passing<S: BatchSink>(
         &mut self,
@@ -338,6 +378,15 @@ impl SourceItems for Batch {
             value: value_of(&self.values, lane),
         }
     }
+}
+
+/// Copies elements to the front of others.
+fn copy_front<T: Copy>(from: &[T], to: &mut [T])
+    requires { length from.now ≤ length to.old }
+    ensures front { take (length from.now) to.new ≡ from.now }
+    ensures size { length to.new ≡ length to.old }
+{
+    to[..from.len()].copy_from_slice(from);
 }
 
 /// The places of lanes, listed.

@@ -1,5 +1,6 @@
 //! The items of a source in batches, through the stages and into a sink.
 
+ghost use Rattle.batch_eval.specs.Batches.{listed_items};
 ghost use Rattle.batch_eval.specs.Rooms.{FitsStages};
 ghost use Rattle.std.specs.Prelude.{◌≡◌, ◌+◌, ◌<◌, ◌≤◌, ◌^◌, List, Ok, OnErr, length, take};
 ghost use Rattle.trace.specs.Cover.{placed};
@@ -11,6 +12,7 @@ ghost use Rattle.trace.specs.declared.item.End.TheVariants as end;
 ghost use Rattle.trace.specs.declared.item.Item.{Item};
 
 use crate::batch::Batch;
+use crate::listed::ListedItems;
 use crate::placed::PlacedValues;
 use crate::register::LANES;
 use crate::registers::Registers;
@@ -205,7 +207,41 @@ fn feed_piece<I: BatchSource, S: BatchSink>(
             return feed_run(stages, first_stage, env, run, batch, nested, room, sink);
         }
     }
+    if let Some(listed) = source.items_at(position, count) {
+        return feed_listed(stages, first_stage, env, listed, batch, nested, room, sink);
+    }
     batch.fill(source, position, count);
+    feed_batch(stages, first_stage, env, batch, nested, room, sink)
+}
+
+/// Takes up to 1,024 items whose places and values lie side by side. A `filter` that comes first reads them there, unless the sink
+/// takes its flags.
+fn feed_listed<S: BatchSink>(
+    stages: &[Stage],
+    first_stage: u32,
+    env: &Env,
+    listed: ListedItems<'_>,
+    batch: &mut Batch,
+    nested: &mut [Batch],
+    room: &mut [i64],
+    sink: &mut S,
+) -> Result<Fed, NoMemory>
+    requires numbered { first_stage + length stages.now < 2 ^ 32 }
+    requires wants { S.flow sink.old ≡ Flow.More }
+    requires room { FitsStages (stages_of stages.now) (length room.old) }
+    requires lanes { length listed.values.now ≤ 1024 }
+    ensures fed { (xs : List Item) → S.has_taken sink.old xs → IsFed S.has_taken xs
+        (pipe first_stage (stages_of stages.now) env.now (trace (listed_items listed.entry.places.now listed.entry.values.now) end.Done)) result sink.new }
+    ensures flow { S.flow sink.new ≡ flow_after result }
+    ensures refused { OnErr result S.takes_memory }
+{
+    if let Some((Stage::Filter(test), later)) = stages.split_first() {
+        if !later.is_empty() || !sink.takes_flags() {
+            batch.filter_listed(listed, test, first_stage, env, room);
+            return feed_batch(later, first_stage + 1, env, batch, nested, room, sink);
+        }
+    }
+    batch.copy(listed);
     feed_batch(stages, first_stage, env, batch, nested, room, sink)
 }
 

@@ -108,3 +108,33 @@ pub(crate) fn keep_from(
     }
     kept
 }
+
+/// The same of items that lie elsewhere, whose places are listed.
+pub(crate) fn keep_listed(
+    flags: &[i64],
+    live: usize,
+    places: &[u64],
+    xs: &[i64],
+    values: &mut [i64],
+    origins: &mut [u64],
+) -> usize
+    requires flags { live ≤ length flags.now }
+    requires places { live ≤ length places.now }
+    requires xs { live ≤ length xs.now }
+    requires values { live ≤ length values.old }
+    requires origins { live ≤ length origins.old }
+    ensures count { result ≡ length (passing flags.now live) }
+    ensures within { result ≤ live }
+    ensures values { (j : ℕ) → j < result → at values.new j ≡ at xs.now (slice_index (passing flags.now live) j) }
+    ensures origins { (j : ℕ) → j < result → slice_index origins.new j ≡ slice_index places.now (slice_index (passing flags.now live) j) }
+{
+    let mut kept = 0;
+    for i in 0..live {
+        values[kept] = xs[i];
+        origins[kept] = places[i];
+        if is_set(flags[i]) {
+            kept += 1;
+        }
+    }
+    kept
+}

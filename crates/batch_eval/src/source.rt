@@ -1,14 +1,16 @@
 //! Sources that batches are filled from.
 
+ghost use Rattle.batch_eval.specs.Batches.{item_at};
 ghost use Rattle.batch_eval.specs.Lanes.{at};
 ghost use Rattle.batch_eval.specs.Places.{CountsFrom, HasValue};
-ghost use Rattle.std.specs.Prelude.{◌≡◌, ◌+◌, ◌<◌, ◌≤◌, ◌^◌, ℕ, List, IfSome, OnErr, drop, length, take};
+ghost use Rattle.std.specs.Prelude.{◌≡◌, ◌+◌, ◌<◌, ◌≤◌, ◌^◌, ℕ, List, IfSome, None, OnErr, Some, drop, length, slice_get, take};
 ghost use Rattle.trace.specs.Sinks.{IsFed, flow_after};
 ghost use Rattle.trace.specs.Trace.{trace};
 ghost use Rattle.trace.specs.declared.item.End.TheVariants as end;
 ghost use Rattle.trace.specs.declared.item.Item.{Item};
 
 use crate::batch::Batch;
+use crate::listed::ListedItems;
 use crate::register::LANES;
 use crate::sink::{BatchSink, accept_each};
 use trace::{Fed, Flow, Item, MAX_SOURCE_SIZE, NoMemory, RangeItems, SourceItems};
@@ -25,6 +27,16 @@ pub trait BatchSource: SourceItems {
         requires within { position + count ≤ length (Self.items self.now) }
         ensures count { IfSome result (λ values. length values.now ≡ count) }
         ensures values { IfSome result (λ values. (k : ℕ) → k < count → HasValue (Self.items self.now) (position + k) (at values.now k)) }
+    {
+        None
+    }
+
+    /// The items of `count` positions from one on, if their places and their values lie side by side in memory. A `filter` that
+    /// comes first reads them there.
+    fn items_at(&self, position: u64, count: u64) -> Option<ListedItems<'_>>
+        requires within { position + count ≤ length (Self.items self.now) }
+        ensures count { IfSome result (λ listed. length listed.values.now ≡ count) }
+        ensures items { IfSome result (λ listed. (k : ℕ) → k < count → slice_get (Self.items self.now) (position + k) ≡ Some (item_at None listed.places.now listed.values.now k)) }
     {
         None
     }
@@ -74,6 +86,10 @@ impl<I: BatchSource> BatchSource for SourcePart<'_, I> {
     fn values_at(&self, position: u64, count: u64) -> Option<&[i64]> {
         self.source.values_at(self.from + position, count)
     }
+
+    fn items_at(&self, position: u64, count: u64) -> Option<ListedItems<'_>> {
+        self.source.items_at(self.from + position, count)
+    }
 }
 
 impl BatchSource for RangeItems {
@@ -99,6 +115,18 @@ impl BatchSource for Batch {
     fn values_at(&self, position: u64, count: u64) -> Option<&[i64]> {
         let first = position as usize;
         Some(&self.values[first..first + count as usize])
+    }
+
+    fn items_at(&self, position: u64, count: u64) -> Option<ListedItems<'_>> {
+        if self.start.is_some() {
+            return None;
+        }
+        let first = position as usize;
+        let end = first + count as usize;
+        Some(ListedItems {
+            places: &self.origins[first..end],
+            values: &self.values[first..end],
+        })
     }
 
     fn give<S: BatchSink>(&self, room: &mut [i64], sink: &mut S) -> Result<Fed, NoMemory> {

@@ -1,11 +1,13 @@
-use Rattle.std.proofs.Common.{◌+◌, List, take, subst}
+use Rattle.std.proofs.Common.{◌+◌, ℕ, List, ◌++◌, None, take, sym, ap, subst, ◌∙◌}
 use Rattle.trace.specs.declared.item.Item.{Item}
 use Rattle.trace.specs.declared.item.End.{End}
 use Rattle.trace.specs.Trace.{trace}
 use Rattle.trace.specs.Sinks.{IsFed}
 use Rattle.trace.specs.Stages.{pipe, stages_of}
 use Rattle.trace.specs.Cover.{placed}
+use Rattle.batch_eval.specs.Batches.{item_at, lanes, listed_items}
 use Rattle.batch_eval.proofs.BatchWalkLemmas.{IsFed_more}
+use Rattle.batch_eval.proofs.Items.{lanes_taken}
 use Rattle.batch_eval.proofs.PlaceLemmas.{placed_taken}
 use Rattle.batch_eval.proofs.feeding.feed_piece.Goals as goal
 
@@ -32,3 +34,14 @@ returns-in-Some-values_at-clause-fed g c = λ xs so_far.
     let first = c.in-Some.first in
     let taken = placed_taken items first p c.args.count values c.in-Some.ensures c.in-Some-values_at.ensures.count c.requires.within c.in-Some-values_at.ensures.values in
     IsFed_more h n gs env xs (take p items) (placed (first + p) values) (take (p + c.args.count) items) c.feed_run.result c.args.sink.now c.feed_run.new.sink taken so_far c.feed_run.ensures.fed
+
+pub returns-in-Some-items_at-clause-fed : goal.returns-in-Some-items_at-clause-fed
+returns-in-Some-items_at-clause-fed g c = λ xs so_far.
+    let h = g.S.LongSink.has_taken in
+    let items = g.I.SourceItems.items c.args.source.now in
+    let gs = stages_of c.args.stages.now in
+    let p = c.args.position in
+    let listed = c.in-Some-items_at.listed in
+    let lane = item_at None listed.places.now listed.values.now in
+    let taken = lanes_taken items p c.args.count lane c.in-Some-items_at.ensures.items ∙ ap (λ (m : ℕ). take p items ++ lanes m lane) (sym c.in-Some-items_at.ensures.count) in
+    IsFed_more h c.args.first_stage gs c.args.env.now xs (take p items) (listed_items listed.places.now listed.values.now) (take (p + c.args.count) items) c.feed_listed.result c.args.sink.now c.feed_listed.new.sink taken so_far c.feed_listed.ensures.fed
