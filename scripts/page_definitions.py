@@ -8,27 +8,17 @@ from page_text import DEFINITION, read
 
 # Definitions whose last row takes all other cases and gives a value: `CRATE FILE NAME`. The list may only shrink.
 DEFAULTS = '''
-engine Statuses status_of_cause
-engine Statuses status_of_columns
 job_language Calls bracket_of
 job_language Grammar is_sound
 job_language Numbers literal_fits
 job_language Numbers number_of
 lambda_expr Checks signed
-lambda_expr Grammar is_infix
-lambda_expr Heads heads
-lambda_expr Heads parameters
-lambda_expr Lexemes reference_name
-lambda_expr Lexemes symbol_lexeme
-lambda_expr PairForms binary_form
-lambda_expr PairForms method_form
-lambda_expr PairForms sign_form
 lambda_expr StreamChecks stream_of
-lambda_expr Typing called_with
-lambda_expr Typing operated
-lambda_expr Typing prefixed
-lambda_expr Typing selected
 '''
+# Values that mean a refusal: what a last row forgets is then refused, and never given a value. `untyped` has no type and is refused
+# as an operand; `lexeme.Other` is in no expression; `Whole Other` is no listed operator.
+REFUSALS = ['None', 'false', '⊥', 'Err', 'untyped', 'lexeme.Other', 'Whole Other']
+REFUSED = re.compile('|'.join(re.escape(it) + r'(?![\w.])' for it in REFUSALS))
 # The functions whose contracts are the headline.
 HEADLINE = [('engine', 'run'), ('engine', 'tell'), ('job_table', 'run_jobs'), ('job_language', 'read_jobs'),
             ('columns', 'read_columns'), ('columns', 'read_columns_by'), ('report', 'text'), ('report', 'json')]
@@ -141,7 +131,7 @@ def silent_defaults(top):
             asked = [at for at in range(len(variables[0])) if not all(row[at] for row in variables if at < len(row))]
             last, value = split[-1]
             is_default = all(at < len(last) and variables[-1][at] for at in asked)
-            if is_default and not re.match(r'(?:None|false|⊥|Err)\b|⊥', value):
+            if is_default and not REFUSED.match(value):
                 _, crate, _, file = path.split(os.sep)[:4]
                 yield f'{crate} {file[:-len(".antt")]} {name}'
 

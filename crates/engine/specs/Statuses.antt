@@ -9,14 +9,31 @@ use Rattle.job_language.specs.declared.fault.Cause.TheVariants as cause
 
 -- of a refused job file: 1, and 3 if memory for its reading was refused
 abbrev pub status_of_cause : Cause → ℕ
+status_of_cause cause.Syntax = 1
+status_of_cause cause.SameName = 1
+status_of_cause cause.UnknownColumn = 1
+status_of_cause cause.UnknownJob = 1
+status_of_cause cause.NotANumber = 1
+status_of_cause cause.NotAnArray = 1
+status_of_cause cause.NegativeCount = 1
+status_of_cause cause.NotIdentity = 1
+status_of_cause cause.NoIdentity = 1
+status_of_cause cause.OperatorNotListed = 1
+status_of_cause cause.BadRange = 1
+status_of_cause cause.TooLong = 1
+status_of_cause (cause.Expr f) = 1
 status_of_cause cause.NoMemory = 3
-status_of_cause c = 1
+status_of_cause cause.NotScalar = 1
 
 -- of a refused column file: 1, 3 if memory for it was refused, and 4 if a read failed
 abbrev pub status_of_columns : ColumnFault → ℕ
-status_of_columns column.NoMemory = 3
+status_of_columns column.NoHeader = 1
+status_of_columns column.SameName = 1
+status_of_columns (column.BadNumber row place) = 1
+status_of_columns (column.RowLength row) = 1
+status_of_columns column.TooManyColumns = 1
 status_of_columns column.Read = 4
-status_of_columns f = 1
+status_of_columns column.NoMemory = 3
 
 -- 1 for a refused file, 3 for out of memory, 4 for a file that can't be read or written
 abbrev pub status_of : EngineFault → ℕ

@@ -51,9 +51,28 @@ level sign.Complement = 2
 level sign.Not = 2
 
 abbrev pub is_infix : Sign → Bool
+is_infix sign.Comma = true
+is_infix sign.Or = true
+is_infix sign.And = true
+is_infix sign.BitOr = true
+is_infix sign.BitXor = true
+is_infix sign.BitAnd = true
+is_infix sign.Equal = true
+is_infix sign.NotEqual = true
+is_infix sign.Less = true
+is_infix sign.LessOrEqual = true
+is_infix sign.Greater = true
+is_infix sign.GreaterOrEqual = true
+is_infix sign.ShiftLeft = true
+is_infix sign.ShiftRight = true
+is_infix sign.ShiftRightUnsigned = true
+is_infix sign.Add = true
+is_infix sign.Subtract = true
+is_infix sign.Multiply = true
+is_infix sign.Divide = true
+is_infix sign.Remainder = true
 is_infix sign.Complement = false
 is_infix sign.Not = false
-is_infix s = true
 
 abbrev pub is_prefix : Sign → Bool
 is_prefix sign.Subtract = true

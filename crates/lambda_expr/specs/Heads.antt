@@ -43,23 +43,33 @@ pub record HasHead (ps : List (List Mark)) (after : List Lexeme → List Lexeme 
   pub spelled : front ++ rest ≡ ws
   pub stands : after front rest
 
--- the heads of one parameter, `x ->`, `(x) ->` and `(long x) ->`, and of two, `(a, b) ->` and `(long a, long b) ->`
--- (JLS 17, 15.27.1)
-abbrev pub heads : Want → List (List Mark)
-heads want.Pair =
-    (mark.Open ∷ mark.Parameter 0 ∷ mark.Comma ∷ mark.Parameter 1 ∷ mark.Close ∷ mark.Arrow ∷ [])
-    ∷ (mark.Open ∷ mark.LowerLong ∷ mark.Parameter 0 ∷ mark.Comma ∷ mark.LowerLong ∷ mark.Parameter 1 ∷ mark.Close ∷ mark.Arrow ∷ [])
-    ∷ []
-heads w =
+-- the heads of one parameter: `x ->`, `(x) ->` and `(long x) ->` (JLS 17, 15.27.1)
+abbrev pub heads_of_one : List (List Mark)
+heads_of_one =
     (mark.Parameter 0 ∷ mark.Arrow ∷ [])
     ∷ (mark.Open ∷ mark.Parameter 0 ∷ mark.Close ∷ mark.Arrow ∷ [])
     ∷ (mark.Open ∷ mark.LowerLong ∷ mark.Parameter 0 ∷ mark.Close ∷ mark.Arrow ∷ [])
     ∷ []
 
+-- the heads of two parameters: `(a, b) ->` and `(long a, long b) ->`
+abbrev pub heads_of_two : List (List Mark)
+heads_of_two =
+    (mark.Open ∷ mark.Parameter 0 ∷ mark.Comma ∷ mark.Parameter 1 ∷ mark.Close ∷ mark.Arrow ∷ [])
+    ∷ (mark.Open ∷ mark.LowerLong ∷ mark.Parameter 0 ∷ mark.Comma ∷ mark.LowerLong ∷ mark.Parameter 1 ∷ mark.Close ∷ mark.Arrow ∷ [])
+    ∷ []
+
+abbrev pub heads : Want → List (List Mark)
+heads want.Long = heads_of_one
+heads want.Bool = heads_of_one
+heads want.Stream = heads_of_one
+heads want.Pair = heads_of_two
+
 -- how many parameters a lambda has
 abbrev pub parameters : Want → ℕ
+parameters want.Long = 1
+parameters want.Bool = 1
+parameters want.Stream = 1
 parameters want.Pair = 2
-parameters w = 1
 
 -- a body as it is written: an expression, or a source of an inner stream with its operands
 pub data BodyShape : Type 0 where

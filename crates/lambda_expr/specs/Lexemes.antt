@@ -130,7 +130,11 @@ lexemes_of text tokens = lexemes_in (words_of text tokens)
 -- the name that a reference stands for, without its `$`
 abbrev pub reference_name : Word → List ℕ
 reference_name (referred w) = drop 1 w
-reference_name w = []
+reference_name (named w) = []
+reference_name (numeral w) = []
+reference_name (quoted w) = []
+reference_name (sign s) = []
+reference_name bad = []
 
 -- the names that the references of a text stand for, by their places
 abbrev pub Names : Type 0
