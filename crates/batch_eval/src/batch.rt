@@ -2,10 +2,9 @@
 
 ghost use Rattle.batch_eval.specs.Batches.{CountsUp, StopsInside, end_after, item_at, listed_items, origin_at};
 ghost use Rattle.batch_eval.specs.Lanes.{at};
-ghost use Rattle.batch_eval.specs.Places.{HasValue};
 ghost use Rattle.batch_eval.specs.Rooms.{Fits, FitsTest};
 ghost use Rattle.lambda_expr.specs.Term.{long_of, truth_of};
-ghost use Rattle.std.specs.Prelude.{◌≡◌, ℕ, ◌+◌, ◌<◌, ◌≤◌, ◌^◌, List, [], ◌++◌, IfOk, None, OnErr, Some, length, map, slice_get, slice_index, take};
+ghost use Rattle.std.specs.Prelude.{◌≡◌, ℕ, ◌+◌, ◌<◌, ◌≤◌, ◌^◌, List, [], ◌++◌, IfOk, None, OnErr, Some, length, map, take};
 ghost use Rattle.trace.specs.Stages.{filter, of_item};
 ghost use Rattle.trace.specs.Stages.{map as abstract_map};
 ghost use Rattle.trace.specs.Cover.{placed};
@@ -16,6 +15,7 @@ ghost use Rattle.trace.specs.declared.item.Item.{Item};
 use crate::flagged::give_passing;
 use crate::keep::{keep_from, keep_lanes, keep_listed};
 use crate::listed::ListedItems;
+use crate::listing::{copy_front, list_items, list_places, list_values};
 use crate::placed::PlacedValues;
 use crate::reached::Reached;
 use crate::register::{LANES, eval_bool, eval_long};
@@ -377,62 +377,5 @@ impl SourceItems for Batch {
             origin: origin_of(self.start, &self.origins, lane),
             value: value_of(&self.values, lane),
         }
-    }
-}
-
-/// Copies elements to the front of others.
-fn copy_front<T: Copy>(from: &[T], to: &mut [T])
-    requires { length from.now ≤ length to.old }
-    ensures front { take (length from.now) to.new ≡ from.now }
-    ensures size { length to.new ≡ length to.old }
-{
-    to[..from.len()].copy_from_slice(from);
-}
-
-/// The places of lanes, listed.
-fn list_places(start: Option<u64>, live: usize, origins: &mut [u64])
-    requires counts { CountsUp start live }
-    requires within { live ≤ length origins.old }
-    ensures { (k : ℕ) → k < live → slice_index origins.new k ≡ origin_at start origins.old k }
-{
-    if let Some(start) = start {
-        for lane in 0..live {
-            origins[lane] = start + lane as u64;
-        }
-    }
-}
-
-/// The values of a source's items from a position on, lane by lane.
-fn list_values<I: SourceItems>(source: &I, position: u64, count: usize, values: &mut [i64])
-    requires within { position + count ≤ length (I.items source.now) }
-    requires bound { length (I.items source.now) < 2 ^ 64 }
-    requires values { count ≤ length values.old }
-    ensures { (k : ℕ) → k < count → HasValue (I.items source.now) (position + k) (at values.new k) }
-{
-    for lane in 0..count {
-        values[lane] = source.item_at(position + lane as u64).value;
-    }
-}
-
-/// The items of a source from a position on, from a lane on; the lanes before it stay.
-fn list_items<I: SourceItems>(
-    source: &I,
-    position: u64,
-    first: usize,
-    count: usize,
-    origins: &mut [u64],
-    values: &mut [i64],
-)
-    requires within { position + count ≤ length (I.items source.now) }
-    requires bound { length (I.items source.now) < 2 ^ 64 }
-    requires origins { first + count ≤ length origins.old }
-    requires values { first + count ≤ length values.old }
-    ensures items { (k : ℕ) → k < count → slice_get (I.items source.now) (position + k) ≡ Some (item_at None origins.new values.new (first + k)) }
-    ensures before { (k : ℕ) → k < first → item_at None origins.new values.new k ≡ item_at None origins.old values.old k }
-{
-    for lane in 0..count {
-        let item = source.item_at(position + lane as u64);
-        origins[first + lane] = item.origin;
-        values[first + lane] = item.value;
     }
 }

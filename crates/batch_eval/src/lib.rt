@@ -23,6 +23,7 @@ mod flagged;
 mod keep;
 mod kernel;
 mod listed;
+mod listing;
 mod loops;
 mod passing;
 mod placed;

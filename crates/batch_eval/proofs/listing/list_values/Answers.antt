@@ -1,6 +1,6 @@
 use Rattle.std.proofs.Common.{◌≡◌, ◌<◌, length, sym, arith, rules, w64, to_z, of_z}
 use Rattle.batch_eval.proofs.PlaceLemmas.{one_value_more}
-use Rattle.batch_eval.proofs.batch.list_values.Goals as goal
+use Rattle.batch_eval.proofs.listing.list_values.Goals as goal
 
 pub loop-lane-preserved : goal.loop-lane-preserved
 loop-lane-preserved g c =

@@ -1,7 +1,7 @@
 use Rattle.std.proofs.Common.{◌≡◌, ℕ, ◌+◌, ◌<◌, Some, None}
 use Rattle.std.specs.List.{slice_get}
 use Rattle.batch_eval.specs.Batches.{item_at}
-use Rattle.batch_eval.proofs.batch.list_items.Given as goal
+use Rattle.batch_eval.proofs.listing.list_items.Given as goal
 
 abbrev pub invariant-loop-lane : goal.invariant-loop-lane
 invariant-loop-lane g l =
