@@ -32,6 +32,12 @@ pub trait CountedRead {
     /// How many reads answered an error so far.
     fn failures(&self) -> u64
         ensures { result ≡ failures self.now };
+
+    /// A guess of how many bytes are left, 0 if unknown. Nothing rests on it but how much memory is
+    /// reserved at once.
+    fn likely_size(&self) -> usize {
+        0
+    }
 }
 
 /// Any reader, with a count of its failed reads.
@@ -39,17 +45,27 @@ pub trait CountedRead {
 pub struct Counted<R> {
     reader: R,
     failures: FailureCount,
+    likely_size: usize,
 }
 
 impl<R> Counted<R> {
-    /// Counts from 0 on.
+    /// Counts from 0 on. How many bytes the reader has is unknown.
     pub fn new(reader: R) -> Counted<R>
+        ensures reader { counted_reader result ≡ reader }
+        ensures failures { failed_reads result ≡ 0 }
+    {
+        Counted::with_likely_size(reader, 0)
+    }
+
+    /// Counts from 0 on. The reader is likely to have `size` bytes left, as a file of this length.
+    pub fn with_likely_size(reader: R, size: usize) -> Counted<R>
         ensures reader { counted_reader result ≡ reader }
         ensures failures { failed_reads result ≡ 0 }
     {
         Counted {
             reader,
             failures: FailureCount::none(),
+            likely_size: size,
         }
     }
 
@@ -68,14 +84,19 @@ impl<R: Read> CountedRead for Counted<R> {
 
     fn read_some(&mut self, buf: &mut [u8]) -> io::Result<usize> {
         let answer = self.reader.read(buf);
-        if answer.is_err() {
-            self.failures.rise();
+        match &answer {
+            Ok(count) => self.likely_size = self.likely_size.saturating_sub(*count),
+            Err(_) => self.failures.rise(),
         }
         answer
     }
 
     fn failures(&self) -> u64 {
         self.failures.get()
+    }
+
+    fn likely_size(&self) -> usize {
+        self.likely_size
     }
 }
 
@@ -90,16 +111,20 @@ pub enum ReadAllFault {
     NoMemory,
 }
 
-/// How many bytes are reserved before the first read.
+/// How many bytes are reserved before the first read, if how many there are is unknown.
 const FIRST_ROOM: usize = 64 * 1024;
 
 /// How many bytes one read asks for at most: few enough to be still in a cache when it fills them.
 const MAX_READ: usize = 256 * 1024;
 
+/// How many bytes a guess reserves at most. A sparse file may be longer than any memory.
+const MAX_GUESS: usize = 64 * 1024 * 1024 * 1024;
+
 /// All bytes that the reader has left.
 ///
 /// An interrupted read is tried again, as std's readers do it, and its failure stays counted.
-/// The bytes are held once, in a vector that grows by doubling.
+/// The bytes are held once, in a vector that has room for the reader's likely size. If the size is unknown or the
+/// guess was too low, the vector grows by doubling.
 pub fn read_all_of<R: CountedRead>(alloc: Global, reader: &mut R) -> Result<Vec<u8>, ReadAllFault>
     ensures bytes { IfOk result (λ all. IfSome (R.remaining reader.old) (λ left. all.items ≡ left)) }
     ensures end { OnOk result (IsAtEnd (R.remaining reader.new)) }
@@ -108,7 +133,7 @@ pub fn read_all_of<R: CountedRead>(alloc: Global, reader: &mut R) -> Result<Vec<
     ensures counts { R.failures reader.old ≤ R.failures reader.new }
     ensures gave { GaveSome (R.remaining reader.old) (R.remaining reader.new) }
 {
-    let mut bytes = Vec::new(alloc);
+    let mut bytes = room_for(alloc, reader.likely_size());
     let mut filled = 0;
     loop {
         let count = read_more(reader, &mut bytes, filled)?;
@@ -119,6 +144,18 @@ pub fn read_all_of<R: CountedRead>(alloc: Global, reader: &mut R) -> Result<Vec<
     }
     bytes.truncate(filled);
     Ok(bytes)
+}
+
+/// No bytes yet, but room for as many as the guess says if there is memory, and for one more: the read that
+/// finds the end asks for some too.
+fn room_for(alloc: Global, guess: usize) -> Vec<u8>
+    ensures { vec_len result ≡ 0 }
+{
+    let mut bytes = Vec::new(alloc);
+    if guess > 0 {
+        let _ = bytes.reserve_exact(guess.min(MAX_GUESS) + 1);
+    }
+    bytes
 }
 
 /// Makes `bytes` longer by zeros, for one read. A full vector is reserved as much again.

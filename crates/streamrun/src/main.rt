@@ -75,7 +75,7 @@ fn status_of_arguments<H: Threads + Wait + Sync>(
     };
     let columns = match arguments.columns {
         Some(path) => match opened(rt, path, "columns")? {
-            Some(file) => Some(Counted::new(file)),
+            Some(file) => Some(counted(file)),
             None => return Ok(NOT_OPENED),
         },
         None => None,
@@ -96,6 +96,12 @@ fn opened(rt: &HostRuntime, path: &str, which: &str) -> Result<Option<File>, All
             Ok(None)
         }
     }
+}
+
+/// The file, with its length as the likely size if the system says it: then it is read without moving its bytes.
+fn counted(file: File) -> Counted<File> {
+    let size = file.metadata().map_or(0, |metadata| metadata.len());
+    Counted::with_likely_size(file, usize::try_from(size).unwrap_or(0))
 }
 
 /// Runs the jobs of an open file, and answers the exit status. If standard error is a terminal, a line there says how far a long run is,
@@ -128,7 +134,7 @@ fn report_of_files<H: Threads + Wait + Sync>(
     progress: &Progress<'_, H>,
 ) -> u8 {
     let mut columns = columns;
-    let mut jobs = Counted::new(jobs);
+    let mut jobs = counted(jobs);
     let mut writer = CountedOut::new(rt.stdout());
     let answer = run(
         threads,
