@@ -1,6 +1,6 @@
 //! The inbox as one worker uses it.
-ghost use Rattle.std.specs.Prelude.{◌≡◌, MatchResult};
-ghost use Rattle.deques.specs.Tasks.{IsAdded};
+ghost use Rattle.std.specs.Prelude.{◌≡◌, MatchOption, MatchResult};
+ghost use Rattle.deques.specs.Tasks.{IsAdded, IsOldestOut};
 ghost use Rattle.deques.specs.Handles.{IsOf, pass_calls};
 
 use deques::{Inbox, Pass};
@@ -31,7 +31,9 @@ impl<'a, T: Drop> Door<'a, T> {
     }
 
     /// Takes the oldest task; `None` if the inbox was empty at one moment of the call.
-    pub fn take<R: Wait>(self, rt: &R) -> (Door<'a, T>, Option<T>) {
+    pub fn take<R: Wait>(self, rt: &R) -> (Door<'a, T>, Option<T>)
+        ensures taken { MatchOption result.1 (pass_calls result.0.pass ≡ pass_calls self.entry.pass) (λ task. IsOldestOut (pass_calls self.entry.pass) (pass_calls result.0.pass) task) }
+    {
         let Door { inbox, pass } = self;
         let (pass, task) = inbox.take(rt, pass);
         (Door { inbox, pass }, task)

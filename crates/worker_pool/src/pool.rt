@@ -23,6 +23,8 @@ fn run_workers<R: Threads + Wait + Sync, W: Work, G: Gate + Sync, F: Finder<W::T
     mine: F,
     others: IntoIter<F>,
 ) -> W::Idle
+where
+    W::Task: Drop,
     requires { 0 < vec_len idle }
     ensures over { W.is_over work.now result }
     ensures mine { IfSome (slice_get idle.items 0) (λ i. W.owner_of result ≡ W.owner_of i) }
@@ -62,6 +64,8 @@ pub fn run_pool<R: Threads + Wait + Sync, W: Work, G: Gate + Sync>(
     first: Vec<W::Task>,
     idle: Vec<W::Idle>,
 ) -> W::Idle
+where
+    W::Task: Drop,
     requires { 0 < vec_len idle }
     ensures over { W.is_over work.now result }
     ensures mine { IfSome (slice_get idle.items 0) (λ i. W.owner_of result ≡ W.owner_of i) }

@@ -1,6 +1,6 @@
 //! The queues that one worker uses: its own deque, thieves of the other deques, and the inbox.
-ghost use Rattle.std.specs.Prelude.{◌≡◌, IfErr, IfOk};
-ghost use Rattle.worker_pool.specs.Queues.{IsPushed, IsPut};
+ghost use Rattle.std.specs.Prelude.{◌≡◌, IfErr, IfNone, IfOk};
+ghost use Rattle.worker_pool.specs.Queues.{IsPushed, IsPut, SameCalls};
 
 use crate::door::Door;
 use crate::work::Spawn;
@@ -36,14 +36,18 @@ impl<'a, T: Drop> Queues<'a, T> {
         }
     }
 
-    fn pop(&mut self) -> Option<T> {
+    fn pop(&mut self) -> Option<T>
+        ensures none { IfNone result (SameCalls self.old self.new) }
+    {
         match &mut self.own {
             Some(own) => own.pop(),
             None => None,
         }
     }
 
-    fn steal(&mut self) -> Option<T> {
+    fn steal(&mut self) -> Option<T>
+        ensures none { IfNone result (SameCalls self.old self.new) }
+    {
         for thief in self.others.iter_mut() {
             if let Some(task) = thief.steal() {
                 return Some(task);
@@ -52,7 +56,9 @@ impl<'a, T: Drop> Queues<'a, T> {
         None
     }
 
-    fn take<R: Wait>(&mut self, rt: &R) -> Option<T> {
+    fn take<R: Wait>(&mut self, rt: &R) -> Option<T>
+        ensures none { IfNone result (SameCalls self.old self.new) }
+    {
         let (door, task) = self.door.take()?.take(rt);
         self.door = Some(door);
         task
@@ -73,7 +79,9 @@ impl<'a, T: Drop> Spawn<T> for Queues<'a, T> {
 
 impl<'a, T: Drop> Finder<T> for Queues<'a, T> {
     // The newest task of its own, then the oldest of another worker, then the oldest of the inbox.
-    fn find<R: Wait>(&mut self, rt: &R) -> Option<T> {
+    fn find<R: Wait>(&mut self, rt: &R) -> Option<T>
+        ensures none { IfNone result (SameCalls self.old self.new) }
+    {
         if let Some(task) = self.pop() {
             return Some(task);
         }

@@ -13,7 +13,7 @@ pub trait Spawn<T> {
 
 /// Tasks, how to run one, and how much is left.
 pub trait Work: Sync {
-    type Task: Send + Drop;
+    type Task: Send;
 
     /// What one worker keeps between two tasks. The worker passes it to each call and gets it back.
     type Idle: Send + Drop;

@@ -48,6 +48,8 @@ pub fn begin<R: Wait, W: Work, G: Gate, F: Finder<W::Task>>(
     first: Vec<W::Task>,
     finder: &mut F,
 ) -> W::Idle
+where
+    W::Task: Drop,
     ensures same { W.owner_of result ≡ W.owner_of idle }
 {
     for task in first {
