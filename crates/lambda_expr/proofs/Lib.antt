@@ -2,6 +2,7 @@ pub mod AnswerLemmas
 pub mod Bodies
 pub mod EachBody
 pub mod EachText
+pub mod DivisionLaws
 pub mod ElaborateLemmas
 pub mod EndLemmas
 pub mod ExactLemmas

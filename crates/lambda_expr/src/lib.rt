@@ -18,6 +18,7 @@
 //! is evaluated.
 #![tactic(auto)]
 
+mod arithmetic;
 mod body;
 mod check;
 mod elaborate;
@@ -44,6 +45,7 @@ mod stream;
 mod table;
 mod wrapping;
 
+pub use arithmetic::{bits_are_combined_place_by_place, division_rounds_toward_zero};
 pub use env::{Env, NamedNumber};
 pub use expr::{BoolExpr, LongExpr};
 pub use fault::{FaultKind, ReadFault};
