@@ -7,7 +7,9 @@ ghost use Rattle.job_table.specs.Waits.{nodes_in};
 use crate::NoMemory;
 use crate::cut::{SegmentPart, TableKept, TablePart, TableSeat};
 use crate::earlier::Earlier;
-use crate::places::{keep_answer, keep_given, keep_source, kept_given, kept_source};
+use crate::places::{
+    drop_source, hold_source, keep_answer, keep_given, keep_source, kept_given, source_in,
+};
 use crate::segments::{Begun, Segments};
 use crate::start::Waiting;
 use crate::task::{JobSeat, Running, TableJobSeat, TableSpare, TableTask, TableWhole, Task, Whole};
@@ -37,7 +39,10 @@ fn last_answer<S: Segments, R: Running>(
             .jobs
             .answer(work.alloc, job, part, &source, given, &earlier, scratch);
     }
-    let Some(source) = kept_source(&work.places, job, segment) else {
+    let Some(held) = hold_source(&work.places, job, segment) else {
+        return Err(NoMemory);
+    };
+    let Some(source) = source_in(&held, job, segment) else {
         return Err(NoMemory);
     };
     work.jobs
@@ -77,7 +82,7 @@ impl<'a, S: Segments, R: Running> JobWork<'a, S, TablePart<S>, TableKept<S>, R> 
         self.go_on(gate, whole, spawn, scratch, watch, spare)
     }
 
-    /// Leaves what the segment gives in its place, and begins the next segment. `Err` if the job is over.
+    /// Frees what the segment went over, leaves what it gives in its place, and begins the next segment. `Err` if the job is over.
     fn end_segment<G: Gate, P: Spawn<TableTask<S, R>>>(
         &self,
         gate: &G,
@@ -103,6 +108,7 @@ impl<'a, S: Segments, R: Running> JobWork<'a, S, TablePart<S>, TableKept<S>, R> 
             return Err(begun);
         };
         if segment < self.jobs.last_segment(job) {
+            drop_source(&self.places, job, segment);
             if let Ok(source) = self.jobs.next_source(self.alloc, job, segment, part, given) {
                 keep_source(&self.places, job, segment + 1, source);
             }
@@ -114,6 +120,7 @@ impl<'a, S: Segments, R: Running> JobWork<'a, S, TablePart<S>, TableKept<S>, R> 
         if let Ok(answer) = last_answer(self, job, segment, part, given, scratch) {
             keep_answer(&self.places, gate, job, answer);
         }
+        drop_source(&self.places, job, segment);
         Err(begun)
     }
 

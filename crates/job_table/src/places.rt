@@ -6,7 +6,7 @@ use crate::NoMemory;
 use crate::segments::Segments;
 use std::alloc::Global;
 use std::marker::PhantomData;
-use std::sync::OnceLock;
+use std::sync::{OnceLock, RwLock, RwLockReadGuard};
 use worker_pool::Gate;
 
 /// What a segment goes over, with the numbers of its job and of the segment.
@@ -18,6 +18,9 @@ pub struct KeptSource<S: Segments> {
     pub(crate) of: PhantomData<S>,
     ghost is: { S.is_source job segment source } by { S.one_source job segment source },
 }
+
+/// The place of a segment's source, while it is read.
+pub(crate) type HeldSource<'w, S> = RwLockReadGuard<'w, Option<KeptSource<S>>>;
 
 /// What a job takes of the answers that it names, with the number of the job.
 #[derive(Drop)]
@@ -38,13 +41,13 @@ pub struct KeptAnswer<S: Segments> {
 }
 
 /// The places of one job: for what it takes of earlier answers, for the source of each segment but the first, and for the answer.
-/// `first` is the number of its first segment among all segments of the run.
+/// `first` is the number of its first segment among all segments of the run. A source lies in its place until its segment has ended.
 #[derive(Drop)]
 pub struct JobPlaces<S: Segments> {
     pub(crate) job: usize,
     pub(crate) first: u64,
     pub(crate) given: OnceLock<KeptGiven<S>>,
-    pub(crate) sources: Vec<OnceLock<KeptSource<S>>>,
+    pub(crate) sources: Vec<RwLock<Option<KeptSource<S>>>>,
     pub(crate) answer: OnceLock<KeptAnswer<S>>,
     ghost first_is: { first < 2 ^ 64 - 1 → first ≡ first_word S.last_of job },
 }
@@ -61,7 +64,7 @@ fn places_of_job<S: Segments>(
 {
     let mut sources = Vec::new(alloc);
     for _segment in 0..last {
-        sources.push(OnceLock::new())?;
+        sources.push(RwLock::new(None))?;
     }
     Ok(JobPlaces {
         job,
@@ -122,7 +125,17 @@ pub(crate) fn empty_places<S: Segments>(
     Ok(places)
 }
 
-/// Leaves the source of a segment in its place. If it has none, the source is dropped.
+/// The place for the source of a segment. The first segment has none.
+fn source_place<S: Segments>(
+    places: &[JobPlaces<S>],
+    job: usize,
+    segment: usize,
+) -> Option<&RwLock<Option<KeptSource<S>>>> {
+    let before = segment.checked_sub(1)?;
+    places.get(job)?.sources.get(before)
+}
+
+/// Leaves the source of a segment in its place. If it has none, or a reader holds the place, the source is dropped.
 pub(crate) fn keep_source<S: Segments>(
     places: &[JobPlaces<S>],
     job: usize,
@@ -131,14 +144,11 @@ pub(crate) fn keep_source<S: Segments>(
 )
     requires { S.is_source job segment source }
 {
-    let Some(before) = segment.checked_sub(1) else {
+    let Some(place) = source_place(places, job, segment) else {
         return;
     };
-    let Some(of_job) = places.get(job) else {
-        return;
-    };
-    if let Some(place) = of_job.sources.get(before) {
-        let _ = place.try_set(KeptSource {
+    if let Some(mut held) = place.try_write() {
+        *held = Some(KeptSource {
             job,
             segment,
             source,
@@ -147,16 +157,35 @@ pub(crate) fn keep_source<S: Segments>(
     }
 }
 
-/// The source of a segment, if it was left in its place.
-pub(crate) fn kept_source<S: Segments>(
+/// Empties the place of a segment that has ended, and frees what lay there. If a reader holds the place, the source stays until the run
+/// ends.
+pub(crate) fn drop_source<S: Segments>(places: &[JobPlaces<S>], job: usize, segment: usize) {
+    let Some(place) = source_place(places, job, segment) else {
+        return;
+    };
+    if let Some(mut held) = place.try_write() {
+        *held = None;
+    }
+}
+
+/// Holds the place of a segment, so that nobody empties it. It doesn't wait.
+pub(crate) fn hold_source<S: Segments>(
     places: &[JobPlaces<S>],
+    job: usize,
+    segment: usize,
+) -> Option<HeldSource<'_, S>> {
+    source_place(places, job, segment)?.try_read()
+}
+
+/// The source of a segment, if it lies in the place that is held.
+pub(crate) fn source_in<S: Segments>(
+    held: &Option<KeptSource<S>>,
     job: usize,
     segment: usize,
 ) -> Option<&S::Source>
     ensures { IfSome result (λ source. S.is_source job segment source.now) }
 {
-    let before = segment.checked_sub(1)?;
-    let kept = places.get(job)?.sources.get(before)?.get()?;
+    let kept = held.as_ref()?;
     if kept.job == job && kept.segment == segment {
         Some(&kept.source)
     } else {

@@ -4,7 +4,7 @@ ghost use Rattle.early_stop.specs.Decisive.{no_place, Decides, IsDecisive};
 ghost use Rattle.job_table.specs.Cuts.{Stands, begins, ends_at};
 
 use crate::cut::{Cut, SegmentPart, TablePart, range_of};
-use crate::places::{kept_given, kept_source, word_of};
+use crate::places::{hold_source, kept_given, source_in, word_of};
 use crate::segments::Segments;
 use crate::task::Running;
 use crate::watch::Watch;
@@ -53,7 +53,8 @@ impl<S: Segments, R: Running> Watch<'_, S, R> {
             let source = self.jobs.first_source(self.job);
             return Some(self.jobs.size(self.job, 0, &source, given));
         }
-        let source = kept_source(self.places, self.job, self.segment)?;
+        let held = hold_source(self.places, self.job, self.segment)?;
+        let source = source_in(&held, self.job, self.segment)?;
         Some(self.jobs.size(self.job, self.segment, source, given))
     }
 

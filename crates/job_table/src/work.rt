@@ -15,7 +15,7 @@ use crate::arming::arm_all;
 use crate::cut::{Cut, SegmentPart, TableCounts, TableKept, TablePart};
 use crate::earlier::Earlier;
 use crate::nodes::{most_positions, node_count, segment_count};
-use crate::places::{JobPlaces, empty_places, kept_answer, kept_given, kept_source};
+use crate::places::{JobPlaces, empty_places, hold_source, kept_answer, kept_given, source_in};
 use crate::segments::Segments;
 use crate::start::{Start, Waiting};
 use crate::stopping::{RunSegments, RunStops};
@@ -121,7 +121,8 @@ pub(crate) fn size_of<S: Segments, R: Running>(
     if segment == 0 {
         return Some(work.jobs.size(job, 0, &work.jobs.first_source(job), given));
     }
-    let source = kept_source(&work.places, job, segment)?;
+    let held = hold_source(&work.places, job, segment)?;
+    let source = source_in(&held, job, segment)?;
     Some(work.jobs.size(job, segment, source, given))
 }
 
@@ -149,7 +150,10 @@ fn walked<S: Segments, R: Running>(
             work.alloc, job, 0, &source, from, to, given, &earlier, scratch, watch,
         );
     }
-    let Some(source) = kept_source(&work.places, job, segment) else {
+    let Some(held) = hold_source(&work.places, job, segment) else {
+        return Err(NoMemory);
+    };
+    let Some(source) = source_in(&held, job, segment) else {
         return Err(NoMemory);
     };
     work.jobs.leaf(
