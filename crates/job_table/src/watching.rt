@@ -11,6 +11,7 @@ use crate::watch::Watch;
 use completer_tree::Looker;
 use early_stop::Stop;
 use pending_count::{Place, Side};
+use std::thread::yield_now;
 
 impl<S: Segments, R: Running> Watch<'_, S, R> {
     /// From here on the segment is asked about.
@@ -75,6 +76,7 @@ impl<S: Segments, R: Running> Stop for Watch<'_, S, R> {
     ghost decides = { λ w c. Decides (S.gives w.job w.segment) (S.goes_over w.job w.segment) c };
 
     fn place(&mut self) -> u64 {
+        yield_now();
         self.seen()
     }
 }
