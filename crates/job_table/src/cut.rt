@@ -1,5 +1,5 @@
 //! Where a piece is cut in two, and how the parts of the two sides are joined.
-ghost use Rattle.std.specs.Prelude.{◌≡◌, ◌≢◌, ◌+◌, ◌<◌, ◌≤◌, ℕ, Some, None, IfOk};
+ghost use Rattle.std.specs.Prelude.{◌≡◌, ◌≢◌, ◌+◌, ◌-◌, ◌<◌, ◌≤◌, ℕ, Some, None, IfOk};
 ghost use Rattle.pending_count.specs.Pairs.{side_of};
 ghost use Rattle.pending_count.specs.declared.place.Side.TheVariants.{Whole};
 ghost use Rattle.job_table.specs.Cuts.{begins, ends_at, IsPiece, IsSideOf, Stands};
@@ -21,11 +21,12 @@ pub struct Cut {
 }
 
 impl Cut {
-    /// A cut in the middle.
+    /// A cut in the middle. If the two sides can't be equally long, the right one is one longer.
     pub(crate) fn halves(job: usize, segment: usize, from: u64, to: u64) -> Cut
         requires { from + 1 < to }
         ensures of { (result.job ≡ job) × (result.segment ≡ segment) × (result.from ≡ from) × (result.to ≡ to) }
         ensures within { (from < result.middle) × (result.middle < to) }
+        ensures middle { (result.middle - from ≤ to - result.middle) × (to - result.middle ≤ result.middle - from + 1) }
     {
         Cut {
             job,

@@ -140,8 +140,6 @@ impl<'a, 'c, P: Planned> Segments for PlanJobs<'a, 'c, P> {
 
     ghost size_of = { λ job segment. size_at (chain_at (plans_in P.jobs) job) segment };
 
-    ghost divided = { λ job segment. segment_divides (slice_get (chain_at (plans_in P.jobs) job).segments segment) };
-
     ghost goes_over = { λ job segment. walk_at (chain_at (plans_in P.jobs) job) segment };
 
     ghost gives = { λ job segment. gives_at (chain_at (plans_in P.jobs) job) segment };
@@ -207,7 +205,11 @@ impl<'a, 'c, P: Planned> Segments for PlanJobs<'a, 'c, P> {
         }
     }
 
-    fn is_divided(&self, job: usize, segment: usize) -> bool {
+    fn is_divided(&self, job: usize, segment: usize) -> bool
+        requires job { job < length P.jobs }
+        requires segment { segment ≤ slices_first (chain_at (plans_in P.jobs) job).segments }
+        ensures { result ≡ segment_divides (slice_get (chain_at (plans_in P.jobs) job).segments segment) }
+    {
         is_divided(self.job(job), segment)
     }
 

@@ -1,5 +1,5 @@
 //! What a run is over.
-ghost use Rattle.std.specs.Prelude.{◌≡◌, ◌+◌, ◌<◌, ◌≤◌, ℕ, Bool, true, IfOk};
+ghost use Rattle.std.specs.Prelude.{◌≡◌, ◌+◌, ◌<◌, ◌≤◌, ℕ, true, IfOk};
 ghost use Rattle.trace.specs.Trace.{Trace};
 ghost use Rattle.early_stop.specs.Decisive.{Decides};
 ghost use Rattle.job_table.specs.Begins.{IsBegun};
@@ -50,9 +50,6 @@ pub trait Segments {
 
     // How many positions the source of a job's segment has.
     ghost size_of: { ℕ → ℕ → ℕ };
-
-    // Whether a job's segment is walked in pieces.
-    ghost divided: { ℕ → ℕ → Bool };
 
     // The walk of what a job's segment goes over.
     ghost goes_over: { ℕ → ℕ → Trace };
@@ -122,11 +119,10 @@ pub trait Segments {
         requires given { is_given job given.now }
         ensures { result ≡ size_of job segment };
 
-    /// Whether a segment is walked in pieces, side by side. If not, it is one piece, whatever the threshold is.
+    /// Whether a segment is walked in pieces, side by side. If not, it is one piece, whatever the threshold is. No answer rests on this.
     fn is_divided(&self, job: usize, segment: usize) -> bool
         requires job { job < job_count }
-        requires segment { segment ≤ last_of job }
-        ensures { result ≡ divided job segment };
+        requires segment { segment ≤ last_of job };
 
     /// What a worker begins with.
     fn scratch(&self, alloc: Global) -> Self::Scratch;

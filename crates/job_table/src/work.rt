@@ -1,7 +1,7 @@
 //! The jobs of a run as work for a pool.
 ghost use Rattle.std.specs.Prelude.{◌≡◌, ◌-◌, ◌<◌, ◌≤◌, ◌++◌, ◌∷◌, ℕ, Some, [], length, IfSome, IfOk};
 ghost use Rattle.job_plan.specs.SettingsParts.{workers_of};
-ghost use Rattle.pending_count.specs.Seats.{view_of, IsSeatOf};
+ghost use Rattle.pending_count.specs.Seats.{actor_of, view_of, IsSeatOf};
 ghost use Rattle.completer_tree.specs.Trees.{table_id_of};
 ghost use Rattle.early_stop.specs.Decisive.{Decides};
 ghost use Rattle.early_stop.specs.Seats.{IsSeatOf as IsStopSeatOf, table_of as stop_table_of, segments_of, count_of};
@@ -336,6 +336,8 @@ where
     type Idle = TableIdle<S, R>;
 
     ghost is_over = { λ _ idle. (view_of idle.seat).seen ≡ Some 0 };
+
+    ghost owner_of = { λ idle. actor_of idle.seat };
 
     fn left<H: Wait>(&self, _rt: &H, idle: TableIdle<S, R>) -> (TableIdle<S, R>, u64) {
         let Idle {

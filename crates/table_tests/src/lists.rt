@@ -95,8 +95,6 @@ impl<'a, P: Planned + Sync> Segments for Lists<'a, P> {
 
     ghost size_of = { λ job _. length (P.numbers job) };
 
-    ghost divided = { λ _ _. true };
-
     ghost goes_over = { λ job _. walk_of (P.numbers job) };
 
     ghost gives = { λ _ _ walk. walk.ending };
