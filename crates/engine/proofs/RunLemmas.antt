@@ -85,14 +85,14 @@ early_fault remaining columns jobs wanted before after table (Columns f) t early
 early_fault remaining columns jobs wanted before after table (Write n) t early keeps =
     let (bytes, whole, says) = early (λ same. let e = same in cc) in absurd (says t.file t.gives)
 
-pub early_no_columns : {C : Type 0} (remaining : C → Option (List ℕ)) (columns : Option (MutBor C)) (jobs : Option (List ℕ)) (wanted : Form) (table : List NamedColumn) (f : EngineFault)
-    → HasTable remaining columns table → IsEarlyFault table jobs wanted f → f ≡ Columns column.Read → ⊥
-early_no_columns remaining columns jobs wanted table (Columns f) t early is =
+pub early_no_columns : {C : Type 0} (remaining : C → Option (List ℕ)) (columns : Option (MutBor C)) (jobs : Option (List ℕ)) (wanted : Form) (table : List NamedColumn) (f : EngineFault) (cause : ColumnFault)
+    → HasTable remaining columns table → IsEarlyFault table jobs wanted f → f ≡ Columns cause → ⊥
+early_no_columns remaining columns jobs wanted table (Columns f) cause t early is =
     let (bytes, whole, says) = early (λ same. let e = same in cc) in says t.file t.gives
-early_no_columns remaining columns jobs wanted table JobsRead t early is = let e = is in cc
-early_no_columns remaining columns jobs wanted table NoMemory t early is = let e = is in cc
-early_no_columns remaining columns jobs wanted table (Jobs f) t early is = let e = is in cc
-early_no_columns remaining columns jobs wanted table (Write n) t early is = let e = is in cc
+early_no_columns remaining columns jobs wanted table JobsRead cause t early is = let e = is in cc
+early_no_columns remaining columns jobs wanted table NoMemory cause t early is = let e = is in cc
+early_no_columns remaining columns jobs wanted table (Jobs f) cause t early is = let e = is in cc
+early_no_columns remaining columns jobs wanted table (Write n) cause t early is = let e = is in cc
 
 pub early_no_write : {C : Type 0} (remaining : C → Option (List ℕ)) (columns : Option (MutBor C)) (jobs : Option (List ℕ)) (wanted : Form) (table : List NamedColumn) (f : EngineFault) (n : ℕ)
     → HasTable remaining columns table → IsEarlyFault table jobs wanted f → f ≡ Write n → ⊥

@@ -82,6 +82,8 @@ pub fn run<
         × IsGiven C.remaining columns.entry (J.remaining jobs.old) (form_of settings.now) input
         × Faulted input (W.contents writer.old) (W.contents writer.new) fault) }
 
+    ensures unread { IfErr result (λ fault. (cause : ColumnFault) → fault ≡ EngineFault.Columns cause →
+        (J.remaining jobs.new ≡ J.remaining jobs.old) × (J.failures jobs.new ≡ J.failures jobs.old)) }
     ensures unwritten { IfErr result (λ fault. ((n : ℕ) → fault ≢ EngineFault.Write n) →
         Keeps (W.contents writer.old) (W.contents writer.new)) }
     ensures untouched { IfErr result (λ fault. ((n : ℕ) → fault ≢ EngineFault.Write n) →

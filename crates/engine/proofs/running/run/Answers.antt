@@ -1,8 +1,7 @@
-use Rattle.std.proofs.Common.{◌≡◌, refl, rules, subst}
+use Rattle.std.proofs.Common.{◌≡◌, refl, rules}
 use Rattle.columns.specs.declared.fault.ColumnFault.TheVariants as column
-use Rattle.job_plan.specs.declared.settings.Form.{Form}
 use Rattle.job_plan.specs.SettingsParts.{form_of}
-use Rattle.engine.proofs.RunLemmas.{HasTable, IsEarlyFault, IsReportFor, some_table, no_table, columns_refused, early_fault, early_no_columns, early_no_write, report_for}
+use Rattle.engine.proofs.RunLemmas.{HasTable, some_table, no_table, columns_refused, early_fault, early_no_columns, early_no_write, report_for}
 use Rattle.engine.proofs.running.run.Goals as goal
 use Rattle.engine.proofs.running.run.Goals.{in-Some+in-Ok, in-None}
 
@@ -29,7 +28,15 @@ returns-in-Err-report_from-clause-columns_failed g c is =
       | in-Some+in-Ok w ↦ some_table g.C.CountedRead.remaining c.args.columns c.match-columns.table w.in-Some.reader w.read_columns_by.result w.in-Some.is w.read_columns_by.ensures.cells w.read_columns_by.ensures.some_bytes (search rules)
       | in-None w ↦ no_table g.C.CountedRead.remaining c.args.columns c.match-columns.table w.in-None.is (search rules)
     ] in
-    absurd (early_no_columns g.C.CountedRead.remaining c.args.columns (g.J.CountedRead.remaining c.args.jobs.now) (form_of c.args.settings.now) c.match-columns.table c.in-Err-report_from.fault t c.in-Err-report_from.ensures.err is)
+    absurd (early_no_columns g.C.CountedRead.remaining c.args.columns (g.J.CountedRead.remaining c.args.jobs.now) (form_of c.args.settings.now) c.match-columns.table c.in-Err-report_from.fault column.Read t c.in-Err-report_from.ensures.err is)
+
+pub returns-in-Err-report_from-clause-unread : goal.returns-in-Err-report_from-clause-unread
+returns-in-Err-report_from-clause-unread g c cause is =
+    let t : HasTable g.C.CountedRead.remaining c.args.columns c.match-columns.table = elim c.match-columns.branch [
+      | in-Some+in-Ok w ↦ some_table g.C.CountedRead.remaining c.args.columns c.match-columns.table w.in-Some.reader w.read_columns_by.result w.in-Some.is w.read_columns_by.ensures.cells w.read_columns_by.ensures.some_bytes (search rules)
+      | in-None w ↦ no_table g.C.CountedRead.remaining c.args.columns c.match-columns.table w.in-None.is (search rules)
+    ] in
+    absurd (early_no_columns g.C.CountedRead.remaining c.args.columns (g.J.CountedRead.remaining c.args.jobs.now) (form_of c.args.settings.now) c.match-columns.table c.in-Err-report_from.fault cause t c.in-Err-report_from.ensures.err is)
 
 pub returns-in-Err-report_from-clause-write_failed : goal.returns-in-Err-report_from-clause-write_failed
 returns-in-Err-report_from-clause-write_failed g c n is =
