@@ -1,20 +1,22 @@
 -- Parts of a prefix that comes before every other stage.
-use Rattle.std.proofs.Common.{◌≡◌, ℕ, ◌+◌, Option, Some, None, List, [], ◌++◌, length, sym, ap, subst, ◌∙◌, append_assoc, refl, arith}
+use Rattle.std.proofs.Common.{◌≡◌, ℕ, ◌+◌, Option, Some, None, List, [], ◌++◌, length, sym, ap, subst, ◌∙◌, append_assoc, refl}
 use Rattle.std.proofs.lemmas.List.{append-nil}
 use Rattle.lambda_expr.specs.Earlier.{Numbers}
 use Rattle.trace.specs.declared.item.Item.{Item}
 use Rattle.trace.specs.declared.item.End.{End}
 use Rattle.trace.specs.declared.item.End.TheVariants as end
-use Rattle.trace.specs.Stages.{pipe, stages_of}
+use Rattle.trace.specs.Stages.{AbstractStage, pipe, stages_of}
 use Rattle.trace.specs.Trace.{Trace, trace, nothing, append}
 use Rattle.job_plan.specs.declared.part.Part.TheVariants as part
 use Rattle.job_plan.specs.declared.segment.Prefix.{Prefix}
 use Rattle.job_plan.specs.declared.segment.Segment.{Segment}
 use Rattle.job_plan.specs.declared.segment.SegmentEnd.TheVariants as ends
+use Rattle.job_plan.specs.Maps.{ArePlain, imaged}
 use Rattle.job_plan.specs.Parts.{EndsFor, StandsFor, end_in, segment_in}
 use Rattle.job_plan.specs.Pieces.{elements, piece_of}
-use Rattle.job_plan.specs.Plans.{scanning}
 use Rattle.job_plan.specs.Scans.{AbstractScan, scan, scan_append}
+use Rattle.job_plan.proofs.MapLemmas.{maps_walk}
+use Rattle.job_plan.proofs.PartLemmas.{length-stages_of}
 
 -- items after others
 pub grown : (w : Trace) (ys zs : List Item) → append (append w (trace ys end.Done)) (trace zs end.Done) ≡ append w (trace (ys ++ zs) end.Done)
@@ -28,18 +30,20 @@ pub scanned_both : (p q r : AbstractScan) (ys zs all : List Item) → q ≡ scan
 scanned_both p q r ys zs all first second both =
     second ∙ ap (λ (x : AbstractScan). scan_append x (trace zs end.Done)) first ∙ ap (scan p.op p.range p.stage) (grown p.walk ys zs ∙ ap (λ (l : List Item). append p.walk (trace l end.Done)) (sym both))
 
--- the items at some positions, and the end of the piece
-pub piece_again : (from : ℕ) (to : Option ℕ) (t : Trace) (ending : End) → ending ≡ (piece_of 0 to t).ending → append (append nothing (trace (elements from to t.items) end.Done)) (trace [] ending) ≡ piece_of from to t
-piece_again from None t ending e = (λ j. trace (append-nil (elements from None t.items) j) (e j))
-piece_again from (Some to) t ending e = (λ j. trace (append-nil (elements from (Some to) t.items) j) (e j))
+-- what maps make of the items at some positions, and the end of the piece
+pub piece_again : (gs : List AbstractStage) (from : ℕ) (to : Option ℕ) (t : Trace) (ending : End) → ending ≡ (piece_of 0 to t).ending
+    → append (append nothing (trace (imaged gs (elements from to t.items)) end.Done)) (trace [] ending) ≡ trace (imaged gs (piece_of from to t).items) (piece_of from to t).ending
+piece_again gs from None t ending e = (λ j. trace (append-nil (imaged gs (elements from None t.items)) j) (e j))
+piece_again gs from (Some to) t ending e = (λ j. trace (append-nil (imaged gs (elements from (Some to) t.items)) j) (e j))
 
--- a part of a segment that has no stages
-pub lent_stands : (segment : Segment) (prefix : Prefix) (p : AbstractScan) (t : Trace) (env : Numbers) → segment.end ≡ ends.Prefix prefix → segment.stages.items ≡ [] → p ≡ scan prefix.op prefix.range segment.first_stage t
-    → StandsFor (segment_in segment) env (part.Prefix p) t
-lent_stands segment prefix p t env e none is =
+-- a part of a segment whose stages are such maps
+pub lent_stands : (segment : Segment) (prefix : Prefix) (p : AbstractScan) (t : Trace) (env : Numbers) → segment.end ≡ ends.Prefix prefix → ArePlain (stages_of segment.stages.items)
+    → p ≡ scan prefix.op prefix.range (segment.first_stage + length segment.stages.items) (trace (imaged (stages_of segment.stages.items) t.items) t.ending) → StandsFor (segment_in segment) env (part.Prefix p) t
+lent_stands segment prefix p t env e plain is =
     let n = segment.first_stage in
-    let f = scanning prefix.op prefix.range in
-    let z : n ≡ n + 0 = omega arith in
-    let bare : EndsFor f (n + length (stages_of [])) env (part.Prefix p) (pipe n (stages_of []) env t) = is ∙ ap (λ m. scan prefix.op prefix.range m t) z in
-    subst (λ d. EndsFor (end_in d) (n + length (stages_of segment.stages.items)) env (part.Prefix p) (pipe n (stages_of segment.stages.items) env t)) (sym e)
-    (subst (λ ss. EndsFor f (n + length (stages_of ss)) env (part.Prefix p) (pipe n (stages_of ss) env t)) (sym none) bare)
+    let gs = stages_of segment.stages.items in
+    let last : ℕ = n + length gs in
+    let walk : pipe n gs env t ≡ trace (imaged gs t.items) t.ending = maps_walk n gs plain env t.items t.ending in
+    let number : n + length segment.stages.items ≡ last = ap (λ m. n + m) (sym (length-stages_of segment.stages.items)) in
+    let stands : p ≡ scan prefix.op prefix.range last (pipe n gs env t) = is ∙ (λ j. scan prefix.op prefix.range (number j) (sym walk j)) in
+    subst (λ d. EndsFor (end_in d) last env (part.Prefix p) (pipe n gs env t)) (sym e) stands

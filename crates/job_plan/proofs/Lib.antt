@@ -8,6 +8,7 @@ pub mod FrontLemmas
 pub mod ItemCounts
 pub mod LentLemmas
 pub mod LinkLemmas
+pub mod MapLemmas
 pub mod MeaningLemmas
 pub mod MoveLemmas
 pub mod NameLemmas

@@ -30,7 +30,8 @@ use Rattle.job_plan.specs.declared.segment.Held.{Held}
 use Rattle.job_plan.specs.declared.segment.JobPlan.{JobPlan}
 use Rattle.job_plan.specs.declared.segment.Segment.{Segment}
 use Rattle.job_plan.specs.FileAnswers.{unless_unusable}
-use Rattle.job_plan.specs.Moves.{AllSamePlans, IsSamePlan, SameAnswers, all_keep, comes_first, held_in, is_divisor, is_total, is_total_by, never_faults, test_never_faults, waiting_in}
+use Rattle.job_plan.specs.Faultless.{is_divisor, is_total, is_total_by, never_faults, test_never_faults}
+use Rattle.job_plan.specs.Moves.{AllSamePlans, IsSamePlan, SameAnswers, all_keep, comes_first, held_in, waiting_in}
 use Rattle.job_plan.specs.Parts.{end_in, plan_in, plans_in, segment_in, segments_in}
 use Rattle.job_plan.specs.PlannedAnswers.{all_put_at, first_unusable_at, numbers_at, planned_after, planned_from, planned_meaning}
 use Rattle.job_plan.specs.Plans.{AbstractEnd, slicing, folding, finding, collecting, exactly, scanning, AbstractSegment, AbstractPlan, ended, on_outcome, outcome_of, segments_answer}
@@ -93,7 +94,7 @@ binary_there binary_operator.MultiplyExact b v w x env h is = absurd (let z : fa
 
 -- an expression that can't have a fault has a value
 mutual
-  value_there : (e : Long) → never_faults e ≡ true → (x : ℤ) (env : Numbers) → HasValue (long_value e x env)
+  pub value_there : (e : Long) → never_faults e ≡ true → (x : ℤ) (env : Numbers) → HasValue (long_value e x env)
   value_there (number z) h x env = (_, refl)
   value_there (parameter n) h x env = (_, refl)
   value_there (reference name) h x env = (_, refl)

@@ -1,9 +1,11 @@
 -- Condition: the files of this crate's definitions; the first line of each says what it is.
 pub mod Arrays
 pub mod Batches
+pub mod Faultless
 pub mod FileAnswers
 pub mod Kept
 pub mod Links
+pub mod Maps
 pub mod Moves
 pub mod Names
 pub mod Parts

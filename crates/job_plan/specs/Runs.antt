@@ -3,6 +3,8 @@ use Rattle.std.specs.Prelude.{ℕ, ◌+◌, ◌<◌, ◌≤◌, ◌^◌, ℤ, po
 use Rattle.std.specs.Int.{w64}
 use Rattle.trace.specs.Cover.{counted, placed}
 use Rattle.trace.specs.declared.item.Item.{Item}
+use Rattle.trace.specs.Stages.{stages_of}
+use Rattle.job_plan.specs.Maps.{images}
 use Rattle.job_plan.specs.declared.run_values.RunValues.{RunValues}
 use Rattle.job_plan.specs.declared.run_values.RunValues.TheVariants as run
 use Rattle.job_plan.specs.declared.piece_items.PieceItems.{PieceItems}
@@ -11,14 +13,14 @@ use Rattle.job_plan.specs.declared.piece_items.PieceItems.TheVariants as piece
 -- the values
 abbrev pub run_values : RunValues → List ℤ
 run_values (run.Stored vs) = vs.items
-run_values (run.Lent vs) = vs.now
-run_values (run.Counted first count) = counted first count
+run_values (run.Lent maps vs) = images (stages_of maps.stages.now) vs.now
+run_values (run.Counted maps first count) = images (stages_of maps.stages.now) (counted first count)
 
 -- integers that count up fit into 64 bits, and so does their number
 abbrev pub Fits : RunValues → Type 0
 Fits (run.Stored vs) = ⊤
-Fits (run.Lent vs) = ⊤
-Fits (run.Counted first count) = (i : ℕ) → i < count → FitsSigned w64 (first +ℤ pos i)
+Fits (run.Lent maps vs) = ⊤
+Fits (run.Counted maps first count) = (i : ℕ) → i < count → FitsSigned w64 (first +ℤ pos i)
 
 -- the items of a piece
 abbrev pub items_in : PieceItems → List Item

@@ -1,12 +1,12 @@
 //! Expressions that have a value at every item.
 ghost use Rattle.std.specs.Prelude.{◌≡◌};
 ghost use Rattle.lambda_expr.specs.Term.{long_of, truth_of};
-ghost use Rattle.job_plan.specs.Moves.{is_divisor, is_total, is_total_by, never_faults, test_never_faults};
+ghost use Rattle.job_plan.specs.Faultless.{is_divisor, is_total, is_total_by, never_faults, test_never_faults};
 
 use lambda_expr::{BinaryOperator, BoolExpr, LongExpr, UnaryOperator};
 
 /// Whether an operator has a value at every operand.
-fn is_total(operator: UnaryOperator) -> bool
+pub(crate) fn is_total(operator: UnaryOperator) -> bool
     ensures { result ≡ is_total operator }
 {
     match operator {
@@ -30,7 +30,7 @@ fn is_divisor(expr: &LongExpr) -> bool
 }
 
 /// Whether an operator has a value at every left operand, with this right one.
-fn is_total_by(operator: BinaryOperator, right: &LongExpr) -> bool
+pub(crate) fn is_total_by(operator: BinaryOperator, right: &LongExpr) -> bool
     ensures { result ≡ is_total_by operator (long_of right.now) }
 {
     match operator {

@@ -3,18 +3,22 @@
 ghost use Rattle.std.specs.Prelude.{◌≡◌, ◌+◌, ◌<◌, ◌≤◌, ◌^◌, ◌++◌, ℕ, ℤ, pos, ◌+ℤ◌, FitsSigned, true, false, Ok, length, OnOk, OnErr, IfOk};
 ghost use Rattle.std.specs.Int.{w64};
 ghost use Rattle.trace.specs.Cover.{counted, placed};
+ghost use Rattle.trace.specs.Stages.{stages_of};
 ghost use Rattle.trace.specs.Trace.{trace};
 ghost use Rattle.trace.specs.declared.item.End.TheVariants as end;
 ghost use Rattle.reduce_ops.specs.Operators.{value_of};
 ghost use Rattle.reduce_ops.specs.Parts.{StandsFor as FoldStands};
 ghost use Rattle.prefix_scan.specs.Prefixes.{is_within};
 ghost use Rattle.prefix_scan.specs.Scans.{fold_at, joined_value};
+ghost use Rattle.job_plan.specs.Maps.{imaged};
 ghost use Rattle.job_plan.specs.Runs.{Fits, FitsPlaces, first_place, items_in, run_values};
 ghost use Rattle.job_plan.specs.Scans.{IsFolded, items_of};
 
+use crate::cheap_maps::Maps;
 use crate::folding::folded;
 use crate::piece_items::PieceItems;
 use crate::run_values::RunValues;
+use batch_eval::Registers;
 use prefix_scan::{cut_to, fold_items, scan_values};
 use reduce_ops::{Op, Partial, operators_are_associative};
 use std::alloc::Global;
@@ -80,29 +84,44 @@ impl<'a> FoldedPiece<'a> {
         })
     }
 
-    /// The same of values that are lent. It takes no memory.
-    pub(crate) fn lent(op: Op, place: u64, values: &'a [i64]) -> FoldedPiece<'a>
+    /// The same of what maps make of values that are lent. It stores none of them.
+    pub(crate) fn lent(
+        op: Op,
+        maps: Maps<'a>,
+        place: u64,
+        values: &'a [i64],
+        registers: &mut Registers,
+    ) -> FoldedPiece<'a>
         requires few { length values.now ≤ 4096 }
         requires places { place + length values.now ≤ 2 ^ 62 }
-        ensures items { items_of result ≡ placed place values.now }
+        ensures items { items_of result ≡ imaged (stages_of maps.entry.stages.now) (placed place values.now) }
         ensures folded { IsFolded op result }
     {
+        let values = RunValues::Lent(maps, values);
+        let fold = fold_run(op, &values, registers);
         FoldedPiece {
-            items: PieceItems::Run(place, RunValues::Lent(values)),
-            fold: folded(op, false, values),
+            items: PieceItems::Run(place, values),
+            fold,
         }
     }
 
-    /// The same of integers that count up. It takes no memory.
-    pub(crate) fn counted(op: Op, place: u64, first: i64, count: u64) -> FoldedPiece<'a>
+    /// The same of integers that count up.
+    pub(crate) fn counted(
+        op: Op,
+        maps: Maps<'a>,
+        place: u64,
+        first: i64,
+        count: u64,
+        registers: &mut Registers,
+    ) -> FoldedPiece<'a>
         requires few { count ≤ 4096 }
         requires places { place + count ≤ 2 ^ 62 }
         requires fits { (i : ℕ) → i < count → FitsSigned w64 (first +ℤ pos i) }
-        ensures items { items_of result ≡ placed place (counted first count) }
+        ensures items { items_of result ≡ imaged (stages_of maps.entry.stages.now) (placed place (counted first count)) }
         ensures folded { IsFolded op result }
     {
-        let values = RunValues::Counted { first, count };
-        let fold = fold_run(op, &values);
+        let values = RunValues::Counted { maps, first, count };
+        let fold = fold_run(op, &values, registers);
         FoldedPiece {
             items: PieceItems::Run(place, values),
             fold,
@@ -182,6 +201,7 @@ impl<'a> FoldedPiece<'a> {
         range: Option<(u64, u64)>,
         first: u64,
         start: Option<i64>,
+        registers: &mut Registers,
     ) -> Option<i64>
         requires { IsFolded op self.now }
         ensures { result ≡ fold_at (value_of op) range first start (items_of self.now) }
@@ -194,7 +214,7 @@ impl<'a> FoldedPiece<'a> {
         if holds_none(at) {
             return start;
         }
-        self.fold_some(op, at, start)
+        self.fold_some(op, at, start, registers)
     }
 
     /// The fold of `start` and of all items.
@@ -210,13 +230,19 @@ impl<'a> FoldedPiece<'a> {
     }
 
     /// The fold of `start` and of the items at positions of the range, by positions of the piece.
-    fn fold_some(&self, op: Op, at: Option<(u64, u64)>, start: Option<i64>) -> Option<i64>
+    fn fold_some(
+        &self,
+        op: Op,
+        at: Option<(u64, u64)>,
+        start: Option<i64>,
+        registers: &mut Registers,
+    ) -> Option<i64>
         requires { IsFolded op self.now }
         ensures { result ≡ fold_at (value_of op) at 0 start (items_of self.now) }
     {
         match &self.items {
             PieceItems::Listed(items) => fold_items(op, at, start, items),
-            PieceItems::Run(_, values) => fold_run_at(op, at, start, values),
+            PieceItems::Run(_, values) => fold_run_at(op, at, start, values, registers),
         }
     }
 }
@@ -264,14 +290,17 @@ fn holds_none(range: Option<(u64, u64)>) -> bool
 }
 
 /// The fold of values.
-fn fold_run(op: Op, values: &RunValues) -> Partial
+fn fold_run(op: Op, values: &RunValues, registers: &mut Registers) -> Partial
     requires fits { Fits values.now }
     requires few { length (run_values values.now) ≤ 4096 }
     ensures op { result.op ≡ op }
     ensures stands { (place : ℕ) → FoldStands result (trace (placed place (run_values values.now)) end.Done) }
 {
+    if let Some(values) = values.as_slice() {
+        return folded(op, false, values);
+    }
     let mut buffer = [0i64; MOST_ITEMS];
-    values.copy_to(&mut buffer);
+    values.copy_to(&mut buffer, registers);
     folded(op, false, &buffer[..values.count()])
 }
 
@@ -281,13 +310,14 @@ fn fold_run_at(
     range: Option<(u64, u64)>,
     start: Option<i64>,
     values: &RunValues,
+    registers: &mut Registers,
 ) -> Option<i64>
     requires fits { Fits values.now }
     requires few { length (run_values values.now) ≤ 4096 }
     ensures { (place : ℕ) → result ≡ fold_at (value_of op) range 0 start (placed place (run_values values.now)) }
 {
     let mut buffer = [0i64; MOST_ITEMS];
-    values.copy_to(&mut buffer);
+    values.copy_to(&mut buffer, registers);
     scan_values(op, range, start, &mut buffer[..values.count()])
 }
 

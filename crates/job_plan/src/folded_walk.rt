@@ -128,7 +128,7 @@ fn feed_run<S: BatchSink>(
     ensures refused { OnErr result S.takes_memory }
 {
     let mut buffer = [0i64; MOST_ITEMS];
-    let count = scan_run(op, at, start, values, &mut buffer);
+    let count = scan_run(op, at, start, values, &mut buffer, registers);
     feed_placed(
         segment,
         env,
@@ -141,22 +141,24 @@ fn feed_run<S: BatchSink>(
     )
 }
 
-/// Copies values to the front of a buffer and scans them there. The answer is how many there are.
+/// Puts values at the front of a buffer and scans them there. The answer is how many there are.
 fn scan_run(
     op: Op,
     at: Option<(u64, u64)>,
     start: Option<i64>,
     values: &RunValues<'_>,
     buffer: &mut [i64],
+    registers: &mut Registers,
 ) -> usize
     requires fits { Fits values.now }
+    requires few { length (run_values values.now) ≤ 4096 }
     requires space { length (run_values values.now) ≤ length buffer.old }
     ensures count { result ≡ length (run_values values.now) }
     ensures size { length buffer.new ≡ length buffer.old }
     ensures items { (place : ℕ) → placed place (take result buffer.new) ≡ scan_at (value_of op) at 0 start (placed place (run_values values.now)) }
 {
     let count = values.count();
-    values.copy_to(buffer);
+    values.copy_to(buffer, registers);
     let _ = scan_values(op, at, start, &mut buffer[..count]);
     count
 }

@@ -182,7 +182,7 @@ pub fn leaf_with<'p>(
 ) -> Result<Part<'p>, NoMemory>
     ensures { IfOk result (λ part. StandsFor (segment_in segment.now) env.now part (piece_of from to (walk_in source.now))) }
 {
-    if let Some(part) = lent_part(alloc, segment, source, from, to)? {
+    if let Some(part) = lent_part(alloc, segment, source, from, to, registers)? {
         return Ok(part);
     }
     leaf_copied(alloc, segment, source, from, to, env, registers)
@@ -287,7 +287,7 @@ pub fn leaf_until<'p, W: Stop>(
     requires ordered { IsNotAfter from to }
     ensures { IfOk result (λ part. StandsEnough (W.decides stop.old) (segment_in segment.now) env.now part from (piece_of from to (walk_in source.now))) }
 {
-    if let Some(part) = lent_part(alloc, segment, source, from, to)? {
+    if let Some(part) = lent_part(alloc, segment, source, from, to, registers)? {
         return Ok(part);
     }
     let none = unwalked(alloc, segment, env);

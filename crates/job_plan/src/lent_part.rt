@@ -1,17 +1,20 @@
-//! The part of a prefix that comes before every other stage: it borrows the values of the job's sources.
+//! The part of a prefix that nothing or cheap maps come before: it borrows the values of the job's sources and the maps.
 
 ghost use Rattle.std.specs.Prelude.{◌≡◌, ◌+◌, ◌<◌, ◌≤◌, ◌^◌, pos, ◌+ℤ◌, length, take, drop, IfOk, IfSome, OnOk};
 ghost use Rattle.lambda_expr.specs.Earlier.{Numbers};
 ghost use Rattle.trace.specs.Cover.{counted, distance, placed};
+ghost use Rattle.trace.specs.Stages.{stages_of};
 ghost use Rattle.trace.specs.Trace.{trace};
 ghost use Rattle.trace.specs.declared.item.End.TheVariants as end;
 ghost use Rattle.job_language.specs.Jobs.{source_of, sources_of};
+ghost use Rattle.job_plan.specs.Maps.{imaged};
 ghost use Rattle.job_plan.specs.Parts.{StandsFor, segment_in, walk_in};
 ghost use Rattle.job_plan.specs.Pieces.{elements, piece_of};
 ghost use Rattle.job_plan.specs.Scans.{scan_append};
 ghost use Rattle.job_plan.specs.Walks.{plain_values, source_walk, values_of};
 ghost use Rattle.job_plan.specs.Windows.{windowed};
 
+use crate::cheap_maps::Maps;
 use crate::leaves::piece_end;
 use crate::part::Part;
 use crate::prefix_part::PrefixPart;
@@ -20,18 +23,20 @@ use crate::source::{Source, range_piece};
 use crate::sources::{PlainSources, plain_size};
 use crate::spans::{end_after, within};
 use crate::windows::Window;
+use batch_eval::Registers;
 use job_language::PlainSource;
 use std::alloc::Global;
 use trace::NoMemory;
 
-/// The part of the items at these positions, if a prefix goes over the sources of a job with no stage before it. It takes
-/// memory for each 4,096 of them, and none for values.
+/// The part of the items at these positions, if a prefix goes over the sources of a job with no stage but cheap maps before it. It
+/// takes memory for each 4,096 of them, and none for values.
 pub(crate) fn lent_part<'p>(
     alloc: Global,
     segment: &'p Segment,
     source: &Source<'_, 'p, '_>,
     from: u64,
     to: Option<u64>,
+    registers: &mut Registers,
 ) -> Result<Option<Part<'p>>, NoMemory>
     ensures { IfOk result (λ found. IfSome found (λ part. (env : Numbers) → StandsFor (segment_in segment.now) env part (piece_of from to (walk_in source.now)))) }
 {
@@ -41,104 +46,118 @@ pub(crate) fn lent_part<'p>(
     let Source::Plain(plain) = source else {
         return Ok(None);
     };
-    if !segment.stages.is_empty() {
+    let Some(maps) = Maps::of(alloc, &segment.stages) else {
         return Ok(None);
-    }
-    let mut part = PrefixPart::none(alloc, *prefix, segment.first_stage);
-    push_plain(&mut part, plain, from, to)?;
+    };
+    let stage = segment.first_stage + segment.stages.len() as u32;
+    let mut part = PrefixPart::none(alloc, *prefix, stage);
+    push_plain(&mut part, maps, plain, from, to, registers)?;
     part.end_with(piece_end(source, to));
     Ok(Some(Part::Prefix(part)))
 }
 
-/// Adds the items at these positions of sources.
+/// Adds what maps make of the items at these positions of sources.
 fn push_plain<'a>(
     part: &mut PrefixPart<'a>,
+    maps: Maps<'a>,
     plain: &PlainSources<'a, '_>,
     from: u64,
     to: Option<u64>,
+    registers: &mut Registers,
 ) -> Result<(), NoMemory>
     requires open { part.old.walk.ending ≡ end.Done }
-    ensures { OnOk result (part.new ≡ scan_append part.old (trace (elements from to (windowed plain.now.window.from plain.now.window.to (source_walk (sources_of plain.now.sources.now))).items) end.Done)) }
+    ensures { OnOk result (part.new ≡ scan_append part.old (trace (imaged (stages_of maps.entry.stages.now) (elements from to (windowed plain.now.window.from plain.now.window.to (source_walk (sources_of plain.now.sources.now))).items)) end.Done)) }
 {
     if plain.is_too_long {
         return Ok(());
     }
     let Window { from, to } = plain.window.within(from, to);
-    push_sources(part, plain.sources, 0, from, to)
+    push_sources(part, maps, plain.sources, 0, from, to, registers)
 }
 
-/// Adds the items at these positions of sources, of which the first item has the place `origin`.
+/// Adds what maps make of the items at these positions of sources, of which the first item has the place `origin`.
 fn push_sources<'a>(
     part: &mut PrefixPart<'a>,
+    maps: Maps<'a>,
     sources: &'a [PlainSource<'_>],
     origin: u64,
     from: u64,
     to: Option<u64>,
+    registers: &mut Registers,
 ) -> Result<(), NoMemory>
     requires open { part.old.walk.ending ≡ end.Done }
     requires few { origin + length (values_of (sources_of sources.now)) ≤ 2 ^ 62 }
-    ensures { OnOk result (part.new ≡ scan_append part.old (trace (elements from to (placed origin (values_of (sources_of sources.now)))) end.Done)) }
+    ensures { OnOk result (part.new ≡ scan_append part.old (trace (imaged (stages_of maps.entry.stages.now) (elements from to (placed origin (values_of (sources_of sources.now))))) end.Done)) }
 {
     match sources.split_first() {
         None => Ok(()),
         Some((source, later)) => {
             let size = plain_size(source);
             let (start, count) = within(from, to, size);
-            push_one(part, source, origin + start, start, count)?;
+            push_one(part, maps, source, origin + start, start, count, registers)?;
             let from = from.saturating_sub(size);
-            push_sources(part, later, origin + size, from, end_after(to, size))
+            let to = end_after(to, size);
+            push_sources(part, maps, later, origin + size, from, to, registers)
         }
     }
 }
 
-/// Adds `count` items of a source, from a position on; the first of them has the place `origin`.
+/// Adds what maps make of `count` items of a source, from a position on; the first of them has the place `origin`.
 fn push_one<'a>(
     part: &mut PrefixPart<'a>,
+    maps: Maps<'a>,
     source: &'a PlainSource<'_>,
     origin: u64,
     start: u64,
     count: u64,
+    registers: &mut Registers,
 ) -> Result<(), NoMemory>
     requires open { part.old.walk.ending ≡ end.Done }
     requires within { start + count ≤ length (plain_values (source_of source.now)) }
     requires short { length (plain_values (source_of source.now)) ≤ 2 ^ 62 }
     requires few { origin + count ≤ 2 ^ 62 }
-    ensures { OnOk result (part.new ≡ scan_append part.old (trace (placed origin (take count (drop start (plain_values (source_of source.now))))) end.Done)) }
+    ensures { OnOk result (part.new ≡ scan_append part.old (trace (imaged (stages_of maps.entry.stages.now) (placed origin (take count (drop start (plain_values (source_of source.now)))))) end.Done)) }
 {
     if count == 0 {
         return Ok(());
     }
     match source {
         PlainSource::Range { from, to } => {
-            push_range(part, origin, *from, *to - 1, start, count)
+            push_range(part, maps, origin, *from, *to - 1, start, count, registers)
         }
-        PlainSource::RangeClosed { from, to } => push_range(part, origin, *from, *to, start, count),
+        PlainSource::RangeClosed { from, to } => {
+            push_range(part, maps, origin, *from, *to, start, count, registers)
+        }
         PlainSource::Values(values) => {
-            part.push_lent(origin, &values[start as usize..(start + count) as usize])
+            let values = &values[start as usize..(start + count) as usize];
+            part.push_lent(maps, origin, values, registers)
         }
         PlainSource::Column(cells) => {
-            part.push_lent(origin, &cells[start as usize..(start + count) as usize])
+            let values = &cells[start as usize..(start + count) as usize];
+            part.push_lent(maps, origin, values, registers)
         }
         PlainSource::Result(_) => Ok(()),
     }
 }
 
-/// Adds `count` of the integers from `from` up to and with `to`, from a position on; the first of them has the place
-/// `origin`.
-fn push_range(
-    part: &mut PrefixPart<'_>,
+/// Adds what maps make of `count` of the integers from `from` up to and with `to`, from a position on; the first of them has the
+/// place `origin`.
+fn push_range<'a>(
+    part: &mut PrefixPart<'a>,
+    maps: Maps<'a>,
     origin: u64,
     from: i64,
     to: i64,
     start: u64,
     count: u64,
+    registers: &mut Registers,
 ) -> Result<(), NoMemory>
     requires open { part.old.walk.ending ≡ end.Done }
     requires some { 0 < count }
     requires within { start + count ≤ distance from (to +ℤ pos 1) }
     requires short { start + count ≤ 2 ^ 62 }
     requires few { origin + count ≤ 2 ^ 62 }
-    ensures { OnOk result (part.new ≡ scan_append part.old (trace (placed origin (counted (from +ℤ pos start) count)) end.Done)) }
+    ensures { OnOk result (part.new ≡ scan_append part.old (trace (imaged (stages_of maps.entry.stages.now) (placed origin (counted (from +ℤ pos start) count))) end.Done)) }
 {
-    part.push_range(&range_piece(origin, from, start, count))
+    part.push_range(maps, &range_piece(origin, from, start, count), registers)
 }

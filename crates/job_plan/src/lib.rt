@@ -12,6 +12,8 @@
 
 mod answer;
 mod array_part;
+mod buffer;
+mod cheap_maps;
 mod closing;
 mod fallback;
 mod faultless;

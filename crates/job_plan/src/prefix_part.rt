@@ -2,20 +2,24 @@
 
 ghost use Rattle.std.specs.Prelude.{◌≡◌, ◌+◌, ◌<◌, ◌≤◌, ◌^◌, ◌++◌, ◌∷◌, [], Ok, All, true, false, length, map, OnOk, OnErr, IfErr, IfOk, IfSome};
 ghost use Rattle.trace.specs.Cover.{counted, placed};
+ghost use Rattle.trace.specs.Stages.{stages_of};
 ghost use Rattle.trace.specs.Trace.{trace, nothing, append};
 ghost use Rattle.trace.specs.declared.item.End.TheVariants as end;
 ghost use Rattle.reduce_ops.specs.Operators.{value_of};
 ghost use Rattle.reduce_ops.specs.Parts.{StandsFor as FoldStands};
 ghost use Rattle.prefix_scan.specs.Prefixes.{ends_after, prefixed, prefixed_items};
 ghost use Rattle.job_plan.specs.declared.folded_piece.FoldedPiece.{FoldedPiece};
+ghost use Rattle.job_plan.specs.Maps.{imaged};
 ghost use Rattle.job_plan.specs.Scans.{IsFolded, all_items, items_of, scan, scan_append};
 
+use crate::cheap_maps::Maps;
 use crate::folded_piece::{FoldedPiece, MOST_ITEMS};
 use crate::folding::folded;
 use crate::given::GivenWalk;
 use crate::pieces::{ItemPiece, RangePiece};
 use crate::scanned::ScannedWalk;
 use crate::segment::Prefix;
+use batch_eval::Registers;
 use lambda_expr::FaultKind;
 use reduce_ops::{Op, Partial};
 use std::alloc::Global;
@@ -25,7 +29,8 @@ use trace::{Chunk, End, Fault, Item, MAX_SOURCE_SIZE, NoMemory, SourceItems};
 /// The items of a piece for a prefix, the stage with this number, and how the walk ended. Contracts see just that.
 ///
 /// The items lie in pieces of 4,096 at most, each with its fold; joining two parts moves the pieces and no item. Values of a
-/// source that nothing changed before are lent, and of other items at places that count up the values alone are stored.
+/// source are lent if only cheap maps come before the prefix, which then go over them once more where they are read; of other
+/// items at places that count up the values alone are stored.
 #[derive(Drop)]
 pub struct PrefixPart<'a> {
     prefix: Prefix,
@@ -94,21 +99,40 @@ impl<'a> PrefixPart<'a> {
         }
     }
 
-    /// Adds values of a source that stays as long as the job, at places that count up from this one. It copies none of them.
-    pub(crate) fn push_lent(&mut self, place: u64, values: &'a [i64]) -> Result<(), NoMemory>
+    /// Adds what maps make of values of a source that stays as long as the job, at places that count up from this one. It copies
+    /// none of them.
+    pub(crate) fn push_lent(
+        &mut self,
+        maps: Maps<'a>,
+        place: u64,
+        values: &'a [i64],
+        registers: &mut Registers,
+    ) -> Result<(), NoMemory>
         requires open { self.old.walk.ending ≡ end.Done }
         requires places { place + length values.now ≤ 2 ^ 62 }
-        ensures { OnOk result (self.new ≡ scan_append self.old (trace (placed place values.now) end.Done)) }
+        ensures { OnOk result (self.new ≡ scan_append self.old (trace (imaged (stages_of maps.entry.stages.now) (placed place values.now)) end.Done)) }
     {
-        add_lent(&mut self.pieces, self.prefix.op, place, values)
+        add_lent(
+            &mut self.pieces,
+            self.prefix.op,
+            maps,
+            place,
+            values,
+            registers,
+        )
     }
 
-    /// Adds the integers of a range. It stores none of them.
-    pub(crate) fn push_range(&mut self, range: &RangePiece) -> Result<(), NoMemory>
+    /// Adds what maps make of the integers of a range. It stores none of them.
+    pub(crate) fn push_range(
+        &mut self,
+        maps: Maps<'a>,
+        range: &RangePiece,
+        registers: &mut Registers,
+    ) -> Result<(), NoMemory>
         requires open { self.old.walk.ending ≡ end.Done }
-        ensures { OnOk result (self.new ≡ scan_append self.old (trace (placed range.now.origin (counted range.now.first range.now.count)) end.Done)) }
+        ensures { OnOk result (self.new ≡ scan_append self.old (trace (imaged (stages_of maps.entry.stages.now) (placed range.now.origin (counted range.now.first range.now.count))) end.Done)) }
     {
-        add_range(&mut self.pieces, self.prefix.op, range)
+        add_range(&mut self.pieces, self.prefix.op, maps, range, registers)
     }
 
     /// Ends so, unless a fault has ended the part. It takes no memory.
@@ -319,39 +343,50 @@ fn add_to_last<I: SourceItems>(
     }
 }
 
-/// Adds values that are lent, at places that count up from this one, in pieces of 4,096.
+/// Adds what maps make of values that are lent, at places that count up from this one, in pieces of 4,096.
 fn add_lent<'a>(
     pieces: &mut Vec<FoldedPiece<'a>>,
     op: Op,
+    maps: Maps<'a>,
     place: u64,
     values: &'a [i64],
+    registers: &mut Registers,
 ) -> Result<(), NoMemory>
     requires folds { All (IsFolded op) pieces.old.items }
     requires places { place + length values.now ≤ 2 ^ 62 }
-    ensures ok { OnOk result (all_items pieces.new.items ≡ all_items pieces.old.items ++ placed place values.now) }
+    ensures ok { OnOk result (all_items pieces.new.items ≡ all_items pieces.old.items ++ imaged (stages_of maps.entry.stages.now) (placed place values.now)) }
     ensures folds { All (IsFolded op) pieces.new.items }
 {
     let mut taken = 0;
     while taken < values.len() {
         let count = MOST_ITEMS.min(values.len() - taken);
-        let piece = FoldedPiece::lent(op, place + taken as u64, &values[taken..taken + count]);
+        let part = &values[taken..taken + count];
+        let piece = FoldedPiece::lent(op, maps, place + taken as u64, part, registers);
         pieces.push(piece)?;
         taken += count;
     }
     Ok(())
 }
 
-/// Adds the integers of a range, in pieces of 4,096.
-fn add_range(pieces: &mut Vec<FoldedPiece<'_>>, op: Op, range: &RangePiece) -> Result<(), NoMemory>
+/// Adds what maps make of the integers of a range, in pieces of 4,096.
+fn add_range<'a>(
+    pieces: &mut Vec<FoldedPiece<'a>>,
+    op: Op,
+    maps: Maps<'a>,
+    range: &RangePiece,
+    registers: &mut Registers,
+) -> Result<(), NoMemory>
     requires folds { All (IsFolded op) pieces.old.items }
-    ensures ok { OnOk result (all_items pieces.new.items ≡ all_items pieces.old.items ++ placed range.now.origin (counted range.now.first range.now.count)) }
+    ensures ok { OnOk result (all_items pieces.new.items ≡ all_items pieces.old.items ++ imaged (stages_of maps.entry.stages.now) (placed range.now.origin (counted range.now.first range.now.count))) }
     ensures folds { All (IsFolded op) pieces.new.items }
 {
     let mut taken = 0u64;
     while taken < range.count {
         let count = (MOST_ITEMS as u64).min(range.count - taken);
         let first = range.first + taken as i64;
-        pieces.push(FoldedPiece::counted(op, range.origin + taken, first, count))?;
+        let place = range.origin + taken;
+        let piece = FoldedPiece::counted(op, maps, place, first, count, registers);
+        pieces.push(piece)?;
         taken += count;
     }
     Ok(())

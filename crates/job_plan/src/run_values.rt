@@ -1,11 +1,15 @@
-//! Values side by side, which are stored, lent, or known from the first.
+//! Values side by side, which are stored, lent, or known from the first; those that are not stored may come out of maps.
 
-ghost use Rattle.std.specs.Prelude.{◌≡◌, ◌+◌, ◌<◌, ◌≤◌, ℕ, pos, ◌+ℤ◌, FitsSigned, ◌++◌, length, take, true, Ok};
+ghost use Rattle.std.specs.Prelude.{◌≡◌, ◌+◌, ◌<◌, ◌≤◌, ℕ, pos, ◌+ℤ◌, FitsSigned, ◌++◌, length, take, true, Ok, IfSome};
 ghost use Rattle.std.specs.Int.{w64};
 ghost use Rattle.trace.specs.Cover.{counted};
+ghost use Rattle.trace.specs.Stages.{stages_of};
+ghost use Rattle.job_plan.specs.Maps.{images};
 ghost use Rattle.job_plan.specs.Runs.{Fits, run_values};
 
+use crate::cheap_maps::Maps;
 use crate::folded_piece::MOST_ITEMS;
+use batch_eval::Registers;
 use trace::NoMemory;
 
 /// Values side by side.
@@ -13,10 +17,14 @@ use trace::NoMemory;
 pub enum RunValues<'a> {
     /// Values that stages gave.
     Stored(Vec<i64>),
-    /// Values of a source that stays as long as the job.
-    Lent(&'a [i64]),
-    /// This many integers that count up by 1 from the first.
-    Counted { first: i64, count: u64 },
+    /// What maps make of values of a source that stays as long as the job.
+    Lent(Maps<'a>, &'a [i64]),
+    /// What maps make of this many integers that count up by 1 from the first.
+    Counted {
+        maps: Maps<'a>,
+        first: i64,
+        count: u64,
+    },
 }
 
 impl RunValues<'_> {
@@ -27,7 +35,7 @@ impl RunValues<'_> {
     {
         match self {
             RunValues::Stored(values) => values.len(),
-            RunValues::Lent(values) => values.len(),
+            RunValues::Lent(_, values) => values.len(),
             RunValues::Counted { count, .. } => *count as usize,
         }
     }
@@ -43,21 +51,40 @@ impl RunValues<'_> {
     {
         match self {
             RunValues::Stored(stored) => add_values(stored, count, values),
-            RunValues::Lent(_) | RunValues::Counted { .. } => Ok(false),
+            RunValues::Lent(..) | RunValues::Counted { .. } => Ok(false),
         }
     }
 
-    /// Copies the values to the front of a buffer.
-    pub(crate) fn copy_to(&self, buffer: &mut [i64])
+    /// The values, if they lie in memory.
+    pub(crate) fn as_slice(&self) -> Option<&[i64]>
+        ensures { IfSome result (λ values. values.now ≡ run_values self.now) }
+    {
+        match self {
+            RunValues::Stored(values) => Some(values.as_slice()),
+            RunValues::Lent(maps, values) => { if maps.is_empty() { Some(*values) } else { None } }
+            RunValues::Counted { .. } => None,
+        }
+    }
+
+    /// Puts the values at the front of a buffer.
+    pub(crate) fn copy_to(&self, buffer: &mut [i64], registers: &mut Registers)
         requires fits { Fits self.now }
+        requires few { length (run_values self.now) ≤ 4096 }
         requires space { length (run_values self.now) ≤ length buffer.old }
         ensures values { take (length (run_values self.now)) buffer.new ≡ run_values self.now }
         ensures size { length buffer.new ≡ length buffer.old }
     {
         match self {
             RunValues::Stored(values) => copy_values(values, buffer),
-            RunValues::Lent(values) => copy_values(values, buffer),
-            RunValues::Counted { first, count } => count_up(*first, *count as usize, buffer),
+            RunValues::Lent(maps, values) => {
+                copy_values(values, buffer);
+                map_front(maps, values.len(), buffer, registers);
+            }
+            RunValues::Counted { maps, first, count } => {
+                let count = *count as usize;
+                count_up(*first, count, buffer);
+                map_front(maps, count, buffer, registers);
+            }
         }
     }
 }
@@ -83,6 +110,16 @@ fn copy_values(values: &[i64], buffer: &mut [i64])
     ensures size { length buffer.new ≡ length buffer.old }
 {
     buffer[..values.len()].copy_from_slice(values);
+}
+
+/// Puts what maps make of this many values at the front of a buffer in their place.
+fn map_front(maps: &Maps<'_>, count: usize, buffer: &mut [i64], registers: &mut Registers)
+    requires few { count ≤ 4096 }
+    requires space { count ≤ length buffer.old }
+    ensures values { take count buffer.new ≡ images (stages_of maps.now.stages.now) (take count buffer.old) }
+    ensures size { length buffer.new ≡ length buffer.old }
+{
+    maps.apply(&mut buffer[..count], registers);
 }
 
 /// Puts this many integers that count up from the first into the front of a buffer.

@@ -7,6 +7,7 @@ ghost use Rattle.job_plan.specs.Scans.{IsFolded, IsMarked, all_items, marks_of, 
 
 use crate::folded_piece::{FoldedPiece, Mark};
 use crate::segment::Prefix;
+use batch_eval::Registers;
 use std::alloc::Global;
 use std::marker::Model;
 use trace::{End, NoMemory};
@@ -77,11 +78,12 @@ fn marks(
     ensures size { IfOk result (λ m. m.1 ≡ length (all_items pieces.now)) }
 {
     let mut marks = Vec::new(alloc);
+    let mut registers = Registers::new(alloc);
     let mut before = 0u64;
     let mut start = None;
     for piece in pieces {
         marks.push(Mark { before, start })?;
-        start = piece.fold_from(prefix.op, prefix.range, before, start);
+        start = piece.fold_from(prefix.op, prefix.range, before, start, &mut registers);
         let Some(next) = before.checked_add(piece.count() as u64) else {
             return Err(NoMemory);
         };

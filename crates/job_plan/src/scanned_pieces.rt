@@ -152,7 +152,7 @@ fn feed_from<S: BatchSink>(
             stopped => return Ok(stopped),
         }
         let size = piece.count() as u64;
-        folded = piece.fold_from(prefix.op, prefix.range, first, folded);
+        folded = piece.fold_from(prefix.op, prefix.range, first, folded, registers);
         first += size;
         next = next.saturating_sub(size);
         last = end_after(last, size);

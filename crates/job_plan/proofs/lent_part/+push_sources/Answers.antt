@@ -1,10 +1,13 @@
 use Rattle.std.proofs.Common.{◌≡◌, ◌+◌, ◌∷◌, ◌++◌, length, length-append, take, drop, sym, ap, ◌∙◌, arith, rules}
 use Rattle.trace.specs.Cover.{placed}
+use Rattle.trace.specs.Stages.{stages_of}
 use Rattle.job_language.specs.Jobs.{source_of, sources_of}
+use Rattle.job_plan.specs.Maps.{imaged}
 use Rattle.job_plan.specs.Pieces.{elements}
 use Rattle.job_plan.specs.Walks.{plain_values, values_of}
 use Rattle.job_plan.proofs.Elements.{placed_positions}
 use Rattle.job_plan.proofs.LentLemmas.{scanned_both}
+use Rattle.job_plan.proofs.MapLemmas.{imaged_both}
 use Rattle.job_plan.proofs.PartLemmas.{on_ok_map}
 use Rattle.job_plan.proofs.lent_part.+push_sources.Goals as goal
 
@@ -21,8 +24,9 @@ returns-in_ok-push_one-in-Some t c =
     let l = ap length whole ∙ length-append hs ts in
     let same : size ≡ length hs = omega (arith, c.plain_size-size.ensures, c.requires.few, l) in
     let ys = placed (o + start) (take count (drop start hs)) in
-    let zs = elements c.saturating_sub-from.result c.end_after.result (placed (o + size) ts) in
+    let zs = elements c.saturating_sub-from.result c.end_after-to.result (placed (o + size) ts) in
     let all = elements c.args.from c.args.to (placed o (values_of (sources_of c.args.sources.now))) in
+    let gs = stages_of c.args.maps.stages.now in
     let parts : all ≡ ys ++ zs = ap (λ vs. elements c.args.from c.args.to (placed o vs)) whole ∙ placed_positions o c.args.from c.args.to hs ts size start count same c.within-start.ensures.start c.within-start.ensures.count
-    ∙ (λ i. ys ++ elements (sym c.saturating_sub-from.ensures i) (sym c.end_after.ensures i) (placed (o + size) ts)) in
-    on_ok_map c.push_sources.result (λ later. scanned_both c.args.part.now c.push_one.new.part c.push_sources.new.part ys zs all c.in_ok-push_one-in-Some.ensures later parts) c.push_sources.ensures
+    ∙ (λ i. ys ++ elements (sym c.saturating_sub-from.ensures i) (sym c.end_after-to.ensures i) (placed (o + size) ts)) in
+    on_ok_map c.push_sources.result (λ later. scanned_both c.args.part.now c.push_one.new.part c.push_sources.new.part (imaged gs ys) (imaged gs zs) (imaged gs all) c.in_ok-push_one-in-Some.ensures later (ap (imaged gs) parts ∙ imaged_both gs ys zs)) c.push_sources.ensures
