@@ -10,6 +10,9 @@ use Rattle.trace.specs.contracts.stage.Stage as stages
 use Rattle.job_plan.specs.contracts.segment.Segment as segments
 use Rattle.job_plan.specs.contracts.segment.JobPlan as jobs
 use Rattle.job_plan.specs.contracts.segment.Plan as plans
+use Rattle.job_plan.specs.contracts.folded_piece.FoldedPiece as pieces
+use Rattle.job_plan.specs.contracts.part.Part as parts
+use Rattle.job_table.specs.contracts.kept.SegmentSource as segment_sources
 use Rattle.job_table.specs.contracts.planned.PlanJobs as plan_jobs
 
 -- expressions, as a field and as an element
@@ -39,3 +42,19 @@ jobs_send a c P g s = search (sendable, crosses, plan_sync) depth 60 fits 20000
 
 pub jobs_sync : (a c : NamedLft) (P : RattleType) (g : _) → IsSync P → IsSync (plan_jobs.the_row a c P g)
 jobs_sync a c P g s = search (sendable, crosses, plan_sync) depth 60 fits 20000
+
+-- pieces of a prefix, which may borrow maps of the plan
+piece_send : (a : NamedLft) → IsSend (pieces.the_row a)
+piece_send a = search (sendable, crosses, stage_sync) depth 60 fits 20000
+
+piece_sync : (a : NamedLft) → IsSync (pieces.the_row a)
+piece_sync a = search (sendable, crosses, stage_sync) depth 60 fits 20000
+
+pub part_send : (a : NamedLft) → IsSend (parts.the_row a)
+part_send a = search (sendable, crosses, truth_field, piece_send) depth 60 fits 20000
+
+pub source_send : (a : NamedLft) → IsSend (segment_sources.the_row a)
+source_send a = search (sendable, crosses, truth_field, piece_send) depth 60 fits 20000
+
+pub source_sync : (a : NamedLft) → IsSync (segment_sources.the_row a)
+source_sync a = search (sendable, crosses, truth_field, piece_sync) depth 60 fits 20000
