@@ -1,4 +1,4 @@
-use Rattle.std.proofs.Common.{length, get_or, slice_get, ◌<◌, ◌≤◌, ◌≡◌, ◌∙◌, ap, refl, sym, List, Some, None}
+use Rattle.std.proofs.Common.{slice_get, ◌≡◌, ◌∙◌, ap, refl, sym, List, Some, None}
 use Rattle.job_plan.specs.declared.part.Part.TheVariants as part
 use Rattle.job_plan.specs.Parts.{segment_in, walk_in}
 use Rattle.job_plan.specs.Plans.{AbstractSegment}

@@ -1,4 +1,4 @@
-use Rattle.std.proofs.Common.{◌≡◌, IfOk, subst, arith}
+use Rattle.std.proofs.Common.{IfOk, subst, arith}
 use Rattle.job_table.proofs.ending.JobWork+S+TablePart+S+TableKept+S+R.end_segment.Goals as goal
 
 pub begin-requires-clause-known : goal.begin-requires-clause-known
