@@ -76,6 +76,7 @@ impl<S: Segments, R: Running> Stop for Watch<'_, S, R> {
     ghost decides = { λ w c. Decides (S.gives w.job w.segment) (S.goes_over w.job w.segment) c };
 
     fn place(&mut self) -> u64 {
+        // With more workers than processors, the one that knows the place may be waiting for this worker's processor.
         yield_now();
         self.seen()
     }
