@@ -6,15 +6,6 @@ import re
 
 from page_text import DEFINITION, read
 
-# Definitions whose last row takes all other cases and gives a value: `CRATE FILE NAME`. The list may only shrink.
-DEFAULTS = '''
-job_language Calls bracket_of
-job_language Grammar is_sound
-job_language Numbers literal_fits
-job_language Numbers number_of
-lambda_expr Checks signed
-lambda_expr StreamChecks stream_of
-'''
 # Values that mean a refusal: what a last row forgets is then refused, and never given a value. `untyped` has no type and is refused
 # as an operand; `lexeme.Other` is in no expression; `Whole Other` is no listed operator.
 REFUSALS = ['None', 'false', '⊥', 'Err', 'untyped', 'lexeme.Other', 'Whole Other']
@@ -138,10 +129,5 @@ def silent_defaults(top):
 
 def defaults(top):
     """Definitions of Meaning files whose last row takes all other cases, in silence, and gives a value."""
-    known, found = DEFAULTS.strip().splitlines(), sorted(silent_defaults(top))
-    for name in found:
-        if name not in known:
-            yield f'{name}: its last row takes all other cases and gives a value; write a row for each'
-    for name in known:
-        if name not in found:
-            yield f'{name}: no such definition is left, take it from the list of scripts/page_definitions.py'
+    for name in sorted(silent_defaults(top)):
+        yield f'{name}: its last row takes all other cases and gives a value; write a row for each'

@@ -1,11 +1,12 @@
 -- A call of the grammar has the parts that its row takes.
-use Rattle.std.proofs.Common.{◌≡◌, ◌⊎◌, ⊎_elim, ℕ, suc, ◌<◌, ℤ, Bool, true, false, inl, inr, List, [], ◌∷◌, ◌++◌, length, Option, Some, None, Result, Ok, Err, refl, sym, ap, subst, arith}
+use Rattle.std.proofs.Common.{◌≡◌, ◌⊎◌, ⊎_elim, ℕ, suc, ◌<◌, ℤ, Bool, true, false, inl, inr, List, [], ◌∷◌, ◌++◌, length, Option, Some, None, Result, Ok, Err, refl, sym, ap, subst, append-nil, arith}
 use Rattle.std.specs.Prelude.{max, pos, not, ◌||◌, ◌==◌, nat_lt, int_lt, if◌then◌else◌}
+use Rattle.std.specs.Option.{is_none}
 use Rattle.std.specs.Ordering.{int_eq}
 use Rattle.std.proofs.lemmas.Bool.{eqb-true}
 use Rattle.stream_tokens.specs.CutTexts.{TokenizedText}
 use Rattle.lambda_expr.specs.Words.{Word, quoted, named}
-use Rattle.lambda_expr.specs.Refusals.{AbstractLambda, long, boolean, stream as inner_stream, pair, wanted, expression_verdict, stream_verdict, streamed, verdict, Judged}
+use Rattle.lambda_expr.specs.Refusals.{AbstractLambda, long, boolean, stream as inner_stream, pair, wanted, expression_verdict, stream_verdict, lambda_of, streamed, verdict, Judged}
 use Rattle.lambda_expr.specs.References.{names_of}
 use Rattle.lambda_expr.specs.Checks.{depth, fit, literals, names_known}
 use Rattle.lambda_expr.specs.Grammar.{Shape}
@@ -13,6 +14,7 @@ use Rattle.lambda_expr.specs.Heads.{BodyShape, expression, operands, parameters,
 use Rattle.lambda_expr.specs.PairForms.{whole_form}
 use Rattle.lambda_expr.specs.PairForms.{form as form_of}
 use Rattle.lambda_expr.specs.StreamChecks.{all_fit, all_known, deepest, numbers, stream_of}
+use Rattle.lambda_expr.specs.Streams.{Inner}
 use Rattle.lambda_expr.specs.Term.{Long}
 use Rattle.lambda_expr.specs.Lexemes.{Names, names_in}
 use Rattle.lambda_expr.specs.Typing.{Typed, typed}
@@ -35,11 +37,11 @@ use Rattle.job_language.specs.declared.operation.Params.{Params}
 use Rattle.job_language.specs.declared.operation.Params.TheVariants as params
 use Rattle.job_language.specs.declared.scope.Gives.{Gives}
 use Rattle.job_language.specs.declared.scope.Gives.TheVariants as gives
-use Rattle.job_language.specs.Numbers.{literal_fits, number_of}
+use Rattle.job_language.specs.Numbers.{number_read}
 use Rattle.job_language.specs.Rows.{Argument, nothing, column, job, number, test, stream, operator, exact, source, stage, terminal, fallback, Takes, of_nothing, of_bounds, of_values, of_number, of_count, of_column, of_job, of_long, of_test, of_stream, of_positions, of_identity, Row, as_source, as_concat, as_stage, as_terminal, as_fallback, params_taken, params_in, taken, from_identity, made, built_by}
 use Rattle.job_language.specs.Table.{row, params_of, allowed, param_at, param_of, fits, is_text, is_name}
 use Rattle.job_language.specs.Calls.{Call, FitFrom, IsCall}
-use Rattle.job_language.specs.Causes.{Scope, first_cause, when, count_of, number_cause, number_causes, number_in, numbers_of, is_negative, values_cause, early_causes}
+use Rattle.job_language.specs.Causes.{Scope, first_cause, when, count_of, number_cause, number_causes, number_in, as_list, numbers_of, is_negative, values_cause, early_causes}
 use Rattle.job_language.specs.Operators.{is_add_exact, spelled_op}
 use Rattle.job_language.specs.Arguments.{PlacedCall, last_part, last_param, string_in, name_in, text_answer, column_answer, name_answer, result_answer, listed, pair_argument, argument_of, after_references, reference_cause, reference_causes, lambda_answer, IsLambdaRead, IsOperatorRead, IsReadBy, IsArgumentRead, argument_text}
 use Rattle.job_language.specs.Verdicts.{IsReadAfter, IsCallRead}
@@ -55,7 +57,7 @@ no_count params.Values n e = not_when (nat_lt 1024 n) cause.TooLong (λ h. cc) e
 no_count p n e = absurd cc
 
 no_number : (p : Param) (ws : List Word) → number_cause p ws ≡ Some cause.Syntax → ⊥
-no_number param.Number ws e = not_when (not (literal_fits ws)) (cause.Expr LiteralTooLarge) (λ h. cc) e
+no_number param.Number ws e = not_when (is_none (number_read ws)) (cause.Expr LiteralTooLarge) (λ h. cc) e
 no_number p ws e = absurd cc
 
 first_not : (c : Option Cause) (cs : List (Option Cause)) → (c ≡ Some cause.Syntax → ⊥) → (first_cause cs ≡ Some cause.Syntax → ⊥) → first_cause (c ∷ cs) ≡ Some cause.Syntax → ⊥
@@ -251,9 +253,13 @@ of_want want.Bool (typing.boolean a) f l e = let same : boolean a ≡ l = cc in 
 of_want want.Pair (typing.long a) f l e = let same : pair f ≡ l = cc in subst IsPair same tt
 of_want w t f l e = absurd cc
 
+of_stream : (g : Option Inner) (l : AbstractLambda) → lambda_of g ≡ Ok l → IsInner l
+of_stream None l e = absurd cc
+of_stream (Some g) l e = let same : inner_stream g ≡ l = cc in subst IsInner same tt
+
 of_inner : (s : _) (o : Option (List Long)) (l : AbstractLambda) → streamed s o ≡ Ok l → IsInner l
 of_inner s None l e = absurd cc
-of_inner s (Some es) l e = let same : inner_stream (stream_of s es) ≡ l = cc in subst IsInner same tt
+of_inner s (Some es) l e = of_stream (stream_of s es) l e
 
 by_expression : (w : Want) (h : Names) (x : Shape) (l : AbstractLambda) → expression_verdict w h x ≡ Ok l → IsOfWant w l
 by_expression w h x l e =
@@ -342,6 +348,35 @@ fit_at : (o : Operation) (n i : ℕ) (xs : List (List Word)) → FitFrom o n i x
 fit_at o n i [] h = tt
 fit_at o n i (a ∷ xs) h = (h.0, fit_at o n (suc i) xs h.1)
 
+-- each number among the parts has a value
+abbrev AreRead : Params → ℕ → ℕ → List (List Word) → Type 0
+AreRead p n i [] = Unit {0}
+AreRead p n i (a ∷ xs) = (number_cause (param_at p n i) a ≡ None) × AreRead p n (suc i) xs
+
+no_first : (c : Option Cause) (cs : List (Option Cause)) → first_cause (c ∷ cs) ≡ None → (c ≡ None) × (first_cause cs ≡ None)
+no_first None cs e = (refl, e)
+no_first (Some c) cs e = absurd cc
+
+no_both : (cs ds : List (Option Cause)) → first_cause (cs ++ ds) ≡ None → first_cause cs ≡ None
+no_both [] ds e = refl
+no_both (None ∷ cs) ds e = no_both cs ds e
+no_both (Some c ∷ cs) ds e = absurd cc
+
+are_read : (o : Operation) (n i : ℕ) (xs : List (List Word)) → first_cause (number_causes o n i xs) ≡ None → AreRead (params_of o) n i xs
+are_read o n i [] e = tt
+are_read o n i (a ∷ xs) e = let b = no_first (number_cause (param_of o n i) a) (number_causes o n (suc i) xs) e in (b.0, are_read o n (suc i) xs b.1)
+
+are_read_early : (c : Call) → first_cause (early_causes c) ≡ None → AreRead (params_of c.operation) (length c.parts) 0 c.parts
+are_read_early c e =
+    let n = length c.parts in
+    let causes = number_causes c.operation n 0 c.parts in
+    let last = values_cause (params_of c.operation) (numbers_of c.operation n 0 c.parts) in
+    are_read c.operation n 0 c.parts (no_both causes (last ∷ []) (no_first (count_of (params_of c.operation) n) (causes ++ last ∷ []) e).1)
+
+-- a number that has a value
+abbrev HasValue : Option ℤ → Type 0
+HasValue o = when (is_none o) (cause.Expr LiteralTooLarge) ≡ None
+
 abbrev last_at : Params → List (List Word) → Param
 last_at p [] = param.Number
 last_at p (a ∷ xs) = param_at p (suc (length xs)) (length xs)
@@ -386,72 +421,92 @@ stream_is : (a : Argument) → IsRead want.Stream a → Accepted params.Stream a
 stream_is (stream g) h = tt
 stream_is a h = absurd h
 
-positions_are : (a : Argument) (j k : ℤ) → IsRead want.Pair a → Accepted params.Positions a [] × Accepted params.Positions a (j ∷ k ∷ [])
-positions_are (operator f) j k h = (tt, tt)
-positions_are exact j k h = (tt, tt)
-positions_are a j k h = absurd h
+pair_is : (a : Argument) → IsRead want.Pair a → Accepted params.Positions a [] × Accepted params.Identity a []
+pair_is (operator f) h = (tt, tt)
+pair_is exact h = (tt, tt)
+pair_is a h = absurd h
 
-identity_is : (a : Argument) (k : ℤ) → IsRead want.Pair a → Accepted params.Identity a [] × Accepted params.Identity a (k ∷ [])
-identity_is (operator f) k h = (tt, tt)
-identity_is exact k h = (tt, tt)
-identity_is a k h = absurd h
+positions_are : (a : Argument) (j k : Option ℤ) → HasValue j → HasValue k → IsRead want.Pair a → Accepted params.Positions a (as_list j ++ as_list k)
+positions_are (operator f) (Some j) (Some k) v w h = tt
+positions_are exact (Some j) (Some k) v w h = tt
+positions_are a None k v w h = absurd cc
+positions_are a j None v w h = absurd cc
+positions_are a j k v w h = absurd h
+
+identity_is : (a : Argument) (k : Option ℤ) → HasValue k → IsRead want.Pair a → Accepted params.Identity a (as_list k)
+identity_is (operator f) (Some k) v h = tt
+identity_is exact (Some k) v h = tt
+identity_is a None v h = absurd cc
+identity_is a k v h = absurd h
+
+bounds_are : (j k : Option ℤ) → HasValue j → HasValue k → Accepted params.Bounds nothing (as_list j ++ as_list k)
+bounds_are (Some j) (Some k) v w = tt
+bounds_are None k v w = absurd cc
+bounds_are j None v w = absurd cc
+
+number_is : (k : Option ℤ) → HasValue k → Accepted params.Number nothing (as_list k) × Accepted params.Count nothing (as_list k)
+number_is (Some k) v = (tt, tt)
+number_is None v = absurd cc
 
 no_number_read : (p : Params) (ks : List ℤ) (a : Argument) → Accepted p nothing ks → ◌≡◌ {A = Result Argument Cause} (Ok nothing) (Ok a) → Accepted p a ks
 no_number_read p ks a h r = subst (λ v. Accepted p v ks) (ok_same nothing a r) h
 
--- what the parts of a call are read as, its row takes
-accepted : (p : Params) (xs : List (List Word)) (s : Scope) (text : List ℕ) (a : Argument) → allowed p (length xs) ≡ true → FitAt p (length xs) 0 xs → IsReadBy (last_at p xs) s (last_part xs) text (Ok a) → Accepted p a (numbers_at p (length xs) 0 xs)
-accepted params.Nothing [] s text a al fit r = no_number_read params.Nothing [] a tt r
-accepted params.Nothing (x ∷ xs) s text a al fit r = let e = eqb-true (length (x ∷ xs)) 0 al in absurd (omega arith)
-accepted params.Bounds [] s text a al fit r = absurd cc
-accepted params.Bounds (x ∷ []) s text a al fit r = absurd cc
-accepted params.Bounds (x ∷ y ∷ []) s text a al fit r = no_number_read params.Bounds (number_of x ∷ number_of y ∷ []) a tt r
-accepted params.Bounds (x ∷ y ∷ z ∷ xs) s text a al fit r = let e = eqb-true (length (x ∷ y ∷ z ∷ xs)) 2 al in absurd (omega arith)
-accepted params.Values [] s text a al fit r = no_number_read params.Values [] a tt r
-accepted params.Values (x ∷ xs) s text a al fit r = no_number_read params.Values (numbers_at params.Values (length (x ∷ xs)) 0 (x ∷ xs)) a tt r
-accepted params.Number [] s text a al fit r = absurd cc
-accepted params.Number (x ∷ []) s text a al fit r = no_number_read params.Number (number_of x ∷ []) a tt r
-accepted params.Number (x ∷ y ∷ xs) s text a al fit r = let e = eqb-true (length (x ∷ y ∷ xs)) 1 al in absurd (omega arith)
-accepted params.Count [] s text a al fit r = absurd cc
-accepted params.Count (x ∷ []) s text a al fit r = no_number_read params.Count (number_of x ∷ []) a tt r
-accepted params.Count (x ∷ y ∷ xs) s text a al fit r = let e = eqb-true (length (x ∷ y ∷ xs)) 1 al in absurd (omega arith)
-accepted params.Column [] s text a al fit r = absurd cc
-accepted params.Column (x ∷ []) s text a al fit r = column_is s x a fit.0 r
-accepted params.Column (x ∷ y ∷ xs) s text a al fit r = let e = eqb-true (length (x ∷ y ∷ xs)) 1 al in absurd (omega arith)
-accepted params.Job [] s text a al fit r = absurd cc
-accepted params.Job (x ∷ []) s text a al fit r = job_is s x a fit.0 r
-accepted params.Job (x ∷ y ∷ xs) s text a al fit r = let e = eqb-true (length (x ∷ y ∷ xs)) 1 al in absurd (omega arith)
-accepted params.Long [] s text a al fit r = absurd cc
-accepted params.Long (x ∷ []) s text a al fit r = long_is a (lambda_is s text want.Long a r)
-accepted params.Long (x ∷ y ∷ xs) s text a al fit r = let e = eqb-true (length (x ∷ y ∷ xs)) 1 al in absurd (omega arith)
-accepted params.Test [] s text a al fit r = absurd cc
-accepted params.Test (x ∷ []) s text a al fit r = test_is a (lambda_is s text want.Bool a r)
-accepted params.Test (x ∷ y ∷ xs) s text a al fit r = let e = eqb-true (length (x ∷ y ∷ xs)) 1 al in absurd (omega arith)
-accepted params.Stream [] s text a al fit r = absurd cc
-accepted params.Stream (x ∷ []) s text a al fit r = stream_is a (lambda_is s text want.Stream a r)
-accepted params.Stream (x ∷ y ∷ xs) s text a al fit r = let e = eqb-true (length (x ∷ y ∷ xs)) 1 al in absurd (omega arith)
-accepted params.Positions [] s text a al fit r = absurd cc
-accepted params.Positions (x ∷ []) s text a al fit r = (positions_are a (pos 0) (pos 0) (operator_is (is_add_exact x) (spelled_op x) s text a r)).0
-accepted params.Positions (x ∷ y ∷ []) s text a al fit r = absurd cc
-accepted params.Positions (x ∷ y ∷ z ∷ []) s text a al fit r = (positions_are a (number_of x) (number_of y) (operator_is (is_add_exact z) (spelled_op z) s text a r)).1
-accepted params.Positions (x ∷ y ∷ z ∷ w ∷ xs) s text a al fit r = absurd (far (length (x ∷ y ∷ z ∷ w ∷ xs)) 1 3 al (omega arith) (omega arith))
-accepted params.Identity [] s text a al fit r = absurd cc
-accepted params.Identity (x ∷ []) s text a al fit r = (identity_is a (pos 0) (operator_is (is_add_exact x) (spelled_op x) s text a r)).0
-accepted params.Identity (x ∷ y ∷ []) s text a al fit r = (identity_is a (number_of x) (operator_is (is_add_exact y) (spelled_op y) s text a r)).1
-accepted params.Identity (x ∷ y ∷ z ∷ xs) s text a al fit r = absurd (far (length (x ∷ y ∷ z ∷ xs)) 1 2 al (omega arith) (omega arith))
-accepted params.Sources xs s text a al fit r = absurd cc
+same_two : (j k : Option ℤ) → as_list j ++ as_list k ≡ as_list j ++ (as_list k ++ [])
+same_two j k = ap (λ v. as_list j ++ v) (sym (append-nil (as_list k)))
 
-by_cause : (f : Option Cause) (s : Scope) (t : TokenizedText) (c : PlacedCall) → IsCall c.call → (f ≡ Some cause.Syntax → ⊥) → IsReadAfter f s t c (Err cause.Syntax) → ⊥
-by_cause (Some e) s t c call h r = let same : e ≡ cause.Syntax = cc in h (ap Some same)
-by_cause None s t c call h (Err e, arg, eq) =
+-- what the parts of a call are read as, its row takes
+accepted : (p : Params) (xs : List (List Word)) (s : Scope) (text : List ℕ) (a : Argument) → allowed p (length xs) ≡ true → FitAt p (length xs) 0 xs → AreRead p (length xs) 0 xs → IsReadBy (last_at p xs) s (last_part xs) text (Ok a) → Accepted p a (numbers_at p (length xs) 0 xs)
+accepted params.Nothing [] s text a al fit read r = no_number_read params.Nothing [] a tt r
+accepted params.Nothing (x ∷ xs) s text a al fit read r = let e = eqb-true (length (x ∷ xs)) 0 al in absurd (omega arith)
+accepted params.Bounds [] s text a al fit read r = absurd cc
+accepted params.Bounds (x ∷ []) s text a al fit read r = absurd cc
+accepted params.Bounds (x ∷ y ∷ []) s text a al fit read r = no_number_read params.Bounds (as_list (number_read x) ++ as_list (number_read y) ++ []) a (subst (Accepted params.Bounds nothing) (same_two (number_read x) (number_read y)) (bounds_are (number_read x) (number_read y) read.0 read.1.0)) r
+accepted params.Bounds (x ∷ y ∷ z ∷ xs) s text a al fit read r = let e = eqb-true (length (x ∷ y ∷ z ∷ xs)) 2 al in absurd (omega arith)
+accepted params.Values [] s text a al fit read r = no_number_read params.Values [] a tt r
+accepted params.Values (x ∷ xs) s text a al fit read r = no_number_read params.Values (numbers_at params.Values (length (x ∷ xs)) 0 (x ∷ xs)) a tt r
+accepted params.Number [] s text a al fit read r = absurd cc
+accepted params.Number (x ∷ []) s text a al fit read r = no_number_read params.Number (as_list (number_read x) ++ []) a (subst (Accepted params.Number nothing) (sym (append-nil (as_list (number_read x)))) (number_is (number_read x) read.0).0) r
+accepted params.Number (x ∷ y ∷ xs) s text a al fit read r = let e = eqb-true (length (x ∷ y ∷ xs)) 1 al in absurd (omega arith)
+accepted params.Count [] s text a al fit read r = absurd cc
+accepted params.Count (x ∷ []) s text a al fit read r = no_number_read params.Count (as_list (number_read x) ++ []) a (subst (Accepted params.Count nothing) (sym (append-nil (as_list (number_read x)))) (number_is (number_read x) read.0).1) r
+accepted params.Count (x ∷ y ∷ xs) s text a al fit read r = let e = eqb-true (length (x ∷ y ∷ xs)) 1 al in absurd (omega arith)
+accepted params.Column [] s text a al fit read r = absurd cc
+accepted params.Column (x ∷ []) s text a al fit read r = column_is s x a fit.0 r
+accepted params.Column (x ∷ y ∷ xs) s text a al fit read r = let e = eqb-true (length (x ∷ y ∷ xs)) 1 al in absurd (omega arith)
+accepted params.Job [] s text a al fit read r = absurd cc
+accepted params.Job (x ∷ []) s text a al fit read r = job_is s x a fit.0 r
+accepted params.Job (x ∷ y ∷ xs) s text a al fit read r = let e = eqb-true (length (x ∷ y ∷ xs)) 1 al in absurd (omega arith)
+accepted params.Long [] s text a al fit read r = absurd cc
+accepted params.Long (x ∷ []) s text a al fit read r = long_is a (lambda_is s text want.Long a r)
+accepted params.Long (x ∷ y ∷ xs) s text a al fit read r = let e = eqb-true (length (x ∷ y ∷ xs)) 1 al in absurd (omega arith)
+accepted params.Test [] s text a al fit read r = absurd cc
+accepted params.Test (x ∷ []) s text a al fit read r = test_is a (lambda_is s text want.Bool a r)
+accepted params.Test (x ∷ y ∷ xs) s text a al fit read r = let e = eqb-true (length (x ∷ y ∷ xs)) 1 al in absurd (omega arith)
+accepted params.Stream [] s text a al fit read r = absurd cc
+accepted params.Stream (x ∷ []) s text a al fit read r = stream_is a (lambda_is s text want.Stream a r)
+accepted params.Stream (x ∷ y ∷ xs) s text a al fit read r = let e = eqb-true (length (x ∷ y ∷ xs)) 1 al in absurd (omega arith)
+accepted params.Positions [] s text a al fit read r = absurd cc
+accepted params.Positions (x ∷ []) s text a al fit read r = (pair_is a (operator_is (is_add_exact x) (spelled_op x) s text a r)).0
+accepted params.Positions (x ∷ y ∷ []) s text a al fit read r = absurd cc
+accepted params.Positions (x ∷ y ∷ z ∷ []) s text a al fit read r = subst (Accepted params.Positions a) (same_two (number_read x) (number_read y)) (positions_are a (number_read x) (number_read y) read.0 read.1.0 (operator_is (is_add_exact z) (spelled_op z) s text a r))
+accepted params.Positions (x ∷ y ∷ z ∷ w ∷ xs) s text a al fit read r = absurd (far (length (x ∷ y ∷ z ∷ w ∷ xs)) 1 3 al (omega arith) (omega arith))
+accepted params.Identity [] s text a al fit read r = absurd cc
+accepted params.Identity (x ∷ []) s text a al fit read r = (pair_is a (operator_is (is_add_exact x) (spelled_op x) s text a r)).1
+accepted params.Identity (x ∷ y ∷ []) s text a al fit read r = subst (Accepted params.Identity a) (sym (append-nil (as_list (number_read x)))) (identity_is a (number_read x) read.0 (operator_is (is_add_exact y) (spelled_op y) s text a r))
+accepted params.Identity (x ∷ y ∷ z ∷ xs) s text a al fit read r = absurd (far (length (x ∷ y ∷ z ∷ xs)) 1 2 al (omega arith) (omega arith))
+accepted params.Sources xs s text a al fit read r = absurd cc
+
+by_cause : (f : Option Cause) (s : Scope) (t : TokenizedText) (c : PlacedCall) → IsCall c.call → (f ≡ None → AreRead (params_of c.call.operation) (length c.call.parts) 0 c.call.parts) → (f ≡ Some cause.Syntax → ⊥) → IsReadAfter f s t c (Err cause.Syntax) → ⊥
+by_cause (Some e) s t c call valued h r = let same : e ≡ cause.Syntax = cc in h (ap Some same)
+by_cause None s t c call valued h (Err e, arg, eq) =
     let same : e ≡ cause.Syntax = cc in
     no_part (last_param c.call.operation c.call.parts) s (last_part c.call.parts) (argument_text t c).bytes (subst (λ v. IsArgumentRead s t c (Err v)) same arg)
-by_cause None s t c call h (Ok a, arg, eq) =
+by_cause None s t c call valued h (Ok a, arg, eq) =
     let o = c.call.operation in
     let xs = c.call.parts in
     let read = subst (λ p. IsReadBy p s (last_part xs) (argument_text t c).bytes (Ok a)) (last_are o xs) arg in
-    let fine = accepted (params_of o) xs s (argument_text t c).bytes a call.allowed (fit_at o (length xs) 0 xs call.fit) read in
+    let fine = accepted (params_of o) xs s (argument_text t c).bytes a call.allowed (fit_at o (length xs) 0 xs call.fit) (valued refl) read in
     builds (row o) a (numbers_of o (length xs) 0 xs) (subst (Accepted (params_of o) a) (sym (numbers_are o (length xs) 0 xs)) fine) eq
 
 pub no_syntax_fault : (s : Scope) (t : TokenizedText) (c : PlacedCall) → IsCall c.call → IsCallRead s t c (Err cause.Syntax) → ⊥
-no_syntax_fault s t c call r = by_cause (first_cause (early_causes c.call)) s t c call (no_early c.call) r
+no_syntax_fault s t c call r = by_cause (first_cause (early_causes c.call)) s t c call (are_read_early c.call) (no_early c.call) r

@@ -1,18 +1,57 @@
 -- Meaning: what stands between the parentheses of a call.
 use Rattle.std.specs.Prelude.{◌≡◌, ℕ, zero, suc, true, List, [], ◌∷◌, ◌++◌, length, Option, Some, None}
+use Rattle.stream_tokens.specs.declared.symbol.Symbol.{Symbol}
 use Rattle.stream_tokens.specs.declared.symbol.Symbol.TheVariants as symbol
-use Rattle.lambda_expr.specs.Words.{Word, named, sign}
+use Rattle.lambda_expr.specs.Words.{Word, named, numeral, quoted, referred, sign, bad}
 use Rattle.job_language.specs.declared.operation.Operation.{Operation}
 use Rattle.job_language.specs.declared.word.Bracket.{Bracket}
 use Rattle.job_language.specs.declared.word.Bracket.TheVariants as bracket
 use Rattle.job_language.specs.Table.{name_of, allows, param_of, fits}
 
+-- helper: what a symbol is to the nesting of parentheses
+abbrev pub symbol_bracket : Symbol → Bracket
+symbol_bracket symbol.Arrow = bracket.Plain
+symbol_bracket symbol.DoubleColon = bracket.Plain
+symbol_bracket symbol.ShiftLeft = bracket.Plain
+symbol_bracket symbol.ShiftRight = bracket.Plain
+symbol_bracket symbol.ShiftRightUnsigned = bracket.Plain
+symbol_bracket symbol.LessOrEqual = bracket.Plain
+symbol_bracket symbol.GreaterOrEqual = bracket.Plain
+symbol_bracket symbol.Equal = bracket.Plain
+symbol_bracket symbol.NotEqual = bracket.Plain
+symbol_bracket symbol.AndAnd = bracket.Plain
+symbol_bracket symbol.OrOr = bracket.Plain
+symbol_bracket symbol.PlusPlus = bracket.Plain
+symbol_bracket symbol.MinusMinus = bracket.Plain
+symbol_bracket symbol.Open = bracket.Open
+symbol_bracket symbol.Close = bracket.Close
+symbol_bracket symbol.Comma = bracket.Comma
+symbol_bracket symbol.Dot = bracket.Plain
+symbol_bracket symbol.Semicolon = bracket.Plain
+symbol_bracket symbol.Assign = bracket.Plain
+symbol_bracket symbol.Less = bracket.Plain
+symbol_bracket symbol.Greater = bracket.Plain
+symbol_bracket symbol.Plus = bracket.Plain
+symbol_bracket symbol.Minus = bracket.Plain
+symbol_bracket symbol.Star = bracket.Plain
+symbol_bracket symbol.Slash = bracket.Plain
+symbol_bracket symbol.Percent = bracket.Plain
+symbol_bracket symbol.And = bracket.Plain
+symbol_bracket symbol.Or = bracket.Plain
+symbol_bracket symbol.Xor = bracket.Plain
+symbol_bracket symbol.Tilde = bracket.Plain
+symbol_bracket symbol.Bang = bracket.Plain
+symbol_bracket symbol.Question = bracket.Plain
+symbol_bracket symbol.Colon = bracket.Plain
+
 -- what a word is to the nesting of parentheses
 abbrev pub bracket_of : Word → Bracket
-bracket_of (sign symbol.Open) = bracket.Open
-bracket_of (sign symbol.Close) = bracket.Close
-bracket_of (sign symbol.Comma) = bracket.Comma
-bracket_of w = bracket.Plain
+bracket_of (named w) = bracket.Plain
+bracket_of (numeral w) = bracket.Plain
+bracket_of (quoted w) = bracket.Plain
+bracket_of (referred w) = bracket.Plain
+bracket_of (sign s) = symbol_bracket s
+bracket_of bad = bracket.Plain
 
 -- how many parentheses are open after a word; none if it closes one that isn't open, or is a comma outside them
 abbrev pub nest : ℕ → Bracket → Option ℕ

@@ -1,6 +1,6 @@
 -- Meaning: what a part of a job is refused for: the causes in order of writing, and the first that there is.
-use Rattle.std.specs.Prelude.{ℕ, suc, ℤ, pos, int_lt, Bool, true, false, not, ◌||◌, ◌&&◌, nat_eq, nat_lt, nat_le, if◌then◌else◌, List, [], ◌∷◌, ◌++◌, length, take, drop, ◌-◌, Option, Some, None}
-use Rattle.std.specs.Option.{is_some}
+use Rattle.std.specs.Prelude.{ℕ, suc, ℤ, pos, int_lt, Bool, true, false, ◌||◌, ◌&&◌, nat_eq, nat_lt, nat_le, if◌then◌else◌, List, [], ◌∷◌, ◌++◌, length, take, drop, ◌-◌, Option, Some, None}
+use Rattle.std.specs.Option.{is_none, is_some}
 use Rattle.std.specs.Cmp.Lexicographic.{pointwise}
 use Rattle.lambda_expr.specs.Words.{Word}
 use Rattle.lambda_expr.specs.declared.fault.ReadFault.TheVariants.{LiteralTooLarge}
@@ -18,7 +18,7 @@ use Rattle.job_language.specs.declared.fault.Cause.TheVariants as cause
 use Rattle.job_language.specs.Table.{param_of, params_of}
 use Rattle.job_language.specs.Calls.{Call}
 use Rattle.job_language.specs.Grammar.{Job, plain_sources}
-use Rattle.job_language.specs.Numbers.{literal_fits, number_of}
+use Rattle.job_language.specs.Numbers.{number_read}
 
 -- an earlier job: its name, and what its terminal gives
 pub record Earlier : Type 0 where
@@ -60,7 +60,7 @@ count_of p n = None
 
 -- each number has 64 bits
 abbrev pub number_cause : Param → List Word → Option Cause
-number_cause param.Number ws = when (not (literal_fits ws)) (cause.Expr LiteralTooLarge)
+number_cause param.Number ws = when (is_none (number_read ws)) (cause.Expr LiteralTooLarge)
 number_cause p ws = None
 
 abbrev pub number_causes : Operation → ℕ → ℕ → List (List Word) → List (Option Cause)
@@ -74,9 +74,14 @@ is_negative z = int_lt z (pos 0)
 abbrev pub inside_quotes : List ℕ → List ℕ
 inside_quotes w = take (length w - 2) (drop 1 w)
 
+-- helper: a number that may be missing, as a list
+abbrev pub as_list : Option ℤ → List ℤ
+as_list None = []
+as_list (Some k) = k ∷ []
+
 -- the numbers of a call, from part i on
 abbrev pub number_in : Param → List Word → List ℤ
-number_in param.Number ws = number_of ws ∷ []
+number_in param.Number ws = as_list (number_read ws)
 number_in param.Text ws = []
 number_in param.Name ws = []
 number_in param.Long ws = []

@@ -1,8 +1,9 @@
 -- Meaning: the grammar of one job, apart from any reader.
-use Rattle.std.specs.Prelude.{◌≡◌, ℕ, Bool, true, false, List, [], ◌∷◌, ◌++◌, codes, Option, Some, None}
+use Rattle.std.specs.Prelude.{◌≡◌, ℕ, Bool, true, false, not, List, [], ◌∷◌, ◌++◌, codes, Option, Some, None}
 use Rattle.std.specs.List.{list_all}
+use Rattle.stream_tokens.specs.declared.symbol.Symbol.{Symbol}
 use Rattle.stream_tokens.specs.declared.symbol.Symbol.TheVariants as symbol
-use Rattle.lambda_expr.specs.Words.{Word, named, numeral, sign, bad}
+use Rattle.lambda_expr.specs.Words.{Word, named, numeral, quoted, referred, sign, bad}
 use Rattle.lambda_expr.specs.Numerals.{is_numeral}
 use Rattle.job_language.specs.declared.operation.Operation.TheVariants.{Concat}
 use Rattle.job_language.specs.declared.operation.Role.{Role}
@@ -10,13 +11,20 @@ use Rattle.job_language.specs.declared.operation.Role.TheVariants as role
 use Rattle.job_language.specs.Table.{name_of, role_of}
 use Rattle.job_language.specs.Calls.{Call, IsCall, call_words}
 
+-- the two symbols that stand in no job
+abbrev pub is_step : Symbol → Bool
+is_step symbol.PlusPlus = true
+is_step symbol.MinusMinus = true
+is_step s = false
+
 -- a word that stands in a grammar: no bad byte, not `++` or `--`, no number of two or more digits that begins with 0
 abbrev pub is_sound : Word → Bool
+is_sound (named w) = true
 is_sound (numeral w) = is_numeral w
-is_sound (sign symbol.PlusPlus) = false
-is_sound (sign symbol.MinusMinus) = false
+is_sound (quoted w) = true
+is_sound (referred w) = true
+is_sound (sign s) = not (is_step s)
 is_sound bad = false
-is_sound w = true
 
 -- a source as it is written, with or without `LongStream.` before it: a call, or a `concat` of two sources or more
 mutual

@@ -42,7 +42,7 @@ fn digits_number(word: Word) -> Option<i64>
 {
     match word {
         Word::Number(digits) => positive(digits),
-        _ => Some(0),
+        _ => None,
     }
 }
 
@@ -52,9 +52,9 @@ fn minus_number(minus: Word, word: Word) -> Option<i64>
     match minus {
         Word::Sign(Symbol::Minus) => match word {
             Word::Number(digits) => negative(digits),
-            _ => Some(0),
+            _ => None,
         },
-        _ => Some(0),
+        _ => None,
     }
 }
 
@@ -64,11 +64,11 @@ fn constant_number(owner: Word, dot: Word, word: Word) -> Option<i64>
 {
     match word {
         Word::Name(name) => Some(constant(name)),
-        _ => Some(0),
+        _ => None,
     }
 }
 
-/// The value of a number, or `None` if it is outside 64 bits.
+/// The value of a number; `None` if it is outside 64 bits, or the words are no number.
 pub fn number_in(words: &[Word]) -> Option<i64>
     ensures { result ≡ number_read (words_in words.now) }
 {
@@ -76,6 +76,6 @@ pub fn number_in(words: &[Word]) -> Option<i64>
         [digits] => digits_number(*digits),
         [minus, digits] => minus_number(*minus, *digits),
         [owner, dot, limit] => constant_number(*owner, *dot, *limit),
-        _ => Some(0),
+        _ => None,
     }
 }

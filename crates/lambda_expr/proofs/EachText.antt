@@ -13,9 +13,10 @@ use Rattle.lambda_expr.specs.declared.source.Source.{Source}
 use Rattle.lambda_expr.specs.Checks.{depth, fit, literals, names_known}
 use Rattle.lambda_expr.specs.Heads.{ALambda, BodyShape, expression, operands, parameters}
 use Rattle.lambda_expr.specs.Lexemes.{Names, lexemes_of, names_in}
-use Rattle.lambda_expr.specs.Refusals.{AbstractLambda, Judged, IsRefused, column, streamed, verdict, wanted}
+use Rattle.lambda_expr.specs.Refusals.{AbstractLambda, Judged, IsRefused, column, lambda_of, streamed, verdict, wanted}
 use Rattle.lambda_expr.specs.Stops.{StopsAt}
-use Rattle.lambda_expr.specs.StreamChecks.{all_fit, all_known, deepest, numbers}
+use Rattle.lambda_expr.specs.StreamChecks.{all_fit, all_known, deepest, numbers, stream_of}
+use Rattle.lambda_expr.specs.Streams.{Inner}
 use Rattle.lambda_expr.specs.Term.{Long}
 use Rattle.lambda_expr.specs.Typing.{Typed, long, boolean, longs, untyped}
 use Rattle.lambda_expr.proofs.Heads.{each_lambda}
@@ -49,9 +50,13 @@ either_verdict : (b : Bool) (r s : Result AbstractLambda ReadFault) → IsVerdic
 either_verdict true r s h k = h
 either_verdict false r s h k = k
 
+lambda_verdict : (g : Option Inner) → IsVerdict (lambda_of g)
+lambda_verdict None = tt
+lambda_verdict (Some g) = tt
+
 streamed_verdict : (s : Source) (o : Option (List Long)) → IsVerdict (streamed s o)
 streamed_verdict s None = tt
-streamed_verdict s (Some es) = tt
+streamed_verdict s (Some es) = lambda_verdict (stream_of s es)
 
 is_verdict : (w : Want) (h : Names) (b : BodyShape) → IsVerdict (verdict w h b)
 is_verdict w h (operands s es) = either_verdict (not (all_fit es)) _ _ tt (either_verdict (nat_lt 64 (max (suc (deepest es)) (length es))) _ _ tt (either_verdict (not (all_known 1 es)) _ _ tt (streamed_verdict s (numbers h es))))

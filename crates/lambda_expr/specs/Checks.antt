@@ -15,10 +15,17 @@ abbrev pub fit : Literals → Bool
 fit (Number n) = nat_lt n (2 ^ 63)
 fit (Fit b) = b
 
+abbrev pub is_minus : Sign → Bool
+is_minus sign.Subtract = true
+is_minus s = false
+
 -- 2^63 may stand directly after a minus (JLS 17, 3.10.1)
+abbrev pub negated : Literals → Literals
+negated (Number n) = Fit (nat_le n (2 ^ 63))
+negated (Fit b) = Fit b
+
 abbrev pub signed : Sign → Literals → Literals
-signed sign.Subtract (Number n) = Fit (nat_le n (2 ^ 63))
-signed s l = Fit (fit l)
+signed s l = if is_minus s then negated l else Fit (fit l)
 
 -- the number that an expression is, or whether its numbers fit
 abbrev pub literals : Shape → Literals

@@ -46,10 +46,15 @@ expression_verdict w h e =
     else (if not (names_known (parameters w) e) then Err fault.UnknownName
     else wanted w (typed h e) (whole_form (form e))))
 
+-- helper: the lambda of an inner stream, if it is one
+abbrev pub lambda_of : Option Inner → Result AbstractLambda ReadFault
+lambda_of None = Err fault.WrongType
+lambda_of (Some g) = Ok (stream g)
+
 -- helper: the lambda of a source and the numbers that its operands are
 abbrev pub streamed : Source → Option (List Long) → Result AbstractLambda ReadFault
 streamed s None = Err fault.WrongType
-streamed s (Some es) = Ok (stream (stream_of s es))
+streamed s (Some es) = lambda_of (stream_of s es)
 
 -- what a lambda whose body is a source with these operands gives: the first that applies. The body is a call, so it is
 -- one deeper than its deepest operand, and it has at most 64 operands

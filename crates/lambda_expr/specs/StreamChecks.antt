@@ -35,7 +35,9 @@ numbers h [] = Some []
 numbers h (e ∷ es) = and_number (typed h e) (numbers h es)
 
 -- the inner stream of a source and its operands, of which a range has two; `empty()` gives what `of()` gives
-abbrev pub stream_of : Source → List Long → Inner
-stream_of source.Range (a ∷ b ∷ []) = range a b
-stream_of source.RangeClosed (a ∷ b ∷ []) = range_closed a b
-stream_of s es = values es
+abbrev pub stream_of : Source → List Long → Option Inner
+stream_of source.Range (a ∷ b ∷ []) = Some (range a b)
+stream_of source.RangeClosed (a ∷ b ∷ []) = Some (range_closed a b)
+stream_of source.Of es = Some (values es)
+stream_of source.Empty es = Some (values es)
+stream_of s es = None

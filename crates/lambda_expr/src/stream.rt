@@ -4,8 +4,7 @@ ghost use Rattle.lambda_expr.specs.BodyReading.{and_found, found_in, no_operands
 ghost use Rattle.lambda_expr.specs.Grammar.{Shape};
 ghost use Rattle.lambda_expr.specs.Judging.{IsJudged};
 ghost use Rattle.lambda_expr.specs.Lexemes.{names_in};
-ghost use Rattle.lambda_expr.specs.Refusals.{stream_verdict};
-ghost use Rattle.lambda_expr.specs.Refusals.{stream as a_stream};
+ghost use Rattle.lambda_expr.specs.Refusals.{lambda_of, stream_verdict};
 ghost use Rattle.lambda_expr.specs.SourceReading.{each_postfix, steps_of};
 ghost use Rattle.lambda_expr.specs.Sources.{Takes};
 ghost use Rattle.lambda_expr.specs.StreamChecks.{stream_of};
@@ -85,7 +84,7 @@ fn numbers(
 // The stream of a source and its operands; none if there are more than 64.
 fn stream_of(source: Source, mut operands: Vec<LongExpr>) -> Option<InnerExpr>
     ensures some { Takes source (length operands.items)
-        → IfSome result (λ inner. inner_of inner ≡ stream_of source (exprs_of operands.items)) }
+        → IfSome result (λ inner. Some (inner_of inner) ≡ stream_of source (exprs_of operands.items)) }
     ensures none { Takes source (length operands.items) → IfNone result (64 < length operands.items) }
 {
     match source {
@@ -106,7 +105,7 @@ fn stream_of(source: Source, mut operands: Vec<LongExpr>) -> Option<InnerExpr>
 // The lambda of a source and its operands.
 fn streamed(source: Source, operands: Vec<LongExpr>) -> Result<Lambda, ReadFault>
     ensures { Takes source (length operands.items) → length operands.items ≤ 64
-        → IsJudged (Ok (a_stream (stream_of source (exprs_of operands.items)))) result }
+        → IsJudged (lambda_of (stream_of source (exprs_of operands.items))) result }
 {
     match stream_of(source, operands) {
         Some(inner) => Ok(Lambda {
