@@ -253,13 +253,13 @@ of_want want.Bool (typing.boolean a) f l e = let same : boolean a ≡ l = cc in 
 of_want want.Pair (typing.long a) f l e = let same : pair f ≡ l = cc in subst IsPair same tt
 of_want w t f l e = absurd cc
 
-of_stream : (g : Option Inner) (l : AbstractLambda) → lambda_of g ≡ Ok l → IsInner l
-of_stream None l e = absurd cc
-of_stream (Some g) l e = let same : inner_stream g ≡ l = cc in subst IsInner same tt
+of_some : (g : Option Inner) (l : AbstractLambda) → lambda_of g ≡ Ok l → IsInner l
+of_some None l e = absurd cc
+of_some (Some g) l e = let same : inner_stream g ≡ l = cc in subst IsInner same tt
 
 of_inner : (s : _) (o : Option (List Long)) (l : AbstractLambda) → streamed s o ≡ Ok l → IsInner l
 of_inner s None l e = absurd cc
-of_inner s (Some es) l e = of_stream (stream_of s es) l e
+of_inner s (Some es) l e = of_some (stream_of s es) l e
 
 by_expression : (w : Want) (h : Names) (x : Shape) (l : AbstractLambda) → expression_verdict w h x ≡ Ok l → IsOfWant w l
 by_expression w h x l e =
@@ -460,7 +460,7 @@ accepted params.Nothing [] s text a al fit read r = no_number_read params.Nothin
 accepted params.Nothing (x ∷ xs) s text a al fit read r = let e = eqb-true (length (x ∷ xs)) 0 al in absurd (omega arith)
 accepted params.Bounds [] s text a al fit read r = absurd cc
 accepted params.Bounds (x ∷ []) s text a al fit read r = absurd cc
-accepted params.Bounds (x ∷ y ∷ []) s text a al fit read r = no_number_read params.Bounds (as_list (number_read x) ++ as_list (number_read y) ++ []) a (subst (Accepted params.Bounds nothing) (same_two (number_read x) (number_read y)) (bounds_are (number_read x) (number_read y) read.0 read.1.0)) r
+accepted params.Bounds (x ∷ y ∷ []) s text a al fit read r = no_number_read params.Bounds (as_list (number_read x) ++ (as_list (number_read y) ++ [])) a (subst (Accepted params.Bounds nothing) (same_two (number_read x) (number_read y)) (bounds_are (number_read x) (number_read y) read.0 read.1.0)) r
 accepted params.Bounds (x ∷ y ∷ z ∷ xs) s text a al fit read r = let e = eqb-true (length (x ∷ y ∷ z ∷ xs)) 2 al in absurd (omega arith)
 accepted params.Values [] s text a al fit read r = no_number_read params.Values [] a tt r
 accepted params.Values (x ∷ xs) s text a al fit read r = no_number_read params.Values (numbers_at params.Values (length (x ∷ xs)) 0 (x ∷ xs)) a tt r
