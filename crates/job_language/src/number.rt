@@ -1,31 +1,11 @@
 //! The value of a number.
-ghost use Rattle.std.specs.Prelude.{◌≡◌, ◌≤◌, ◌^◌, pos, neg_ℤ, nat_lt, nat_le, if◌then◌else◌, Some, None, ◌∷◌, []};
-ghost use Rattle.lambda_expr.specs.Numerals.{numeral_value};
+ghost use Rattle.std.specs.Prelude.{◌≡◌, ◌∷◌, []};
 ghost use Rattle.job_language.specs.Splitting.{word_of, words_in};
 ghost use Rattle.job_language.specs.Numbers.{constant_value, number_read};
 
 use crate::word::Word;
-use lambda_expr::numeral_value;
+use lambda_expr::Numeral;
 use stream_tokens::Symbol;
-
-fn positive(digits: &[u8]) -> Option<i64>
-    ensures { let n = numeral_value digits.now in
-        result ≡ (if nat_lt n (2 ^ 63) then Some (pos n) else None) }
-{
-    let value = numeral_value(digits);
-    if value < 9_223_372_036_854_775_808 {
-        Some(value as i64)
-    } else {
-        None
-    }
-}
-
-fn negative(digits: &[u8]) -> Option<i64>
-    ensures { let n = numeral_value digits.now in
-        result ≡ (if nat_le n (2 ^ 63) then Some (neg_ℤ (pos n)) else None) }
-{
-    0i64.checked_sub_unsigned(numeral_value(digits))
-}
 
 fn constant(name: &[u8]) -> i64
     ensures { result ≡ constant_value name.now }
@@ -41,7 +21,11 @@ fn digits_number(word: Word) -> Option<i64>
     ensures { result ≡ number_read (word_of word.entry ∷ []) }
 {
     match word {
-        Word::Number(digits) => positive(digits),
+        Word::Number(digits) => Numeral {
+            is_negative: false,
+            digits,
+        }
+        .value(),
         _ => None,
     }
 }
@@ -51,7 +35,11 @@ fn minus_number(minus: Word, word: Word) -> Option<i64>
 {
     match minus {
         Word::Sign(Symbol::Minus) => match word {
-            Word::Number(digits) => negative(digits),
+            Word::Number(digits) => Numeral {
+                is_negative: true,
+                digits,
+            }
+            .value(),
             _ => None,
         },
         _ => None,

@@ -2,31 +2,20 @@
 ghost use Rattle.std.specs.Prelude.{◌≡◌, ◌<◌, IfOk, MatchOption, length, get_or, true, false};
 ghost use Rattle.std.specs.List.{list_all};
 ghost use Rattle.lambda_expr.specs.Words.{words_of, bad};
-ghost use Rattle.lambda_expr.specs.Numerals.{is_numeral};
 ghost use Rattle.job_language.specs.Splitting.{word_of, words_in};
 ghost use Rattle.job_language.specs.Grammar.{is_sound};
 
 use crate::word::Word;
+use lambda_expr::may_stand;
 use std::alloc::{AllocError, Global};
 use stream_tokens::{CutText, Symbol, TokenKind};
-
-/// Whether digits may stand as a number: not two or more that begin with 0.
-fn is_numeral(word: &[u8]) -> bool
-    ensures { result ≡ is_numeral word.now }
-{
-    match word {
-        [] => false,
-        [_] => true,
-        [first, second, ..] => !(*first == b'0' && second.is_ascii_digit()),
-    }
-}
 
 /// Whether a word may stand in a grammar.
 fn is_sound(word: Word) -> bool
     ensures { result ≡ is_sound (word_of word.entry) }
 {
     match word {
-        Word::Number(digits) => is_numeral(digits),
+        Word::Number(digits) => may_stand(digits),
         Word::Sign(Symbol::PlusPlus) => false,
         Word::Sign(Symbol::MinusMinus) => false,
         Word::Bad => false,

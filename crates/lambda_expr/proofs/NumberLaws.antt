@@ -5,7 +5,8 @@ use Rattle.lambda_expr.specs.declared.fault.ReadFault.{ReadFault}
 use Rattle.lambda_expr.specs.declared.fault.ReadFault.TheVariants as fault
 use Rattle.lambda_expr.specs.Words.{Word, words_of}
 use Rattle.lambda_expr.specs.Refusals.{column}
-use Rattle.lambda_expr.specs.Numbers.{Number, plain, negative, IsNumber, ANumber, number_value, SpellsNumber, IsTooLarge, StopsAtColumn, IsNumberRefused}
+use Rattle.lambda_expr.specs.Numbers.{IsNumber, ANumber, SpellsNumber, IsTooLarge, StopsAtColumn, IsNumberRefused}
+use Rattle.lambda_expr.specs.NumberValues.{Number, plain, negative, number_value}
 use Rattle.lambda_expr.proofs.OneStop.{one_place}
 
 same_written : (ws : List Word) (m n : Number) → IsNumber ws m → IsNumber ws n → m ≡ n

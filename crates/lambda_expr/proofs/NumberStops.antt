@@ -4,7 +4,8 @@ use Rattle.stream_tokens.specs.declared.symbol.Symbol.TheVariants as symbol
 use Rattle.lambda_expr.specs.Words.{Word, numeral, sign, bad}
 use Rattle.lambda_expr.specs.Numerals.{is_numeral}
 use Rattle.lambda_expr.specs.Stops.{Begins, StopsAt}
-use Rattle.lambda_expr.specs.Numbers.{Number, plain, negative, IsNumber, ANumber}
+use Rattle.lambda_expr.specs.Numbers.{IsNumber, ANumber}
+use Rattle.lambda_expr.specs.NumberValues.{Number, plain, negative}
 use Rattle.lambda_expr.specs.NumberReading.{number_of, HasSign, HasNumeral, IsNoNumeral}
 
 abbrev zero_word : List ℕ

@@ -10,6 +10,7 @@ pub mod Heads
 pub mod Judging
 pub mod Lexemes
 pub mod NumberReading
+pub mod NumberValues
 pub mod Numbers
 pub mod Numerals
 pub mod Operators

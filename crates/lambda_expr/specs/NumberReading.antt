@@ -3,7 +3,7 @@ use Rattle.std.specs.Prelude.{◌≡◌, ℕ, ◌<◌, Bool, true, false, List, 
 use Rattle.stream_tokens.specs.declared.symbol.Symbol.TheVariants as symbol
 use Rattle.lambda_expr.specs.Words.{Word, numeral, sign, bad}
 use Rattle.lambda_expr.specs.Numerals.{is_numeral}
-use Rattle.lambda_expr.specs.Numbers.{Number, plain, negative}
+use Rattle.lambda_expr.specs.NumberValues.{Number, plain, negative}
 
 abbrev pub number_of : Bool → List ℕ → Number
 number_of true w = negative w

@@ -1,24 +1,15 @@
--- Design: numbers as a job writes them, and the value of each.
-use Rattle.std.specs.Prelude.{◌≡◌, ℕ, ℤ, pos, neg_ℤ, FitsSigned, true, List, [], ◌∷◌}
+-- Design: which tokens are a number, and what others are refused for.
+use Rattle.std.specs.Prelude.{◌≡◌, ℕ, ℤ, FitsSigned, true, List, [], ◌∷◌}
 use Rattle.std.specs.Int.{w64}
 use Rattle.stream_tokens.specs.declared.symbol.Symbol.TheVariants as symbol
 use Rattle.stream_tokens.specs.declared.token.Token.{Token}
 use Rattle.lambda_expr.specs.declared.fault.ReadFault.{ReadFault}
 use Rattle.lambda_expr.specs.declared.fault.ReadFault.TheVariants as fault
 use Rattle.lambda_expr.specs.Words.{Word, numeral, sign, words_of}
-use Rattle.lambda_expr.specs.Numerals.{numeral_value, is_numeral}
+use Rattle.lambda_expr.specs.Numerals.{is_numeral}
+use Rattle.lambda_expr.specs.NumberValues.{Number, plain, negative, number_value}
 use Rattle.lambda_expr.specs.Stops.{StopsAt}
 use Rattle.lambda_expr.specs.Refusals.{column}
-
--- a number as it is written: a numeral, or a minus and a numeral
-pub data Number : Type 0 where
-  plain : List ℕ → Number
-  negative : List ℕ → Number
-
--- its value, without bound (JLS 17, 3.10.1 and 15.15.4)
-abbrev pub number_value : Number → ℤ
-number_value (plain w) = pos (numeral_value w)
-number_value (negative w) = neg_ℤ (pos (numeral_value w))
 
 -- the words are this number
 abbrev pub IsNumber : List Word → Number → Type 0

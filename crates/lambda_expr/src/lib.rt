@@ -53,7 +53,7 @@ pub use inner::{Inner, InnerExpr, ListedValues};
 pub use lambda::{Body, Lambda, PairForm, Want};
 pub use laws::{each_text_has_an_answer, one_answer, one_number, one_reading, one_stop};
 pub use names::references_decide;
-pub use number::{numeral_value, read_number};
+pub use number::{Numeral, may_stand, read_number};
 pub use operands::Operands;
 pub use operator::{BinaryOperator, Comparison, Connective, UnaryOperator};
 pub use read::{read_lambda, read_lambda_of};

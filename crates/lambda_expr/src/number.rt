@@ -1,6 +1,7 @@
 // Numbers as they are written, and the value of each.
 
-ghost use Rattle.lambda_expr.specs.Numbers.{ANumber, IsNumber, IsNumberRefused, SpellsNumber, number_value};
+ghost use Rattle.lambda_expr.specs.Numbers.{ANumber, IsNumber, IsNumberRefused, SpellsNumber};
+ghost use Rattle.lambda_expr.specs.NumberValues.{in_64_bits, number_value};
 ghost use Rattle.lambda_expr.specs.NumberReading.{HasNumeral, HasSign, IsNoNumeral, number_of};
 ghost use Rattle.lambda_expr.specs.Stops.{StopsAt};
 ghost use Rattle.lambda_expr.specs.Numerals.{is_numeral, numeral_value};
@@ -15,8 +16,9 @@ ghost use Rattle.stream_tokens.specs.Tokens.{StandInOrder};
 use super::fault::ReadFault;
 use stream_tokens::{Symbol, Token, TokenKind};
 
-/// Whether a number of these bytes may stand in a grammar: two or more digits don't begin with 0.
-pub(crate) fn may_stand(number: &[u8]) -> bool
+/// Whether a number of these bytes may stand in a grammar: two or more digits don't begin with 0, since such numbers are
+/// octal in JLS 17, 3.10.1. It takes no memory.
+pub fn may_stand(number: &[u8]) -> bool
     ensures { result ≡ is_numeral number.now }
 {
     match number {
@@ -28,17 +30,18 @@ pub(crate) fn may_stand(number: &[u8]) -> bool
 
 /// A number as it is written.
 #[derive(Clone, Copy)]
-struct Numeral<'a> {
-    is_negative: bool,
-    digits: &'a [u8],
+pub struct Numeral<'a> {
+    /// Whether a minus stands before the digits.
+    pub is_negative: bool,
+    pub digits: &'a [u8],
 }
 
 impl Numeral<'_> {
-    // The value, where it is in 64 bits.
-    fn value(self) -> Option<i64>
-        ensures { let number = number_of self.entry.is_negative self.entry.digits.now in
-            let value = number_value number in
+    /// The value, if it has 64 bits (JLS 17, 3.10.1). It takes no memory.
+    pub fn value(self) -> Option<i64>
+        ensures fits { let value = number_value (number_of self.entry.is_negative self.entry.digits.now) in
             SomeIff result (FitsSigned w64 value) value }
+        ensures value { result ≡ in_64_bits (number_value (number_of self.entry.is_negative self.entry.digits.now)) }
     {
         let size = numeral_value(self.digits);
         if self.is_negative {
@@ -51,7 +54,7 @@ impl Numeral<'_> {
 
 /// The value of a number's digits, or the greatest `u64` if it is above that. The mark `L` or `l` after
 /// them is skipped. It takes no memory.
-pub fn numeral_value(number: &[u8]) -> u64
+pub(crate) fn numeral_value(number: &[u8]) -> u64
     ensures { result ≡ min (numeral_value number.now) u64.MAX }
 {
     let mut value: u64 = 0;
