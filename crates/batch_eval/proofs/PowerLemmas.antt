@@ -1,12 +1,15 @@
 -- Quotients by powers of two, from magnitudes and signs.
-use Rattle.std.proofs.Common.{◌≡◌, ℕ, zero, suc, ◌+◌, ◌-◌, ◌/◌, ◌%◌, ◌<◌, ◌≤◌, ◌^◌, true, false, ap, sym, refl, arith, ℤ, pos, negsuc, neg_ℤ, ◌-ℤ◌, ◌*ℤ◌, FitsSigned, to_z, of_z, w64, ◌∙◌, Ok}
+use Rattle.std.proofs.Common.{◌≡◌, ℕ, zero, suc, ◌+◌, ◌-◌, ◌*◌, ◌/◌, ◌%◌, ◌<◌, ◌≤◌, ◌^◌, true, false, ap, sym, refl, arith, ℤ, pos, negsuc, neg_ℤ, ◌-ℤ◌, ◌*ℤ◌, FitsSigned, to_z, of_z, w64, ◌∙◌, Ok}
 use Rattle.std.specs.Prelude.{unsigned_abs, int_div, int_lt, int_rem}
-use Rattle.std.specs.Int.{int_wrapping_neg}
+use Rattle.std.specs.Int.{int_wrapping_neg, trailing_zeros}
 use Rattle.std.proofs.lemmas.Grind.{common_steps}
-use Rattle.std.proofs.lemmas.Int.{int_wrap-sub_right, int_wrap_fits, to_z-of_z, wrapping_neg_is, wrapping_sub-bits}
-use Rattle.std.proofs.lemmas.Nat.{mod_below, pow_pos}
+use Rattle.std.proofs.lemmas.Int.{int_wrap-sub_right, int_wrap_fits, of_z-to_z, to_z-of_z, to_z_pos, wrapping_neg_is, wrapping_sub-bits}
+use Rattle.std.proofs.lemmas.Nat.{mod_below, one_shl, pow_below, pow_pos}
+use Rattle.std.proofs.lemmas.Nat.Bits.{bit_at-pow_other, bit_at-trailing_zeros}
 use Rattle.std.proofs.Math.Pow.{pow_mono}
 use Rattle.std.proofs.Math.Nat.{div-le_self}
+use mathlib.Core.Logic.{dite}
+use native.Mathlib.Decide.{ℕ_discrete}
 use Rattle.lambda_expr.proofs.Quotients.{divisor_stays, wrap_small}
 use Rattle.lambda_expr.specs.Operators.{divided, floor_quotient, floor_remainder, low_six_bits, quotient, remainder, rounded_down}
 use Rattle.lambda_expr.specs.Wrap.{wrap}
@@ -85,3 +88,30 @@ pub signed_below : (x p r : ℤ) (m : ℕ) → m < 2 ^ 64 → FitsSigned w64 p �
 signed_below x p r m small fits is neg sign =
     let there : wrap (neg_ℤ p) ≡ wrap (neg_ℤ (pos m)) = ap (λ v. wrap (neg_ℤ v)) (positive_wraps p m small is) ∙ neg_wraps (pos m) in
     neg ∙ wrapping_neg_is w64 p fits ∙ there ∙ ap wrap (sym (sign_below x m sign))
+
+-- a power of two has as many zeros at its end as its exponent says
+zeros_of_power : (k : ℕ) → k < 64 → trailing_zeros w64 (2 ^ k) ≡ k
+zeros_of_power k below =
+    let lowest = bit_at-trailing_zeros w64 (2 ^ k) (pow_pos k) (pow_below k 64 below) in
+    dite (ℕ_discrete (trailing_zeros w64 (2 ^ k)) k)
+    (λ same. same)
+    (λ other. omega (arith, lowest.1, bit_at-pow_other k (trailing_zeros w64 (2 ^ k)) other))
+
+-- the bits of a power of two, as the machine holds them
+pub bits_of_power : (y : ℤ) (k : ℕ) → FitsSigned w64 y → k < 63 → y ≡ pos (2 ^ k) → of_z w64 (to_z w64 (of_z w64 y)) ≡ 2 ^ k
+bits_of_power y k f below is =
+    ap (of_z w64) (to_z-of_z w64 y f ∙ is ∙ sym (to_z_pos w64 (2 ^ k) (pow_below k 63 below))) ∙ of_z-to_z w64 (2 ^ k) (pow_below k 64 (omega arith))
+
+pub exponent_by_zeros : (y : ℤ) (k e : ℕ) → FitsSigned w64 y → k < 63 → y ≡ pos (2 ^ k) → e ≡ trailing_zeros w64 (of_z w64 (to_z w64 (of_z w64 y))) → e ≡ k
+exponent_by_zeros y k e f below is zeros = zeros ∙ ap (trailing_zeros w64) (bits_of_power y k f below is) ∙ zeros_of_power k (omega arith)
+
+pub power_by_zeros : (y : ℤ) (k e m : ℕ) → FitsSigned w64 y → k < 63 → y ≡ pos (2 ^ k) → e ≡ trailing_zeros w64 (of_z w64 (to_z w64 (of_z w64 y))) → m ≡ of_z w64 (to_z w64 (of_z w64 y)) → 1 * 2 ^ e % 2 ^ 64 ≡ m
+power_by_zeros y k e m f below is zeros bits =
+    ap (λ n. 1 * 2 ^ n % 2 ^ 64) (exponent_by_zeros y k e f below is zeros) ∙ one_shl k 64 (omega arith) ∙ sym (bits ∙ bits_of_power y k f below is)
+
+-- a power of two is above 0
+pub powers_are_positive : (y : ℤ) (k : ℕ) → FitsSigned w64 y → y ≡ pos (2 ^ k) → int_lt (pos 0) (to_z w64 (of_z w64 y)) ≡ false → ⊥
+powers_are_positive y k f is below =
+    let p = pow_pos k in
+    let known : int_lt (pos 0) (pos (2 ^ k)) ≡ false = ap (int_lt (pos 0)) (sym (to_z-of_z w64 y f ∙ is)) ∙ below in
+    grind (arith, common_steps)

@@ -4,17 +4,20 @@ ghost use Rattle.batch_eval.specs.Powers.{by_power_value, power, with_sign_of};
 ghost use Rattle.lambda_expr.specs.Operators.{low_six_bits, rounded_down};
 ghost use Rattle.lambda_expr.specs.Wrap.{wrap};
 ghost use Rattle.lambda_expr.specs.declared.operator.BinaryOperator.TheVariants as binary_operator;
-ghost use Rattle.std.specs.Prelude.{◌≡◌, ◌<◌, ◌-◌, ◌*ℤ◌, pos, IfSome};
+ghost use Rattle.std.specs.Prelude.{ℕ, ◌≡◌, ◌≢◌, ◌<◌, ◌-◌, ◌^◌, ◌*ℤ◌, pos, MatchOption};
 
 use crate::kernel::Kernel;
 use lambda_expr::FaultKind;
 
-/// The exponent of a power of two from 1 to 2^62.
+/// How many powers of two an `i64` can be: 2^0 to 2^62.
+const POWERS: u32 = 63;
+
+/// The exponent of a number that is a power of two, from 1 to 2^62.
 pub(crate) fn exponent_of(y: i64) -> Option<i64>
-    ensures { IfSome result (λ k. y ≡ pos (power k)) }
+    ensures { MatchOption result ((k : ℕ) → k < 63 → y ≢ pos (2 ^ k)) (λ k. y ≡ pos (power k)) }
 {
     let exponent = y.trailing_zeros();
-    if y > 0 && exponent < 63 && 1u64 << exponent == y.cast_unsigned() {
+    if y > 0 && exponent < POWERS && 1u64 << exponent == y.cast_unsigned() {
         Some(i64::from(exponent))
     } else {
         None
