@@ -1,7 +1,9 @@
 pub mod CellLemmas
 pub mod CsvLemmas
+pub mod DigitLemmas
 pub mod FileLemmas
 pub mod FirstRecord
+pub mod LaneLemmas
 pub mod PieceLemmas
 pub mod PlainLemmas
 pub mod PlainRowLemmas

@@ -17,12 +17,12 @@ some_list : (ds : List ℕ) → 0 < length ds → ds ≢ []
 some_list [] h = absurd (omega arith)
 some_list (d ∷ ds) h = λ e. cc e
 
-small_fits : (n : ℕ) → n < 10 ^ 18 → FitsSigned w64 (pos n) × FitsSigned w64 (neg_ℤ (pos n))
+small_fits : (n : ℕ) → n < 2 ^ 63 → FitsSigned w64 (pos n) × FitsSigned w64 (neg_ℤ (pos n))
 small_fits zero h = (fits_signed_from_abs w64 (pos 0) (omega arith), fits_signed_from_abs w64 (pos 0) (omega arith))
 small_fits (suc n) h = (fits_signed_from_abs w64 (pos (suc n)) (omega arith), fits_signed_from_abs w64 (negsuc n) (omega arith))
 
 -- a few digits are a number
-pub digits_number : (ds : List ℕ) → 0 < length ds → list_all is_ascii_digit ds ≡ true → digits_value ds < 10 ^ 18 → number_of ds ≡ Some (pos (digits_value ds))
+pub digits_number : (ds : List ℕ) → 0 < length ds → list_all is_ascii_digit ds ≡ true → digits_value ds < 2 ^ 63 → number_of ds ≡ Some (pos (digits_value ds))
 digits_number ds some all small = number_of-SpellsCell ds (pos (digits_value ds)) (record {
   before = [];
   sign = [];
@@ -38,7 +38,7 @@ digits_number ds some all small = number_of-SpellsCell ds (pos (digits_value ds)
 })
 
 -- and so are a minus sign and a few digits
-pub minus_number : (ds : List ℕ) → 0 < length ds → list_all is_ascii_digit ds ≡ true → digits_value ds < 10 ^ 18
+pub minus_number : (ds : List ℕ) → 0 < length ds → list_all is_ascii_digit ds ≡ true → digits_value ds < 2 ^ 63
     → number_of (45 ∷ ds) ≡ Some (neg_ℤ (pos (digits_value ds)))
 minus_number ds some all small = number_of-SpellsCell (45 ∷ ds) (neg_ℤ (pos (digits_value ds))) (record {
   before = [];
@@ -82,18 +82,18 @@ part text at end h = drop_split text at end h
 
 -- a cell of digits from a place on
 pub digits_there : (text : List ℕ) (at end v : ℕ) → at < end → end ≤ length text → list_all is_ascii_digit (take (end - at) (drop at text)) ≡ true
-    → v ≡ digits_value (take (end - at) (drop at text)) → v < 10 ^ 18 → number_of (take (end - at) (drop at text)) ≡ Some (to_z w64 v)
+    → v ≡ digits_value (take (end - at) (drop at text)) → v < 2 ^ 63 → number_of (take (end - at) (drop at text)) ≡ Some (to_z w64 v)
 digits_there text at end v some within all is small =
     let some_digit : 0 < length (take (end - at) (drop at text)) = omega (arith, length-take (end - at) (drop at text), length-drop at text) in
     digits_number _ some_digit all (rw is at small) ∙ ap Some (rw is (sym (to_z_pos w64 _ (omega (arith, rw is at small)))))
 
-negated : (n : ℕ) → n < 10 ^ 18 → to_z w64 (of_z w64 (pos 0 -ℤ pos n)) ≡ neg_ℤ (pos n)
+negated : (n : ℕ) → n < 2 ^ 63 → to_z w64 (of_z w64 (pos 0 -ℤ pos n)) ≡ neg_ℤ (pos n)
 negated n h =
     let e : pos 0 -ℤ pos n ≡ neg_ℤ (pos n) = +ℤ_idl (neg_ℤ (pos n)) in
     ap (λ z. to_z w64 (of_z w64 z)) e ∙ to_z-of_z w64 (neg_ℤ (pos n)) (small_fits n h).1
 
 pub minus_there : (text : List ℕ) (at end v : ℕ) → at + 1 < end → end ≤ length text → get_or text at 0 ≡ 45 → list_all is_ascii_digit (take (end - (at + 1)) (drop (at + 1) text)) ≡ true
-    → v ≡ digits_value (take (end - (at + 1)) (drop (at + 1) text)) → v < 10 ^ 18
+    → v ≡ digits_value (take (end - (at + 1)) (drop (at + 1) text)) → v < 2 ^ 63
     → number_of (take (end - at) (drop at text)) ≡ Some (to_z w64 (of_z w64 (pos 0 -ℤ to_z w64 v)))
 minus_there text at end v some within minus all is small =
     let ds = take (end - (at + 1)) (drop (at + 1) text) in

@@ -14,6 +14,7 @@
 #![tactic(auto)]
 
 mod cell;
+mod digits;
 mod fault;
 mod header;
 mod pieces;

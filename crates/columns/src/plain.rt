@@ -2,7 +2,7 @@
 //!
 //! A row is read so if each cell is a number, bare or whole in quotes, and there is one for each column. What is read is
 //! what `csv` reads there; of every other row nothing is said, and `csv` reads it.
-ghost use Rattle.std.specs.Prelude.{◌≡◌, ◌∷◌, ◌++◌, [], ◌<◌, ◌≤◌, ◌-◌, ◌^◌, ◌||◌, ◌==◌, ℤ, true, Some, IfSome, length, map, take, drop, get_or};
+ghost use Rattle.std.specs.Prelude.{◌≡◌, ◌∷◌, ◌++◌, [], ◌<◌, ◌≤◌, ◌-◌, ◌||◌, ◌==◌, ℤ, true, Some, IfSome, length, map, take, drop, get_or};
 ghost use Rattle.std.specs.List.{list_all};
 ghost use Rattle.std.specs.Char.{is_ascii_digit};
 ghost use Rattle.columns.specs.Cell.{digits_value};
@@ -11,6 +11,7 @@ ghost use Rattle.columns.specs.PlainRows.{AreRead, IsAfterField, IsCellThere, Is
 ghost use Rattle.columns.specs.TableOfColumns.{named};
 
 use crate::cell::read_cell;
+use crate::digits::{BLOCK, front_digits};
 use crate::table::Column;
 
 /// A number that was read, and where to read on: at the next field, or after the last one at the next record.
@@ -127,8 +128,11 @@ fn ends_field(byte: u8) -> bool
     byte == b',' || byte == b'\r' || byte == b'\n'
 }
 
-/// A value to which one digit more can be put in 63 bits.
-const ENOUGH: u64 = 100_000_000_000_000_000;
+/// A number of 19 digits: with one more digit it is larger than every `i64`.
+const ENOUGH: u64 = 1_000_000_000_000_000_000;
+
+/// The largest `i64`.
+const LARGEST: u64 = 9_223_372_036_854_775_807;
 
 /// The number of a minus sign or none and some digits from `at` on, and where they end; not of all digits if there are many.
 #[inline(always)]
@@ -141,7 +145,7 @@ fn short_number(text: &[u8], at: usize) -> Option<(i64, usize)>
         return negative_number(text, at);
     }
     let (size, end) = digits_at(text, at);
-    if at == end {
+    if at == end || size > LARGEST {
         return None;
     }
     Some((size as i64, end))
@@ -156,23 +160,44 @@ fn negative_number(text: &[u8], at: usize) -> Option<(i64, usize)>
     ensures ends { IfSome result (λ r. (at ≤ r.1) × (r.1 ≤ length text.now)) }
 {
     let (size, end) = digits_at(text, at + 1);
-    if at + 1 == end {
+    if at + 1 == end || size > LARGEST {
         return None;
     }
     Some((-(size as i64), end))
 }
 
 /// What the digits from `at` on are worth, and where they end; of many digits only the first ones.
+///
+/// Sixteen bytes are looked at together if they are left, but not for one digit alone.
 #[inline(always)]
 fn digits_at(text: &[u8], at: usize) -> (u64, usize)
     requires { at ≤ length text.now }
     ensures ends { (at ≤ result.1) × (result.1 ≤ length text.now) }
     ensures digits { list_all is_ascii_digit (take (result.1 - at) (drop at text.now)) ≡ true }
     ensures value { result.0 ≡ digits_value (take (result.1 - at) (drop at text.now)) }
-    ensures fits { result.0 < 10 ^ 18 }
 {
-    let mut value = 0u64;
-    for end in at..text.len() {
+    if text.len() - at < BLOCK || !text[at + 1].is_ascii_digit() {
+        return more_digits(text, at, at, 0);
+    }
+    let (value, count) = front_digits(text, at);
+    if count < BLOCK {
+        return (value, at + count);
+    }
+    more_digits(text, at, at + count, value)
+}
+
+/// The same, where the digits from `at` to `from` are worth `so_far`.
+#[inline(always)]
+fn more_digits(text: &[u8], at: usize, from: usize, so_far: u64) -> (u64, usize)
+    requires within { (at ≤ from) × (from ≤ length text.now) }
+    requires digits { list_all is_ascii_digit (take (from - at) (drop at text.now)) ≡ true }
+    requires so_far { so_far ≡ digits_value (take (from - at) (drop at text.now)) }
+    ensures ends { (from ≤ result.1) × (result.1 ≤ length text.now) }
+    ensures digits { list_all is_ascii_digit (take (result.1 - at) (drop at text.now)) ≡ true }
+    ensures value { result.0 ≡ digits_value (take (result.1 - at) (drop at text.now)) }
+{
+    let mut value = so_far;
+    for end in from..text.len() {
         let digit = text[end];
         if value >= ENOUGH || !digit.is_ascii_digit() {
             return (value, end);

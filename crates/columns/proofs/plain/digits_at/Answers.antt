@@ -1,13 +1,12 @@
-use Rattle.std.proofs.Common.{◌≡◌, get_or, true, rules}
-use Rattle.std.specs.Char.{is_ascii_digit}
-use Rattle.columns.proofs.PlainLemmas.{digits_more, value_more}
+use Rattle.std.proofs.Common.{◌≡◌, ◌+◌, ◌-◌, arith}
 use Rattle.columns.proofs.plain.digits_at.Goals as goal
 
-pub loop-end-preserved : goal.loop-end-preserved
-loop-end-preserved c =
-    let text = c.args.text.now in
-    let end = c.loop-end.end in
-    let so_far = c.loop-end.invariant in
-    let digit : is_ascii_digit (get_or text end 0) ≡ true = search rules in
-    let value = value_more text c.args.at end c.loop-end.auto.end c.loop-end-test.true in
-    (digits_more text c.args.at end c.loop-end.auto.end c.loop-end-test.true so_far.0 digit, search (rules, value), search rules)
+pub returns-then-count-lt-BLOCK-clause-digits : goal.returns-then-count-lt-BLOCK-clause-digits
+returns-then-count-lt-BLOCK-clause-digits c =
+    let back : c.args.at + c.front_digits-value.result.1 - c.args.at ≡ c.front_digits-value.result.1 = omega arith in
+    rw back c.front_digits-value.ensures.digits
+
+pub more_digits-requires-2-clause-digits : goal.more_digits-requires-2-clause-digits
+more_digits-requires-2-clause-digits c =
+    let back : c.args.at + c.front_digits-value.result.1 - c.args.at ≡ c.front_digits-value.result.1 = omega arith in
+    rw back c.front_digits-value.ensures.digits
