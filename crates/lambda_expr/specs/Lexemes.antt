@@ -50,26 +50,41 @@ symbol_lexeme s = lexeme.Other
 abbrev pub is_named : List ℕ → List ℕ → Bool
 is_named w name = pointwise nat_eq w name
 
+-- helper: what makes a stream, after `LongStream .`
+abbrev pub stream_member : List ℕ → Member
+stream_member w =
+    if is_named w (codes "empty") then member.Empty
+    else (if is_named w (codes "of") then member.Of
+    else (if is_named w (codes "range") then member.Range
+    else (if is_named w (codes "rangeClosed") then member.RangeClosed
+    else member.Other)))
+
+-- helper: an operation that may overflow
+abbrev pub exact_member : List ℕ → Member
+exact_member w =
+    if is_named w (codes "addExact") then member.AddExact
+    else (if is_named w (codes "multiplyExact") then member.MultiplyExact
+    else (if is_named w (codes "negateExact") then member.NegateExact
+    else (if is_named w (codes "subtractExact") then member.SubtractExact
+    else stream_member w)))
+
+-- helper: a method or a constant of both `Math` and `Long`, or of `Long` alone
+abbrev pub long_member : List ℕ → Member
+long_member w =
+    if is_named w (codes "max") then member.Max
+    else (if is_named w (codes "MAX_VALUE") then member.MaxValue
+    else (if is_named w (codes "min") then member.Min
+    else (if is_named w (codes "MIN_VALUE") then member.MinValue
+    else (if is_named w (codes "sum") then member.Sum
+    else exact_member w))))
+
 -- what a name is after `Math .`, `Long .` or `LongStream .`
 abbrev pub member_of : List ℕ → Member
 member_of w =
     if is_named w (codes "abs") then member.Abs
-    else (if is_named w (codes "addExact") then member.AddExact
-    else (if is_named w (codes "empty") then member.Empty
     else (if is_named w (codes "floorDiv") then member.FloorDiv
     else (if is_named w (codes "floorMod") then member.FloorMod
-    else (if is_named w (codes "max") then member.Max
-    else (if is_named w (codes "MAX_VALUE") then member.MaxValue
-    else (if is_named w (codes "min") then member.Min
-    else (if is_named w (codes "MIN_VALUE") then member.MinValue
-    else (if is_named w (codes "multiplyExact") then member.MultiplyExact
-    else (if is_named w (codes "negateExact") then member.NegateExact
-    else (if is_named w (codes "of") then member.Of
-    else (if is_named w (codes "range") then member.Range
-    else (if is_named w (codes "rangeClosed") then member.RangeClosed
-    else (if is_named w (codes "subtractExact") then member.SubtractExact
-    else (if is_named w (codes "sum") then member.Sum
-    else member.Other)))))))))))))))
+    else long_member w))
 
 -- which of the names of a text this one is, if these are the first two: 0, 1, or 2 for any other
 abbrev pub order_of : List ℕ → List ℕ → List ℕ → ℕ

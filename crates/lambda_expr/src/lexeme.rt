@@ -1,6 +1,6 @@
 //! What the tokens of a text are to the grammar of lambdas.
 
-ghost use Rattle.lambda_expr.specs.Lexemes.{first_name, is_reserved, is_taken, lexeme_of, lexemes_of, member_of, name_of, names_in, number_lexeme, order_of, symbol_lexeme};
+ghost use Rattle.lambda_expr.specs.Lexemes.{exact_member, first_name, is_reserved, is_taken, lexeme_of, lexemes_of, long_member, member_of, name_of, names_in, number_lexeme, order_of, stream_member, symbol_lexeme};
 ghost use Rattle.lambda_expr.specs.Words.{named, word_for, words_of};
 ghost use Rattle.std.specs.Prelude.{◌≡◌, ◌<◌, ◌≤◌, ◌^◌, ℕ, IfNone, IfOk, IfSome, List, drop, false, length, true};
 
@@ -77,21 +77,45 @@ pub(crate) enum Lexeme {
     Other,
 }
 
-// What a name is after `Math .`, `Long .` or `LongStream .`.
-fn member_of(name: &[u8]) -> Member
-    ensures { result ≡ member_of name.now }
+// What makes a stream, after `LongStream .`.
+fn stream_member(name: &[u8]) -> Member
+    ensures { result ≡ stream_member name.now }
 {
-    if name == b"abs".as_slice() {
-        Member::Abs
-    } else if name == b"addExact".as_slice() {
-        Member::AddExact
-    } else if name == b"empty".as_slice() {
+    if name == b"empty".as_slice() {
         Member::Empty
-    } else if name == b"floorDiv".as_slice() {
-        Member::FloorDiv
-    } else if name == b"floorMod".as_slice() {
-        Member::FloorMod
-    } else if name == b"max".as_slice() {
+    } else if name == b"of".as_slice() {
+        Member::Of
+    } else if name == b"range".as_slice() {
+        Member::Range
+    } else if name == b"rangeClosed".as_slice() {
+        Member::RangeClosed
+    } else {
+        Member::Other
+    }
+}
+
+// An operation that may overflow, or what makes a stream.
+fn exact_member(name: &[u8]) -> Member
+    ensures { result ≡ exact_member name.now }
+{
+    if name == b"addExact".as_slice() {
+        Member::AddExact
+    } else if name == b"multiplyExact".as_slice() {
+        Member::MultiplyExact
+    } else if name == b"negateExact".as_slice() {
+        Member::NegateExact
+    } else if name == b"subtractExact".as_slice() {
+        Member::SubtractExact
+    } else {
+        stream_member(name)
+    }
+}
+
+// A method or a constant of both `Math` and `Long`, or of `Long` alone, or one of the others.
+fn long_member(name: &[u8]) -> Member
+    ensures { result ≡ long_member name.now }
+{
+    if name == b"max".as_slice() {
         Member::Max
     } else if name == b"MAX_VALUE".as_slice() {
         Member::MaxValue
@@ -99,22 +123,25 @@ fn member_of(name: &[u8]) -> Member
         Member::Min
     } else if name == b"MIN_VALUE".as_slice() {
         Member::MinValue
-    } else if name == b"multiplyExact".as_slice() {
-        Member::MultiplyExact
-    } else if name == b"negateExact".as_slice() {
-        Member::NegateExact
-    } else if name == b"of".as_slice() {
-        Member::Of
-    } else if name == b"range".as_slice() {
-        Member::Range
-    } else if name == b"rangeClosed".as_slice() {
-        Member::RangeClosed
-    } else if name == b"subtractExact".as_slice() {
-        Member::SubtractExact
     } else if name == b"sum".as_slice() {
         Member::Sum
     } else {
-        Member::Other
+        exact_member(name)
+    }
+}
+
+// What a name is after `Math .`, `Long .` or `LongStream .`. In steps, since one long chain takes minutes to prove.
+fn member_of(name: &[u8]) -> Member
+    ensures { result ≡ member_of name.now }
+{
+    if name == b"abs".as_slice() {
+        Member::Abs
+    } else if name == b"floorDiv".as_slice() {
+        Member::FloorDiv
+    } else if name == b"floorMod".as_slice() {
+        Member::FloorMod
+    } else {
+        long_member(name)
     }
 }
 
