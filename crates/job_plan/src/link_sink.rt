@@ -22,7 +22,7 @@ use batch_eval::{
     Batch, BatchSink, BatchSource, PlacedValues, Registers, SourcePart, accept_each, feed_at_once,
 };
 use lambda_expr::{BoolExpr, Env};
-use slice_ops::{Cut, SliceRest};
+use slice_ops::{SliceCut, SliceRest};
 use std::marker::{Brand, PhantomData};
 use trace::{End, Fed, Flow, Item, LongSink, NoMemory, SourceItems, feed_all};
 
@@ -97,7 +97,7 @@ pub(crate) struct LinkSink<'p, 'e, K: LinkStart, S: Drop> {
 }
 
 /// How a slice goes on after items that it cut so, and of those that pass this became.
-fn after(fed: Fed, cut: &Cut<'_>) -> Passage
+fn after(fed: Fed, cut: &SliceCut<'_>) -> Passage
     ensures { IsAfter fed cut.now.end (rest_of cut.now.rest) result }
 {
     match fed {

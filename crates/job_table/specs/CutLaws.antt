@@ -2,7 +2,7 @@
 use Rattle.std.proofs.Common.{◌≡◌, ℕ, subst, sym, refl, Bool, Option, Some, None}
 use Rattle.std.specs.Prelude.{Result, Ok}
 use Rattle.completer_tree.specs.Places.{Goes}
-use Rattle.job_table.specs.declared.cut.Cut.{Cut}
+use Rattle.job_table.specs.declared.cut.CutPiece.{CutPiece}
 use Rattle.job_table.specs.Cuts.{begins, ends_at, IsSideOf, Stands}
 
 module _ {A X F : Type 0} (stands : ℕ → ℕ → ℕ → ℕ → A → Type 0) where
@@ -21,9 +21,9 @@ module _ {A X F : Type 0} (stands : ℕ → ℕ → ℕ → ℕ → A → Type 0
   stands_whole part v j k ea eb h = stands_as part v refl refl ea eb h
 
 -- the part of a cut's both sides goes where the cut is a side
-pub goes_there : {A X : Type 0} (F : Type 0) (stands : ℕ → ℕ → ℕ → ℕ → A → Type 0) (part : X → A) (cut : Cut) (parent : Option (Cut × Bool)) (x : X) → stands cut.job cut.segment cut.from cut.to (part x)
-    → ((p : Cut × Bool) → parent ≡ Some p → IsSideOf cut p)
-    → Goes {T = Cut} {V = X} {F = F} (λ c side v. Stands stands c.job c.segment (begins c side) (ends_at c side) part v) cut parent (Ok x)
+pub goes_there : {A X : Type 0} (F : Type 0) (stands : ℕ → ℕ → ℕ → ℕ → A → Type 0) (part : X → A) (cut : CutPiece) (parent : Option (CutPiece × Bool)) (x : X) → stands cut.job cut.segment cut.from cut.to (part x)
+    → ((p : CutPiece × Bool) → parent ≡ Some p → IsSideOf cut p)
+    → Goes {T = CutPiece} {V = X} {F = F} (λ c side v. Stands stands c.job c.segment (begins c side) (ends_at c side) part v) cut parent (Ok x)
 goes_there F stands part cut None x h side = h
 goes_there F stands part cut (Some p) x h side =
     let s = side p refl in stands_as {F = F} stands part (Ok x) (sym s.0) (sym s.1) (sym s.2) (sym s.3) h

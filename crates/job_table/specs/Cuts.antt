@@ -3,21 +3,21 @@ use Rattle.std.specs.Prelude.{◌≡◌, ℕ, ◌<◌, ◌≤◌, Bool, Result, 
 use Rattle.pending_count.specs.declared.place.Side.{Side}
 use Rattle.pending_count.specs.declared.place.Side.TheVariants.{Left, Right, Whole}
 use Rattle.pending_count.specs.Pairs.{side_of}
-use Rattle.job_table.specs.declared.cut.Cut.{Cut}
+use Rattle.job_table.specs.declared.cut.CutPiece.{CutPiece}
 
 -- where the positions of a side begin and end
-abbrev pub begins : Cut → Side → ℕ
+abbrev pub begins : CutPiece → Side → ℕ
 begins c Left = c.from
 begins c Right = c.middle
 begins c Whole = c.from
 
-abbrev pub ends_at : Cut → Side → ℕ
+abbrev pub ends_at : CutPiece → Side → ℕ
 ends_at c Left = c.middle
 ends_at c Right = c.to
 ends_at c Whole = c.to
 
 -- the cut is of the positions of this side of the parent
-abbrev pub IsSideOf : Cut → Cut × Bool → Type 0
+abbrev pub IsSideOf : CutPiece → CutPiece × Bool → Type 0
 IsSideOf cut p = (p.0.job ≡ cut.job) × (p.0.segment ≡ cut.segment) × (begins p.0 (side_of p.1) ≡ cut.from) × (ends_at p.0 (side_of p.1) ≡ cut.to)
 
 -- a segment of a job of the run, and positions of its source, from one up to, not with, another

@@ -3,13 +3,13 @@ ghost use Rattle.std.specs.Prelude.{◌≡◌, ◌<◌, ◌≤◌, ℕ, IfOk};
 
 use crate::NoMemory;
 use crate::earlier::Earlier;
-use crate::segments::{Begun, Segments};
+use crate::segments::{Begun, JobSegments};
 use early_stop::Never;
 use std::alloc::Global;
 use worker_pool::Gate;
 
 /// Walks a whole segment as one piece.
-fn walk_whole<S: Segments>(
+fn walk_whole<S: JobSegments>(
     alloc: Global,
     jobs: &S,
     job: usize,
@@ -32,7 +32,7 @@ fn walk_whole<S: Segments>(
 }
 
 /// Walks all segments of a job, each as one piece. It enters the gate once, for all of the job's source.
-fn walk_alone<S: Segments, G: Gate>(
+fn walk_alone<S: JobSegments, G: Gate>(
     alloc: Global,
     gate: &G,
     jobs: &S,
@@ -75,7 +75,7 @@ fn walk_alone<S: Segments, G: Gate>(
 }
 
 /// Works a job out after the jobs before it, and calls the gate.
-pub(crate) fn answer_alone<S: Segments, G: Gate>(
+pub(crate) fn answer_alone<S: JobSegments, G: Gate>(
     alloc: Global,
     gate: &G,
     jobs: &S,

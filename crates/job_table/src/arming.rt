@@ -9,7 +9,7 @@ ghost use Rattle.job_table.specs.Waits.{nodes_in};
 
 use crate::NoMemory;
 use crate::cut::{TableCounts, TableSeat};
-use crate::segments::Segments;
+use crate::segments::JobSegments;
 use crate::start::{Start, Waiting};
 use completion_core::END;
 use pending_count::Node;
@@ -71,7 +71,7 @@ fn wait_for_all(all: &mut [Vec<Waiting>], names: &[usize], job: Waiting) -> Resu
 }
 
 /// Claims and arms the start node of the last job that has none. `None` if there is no node.
-fn arm_one<S: Segments>(
+fn arm_one<S: JobSegments>(
     alloc: Global,
     jobs: &S,
     counts: &TableCounts<S>,
@@ -109,7 +109,7 @@ fn arm_one<S: Segments>(
 
 /// Claims and arms the start nodes of all jobs, the last job's first, so that what a node keeps has smaller numbers. `None` if there
 /// are too few nodes.
-pub(crate) fn arm_all<S: Segments>(
+pub(crate) fn arm_all<S: JobSegments>(
     alloc: Global,
     jobs: &S,
     counts: &TableCounts<S>,

@@ -5,14 +5,14 @@ ghost use Rattle.pending_count.specs.declared.place.Side.TheVariants.{Whole};
 ghost use Rattle.job_table.specs.Cuts.{begins, ends_at, IsPiece, IsSideOf, Stands};
 ghost use Rattle.job_table.specs.CutLaws.{stands_moved, stands_whole};
 
-use crate::segments::Segments;
+use crate::segments::JobSegments;
 use completer_tree::{Completer, Continuation, Failure, Handed, Part, TreeCounts, TreeSeat};
 use pending_count::{Place, Side};
 use std::marker::PhantomData;
 
 /// A piece of a segment of a job that is cut in two: the left side is the positions before `middle`.
 #[derive(Clone, Copy)]
-pub struct Cut {
+pub struct CutPiece {
     pub job: usize,
     pub segment: usize,
     pub from: u64,
@@ -20,15 +20,15 @@ pub struct Cut {
     pub to: u64,
 }
 
-impl Cut {
+impl CutPiece {
     /// A cut in the middle. If the two sides can't be equally long, the right one is one longer.
-    pub(crate) fn halves(job: usize, segment: usize, from: u64, to: u64) -> Cut
+    pub(crate) fn halves(job: usize, segment: usize, from: u64, to: u64) -> CutPiece
         requires { from + 1 < to }
         ensures of { (result.job ≡ job) × (result.segment ≡ segment) × (result.from ≡ from) × (result.to ≡ to) }
         ensures within { (from < result.middle) × (result.middle < to) }
         ensures middle { (result.middle - from ≤ to - result.middle) × (to - result.middle ≤ result.middle - from + 1) }
     {
-        Cut {
+        CutPiece {
             job,
             segment,
             from,
@@ -39,7 +39,7 @@ impl Cut {
 }
 
 /// Whether a place is on the left side of a cut.
-pub(crate) fn is_left(place: &Place<Cut>) -> bool
+pub(crate) fn is_left(place: &Place<CutPiece>) -> bool
     requires { place.now.side ≢ Whole }
     ensures { place.now.side ≡ side_of result }
 {
@@ -47,7 +47,7 @@ pub(crate) fn is_left(place: &Place<Cut>) -> bool
 }
 
 /// The positions of one side of a cut.
-pub(crate) fn range_of(place: &Place<Cut>) -> (u64, u64)
+pub(crate) fn range_of(place: &Place<CutPiece>) -> (u64, u64)
     requires { place.now.side ≢ Whole }
     ensures { (result.0 ≡ begins place.now.tag place.now.side) × (result.1 ≡ ends_at place.now.tag place.now.side) }
 {
@@ -60,13 +60,13 @@ pub(crate) fn range_of(place: &Place<Cut>) -> (u64, u64)
 
 /// A part as completion trees see it.
 #[derive(Drop)]
-pub struct SegmentPart<S: Segments> {
+pub struct SegmentPart<S: JobSegments> {
     pub(crate) part: S::Part,
     pub(crate) of: PhantomData<S>,
 }
 
-impl<S: Segments> Part for SegmentPart<S> {
-    type Tag = Cut;
+impl<S: JobSegments> Part for SegmentPart<S> {
+    type Tag = CutPiece;
 
     ghost fits = { λ cut side v. Stands S.stands_for cut.job cut.segment (begins cut side) (ends_at cut side) (λ x. x.part) v };
 
@@ -75,9 +75,9 @@ impl<S: Segments> Part for SegmentPart<S> {
 
 /// Merges the parts of the two sides of a cut.
 #[derive(Drop)]
-pub struct Join<S: Segments> {
-    pub(crate) cut: Cut,
-    pub(crate) parent: Option<(Cut, bool)>,
+pub struct Join<S: JobSegments> {
+    pub(crate) cut: CutPiece,
+    pub(crate) parent: Option<(CutPiece, bool)>,
     pub(crate) of: PhantomData<S>,
     ghost piece: { IsPiece S.job_count S.last_of S.size_of cut.job cut.segment cut.from cut.to },
     ghost within: { (cut.from < cut.middle) × (cut.middle < cut.to) },
@@ -85,7 +85,7 @@ pub struct Join<S: Segments> {
     ghost top: { parent ≡ None → (cut.from ≡ 0) × (cut.to ≡ S.size_of cut.job cut.segment) },
 }
 
-impl<S: Segments> Continuation<SegmentPart<S>> for Join<S> {
+impl<S: JobSegments> Continuation<SegmentPart<S>> for Join<S> {
     ghost tag_of = { λ c. c.cut };
 
     ghost goes_to = { λ c. c.parent };
@@ -94,11 +94,11 @@ impl<S: Segments> Continuation<SegmentPart<S>> for Join<S> {
 
     ghost ends = { λ c e v h. stands_whole S.stands_for (λ x. x.part) v c.cut.job c.cut.segment (c.top e).0 (c.top e).1 h };
 
-    fn tag(&self) -> Cut {
+    fn tag(&self) -> CutPiece {
         self.cut
     }
 
-    fn goes_to(&self) -> Option<(Cut, bool)> {
+    fn goes_to(&self) -> Option<(CutPiece, bool)> {
         self.parent
     }
 

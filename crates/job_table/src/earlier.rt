@@ -3,7 +3,7 @@ ghost use Rattle.std.specs.Prelude.{ℕ, IfSome, [], ◌≡◌};
 ghost use Rattle.job_table.specs.Answers.{AreAnswers, AreAnswers-prop};
 
 use crate::places::{JobPlaces, kept_answer};
-use crate::segments::Segments;
+use crate::segments::JobSegments;
 
 /// Answers of jobs, as far as they are there.
 pub trait EarlierAnswers<A> {
@@ -17,13 +17,13 @@ pub trait EarlierAnswers<A> {
 
 /// The answers of earlier jobs that are there: those that tasks left in places, or those that a reader has.
 #[derive(Drop)]
-pub struct Earlier<'a, S: Segments> {
+pub struct Earlier<'a, S: JobSegments> {
     places: &'a [JobPlaces<S>],
     answers: &'a [S::Answer],
     ghost are: { AreAnswers S.is_answer 0 answers.now } by { AreAnswers-prop S.is_answer S.one_answer 0 answers.now },
 }
 
-impl<'a, S: Segments> Earlier<'a, S> {
+impl<'a, S: JobSegments> Earlier<'a, S> {
     /// Those in these places.
     pub(crate) fn in_places(places: &'a [JobPlaces<S>]) -> Earlier<'a, S> {
         Earlier {
@@ -43,7 +43,7 @@ impl<'a, S: Segments> Earlier<'a, S> {
     }
 }
 
-impl<S: Segments> EarlierAnswers<S::Answer> for Earlier<'_, S> {
+impl<S: JobSegments> EarlierAnswers<S::Answer> for Earlier<'_, S> {
     ghost is_answer = { S.is_answer };
 
     #[tactic(auto, using(crate::proofs::AnswerLemmas::answer_got))]

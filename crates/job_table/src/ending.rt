@@ -1,4 +1,4 @@
-//! Segments that were walked whole: the next one begins, or the job ends, and those that wait for it begin.
+//! JobSegments that were walked whole: the next one begins, or the job ends, and those that wait for it begin.
 ghost use Rattle.std.specs.Prelude.{◌≡◌, ◌<◌, ◌+◌, ◌++◌, ◌∷◌, [], List, ℕ, drop, length, IfSome, IfOk};
 ghost use Rattle.job_table.specs.Cuts.{StandsWhole};
 ghost use Rattle.job_table.specs.Tasks.{HasKept};
@@ -10,7 +10,7 @@ use crate::earlier::Earlier;
 use crate::places::{
     drop_source, hold_source, keep_answer, keep_given, keep_source, kept_given, source_in,
 };
-use crate::segments::{Begun, Segments};
+use crate::segments::{Begun, JobSegments};
 use crate::start::Waiting;
 use crate::task::{JobSeat, Running, TableJobSeat, TableSpare, TableTask, TableWhole, Task, Whole};
 use crate::watch::Watch;
@@ -18,7 +18,7 @@ use crate::work::{JobWork, TableWork, size_of};
 use worker_pool::{Gate, Spawn};
 
 /// The answer of a job, of the part of its whole last segment.
-fn last_answer<S: Segments, R: Running>(
+fn last_answer<S: JobSegments, R: Running>(
     work: &TableWork<S, R>,
     job: usize,
     segment: usize,
@@ -49,7 +49,7 @@ fn last_answer<S: Segments, R: Running>(
         .answer(work.alloc, job, part, source, given, &earlier, scratch)
 }
 
-impl<'a, S: Segments, R: Running> JobWork<'a, S, TablePart<S>, TableKept<S>, R> {
+impl<'a, S: JobSegments, R: Running> JobWork<'a, S, TablePart<S>, TableKept<S>, R> {
     /// Leaves what a job takes of earlier answers in its place, or its answer, if there is nothing to walk.
     fn prepare<G: Gate>(&self, gate: &G, job: usize)
         requires { job < R.jobs }
@@ -148,7 +148,7 @@ impl<'a, S: Segments, R: Running> JobWork<'a, S, TablePart<S>, TableKept<S>, R> 
     }
 }
 
-impl<'a, S: Segments, R: Running> JobWork<'a, S, TablePart<S>, TableKept<S>, R> {
+impl<'a, S: JobSegments, R: Running> JobWork<'a, S, TablePart<S>, TableKept<S>, R> {
     /// Arrives at the start node of a job that waits, with its part of the credit. `Some` if that job may begin.
     fn free_one(
         &self,

@@ -2,7 +2,7 @@
 ghost use Rattle.std.specs.Prelude.{◌+◌, ◌-◌, ◌^◌, ◌<◌, ◌≤◌, min, ℕ};
 ghost use Rattle.job_plan.specs.SettingsParts.{nodes_of, threshold_of};
 
-use crate::segments::Segments;
+use crate::segments::JobSegments;
 use job_plan::Settings;
 
 /// How many nodes a run has at least, if the settings allow it and a job has later segments: these may have more items than the first
@@ -11,7 +11,7 @@ const LEAST_FOR_LATER: u64 = 4_096;
 
 /// The most nodes that the pieces of a job can claim. A piece is cut if it has more positions than the threshold, so each side has at
 /// least half as many as that. A later segment counts with as many positions as the first one.
-fn most_cuts<S: Segments>(jobs: &S, job: usize, settings: Settings) -> u64
+fn most_cuts<S: JobSegments>(jobs: &S, job: usize, settings: Settings) -> u64
     requires { job < S.job_count }
 {
     let size = jobs.likely_size(job);
@@ -30,7 +30,7 @@ fn most_cuts<S: Segments>(jobs: &S, job: usize, settings: Settings) -> u64
 }
 
 /// One start node for each job, and no more nodes for cuts than the settings allow and the jobs can use; 2^32 - 1 at most.
-pub(crate) fn node_count<S: Segments>(jobs: &S, settings: Settings) -> u32
+pub(crate) fn node_count<S: JobSegments>(jobs: &S, settings: Settings) -> u32
     ensures starts { min S.job_count (2 ^ 32 - 1) ≤ result }
     ensures few { result ≤ S.job_count + nodes_of settings }
 {
@@ -50,7 +50,7 @@ pub(crate) fn node_count<S: Segments>(jobs: &S, settings: Settings) -> u32
 }
 
 /// How many segments all jobs have together.
-pub(crate) fn segment_count<S: Segments>(jobs: &S) -> u64 {
+pub(crate) fn segment_count<S: JobSegments>(jobs: &S) -> u64 {
     let mut count = 0u64;
     for job in 0..jobs.jobs() {
         let of_job = (jobs.last_segment(job) as u64).saturating_add(1);
@@ -60,7 +60,7 @@ pub(crate) fn segment_count<S: Segments>(jobs: &S) -> u64 {
 }
 
 /// How many positions the first segments have that are walked in pieces, in all jobs together.
-fn divided_positions<S: Segments>(jobs: &S) -> u64 {
+fn divided_positions<S: JobSegments>(jobs: &S) -> u64 {
     let mut positions = 0u64;
     for job in 0..jobs.jobs() {
         if jobs.is_divided(job, 0) {
@@ -87,7 +87,7 @@ fn cuts_within(size: u64, longest: u64) -> u64 {
 }
 
 /// The most nodes that the segments of a job use so. A later segment counts with as many positions as the first one.
-fn cuts_of_job<S: Segments>(jobs: &S, job: usize, longest: u64) -> u64
+fn cuts_of_job<S: JobSegments>(jobs: &S, job: usize, longest: u64) -> u64
     requires { job < S.job_count }
 {
     let each = cuts_within(jobs.likely_size(job), longest);
@@ -101,7 +101,7 @@ fn cuts_of_job<S: Segments>(jobs: &S, job: usize, longest: u64) -> u64
 }
 
 /// The most nodes that all jobs use so.
-fn cuts_of_all<S: Segments>(jobs: &S, longest: u64) -> u64 {
+fn cuts_of_all<S: JobSegments>(jobs: &S, longest: u64) -> u64 {
     let mut cuts = 0u64;
     for job in 0..jobs.jobs() {
         cuts = cuts.saturating_add(cuts_of_job(jobs, job, longest));
@@ -112,7 +112,7 @@ fn cuts_of_all<S: Segments>(jobs: &S, longest: u64) -> u64 {
 /// The most positions of a piece that isn't cut: the threshold, or more if there are too few nodes for pieces as short as that: an even
 /// share of all positions, doubled until there are nodes for all cuts, as long as something is cut. So no piece is left long because
 /// others were cut small before it, and the last of many jobs is cut as the first one is.
-pub(crate) fn most_positions<S: Segments>(jobs: &S, settings: Settings) -> u64
+pub(crate) fn most_positions<S: JobSegments>(jobs: &S, settings: Settings) -> u64
     ensures some { 0 < result }
     ensures threshold { threshold_of settings ≤ result }
 {

@@ -8,7 +8,7 @@ ghost use Rattle.job_table.specs.Tasks.{CanArrive};
 use crate::NoMemory;
 use crate::credit::split_spare;
 use crate::cut::{TableCounts, TableKept, TablePart, TableSeat};
-use crate::segments::Segments;
+use crate::segments::JobSegments;
 use crate::stopping::RunStops;
 use crate::task::{
     Idle, JobSeat, Purse, Running, TableIdle, TableJobSeat, TablePurse, TableSpare, TableTask, Task,
@@ -20,7 +20,7 @@ use early_stop::CutSeat;
 use std::alloc::Global;
 use std::marker::PhantomData;
 
-impl<'a, S: Segments, R: Running> JobWork<'a, S, TablePart<S>, TableKept<S>, R> {
+impl<'a, S: JobSegments, R: Running> JobWork<'a, S, TablePart<S>, TableKept<S>, R> {
     /// Arrives at the start node of a job, along the path of that node alone: the next one on the way is arrived at once the job has
     /// left its answer. If it is the last arrival, the job may begin.
     pub(crate) fn arrive_at(&self, seat: TableSeat<S>, job: usize) -> Option<TableJobSeat<S, R>>
@@ -102,7 +102,7 @@ impl<'a, S: Segments, R: Running> JobWork<'a, S, TablePart<S>, TableKept<S>, R> 
 }
 
 /// What is left of a purse whose jobs are opened, and the credit of all workers.
-fn empty<S: Segments, R: Running>(
+fn empty<S: JobSegments, R: Running>(
     alloc: Global,
     jobs: &S,
     purse: TablePurse<S, R>,
@@ -122,7 +122,7 @@ fn empty<S: Segments, R: Running>(
 }
 
 /// This many `Idle`s, split off the first one, each with an equal part of its credit.
-fn idle_seats<S: Segments, R: Running>(
+fn idle_seats<S: JobSegments, R: Running>(
     alloc: Global,
     jobs: &S,
     counts: &TableCounts<S>,
@@ -148,7 +148,7 @@ fn idle_seats<S: Segments, R: Running>(
 }
 
 /// One `Idle` with one of that many equal parts of the credit, and the one that it was split off from.
-fn idle_one<S: Segments, R: Running>(
+fn idle_one<S: JobSegments, R: Running>(
     alloc: Global,
     jobs: &S,
     counts: &TableCounts<S>,

@@ -3,7 +3,7 @@ ghost use Rattle.std.specs.Prelude.{◌≡◌, ◌+◌, ◌-◌, ◌^◌, ◌<�
 ghost use Rattle.job_table.specs.Stops.{first_word, pair_at};
 
 use crate::NoMemory;
-use crate::segments::Segments;
+use crate::segments::JobSegments;
 use std::alloc::Global;
 use std::marker::PhantomData;
 use std::sync::{OnceLock, RwLock, RwLockReadGuard};
@@ -11,7 +11,7 @@ use worker_pool::Gate;
 
 /// What a segment goes over, with the numbers of its job and of the segment.
 #[derive(Drop)]
-pub struct KeptSource<S: Segments> {
+pub struct KeptSource<S: JobSegments> {
     pub(crate) job: usize,
     pub(crate) segment: usize,
     pub(crate) source: S::Source,
@@ -24,7 +24,7 @@ pub(crate) type HeldSource<'w, S> = RwLockReadGuard<'w, Option<KeptSource<S>>>;
 
 /// What a job takes of the answers that it names, with the number of the job.
 #[derive(Drop)]
-pub struct KeptGiven<S: Segments> {
+pub struct KeptGiven<S: JobSegments> {
     pub(crate) job: usize,
     pub(crate) given: S::Given,
     pub(crate) of: PhantomData<S>,
@@ -33,7 +33,7 @@ pub struct KeptGiven<S: Segments> {
 
 /// A job's answer, with the number of the job.
 #[derive(Drop)]
-pub struct KeptAnswer<S: Segments> {
+pub struct KeptAnswer<S: JobSegments> {
     pub(crate) job: usize,
     pub(crate) answer: S::Answer,
     pub(crate) of: PhantomData<S>,
@@ -43,7 +43,7 @@ pub struct KeptAnswer<S: Segments> {
 /// The places of one job: for what it takes of earlier answers, for the source of each segment but the first, and for the answer.
 /// `first` is the number of its first segment among all segments of the run. A source lies in its place until its segment has ended.
 #[derive(Drop)]
-pub struct JobPlaces<S: Segments> {
+pub struct JobPlaces<S: JobSegments> {
     pub(crate) job: usize,
     pub(crate) first: u64,
     pub(crate) given: OnceLock<KeptGiven<S>>,
@@ -53,7 +53,7 @@ pub struct JobPlaces<S: Segments> {
 }
 
 /// The empty places of a job whose last segment has this number.
-fn places_of_job<S: Segments>(
+fn places_of_job<S: JobSegments>(
     alloc: Global,
     job: usize,
     last: usize,
@@ -76,7 +76,7 @@ fn places_of_job<S: Segments>(
 }
 
 /// The number of the first segment of the next job, if it is small enough; else the greatest u64.
-fn first_of_next<S: Segments>(job: usize, last: usize, first: u64) -> u64
+fn first_of_next<S: JobSegments>(job: usize, last: usize, first: u64) -> u64
     requires last { last ≡ S.last_of job }
     requires first { first < 2 ^ 64 - 1 → first ≡ first_word S.last_of job }
     ensures { result < 2 ^ 64 - 1 → result ≡ first_word S.last_of (job + 1) }
@@ -85,7 +85,7 @@ fn first_of_next<S: Segments>(job: usize, last: usize, first: u64) -> u64
 }
 
 /// The number of a segment among all segments of the run, if it is known; else the greatest u32.
-pub(crate) fn word_of<S: Segments>(places: &[JobPlaces<S>], job: usize, segment: usize) -> u32
+pub(crate) fn word_of<S: JobSegments>(places: &[JobPlaces<S>], job: usize, segment: usize) -> u32
     requires job { job < S.job_count }
     requires segment { segment ≤ S.last_of job }
     ensures { result < 2 ^ 32 - 1 → pair_at S.last_of S.job_count result ≡ (job, segment) }
@@ -109,7 +109,7 @@ fn word_after(first: u64, segment: usize) -> u32
 }
 
 /// The empty places of all jobs.
-pub(crate) fn empty_places<S: Segments>(
+pub(crate) fn empty_places<S: JobSegments>(
     alloc: Global,
     jobs: &S,
 ) -> Result<Vec<JobPlaces<S>>, NoMemory>
@@ -126,7 +126,7 @@ pub(crate) fn empty_places<S: Segments>(
 }
 
 /// The place for the source of a segment. The first segment has none.
-fn source_place<S: Segments>(
+fn source_place<S: JobSegments>(
     places: &[JobPlaces<S>],
     job: usize,
     segment: usize,
@@ -136,7 +136,7 @@ fn source_place<S: Segments>(
 }
 
 /// Leaves the source of a segment in its place. If it has none, or a reader holds the place, the source is dropped.
-pub(crate) fn keep_source<S: Segments>(
+pub(crate) fn keep_source<S: JobSegments>(
     places: &[JobPlaces<S>],
     job: usize,
     segment: usize,
@@ -159,7 +159,7 @@ pub(crate) fn keep_source<S: Segments>(
 
 /// Empties the place of a segment that has ended, and frees what lay there. If a reader holds the place, the source stays until the run
 /// ends.
-pub(crate) fn drop_source<S: Segments>(places: &[JobPlaces<S>], job: usize, segment: usize) {
+pub(crate) fn drop_source<S: JobSegments>(places: &[JobPlaces<S>], job: usize, segment: usize) {
     let Some(place) = source_place(places, job, segment) else {
         return;
     };
@@ -169,7 +169,7 @@ pub(crate) fn drop_source<S: Segments>(places: &[JobPlaces<S>], job: usize, segm
 }
 
 /// Holds the place of a segment, so that nobody empties it. It doesn't wait.
-pub(crate) fn hold_source<S: Segments>(
+pub(crate) fn hold_source<S: JobSegments>(
     places: &[JobPlaces<S>],
     job: usize,
     segment: usize,
@@ -178,7 +178,7 @@ pub(crate) fn hold_source<S: Segments>(
 }
 
 /// The source of a segment, if it lies in the place that is held.
-pub(crate) fn source_in<S: Segments>(
+pub(crate) fn source_in<S: JobSegments>(
     held: &Option<KeptSource<S>>,
     job: usize,
     segment: usize,
@@ -194,7 +194,7 @@ pub(crate) fn source_in<S: Segments>(
 }
 
 /// Leaves what a job takes of earlier answers in its place.
-pub(crate) fn keep_given<S: Segments>(places: &[JobPlaces<S>], job: usize, given: S::Given)
+pub(crate) fn keep_given<S: JobSegments>(places: &[JobPlaces<S>], job: usize, given: S::Given)
     requires { S.is_given job given }
 {
     if let Some(of_job) = places.get(job) {
@@ -207,7 +207,7 @@ pub(crate) fn keep_given<S: Segments>(places: &[JobPlaces<S>], job: usize, given
 }
 
 /// What a job takes of earlier answers, if it was left in its place.
-pub(crate) fn kept_given<S: Segments>(places: &[JobPlaces<S>], job: usize) -> Option<&S::Given>
+pub(crate) fn kept_given<S: JobSegments>(places: &[JobPlaces<S>], job: usize) -> Option<&S::Given>
     ensures { IfSome result (λ given. S.is_given job given.now) }
 {
     let kept = places.get(job)?.given.get()?;
@@ -219,7 +219,7 @@ pub(crate) fn kept_given<S: Segments>(places: &[JobPlaces<S>], job: usize) -> Op
 }
 
 /// Leaves the answer of a job in its place, and calls the gate.
-pub(crate) fn keep_answer<S: Segments, G: Gate>(
+pub(crate) fn keep_answer<S: JobSegments, G: Gate>(
     places: &[JobPlaces<S>],
     gate: &G,
     job: usize,
@@ -238,7 +238,7 @@ pub(crate) fn keep_answer<S: Segments, G: Gate>(
 }
 
 /// The answer of a job, if it was left in its place.
-pub(crate) fn kept_answer<S: Segments>(places: &[JobPlaces<S>], job: usize) -> Option<&S::Answer>
+pub(crate) fn kept_answer<S: JobSegments>(places: &[JobPlaces<S>], job: usize) -> Option<&S::Answer>
     ensures { IfSome result (λ answer. S.is_answer job answer.now) }
 {
     let kept = places.get(job)?.answer.get()?;
@@ -250,7 +250,7 @@ pub(crate) fn kept_answer<S: Segments>(places: &[JobPlaces<S>], job: usize) -> O
 }
 
 /// Takes the answer of a job out of its places, if it was left there.
-pub(crate) fn answer_in<S: Segments>(places: JobPlaces<S>, job: usize) -> Option<S::Answer>
+pub(crate) fn answer_in<S: JobSegments>(places: JobPlaces<S>, job: usize) -> Option<S::Answer>
     ensures { IfSome result (λ answer. S.is_answer job answer) }
 {
     let JobPlaces {

@@ -51,7 +51,7 @@ fn end_divides(end: &SegmentEnd) -> bool
     }
 }
 
-/// Whether a segment of a job is walked in pieces. Segments are numbered from the first of its `walked_segments`.
+/// Whether a segment of a job is walked in pieces. JobSegments are numbered from the first of its `walked_segments`.
 pub(crate) fn is_divided(plan: &JobPlan, segment: usize) -> bool
     ensures { result ≡ segment_divides (slice_get (walked_segments (plan_in plan.now)) segment) }
 {

@@ -12,7 +12,7 @@ ghost use Rattle.job_table.specs.PlanLaws.{one_answer, one_plan};
 ghost use Rattle.job_table.specs.Takings.{IsTaken, one_taken};
 
 use crate::NoMemory;
-use crate::cut::Cut;
+use crate::cut::CutPiece;
 use crate::earlier::EarlierAnswers;
 use crate::kept::{SegmentSource, Taken};
 use crate::plan_names::different;
@@ -21,7 +21,7 @@ use crate::plan_parts::{
     streamed_part, streamed_piece,
 };
 use crate::run::run_all;
-use crate::segments::{Begun, Segments};
+use crate::segments::{Begun, JobSegments};
 use batch_eval::Registers;
 use early_stop::Stop;
 use job_plan::{Answer, JobPlan, Outcome, Part, Plan, Settings, Source};
@@ -121,7 +121,7 @@ impl<'a, 'c, P: Planned> PlanJobs<'a, 'c, P> {
     }
 }
 
-impl<'a, 'c, P: Planned> Segments for PlanJobs<'a, 'c, P> {
+impl<'a, 'c, P: Planned> JobSegments for PlanJobs<'a, 'c, P> {
     type Part = Part<'a>;
 
     type Source = SegmentSource<'a>;
@@ -285,7 +285,7 @@ impl<'a, 'c, P: Planned> Segments for PlanJobs<'a, 'c, P> {
         }
     }
 
-    fn merge(cut: Cut, left: Part<'a>, right: Part<'a>) -> Result<Part<'a>, NoMemory>
+    fn merge(cut: CutPiece, left: Part<'a>, right: Part<'a>) -> Result<Part<'a>, NoMemory>
         requires piece { IsPiece (length P.jobs) (λ job. slices_first (chain_at (plans_in P.jobs) job).segments) (λ job segment. size_at (chain_at (plans_in P.jobs) job) segment) cut.job cut.segment cut.from cut.to }
         requires within { (cut.from < cut.middle) × (cut.middle < cut.to) }
         requires left { PartStands (chain_at (plans_in P.jobs) cut.job) cut.segment cut.from cut.middle left }

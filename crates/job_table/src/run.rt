@@ -9,7 +9,7 @@ use crate::NoMemory;
 use crate::alone::answer_alone;
 use crate::earlier::Earlier;
 use crate::places::{JobPlaces, answer_in, empty_places};
-use crate::segments::Segments;
+use crate::segments::JobSegments;
 use crate::task::Running;
 use crate::work::{JobWork, TableOpened, TableWork};
 use job_plan::Settings;
@@ -20,7 +20,7 @@ use std::thread::Threads;
 use worker_pool::{Gate, run_pool};
 
 /// The answer that lies in the job's place. If there is none, it is worked out, from those of the jobs before it.
-fn read_answer<S: Segments, G: Gate>(
+fn read_answer<S: JobSegments, G: Gate>(
     alloc: Global,
     gate: &G,
     jobs: &S,
@@ -41,7 +41,7 @@ fn read_answer<S: Segments, G: Gate>(
 
 /// The answers of all jobs, in their order.
 #[tactic(auto, using(crate::proofs::AnswerLemmas::more_answers))]
-fn read_answers<S: Segments, G: Gate>(
+fn read_answers<S: JobSegments, G: Gate>(
     alloc: Global,
     gate: &G,
     jobs: &S,
@@ -62,7 +62,7 @@ fn read_answers<S: Segments, G: Gate>(
 
 /// Runs the jobs over one table of counts, and gives back their places.
 fn run_on<
-    S: Segments + Send + Sync,
+    S: JobSegments + Send + Sync,
     R: Running + Send + Sync,
     H: Threads + Wait + Sync,
     G: Gate + Sync,
@@ -98,7 +98,7 @@ where
 ///
 /// Each piece that is walked enters the gate first. An answer that no task left is worked out here, in the jobs' order, which enters the
 /// gate once, for all of the job's source. `NoMemory` says that a job couldn't be worked out here either.
-pub fn run_all<S: Segments + Send + Sync, H: Threads + Wait + Sync, G: Gate + Sync>(
+pub fn run_all<S: JobSegments + Send + Sync, H: Threads + Wait + Sync, G: Gate + Sync>(
     rt: &H,
     alloc: Global,
     jobs: &S,

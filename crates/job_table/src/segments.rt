@@ -6,7 +6,7 @@ ghost use Rattle.job_table.specs.Begins.{IsBegun};
 ghost use Rattle.job_table.specs.Cuts.{IsPiece};
 
 use crate::NoMemory;
-use crate::cut::Cut;
+use crate::cut::CutPiece;
 use crate::earlier::EarlierAnswers;
 use early_stop::Stop;
 use std::alloc::Global;
@@ -23,7 +23,7 @@ pub enum Begun<G, A> {
 /// Jobs, each a chain of segments: the first segment goes over the job's source, each further one over what the segment before it
 /// gives, and the last one gives the job's answer. A segment is walked in pieces, ranges of positions of its source, in any order
 /// and on any thread; the parts that the pieces give are merged side by side. A job may name earlier jobs, whose answers it takes.
-pub trait Segments {
+pub trait JobSegments {
     /// What a piece of a segment gives.
     type Part: Drop;
 
@@ -172,7 +172,7 @@ pub trait Segments {
         ensures { IfOk result (λ part. stands_for job segment from to part) };
 
     /// Merges the parts of the two sides of a cut.
-    fn merge(cut: Cut, left: Self::Part, right: Self::Part) -> Result<Self::Part, NoMemory>
+    fn merge(cut: CutPiece, left: Self::Part, right: Self::Part) -> Result<Self::Part, NoMemory>
         requires piece { IsPiece job_count last_of size_of cut.job cut.segment cut.from cut.to }
         requires within { (cut.from < cut.middle) × (cut.middle < cut.to) }
         requires left { stands_for cut.job cut.segment cut.from cut.middle left }

@@ -1,7 +1,7 @@
 //! The words of early stop of a run.
 ghost use Rattle.job_table.specs.Stops.{pair_at};
 
-use crate::segments::Segments;
+use crate::segments::JobSegments;
 use early_stop::Cut as StopWords;
 use std::marker::PhantomData;
 
@@ -12,7 +12,7 @@ pub struct RunSegments<S> {
     pub(crate) of: PhantomData<S>,
 }
 
-impl<S: Segments> early_stop::Segments for RunSegments<S> {
+impl<S: JobSegments> early_stop::Segments for RunSegments<S> {
     type Outcome = S::Outcome;
 
     ghost count = { λ z. z.count };

@@ -9,8 +9,8 @@ ghost use Rattle.job_table.specs.Cuts.{IsPiece, begins, ends_at};
 ghost use Rattle.job_table.specs.Starts.{nodes_below};
 ghost use Rattle.job_table.specs.Tasks.{HasKept, KnowsStarts, KnowsTop};
 
-use crate::cut::{Cut, TableKept, TablePart};
-use crate::segments::Segments;
+use crate::cut::{CutPiece, TableKept, TablePart};
+use crate::segments::JobSegments;
 use completer_tree::Half;
 use early_stop::CutSeat;
 use pending_count::{Fits, Seat};
@@ -53,7 +53,7 @@ impl Running for Brand {
 
 /// The right to end a job: the seat has what the start node of the job kept.
 #[derive(Drop)]
-pub struct JobSeat<V, K: Fits<V, Tag = Cut>, R: Running> {
+pub struct JobSeat<V, K: Fits<V, Tag = CutPiece>, R: Running> {
     pub(crate) seat: Seat<V, K>,
     pub(crate) job: usize,
     pub(crate) of: PhantomData<R>,
@@ -63,7 +63,7 @@ pub struct JobSeat<V, K: Fits<V, Tag = Cut>, R: Running> {
 
 /// One side of a cut that is still to be handed in, with the seat that does it.
 #[derive(Drop)]
-pub struct Piece<V, K: Fits<V, Tag = Cut>, R: Running> {
+pub struct Piece<V, K: Fits<V, Tag = CutPiece>, R: Running> {
     pub(crate) half: Half<V, K>,
     pub(crate) of: PhantomData<R>,
     ghost can: { CanFork R.table half.place half.seat },
@@ -74,7 +74,7 @@ pub struct Piece<V, K: Fits<V, Tag = Cut>, R: Running> {
 
 /// What a worker takes.
 #[derive(Drop)]
-pub enum Task<V, K: Fits<V, Tag = Cut>, R: Running> {
+pub enum Task<V, K: Fits<V, Tag = CutPiece>, R: Running> {
     /// Begin a job: the jobs that it names have ended.
     Begin(JobSeat<V, K, R>),
     /// Walk a piece.
@@ -83,7 +83,7 @@ pub enum Task<V, K: Fits<V, Tag = Cut>, R: Running> {
 
 /// The credit of a worker, for the trees that it begins. Its seat has noted no place of a tree.
 #[derive(Drop)]
-pub struct Spare<V, K: Fits<V, Tag = Cut>, R: Running> {
+pub struct Spare<V, K: Fits<V, Tag = CutPiece>, R: Running> {
     pub(crate) seat: Seat<V, K>,
     pub(crate) of: PhantomData<R>,
     ghost table: { table_of seat ≡ R.table },
@@ -93,7 +93,7 @@ pub struct Spare<V, K: Fits<V, Tag = Cut>, R: Running> {
 /// A worker's right to ask how many jobs are left, its credit, its seat at the words of early stop, and what it keeps from one leaf to
 /// the next.
 #[derive(Drop)]
-pub struct Idle<V, K: Fits<V, Tag = Cut>, R: Running, T> {
+pub struct Idle<V, K: Fits<V, Tag = CutPiece>, R: Running, T> {
     pub(crate) seat: Seat<V, K>,
     pub(crate) spare: Option<Spare<V, K, R>>,
     pub(crate) stop_seat: CutSeat,
@@ -105,7 +105,7 @@ pub struct Idle<V, K: Fits<V, Tag = Cut>, R: Running, T> {
 
 /// The seat from which the openings are split off. It has an arrival at the start node of each job that isn't opened yet: the first `jobs`.
 #[derive(Drop)]
-pub struct Purse<V, K: Fits<V, Tag = Cut>, R: Running> {
+pub struct Purse<V, K: Fits<V, Tag = CutPiece>, R: Running> {
     pub(crate) seat: Seat<V, K>,
     pub(crate) jobs: usize,
     pub(crate) of: PhantomData<R>,
@@ -118,7 +118,7 @@ pub struct Purse<V, K: Fits<V, Tag = Cut>, R: Running> {
 
 /// A segment that was walked whole, with the right to end its job.
 #[derive(Drop)]
-pub struct Whole<V, K: Fits<V, Tag = Cut>, R: Running> {
+pub struct Whole<V, K: Fits<V, Tag = CutPiece>, R: Running> {
     pub(crate) job: JobSeat<V, K, R>,
     pub(crate) segment: usize,
     pub(crate) part: V,
@@ -133,7 +133,7 @@ pub type TableTask<S, R> = Task<TablePart<S>, TableKept<S>, R>;
 
 pub type TableSpare<S, R> = Spare<TablePart<S>, TableKept<S>, R>;
 
-pub type TableIdle<S, R> = Idle<TablePart<S>, TableKept<S>, R, <S as Segments>::Scratch>;
+pub type TableIdle<S, R> = Idle<TablePart<S>, TableKept<S>, R, <S as JobSegments>::Scratch>;
 
 pub type TablePurse<S, R> = Purse<TablePart<S>, TableKept<S>, R>;
 

@@ -5,8 +5,8 @@ ghost use Rattle.pending_count.specs.Seats.{view_of};
 ghost use Rattle.job_table.specs.Cuts.{IsPiece, StandsWhole, begins, ends_at};
 ghost use Rattle.job_table.specs.Tasks.{KnowsStarts, KnowsTop};
 
-use crate::cut::{Cut, Join, TableKept, TablePart, is_left, range_of};
-use crate::segments::Segments;
+use crate::cut::{CutPiece, Join, TableKept, TablePart, is_left, range_of};
+use crate::segments::JobSegments;
 use crate::task::{
     JobSeat, Piece, Running, TableJobSeat, TablePiece, TableSpare, TableTask, TableWhole, Task,
     Whole,
@@ -19,7 +19,7 @@ use worker_pool::{Gate, Spawn};
 
 /// Walks one side of a cut as one piece, and hands its part in.
 #[tactic(auto, using(crate::proofs::Plans::as_planned))]
-fn leaf<S: Segments, R: Running, G: Gate>(
+fn leaf<S: JobSegments, R: Running, G: Gate>(
     work: &TableWork<S, R>,
     gate: &G,
     half: Half<TablePart<S>, TableKept<S>>,
@@ -53,7 +53,7 @@ fn leaf<S: Segments, R: Running, G: Gate>(
 }
 
 /// Whether a place at or before this position is known to decide what the segment gives.
-fn is_left_out<S: Segments, R: Running>(
+fn is_left_out<S: JobSegments, R: Running>(
     watch: &mut Watch<'_, S, R>,
     job: usize,
     segment: usize,
@@ -65,7 +65,7 @@ fn is_left_out<S: Segments, R: Running>(
     watch.seen() <= from
 }
 
-impl<'a, S: Segments, R: Running> JobWork<'a, S, TablePart<S>, TableKept<S>, R> {
+impl<'a, S: JobSegments, R: Running> JobWork<'a, S, TablePart<S>, TableKept<S>, R> {
     /// Walks a piece. While it has more positions than the threshold and a node can be claimed, it is cut in two, and the right side goes
     /// to the pool. `Some` is the whole segment, if this was its last part.
     #[cycle(walk)]
@@ -89,7 +89,7 @@ impl<'a, S: Segments, R: Running> JobWork<'a, S, TablePart<S>, TableKept<S>, R> 
         }
         let Half { seat, place } = half;
         let run = Join {
-            cut: Cut::halves(place.tag.job, place.tag.segment, from, to),
+            cut: CutPiece::halves(place.tag.job, place.tag.segment, from, to),
             parent: Some((place.tag, is_left(&place))),
             of: PhantomData,
         };
@@ -119,7 +119,7 @@ impl<'a, S: Segments, R: Running> JobWork<'a, S, TablePart<S>, TableKept<S>, R> 
 
 /// Walks a segment as one piece.
 #[tactic(auto, using(crate::proofs::Plans::as_planned))]
-fn walk_whole<S: Segments, R: Running, G: Gate>(
+fn walk_whole<S: JobSegments, R: Running, G: Gate>(
     work: &TableWork<S, R>,
     gate: &G,
     job: TableJobSeat<S, R>,
@@ -136,7 +136,7 @@ fn walk_whole<S: Segments, R: Running, G: Gate>(
     Whole { job, segment, part }
 }
 
-impl<'a, S: Segments, R: Running> JobWork<'a, S, TablePart<S>, TableKept<S>, R> {
+impl<'a, S: JobSegments, R: Running> JobWork<'a, S, TablePart<S>, TableKept<S>, R> {
     /// Begins the tree of a segment, for which this worker pays. `Some` is the whole segment, if no part of it is left to others.
     #[tactic(auto, using(crate::proofs::SeatLemmas::can_keep, crate::proofs::Plans::as_planned))]
     pub(crate) fn begin<G: Gate, P: Spawn<TableTask<S, R>>>(
@@ -160,7 +160,7 @@ impl<'a, S: Segments, R: Running> JobWork<'a, S, TablePart<S>, TableKept<S>, R> 
         }
         let JobSeat { seat, job: _, of } = self.pay(begun, spare);
         let run = Join {
-            cut: Cut::halves(job, segment, 0, size),
+            cut: CutPiece::halves(job, segment, 0, size),
             parent: None,
             of: PhantomData,
         };

@@ -4,7 +4,7 @@ ghost use Rattle.early_stop.specs.Seats.{table_of as stop_table_of, segments_of,
 ghost use Rattle.job_table.specs.Stops.{pair_at, stop_id_of};
 
 use crate::places::JobPlaces;
-use crate::segments::Segments;
+use crate::segments::JobSegments;
 use crate::stopping::RunStops;
 use crate::task::Running;
 use early_stop::CutSeat;
@@ -12,7 +12,7 @@ use std::marker::PhantomData;
 
 /// A worker's seat at the words of early stop, and the segment that it asks about.
 #[derive(Drop)]
-pub struct Watch<'w, S: Segments, R: Running> {
+pub struct Watch<'w, S: JobSegments, R: Running> {
     pub(crate) jobs: &'w S,
     pub(crate) places: &'w [JobPlaces<S>],
     pub(crate) stops: &'w RunStops<S>,

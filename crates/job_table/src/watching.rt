@@ -3,9 +3,9 @@ ghost use Rattle.std.specs.Prelude.{◌≡◌, ◌<◌, ◌≤◌, IfOk, IfSome}
 ghost use Rattle.early_stop.specs.Decisive.{no_place, Decides, IsDecisive};
 ghost use Rattle.job_table.specs.Cuts.{Stands, begins, ends_at};
 
-use crate::cut::{Cut, SegmentPart, TablePart, range_of};
+use crate::cut::{CutPiece, SegmentPart, TablePart, range_of};
 use crate::places::{hold_source, kept_given, source_in, word_of};
-use crate::segments::Segments;
+use crate::segments::JobSegments;
 use crate::task::Running;
 use crate::watch::Watch;
 use completer_tree::Looker;
@@ -13,7 +13,7 @@ use early_stop::Stop;
 use pending_count::{Place, Side};
 use std::thread::yield_now;
 
-impl<S: Segments, R: Running> Watch<'_, S, R> {
+impl<S: JobSegments, R: Running> Watch<'_, S, R> {
     /// From here on the segment is asked about.
     pub(crate) fn aim(&mut self, job: usize, segment: usize)
         requires known { (job < S.job_count) × (segment ≤ S.last_of job) }
@@ -72,7 +72,7 @@ impl<S: Segments, R: Running> Watch<'_, S, R> {
     }
 }
 
-impl<S: Segments, R: Running> Stop for Watch<'_, S, R> {
+impl<S: JobSegments, R: Running> Stop for Watch<'_, S, R> {
     ghost decides = { λ w c. Decides (S.gives w.job w.segment) (S.goes_over w.job w.segment) c };
 
     fn place(&mut self) -> u64 {
@@ -82,8 +82,8 @@ impl<S: Segments, R: Running> Stop for Watch<'_, S, R> {
     }
 }
 
-impl<S: Segments, R: Running> Looker<SegmentPart<S>> for Watch<'_, S, R> {
-    fn look(&mut self, at: &Place<Cut>, value: &TablePart<S>) {
+impl<S: JobSegments, R: Running> Looker<SegmentPart<S>> for Watch<'_, S, R> {
+    fn look(&mut self, at: &Place<CutPiece>, value: &TablePart<S>) {
         let Ok(part) = value else {
             return;
         };

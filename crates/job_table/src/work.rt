@@ -12,11 +12,11 @@ ghost use Rattle.job_table.specs.Waits.{nodes_in};
 
 use crate::NoMemory;
 use crate::arming::arm_all;
-use crate::cut::{Cut, SegmentPart, TableCounts, TableKept, TablePart};
+use crate::cut::{CutPiece, SegmentPart, TableCounts, TableKept, TablePart};
 use crate::earlier::Earlier;
 use crate::nodes::{most_positions, node_count, segment_count};
 use crate::places::{JobPlaces, empty_places, hold_source, kept_answer, kept_given, source_in};
-use crate::segments::Segments;
+use crate::segments::JobSegments;
 use crate::start::{Start, Waiting};
 use crate::stopping::{RunSegments, RunStops};
 use crate::task::{Idle, Running, TableIdle, TablePurse, TableSpare, TableTask, Task};
@@ -33,7 +33,7 @@ use worker_pool::{Gate, Spawn, Work};
 
 /// All jobs of a run, over one table of counts.
 #[derive(Drop)]
-pub struct JobWork<'a, S: Segments, V, K: Fits<V, Tag = Cut>, R: Running> {
+pub struct JobWork<'a, S: JobSegments, V, K: Fits<V, Tag = CutPiece>, R: Running> {
     pub(crate) alloc: Global,
     pub(crate) counts: Counts<V, K>,
     pub(crate) jobs: &'a S,
@@ -58,7 +58,7 @@ pub type TableWork<'a, S, R> = JobWork<'a, S, TablePart<S>, TableKept<S>, R>;
 
 /// The counts of a run that hasn't begun, the start nodes of its jobs, and the seat that has an arrival at each of them.
 #[derive(Drop)]
-pub struct Opened<S: Segments, V, K: Fits<V, Tag = Cut>> {
+pub struct Opened<S: JobSegments, V, K: Fits<V, Tag = CutPiece>> {
     pub(crate) counts: Counts<V, K>,
     pub(crate) seat: Seat<V, K>,
     pub(crate) starts: Vec<Start>,
@@ -72,7 +72,7 @@ pub struct Opened<S: Segments, V, K: Fits<V, Tag = Cut>> {
 
 pub type TableOpened<S> = Opened<S, TablePart<S>, TableKept<S>>;
 
-impl<S: Segments> Opened<S, TablePart<S>, TableKept<S>> {
+impl<S: JobSegments> Opened<S, TablePart<S>, TableKept<S>> {
     /// Makes the counts of a run, and no more nodes than its jobs can use. `None` if there can't be a node for each job.
     pub fn new(
         alloc: Global,
@@ -98,7 +98,7 @@ impl<S: Segments> Opened<S, TablePart<S>, TableKept<S>> {
 }
 
 /// The words of early stop of a run, one for each segment.
-fn stop_words<S: Segments>(alloc: Global, jobs: &S) -> Result<(RunStops<S>, CutSeat), NoMemory>
+fn stop_words<S: JobSegments>(alloc: Global, jobs: &S) -> Result<(RunStops<S>, CutSeat), NoMemory>
     ensures { IfOk result (λ made. IsStopSeatOf made.0 made.1 × (count_of made.0 ≡ (segments_of made.0).count)) }
 {
     let segments = RunSegments::<S> {
@@ -109,7 +109,7 @@ fn stop_words<S: Segments>(alloc: Global, jobs: &S) -> Result<(RunStops<S>, CutS
 }
 
 /// How many positions the source of a segment has, if it is there, and what the job takes of earlier answers.
-pub(crate) fn size_of<S: Segments, R: Running>(
+pub(crate) fn size_of<S: JobSegments, R: Running>(
     work: &TableWork<S, R>,
     job: usize,
     segment: usize,
@@ -127,7 +127,7 @@ pub(crate) fn size_of<S: Segments, R: Running>(
 }
 
 /// Walks a piece with what the job takes of earlier answers.
-fn walked<S: Segments, R: Running>(
+fn walked<S: JobSegments, R: Running>(
     work: &TableWork<S, R>,
     job: usize,
     segment: usize,
@@ -162,7 +162,7 @@ fn walked<S: Segments, R: Running>(
 }
 
 /// The part of a piece that isn't walked, since a place at or before its first position decides.
-fn left_out<S: Segments, R: Running>(
+fn left_out<S: JobSegments, R: Running>(
     work: &TableWork<S, R>,
     job: usize,
     segment: usize,
@@ -187,7 +187,7 @@ fn left_out<S: Segments, R: Running>(
 /// Enters the gate and walks a piece, unless a place at or before its first position decides what the segment gives: then the gate isn't
 /// entered. If the segment's source isn't there, or what the job takes of earlier answers, it is as if an allocation had failed: the
 /// part is missing.
-pub(crate) fn part_of<S: Segments, R: Running, G: Gate>(
+pub(crate) fn part_of<S: JobSegments, R: Running, G: Gate>(
     work: &TableWork<S, R>,
     gate: &G,
     job: usize,
@@ -215,7 +215,7 @@ pub(crate) fn part_of<S: Segments, R: Running, G: Gate>(
     }
 }
 
-impl<'a, S: Segments, R: Running> JobWork<'a, S, TablePart<S>, TableKept<S>, R> {
+impl<'a, S: JobSegments, R: Running> JobWork<'a, S, TablePart<S>, TableKept<S>, R> {
     /// The work of a run, with what a pool takes for it: a task for each job that names no other one, and an `Idle` for each worker.
     pub fn new(
         alloc: Global,
@@ -313,7 +313,7 @@ impl<'a, S: Segments, R: Running> JobWork<'a, S, TablePart<S>, TableKept<S>, R> 
 }
 
 /// The job of a task.
-fn task_job<S: Segments, R: Running>(task: &TableTask<S, R>) -> usize
+fn task_job<S: JobSegments, R: Running>(task: &TableTask<S, R>) -> usize
     ensures { result < R.jobs }
 {
     match task {
@@ -322,7 +322,7 @@ fn task_job<S: Segments, R: Running>(task: &TableTask<S, R>) -> usize
     }
 }
 
-impl<'a, S: Segments + Send + Sync, R: Running + Send + Sync> Work
+impl<'a, S: JobSegments + Send + Sync, R: Running + Send + Sync> Work
     for JobWork<'a, S, TablePart<S>, TableKept<S>, R>
 where
     S::Part: Send,

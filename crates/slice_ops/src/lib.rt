@@ -14,6 +14,6 @@ mod rest;
 mod shorten;
 mod slice_part;
 
-pub use rest::{Cut, SliceRest};
+pub use rest::{SliceCut, SliceRest};
 pub use shorten::{drop_while, limit, skip, take_while};
 pub use slice_part::{Slice, SlicePart};

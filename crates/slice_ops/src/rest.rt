@@ -30,7 +30,7 @@ pub enum SliceRest<'a> {
 
 /// What a slice makes of items after which the walk goes on.
 #[derive(Clone, Copy)]
-pub struct Cut<'a> {
+pub struct SliceCut<'a> {
     /// The position of the first item that passes, and that after the last one.
     pub from: u64,
     pub to: u64,
@@ -57,7 +57,7 @@ impl<'a> SliceRest<'a> {
     /// first one at which the test isn't true; the test is evaluated at that one alone. It takes no memory.
     ///
     /// The slice is the stage with this number.
-    pub fn cut<I: SourceItems>(self, stage: u32, env: &Env, source: &I, front: u64) -> Cut<'a>
+    pub fn cut<I: SourceItems>(self, stage: u32, env: &Env, source: &I, front: u64) -> SliceCut<'a>
         requires front { IsTested (rest_of self) stage env.now (I.items source.now) front }
         ensures ordered { result.from ≤ result.to }
         ensures within { result.to ≤ length (I.items source.now) }
@@ -66,13 +66,13 @@ impl<'a> SliceRest<'a> {
     {
         let count = source.count();
         match self {
-            SliceRest::Limit(n) => Cut {
+            SliceRest::Limit(n) => SliceCut {
                 from: 0,
                 to: n.min(count),
                 end: End::Done,
                 rest: SliceRest::Limit(n.saturating_sub(count)),
             },
-            SliceRest::Skip(n) => Cut {
+            SliceRest::Skip(n) => SliceCut {
                 from: n.min(count),
                 to: count,
                 end: End::Done,
@@ -120,7 +120,7 @@ fn cut_after<'a, I: SourceItems>(
     env: &Env,
     source: &I,
     front: u64,
-) -> Cut<'a>
+) -> SliceCut<'a>
     requires front { front ≡ before_stop (stop_at (front_ends (truth_of test.now) stage env.now) (I.items source.now)) (I.items source.now) }
     ensures ordered { result.from ≤ result.to }
     ensures within { result.to ≤ length (I.items source.now) }
@@ -128,13 +128,13 @@ fn cut_after<'a, I: SourceItems>(
         ≡ append (trace (take (result.to - result.from) (drop result.from (I.items source.now))) result.end) (sliced (rest_of result.rest) stage env.now later) }
 {
     match stop_in(test, stage, env, source, front) {
-        Some(end) => Cut {
+        Some(end) => SliceCut {
             from: 0,
             to: front,
             end,
             rest: SliceRest::Limit(0),
         },
-        None => Cut {
+        None => SliceCut {
             from: 0,
             to: source.count(),
             end: End::Done,
@@ -150,7 +150,7 @@ fn cut_before<'a, I: SourceItems>(
     env: &Env,
     source: &I,
     front: u64,
-) -> Cut<'a>
+) -> SliceCut<'a>
     requires front { front ≡ before_stop (stop_at (front_ends (truth_of test.now) stage env.now) (I.items source.now)) (I.items source.now) }
     ensures ordered { result.from ≤ result.to }
     ensures within { result.to ≤ length (I.items source.now) }
@@ -159,19 +159,19 @@ fn cut_before<'a, I: SourceItems>(
 {
     let count = source.count();
     match stop_in(test, stage, env, source, front) {
-        Some(End::Done) => Cut {
+        Some(End::Done) => SliceCut {
             from: front,
             to: count,
             end: End::Done,
             rest: SliceRest::Skip(0),
         },
-        Some(End::Fault(fault)) => Cut {
+        Some(End::Fault(fault)) => SliceCut {
             from: front,
             to: front,
             end: End::Fault(fault),
             rest: SliceRest::DropWhile(test),
         },
-        None => Cut {
+        None => SliceCut {
             from: count,
             to: count,
             end: End::Done,

@@ -6,7 +6,7 @@ ghost use Rattle.job_table.specs.Stops.{stop_id_of};
 
 use crate::lists::{Lists, Planned};
 use job_plan::{Plan, Settings};
-use job_table::{NoMemory, PlanJobs, Running, Segments, TableOpened, TableWork};
+use job_table::{JobSegments, NoMemory, PlanJobs, Running, TableOpened, TableWork};
 use std::alloc::Global;
 use std::marker::{Brand, PhantomData};
 use std::sync::Wait;
@@ -38,7 +38,7 @@ impl Gate for Open {
 }
 
 /// How many answers are found after all tasks were run here, with a `Spawn` that drops the first `drops`.
-pub(crate) fn answers_found<S: Segments + Send + Sync, R: Running + Send + Sync, H: Wait>(
+pub(crate) fn answers_found<S: JobSegments + Send + Sync, R: Running + Send + Sync, H: Wait>(
     rt: &H,
     alloc: Global,
     jobs: &S,
@@ -78,7 +78,7 @@ where
 }
 
 /// How many answers of these jobs are found after such a run.
-fn found<S: Segments + Send + Sync, H: Wait>(
+fn found<S: JobSegments + Send + Sync, H: Wait>(
     rt: &H,
     alloc: Global,
     jobs: &S,

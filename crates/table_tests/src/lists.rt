@@ -6,7 +6,7 @@ ghost use Rattle.table_tests.specs.ListLaws.{one_list};
 
 use early_stop::Stop;
 use job_plan::Settings;
-use job_table::{Begun, Cut, EarlierAnswers, NoMemory, Segments, run_all};
+use job_table::{Begun, CutPiece, EarlierAnswers, JobSegments, NoMemory, run_all};
 use std::alloc::Global;
 use std::marker::{Brand, PhantomData};
 use std::sync::Wait;
@@ -76,7 +76,7 @@ impl<'a, P: Planned> Lists<'a, P> {
     }
 }
 
-impl<'a, P: Planned + Sync> Segments for Lists<'a, P> {
+impl<'a, P: Planned + Sync> JobSegments for Lists<'a, P> {
     type Part = Vec<i64>;
 
     type Source = ListSource;
@@ -197,7 +197,7 @@ impl<'a, P: Planned + Sync> Segments for Lists<'a, P> {
     }
 
     #[tactic(auto, using(crate::proofs::Slices::slices_join))]
-    fn merge(cut: Cut, left: Vec<i64>, right: Vec<i64>) -> Result<Vec<i64>, NoMemory>
+    fn merge(cut: CutPiece, left: Vec<i64>, right: Vec<i64>) -> Result<Vec<i64>, NoMemory>
         requires within { (cut.from < cut.middle) × (cut.middle < cut.to) }
         requires left { left.items ≡ slice (P.numbers cut.job) cut.from cut.middle }
         requires right { right.items ≡ slice (P.numbers cut.job) cut.middle cut.to }

@@ -7,10 +7,10 @@ use Rattle.table_tests.proofs.driven.found.Given as goal
 abbrev pub ghosts-answers_found : goal.ghosts-answers_found
 ghosts-answers_found g a = record {
   table = table_id_of a.opened.counts;
-  jobs = g.S.Segments.job_count;
-  start = λ j. node_at a.opened.starts.items (g.S.Segments.job_count - 1 - j);
-  keeps = λ j. kept_at a.opened.starts.items (g.S.Segments.job_count - 1 - j);
-  last = g.S.Segments.last_of;
-  size = g.S.Segments.size_of;
+  jobs = g.S.JobSegments.job_count;
+  start = λ j. node_at a.opened.starts.items (g.S.JobSegments.job_count - 1 - j);
+  keeps = λ j. kept_at a.opened.starts.items (g.S.JobSegments.job_count - 1 - j);
+  last = g.S.JobSegments.last_of;
+  size = g.S.JobSegments.size_of;
   stops = stop_id_of a.opened.stops;
 }

@@ -17,4 +17,4 @@ last_answer-requires-clause-last g c =
 pub last_answer-requires-clause-part : goal.last_answer-requires-clause-part
 last_answer-requires-clause-part g c =
     let whole = c.args.whole in
-    subst (λ z. IfOk z (λ x. g.S.Segments.stands_for whole.job.job whole.segment 0 (g.S.Segments.size_of whole.job.job whole.segment) x.part)) c.in-Ok.is c.requires
+    subst (λ z. IfOk z (λ x. g.S.JobSegments.stands_for whole.job.job whole.segment 0 (g.S.JobSegments.size_of whole.job.job whole.segment) x.part)) c.in-Ok.is c.requires

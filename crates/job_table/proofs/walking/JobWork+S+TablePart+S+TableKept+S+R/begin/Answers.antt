@@ -2,7 +2,7 @@ use Rattle.std.proofs.Common.{◌≡◌, ◌<◌, ◌∙◌, ap, sym, subst, ari
 use Rattle.pending_count.specs.declared.place.Place.{Place}
 use Rattle.pending_count.specs.Seats.{view_of}
 use Rattle.completer_tree.specs.Trees.{table_id_of, CanFork}
-use Rattle.job_table.specs.declared.cut.Cut.{Cut}
+use Rattle.job_table.specs.declared.cut.CutPiece.{CutPiece}
 use Rattle.job_table.specs.Tasks.{HasKept, KnowsTop}
 use Rattle.job_table.specs.Cuts.{IsPiece}
 use Rattle.job_table.proofs.SeatLemmas.{known_forked, kept_still, top_known}
@@ -30,7 +30,7 @@ invariant_of-own g c =
     let all : IsPiece g.R.Running.jobs g.R.Running.last g.R.Running.size b.job c.args.segment 0 c.args.size = record { known = b.known; chained = c.requires.known; ordered = omega arith; within = omega arith } in
     let within : (cut.result.from < cut.result.middle) × (cut.result.middle < cut.result.to) = (let e = cut.ensures.of.2 in let w = cut.ensures.within.0 in omega arith, let e = cut.ensures.of.3 in let w = cut.ensures.within.1 in omega arith) in
     let whole = piece_as cut.ensures.of.0 cut.ensures.of.1 cut.ensures.of.2 cut.ensures.of.3 all in
-    let named : s.left.place.tag.job ≡ b.job = ap (λ (q : Place Cut). q.tag.job) s.ensures.places.0 ∙ cut.ensures.of.0 in
+    let named : s.left.place.tag.job ≡ b.job = ap (λ (q : Place CutPiece). q.tag.job) s.ensures.places.0 ∙ cut.ensures.of.0 in
     let onward = c.new-tree.result.onward.now in
     let is : onward ≡ g.R.Running.keeps b.job = c.new-tree.ensures.1 ∙ c.deref.ensures.value ∙ c.start.ensures.1 in
     record {
@@ -50,7 +50,7 @@ invariant_of-other g c =
     let all : IsPiece g.R.Running.jobs g.R.Running.last g.R.Running.size b.job c.args.segment 0 c.args.size = record { known = b.known; chained = c.requires.known; ordered = omega arith; within = omega arith } in
     let within : (cut.result.from < cut.result.middle) × (cut.result.middle < cut.result.to) = (let e = cut.ensures.of.2 in let w = cut.ensures.within.0 in omega arith, let e = cut.ensures.of.3 in let w = cut.ensures.within.1 in omega arith) in
     let whole = piece_as cut.ensures.of.0 cut.ensures.of.1 cut.ensures.of.2 cut.ensures.of.3 all in
-    let named : s.right.place.tag.job ≡ b.job = ap (λ (q : Place Cut). q.tag.job) s.ensures.places.1 ∙ cut.ensures.of.0 in
+    let named : s.right.place.tag.job ≡ b.job = ap (λ (q : Place CutPiece). q.tag.job) s.ensures.places.1 ∙ cut.ensures.of.0 in
     let onward = c.new-tree.result.onward.now in
     let is : onward ≡ g.R.Running.keeps b.job = c.new-tree.ensures.1 ∙ c.deref.ensures.value ∙ c.start.ensures.1 in
     record {

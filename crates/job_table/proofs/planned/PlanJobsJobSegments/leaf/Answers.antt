@@ -9,7 +9,7 @@ use Rattle.job_plan.specs.Walks.{source_walk}
 use Rattle.job_plan.specs.Windows.{later_segments, selected_walk}
 use Rattle.job_table.proofs.PlanParts.{later_size, own_size, streamed_size, whole_job}
 use Rattle.job_table.proofs.PlanSources.{kept_walk, own_first, put_streamed, put_walk, same_segments, same_streams}
-use Rattle.job_table.proofs.planned.PlanJobsSegments.leaf.Goals as goal
+use Rattle.job_table.proofs.planned.PlanJobsJobSegments.leaf.Goals as goal
 
 pub returns-else-streams : goal.returns-else-streams
 returns-else-streams g c =

@@ -6,7 +6,7 @@ use Rattle.job_plan.specs.Parts.{plans_in, StandsFor}
 use Rattle.job_plan.specs.Links.{walked_segments}
 use Rattle.job_table.specs.PlanSegments.{chain_at}
 use Rattle.job_table.proofs.PlanParts.{left_stands}
-use Rattle.job_table.proofs.planned.PlanJobsSegments.left_out.Goals as goal
+use Rattle.job_table.proofs.planned.PlanJobsJobSegments.left_out.Goals as goal
 
 pub returns : goal.returns
 returns g c =

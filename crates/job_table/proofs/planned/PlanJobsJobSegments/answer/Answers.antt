@@ -3,7 +3,7 @@ use Rattle.job_plan.specs.declared.answer.Answer.{Answer}
 use Rattle.job_plan.specs.Parts.{plan_in, plans_in}
 use Rattle.job_table.proofs.PlanAnswers.{plans_length}
 use Rattle.job_table.proofs.PlanSources.{answered}
-use Rattle.job_table.proofs.planned.PlanJobsSegments.answer.Goals as goal
+use Rattle.job_table.proofs.planned.PlanJobsJobSegments.answer.Goals as goal
 
 pub returns-in-Some : goal.returns-in-Some
 returns-in-Some g c =

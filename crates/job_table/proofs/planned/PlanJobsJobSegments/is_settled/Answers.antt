@@ -2,7 +2,7 @@ use Rattle.std.proofs.Common.{◌∙◌, sym}
 use Rattle.job_plan.specs.Parts.{plans_in}
 use Rattle.job_table.specs.PlanSegments.{chain_at}
 use Rattle.job_table.proofs.PlanParts.{part_decides, settles_both}
-use Rattle.job_table.proofs.planned.PlanJobsSegments.is_settled.Goals as goal
+use Rattle.job_table.proofs.planned.PlanJobsJobSegments.is_settled.Goals as goal
 
 pub returns : goal.returns
 returns g c = λ yes.
