@@ -93,6 +93,25 @@ def floors(top):
                 yield f'architecture.md: {name} stands on {other}, which is drawn on no lower floor'
 
 
+def exported_by(top, name, crates):
+    """The types and constants that a library exports as its own."""
+    library = os.path.join(top, 'crates', name, 'src', 'lib.rt')
+    text = read(library) if os.path.isfile(library) else ''
+    for first, words in re.findall(r'^pub use (\w+)[\w:]*::(\{[^}]*\}|\w+);', text, re.M):
+        if first not in crates and first not in ('std', 'csv', 'atomic_table'):
+            yield from (word.split(' as ')[-1] for word in re.findall(r'\w+(?: as \w+)?', words) if word[0].isupper())
+
+
+def exports(top):
+    """Types and constants that two libraries export under one name."""
+    crates, found = crates_of(top), {}
+    for name in crates:
+        for word in exported_by(top, name, crates):
+            if word in found:
+                yield f'{word} is exported by {found[word]} and by {name}'
+            found[word] = name
+
+
 def paths(top):
     """Rows of the path of a job, in architecture.md, whose file or function isn't there."""
     page = read(os.path.join(top, 'docs', 'architecture.md'))

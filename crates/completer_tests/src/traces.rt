@@ -11,8 +11,8 @@ ghost use Rattle.completer_tests.specs.Walks.{begins, ends_at};
 use crate::cut::Cut;
 use crate::walks::{Planned, is_left, range_of};
 use completer_tree::{
-    Completer, CompleterTree, Continuation, Failure, Forked, Half, Handed, Part, Tree, TreeCounts,
-    TreeSeat,
+    Completer, CompleterTree, Continuation, Failure, Forked, Half, Handed, PartValue, Tree,
+    TreeCounts, TreeSeat,
 };
 use lambda_expr::FaultKind;
 use std::alloc::{AllocError, Global};
@@ -27,7 +27,7 @@ struct WalkPart<P: Planned> {
     of: PhantomData<P>,
 }
 
-impl<P: Planned> Part for WalkPart<P> {
+impl<P: Planned> PartValue for WalkPart<P> {
     type Tag = Cut;
 
     ghost fits = { λ cut side v. HasWalk (λ x. x.chunk) P.source (begins cut side) (ends_at cut side) v };

@@ -2,7 +2,7 @@
 ghost use Rattle.std.specs.Prelude.{None};
 
 use crate::walks::{by_steps, claimed, walk_numbers};
-use completer_tree::{Continuation, Failure, Forked, Handed, Part, Tree, TreeCounts};
+use completer_tree::{Continuation, Failure, Forked, Handed, PartValue, Tree, TreeCounts};
 use std::alloc::{AllocError, Global};
 use std::sync::Arc;
 use std::test::Fail;
@@ -19,7 +19,7 @@ struct Spot {
     number: u8,
 }
 
-impl Part for Shared {
+impl PartValue for Shared {
     type Tag = Spot;
 
     ghost fits = { λ _ _ _. Unit {0} };

@@ -12,8 +12,8 @@ ghost use Rattle.completer_tests.specs.WalkLaws.{by_bounds};
 
 use crate::cut::Cut;
 use completer_tree::{
-    Completer, CompleterTree, Continuation, Failure, First, Forked, Half, Handed, Next, Part, Tree,
-    TreeCounts, TreeSeat,
+    Completer, CompleterTree, Continuation, Failure, First, Forked, Half, Handed, Next, PartValue,
+    Tree, TreeCounts, TreeSeat,
 };
 use lambda_expr::FaultKind;
 use pending_count::{Place, Side};
@@ -39,7 +39,7 @@ pub(crate) struct Items<P: Planned> {
     of: PhantomData<P>,
 }
 
-impl<P: Planned> Part for Items<P> {
+impl<P: Planned> PartValue for Items<P> {
     type Tag = Cut;
 
     ghost fits = { λ cut side v. Walked (λ x. x.items.items) P.source (begins cut side) (ends_at cut side) v };

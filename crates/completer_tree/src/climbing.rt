@@ -10,7 +10,7 @@ ghost use Rattle.completer_tree.specs.Climbs.{CanFinish, HasArrived, IsHandedAt,
 
 use crate::completer::Completer;
 use crate::continuation::Continuation;
-use crate::part::{Failure, Handed, Part};
+use crate::part::{Failure, Handed, PartValue};
 use crate::tree::{CompleterTree, Tree, TreeSeat};
 use pending_count::{ArrivedPair, FinishPair, Fits, Place, Seat};
 
@@ -42,7 +42,7 @@ pub enum Next<V, K: Fits<V>> {
 }
 
 /// Looks at each value before it is handed in: at the one that a caller hands in, and at the answers of the nodes that this completes.
-pub trait Looker<T: Part> {
+pub trait Looker<T: PartValue> {
     fn look(&mut self, at: &Place<T::Tag>, value: &Handed<T>)
         requires fits { T.fits at.now.tag at.now.side value.now };
 }
@@ -51,11 +51,11 @@ pub trait Looker<T: Part> {
 #[derive(Clone, Copy)]
 pub struct Unwatched;
 
-impl<T: Part> Looker<T> for Unwatched {
+impl<T: PartValue> Looker<T> for Unwatched {
     fn look(&mut self, _at: &Place<T::Tag>, _value: &Handed<T>) {}
 }
 
-impl<T: Part, C: Continuation<T>> Finisher<Handed<T>, Completer<T, C>> {
+impl<T: PartValue, C: Continuation<T>> Finisher<Handed<T>, Completer<T, C>> {
     /// Runs one of the node's two continuations. The place is the one at which the answer is to be handed in; none at the top of a tree.
     pub fn finish(self) -> (Handed<T>, Option<Place<T::Tag>>)
         requires left { T.fits (C.tag_of self.finish.kept.run) Left self.finish.left }
@@ -77,7 +77,11 @@ impl<T: Part, C: Continuation<T>> Finisher<Handed<T>, Completer<T, C>> {
 }
 
 // What the continuations of a node make of its two sides.
-fn answer_of<T: Part, C: Continuation<T>>(left: Handed<T>, right: Handed<T>, run: C) -> Handed<T>
+fn answer_of<T: PartValue, C: Continuation<T>>(
+    left: Handed<T>,
+    right: Handed<T>,
+    run: C,
+) -> Handed<T>
     requires left { T.fits (C.tag_of run) Left left }
     requires right { T.fits (C.tag_of run) Right right }
     ensures goes { Goes T.fits (C.tag_of run) (C.goes_to run) result }
@@ -92,7 +96,7 @@ fn answer_of<T: Part, C: Continuation<T>>(left: Handed<T>, right: Handed<T>, run
     }
 }
 
-impl<'a, T: Part, C: Continuation<T>> Tree<'a, Handed<T>, Completer<T, C>> {
+impl<'a, T: PartValue, C: Continuation<T>> Tree<'a, Handed<T>, Completer<T, C>> {
     /// Hands a value in at a place: one arrival there (Java: `firstComplete`). A load and one `fetch_sub`.
     pub fn first_complete(
         &self,
@@ -221,7 +225,7 @@ impl<'a, T: Part, C: Continuation<T>> Tree<'a, Handed<T>, Completer<T, C>> {
 
 // Finishes node after node upwards, while each arrival is the last.
 #[cycle(climb)]
-fn climb<T: Part, C: Continuation<T>, L: Looker<T>>(
+fn climb<T: PartValue, C: Continuation<T>, L: Looker<T>>(
     tree: &CompleterTree<T, C>,
     seat: TreeSeat<T, C>,
     finisher: Finisher<Handed<T>, Completer<T, C>>,

@@ -3,21 +3,21 @@ ghost use Rattle.std.specs.Prelude.{◌≡◌, Option, Some, None};
 ghost use Rattle.completer_tree.specs.Places.{place_at, place_by};
 
 use crate::continuation::Continuation;
-use crate::part::{Handed, Part};
+use crate::part::{Handed, PartValue};
 use completion_core::Node;
 use pending_count::{Fits, Place, Side};
 use std::marker::PhantomData;
 
 /// A continuation at its node, with the parent's number (0 at the top of a tree) and the top's.
 #[derive(Drop)]
-pub struct Completer<T: Part, C: Continuation<T>> {
+pub struct Completer<T: PartValue, C: Continuation<T>> {
     pub(crate) run: C,
     pub(crate) root: Node,
     pub(crate) parent: Node,
     pub(crate) of: PhantomData<T>,
 }
 
-impl<T: Part, C: Continuation<T>> Fits<Handed<T>> for Completer<T, C> {
+impl<T: PartValue, C: Continuation<T>> Fits<Handed<T>> for Completer<T, C> {
     type Tag = T::Tag;
 
     ghost fits = { λ tag side v. T.fits tag side v };

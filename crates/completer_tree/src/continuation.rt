@@ -4,11 +4,11 @@ ghost use Rattle.pending_count.specs.declared.place.Side.TheVariants.{Left, Righ
 ghost use Rattle.completer_tree.specs.declared.part.Failure.{Failure};
 ghost use Rattle.completer_tree.specs.Places.{Goes, IsLeftmost};
 
-use crate::part::{Failure, Handed, Part};
+use crate::part::{Failure, Handed, PartValue};
 
 /// The continuations of one node: exactly one of them runs, once, after both sides were handed in. The answer goes to the parent, or
 /// at the top of a tree to whoever handed in the last value.
-pub trait Continuation<T: Part>: Drop {
+pub trait Continuation<T: PartValue>: Drop {
     ghost tag_of: { Self → T.Tag };
 
     // The tag of the parent, and whether it is its left side; none at the top.

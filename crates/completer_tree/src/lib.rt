@@ -21,5 +21,5 @@ mod tree;
 pub use climbing::{Finisher, First, Looker, Next, Unwatched};
 pub use completer::{Completer, place_at};
 pub use continuation::Continuation;
-pub use part::{Failure, Handed, Part};
+pub use part::{Failure, Handed, PartValue};
 pub use tree::{CompleterTree, Forked, Half, Tree, TreeCounts, TreeSeat};

@@ -18,7 +18,7 @@ pub enum Failure {
 pub type Handed<T> = Result<T, Failure>;
 
 /// A value that stands for a part of a whole.
-pub trait Part: Drop {
+pub trait PartValue: Drop {
     /// What distinguishes one node from another, for example the range of items that it stands for. It has to be one struct of plain
     /// fields without type parameters (see `pending_count::Fits`).
     type Tag: Copy;

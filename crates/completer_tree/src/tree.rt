@@ -10,7 +10,7 @@ ghost use Rattle.completer_tree.specs.Forks.{IfSplit, IfWhole, HalvesCredit};
 
 use crate::completer::{Completer, place_at};
 use crate::continuation::Continuation;
-use crate::part::{Handed, Part};
+use crate::part::{Handed, PartValue};
 use completion_core::{END, Node};
 use pending_count::{Counts, Fits, Place, Seat, Side};
 use std::marker::PhantomData;
@@ -53,7 +53,7 @@ impl<'a, V, K: Fits<V>> Tree<'a, V, K> {
     }
 }
 
-impl<'a, T: Part, C: Continuation<T>> Tree<'a, Handed<T>, Completer<T, C>> {
+impl<'a, T: PartValue, C: Continuation<T>> Tree<'a, Handed<T>, Completer<T, C>> {
     /// Claims a node for the continuations `run`, below the place `at` or as the top of the tree, and splits the seat in two, one for
     /// each side. `Whole` only if the credit is 0 or all nodes were claimed. One `fetch_add`, one store and two loads.
     pub fn fork(
@@ -92,7 +92,7 @@ fn above<T: Copy>(at: Option<Place<T>>, node: Node) -> (Node, Node)
 }
 
 // The same with what the new node keeps.
-fn fork_keeping<T: Part, C: Continuation<T>>(
+fn fork_keeping<T: PartValue, C: Continuation<T>>(
     counts: &TreeCounts<T, C>,
     seat: TreeSeat<T, C>,
     at: Option<Place<T::Tag>>,

@@ -6,7 +6,7 @@ ghost use Rattle.job_table.specs.Cuts.{begins, ends_at, IsPiece, IsSideOf, Stand
 ghost use Rattle.job_table.specs.CutLaws.{stands_moved, stands_whole};
 
 use crate::segments::JobSegments;
-use completer_tree::{Completer, Continuation, Failure, Handed, Part, TreeCounts, TreeSeat};
+use completer_tree::{Completer, Continuation, Failure, Handed, PartValue, TreeCounts, TreeSeat};
 use pending_count::{Place, Side};
 use std::marker::PhantomData;
 
@@ -65,7 +65,7 @@ pub struct SegmentPart<S: JobSegments> {
     pub(crate) of: PhantomData<S>,
 }
 
-impl<S: JobSegments> Part for SegmentPart<S> {
+impl<S: JobSegments> PartValue for SegmentPart<S> {
     type Tag = CutPiece;
 
     ghost fits = { λ cut side v. Stands S.stands_for cut.job cut.segment (begins cut side) (ends_at cut side) (λ x. x.part) v };

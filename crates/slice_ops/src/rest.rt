@@ -13,7 +13,7 @@ ghost use Rattle.slice_ops.specs.Slices.{dropped, front_ends, slice_of, sliced, 
 use super::shorten::Front;
 use super::slice_part::Slice;
 use lambda_expr::{BoolExpr, Env};
-use trace::{End, SourceItems, Stop};
+use trace::{End, EndTest, SourceItems};
 
 /// What a slice does with the items to come, after the ones that went through it.
 #[derive(Clone, Copy)]

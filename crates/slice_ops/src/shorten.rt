@@ -6,7 +6,7 @@ ghost use Rattle.trace.specs.Stops.{stop_at};
 ghost use Rattle.slice_ops.specs.Slices.{limited, skipped, taken, dropped, front_ends};
 
 use lambda_expr::{BoolExpr, Env};
-use trace::{Chunk, End, Fault, Item, Stop};
+use trace::{Chunk, End, EndTest, Fault, Item};
 
 /// Keeps the first `n` items and ends done, if there are at least `n`. The answer says whether there are.
 pub fn limit(chunk: &mut Chunk, n: u64) -> bool
@@ -52,7 +52,7 @@ pub(super) struct Front<'a> {
     pub(super) env: &'a Env,
 }
 
-impl Stop for Front<'_> {
+impl EndTest for Front<'_> {
     ghost stops = { λ front. front_ends (truth_of front.test.now) front.stage front.env.now };
 
     fn end_before(&self, item: Item) -> Option<End> {

@@ -11,7 +11,7 @@ ghost use Rattle.slice_ops.specs.Slices.{AbstractSlice, front_ends, slice_of, sl
 
 use super::shorten::{Front, drop_while, limit, skip, take_while};
 use lambda_expr::{BoolExpr, Env};
-use trace::{Chunk, End, Item, NoMemory, SourceItems, Stop};
+use trace::{Chunk, End, EndTest, Item, NoMemory, SourceItems};
 
 /// A stage that looks at a whole walk.
 #[derive(Drop)]

@@ -6,9 +6,9 @@ ghost use Rattle.spliterator.specs.Parts.{plain_values, all_values};
 
 use super::array_split::ArraySplit;
 use super::characteristics::{IMMUTABLE, NONNULL, ORDERED, SIZED, SUBSIZED};
-use super::long_spliterator::{LongSpliterator, MAX_SOURCE_SIZE};
+use super::long_spliterator::LongSpliterator;
 use super::plain_split::PlainSplit;
-use trace::Item;
+use trace::{Item, MAX_SOURCE_SIZE};
 
 /// The items of `LongStream.concat`, or a piece of them. It borrows the parts.
 ///

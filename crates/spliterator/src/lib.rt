@@ -20,6 +20,7 @@ pub use characteristics::{
     CONCURRENT, DISTINCT, IMMUTABLE, NONNULL, ORDERED, SIZED, SORTED, SUBSIZED,
 };
 pub use concat_split::ConcatSplit;
-pub use long_spliterator::{LongSpliterator, MAX_SOURCE_SIZE};
+pub use long_spliterator::LongSpliterator;
 pub use plain_split::PlainSplit;
 pub use range_split::RangeSplit;
+pub use trace::MAX_SOURCE_SIZE;

@@ -6,9 +6,6 @@ ghost use Rattle.spliterator.specs.Splits.{IsSplit};
 
 use trace::Item;
 
-/// The largest number of values of a source: 2^62.
-pub const MAX_SOURCE_SIZE: u64 = 1 << 62;
-
 /// A source of items in encounter order that can be split (`java.util.Spliterator.OfLong`).
 ///
 /// Splits can't go on forever: each part has fewer items than the whole.

@@ -6,8 +6,8 @@ ghost use Rattle.trace.specs.Cover.{counted, placed, distance};
 ghost use Rattle.spliterator.specs.Splits.{IsSplit, split_items};
 
 use super::characteristics::{DISTINCT, IMMUTABLE, NONNULL, ORDERED, SIZED, SORTED, SUBSIZED};
-use super::long_spliterator::{LongSpliterator, MAX_SOURCE_SIZE};
-use trace::Item;
+use super::long_spliterator::LongSpliterator;
+use trace::{Item, MAX_SOURCE_SIZE};
 
 /// The items of `LongStream.range` and `rangeClosed`, or a piece of them.
 #[derive(Clone, Copy)]

@@ -15,7 +15,7 @@ use crate::item::{End, Item};
 use crate::sink::{Flow, LongSink};
 use crate::source::SourceItems;
 pub use rewriting::Rewrite;
-pub use searching::Stop;
+pub use searching::EndTest;
 use std::alloc::Global;
 use std::marker::Model;
 

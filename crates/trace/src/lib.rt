@@ -19,7 +19,7 @@ mod sink;
 mod source;
 mod stage;
 
-pub use chunk::{Chunk, Rewrite, Stop};
+pub use chunk::{Chunk, EndTest, Rewrite};
 pub use feeding::{Fed, feed, feed_all};
 pub use item::{End, Fault, Item};
 pub use laws::{

@@ -11,7 +11,7 @@ use super::shortening::{keep_back, keep_front};
 use crate::item::{End, Item};
 
 /// What may end a walk at an item.
-pub trait Stop {
+pub trait EndTest {
     // How a walk ends before this item, or nothing if it goes on.
     ghost stops: { Self → Item → Option End };
 
@@ -24,7 +24,7 @@ impl Chunk {
     /// Keeps the items before the first one that ends the walk, and ends so. It takes no memory.
     ///
     /// The answer says whether there is such an item; if not, the chunk stays as it is.
-    pub fn keep_until<S: Stop>(&mut self, stop: &S) -> bool
+    pub fn keep_until<S: EndTest>(&mut self, stop: &S) -> bool
         ensures kept { self.new ≡ kept_before (stop_at (S.stops stop.now) self.old.items) self.old }
         ensures found { result ≡ is_some (stop_at (S.stops stop.now) self.old.items) }
     {
@@ -39,7 +39,7 @@ impl Chunk {
     /// Keeps the items from the first one on that ends the walk. It takes no memory.
     ///
     /// If the walk ends there with a fault, no item and this fault are left.
-    pub fn keep_from<S: Stop>(&mut self, stop: &S)
+    pub fn keep_from<S: EndTest>(&mut self, stop: &S)
         ensures { self.new ≡ kept_from (stop_at (S.stops stop.now) self.old.items) self.old }
     {
         match first_stop(&self.pieces, stop) {
@@ -54,7 +54,7 @@ impl Chunk {
 }
 
 /// The first item that ends the walk: after whole pieces and some items of the next one.
-fn first_stop<S: Stop>(pieces: &[Vec<Item>], stop: &S) -> Option<(usize, usize, End)>
+fn first_stop<S: EndTest>(pieces: &[Vec<Item>], stop: &S) -> Option<(usize, usize, End)>
     ensures some { IfSome result (λ at. (n : ℕ) × (stop_at (S.stops stop.now) (flat_map (λ piece. piece.items) pieces.now) ≡ Some (n, at.2)) × IsCut (λ piece. piece.items) pieces.now n at.0 at.1) }
     ensures none { IfNone result (stop_at (S.stops stop.now) (flat_map (λ piece. piece.items) pieces.now) ≡ None) }
 {
@@ -67,7 +67,7 @@ fn first_stop<S: Stop>(pieces: &[Vec<Item>], stop: &S) -> Option<(usize, usize, 
 }
 
 /// The position of the first of these items that ends the walk, and how it ends.
-fn stop_in<S: Stop>(items: &[Item], stop: &S) -> Option<(usize, End)>
+fn stop_in<S: EndTest>(items: &[Item], stop: &S) -> Option<(usize, End)>
     ensures { result ≡ stop_at (S.stops stop.now) items.now }
 {
     for (at, item) in items.iter().enumerate() {

@@ -35,7 +35,7 @@ returns-in-Last-clause-found g t c =
     let k = c.args.finisher.finish.kept in
     let q = placed k.parent k.root (g.C.Continuation.goes_to k.run) l.0 l.1 in
     IfSome_then c.climb.result.1 c.climb.ensures.found
-    (λ v h. g.met.C.Continuation.leads k.run q.0 q.1 v (subst (λ z. g.T.Part.result z v) (l.2.tag ∙ ap (λ x. x.tag) q.2) h))
+    (λ v h. g.met.C.Continuation.leads k.run q.0 q.1 v (subst (λ z. g.T.PartValue.result z v) (l.2.tag ∙ ap (λ x. x.tag) q.2) h))
 
 pub climb-requires : goal.climb-requires
 climb-requires g t c κs within =

@@ -6,7 +6,7 @@ use Rattle.trace.proofs.chunk.searching.first_stop.Goals as goal
 
 pub returns-in-Some-clause-some : goal.returns-in-Some-clause-some
 returns-in-Some-clause-some g c =
-    let h = g.S.Stop.stops c.args.stop.now in
+    let h = g.S.EndTest.stops c.args.stop.now in
     let ps = c.args.pieces.now in
     let w = c.loop-whole.whole in
     let k = c.in-Some.within in
@@ -19,6 +19,6 @@ returns-in-Some-clause-some g c =
 
 pub loop-whole-preserved : goal.loop-whole-preserved
 loop-whole-preserved g c =
-    let h = g.S.Stop.stops c.args.stop.now in
+    let h = g.S.EndTest.stops c.args.stop.now in
     let none = ap (stop_at h) (sym c.deref.ensures.value) ∙ sym c.stop_in.ensures ∙ c.in_default.is in
     pieces_pass h (λ (p : Vec Item Global). p.items) c.args.pieces.now c.loop-whole.whole c.index-pieces-whole.result c.loop-whole-test.true c.index-pieces-whole.is none c.loop-whole.invariant
