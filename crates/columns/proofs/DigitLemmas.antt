@@ -1,8 +1,7 @@
 -- Digits that stand in the bytes of a word.
-use Rattle.std.proofs.Common.{Bool, true, false, not, cond, leb, nat_lt, ◌≡◌, ◌<◌, ◌≤◌, ◌+◌, ◌-◌, ◌*◌, ◌/◌, ◌%◌, ◌^◌, ◌++◌, ◌∷◌, ◌∙◌, [], ℕ, zero, suc, List, refl, sym, ap, arith, length, take, drop}
+use Rattle.std.proofs.Common.{◌≡◌, ◌<◌, ◌+◌, ◌*◌, ◌/◌, ◌%◌, ◌^◌, ◌∷◌, ◌∙◌, [], ℕ, List, refl, ap, arith, length}
 use Rattle.std.proofs.lemmas.Nat.{and_block, and_mask}
 use Rattle.std.specs.Int.Digits.{AllBelowBase, number_from_digits}
-use Rattle.std.specs.List.{prefix_len}
 use lib.Bits.{bit_and}
 use lib.Lanes.{number_l}
 

@@ -2,7 +2,7 @@
 //!
 //! A row is read so if each cell is a number, bare or whole in quotes, and there is one for each column. What is read is
 //! what `csv` reads there; of every other row nothing is said, and `csv` reads it.
-ghost use Rattle.std.specs.Prelude.{◌≡◌, ◌∷◌, ◌++◌, [], ◌<◌, ◌≤◌, ◌-◌, ◌||◌, ◌==◌, ℤ, true, Some, IfSome, length, map, take, drop, get_or};
+ghost use Rattle.std.specs.Prelude.{◌≡◌, ◌∷◌, ◌++◌, [], ◌<◌, ◌≤◌, ◌-◌, ◌^◌, ◌||◌, ◌==◌, ℤ, true, Some, IfSome, length, map, take, drop, get_or};
 ghost use Rattle.std.specs.List.{list_all};
 ghost use Rattle.std.specs.Char.{is_ascii_digit};
 ghost use Rattle.columns.specs.Cell.{digits_value};
@@ -128,11 +128,8 @@ fn ends_field(byte: u8) -> bool
     byte == b',' || byte == b'\r' || byte == b'\n'
 }
 
-/// A number of 19 digits: with one more digit it is larger than every `i64`.
-const ENOUGH: u64 = 1_000_000_000_000_000_000;
-
-/// The largest `i64`.
-const LARGEST: u64 = 9_223_372_036_854_775_807;
+/// With one digit more after it, a number below this one is still an `i64`.
+const ENOUGH: u64 = 922_337_203_685_477_580;
 
 /// The number of a minus sign or none and some digits from `at` on, and where they end; not of all digits if there are many.
 #[inline(always)]
@@ -145,7 +142,7 @@ fn short_number(text: &[u8], at: usize) -> Option<(i64, usize)>
         return negative_number(text, at);
     }
     let (size, end) = digits_at(text, at);
-    if at == end || size > LARGEST {
+    if at == end {
         return None;
     }
     Some((size as i64, end))
@@ -160,7 +157,7 @@ fn negative_number(text: &[u8], at: usize) -> Option<(i64, usize)>
     ensures ends { IfSome result (λ r. (at ≤ r.1) × (r.1 ≤ length text.now)) }
 {
     let (size, end) = digits_at(text, at + 1);
-    if at + 1 == end || size > LARGEST {
+    if at + 1 == end {
         return None;
     }
     Some((-(size as i64), end))
@@ -168,16 +165,21 @@ fn negative_number(text: &[u8], at: usize) -> Option<(i64, usize)>
 
 /// What the digits from `at` on are worth, and where they end; of many digits only the first ones.
 ///
-/// Sixteen bytes are looked at together if they are left, but not for one digit alone.
+/// Sixteen bytes are looked at together if they are left, but not for one digit alone: a processor that guesses this
+/// reads on at once.
 #[inline(always)]
 fn digits_at(text: &[u8], at: usize) -> (u64, usize)
     requires { at ≤ length text.now }
     ensures ends { (at ≤ result.1) × (result.1 ≤ length text.now) }
     ensures digits { list_all is_ascii_digit (take (result.1 - at) (drop at text.now)) ≡ true }
     ensures value { result.0 ≡ digits_value (take (result.1 - at) (drop at text.now)) }
+    ensures fits { result.0 < 2 ^ 63 }
 {
-    if text.len() - at < BLOCK || !text[at + 1].is_ascii_digit() {
+    if text.len() - at < BLOCK || !text[at].is_ascii_digit() {
         return more_digits(text, at, at, 0);
+    }
+    if !text[at + 1].is_ascii_digit() {
+        return (u64::from(text[at] - b'0'), at + 1);
     }
     let (value, count) = front_digits(text, at);
     if count < BLOCK {
@@ -192,9 +194,11 @@ fn more_digits(text: &[u8], at: usize, from: usize, so_far: u64) -> (u64, usize)
     requires within { (at ≤ from) × (from ≤ length text.now) }
     requires digits { list_all is_ascii_digit (take (from - at) (drop at text.now)) ≡ true }
     requires so_far { so_far ≡ digits_value (take (from - at) (drop at text.now)) }
+    requires fits { so_far < 2 ^ 63 }
     ensures ends { (from ≤ result.1) × (result.1 ≤ length text.now) }
     ensures digits { list_all is_ascii_digit (take (result.1 - at) (drop at text.now)) ≡ true }
     ensures value { result.0 ≡ digits_value (take (result.1 - at) (drop at text.now)) }
+    ensures fits { result.0 < 2 ^ 63 }
 {
     let mut value = so_far;
     for end in from..text.len() {

@@ -1,4 +1,4 @@
-use Rattle.std.proofs.Common.{◌≡◌, ◌<◌, ◌∙◌, ◌*◌, ◌+◌, ◌-◌, ◌%◌, ◌^◌, ap, arith, refl}
+use Rattle.std.proofs.Common.{◌∙◌, arith, refl}
 use Rattle.columns.proofs.LaneLemmas.{halves, in_one, in_two}
 use Rattle.columns.proofs.digits.value_of_lanes.Goals as goal
 

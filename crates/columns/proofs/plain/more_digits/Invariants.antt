@@ -1,4 +1,4 @@
-use Rattle.std.proofs.Common.{◌≡◌, ◌≤◌, ◌-◌, take, drop, true}
+use Rattle.std.proofs.Common.{◌≡◌, ◌<◌, ◌≤◌, ◌-◌, ◌^◌, take, drop, true}
 use Rattle.std.specs.List.{list_all}
 use Rattle.std.specs.Char.{is_ascii_digit}
 use Rattle.columns.specs.Cell.{digits_value}
@@ -10,3 +10,4 @@ invariant-loop-end l =
     (l.at ≤ l.end)
     × (list_all is_ascii_digit (take (l.end - l.at) (drop l.at l.text)) ≡ true)
     × (l.value ≡ digits_value (take (l.end - l.at) (drop l.at l.text)))
+    × (l.value < 2 ^ 63)
