@@ -65,9 +65,9 @@ worth_is word (a ∷ b ∷ c ∷ d ∷ f ∷ g ∷ i ∷ j ∷ []) long h e =
     let whole : word ≡ (((j * 256 + i) * 65536 + (g * 256 + f)) * 65536 + (d * 256 + c)) * 65536 + (b * 256 + a) = omega arith in
     let down : word / 256 ≡ (((0 * 256 + j) * 65536 + (i * 256 + g)) * 65536 + (f * 256 + d)) * 65536 + (c * 256 + b) = omega arith in
     let even = ap (λ w. bit_and w 0x00ff_00ff_00ff_00ff) whole
-        ∙ low_bytes a b c d f g i j (omega arith) (omega arith) (omega arith) (omega arith) (omega arith) (omega arith) (omega arith) (omega arith) in
+    ∙ low_bytes a b c d f g i j (omega arith) (omega arith) (omega arith) (omega arith) (omega arith) (omega arith) (omega arith) (omega arith) in
     let odd = ap (λ w. bit_and w 0x00ff_00ff_00ff_00ff) down
-        ∙ low_bytes b c d f g i j 0 (omega arith) (omega arith) (omega arith) (omega arith) (omega arith) (omega arith) (omega arith) (omega arith) in
+    ∙ low_bytes b c d f g i j 0 (omega arith) (omega arith) (omega arith) (omega arith) (omega arith) (omega arith) (omega arith) (omega arith) in
     let pairs : bit_and word 0x00ff_00ff_00ff_00ff * 10 + bit_and (word / 256) 0x00ff_00ff_00ff_00ff
-        ≡ (((10 * i + j) * 65536 + (10 * f + g)) * 65536 + (10 * c + d)) * 65536 + (10 * a + b) = omega (arith, even, odd) in
+    ≡ (((10 * i + j) * 65536 + (10 * f + g)) * 65536 + (10 * c + d)) * 65536 + (10 * a + b) = omega (arith, even, odd) in
     from_pairs _ _ _ _ _ (omega arith) (omega arith) (omega arith) (omega arith) pairs _ refl ∙ omega arith

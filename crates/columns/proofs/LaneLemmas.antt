@@ -198,6 +198,11 @@ front xs lanes count long fit are is =
     let all : list_all is_ascii_digit (take count xs) ≡ true = rw counted (all_in_front xs) in
     let taken : take count lanes ≡ map lane (take count xs) = ap (take count) are ∙ take-map lane count xs in
     let below : AllBelowBase 10 (take count lanes) = rw taken (digits_below (take count xs) all) in
-    let short : length (take count lanes) ≤ 16 = omega (arith, few, length-take count lanes) in
-    (counted, few, below, ap (number_from_digits 10) taken ∙ value_of_lanes_is (take count xs) all,
-    lt_of_lt_of_le (number_lt 10 (take count lanes) below) (pow-le-pow_right (omega arith) short), all)
+    let short : length (take count lanes) ≤ 16 = omega (arith, few, length-take count lanes) in (
+      counted,
+      few,
+      below,
+      ap (number_from_digits 10) taken ∙ value_of_lanes_is (take count xs) all,
+      lt_of_lt_of_le (number_lt 10 (take count lanes) below) (pow-le-pow_right (omega arith) short),
+      all,
+    )
