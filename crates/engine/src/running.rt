@@ -19,7 +19,7 @@ use columns::{ColumnFault, Columns, CountedRead, ReadAllFault, read_all_of, read
 use job_language::{Job, JobFault, read_jobs};
 use job_plan::{Answer, Form, JobPlan, Plan, Settings};
 use job_table::{RunFault, run_jobs};
-use report::{CountedWrite, Report, WriteFault, json, text_by, write_report};
+use report::{CountedWrite, Report, WriteFault, json_by, text_by, write_report};
 use std::alloc::Global;
 use std::sync::Wait;
 use std::thread::Threads;
@@ -217,7 +217,7 @@ fn printed<H: Threads + Sync>(
 {
     match settings.form() {
         Form::Text => text_by(rt, alloc, settings.workers() as usize, names, answers),
-        Form::Json => Ok(Report::of_bytes(alloc, json(alloc, names, answers)?)),
+        Form::Json => json_by(rt, alloc, settings.workers() as usize, names, answers),
     }
 }
 

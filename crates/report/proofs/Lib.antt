@@ -1,3 +1,4 @@
+mod ArrayLemmas
 pub mod EachNamed
 mod NoFloats
 mod NumberLemmas

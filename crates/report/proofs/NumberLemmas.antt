@@ -3,7 +3,6 @@ use Rattle.std.proofs.Common.{◌≡◌, ◌+◌, ◌-◌, ◌∷◌, ◌++◌, 
 use lib.Dec.{leb-zero}
 use Rattle.std.proofs.Math.Seq.{take-add}
 use Rattle.std.proofs.lemmas.List.{take_rest}
-use Rattle.std.specs.Prelude.{codes}
 use Rattle.std.specs.Fmt.{decimal, signed_decimal}
 use Rattle.report.specs.Text.{further}
 
@@ -13,18 +12,18 @@ signed_minus (pos n) negative = absurd (true≢false (sym (leb-zero n) ∙ negat
 signed_minus (negsuc n) negative = refl
 
 -- the text of numbers in a row is that of some, and then that of the others
-pub further-append : (xs ys : List ℤ) → further (xs ++ ys) ≡ further xs ++ further ys
-further-append [] ys = refl
-further-append (x ∷ xs) ys = ap (λ t. codes ", " ++ signed_decimal x ++ t) (further-append xs ys) ∙ sym (append_assoc (codes ", " ++ signed_decimal x) (further xs) (further ys))
+pub further-append : (separator : List ℕ) (xs ys : List ℤ) → further separator (xs ++ ys) ≡ further separator xs ++ further separator ys
+further-append separator [] ys = refl
+further-append separator (x ∷ xs) ys = ap (λ t. separator ++ signed_decimal x ++ t) (further-append separator xs ys) ∙ sym (append_assoc (separator ++ signed_decimal x) (further separator xs) (further separator ys))
 
 -- the text of some more numbers, which stands at the end of the room, was appended
-pub further_next : (start before after : List ℕ) (values : List ℤ) (at count : ℕ) (room : List ℕ) (from : ℕ) → before ≡ start ++ further (take at values)
-    → drop from room ≡ further (take (at + count - at) (drop at values)) → after ≡ before ++ take (length room - from) (drop from room)
-    → after ≡ start ++ further (take (at + count) values)
-further_next start before after values at count room from so_far put appended =
+pub further_next : (separator start before after : List ℕ) (values : List ℤ) (at count : ℕ) (room : List ℕ) (from : ℕ) → before ≡ start ++ further separator (take at values)
+    → drop from room ≡ further separator (take (at + count - at) (drop at values)) → after ≡ before ++ take (length room - from) (drop from room)
+    → after ≡ start ++ further separator (take (at + count) values)
+further_next separator start before after values at count room from so_far put appended =
     let n : at + count - at ≡ count = omega arith in
-    let some : drop from room ≡ further (take count (drop at values)) = put ∙ ap (λ k. further (take k (drop at values))) n in
-    let both : further (take (at + count) values) ≡ further (take at values) ++ further (take count (drop at values)) =
-    ap further (take-add at count values) ∙ further-append (take at values) (take count (drop at values)) in
-    appended ∙ ap (λ t. before ++ t) (take_rest room from ∙ some) ∙ ap (λ t. t ++ further (take count (drop at values))) so_far
-    ∙ append_assoc start (further (take at values)) (further (take count (drop at values))) ∙ ap (λ t. start ++ t) (sym both)
+    let some : drop from room ≡ further separator (take count (drop at values)) = put ∙ ap (λ k. further separator (take k (drop at values))) n in
+    let both : further separator (take (at + count) values) ≡ further separator (take at values) ++ further separator (take count (drop at values)) =
+    ap (further separator) (take-add at count values) ∙ further-append separator (take at values) (take count (drop at values)) in
+    appended ∙ ap (λ t. before ++ t) (take_rest room from ∙ some) ∙ ap (λ t. t ++ further separator (take count (drop at values))) so_far
+    ∙ append_assoc start (further separator (take at values)) (further separator (take count (drop at values))) ∙ ap (λ t. start ++ t) (sym both)

@@ -1,6 +1,7 @@
 -- Condition: the files of this crate's definitions; the first line of each says what it is.
 pub mod Json
 pub mod Named
+pub mod Numbers
 pub mod Pieces
 pub mod Text
 pub mod Worked

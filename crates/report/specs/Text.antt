@@ -17,15 +17,15 @@ abbrev pub optional_text : Option ℤ → List ℕ
 optional_text None = codes "OptionalLong.empty"
 optional_text (Some v) = codes "OptionalLong[" ++ signed_decimal v ++ codes "]"
 
--- helper: numbers after another one, each after a comma and a blank
-abbrev pub further : List ℤ → List ℕ
-further [] = []
-further (v ∷ vs) = codes ", " ++ signed_decimal v ++ further vs
+-- helper: numbers after another one, each after these bytes
+abbrev pub further : List ℕ → List ℤ → List ℕ
+further separator [] = []
+further separator (v ∷ vs) = separator ++ signed_decimal v ++ further separator vs
 
 -- numbers in brackets (`Arrays.toString`)
 abbrev pub array_text : List ℤ → List ℕ
 array_text [] = codes "[]"
-array_text (v ∷ vs) = codes "[" ++ signed_decimal v ++ further vs ++ codes "]"
+array_text (v ∷ vs) = codes "[" ++ signed_decimal v ++ further (codes ", ") vs ++ codes "]"
 
 -- a kind of fault
 abbrev pub kind_text : FaultKind → List ℕ

@@ -6,7 +6,8 @@ ghost use Rattle.report.specs.Text.{answer_text, array_text, fault_text, line_of
 
 use crate::NoMemory;
 use crate::kind::kind_name;
-use crate::numbers::write_further;
+use crate::numbers::{write_number, write_numbers};
+use crate::separator::Separator;
 use itoa::Buffer;
 use job_plan::Answer;
 use std::alloc::Global;
@@ -64,12 +65,6 @@ fn write_answer(report: &mut Vec<u8>, names: &[Bytes], answer: &Answer) -> Resul
     }
 }
 
-pub(crate) fn write_number(report: &mut Vec<u8>, value: i64) -> Result<(), NoMemory>
-    ensures { OnOk result (report.new.items ≡ report.old.items ++ signed_decimal value) }
-{
-    report.extend_from_slice(Buffer::new().format(value).as_bytes())
-}
-
 fn write_count(report: &mut Vec<u8>, count: u64) -> Result<(), NoMemory>
     ensures { OnOk result (report.new.items ≡ report.old.items ++ decimal count) }
 {
@@ -87,12 +82,8 @@ fn write_present(report: &mut Vec<u8>, value: i64) -> Result<(), NoMemory>
 fn write_array(report: &mut Vec<u8>, values: &[i64]) -> Result<(), NoMemory>
     ensures { OnOk result (report.new.items ≡ report.old.items ++ array_text values.now) }
 {
-    let Some((first, others)) = values.split_first() else {
-        return report.extend_from_slice(b"[]");
-    };
     report.extend_from_slice(b"[")?;
-    write_number(report, *first)?;
-    write_further(report, others)?;
+    write_numbers(report, Separator::CommaAndBlank, values)?;
     report.extend_from_slice(b"]")
 }
 

@@ -2,9 +2,9 @@
 //!
 //! Stands on `job_plan`, whose answers it prints, on `stream_tokens` for the bytes of a name, on
 //! `counted_io`, whose writers it gives out, on `itoa` for digits and on `serde_json`. Used by `engine`.
-//! What it promises to it: `text` and `text_by` give exactly the bytes that `specs/Text.antt` defines, `json` those of
-//! `specs/Json.antt`, and `write_report` writes them all, or says how many of the first ones went out.
-//! Begin with `specs/Text.antt`, then `as_text.rt`, and `long_text.rt` for arrays that are printed on threads.
+//! What it promises to it: `text` and `text_by` give exactly the bytes that `specs/Text.antt` defines, `json` and
+//! `json_by` those of `specs/Json.antt`, and `write_report` writes them all, or says how many of the first ones went out.
+//! Begin with `specs/Text.antt`, then `as_text.rt`, and `draft.rt` for arrays that are printed on threads.
 //! Not promised: what a file or a terminal holds afterwards; that is known of writers over memory.
 #![tactic(auto)]
 
@@ -13,16 +13,19 @@ mod as_text;
 mod by_threads;
 mod draft;
 mod kind;
+mod long_json;
 mod long_text;
 mod numbers;
 mod pieces;
 mod printable;
+mod separator;
 mod worked;
 
 pub use as_json::json;
 pub use as_text::text;
 pub use counted_io::{CountedOut, CountedWrite, WriteFault, write_all_of};
 pub use kind::kind_name;
+pub use long_json::json_by;
 pub use long_text::text_by;
 pub use pieces::{Report, write_report};
 pub use printable::a_meaning_has_a_report;

@@ -5,20 +5,17 @@
 ghost use Rattle.report.specs.Named.{IsNamed};
 ghost use Rattle.report.specs.Pieces.{draft_bytes};
 ghost use Rattle.report.specs.Text.{array_text, line_of, report_text};
-ghost use Rattle.std.specs.Fmt.{signed_decimal};
-ghost use Rattle.std.specs.Prelude.{◌≡◌, ◌≢◌, ◌∷◌, ◌<◌, ◌++◌, [], All, codes, length, IfOk, OnErr, OnOk};
+ghost use Rattle.std.specs.Prelude.{◌≡◌, ◌≢◌, ◌++◌, [], All, codes, length, IfOk, OnErr, OnOk};
 
 use crate::NoMemory;
-use crate::as_text::{write_line, write_number};
+use crate::as_text::write_line;
 use crate::draft::Draft;
 use crate::pieces::Report;
+use crate::separator::Separator;
 use job_plan::Answer;
 use std::alloc::Global;
 use std::thread::Threads;
 use stream_tokens::Bytes;
-
-/// How many numbers are worth a thread: their text takes longer than starting one.
-const WORTH_A_THREAD: usize = 32_768;
 
 /// The same bytes as `text` gives. The text of a long array is made in pieces on as many threads as there are workers.
 ///
@@ -54,40 +51,25 @@ fn write_line_by<H: Threads + Sync>(
     requires { IsNamed names.now answer.now }
     ensures { OnOk result (draft_bytes draft.new ≡ draft_bytes draft.old ++ line_of names.now name.now answer.now) }
 {
-    if let Answer::Array(values) = answer
-        && let Some((first, others)) = values.as_slice().split_first()
-    {
-        let threads = workers.min(others.len() / WORTH_A_THREAD);
-        if threads > 1 {
-            return write_array_line(rt, threads, draft, name, *first, others);
-        }
+    match answer {
+        Answer::Array(values) => write_array_line(rt, workers, draft, name, values.as_slice()),
+        _ => write_line(&mut draft.last, names, name, answer),
     }
-    write_line(&mut draft.last, names, name, answer)
 }
 
-/// The line of an array of a number and others.
+/// The line of an array.
 fn write_array_line<H: Threads + Sync>(
     rt: &H,
-    threads: usize,
+    workers: usize,
     draft: &mut Draft,
     name: &[u8],
-    first: i64,
-    others: &[i64],
+    values: &[i64],
 ) -> Result<(), NoMemory>
-    requires { 0 < threads }
     ensures { OnOk result (draft_bytes draft.new ≡ draft_bytes draft.old
-        ++ (name.now ++ codes " = " ++ array_text (first ∷ others.now) ++ codes "\n")) }
+        ++ (name.now ++ codes " = " ++ array_text values.now ++ codes "\n")) }
 {
-    begin_array(&mut draft.last, name, first)?;
-    draft.add_further(rt, others, threads)?;
+    draft.last.extend_from_slice(name)?;
+    draft.last.extend_from_slice(b" = [")?;
+    draft.add_numbers(rt, workers, Separator::CommaAndBlank, values)?;
     draft.last.extend_from_slice(b"]\n")
-}
-
-/// The line up to the first number.
-fn begin_array(text: &mut Vec<u8>, name: &[u8], first: i64) -> Result<(), NoMemory>
-    ensures { OnOk result (text.new.items ≡ text.old.items ++ (name.now ++ codes " = [" ++ signed_decimal first)) }
-{
-    text.extend_from_slice(name)?;
-    text.extend_from_slice(b" = [")?;
-    write_number(text, first)
 }

@@ -1,13 +1,15 @@
-//! The text of numbers in a row.
+//! The text of a number, and of many in a row.
 //!
-//! A few of them at a time are written into room on the stack, from the last one to the first, since the digits of a
+//! Of many, a few at a time are written into room on the stack, from the last one to the first, since the digits of a
 //! number come from its last one to its first. Then they are appended at once.
-ghost use Rattle.std.specs.Prelude.{◌≡◌, ◌+◌, ◌*◌, ◌≤◌, ◌++◌, codes, drop, length, OnOk};
+ghost use Rattle.std.specs.Prelude.{◌≡◌, ◌+◌, ◌*◌, ◌≤◌, ◌++◌, drop, length, OnOk};
 ghost use Rattle.std.specs.Fmt.{signed_decimal};
+ghost use Rattle.report.specs.Numbers.{parted, separator_bytes};
 ghost use Rattle.report.specs.Text.{further};
 
 use crate::NoMemory;
-use itoa::write_digits;
+use crate::separator::Separator;
+use itoa::{Buffer, write_digits};
 
 /// How many numbers are written at a time.
 const AT_A_TIME: usize = 64;
@@ -15,49 +17,72 @@ const AT_A_TIME: usize = 64;
 /// The bytes that a number takes at most: a comma, a blank, a sign and 19 digits.
 const LONGEST: usize = 22;
 
-/// Appends the numbers, each after a comma and a blank.
-pub(crate) fn write_further(text: &mut Vec<u8>, values: &[i64]) -> Result<(), NoMemory>
-    ensures { OnOk result (text.new.items ≡ text.old.items ++ further values.now) }
+pub(crate) fn write_number(text: &mut Vec<u8>, value: i64) -> Result<(), NoMemory>
+    ensures { OnOk result (text.new.items ≡ text.old.items ++ signed_decimal value) }
+{
+    text.extend_from_slice(Buffer::new().format(value).as_bytes())
+}
+
+/// Appends the numbers, parted by the separator.
+pub(crate) fn write_numbers(
+    text: &mut Vec<u8>,
+    separator: Separator,
+    values: &[i64],
+) -> Result<(), NoMemory>
+    ensures { OnOk result (text.new.items ≡ text.old.items ++ parted separator values.now) }
+{
+    let Some((first, others)) = values.split_first() else {
+        return Ok(());
+    };
+    write_number(text, *first)?;
+    write_further(text, separator, others)
+}
+
+/// Appends the numbers, each after the separator.
+pub(crate) fn write_further(
+    text: &mut Vec<u8>,
+    separator: Separator,
+    values: &[i64],
+) -> Result<(), NoMemory>
+    ensures { OnOk result (text.new.items ≡ text.old.items ++ further (separator_bytes separator) values.now) }
 {
     let mut room = [0; AT_A_TIME * LONGEST];
     let mut at = 0;
     while at < values.len() {
         let count = AT_A_TIME.min(values.len() - at);
-        let start = put_further(&values[at..at + count], &mut room);
+        let start = put_further(separator, &values[at..at + count], &mut room);
         text.extend_from_slice(&room[start..])?;
         at += count;
     }
     Ok(())
 }
 
-/// Puts the numbers, each after a comma and a blank, at the end of the room, and answers where they start.
-fn put_further(values: &[i64], room: &mut [u8]) -> usize
+/// Puts the numbers, each after the separator, at the end of the room, and answers where they start.
+fn put_further(separator: Separator, values: &[i64], room: &mut [u8]) -> usize
     requires room { 22 * length values.now ≤ length room.old }
     ensures within { result ≤ length room.new }
-    ensures put { drop result room.new ≡ further values.now }
+    ensures put { drop result room.new ≡ further (separator_bytes separator) values.now }
 {
     let mut start = room.len();
     let mut left = values.len();
     while left > 0 {
         left -= 1;
-        start = put_next(values[left], room, start);
+        start = put_next(separator, values[left], room, start);
     }
     start
 }
 
-/// Puts the number after a comma and a blank, so that it ends at `end`, and answers where this starts.
+/// Puts the number after the separator, so that it ends at `end`, and answers where this starts.
 #[inline]
-fn put_next(value: i64, room: &mut [u8], end: usize) -> usize
+fn put_next(separator: Separator, value: i64, room: &mut [u8], end: usize) -> usize
     requires room { 22 ≤ end }
     requires within { end ≤ length room.old }
     ensures short { end ≤ result + 22 }
     ensures within { result ≤ end }
-    ensures put { drop result room.new ≡ codes ", " ++ signed_decimal value ++ drop end room.old }
+    ensures put { drop result room.new ≡ separator_bytes separator ++ signed_decimal value ++ drop end room.old }
 {
     let start = put_number(value, room, end);
-    room[start - 1] = b' ';
-    room[start - 2] = b',';
-    start - 2
+    separator.put(room, start)
 }
 
 /// Puts the number so that it ends at `end`, and answers where it starts.

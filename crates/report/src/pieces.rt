@@ -29,16 +29,6 @@ impl Model for Report {
 }
 
 impl Report {
-    /// A report in one piece, which is moved in.
-    pub fn of_bytes(alloc: Global, bytes: Vec<u8>) -> Report
-        ensures { result ≡ bytes.items }
-    {
-        Report {
-            pieces: Vec::new(alloc),
-            last: bytes,
-        }
-    }
-
     /// A report of the pieces and of what comes after them, if a `u64` counts its bytes, as it does of all that fits into
     /// a memory.
     pub(crate) fn of_pieces(pieces: Vec<Vec<u8>>, last: Vec<u8>) -> Result<Report, NoMemory>
