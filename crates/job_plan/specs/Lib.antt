@@ -4,6 +4,7 @@ pub mod Batches
 pub mod Faultless
 pub mod FileAnswers
 pub mod Kept
+pub mod Keeping
 pub mod Links
 pub mod Maps
 pub mod Moves

@@ -1,7 +1,8 @@
 //! A piece of a segment's source, taken through the segment's stages to the part that its end wants.
 
-ghost use Rattle.std.specs.Prelude.{◌≡◌, ◌+◌, ◌<◌, ◌^◌, ℕ, List, [], false, length, map, IfOk, ⊤};
+ghost use Rattle.std.specs.Prelude.{◌≡◌, ◌+◌, ◌<◌, ◌^◌, ℕ, List, [], false, true, length, map, IfOk, OnErr};
 ghost use Rattle.trace.specs.Trace.{Trace, nothing, append};
+ghost use Rattle.job_plan.specs.Keeping.{end_keeps_items};
 ghost use Rattle.job_plan.specs.Parts.{StandsEnough};
 ghost use Rattle.job_plan.specs.Spans.{IsNotAfter};
 ghost use Rattle.lambda_expr.specs.Earlier.{Numbers};
@@ -9,7 +10,7 @@ ghost use Rattle.trace.specs.Sinks.{IsFed, flow_after};
 ghost use Rattle.trace.specs.Trace.{trace};
 ghost use Rattle.trace.specs.declared.item.End.TheVariants as end;
 ghost use Rattle.trace.specs.declared.item.Item.{Item as item};
-ghost use Rattle.job_plan.specs.Parts.{HasTaken, StandsFor, end_in, flow_of, is_settled, may_search, segment_in, walk_in};
+ghost use Rattle.job_plan.specs.Parts.{HasTaken, StandsFor, end_in, flow_of, is_settled, keeps_items, may_search, segment_in, walk_in};
 ghost use Rattle.job_plan.specs.Pieces.{piece_of};
 ghost use Rattle.job_plan.specs.Plans.{last_stage};
 ghost use Rattle.job_plan.specs.Arrays.{array};
@@ -61,6 +62,7 @@ pub(crate) struct PartSink<'p, 'e, K: Ending> {
     pub(crate) stage: u32,
     pub(crate) env: &'e Env,
     pub(crate) of: PhantomData<K>,
+    ghost kind: { keeps_items part ≡ keeps_items K.begun },
 }
 
 impl<K: Ending> LongSink for PartSink<'_, '_, K> {
@@ -69,7 +71,7 @@ impl<K: Ending> LongSink for PartSink<'_, '_, K> {
 
     ghost flow = { λ sink. flow_of (is_settled sink.part) };
 
-    ghost takes_memory = { ⊤ };
+    ghost takes_memory = { keeps_items K.begun ≡ true };
 
     fn accept(&mut self, item: Item) -> Result<Flow, NoMemory> {
         self.part
@@ -140,6 +142,8 @@ fn accept_all<I: SourceItems>(
     ensures fed { (begun : part_kept) (xs : List item) → HasTaken (end_in close.now) stage env.now begun part.old xs
         → IsFed (HasTaken (end_in close.now) stage env.now begun) xs (trace (I.items source.now) end.Done) result part.new }
     ensures flow { flow_of (is_settled part.new) ≡ flow_after result }
+    ensures memory { OnErr result (keeps_items part.old ≡ true) }
+    ensures keeps { keeps_items part.new ≡ keeps_items part.old }
 {
     if values.is_empty() {
         return Ok(Fed::More);
@@ -154,8 +158,8 @@ fn accept_all<I: SourceItems>(
 /// The part of the items at positions from `from` on, up to, not with, `to`, if there is one, of the source of a segment.
 ///
 /// A piece without `to` ends as the source does. The walk goes by batches, which begin with 16 items and have 1,024 at
-/// most; it stops after the batch in which nothing more matters. Only parts of slices and arrays need memory, for the
-/// items that they keep. If registers for batches aren't to be had, the walk goes item by item.
+/// most; it stops after the batch in which nothing more matters. Only the parts of slices, arrays and prefixes need
+/// memory, for the items that they keep. If registers for batches aren't to be had, the walk goes item by item.
 pub fn leaf<'p>(
     alloc: Global,
     segment: &'p Segment,
@@ -164,7 +168,8 @@ pub fn leaf<'p>(
     to: Option<u64>,
     env: &Env,
 ) -> Result<Part<'p>, NoMemory>
-    ensures { IfOk result (λ part. StandsFor (segment_in segment.now) env.now part (piece_of from to (walk_in source.now))) }
+    ensures stands { IfOk result (λ part. StandsFor (segment_in segment.now) env.now part (piece_of from to (walk_in source.now))) }
+    ensures memory { OnErr result (end_keeps_items (end_in segment.now.end) ≡ true) }
 {
     let mut registers = Registers::new(alloc);
     leaf_with(alloc, segment, source, from, to, env, &mut registers)
@@ -180,7 +185,8 @@ pub fn leaf_with<'p>(
     env: &Env,
     registers: &mut Registers,
 ) -> Result<Part<'p>, NoMemory>
-    ensures { IfOk result (λ part. StandsFor (segment_in segment.now) env.now part (piece_of from to (walk_in source.now))) }
+    ensures stands { IfOk result (λ part. StandsFor (segment_in segment.now) env.now part (piece_of from to (walk_in source.now))) }
+    ensures memory { OnErr result (end_keeps_items (end_in segment.now.end) ≡ true) }
 {
     if let Some(part) = lent_part(alloc, segment, source, from, to, registers)? {
         return Ok(part);
@@ -198,7 +204,8 @@ pub(crate) fn leaf_copied<'p>(
     env: &Env,
     registers: &mut Registers,
 ) -> Result<Part<'p>, NoMemory>
-    ensures { IfOk result (λ part. StandsFor (segment_in segment.now) env.now part (piece_of from to (walk_in source.now))) }
+    ensures stands { IfOk result (λ part. StandsFor (segment_in segment.now) env.now part (piece_of from to (walk_in source.now))) }
+    ensures memory { OnErr result (end_keeps_items (end_in segment.now.end) ≡ true) }
 {
     let none = unwalked(alloc, segment, env);
     leaf_from(none, segment, source, from, to, env, registers)
@@ -214,6 +221,7 @@ pub fn leaf_in_order<'p>(
 ) -> Result<Part<'p>, NoMemory>
     ensures stands { IfOk result (λ part. StandsFor (segment_in segment.now) env.now part (walk_in source.now)) }
     ensures kind { IfOk result (λ part. may_search part ≡ false) }
+    ensures memory { OnErr result (end_keeps_items (end_in segment.now.end) ≡ true) }
 {
     let none = first_part(alloc, segment, env);
     leaf_from(none, segment, source, 0, None, env, registers)
@@ -232,6 +240,7 @@ pub(crate) fn leaf_from<'p>(
     ensures stands { IfOk result (λ made. (before : Trace) → StandsFor (segment_in segment.now) env.now part.entry before
         → StandsFor (segment_in segment.now) env.now made (append before (piece_of from to (walk_in source.now)))) }
     ensures kind { IfOk result (λ made. may_search made ≡ may_search part.entry) }
+    ensures memory { OnErr result (keeps_items part.entry ≡ true) }
 {
     leaf_as::<Brand>(part, segment, source, from, to, env, registers)
 }
@@ -253,6 +262,7 @@ fn leaf_as<'p, K: Ending>(
     ensures stands { IfOk result (λ made. (before : Trace) → StandsFor (segment_in segment.now) env.now part.entry before
         → StandsFor (segment_in segment.now) env.now made (append before (piece_of from to (walk_in source.now)))) }
     ensures kind { IfOk result (λ made. may_search made ≡ may_search part.entry) }
+    ensures memory { OnErr result (keeps_items part.entry ≡ true) }
 {
     if part.is_settled() {
         return Ok(part);
@@ -285,7 +295,8 @@ pub fn leaf_until<'p, W: Stop>(
     stop: &mut W,
 ) -> Result<Part<'p>, NoMemory>
     requires ordered { IsNotAfter from to }
-    ensures { IfOk result (λ part. StandsEnough (W.decides stop.old) (segment_in segment.now) env.now part from (piece_of from to (walk_in source.now))) }
+    ensures stands { IfOk result (λ part. StandsEnough (W.decides stop.old) (segment_in segment.now) env.now part from (piece_of from to (walk_in source.now))) }
+    ensures memory { OnErr result (end_keeps_items (end_in segment.now.end) ≡ true) }
 {
     if let Some(part) = lent_part(alloc, segment, source, from, to, registers)? {
         return Ok(part);
@@ -306,7 +317,8 @@ pub fn leaf_stored<'p, W: Stop>(
     stop: &mut W,
 ) -> Result<Part<'p>, NoMemory>
     requires ordered { IsNotAfter from to }
-    ensures { IfOk result (λ part. StandsEnough (W.decides stop.old) (segment_in segment.now) env.now part from (piece_of from to (walk_in source.now))) }
+    ensures stands { IfOk result (λ part. StandsEnough (W.decides stop.old) (segment_in segment.now) env.now part from (piece_of from to (walk_in source.now))) }
+    ensures memory { OnErr result (end_keeps_items (end_in segment.now.end) ≡ true) }
 {
     let none = unwalked(alloc, segment, env);
     leaf_until_as::<Brand, W>(none, segment, source, from, to, env, registers, stop)
@@ -329,7 +341,8 @@ fn leaf_until_as<'p, K: Ending, W: Stop>(
     requires begun { part ≡ K.begun }
     requires none { StandsFor (segment_in segment.now) env.now part nothing }
     requires ordered { IsNotAfter from to }
-    ensures { IfOk result (λ made. StandsEnough (W.decides stop.old) (segment_in segment.now) env.now made from (piece_of from to (walk_in source.now))) }
+    ensures stands { IfOk result (λ made. StandsEnough (W.decides stop.old) (segment_in segment.now) env.now made from (piece_of from to (walk_in source.now))) }
+    ensures memory { OnErr result (keeps_items part.entry ≡ true) }
 {
     if part.is_settled() {
         return Ok(part);
@@ -355,7 +368,8 @@ fn leaf_until_as<'p, K: Ending, W: Stop>(
 
 /// The part of a piece that isn't walked. It takes no memory.
 pub fn unwalked<'p>(alloc: Global, segment: &'p Segment, env: &Env) -> Part<'p>
-    ensures { StandsFor (segment_in segment.now) env.now result nothing }
+    ensures stands { StandsFor (segment_in segment.now) env.now result nothing }
+    ensures keeps { keeps_items result ≡ end_keeps_items (end_in segment.now.end) }
 {
     let stage = segment.first_stage + segment.stages.len() as u32;
     Part::none(alloc, &segment.end, stage, env)
@@ -365,6 +379,7 @@ pub fn unwalked<'p>(alloc: Global, segment: &'p Segment, env: &Env) -> Part<'p>
 pub(crate) fn first_part<'p>(alloc: Global, segment: &'p Segment, env: &Env) -> Part<'p>
     ensures stands { StandsFor (segment_in segment.now) env.now result nothing }
     ensures kind { may_search result ≡ false }
+    ensures keeps { keeps_items result ≡ end_keeps_items (end_in segment.now.end) }
 {
     let stage = segment.first_stage + segment.stages.len() as u32;
     Part::first(alloc, &segment.end, stage, env)

@@ -1,6 +1,6 @@
 //! The part of a prefix that nothing or cheap maps come before: it borrows the values of the job's sources and the maps.
 
-ghost use Rattle.std.specs.Prelude.{◌≡◌, ◌+◌, ◌<◌, ◌≤◌, ◌^◌, pos, ◌+ℤ◌, length, take, drop, IfOk, IfSome, OnOk};
+ghost use Rattle.std.specs.Prelude.{◌≡◌, ◌+◌, ◌<◌, ◌≤◌, ◌^◌, pos, ◌+ℤ◌, length, take, drop, true, IfOk, IfSome, OnErr, OnOk};
 ghost use Rattle.lambda_expr.specs.Earlier.{Numbers};
 ghost use Rattle.trace.specs.Cover.{counted, distance, placed};
 ghost use Rattle.trace.specs.Stages.{stages_of};
@@ -8,7 +8,8 @@ ghost use Rattle.trace.specs.Trace.{trace};
 ghost use Rattle.trace.specs.declared.item.End.TheVariants as end;
 ghost use Rattle.job_language.specs.Jobs.{source_of, sources_of};
 ghost use Rattle.job_plan.specs.Maps.{imaged};
-ghost use Rattle.job_plan.specs.Parts.{StandsFor, segment_in, walk_in};
+ghost use Rattle.job_plan.specs.Keeping.{end_keeps_items};
+ghost use Rattle.job_plan.specs.Parts.{StandsFor, end_in, segment_in, walk_in};
 ghost use Rattle.job_plan.specs.Pieces.{elements, piece_of};
 ghost use Rattle.job_plan.specs.Scans.{scan_append};
 ghost use Rattle.job_plan.specs.Walks.{plain_values, source_walk, values_of};
@@ -38,7 +39,8 @@ pub(crate) fn lent_part<'p>(
     to: Option<u64>,
     registers: &mut Registers,
 ) -> Result<Option<Part<'p>>, NoMemory>
-    ensures { IfOk result (λ found. IfSome found (λ part. (env : Numbers) → StandsFor (segment_in segment.now) env part (piece_of from to (walk_in source.now)))) }
+    ensures stands { IfOk result (λ found. IfSome found (λ part. (env : Numbers) → StandsFor (segment_in segment.now) env part (piece_of from to (walk_in source.now)))) }
+    ensures memory { OnErr result (end_keeps_items (end_in segment.now.end) ≡ true) }
 {
     let SegmentEnd::Prefix(prefix) = &segment.end else {
         return Ok(None);

@@ -7,6 +7,7 @@ ghost use Rattle.trace.specs.Trace.{Trace, trace, nothing, append};
 ghost use Rattle.trace.specs.declared.item.End.TheVariants as end;
 ghost use Rattle.trace.specs.declared.item.Item.{Item as item};
 ghost use Rattle.reduce_ops.specs.declared.op.Op.{Op};
+ghost use Rattle.job_plan.specs.Keeping.{end_keeps_items};
 ghost use Rattle.job_plan.specs.Parts.{EndsFor, IsFold, StandsFor, end_in, is_fault, is_running, is_settled, keeps_items, may_search};
 ghost use Rattle.job_plan.specs.Plans.{AbstractEnd, AbstractSegment, counted_as, folded, outcome_of};
 ghost use Rattle.job_plan.specs.Walks.{unless_fault};
@@ -141,7 +142,8 @@ impl FoldPart {
 impl<'p> Part<'p> {
     /// The part of no item. The end is the stage with this number. It takes no memory.
     pub(crate) fn none(alloc: Global, end: &'p SegmentEnd, stage: u32, env: &Env) -> Part<'p>
-        ensures { EndsFor (end_in end.now) stage env.now result nothing }
+        ensures stands { EndsFor (end_in end.now) stage env.now result nothing }
+        ensures keeps { keeps_items result ≡ end_keeps_items (end_in end.now) }
     {
         match end {
             SegmentEnd::Slice(slice) => {
@@ -160,6 +162,7 @@ impl<'p> Part<'p> {
     pub(crate) fn first(alloc: Global, end: &'p SegmentEnd, stage: u32, env: &Env) -> Part<'p>
         ensures stands { EndsFor (end_in end.now) stage env.now result nothing }
         ensures kind { may_search result ≡ false }
+        ensures keeps { keeps_items result ≡ end_keeps_items (end_in end.now) }
     {
         match end {
             SegmentEnd::ExactSum => Part::Exact(SumPart::first()),
@@ -181,7 +184,9 @@ impl<'p> Part<'p> {
         ensures ok { OnOk result ((t : Trace) → EndsFor (end_in close.now) stage env.now self.old t
             → EndsFor (end_in close.now) stage env.now self.new (append t (trace (item ∷ []) end.Done))) }
         ensures err { OnErr result (self.new ≡ self.old) }
+        ensures memory { OnErr result (keeps_items self.old ≡ true) }
         ensures kind { may_search self.new ≡ may_search self.old }
+        ensures keeps { keeps_items self.new ≡ keeps_items self.old }
     {
         match self {
             Part::Slice(part) => part.push(env, item),
@@ -223,7 +228,9 @@ impl<'p> Part<'p> {
             → EndsFor (end_in close.now) stage env.now self.new (append t (trace (I.items source.now) end.Done))) }
         ensures err { OnErr result (self.new ≡ self.old) }
         ensures refused { OnErr result (0 < length (I.items source.now)) }
+        ensures memory { OnErr result (keeps_items self.old ≡ true) }
         ensures kind { may_search self.new ≡ may_search self.old }
+        ensures keeps { keeps_items self.new ≡ keeps_items self.old }
     {
         match self {
             Part::Slice(part) => {
@@ -270,6 +277,7 @@ impl<'p> Part<'p> {
         ensures open { is_settled self.new ≡ false }
         ensures other { result ≡ false → self.new ≡ self.old }
         ensures kind { may_search self.new ≡ may_search self.old }
+        ensures keeps { keeps_items self.new ≡ keeps_items self.old }
     {
         match self {
             Part::Fold(part) => part.push_flagged(values, flags),
@@ -354,6 +362,7 @@ impl<'p> Part<'p> {
         ensures some { IfOk result (λ found. IfSome found (λ outcome. (s : AbstractSegment) (t : Trace) → StandsFor s env.now self.entry t
             → outcome ≡ outcome_of s env.now t)) }
         ensures none { IfOk result (λ found. IfNone found (may_search self.entry ≡ true)) }
+        ensures memory { OnErr result (keeps_items self.entry ≡ true) }
     {
         match self {
             Part::Slice(part) => Ok(Some(Outcome::Source(GivenWalk::of(alloc, part.finish(env))))),

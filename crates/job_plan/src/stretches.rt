@@ -1,6 +1,6 @@
 //! A piece of a source, a stretch at a time, until a place is known that decides what the walk is for.
 
-ghost use Rattle.std.specs.Prelude.{◌≡◌, ◌≤◌, ◌<◌, ℕ, true, List, Some, Ok, IfOk, IfSome, IfNone, length};
+ghost use Rattle.std.specs.Prelude.{◌≡◌, ◌≤◌, ◌<◌, ℕ, true, List, Some, Ok, IfOk, IfSome, IfNone, OnErr, length};
 ghost use Rattle.trace.specs.Sinks.{IsFed, flow_after};
 ghost use Rattle.trace.specs.Trace.{trace};
 ghost use Rattle.trace.specs.declared.item.Item.{Item as item};
@@ -60,6 +60,7 @@ pub(crate) fn feed_until<S: BatchSink, W: Stop>(
     ensures whole { IfOk result (λ r. IsWhole S.has_taken (λ ys. walk_of (segment_in segment.now) env.now (trace ys end.Done)) (elements from to (walk_in source.now).items) sink.old r sink.new) }
     ensures cut { IfOk result (λ r. IsCut S.has_taken (λ ys. walk_of (segment_in segment.now) env.now (trace ys end.Done)) (W.decides stop.old) (walk_in source.now).items from to sink.old r sink.new) }
     ensures flow { IfOk result (λ r. IfSome r (λ fed. S.flow sink.new ≡ flow_after (Ok fed))) }
+    ensures refused { OnErr result S.takes_memory }
 {
     let end = end_of(source, to);
     let mut position = from;

@@ -15,4 +15,5 @@ returns c = record {
       let stage = ap (λ m. c.args.segment.now.first_stage + m) (len ∙ sym (length-stages_of c.args.segment.now.stages.items)) in
       subst (λ (t : Trace). EndsFor s.ending (s.first + length s.stages) env c.first.result t) (sym (pipe_ended s.first s.stages env end.Done)) (subst (λ m. EndsFor s.ending m env c.first.result nothing) stage c.first.ensures.stands);
   kind = c.first.ensures.kind;
+  keeps = c.first.ensures.keeps;
 }

@@ -16,6 +16,7 @@ pub returns-then-is_settled : goal.returns-then-is_settled
 returns-then-is_settled g c = record {
   stands = λ before h. settled_first (segment_in c.args.segment.now) c.args.env.now c.args.part before (walk_in c.args.source.now) c.args.from c.args.to (sym c.is_settled.ensures ∙ c.if-is_settled.true) h;
   kind = refl;
+  memory = tt;
 }
 
 pub returns : goal.returns
@@ -50,23 +51,24 @@ returns g c =
                 let x : EndsFor e m env part front = unpinned e f m n env named part front ends c.requires.stage c.requires.env (given.0.3.0 w_before at_first) in
                 let y = w.end_with.ensures.stands e m env front x in
                 let z = subst (λ (k : End). EndsFor e m env w.end_with.new.self (append front (trace [] k))) (w.piece_end.ensures ∙ same_ending from to t) y in
-                subst (λ (p : Part). StandsFor s env p (append before (piece_of from to t))) (sym (ap (λ k. k.part) w.sink-is)) (after_more s env w.end_with.new.self before t from to given.1 z)
+                subst (λ (p : Part). StandsFor s env p (append before (piece_of from to t))) (sym (ap (λ k. k.0) w.sink-is)) (after_more s env w.end_with.new.self before t from to given.1 z)
             | in-Fault w ↦
                 let given = rw w.in-Fault.is at fed in
                 let front : Trace = append w_before (trace (no_items ++ walk.items) end.Done) in
                 let x : EndsFor e m env part front = unpinned e f m n env named part front ends c.requires.stage c.requires.env (given.0.3.0 w_before at_first) in
                 let y = w.end_with-in-Fault.ensures.stands e m env front x in
-                subst (λ (p : Part). StandsFor s env p (append before (piece_of from to t))) (sym (ap (λ k. k.part) w.sink-is)) (after_fault s env w.end_with-in-Fault.new.self before t from to w.in-Fault.fault given.1 y)
+                subst (λ (p : Part). StandsFor s env p (append before (piece_of from to t))) (sym (ap (λ k. k.0) w.sink-is)) (after_fault s env w.end_with-in-Fault.new.self before t from to w.in-Fault.fault given.1 y)
             | in-Enough w ↦
                 let given = rw w.in-Enough.is at fed in
                 let flow = rw w.in-Enough.is at c.in_ok-feed.ensures.flow in
                 let front : Trace = append w_before (trace (no_items ++ take (suc given.0) walk.items) end.Done) in
                 let x : EndsFor e m env part front = unpinned e f m n env named part front ends c.requires.stage c.requires.env (given.2.3.0 w_before at_first) in
-                subst (λ (p : Part). StandsFor s env p (append before (piece_of from to t))) (sym (ap (λ k. k.part) w.sink-is)) (after_enough s env part before t from to (suc given.0) (enough_is_settled (is_settled part) flow) x)
+                subst (λ (p : Part). StandsFor s env p (append before (piece_of from to t))) (sym (ap (λ k. k.0) w.sink-is)) (after_enough s env part before t from to (suc given.0) (enough_is_settled (is_settled part) flow) x)
           ];
       kind = elim c.match-branch-2.branch [
-        | in-More w ↦ let given = rw w.in-More.is at fed in ap (λ k. may_search k.part) w.sink-is ∙ w.end_with.ensures.kind ∙ given.0.3.1 ∙ ap may_search (sym c.requires.begun)
-        | in-Fault w ↦ let given = rw w.in-Fault.is at fed in ap (λ k. may_search k.part) w.sink-is ∙ w.end_with-in-Fault.ensures.kind ∙ given.0.3.1 ∙ ap may_search (sym c.requires.begun)
-        | in-Enough w ↦ let given = rw w.in-Enough.is at fed in ap (λ k. may_search k.part) w.sink-is ∙ given.2.3.1 ∙ ap may_search (sym c.requires.begun)
+        | in-More w ↦ let given = rw w.in-More.is at fed in ap (λ k. may_search k.0) w.sink-is ∙ w.end_with.ensures.kind ∙ given.0.3.1 ∙ ap may_search (sym c.requires.begun)
+        | in-Fault w ↦ let given = rw w.in-Fault.is at fed in ap (λ k. may_search k.0) w.sink-is ∙ w.end_with-in-Fault.ensures.kind ∙ given.0.3.1 ∙ ap may_search (sym c.requires.begun)
+        | in-Enough w ↦ let given = rw w.in-Enough.is at fed in ap (λ k. may_search k.0) w.sink-is ∙ given.2.3.1 ∙ ap may_search (sym c.requires.begun)
       ];
+      memory = tt;
     }

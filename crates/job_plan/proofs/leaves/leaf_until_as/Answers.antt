@@ -14,15 +14,15 @@ use Rattle.job_plan.proofs.EnoughLemmas.{whole_enough, cut_enough}
 use Rattle.job_plan.proofs.leaves.leaf_until_as.Goals.{in-More, in-Fault, in-Enough}
 use Rattle.job_plan.proofs.leaves.leaf_until_as.Goals as goal
 
-pub returns-then-is_settled : goal.returns-then-is_settled
-returns-then-is_settled g c =
+pub returns-then-is_settled-clause-stands : goal.returns-then-is_settled-clause-stands
+returns-then-is_settled-clause-stands g c =
     let s = segment_in c.args.segment.now in
     let env = c.args.env.now in
     whole_enough s env c.args.part (g.W.Stop.decides c.args.stop.now) c.args.from (piece_of c.args.from c.args.to (walk_in c.args.source.now))
     (settled_first s env c.args.part nothing (walk_in c.args.source.now) c.args.from c.args.to (sym c.is_settled.ensures ∙ c.if-is_settled.true) c.requires.none)
 
-pub returns : goal.returns
-returns g c =
+pub returns-clause-stands : goal.returns-clause-stands
+returns-clause-stands g c =
     let s = segment_in c.args.segment.now in
     let e = end_in c.args.segment.now.end in
     let f = end_in g.K.Ending.last in
@@ -45,7 +45,7 @@ returns g c =
     let w_before = walk_of s env nothing in
     let fed = (rw c.in-Some.is at c.in_ok-ended.ensures.whole) no_items (c.requires.last, stage ∙ c.requires.stage, c.requires.env, first) in
     let part = c.feed_until.new.sink.part in
-    whole_enough s env c.match-fed.sink.part (g.W.Stop.decides c.args.stop.now) from (piece_of from to t)
+    whole_enough s env c.match-fed.sink.0 (g.W.Stop.decides c.args.stop.now) from (piece_of from to t)
     (elim c.match-fed.branch [
       | in-More w ↦
           let given = rw w.in-More.is at fed in
@@ -53,23 +53,23 @@ returns g c =
           let x : EndsFor e m env part front = unpinned e f m n env named part front ends c.requires.stage c.requires.env (given.0.3.0 w_before at_first) in
           let y = w.end_with.ensures.stands e m env front x in
           let z = subst (λ (k : End). EndsFor e m env w.end_with.new.self (append front (trace [] k))) (w.piece_end.ensures ∙ same_ending from to t) y in
-          subst (λ (p : Part). StandsFor s env p (piece_of from to t)) (sym (ap (λ k. k.part) w.sink-is)) (after_more s env w.end_with.new.self nothing t from to given.1 z)
+          subst (λ (p : Part). StandsFor s env p (piece_of from to t)) (sym (ap (λ k. k.0) w.sink-is)) (after_more s env w.end_with.new.self nothing t from to given.1 z)
       | in-Fault w ↦
           let given = rw w.in-Fault.is at fed in
           let front : Trace = append w_before (trace (no_items ++ walk.items) end.Done) in
           let x : EndsFor e m env part front = unpinned e f m n env named part front ends c.requires.stage c.requires.env (given.0.3.0 w_before at_first) in
           let y = w.end_with-in-Fault.ensures.stands e m env front x in
-          subst (λ (p : Part). StandsFor s env p (piece_of from to t)) (sym (ap (λ k. k.part) w.sink-is)) (after_fault s env w.end_with-in-Fault.new.self nothing t from to w.in-Fault.fault given.1 y)
+          subst (λ (p : Part). StandsFor s env p (piece_of from to t)) (sym (ap (λ k. k.0) w.sink-is)) (after_fault s env w.end_with-in-Fault.new.self nothing t from to w.in-Fault.fault given.1 y)
       | in-Enough w ↦
           let given = rw w.in-Enough.is at fed in
           let flow = rw w.in-Enough.is at (rw c.in-Some.is at c.in_ok-ended.ensures.flow) in
           let front : Trace = append w_before (trace (no_items ++ take (suc given.0) walk.items) end.Done) in
           let x : EndsFor e m env part front = unpinned e f m n env named part front ends c.requires.stage c.requires.env (given.2.3.0 w_before at_first) in
-          subst (λ (p : Part). StandsFor s env p (piece_of from to t)) (sym (ap (λ k. k.part) w.sink-is)) (after_enough s env part nothing t from to (suc given.0) (enough_is_settled (is_settled part) flow) x)
+          subst (λ (p : Part). StandsFor s env p (piece_of from to t)) (sym (ap (λ k. k.0) w.sink-is)) (after_enough s env part nothing t from to (suc given.0) (enough_is_settled (is_settled part) flow) x)
     ])
 
-pub returns-in_default : goal.returns-in_default
-returns-in_default g c =
+pub returns-in_default-clause-stands : goal.returns-in_default-clause-stands
+returns-in_default-clause-stands g c =
     let s = segment_in c.args.segment.now in
     let e = end_in c.args.segment.now.end in
     let f = end_in g.K.Ending.last in

@@ -9,8 +9,8 @@ use Rattle.job_plan.specs.Scans.{scan, scan_append}
 use Rattle.job_plan.proofs.LentLemmas.{lent_stands, piece_again}
 use Rattle.job_plan.proofs.lent_part.lent_part.Goals as goal
 
-pub returns : goal.returns
-returns c = λ env.
+pub returns-clause-stands : goal.returns-clause-stands
+returns-clause-stands c = λ env.
     let s = c.args.segment.now in
     let p = c.in-Prefix.prefix in
     let gs = stages_of s.stages.items in

@@ -26,6 +26,7 @@ returns-in_default g c =
           low (omega arith) c.loop-next.invariant.fed c.in_ok-ended.ensures.fed);
       cut = tt;
       flow = c.in_ok-ended.ensures.flow;
+      refused = tt;
     }
 
 pub returns-then-is_past-clause-cut : goal.returns-then-is_past-clause-cut

@@ -17,7 +17,7 @@ returns-in-Some c =
     let lt : k < length ss = h.3.0 in
     let at : s ≡ get_or ss k s = h.1 in
     let got : slice_get (walked_segments (plan_in c.args.plan.now)) k ≡ Some (segment_in s) = sym (ap (λ (xs : List AbstractSegment). slice_get xs k) c.walked_segments.ensures) ∙ segment_got ss k s lt at in
-    subst (λ (o : Option AbstractSegment). IfSome o (λ r. StandsFor r c.args.env.now c.unwalked.result nothing)) (sym got) c.unwalked.ensures
+    subst (λ (o : Option AbstractSegment). IfSome o (λ r. StandsFor r c.args.env.now c.unwalked.result nothing)) (sym got) c.unwalked.ensures.stands
 
 pub returns-in-None : goal.returns-in-None
 returns-in-None c =

@@ -30,4 +30,4 @@ returns g c = λ chain segments numbers walks sized more.
     let size : c.size.result ≡ size_at chain k = c.size.ensures ∙ ap walk_size walks ∙ sym sized in
     let ends : c.if-to-size.upto ≡ upto (size_at chain k) c.args.to =
     elim c.if-to-size.branch [ then-to-size v ↦ upto_all (size_at chain k) c.size.result c.args.to c.if-to-size.upto size v.if-to-size.true v.upto-is | else-to-size v ↦ upto_some (size_at chain k) c.size.result c.args.to c.if-to-size.upto size v.if-to-size.false v.upto-is ] in
-    piece_stands chain k c.args.from c.args.to (segment_in s) w c.args.env.now c.if-to-size.upto (g.W.Stop.decides c.args.stop.now) c.leaf_stored.result got (sym numbers) walks ends more c.leaf_stored.ensures
+    piece_stands chain k c.args.from c.args.to (segment_in s) w c.args.env.now c.if-to-size.upto (g.W.Stop.decides c.args.stop.now) c.leaf_stored.result got (sym numbers) walks ends more c.leaf_stored.ensures.stands
