@@ -11,7 +11,7 @@ use Rattle.job_plan.specs.declared.answer.Answer.{Answer}
 use Rattle.job_plan.specs.declared.answer.Answer.TheVariants as answer
 use Rattle.report.specs.declared.separator.Separator.TheVariants.{Comma, CommaAndBlank}
 use Rattle.report.specs.Json.{integer_json, job_json, optional_json}
-use Rattle.report.specs.Numbers.{array_end, array_object, parted}
+use Rattle.report.specs.Numbers.{array_object, parted}
 use Rattle.report.specs.Text.{array_text, further}
 
 -- as text, the numbers stand between brackets
