@@ -8,7 +8,7 @@
 //!
 //! Begin with `specs/Cells.antt` (bytes to columns), then `specs/Table.antt`, `specs/Refusals.antt`
 //! and `specs/Cell.antt` (the grammar of one number); of the code with `reading.rt`. `records.rt`
-//! alone opens a `csv` reader; `plain.rt` reads rows of numbers without it, and `pieces.rt` on threads.
+//! alone opens a `csv` reader; `plain.rt` reads rows of numbers without it, by `digits.rt`, and `pieces.rt` on threads.
 //!
 //! Not promised: anything of the bytes that a file or a pipe holds, and that there is memory.
 #![tactic(auto)]
