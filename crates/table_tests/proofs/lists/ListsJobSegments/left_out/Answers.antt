@@ -1,6 +1,6 @@
 use Rattle.std.proofs.Common.{◌≤◌, length, arith}
 use Rattle.table_tests.proofs.Walks.{no_place_decides}
-use Rattle.table_tests.proofs.lists.ListsSegments.left_out.Goals as goal
+use Rattle.table_tests.proofs.lists.ListsJobSegments.left_out.Goals as goal
 
 pub returns : goal.returns
 returns g c =
