@@ -59,6 +59,6 @@ final class Table {
             }
             return part;
         }).sum();
-        System.out.println(sum);
+        System.out.println("s = " + sum);
     }
 }

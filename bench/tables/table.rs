@@ -1,4 +1,5 @@
-// Sums the first column of a table of integers: table FILE THREADS. Each cell is parsed and kept; none is checked.
+// Aggregates columns of a table of integers: table FILE THREADS sum|twelve. Each cell is parsed and kept; none is checked.
+// The answers are printed as streamrun prints them.
 use std::{env, fs, thread};
 
 /// The columns of whole lines.
@@ -25,10 +26,76 @@ fn columns(lines: &[u8], width: usize) -> Vec<Vec<i64>> {
     columns
 }
 
+/// What is added up of the columns of a part.
+#[derive(Clone, Copy)]
+struct Totals {
+    sums: [i64; 6],
+    least: i64,
+    greatest: [Option<i64>; 3],
+    any_negative: [bool; 2],
+}
+
+fn wrapped(numbers: impl Iterator<Item = i64>) -> i64 {
+    numbers.fold(0, i64::wrapping_add)
+}
+
+/// The sum of the first column, or all of what the twelve jobs ask for.
+fn totals(columns: &[Vec<i64>], twelve: bool) -> Totals {
+    let first = wrapped(columns[0].iter().copied());
+    if !twelve {
+        return Totals { sums: [first, 0, 0, 0, 0, 0], least: 0, greatest: [None; 3], any_negative: [false; 2] };
+    }
+    let [a, b, c, d] = [&columns[0], &columns[1], &columns[2], &columns[3]];
+    Totals {
+        sums: [
+            first,
+            a.iter().filter(|x| **x > 0).count() as i64,
+            wrapped(b.iter().map(|x| x % 1000)),
+            wrapped(b.iter().filter(|x| *x % 2 == 0).map(|x| x / 2)),
+            wrapped(c.iter().map(|x| x.wrapping_mul(*x))),
+            wrapped(d.iter().map(|x| if *x < 0 { x.wrapping_neg() } else { *x })),
+        ],
+        least: a.iter().copied().min().unwrap_or(i64::MAX),
+        greatest: [a.iter().copied().max(), c.iter().copied().max(), d.iter().copied().filter(|x| *x > 5000).max()],
+        any_negative: [b.iter().any(|x| *x < 0), c.iter().any(|x| *x < 0)],
+    }
+}
+
+fn merged(left: Totals, right: Totals) -> Totals {
+    let mut all = left;
+    for (sum, more) in all.sums.iter_mut().zip(right.sums) {
+        *sum = sum.wrapping_add(more);
+    }
+    all.least = all.least.min(right.least);
+    for (greatest, other) in all.greatest.iter_mut().zip(right.greatest) {
+        *greatest = (*greatest).max(other);
+    }
+    for (any, more) in all.any_negative.iter_mut().zip(right.any_negative) {
+        *any |= more;
+    }
+    all
+}
+
+fn optional(value: Option<i64>) -> String {
+    value.map_or("OptionalLong.empty".to_string(), |value| format!("OptionalLong[{value}]"))
+}
+
+fn print(all: Totals, twelve: bool) {
+    if !twelve {
+        return println!("s = {}", all.sums[0]);
+    }
+    let [sum, positive, rests, halves, squares, magnitudes] = all.sums;
+    println!("j1 = {sum}\nj2 = {positive}\nj3 = {}\nj4 = {}", optional(Some(all.least)), optional(all.greatest[0]));
+    println!("j5 = {rests}\nj6 = {halves}\nj7 = {}\nj8 = {squares}", all.any_negative[0]);
+    println!("j9 = {}\nj10 = {}", optional(all.greatest[1]), !all.any_negative[1]);
+    println!("j11 = {}\nj12 = {magnitudes}", optional(all.greatest[2]));
+}
+
 fn main() {
     let words: Vec<String> = env::args().collect();
     let bytes = fs::read(&words[1]).unwrap();
     let threads: usize = words[2].parse().unwrap();
+    let twelve = words[3] == "twelve";
     let first = bytes.iter().position(|byte| *byte == b'\n').unwrap() + 1;
     let width = bytes[..first].iter().filter(|byte| **byte == b',').count() + 1;
     let rows = &bytes[first..];
@@ -38,18 +105,12 @@ fn main() {
         cuts.push(from + rows[from..].iter().position(|byte| *byte == b'\n').unwrap() + 1);
     }
     cuts.push(rows.len());
-    let parts: Vec<Vec<Vec<i64>>> = thread::scope(|scope| {
+    let parts: Vec<Totals> = thread::scope(|scope| {
         let running: Vec<_> = cuts
             .windows(2)
-            .map(|cut| scope.spawn(move || columns(&rows[cut[0]..cut[1]], width)))
+            .map(|cut| scope.spawn(move || totals(&columns(&rows[cut[0]..cut[1]], width), twelve)))
             .collect();
         running.into_iter().map(|part| part.join().unwrap()).collect()
     });
-    let mut sum = 0i64;
-    for part in &parts {
-        for value in &part[0] {
-            sum = sum.wrapping_add(*value);
-        }
-    }
-    println!("{sum}");
+    print(parts.into_iter().reduce(merged).unwrap(), twelve);
 }
