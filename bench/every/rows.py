@@ -3,18 +3,27 @@
     rows(page)   a list of Row; page is the text of docs/job-language.md
 
 Headings give the sources, stages and terminals, tables the operators of folds and of lambdas, and the paragraph of calls the
-calls and constants. Nothing here names an operation, so a new one is measured as soon as the page has it. What an argument has
-to be is found by trying: a form stands for several jobs, and those that the program refuses are left out.
+calls and constants. No operation is named to be measured, so a new one is as soon as the page has it. What an argument has
+to be is found by trying: a form stands for several jobs, and those that the program refuses are left out. WORK alone names
+operations: those that take a processor longer than an addition.
 """
 import re
 from collections import namedtuple
 
-# kind: rows of one kind are compared with each other. source: that of the job, or None: it is measured in each context.
-Row = namedtuple('Row', 'kind name source rest')
+# sort: source, stage, terminal, lambda or condition. kind: what it has to do; rows of one kind are compared with each other.
+# source: that of the job, or None: it is measured in each context. values: how many it gives for each item, 1 if fewer.
+Row = namedtuple('Row', 'sort kind name source rest values')
 
 # What an argument may be. Of conditions one is always true, one never, one for every second item.
 LAMBDAS = ['x -> x + 1', 'x -> x >= 0', 'x -> x < 0', 'x -> (x & 1) == 0', 'x -> of(x)', 'x -> of(x, x)', 'x -> empty()',
            'x -> range(0, x & 3)', 'x -> range(0, 64)']
+# How many values the streams among them give.
+VALUES = {'x -> of(x, x)': 2, 'x -> range(0, x & 3)': 1.5, 'x -> range(0, 64)': 64}
+# What the text of a row has to do that an addition hasn't: the first that fits. A new operation is a simple one until it
+# stands here.
+WORK = [('divides by a constant', r' [/%] 3|floor(?:Div|Mod)\(x, 3\)'), ('divides', r' [/%] |floor(?:Div|Mod)'),
+        ('multiplies', r' \* |multiply|product|affine'), ('can fault', r'Exact'), ('chooses', r' \? '),
+        ('can leave an operand out', r' (?:&&|\|\|) ')]
 TICKED = re.compile(r'`([^`]+)`')
 FORM = re.compile(r'(\w+)\((.*)\)')
 
@@ -85,6 +94,21 @@ def calls_of(forms, page, length):
             yield f'{name}({given})', f'{name}({", ".join(parameters)})'
 
 
+def work(text):
+    """What the text of an operation has to do."""
+    return next((name for name, pattern in WORK if re.search(pattern, text)), 'simple')
+
+
+def argument(name):
+    """What a stage or a terminal takes, and how many values it gives for each item, at least 1."""
+    _, _, text = name[:-1].partition('(')
+    if text not in LAMBDAS:
+        return f'a fold, {work(text)}' if not text or re.search(r'[a-z]', text) else 'numbers', 1
+    if re.search(r'-> (?:of|empty|range)\(', text):
+        return 'to streams', VALUES.get(text, 1)
+    return 'a test' if re.search(r'[<>=]=?', text[4:]) else 'to numbers', 1
+
+
 def lambdas(page):
     """Each operator, call and constant, as (name, lambda to an integer or a boolean)."""
     for operator, is_unary in operators_of_lambdas(page):
@@ -129,12 +153,13 @@ def rows(page, length):
     """The same rows in the same order for every length."""
     found = []
     for name, text in sources(page, length):
-        found.append(Row('source', name, text, 'sum()'))
+        found.append(Row('source', 'source', name, text, 'sum()', 1))
     for call, name in calls_of(headings(section(page, 'Stages')), page, length):
-        found.append(Row('stage', name, None, f'{call}.sum()'))
+        takes, values = argument(name)
+        found.append(Row('stage', f'stage, {takes}', name, None, f'{call}.sum()', values))
     for call, name in calls_of(headings(section(page, 'Terminals')), page, length):
-        found.append(Row('terminal', name, None, call))
+        found.append(Row('terminal', f'terminal, {argument(name)[0]}', name, None, call, 1))
     for name, text in lambdas(page):
-        found.append(Row('lambda', name, None, f'map({text}).sum()'))
-        found.append(Row('condition', name, None, f'filter({text}).sum()'))
+        found.append(Row('lambda', f'lambda, {work(text)}', name, None, f'map({text}).sum()', 1))
+        found.append(Row('condition', f'condition, {work(text)}', name, None, f'filter({text}).sum()', 1))
     return found

@@ -2,7 +2,9 @@
 --   bytes of the column file → columns         columns/specs/Cells, Table, Refusals
 --   bytes of the job file → texts of jobs      stream_tokens/specs/JobTexts, Tokens
 --   texts of jobs         → jobs               job_language/specs/Files, Verdicts, Grammar, Table; their lambdas: lambda_expr/specs/Grammar, Refusals
---   jobs                  → answers            job_plan/specs/FileAnswers, Walks; their walks: trace/specs/Cover, Stages, Trace
+--   jobs                  → answers            job_plan/specs/FileAnswers, Walks; their walks: trace/specs/Cover, Stages, Trace, Stops; what stages and terminals make of
+--                                              them: slice_ops/specs/Slices, prefix_scan/specs/Prefixes, find_ops/specs/Finds, reduce_ops/specs/Folds, Operators, ExactSums;
+--                                              values of lambdas: lambda_expr/specs/Value, Operators, Streams
 --   answers               → bytes of the report     report/specs/Text, Json
 -- Reports of small files, worked out: report/specs/Worked.
 use Rattle.std.specs.Prelude.{◌≡◌, ◌≢◌, ℕ, ◌<◌, List, [], length, take, Option, Some, None, Result, Ok, Err}

@@ -54,8 +54,9 @@ const PIECE: usize = 4 * 1024 * 1024;
 /// Reads the columns, if there is a reader of them, then the job file whole; checks the jobs, runs them,
 /// builds the report whole and writes it.
 ///
-/// The columns are read and the jobs run on as many threads as the settings say, the jobs in pieces of at most their
-/// threshold; the gate is called before each of these, and one that does nothing will do. Neither changes the report.
+/// The columns are read and the jobs run on threads, no more than the settings say. A piece of at most the threshold is never cut; a
+/// longer one is, while nodes last, unless its segment is walked in one piece, as one that `limit` or `takeWhile` ends. The gate is
+/// called before each piece, and one that does nothing will do. None of this changes the report.
 /// The cells of the columns, the job file and the report are each held in memory once, and while the cells are read the
 /// column file and the cells of one piece for each thread. If the column file is refused, the job file isn't read.
 pub fn run<
