@@ -56,6 +56,15 @@ impl ArrayPart {
         add_values(&mut self.pieces, values)
     }
 
+    /// Takes room for this many more values, unless the memory for it is refused. Contracts see no change.
+    pub(crate) fn reserve(&mut self, values: usize)
+        ensures { self.new ≡ self.old }
+    {
+        if values > 0 {
+            add_room(&mut self.pieces, values);
+        }
+    }
+
     /// Ends so, unless a fault has ended the part. It takes no memory.
     pub(crate) fn end_with(&mut self, end: End)
         ensures { self.new ≡ array_append self.old (array [] end) }
@@ -117,6 +126,15 @@ fn add_values(pieces: &mut Vec<Vec<i64>>, values: &[i64]) -> Result<(), NoMemory
         }
     }
     Ok(())
+}
+
+/// Adds a piece without values that has room for this many, if there is memory for it.
+fn add_room(pieces: &mut Vec<Vec<i64>>, values: usize)
+    ensures { flat_map (λ piece. piece.items) pieces.new.items ≡ flat_map (λ piece. piece.items) pieces.old.items }
+{
+    if let Ok(piece) = Vec::with_capacity(*pieces.allocator(), values) {
+        let _ = pieces.push(piece);
+    }
 }
 
 /// The values of pieces in one vector.

@@ -22,6 +22,7 @@ ghost use Rattle.job_plan.specs.declared.segment.SegmentEnd.TheVariants as ends;
 use crate::fronts::test_of;
 use crate::lent_part::lent_part;
 use crate::part::Part;
+use crate::room::with_room;
 use crate::segment::{Segment, SegmentEnd};
 use crate::source::Source;
 use crate::stretches::feed_until;
@@ -207,7 +208,7 @@ pub(crate) fn leaf_copied<'p>(
     ensures stands { IfOk result (λ part. StandsFor (segment_in segment.now) env.now part (piece_of from to (walk_in source.now))) }
     ensures memory { OnErr result (end_keeps_items (end_in segment.now.end) ≡ true) }
 {
-    let none = unwalked(alloc, segment, env);
+    let none = with_room(alloc, segment, source, from, to, env);
     leaf_from(none, segment, source, from, to, env, registers)
 }
 
@@ -301,7 +302,7 @@ pub fn leaf_until<'p, W: Stop>(
     if let Some(part) = lent_part(alloc, segment, source, from, to, registers)? {
         return Ok(part);
     }
-    let none = unwalked(alloc, segment, env);
+    let none = with_room(alloc, segment, source, from, to, env);
     leaf_until_as::<Brand, W>(none, segment, source, from, to, env, registers, stop)
 }
 
@@ -320,7 +321,7 @@ pub fn leaf_stored<'p, W: Stop>(
     ensures stands { IfOk result (λ part. StandsEnough (W.decides stop.old) (segment_in segment.now) env.now part from (piece_of from to (walk_in source.now))) }
     ensures memory { OnErr result (end_keeps_items (end_in segment.now.end) ≡ true) }
 {
-    let none = unwalked(alloc, segment, env);
+    let none = with_room(alloc, segment, source, from, to, env);
     leaf_until_as::<Brand, W>(none, segment, source, from, to, env, registers, stop)
 }
 

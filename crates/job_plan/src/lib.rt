@@ -41,6 +41,7 @@ mod pieces;
 mod plan;
 mod plan_laws;
 mod prefix_part;
+mod room;
 mod run_values;
 mod scanned;
 mod scanned_pieces;

@@ -1,0 +1,56 @@
+//! Room for the values of a piece that goes through maps alone, taken at once.
+
+ghost use Rattle.std.specs.Prelude.{◌≡◌};
+ghost use Rattle.trace.specs.Trace.{nothing};
+ghost use Rattle.job_plan.specs.Keeping.{end_keeps_items};
+ghost use Rattle.job_plan.specs.Parts.{StandsFor, end_in, keeps_items, segment_in};
+
+use crate::leaves::unwalked;
+use crate::moves::all_keep;
+use crate::part::Part;
+use crate::segment::Segment;
+use crate::source::Source;
+use lambda_expr::Env;
+use std::alloc::Global;
+
+/// For how many values room is taken at most: 512 kB. A part with more of them grows by doubling from there on.
+const MOST: u64 = 65_536;
+
+/// The part of no item, for these positions of a source.
+///
+/// An array gets room for the values of all of them, if each item has one, so that it isn't copied as it grows. If that memory
+/// is refused, it grows as any other part does.
+pub(crate) fn with_room<'p>(
+    alloc: Global,
+    segment: &'p Segment,
+    source: &Source,
+    from: u64,
+    to: Option<u64>,
+    env: &Env,
+) -> Part<'p>
+    ensures stands { StandsFor (segment_in segment.now) env.now result nothing }
+    ensures keeps { keeps_items result ≡ end_keeps_items (end_in segment.now.end) }
+{
+    let part = unwalked(alloc, segment, env);
+    if !all_keep(&segment.stages, false) {
+        return part;
+    }
+    let end = match to {
+        Some(to) => to,
+        None => source.size(),
+    };
+    reserved(part, end.saturating_sub(from).min(MOST) as usize)
+}
+
+/// The same part. If it is that of an array, it has room for this many more values, if there is memory for it.
+fn reserved(part: Part<'_>, values: usize) -> Part<'_>
+    ensures { result ≡ part.entry }
+{
+    match part {
+        Part::Array(mut array) => {
+            array.reserve(values);
+            Part::Array(array)
+        }
+        other => other,
+    }
+}
