@@ -3,6 +3,7 @@
 //! Nothing here has a contract: either answer is right, since who asks goes another way where a lane has a fault.
 
 use crate::power::exponent_of;
+use crate::reciprocal::reciprocal_of;
 use crate::register::Operand;
 use lambda_expr::{BinaryOperator, BoolExpr, LongExpr, UnaryOperator};
 
@@ -66,6 +67,7 @@ fn cost(operator: BinaryOperator, right: &LongExpr) -> Option<u32> {
         | BinaryOperator::FloorDivide
         | BinaryOperator::FloorRemainder => match right {
             LongExpr::Number(number) if exponent_of(*number).is_some() => Some(3),
+            LongExpr::Number(number) if reciprocal_of(*number).is_some() => Some(4),
             _ => None,
         },
         BinaryOperator::AddExact | BinaryOperator::SubtractExact | BinaryOperator::MultiplyExact =>

@@ -29,6 +29,7 @@ mod passing;
 mod placed;
 mod power;
 mod reached;
+mod reciprocal;
 mod register;
 mod registers;
 mod room;
