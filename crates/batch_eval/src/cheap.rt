@@ -2,6 +2,7 @@
 //!
 //! Nothing here has a contract: either answer is right, since who asks goes another way where a lane has a fault.
 
+use crate::constant::constant_in;
 use crate::power::exponent_of;
 use crate::reciprocal::reciprocal_of;
 use crate::register::Operand;
@@ -65,9 +66,9 @@ fn cost(operator: BinaryOperator, right: &LongExpr) -> Option<u32> {
         BinaryOperator::Divide
         | BinaryOperator::Remainder
         | BinaryOperator::FloorDivide
-        | BinaryOperator::FloorRemainder => match right {
-            LongExpr::Number(number) if exponent_of(*number).is_some() => Some(3),
-            LongExpr::Number(number) if reciprocal_of(*number).is_some() => Some(4),
+        | BinaryOperator::FloorRemainder => match constant_in(right) {
+            Some(number) if exponent_of(number).is_some() => Some(3),
+            Some(number) if reciprocal_of(number).is_some() => Some(4),
             _ => None,
         },
         BinaryOperator::AddExact | BinaryOperator::SubtractExact | BinaryOperator::MultiplyExact =>

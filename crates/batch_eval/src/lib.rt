@@ -15,6 +15,7 @@
 mod batch;
 mod cheap;
 mod choose;
+mod constant;
 mod dispatch;
 mod exact;
 mod feeding;
