@@ -6,6 +6,7 @@ pub mod Items
 pub mod KeptLaneLemmas
 pub mod PlaceLemmas
 pub mod PowerLemmas
+pub mod ReciprocalLemmas
 pub mod Steps
 pub mod WaitingItemLemmas
 pub mod Walks

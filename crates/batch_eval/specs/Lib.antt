@@ -5,4 +5,5 @@ pub mod Lanes
 pub mod Places
 pub mod Pours
 pub mod Powers
+pub mod Reciprocals
 pub mod Rooms

@@ -2,7 +2,9 @@
 //!
 //! Nothing here has a contract: either answer is right, since who asks goes another way where a lane has a fault.
 
+use crate::constant::constant_in;
 use crate::power::exponent_of;
+use crate::reciprocal::reciprocal_of;
 use crate::register::Operand;
 use lambda_expr::{BinaryOperator, BoolExpr, LongExpr, UnaryOperator};
 
@@ -64,8 +66,9 @@ fn cost(operator: BinaryOperator, right: &LongExpr) -> Option<u32> {
         BinaryOperator::Divide
         | BinaryOperator::Remainder
         | BinaryOperator::FloorDivide
-        | BinaryOperator::FloorRemainder => match right {
-            LongExpr::Number(number) if exponent_of(*number).is_some() => Some(3),
+        | BinaryOperator::FloorRemainder => match constant_in(right) {
+            Some(number) if exponent_of(number).is_some() => Some(3),
+            Some(number) if reciprocal_of(number).is_some() => Some(4),
             _ => None,
         },
         BinaryOperator::AddExact | BinaryOperator::SubtractExact | BinaryOperator::MultiplyExact =>

@@ -2,6 +2,7 @@
 
 ghost use Rattle.batch_eval.specs.Lanes.{Reaches, at, compared, first_only, infix_value, left_at};
 ghost use Rattle.batch_eval.specs.Powers.{power};
+ghost use Rattle.batch_eval.specs.Reciprocals.{IsReciprocal};
 ghost use Rattle.lambda_expr.specs.Operators.{binary_value, unary_value};
 ghost use Rattle.std.specs.Prelude.{◌≡◌, ◌≤◌, ◌≤ℤ◌, ℤ, length, pos};
 
@@ -12,11 +13,15 @@ use crate::kernel::{
     NegateExact, NotEqual, Or, Remainder, ShiftLeft, ShiftRight, ShiftRightUnsigned, Subtract,
     SubtractExact, Swapped, Xor,
 };
-use crate::loops::{each_in, each_to, fill, zip_in, zip_to};
+use crate::loops::{divide_in, divide_to, each_in, each_to, fill, zip_in, zip_to};
 use crate::power::{
     DivideByPower, FloorDivideByPower, FloorRemainderByPower, RemainderByPower, exponent_of,
 };
 use crate::reached::{Left, Reached};
+use crate::reciprocal::{
+    DivideByReciprocal, Division, FloorDivideByReciprocal, FloorRemainderByReciprocal, Reciprocal,
+    RemainderByReciprocal, reciprocal_of,
+};
 use lambda_expr::{BinaryOperator, Comparison, UnaryOperator};
 
 /// What stands between two operands.
@@ -86,6 +91,45 @@ fn by_exact_number<K: Kernel, W: Kernel>(
         by_left_number::<W>(left, xs, y, live, out)
     } else {
         by_left_number::<K>(left, xs, y, live, out)
+    }
+}
+
+/// A left operand, and a divisor with a reciprocal.
+fn by_left_reciprocal<D: Division>(
+    left: Left,
+    xs: &[i64],
+    by: Reciprocal,
+    live: usize,
+    out: &mut [i64],
+) -> Reached
+    requires by { IsReciprocal by }
+    requires xs { live ≤ length xs.now }
+    requires out { live ≤ length out.old }
+    ensures { Reaches (λ k. D.value (left_at left out.old xs.now k) by.divisor) (at out.new) live result }
+{
+    match left {
+        Left::Out => divide_in::<D>(by, live, out),
+        Left::Item => divide_to::<D>(xs, by, live, out),
+        Left::Number(x) => fill(D::apply(x, by), live, out),
+    }
+}
+
+/// A division by a number: by its reciprocal if it has one, else as the processor divides.
+fn by_divisor<D: Division, K: Kernel>(
+    left: Left,
+    xs: &[i64],
+    y: i64,
+    live: usize,
+    out: &mut [i64],
+) -> Reached
+    requires divides { (x : ℤ) → D.value x y ≡ K.value x y }
+    requires xs { live ≤ length xs.now }
+    requires out { live ≤ length out.old }
+    ensures { Reaches (λ k. K.value (left_at left out.old xs.now k) y) (at out.new) live result }
+{
+    match reciprocal_of(y) {
+        Some(by) => by_left_reciprocal::<D>(left, xs, by, live, out),
+        None => by_left_number::<K>(left, xs, y, live, out),
     }
 }
 
@@ -277,8 +321,10 @@ fn by_any_number(
         BinaryOperator::Add => by_left_number::<Add>(left, xs, y, live, out),
         BinaryOperator::Subtract => by_left_number::<Subtract>(left, xs, y, live, out),
         BinaryOperator::Multiply => by_left_number::<Multiply>(left, xs, y, live, out),
-        BinaryOperator::Divide => by_left_number::<Divide>(left, xs, y, live, out),
-        BinaryOperator::Remainder => by_left_number::<Remainder>(left, xs, y, live, out),
+        BinaryOperator::Divide => by_divisor::<DivideByReciprocal, Divide>(left, xs, y, live, out),
+        BinaryOperator::Remainder => by_divisor::<RemainderByReciprocal, Remainder>(
+            left, xs, y, live, out,
+        ),
         BinaryOperator::ShiftLeft => by_left_number::<ShiftLeft>(left, xs, y, live, out),
         BinaryOperator::ShiftRight => by_left_number::<ShiftRight>(left, xs, y, live, out),
         BinaryOperator::ShiftRightUnsigned => by_left_number::<ShiftRightUnsigned>(
@@ -289,8 +335,12 @@ fn by_any_number(
         BinaryOperator::Or => by_left_number::<Or>(left, xs, y, live, out),
         BinaryOperator::Min => by_left_number::<Min>(left, xs, y, live, out),
         BinaryOperator::Max => by_left_number::<Max>(left, xs, y, live, out),
-        BinaryOperator::FloorDivide => by_left_number::<FloorDivide>(left, xs, y, live, out),
-        BinaryOperator::FloorRemainder => by_left_number::<FloorRemainder>(left, xs, y, live, out),
+        BinaryOperator::FloorDivide => by_divisor::<FloorDivideByReciprocal, FloorDivide>(
+            left, xs, y, live, out,
+        ),
+        BinaryOperator::FloorRemainder => by_divisor::<FloorRemainderByReciprocal, FloorRemainder>(
+            left, xs, y, live, out,
+        ),
         BinaryOperator::AddExact => {
             by_exact_number::<AddExact, Add>(sums_within(y), left, xs, y, live, out)
         }

@@ -15,6 +15,7 @@
 mod batch;
 mod cheap;
 mod choose;
+mod constant;
 mod dispatch;
 mod exact;
 mod feeding;
@@ -29,6 +30,7 @@ mod passing;
 mod placed;
 mod power;
 mod reached;
+mod reciprocal;
 mod register;
 mod registers;
 mod room;

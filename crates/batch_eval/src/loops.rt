@@ -1,10 +1,12 @@
 //! The loops over lanes, each for any operator.
 
 ghost use Rattle.batch_eval.specs.Lanes.{Reaches, at};
+ghost use Rattle.batch_eval.specs.Reciprocals.{IsReciprocal};
 ghost use Rattle.std.specs.Prelude.{◌≡◌, ℕ, ◌<◌, ◌≤◌, Ok, length};
 
 use crate::kernel::Kernel;
 use crate::reached::{Reached, all};
+use crate::reciprocal::{Division, Reciprocal};
 
 /// One number in each lane.
 pub(crate) fn fill(number: i64, live: usize, out: &mut [i64]) -> Reached
@@ -114,6 +116,36 @@ pub(crate) fn each_in<K: Kernel>(y: i64, live: usize, out: &mut [i64]) -> Reache
                 };
             }
         }
+    }
+    all(live)
+}
+
+/// A register and a divisor into another register.
+pub(crate) fn divide_to<D: Division>(
+    xs: &[i64],
+    by: Reciprocal,
+    live: usize,
+    out: &mut [i64],
+) -> Reached
+    requires by { IsReciprocal by }
+    requires xs { live ≤ length xs.now }
+    requires out { live ≤ length out.old }
+    ensures { Reaches (λ k. D.value (at xs.now k) by.divisor) (at out.new) live result }
+{
+    for i in 0..live {
+        out[i] = D::apply(xs[i], by);
+    }
+    all(live)
+}
+
+/// A register and a divisor into that register.
+pub(crate) fn divide_in<D: Division>(by: Reciprocal, live: usize, out: &mut [i64]) -> Reached
+    requires by { IsReciprocal by }
+    requires out { live ≤ length out.old }
+    ensures { Reaches (λ k. D.value (at out.old k) by.divisor) (at out.new) live result }
+{
+    for i in 0..live {
+        out[i] = D::apply(out[i], by);
     }
     all(live)
 }

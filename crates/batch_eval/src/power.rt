@@ -54,7 +54,7 @@ fn cleared(x: i64, exponent: i64) -> i64
 }
 
 /// A magnitude with the sign of `x`.
-fn signed_as(x: i64, magnitude: u64) -> i64
+pub(crate) fn signed_as(x: i64, magnitude: u64) -> i64
     ensures { result ≡ wrap (with_sign_of x magnitude) }
 {
     let positive = magnitude.cast_signed();

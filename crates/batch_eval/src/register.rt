@@ -10,6 +10,7 @@ ghost use Rattle.std.specs.Prelude.{◌≡◌, ◌<◌, ◌≤◌, ℕ, ℤ, IfS
 
 use crate::cheap::is_cheap;
 use crate::choose::{gather, merge, select, set_ones, set_others};
+use crate::constant::constant_in;
 use crate::dispatch::{Infix, by_number, by_register, by_unary};
 use crate::flag::flag;
 use crate::kernel::Opposite;
@@ -265,8 +266,10 @@ fn eval_between(
     ensures { Reaches (λ k. between (infix_value op) (long_value (long_of a.now) (at xs.now k) env.now) (long_value (long_of b.now) (at xs.now k) env.now)) (at out.new) live result }
 {
     let (left, first) = eval_left(a, env, xs, live, out, room);
+    if let Some(y) = constant_in(b) {
+        return by_number(op, left, xs, y, first.live, out).after(first);
+    }
     match b {
-        LongExpr::Number(y) => by_number(op, left, xs, *y, first.live, out).after(first),
         LongExpr::Parameter(_) => by_register(op, left, xs, xs, first.live, out).after(first),
         LongExpr::Reference(name) => {
             let y = env.number(name.as_slice()).unwrap_or(0);

@@ -1,0 +1,33 @@
+//! Operands that are numbers.
+
+ghost use Rattle.lambda_expr.specs.Earlier.{Numbers};
+ghost use Rattle.lambda_expr.specs.Operators.{on, unary_value};
+ghost use Rattle.lambda_expr.specs.Term.{long_of};
+ghost use Rattle.lambda_expr.specs.Value.{long_value};
+ghost use Rattle.std.specs.Prelude.{◌≡◌, ℤ, IfSome, Ok};
+
+use lambda_expr::{LongExpr, UnaryOperator};
+
+/// The number of an operator on a number, if it has no fault.
+fn applied(operator: UnaryOperator, operand: &LongExpr) -> Option<i64>
+    ensures { IfSome result (λ z. (x : ℤ) (env : Numbers) → on (long_value (long_of operand.now) x env) (λ v. unary_value operator v) ≡ Ok z) }
+{
+    match operand {
+        LongExpr::Number(number) => match operator.apply(*number) {
+            Ok(value) => Some(value),
+            Err(_) => None,
+        },
+        _ => None,
+    }
+}
+
+/// The number of an expression that is one, with an operator before it or without: `-7` is a minus and a number.
+pub(crate) fn constant_in(expr: &LongExpr) -> Option<i64>
+    ensures { IfSome result (λ z. (x : ℤ) (env : Numbers) → long_value (long_of expr.now) x env ≡ Ok z) }
+{
+    match expr {
+        LongExpr::Number(number) => Some(*number),
+        LongExpr::Unary(operator, operand) => applied(*operator, operand),
+        _ => None,
+    }
+}
