@@ -4,6 +4,7 @@ pub mod Flags
 pub mod FlaggedLemmas
 pub mod Items
 pub mod KeptLaneLemmas
+pub mod OneValueLemmas
 pub mod PlaceLemmas
 pub mod PowerLemmas
 pub mod ReciprocalLemmas

@@ -137,6 +137,13 @@ impl Batch {
         self.start = None;
     }
 
+    /// No items; the walk ends as before.
+    pub(crate) fn drop_items(&mut self)
+        ensures { self.new ≡ trace [] self.old.ending }
+    {
+        self.live = 0;
+    }
+
     /// Starts again with the images of values that lie elsewhere.
     pub(crate) fn map_run(
         &mut self,

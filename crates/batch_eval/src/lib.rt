@@ -26,6 +26,7 @@ mod kernel;
 mod listed;
 mod listing;
 mod loops;
+mod one_value;
 mod passing;
 mod placed;
 mod power;

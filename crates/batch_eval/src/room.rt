@@ -11,7 +11,7 @@ use trace::Stage;
 
 /// Whether room of this length is enough for an expression.
 #[cycle(fits)]
-fn fits(expr: &LongExpr, room: usize) -> bool
+pub(crate) fn fits(expr: &LongExpr, room: usize) -> bool
     ensures { IsTrue result → Fits (long_of expr.now) room }
 {
     match expr {

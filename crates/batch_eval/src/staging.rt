@@ -13,6 +13,7 @@ ghost use Rattle.trace.specs.declared.feeding.Fed.TheVariants as fed;
 ghost use Rattle.trace.specs.declared.item.Item.{Item};
 
 use crate::batch::Batch;
+use crate::one_value::map_to_one;
 use crate::register::LANES;
 use crate::sink::BatchSink;
 use lambda_expr::{Env, FaultKind, InnerExpr, ListedValues};
@@ -52,20 +53,25 @@ pub(crate) fn feed_batch<S: BatchSink>(
             batch.filter(test, first_stage, env, room);
             feed_batch(later, first_stage + 1, env, batch, nested, room, sink)
         }
-        Stage::FlatMap(inner) => match nested.split_first_mut() {
-            Some((pending, rest)) => feed_inner(
-                inner,
-                later,
-                first_stage,
-                env,
-                batch,
-                pending,
-                rest,
-                room,
-                sink,
-            ),
-            None => feed_lanes(stages, first_stage, env, batch, sink),
-        },
+        Stage::FlatMap(inner) => {
+            if map_to_one(batch, inner, first_stage, env, room) {
+                return feed_batch(later, first_stage + 1, env, batch, nested, room, sink);
+            }
+            match nested.split_first_mut() {
+                Some((pending, rest)) => feed_inner(
+                    inner,
+                    later,
+                    first_stage,
+                    env,
+                    batch,
+                    pending,
+                    rest,
+                    room,
+                    sink,
+                ),
+                None => feed_lanes(stages, first_stage, env, batch, sink),
+            }
+        }
     }
 }
 

@@ -25,11 +25,23 @@ feed_batch-returns-else-is_empty-clause-fed g t c = λ xs took.
     let here = rw (c.filter.ensures, add-one) at (c.feed_batch-in-Filter.ensures.fed xs took) in
     rw (split, c.in-Filter.is) here
 
+pub feed_batch-returns-then-map_to_one-clause-fed : goal.feed_batch-returns-then-map_to_one-clause-fed
+feed_batch-returns-then-map_to_one-clause-fed g t c = λ xs took.
+    let split : c.args.stages.now ≡ c.in-Some.stage.now ∷ c.in-Some.later.now = search rules in
+    let here = rw (c.map_to_one.ensures.mapped c.if-map_to_one.true, add-one) at (c.feed_batch-then-map_to_one.ensures.fed xs took) in
+    rw (split, c.in-FlatMap.is) here
+
 pub feed_batch-returns-in-Some-split_first_mut-clause-fed : goal.feed_batch-returns-in-Some-split_first_mut-clause-fed
 feed_batch-returns-in-Some-split_first_mut-clause-fed g t c = λ xs took.
     let split : c.args.stages.now ≡ c.in-Some.stage.now ∷ c.in-Some.later.now = search rules in
-    let here = rw add-one at (c.feed_inner.ensures.fed xs took) in
+    let same = c.map_to_one.ensures.other c.if-map_to_one.false in
+    let here = rw (same, add-one) at (c.feed_inner.ensures.fed xs took) in
     rw (split, c.in-FlatMap.is) here
+
+pub feed_batch-returns-in-None-clause-fed : goal.feed_batch-returns-in-None-clause-fed
+feed_batch-returns-in-None-clause-fed g t c = λ xs took.
+    let same = c.map_to_one.ensures.other c.if-map_to_one.false in
+    rw same at (c.feed_lanes.ensures.fed xs took)
 
 pub finish-returns-clause-fed : goal.finish-returns-clause-fed
 finish-returns-clause-fed g t c = λ xs whole held.
