@@ -31,8 +31,8 @@ const FIRST_BATCH: u64 = 16;
 /// The sink gets what `feed_all` of `trace` gives it. Each operator of a stage goes over a whole batch
 /// before the next one, so lambdas may be evaluated at up to one batch of items more than decide the
 /// result, and after each `flatMap` at one batch of inner values more. Expressions that need more than 32 registers, and
-/// what comes after a fourth `flatMap`, are evaluated item by item; so is all of a short source, and of any source if an
-/// allocation of registers failed.
+/// what comes after a fourth `flatMap`, are evaluated item by item; so is all of a source of under 64 items without a
+/// `flatMap` if no registers are there yet, and of any source if an allocation of registers failed.
 /// `NoMemory` comes from the sink alone, which then keeps what it has accepted before.
 pub fn feed_batches<I: BatchSource, S: BatchSink>(
     stages: &[Stage],

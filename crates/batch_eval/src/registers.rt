@@ -19,7 +19,7 @@ const MOST_REGISTERS: usize = 32 * LANES;
 /// How many `flatMap`s of a pipeline go by batches. What comes out of a further one goes item by item.
 const MOST_NESTED: usize = 3;
 
-/// A walk over fewer items isn't worth an allocation of registers.
+/// A walk over fewer items isn't worth an allocation of registers, unless each item may become many.
 const FEW_ITEMS: u64 = 64;
 
 /// What walks by batches of up to 1,024 items keep their values in.
@@ -50,8 +50,8 @@ impl Registers {
     }
 
     /// Registers that these stages can use for a walk over this number of items, moved out; a sink's test as well, unless it
-    /// needs more than 31 of them. There are none if the stages need more than 32, if the items are few and an allocation
-    /// would be needed, or if it failed.
+    /// needs more than 31 of them. There are none if the stages need more than 32, if the items are few, without a
+    /// `flatMap`, and an allocation would be needed, or if it failed.
     pub(crate) fn take_for(
         &mut self,
         stages: &[Stage],
@@ -75,7 +75,7 @@ impl Registers {
                 return Some(space);
             }
         }
-        if count < FEW_ITEMS {
+        if count < FEW_ITEMS && !may_grow(stages) {
             return None;
         }
         let few = stages_fit(stages, FEW_REGISTERS) && flags_fit(test, FEW_REGISTERS);
@@ -92,6 +92,13 @@ impl Registers {
     {
         self.space = Some(space);
     }
+}
+
+/// Whether what comes out of these stages may be longer than what goes in.
+fn may_grow(stages: &[Stage]) -> bool {
+    stages
+        .iter()
+        .any(|stage| matches!(stage, Stage::FlatMap(_)))
 }
 
 impl Space {
