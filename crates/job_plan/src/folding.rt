@@ -1,5 +1,4 @@
-//! Folds of the values of a batch, or of those whose flag is set: one loop each, compiled for each operator that is used
-//! often.
+//! Folds of the values of a batch, or of those whose flag is set: one loop, compiled for each operator.
 
 ghost use Rattle.batch_eval.specs.Batches.{flagged_values};
 ghost use Rattle.std.specs.Prelude.{◌≡◌, ◌≤◌, IfSome, List, Option, Some, fold, length, map};
@@ -37,8 +36,13 @@ fn fold_values(op: Op, counts: bool, values: &[i64]) -> Option<i64>
         Op::Sum => fold_from(Op::Sum, counts, start, later),
         Op::Min => fold_from(Op::Min, counts, start, later),
         Op::Max => fold_from(Op::Max, counts, start, later),
+        Op::Product => fold_from(Op::Product, counts, start, later),
+        Op::And => fold_from(Op::And, counts, start, later),
+        Op::Or => fold_from(Op::Or, counts, start, later),
+        Op::Xor => fold_from(Op::Xor, counts, start, later),
         Op::Affine => fold_from(Op::Affine, counts, start, later),
-        other => fold_from(other, counts, start, later),
+        Op::First => fold_from(Op::First, counts, start, later),
+        Op::Last => fold_from(Op::Last, counts, start, later),
     })
 }
 
@@ -79,7 +83,13 @@ fn fold_flagged(op: Op, counts: bool, identity: i64, values: &[i64], flags: &[i6
         Op::Sum => fold_each_flagged(Op::Sum, counts, identity, values, flags),
         Op::Min => fold_each_flagged(Op::Min, counts, identity, values, flags),
         Op::Max => fold_each_flagged(Op::Max, counts, identity, values, flags),
-        other => fold_each_flagged(other, counts, identity, values, flags),
+        Op::Product => fold_each_flagged(Op::Product, counts, identity, values, flags),
+        Op::And => fold_each_flagged(Op::And, counts, identity, values, flags),
+        Op::Or => fold_each_flagged(Op::Or, counts, identity, values, flags),
+        Op::Xor => fold_each_flagged(Op::Xor, counts, identity, values, flags),
+        Op::Affine => fold_each_flagged(Op::Affine, counts, identity, values, flags),
+        Op::First => fold_each_flagged(Op::First, counts, identity, values, flags),
+        Op::Last => fold_each_flagged(Op::Last, counts, identity, values, flags),
     }
 }
 
