@@ -11,7 +11,7 @@ ghost use Rattle.job_plan.specs.Batches.{each_one, folded_values};
 ghost use Rattle.job_plan.specs.Plans.{counted_as};
 
 use batch_eval::is_set;
-use reduce_ops::{Op, Partial};
+use reduce_ops::{Op, Partial, operators_are_associative};
 use trace::{End, Item};
 
 /// The fold of values, or of a 1 for each of them.
@@ -36,14 +36,38 @@ fn fold_values(op: Op, counts: bool, values: &[i64]) -> Option<i64>
         Op::Sum => fold_from(Op::Sum, counts, start, later),
         Op::Min => fold_from(Op::Min, counts, start, later),
         Op::Max => fold_from(Op::Max, counts, start, later),
-        Op::Product => fold_from(Op::Product, counts, start, later),
+        Op::Product => fold_halves(Op::Product, counts, start, later),
         Op::And => fold_from(Op::And, counts, start, later),
         Op::Or => fold_from(Op::Or, counts, start, later),
         Op::Xor => fold_from(Op::Xor, counts, start, later),
-        Op::Affine => fold_from(Op::Affine, counts, start, later),
+        Op::Affine => fold_halves(Op::Affine, counts, start, later),
         Op::First => fold_from(Op::First, counts, start, later),
         Op::Last => fold_from(Op::Last, counts, start, later),
     })
+}
+
+/// Folds values onto a start, each half of them by itself: so no product of one half waits for one of the other. The halves
+/// are merged in their order, since every operator is associative, but not every one is commutative.
+fn fold_halves(op: Op, counts: bool, start: i64, values: &[i64]) -> i64
+    ensures { result ≡ fold (λ a v. value_of op a (each_one counts v)) start values.now }
+{
+    operators_are_associative();
+    let half = values.len().saturating_sub(1) / 2;
+    let (near, others) = values.split_at(half);
+    let Some((first, after)) = others.split_first() else {
+        return start;
+    };
+    let (far, rest) = after.split_at(half);
+    let mut left = start;
+    let mut right = counted_value(counts, *first);
+    for lane in 0..half {
+        let next = counted_value(counts, near[lane]);
+        let other = counted_value(counts, far[lane]);
+        left = op.apply(left, next);
+        right = op.apply(right, other);
+    }
+    let whole = fold_from(op, counts, right, rest);
+    op.apply(left, whole)
 }
 
 /// Folds values onto a start.
