@@ -1,5 +1,4 @@
-//! Folds of the values of a batch, or of those whose flag is set: one loop each, compiled for each operator that is used
-//! often.
+//! Folds of the values of a batch, or of those whose flag is set: one loop, compiled for each operator.
 
 ghost use Rattle.batch_eval.specs.Batches.{flagged_values};
 ghost use Rattle.std.specs.Prelude.{◌≡◌, ◌≤◌, IfSome, List, Option, Some, fold, length, map};
@@ -12,7 +11,7 @@ ghost use Rattle.job_plan.specs.Batches.{each_one, folded_values};
 ghost use Rattle.job_plan.specs.Plans.{counted_as};
 
 use batch_eval::is_set;
-use reduce_ops::{Op, Partial};
+use reduce_ops::{Op, Partial, operators_are_associative};
 use trace::{End, Item};
 
 /// The fold of values, or of a 1 for each of them.
@@ -37,9 +36,38 @@ fn fold_values(op: Op, counts: bool, values: &[i64]) -> Option<i64>
         Op::Sum => fold_from(Op::Sum, counts, start, later),
         Op::Min => fold_from(Op::Min, counts, start, later),
         Op::Max => fold_from(Op::Max, counts, start, later),
-        Op::Affine => fold_from(Op::Affine, counts, start, later),
-        other => fold_from(other, counts, start, later),
+        Op::Product => fold_halves(Op::Product, counts, start, later),
+        Op::And => fold_from(Op::And, counts, start, later),
+        Op::Or => fold_from(Op::Or, counts, start, later),
+        Op::Xor => fold_from(Op::Xor, counts, start, later),
+        Op::Affine => fold_halves(Op::Affine, counts, start, later),
+        Op::First => fold_from(Op::First, counts, start, later),
+        Op::Last => fold_from(Op::Last, counts, start, later),
     })
+}
+
+/// Folds values onto a start, each half of them by itself: so no product of one half waits for one of the other. The halves
+/// are merged in their order, since every operator is associative, but not every one is commutative.
+fn fold_halves(op: Op, counts: bool, start: i64, values: &[i64]) -> i64
+    ensures { result ≡ fold (λ a v. value_of op a (each_one counts v)) start values.now }
+{
+    operators_are_associative();
+    let half = values.len().saturating_sub(1) / 2;
+    let (near, others) = values.split_at(half);
+    let Some((first, after)) = others.split_first() else {
+        return start;
+    };
+    let (far, rest) = after.split_at(half);
+    let mut left = start;
+    let mut right = counted_value(counts, *first);
+    for lane in 0..half {
+        let next = counted_value(counts, near[lane]);
+        let other = counted_value(counts, far[lane]);
+        left = op.apply(left, next);
+        right = op.apply(right, other);
+    }
+    let whole = fold_from(op, counts, right, rest);
+    op.apply(left, whole)
 }
 
 /// Folds values onto a start.
@@ -79,7 +107,13 @@ fn fold_flagged(op: Op, counts: bool, identity: i64, values: &[i64], flags: &[i6
         Op::Sum => fold_each_flagged(Op::Sum, counts, identity, values, flags),
         Op::Min => fold_each_flagged(Op::Min, counts, identity, values, flags),
         Op::Max => fold_each_flagged(Op::Max, counts, identity, values, flags),
-        other => fold_each_flagged(other, counts, identity, values, flags),
+        Op::Product => fold_each_flagged(Op::Product, counts, identity, values, flags),
+        Op::And => fold_each_flagged(Op::And, counts, identity, values, flags),
+        Op::Or => fold_each_flagged(Op::Or, counts, identity, values, flags),
+        Op::Xor => fold_each_flagged(Op::Xor, counts, identity, values, flags),
+        Op::Affine => fold_each_flagged(Op::Affine, counts, identity, values, flags),
+        Op::First => fold_each_flagged(Op::First, counts, identity, values, flags),
+        Op::Last => fold_each_flagged(Op::Last, counts, identity, values, flags),
     }
 }
 
