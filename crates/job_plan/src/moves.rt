@@ -29,7 +29,7 @@ fn stage_keeps(stage: &Stage, faultless: bool) -> bool
 }
 
 /// Whether all of these stages are.
-fn all_keep(stages: &[Stage], faultless: bool) -> bool
+pub(crate) fn all_keep(stages: &[Stage], faultless: bool) -> bool
     ensures { result ≡ all_keep faultless (stages_of stages.now) }
 {
     match stages.split_first() {
