@@ -38,7 +38,7 @@ use Rattle.job_plan.specs.Plans.{AbstractEnd, slicing, folding, finding, collect
 use Rattle.job_plan.specs.Walks.{instead_of_fault, source_walk}
 use Rattle.job_plan.proofs.Elements.{drop_none, take_none}
 
-both : (a b : Bool) → (a && b) ≡ true → (a ≡ true) × (b ≡ true)
+pub both : (a b : Bool) → (a && b) ≡ true → (a ≡ true) × (b ≡ true)
 both true b h = (refl, h)
 both false b h = absurd (let z : false ≡ true = h in cc)
 
@@ -164,7 +164,7 @@ mutual
 pub skip_none : (t : Trace) → skipped 0 t ≡ t
 skip_none t = ap (λ xs. trace xs t.ending) (drop_none t.items)
 
-abbrev first_of : Item → Trace → Trace
+abbrev pub first_of : Item → Trace → Trace
 first_of x t = append (trace (x ∷ []) end.Done) t
 
 limited_none : (t : Trace) → limited 0 t ≡ nothing

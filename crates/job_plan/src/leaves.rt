@@ -1,16 +1,14 @@
 //! A piece of a segment's source, taken through the segment's stages to the part that its end wants.
 
 ghost use Rattle.std.specs.Prelude.{◌≡◌, ◌+◌, ◌<◌, ◌^◌, ℕ, List, [], false, true, length, map, IfOk, OnErr};
-ghost use Rattle.trace.specs.Trace.{Trace, nothing, append};
+ghost use Rattle.trace.specs.Trace.{Trace, trace, nothing, append};
 ghost use Rattle.job_plan.specs.Keeping.{end_keeps_items};
-ghost use Rattle.job_plan.specs.Parts.{StandsEnough};
 ghost use Rattle.job_plan.specs.Spans.{IsNotAfter};
 ghost use Rattle.lambda_expr.specs.Earlier.{Numbers};
 ghost use Rattle.trace.specs.Sinks.{IsFed, flow_after};
-ghost use Rattle.trace.specs.Trace.{trace};
 ghost use Rattle.trace.specs.declared.item.End.TheVariants as end;
 ghost use Rattle.trace.specs.declared.item.Item.{Item as item};
-ghost use Rattle.job_plan.specs.Parts.{HasTaken, StandsFor, end_in, flow_of, is_settled, keeps_items, may_search, segment_in, walk_in};
+ghost use Rattle.job_plan.specs.Parts.{HasTaken, StandsEnough, StandsFor, end_in, flow_of, is_settled, keeps_items, may_search, segment_in, walk_in};
 ghost use Rattle.job_plan.specs.Pieces.{piece_of};
 ghost use Rattle.job_plan.specs.Plans.{last_stage};
 ghost use Rattle.job_plan.specs.Arrays.{array};
@@ -19,12 +17,13 @@ ghost use Rattle.job_plan.specs.declared.part.Part.TheVariants as kept;
 ghost use Rattle.job_plan.specs.declared.segment.SegmentEnd.{SegmentEnd};
 ghost use Rattle.job_plan.specs.declared.segment.SegmentEnd.TheVariants as ends;
 
+use crate::counted_part::counted_part;
 use crate::fronts::test_of;
 use crate::lent_part::lent_part;
 use crate::part::Part;
 use crate::room::with_room;
 use crate::segment::{Segment, SegmentEnd};
-use crate::source::Source;
+use crate::source::{Source, piece_end};
 use crate::stretches::feed_until;
 use batch_eval::{Batch, BatchSink, FlaggedLanes, PlacedValues, Registers, accept_each_flagged};
 use early_stop::Stop;
@@ -160,7 +159,8 @@ fn accept_all<I: SourceItems>(
 ///
 /// A piece without `to` ends as the source does. The walk goes by batches, which begin with 16 items and have 1,024 at
 /// most; it stops after the batch in which nothing more matters. Only the parts of slices, arrays and prefixes need
-/// memory, for the items that they keep. If registers for batches aren't to be had, the walk goes item by item.
+/// memory, for the items that they keep. If registers for batches aren't to be had, the walk goes item by item. A count
+/// after maps that can't have a fault needs no walk: it takes the number of the positions.
 pub fn leaf<'p>(
     alloc: Global,
     segment: &'p Segment,
@@ -208,6 +208,9 @@ pub(crate) fn leaf_copied<'p>(
     ensures stands { IfOk result (λ part. StandsFor (segment_in segment.now) env.now part (piece_of from to (walk_in source.now))) }
     ensures memory { OnErr result (end_keeps_items (end_in segment.now.end) ≡ true) }
 {
+    if let Some(part) = counted_part(segment, source, from, to) {
+        return Ok(part);
+    }
     let none = with_room(alloc, segment, source, from, to, env);
     leaf_from(none, segment, source, from, to, env, registers)
 }
@@ -302,8 +305,7 @@ pub fn leaf_until<'p, W: Stop>(
     if let Some(part) = lent_part(alloc, segment, source, from, to, registers)? {
         return Ok(part);
     }
-    let none = with_room(alloc, segment, source, from, to, env);
-    leaf_until_as::<Brand, W>(none, segment, source, from, to, env, registers, stop)
+    leaf_stored(alloc, segment, source, from, to, env, registers, stop)
 }
 
 /// The same, of a source that may be gone before the part is: the part borrows none of its values.
@@ -321,6 +323,9 @@ pub fn leaf_stored<'p, W: Stop>(
     ensures stands { IfOk result (λ part. StandsEnough (W.decides stop.old) (segment_in segment.now) env.now part from (piece_of from to (walk_in source.now))) }
     ensures memory { OnErr result (end_keeps_items (end_in segment.now.end) ≡ true) }
 {
+    if let Some(part) = counted_part(segment, source, from, to) {
+        return Ok(part);
+    }
     let none = with_room(alloc, segment, source, from, to, env);
     leaf_until_as::<Brand, W>(none, segment, source, from, to, env, registers, stop)
 }
@@ -384,14 +389,4 @@ pub(crate) fn first_part<'p>(alloc: Global, segment: &'p Segment, env: &Env) -> 
 {
     let stage = segment.first_stage + segment.stages.len() as u32;
     Part::first(alloc, &segment.end, stage, env)
-}
-
-/// How a piece of a source ends.
-pub(crate) fn piece_end(source: &Source, to: Option<u64>) -> End
-    ensures { result ≡ (piece_of 0 to (walk_in source.now)).ending }
-{
-    match to {
-        Some(_) => End::Done,
-        None => source.end(),
-    }
 }

@@ -16,11 +16,10 @@ ghost use Rattle.job_plan.specs.Walks.{plain_values, source_walk, values_of};
 ghost use Rattle.job_plan.specs.Windows.{windowed};
 
 use crate::cheap_maps::Maps;
-use crate::leaves::piece_end;
 use crate::part::Part;
 use crate::prefix_part::PrefixPart;
 use crate::segment::{Segment, SegmentEnd};
-use crate::source::{Source, range_piece};
+use crate::source::{Source, piece_end, range_piece};
 use crate::sources::{PlainSources, plain_size};
 use crate::spans::{end_after, within};
 use crate::windows::Window;

@@ -15,6 +15,7 @@ mod array_part;
 mod buffer;
 mod cheap_maps;
 mod closing;
+mod counted_part;
 mod fallback;
 mod faultless;
 mod folded_piece;

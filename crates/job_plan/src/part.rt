@@ -31,9 +31,9 @@ use trace::{Chunk, End, Item, NoMemory, SourceItems};
 /// The fold of a piece.
 #[derive(Clone, Copy)]
 pub struct FoldPart {
-    partial: Partial,
-    start: Option<i64>,
-    counts: bool,
+    pub(crate) partial: Partial,
+    pub(crate) start: Option<i64>,
+    pub(crate) counts: bool,
 }
 
 /// What a piece of a segment's source gives to the end of the segment.

@@ -119,6 +119,16 @@ impl<'g, 'a, 'c> Source<'g, 'a, 'c> {
     }
 }
 
+/// How a piece of a source ends.
+pub(crate) fn piece_end(source: &Source, to: Option<u64>) -> End
+    ensures { result ≡ (piece_of 0 to (walk_in source.now)).ending }
+{
+    match to {
+        Some(_) => End::Done,
+        None => source.end(),
+    }
+}
+
 /// Takes the items at these positions of sources, of which the first item has the place `origin`.
 fn feed_plain<S: BatchSink>(
     segment: &Segment,

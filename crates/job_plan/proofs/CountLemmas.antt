@@ -1,0 +1,102 @@
+-- Counts after maps that can't have a fault, which leave as many items as they take.
+use Rattle.std.proofs.Common.{◌≡◌, ℕ, Bool, suc, ◌+◌, ◌≤◌, ◌-◌, ℤ, pos, ◌+ℤ◌, true, false, List, [], ◌∷◌, length, take, drop, Option, Some, None, Result, refl, sym, ap, subst, ◌∙◌, arith, rules}
+use Rattle.std.proofs.lemmas.Int.{int_wrap_fits}
+use Rattle.std.proofs.lemmas.List.{append-nil, length-take}
+use Rattle.std.specs.Int.{w64}
+use Rattle.lambda_expr.specs.Earlier.{Numbers}
+use Rattle.lambda_expr.specs.Term.{Long}
+use Rattle.lambda_expr.specs.Value.{long_value}
+use Rattle.lambda_expr.specs.Wrap.{wrap}
+use Rattle.lambda_expr.specs.declared.fault.FaultKind.{FaultKind}
+use Rattle.trace.specs.declared.item.Item.{Item}
+use Rattle.trace.specs.declared.item.End.{End}
+use Rattle.trace.specs.declared.item.End.TheVariants as end
+use Rattle.trace.specs.Stages.{AbstractStage, map, filter, flat_map, image, pipe, stages_of, through}
+use Rattle.trace.specs.Trace.{Trace, trace, append}
+use Rattle.reduce_ops.specs.declared.op.Op.{Op}
+use Rattle.reduce_ops.specs.declared.op.Op.TheVariants as op
+use Rattle.reduce_ops.specs.declared.partial.Partial.{Partial}
+use Rattle.reduce_ops.specs.Folds.{fold_from, fold_items, ones}
+use Rattle.reduce_ops.specs.Operators.{value_of}
+use Rattle.reduce_ops.specs.Parts.{StandsFor as FoldStands}
+use Rattle.reduce_ops.proofs.FoldLemmas.{counted}
+use Rattle.job_plan.specs.declared.part.FoldPart.{FoldPart}
+use Rattle.job_plan.specs.declared.part.Part.TheVariants as part
+use Rattle.job_plan.specs.declared.segment.Fold.{Fold}
+use Rattle.job_plan.specs.declared.segment.Segment.{Segment}
+use Rattle.job_plan.specs.declared.segment.SegmentEnd.TheVariants as ends
+use Rattle.job_plan.specs.Faultless.{never_faults}
+use Rattle.job_plan.specs.Moves.{all_keep}
+use Rattle.job_plan.specs.Parts.{EndsFor, IsFold, StandsFor, end_in, segment_in}
+use Rattle.job_plan.specs.Pieces.{piece_of}
+use Rattle.job_plan.specs.Plans.{counted_as}
+use Rattle.job_plan.specs.Spans.{span}
+use Rattle.job_plan.proofs.Elements.{length_dropped}
+use Rattle.job_plan.proofs.MoveLemmas.{both, first_of, value_there}
+use Rattle.job_plan.proofs.WalkLemmas.{same_ending}
+
+-- a walk has as many items as another one, and the same end
+abbrev HasSize : Trace → Trace → Type 0
+HasSize t u = (length u.items ≡ length t.items) × (u.ending ≡ t.ending)
+
+map_keeps : (m : ℕ) (e : Long) (env : Numbers) → never_faults e ≡ true → (xs : List Item) (ending : End) → HasSize (trace xs ending) (through m (map e) env (trace xs ending))
+map_keeps m e env h [] ending = (refl, refl)
+map_keeps m e env h (x ∷ xs) ending =
+    let v = value_there e h x.value env in
+    let later = map_keeps m e env h xs ending in
+    let t : Trace = through m (map e) env (trace xs ending) in
+    let y : Item = record { origin = x.origin; value = v.0 } in
+    let is : append (image m x (long_value e x.value env)) t ≡ first_of y t = ap (λ (r : Result ℤ FaultKind). append (image m x r) t) v.1 in
+    (ap (λ (w : Trace). length w.items) is ∙ ap suc later.0, ap (λ (w : Trace). w.ending) is ∙ later.1)
+
+maps_keep : (m : ℕ) (gs : List AbstractStage) → all_keep true gs ≡ true → (env : Numbers) (t : Trace) → HasSize t (pipe m gs env t)
+maps_keep m [] h env t = (refl, refl)
+maps_keep m (map e ∷ gs) h env t =
+    let p = both (never_faults e) (all_keep true gs) h in
+    let one = map_keeps m e env p.0 t.items t.ending in
+    let later = maps_keep (suc m) gs p.1 env (through m (map e) env t) in
+    (later.0 ∙ one.0, later.1 ∙ one.1)
+maps_keep m (filter p ∷ gs) h env t = absurd (let z : false ≡ true = h in cc)
+maps_keep m (flat_map g ∷ gs) h env t = absurd (let z : false ≡ true = h in cc)
+
+-- how many items stand at positions
+piece_size : (from : ℕ) (to : Option ℕ) (t : Trace) → length (piece_of from to t).items ≡ span from to (length t.items)
+piece_size from None t = length_dropped from t.items
+piece_size from (Some to) t =
+    let a = length-take (to - from) (drop from t.items) in
+    let d = length_dropped from t.items in
+    a ∙ omega (arith, d)
+
+-- the sum of some ones
+some_ones : (n : ℕ) (xs : List Item) → n ≤ 4611686018427387904 → 1 ≤ n → length xs ≡ n → Some (pos n) ≡ fold_items (value_of op.Sum) (ones xs)
+some_ones n [] few some is = absurd (omega (arith, some, is))
+some_ones n (x ∷ xs) few some is =
+    let one : wrap (pos 0 +ℤ pos 1) ≡ pos 1 = int_wrap_fits w64 (pos 1) (search rules) in
+    let all = counted (x ∷ xs) in
+    let fits : wrap (pos n) ≡ pos n = int_wrap_fits w64 (pos n) (search rules) in
+    ap Some (sym (ap (λ (z : ℤ). fold_from (value_of op.Sum) z (ones xs)) (sym one) ∙ all ∙ ap (λ (k : ℕ). wrap (pos k)) is ∙ fits))
+
+-- their fold
+pub ones_stand : (p : Partial) (n : ℕ) (xs : List Item) → n ≤ 4611686018427387904 → 1 ≤ n → p.op ≡ op.Sum → p.value ≡ Some (pos n) → p.end ≡ end.Done → length xs ≡ n → FoldStands p (trace (ones xs) end.Done)
+ones_stand p n xs few some adds value done is = record {
+  value = value ∙ some_ones n xs few some is ∙ ap (λ (o : Op). fold_items (value_of o) (ones xs)) (sym adds);
+  ending = done;
+}
+
+-- a fold of ones, and the end of the walk
+pub counted_end : (p : Partial) (t : Trace) (counts : Bool) (ending : End) → counts ≡ true → t.ending ≡ ending → FoldStands p (append (trace (ones t.items) end.Done) (trace [] ending))
+    → FoldStands p (trace (counted_as counts t.items) t.ending)
+counted_end p t counts ending adds last =
+    subst (λ (u : Trace). FoldStands p u) ((λ i. trace (append-nil (ones t.items) i) (sym last i)) ∙ ap (λ (c : Bool). trace (counted_as c t.items) t.ending) (sym adds))
+
+-- a part of a segment that counts after such maps
+pub counted_stands : (segment : Segment) (fold : Fold) (p : FoldPart) (from : ℕ) (to : Option ℕ) (t : Trace) (count : ℕ) (ending : End) (env : Numbers)
+    → segment.end ≡ ends.Fold fold → all_keep true (stages_of segment.stages.items) ≡ true → count ≡ span from to (length t.items) → ending ≡ (piece_of 0 to t).ending
+    → ((u : Trace) → length u.items ≡ count → u.ending ≡ ending → IsFold fold.op fold.start fold.counts p u) → StandsFor (segment_in segment) env (part.Fold p) (piece_of from to t)
+counted_stands segment fold p from to t count ending env e keep few last made =
+    let n = segment.first_stage in
+    let gs = stages_of segment.stages.items in
+    let piece = piece_of from to t in
+    let kept = maps_keep n gs keep env piece in
+    let stands : IsFold fold.op fold.start fold.counts p (pipe n gs env piece) = made (pipe n gs env piece) (kept.0 ∙ piece_size from to t ∙ sym few) (kept.1 ∙ sym (last ∙ same_ending from to t)) in
+    subst (λ d. EndsFor (end_in d) (n + length gs) env (part.Fold p) (pipe n gs env piece)) (sym e) stands

@@ -1,0 +1,15 @@
+use Rattle.std.proofs.Common.{◌≡◌, true, length, ap, ◌∙◌, arith, rules}
+use Rattle.trace.specs.Stages.{stages_of}
+use Rattle.job_plan.specs.Moves.{all_keep}
+use Rattle.job_plan.specs.Parts.{walk_in}
+use Rattle.job_plan.specs.Spans.{span}
+use Rattle.job_plan.proofs.CountLemmas.{counted_stands}
+use Rattle.job_plan.proofs.counted_part.counted_part.Goals as goal
+
+pub returns : goal.returns
+returns c = λ env.
+    let walk = walk_in c.args.source.now in
+    let keep : all_keep true (stages_of c.args.segment.now.stages.items) ≡ true = search rules in
+    let size : c.size-size.result ≡ length walk.items = omega (arith, c.size-size.ensures, c.if-size-gt-MAX_SOURCE_SIZE.false) in
+    counted_stands c.args.segment.now c.in-Fold.fold c.of_count-part.result c.args.from c.args.to walk c.within-count.result.1 c.piece_end.result env c.in-Fold.is keep
+    (c.within-count.ensures.count ∙ ap (span c.args.from c.args.to) size) c.piece_end.ensures c.of_count-part.ensures
