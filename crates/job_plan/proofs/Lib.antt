@@ -4,6 +4,7 @@ pub mod CountLemmas
 pub mod Elements
 pub mod EnoughLemmas
 pub mod FeedLemmas
+pub mod FirstLemmas
 pub mod FlaggedFolds
 pub mod FrontLemmas
 pub mod ItemCounts

@@ -124,7 +124,7 @@ mutual
       chosen_there true r k f g = f
       chosen_there false r k f g = g
 
-  test_there : (e : Truth) → test_never_faults e ≡ true → (x : ℤ) (env : Numbers) → HasTruth (truth_value e x env)
+  pub test_there : (e : Truth) → test_never_faults e ≡ true → (x : ℤ) (env : Numbers) → HasTruth (truth_value e x env)
   test_there (literal b) h x env = (b, refl)
   test_there (compare o a b) h x env =
       let q = both (never_faults a) (never_faults b) h in
@@ -321,7 +321,7 @@ segments_joined [] us = refl
 segments_joined (s ∷ ss) us = ap (λ (xs : List AbstractSegment). segment_in s ∷ xs) (segments_joined ss us)
 
 -- one more segment of the program
-segments_more : (ss us : List Segment) (s : Segment) → us ≡ ss ++ s ∷ [] → segments_in us ≡ segments_in ss ++ segment_in s ∷ []
+pub segments_more : (ss us : List Segment) (s : Segment) → us ≡ ss ++ s ∷ [] → segments_in us ≡ segments_in ss ++ segment_in s ∷ []
 segments_more ss us s e = ap segments_in e ∙ segments_joined ss (s ∷ [])
 
 -- a slice is added, and the maps before it wait
@@ -376,7 +376,7 @@ same_answer : (before : List Answer) (p q : AbstractPlan) → IsSamePlan p q →
 same_answer before p q h =
     (λ i. unless_unusable (first_unusable_at before (h.named i))
     (instead_of_fault (h.fallback i) (segments_answer p.segments (numbers_at before (h.named i)) (source_walk (all_put_at before (h.named i) (h.sources i))))))
-    ∙ ap (λ (a : Answer). unless_unusable (first_unusable_at before q.named) (instead_of_fault q.fallback a)) (h.answers (numbers_at before q.named) (source_walk (all_put_at before q.named q.sources)))
+    ∙ ap (λ (a : Answer). unless_unusable (first_unusable_at before q.named) (instead_of_fault q.fallback a)) (h.answers (numbers_at before q.named) (all_put_at before q.named q.sources))
 
 same_from : (ps qs : List AbstractPlan) → AllSamePlans ps qs → (before : List Answer) → planned_from before ps ≡ planned_from before qs
 same_from [] [] h before = refl

@@ -2,6 +2,7 @@
 pub mod Arrays
 pub mod Batches
 pub mod Faultless
+pub mod Firsts
 pub mod FileAnswers
 pub mod Kept
 pub mod Keeping

@@ -4,11 +4,13 @@ use Rattle.lambda_expr.specs.Earlier.{Numbers}
 use Rattle.trace.specs.Stages.{AbstractStage, map, filter, flat_map, stages_of}
 use Rattle.trace.specs.Trace.{Trace}
 use Rattle.slice_ops.specs.Slices.{AbstractSlice, limit, skip, take_while, drop_while}
+use Rattle.job_language.specs.Jobs.{AbstractPlainSource}
 use Rattle.job_plan.specs.declared.moves.Moved.{Moved}
 use Rattle.job_plan.specs.declared.segment.Held.{Held}
 use Rattle.job_plan.specs.Faultless.{never_faults}
 use Rattle.job_plan.specs.Parts.{segments_in}
 use Rattle.job_plan.specs.Plans.{AbstractEnd, slicing, folding, finding, collecting, exactly, scanning, AbstractSegment, AbstractPlan, segments_answer}
+use Rattle.job_plan.specs.Walks.{source_walk}
 
 -- whether stages are all maps; if asked for, maps that can't have a fault
 abbrev pub stage_keeps : Bool → AbstractStage → Bool
@@ -41,13 +43,13 @@ comes_first gs (scanning f r) = false
 abbrev pub SameAnswers : List AbstractSegment → List AbstractSegment → Type 0
 SameAnswers ss us = (env : Numbers) (t : Trace) → segments_answer ss env t ≡ segments_answer us env t
 
--- a plan that differs in its segments alone, which give the same answer
+-- a plan that differs in its segments alone, which give the same answer over all sources
 pub record IsSamePlan (p q : AbstractPlan) : Type 0 where
   pub name : p.name ≡ q.name
   pub named : p.named ≡ q.named
   pub sources : p.sources ≡ q.sources
   pub fallback : p.fallback ≡ q.fallback
-  pub answers : SameAnswers p.segments q.segments
+  pub answers : (env : Numbers) (ss : List AbstractPlainSource) → segments_answer p.segments env (source_walk ss) ≡ segments_answer q.segments env (source_walk ss)
 
 abbrev pub AllSamePlans : List AbstractPlan → List AbstractPlan → Type 0
 AllSamePlans [] [] = Unit {0}

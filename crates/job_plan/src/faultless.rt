@@ -73,7 +73,7 @@ pub(crate) fn never_faults(expr: &LongExpr) -> bool
 
 /// The same of a test.
 #[cycle(faultless)]
-fn test_never_faults(test: &BoolExpr) -> bool
+pub(crate) fn test_never_faults(test: &BoolExpr) -> bool
     ensures { result ≡ test_never_faults (truth_of test.now) }
 {
     match test {

@@ -18,6 +18,7 @@ mod closing;
 mod counted_part;
 mod fallback;
 mod faultless;
+mod first_found;
 mod folded_piece;
 mod folded_walk;
 mod folding;

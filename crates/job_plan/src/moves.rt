@@ -11,6 +11,7 @@ ghost use Rattle.job_plan.specs.PlannedAnswers.{planned_meaning};
 ghost use Rattle.job_plan.specs.Plans.{AbstractPlan, AbstractSegment};
 
 use crate::faultless::never_faults;
+use crate::first_found::with_first_found;
 use crate::likely::likely_size;
 use crate::segment::{Held, JobPlan, Plan, Segment, SegmentEnd};
 use lambda_expr::LongExpr;
@@ -178,7 +179,7 @@ fn with_slices_first(alloc: Global, segments: Vec<Segment>) -> Result<Vec<Segmen
 }
 
 impl<'c> JobPlan<'c> {
-    /// The job with its slices moved, after these jobs.
+    /// The job with its slices moved, and with the first value found, after these jobs.
     fn with_slices_first(
         self,
         alloc: Global,
@@ -194,7 +195,8 @@ impl<'c> JobPlan<'c> {
             segments,
             fallback,
         } = self;
-        let segments = with_slices_first(alloc, segments)?;
+        let moved = with_slices_first(alloc, segments)?;
+        let segments = with_first_found(moved)?;
         let likely_size = likely_size(&sources, &segments, before);
         Ok(JobPlan {
             name,
@@ -209,7 +211,8 @@ impl<'c> JobPlan<'c> {
 
 impl<'c> Plan<'c> {
     /// The same jobs, in which `limit` after maps, and `skip` after maps that can't have a fault, come before these: they select
-    /// positions of the job's sources, so that a run gathers nothing for them and cuts what they leave.
+    /// positions of the job's sources, so that a run gathers nothing for them and cuts what they leave. And `reduce` that keeps the
+    /// first value becomes `findFirst`, which ends there, if only maps and filters that can't have a fault come before it.
     ///
     /// Stages keep their numbers. Takes time for each stage, and memory for each segment.
     pub fn with_slices_first(self, alloc: Global) -> Result<Plan<'c>, NoMemory>

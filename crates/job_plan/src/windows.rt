@@ -72,7 +72,7 @@ impl Window {
 }
 
 /// Whether a segment selects positions and does nothing else.
-fn selects(segment: &Segment) -> bool
+pub(crate) fn selects(segment: &Segment) -> bool
     ensures { result ≡ selects (segment_in segment.now).stages (segment_in segment.now).ending }
 {
     match segment.stages.split_first() {
