@@ -13,6 +13,7 @@
 #![tactic(auto)]
 
 mod batch;
+mod bounds;
 mod cheap;
 mod choose;
 mod constant;

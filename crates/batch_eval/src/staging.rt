@@ -13,6 +13,7 @@ ghost use Rattle.trace.specs.declared.feeding.Fed.TheVariants as fed;
 ghost use Rattle.trace.specs.declared.item.Item.{Item};
 
 use crate::batch::Batch;
+use crate::bounds::{Bounds, bound_room, eval_bounds};
 use crate::one_value::map_to_one;
 use crate::register::LANES;
 use crate::sink::BatchSink;
@@ -98,10 +99,18 @@ pub(crate) fn feed_inner<S: BatchSink>(
     ensures refused { OnErr result S.takes_memory }
 {
     pending.clear();
+    let part = bound_room(inner, later, room.len());
+    let (froms, room) = room.split_at_mut(part);
+    let (tos, room) = room.split_at_mut(part);
+    let lanes = eval_bounds(inner, env, batch.values(), froms, tos, room);
+    let bounds = Bounds {
+        froms: &froms[..lanes],
+        tos: &tos[..lanes],
+    };
     let mut listed = ListedValues::new();
     for position in 0..batch.count() {
         let item = batch.item_at(position);
-        match inner.eval_into(item.value, env, &mut listed) {
+        match bounds.eval_at(position as usize, inner, item.value, env, &mut listed) {
             Ok(run) => {
                 let values = InnerItems {
                     origin: item.origin,
@@ -119,16 +128,8 @@ pub(crate) fn feed_inner<S: BatchSink>(
             }
         }
     }
-    finish(
-        later,
-        stage + 1,
-        env,
-        batch.end(),
-        pending,
-        rest,
-        room,
-        sink,
-    )
+    let end = batch.end();
+    finish(later, stage + 1, env, end, pending, rest, room, sink)
 }
 
 /// Adds the values of an inner stream to those that wait, and takes them through the stages whenever

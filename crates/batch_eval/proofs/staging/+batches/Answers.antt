@@ -115,7 +115,7 @@ feed_inner-loop-position-init g t c =
     let env = c.args.env.now in
     let none : List Item = [] in
     record {
-      room = c.requires.room;
+      room = search rules;
       wants = c.requires.wants;
       done = refl;
       held = λ xs took. subst (λ (b : Trace). Holds h n gs env xs none b.items c.args.sink.now) (sym c.clear.ensures) (holds_none h n gs env xs c.args.sink.now took);
@@ -211,5 +211,5 @@ feed_inner-returns-clause-fed g t c = λ xs took.
     let front : Trace = each f (take p os) end.Done in
     let past : length os ≤ p = omega (arith, c.loop-position-test.false, c.count-position-end.ensures) in
     let whole : each f os e ≡ trace front.items e = each_whole f os p e past c.loop-position.invariant.done in
-    let here = subst (λ (d : End). IsFed h xs (pipe n gs env (trace front.items d)) c.finish-2.result c.finish-2.new.sink) c.end.ensures (c.finish-2.ensures.fed xs front.items (c.loop-position.invariant.held xs took)) in
+    let here = subst (λ (d : End). IsFed h xs (pipe n gs env (trace front.items d)) c.finish-2.result c.finish-2.new.sink) c.end-end.ensures (c.finish-2.ensures.fed xs front.items (c.loop-position.invariant.held xs took)) in
     subst (λ (u : Trace). IsFed h xs (pipe n gs env u) c.finish-2.result c.finish-2.new.sink) (sym whole) here

@@ -1,0 +1,128 @@
+//! The bounds of inner ranges, by columns: of all items of a batch before the first range is walked.
+
+ghost use Rattle.batch_eval.specs.Bounds.{HasBounds};
+ghost use Rattle.batch_eval.specs.Lanes.{at};
+ghost use Rattle.batch_eval.specs.Rooms.{FitsStages};
+ghost use Rattle.lambda_expr.specs.Streams.{distance, inner_of, inner_value, run_or_listed, run_values, through, up_from};
+ghost use Rattle.std.specs.Prelude.{◌≡◌, ◌+◌, ◌-◌, ◌<◌, ◌≤◌, ℕ, Err, IfErr, IfOk, Ok, length};
+ghost use Rattle.trace.specs.Stages.{stages_of};
+
+use crate::register::{LANES, eval_long};
+use crate::room::{fits, stages_fit};
+use lambda_expr::{Env, FaultKind, InnerExpr, ListedValues, Run};
+use trace::Stage;
+
+/// How many values a range may have.
+const MAX_VALUES: u64 = 1 << 62;
+
+/// The bounds of the inner ranges at the first lanes of a batch.
+#[derive(Clone, Copy)]
+pub(crate) struct Bounds<'a> {
+    pub(crate) froms: &'a [i64],
+    pub(crate) tos: &'a [i64],
+}
+
+/// How much room each of the two bounds may take: a register, if the values are ranges and enough is left for the later
+/// stages, and else nothing.
+pub(crate) fn bound_room(inner: &InnerExpr, later: &[Stage], room: usize) -> usize
+    requires { FitsStages (stages_of later.now) room }
+    ensures within { result + result ≤ room }
+    ensures left { FitsStages (stages_of later.now) (room - result - result) }
+{
+    if matches!(inner, InnerExpr::Of(_)) || room < 2 * LANES {
+        return 0;
+    }
+    if stages_fit(later, room - LANES - LANES) {
+        LANES
+    } else {
+        0
+    }
+}
+
+/// The bounds of ranges at the items `xs`, up to the first one whose bound has a fault. The result is how many lanes have
+/// bounds: none if the values are no ranges, or if there is no room for the expressions.
+pub(crate) fn eval_bounds(
+    inner: &InnerExpr,
+    env: &Env,
+    xs: &[i64],
+    froms: &mut [i64],
+    tos: &mut [i64],
+    room: &mut [i64],
+) -> usize
+    ensures froms { result ≤ length froms.new }
+    ensures tos { result ≤ length tos.new }
+    ensures bounds { (k : ℕ) → k < result → HasBounds (inner_of inner.now) env.now (at xs.now k) (at froms.new k) (at tos.new k) }
+{
+    let (InnerExpr::Range(from, to) | InnerExpr::RangeClosed(from, to)) = inner else {
+        return 0;
+    };
+    if froms.len() < LANES
+        || tos.len() < LANES
+        || !fits(from, room.len())
+        || !fits(to, room.len())
+    {
+        return 0;
+    }
+    let live = xs.len().min(LANES);
+    let first = eval_long(from, env, xs, live, froms, room);
+    eval_long(to, env, xs, first.live, tos, room).live
+}
+
+/// The integers from the first up to, not with, the second one.
+fn range(from: i64, to: i64) -> Result<Run, FaultKind>
+    ensures ok { IfOk result (λ run. up_from from (distance from to) ≡ Ok (run_values run)) }
+    ensures fault { IfErr result (λ kind. up_from from (distance from to) ≡ Err kind) }
+{
+    let count = if from < to { to.abs_diff(from) } else { 0 };
+    if count > MAX_VALUES {
+        return Err(FaultKind::SourceTooLong);
+    }
+    Ok(Run { first: from, count })
+}
+
+/// The integers from the first up to and with the second one.
+fn closed_range(from: i64, to: i64) -> Result<Run, FaultKind>
+    ensures ok { IfOk result (λ run. up_from from (through from to) ≡ Ok (run_values run)) }
+    ensures fault { IfErr result (λ kind. up_from from (through from to) ≡ Err kind) }
+{
+    if to < from {
+        return Ok(Run {
+            first: from,
+            count: 0,
+        });
+    }
+    let gap = to.abs_diff(from);
+    if gap >= MAX_VALUES {
+        return Err(FaultKind::SourceTooLong);
+    }
+    Ok(Run {
+        first: from,
+        count: gap + 1,
+    })
+}
+
+impl Bounds<'_> {
+    /// The values of an inner stream at an item in this lane, as `eval_into` of `InnerExpr` gives them. A lane without
+    /// bounds is evaluated by itself, so one that has a fault gives it here.
+    pub(crate) fn eval_at(
+        &self,
+        lane: usize,
+        inner: &InnerExpr,
+        x: i64,
+        env: &Env,
+        listed: &mut ListedValues,
+    ) -> Result<Option<Run>, FaultKind>
+        requires { lane < length self.now.froms.now → lane < length self.now.tos.now → HasBounds (inner_of inner.now) env.now x (at self.now.froms.now lane) (at self.now.tos.now lane) }
+        ensures ok { IfOk result (λ run. inner_value (inner_of inner.now) x env.now ≡ Ok (run_or_listed run listed.new.items)) }
+        ensures fault { IfErr result (λ kind. inner_value (inner_of inner.now) x env.now ≡ Err kind) }
+    {
+        let (Some(from), Some(to)) = (self.froms.get(lane), self.tos.get(lane)) else {
+            return inner.eval_into(x, env, listed);
+        };
+        match inner {
+            InnerExpr::Range(..) => Ok(Some(range(*from, *to)?)),
+            InnerExpr::RangeClosed(..) => Ok(Some(closed_range(*from, *to)?)),
+            InnerExpr::Of(_) => inner.eval_into(x, env, listed),
+        }
+    }
+}
