@@ -9,8 +9,6 @@
 #[cfg(test)]
 mod edges;
 #[cfg(test)]
-mod inner;
-#[cfg(test)]
 mod passing;
 #[cfg(test)]
 mod walks;

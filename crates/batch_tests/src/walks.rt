@@ -86,13 +86,12 @@ pub(crate) fn items_of(alloc: Global, values: &[i64]) -> Result<Vec<Item>, NoMem
         .collect(alloc)
 }
 
-/// `map`, `filter` or `flatMap` by a lambda.
+/// `map` or `filter` by a lambda.
 pub(crate) fn stage(alloc: Global, text: &str, want: Want) -> Result<Stage, NoMemory> {
     match read_lambda(alloc, text.trim().as_bytes(), want) {
         Ok(lambda) => match lambda.body {
             Body::Long(image) => Ok(Stage::Map(image)),
             Body::Bool(test) => Ok(Stage::Filter(test)),
-            Body::Stream(inner) => Ok(Stage::FlatMap(inner)),
             _ => Err(AllocError),
         },
         Err(_) => Err(AllocError),
