@@ -1,5 +1,6 @@
 """What scripts/pages checks of the facts on the pages, and of what is made beside them: recipes, messages, the gallery,
 lists of files, the drawings of architecture.md, completions, colours of editors."""
+import glob
 import os
 import re
 import subprocess
@@ -110,6 +111,26 @@ def exports(top):
             if word in found:
                 yield f'{word} is exported by {found[word]} and by {name}'
             found[word] = name
+
+
+def marked(top, crate, name):
+    """Whether the comment of a public item, or the page of its crate, says that it is for other programs."""
+    sources = os.path.join(top, 'crates', crate, 'src')
+    page = re.sub(r'\n//! ?', ' ', read(os.path.join(sources, 'lib.rt')).split('#![')[0])
+    if 'or other programs' in page:
+        return True
+    item = r'((?:^[ \t]*///.*\n)+)(?:^[ \t]*#\[.*\n)*^[ \t]*pub (?:fn|struct|enum|trait) %s\b' % name
+    texts = (read(path) for path in glob.glob(os.path.join(sources, '**', '*.rt'), recursive=True))
+    return any('or other programs' in comment for text in texts for comment in re.findall(item, text, re.M))
+
+
+def others(top):
+    """Calls that promises.md lists as calls for other programs, and whose comments don't say so."""
+    section = read(os.path.join(top, 'docs', 'promises.md')).split('\n## Calls for other programs\n')[1].split('\n## ')[0]
+    for crate, calls in re.findall(r'^\| `(\w+)` \| (.*?) \|', section, re.M):
+        for name in re.findall(r'`(?:\w+::)?(\w+)`', calls) or ['']:
+            if not marked(top, crate, name):
+                yield f'{crate}: the comment of {name or "lib.rt"} does not say "for other programs"'
 
 
 def paths(top):

@@ -1,11 +1,13 @@
 -- Condition: what registers of numbers hold, lane by lane, and how far a step over lanes came.
-use Rattle.std.specs.Prelude.{◌≡◌, ℕ, ◌<◌, ◌≤◌, ℤ, pos, Bool, true, false, not, List, slice_index_or, Option, Some, None, Result, Ok, Err}
+use Rattle.std.specs.Prelude.{◌≡◌, ℕ, ◌<◌, ◌≤◌, ℤ, pos, Bool, true, false, not, List, length, slice_index_or, Option, Some, None, Result, Ok, Err}
 use Rattle.std.specs.Ordering.{int_eq}
 use Rattle.lambda_expr.specs.declared.fault.FaultKind.{FaultKind}
 use Rattle.lambda_expr.specs.declared.operator.Comparison.{Comparison}
 use Rattle.lambda_expr.specs.Operators.{on, binary_value, comparison_value}
 use Rattle.batch_eval.specs.declared.dispatch.Infix.{Infix}
 use Rattle.batch_eval.specs.declared.dispatch.Infix.TheVariants as op
+use Rattle.batch_eval.specs.declared.operands.Right.{Right}
+use Rattle.batch_eval.specs.declared.operands.Right.TheVariants as right
 use Rattle.batch_eval.specs.declared.reached.Reached.{Reached}
 use Rattle.batch_eval.specs.declared.reached.Left.{Left}
 use Rattle.batch_eval.specs.declared.reached.Left.TheVariants as left
@@ -47,6 +49,16 @@ abbrev pub left_at : Left → List ℤ → List ℤ → ℕ → ℤ
 left_at left.Out out xs k = at out k
 left_at left.Item out xs k = at xs k
 left_at (left.Number z) out xs k = z
+
+-- the right operand at a lane
+abbrev pub right_at : Right → ℕ → ℤ
+right_at (right.Register ys) k = at ys.now k
+right_at (right.Number z) k = z
+
+-- it has at least this many lanes
+abbrev pub HasLanes : Right → ℕ → Type 0
+HasLanes (right.Register ys) n = n ≤ length ys.now
+HasLanes (right.Number z) n = Unit {0}
 
 -- n lanes were done up to this one: all of them, or the one that has this fault
 abbrev pub StopsAt : (ℕ → Result ℤ FaultKind) → ℕ → ℕ → Option FaultKind → Type 0

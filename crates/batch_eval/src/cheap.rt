@@ -6,7 +6,7 @@ use crate::constant::constant_in;
 use crate::power::exponent_of;
 use crate::reciprocal::reciprocal_of;
 use crate::register::Operand;
-use lambda_expr::{BinaryOperator, BoolExpr, LongExpr, UnaryOperator};
+use lambda_expr::{BinaryOperator, BoolExpr, Faults, LongExpr};
 
 /// To gather the lanes that need an operand and to merge them again takes about as long as this many operators.
 const FEW_OPERATORS: u32 = 8;
@@ -25,8 +25,10 @@ pub(crate) fn is_cheap(operand: Operand<'_>) -> bool {
 fn after_long(expr: &LongExpr, operators: u32) -> Option<u32> {
     match expr {
         LongExpr::Number(_) | LongExpr::Parameter(_) | LongExpr::Reference(_) => Some(operators),
-        LongExpr::Unary(UnaryOperator::NegateExact, _) => None,
-        LongExpr::Unary(_, operand) => after_long(operand, operators.checked_sub(1)?),
+        LongExpr::Unary(operator, operand) => match operator.faults() {
+            Faults::Never => after_long(operand, operators.checked_sub(1)?),
+            Faults::ByZero | Faults::Overflow => None,
+        },
         LongExpr::Binary(operator, a, b) => {
             let left = after_long(a, operators.checked_sub(cost(*operator, b)?)?)?;
             after_long(b, left)
@@ -61,18 +63,13 @@ fn after_test(test: &BoolExpr, operators: u32) -> Option<u32> {
 
 /// How many additions an operator with this right operand costs, if it is cheap.
 fn cost(operator: BinaryOperator, right: &LongExpr) -> Option<u32> {
-    match operator {
-        BinaryOperator::Multiply => Some(2),
-        BinaryOperator::Divide
-        | BinaryOperator::Remainder
-        | BinaryOperator::FloorDivide
-        | BinaryOperator::FloorRemainder => match constant_in(right) {
+    match operator.faults() {
+        Faults::Never => Some(operator.additions()),
+        Faults::ByZero => match constant_in(right) {
             Some(number) if exponent_of(number).is_some() => Some(3),
             Some(number) if reciprocal_of(number).is_some() => Some(4),
             _ => None,
         },
-        BinaryOperator::AddExact | BinaryOperator::SubtractExact | BinaryOperator::MultiplyExact =>
-            None,
-        _ => Some(1),
+        Faults::Overflow => None,
     }
 }

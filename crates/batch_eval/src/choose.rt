@@ -3,7 +3,7 @@
 ghost use Rattle.batch_eval.specs.Batches.{wanted, wants};
 ghost use Rattle.batch_eval.specs.Lanes.{Reaches, at, is_set as is_set_flag};
 ghost use Rattle.lambda_expr.specs.declared.fault.FaultKind.{FaultKind};
-ghost use Rattle.std.specs.Prelude.{◌≡◌, ℕ, ℤ, ◌<◌, ◌≤◌, Result, false, length, slice_index, true, if◌then◌else◌};
+ghost use Rattle.std.specs.Prelude.{◌≡◌, ℕ, ℤ, ◌<◌, ◌≤◌, IsTrue, Result, false, length, slice_index, true, if◌then◌else◌};
 
 use crate::flag::is_set;
 use crate::reached::{Reached, all};
@@ -13,6 +13,18 @@ fn is_wanted(flag: i64, kind: bool) -> bool
     ensures { result ≡ wants kind flag }
 {
     if kind { flag != 0 } else { flag == 0 }
+}
+
+/// Whether each flag is as it is wanted. There is no early end, so that the loop has no branch.
+pub(crate) fn all_flags(flags: &[i64], kind: bool, live: usize) -> bool
+    requires { live ≤ length flags.now }
+    ensures { IsTrue result → (k : ℕ) → k < live → is_set_flag (at flags.now k) ≡ kind }
+{
+    let mut same = true;
+    for i in 0..live {
+        same = same & (is_set(flags[i]) == kind);
+    }
+    same
 }
 
 /// The numbers of the lanes whose flag is as it is wanted, one after the other, and how many they are.

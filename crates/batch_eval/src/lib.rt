@@ -13,9 +13,11 @@
 #![tactic(auto)]
 
 mod batch;
+mod binary;
 mod bounds;
 mod cheap;
 mod choose;
+mod comparing;
 mod constant;
 mod dispatch;
 mod exact;
@@ -28,6 +30,7 @@ mod listed;
 mod listing;
 mod loops;
 mod one_value;
+mod operands;
 mod passing;
 mod placed;
 mod power;
@@ -39,6 +42,7 @@ mod room;
 mod sink;
 mod source;
 mod staging;
+mod unary;
 
 pub use batch::Batch;
 pub use feeding::{feed_at_once, feed_batches};

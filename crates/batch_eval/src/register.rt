@@ -9,13 +9,14 @@ ghost use Rattle.lambda_expr.specs.Value.{long_value, truth_value};
 ghost use Rattle.std.specs.Prelude.{◌≡◌, ◌<◌, ◌≤◌, ℕ, ℤ, IfSome, IsTrue, Ok, length};
 
 use crate::cheap::is_cheap;
-use crate::choose::{gather, merge, select, set_ones, set_others};
+use crate::choose::{all_flags, gather, merge, select, set_ones, set_others};
 use crate::constant::constant_in;
-use crate::dispatch::{Infix, by_number, by_register, by_unary};
+use crate::dispatch::{Infix, by_number, by_register};
 use crate::flag::flag;
 use crate::kernel::Opposite;
 use crate::loops::{copy, each_in, fill};
 use crate::reached::{Left, Reached, all};
+use crate::unary::by_unary;
 use lambda_expr::{BoolExpr, Connective, Env, LongExpr};
 
 /// The most lanes of a batch, and the length of a register.
@@ -179,7 +180,7 @@ fn eval_chosen(
 }
 
 /// Puts the one of two operands that each flag chooses into a register, up to the first fault. Each is
-/// evaluated at the lanes that need it only.
+/// evaluated at the lanes that need it only; if all need the same one, at those where they lie.
 #[cycle(register)]
 fn eval_parted(
     flags: &[i64],
@@ -201,6 +202,12 @@ fn eval_parted(
     let (items, rest) = room.split_at_mut(LANES);
     let (ones, rest) = rest.split_at_mut(LANES);
     let (others, rest) = rest.split_at_mut(LANES);
+    if all_flags(flags, true, live) {
+        return eval_operand(a, env, xs, live, out, rest);
+    }
+    if all_flags(flags, false, live) {
+        return eval_operand(b, env, xs, live, out, rest);
+    }
     let count = gather(flags, true, live, xs, items);
     let first = eval_operand(a, env, items, count, ones, rest);
     let count = gather(flags, false, live, xs, items);

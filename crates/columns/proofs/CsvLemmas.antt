@@ -38,7 +38,7 @@ pub skip : (c : ℕ) (xs : List ℕ) → ((c == 13) || (c == 10)) ≡ true
 unfolding next_record
 skip c xs h = rw h refl
 
-start_from : (s : State) (xs ys : List ℕ) (rows : List (List (List ℕ)))
+pub start_from : (s : State) (xs ys : List ℕ) (rows : List (List (List ℕ)))
     → next_record default_config s [] [] ys ≡ next_record default_config st.StartRecord [] [] xs → AreRowsOf xs rows → AreRecords default_config s ys rows
 unfolding Reached
 start_from s xs ys [] e (s2, zs, (a, b), none) = (s, ys, (refl, refl), e ∙ rw (sym a, sym b) at none)
@@ -113,7 +113,7 @@ no_number : (n : ℤ) → number_of [] ≡ Some n → ⊥
 unfolding number_of
 no_number n h = cc h
 
-plain_number : (cell : List ℕ) (n : ℤ) → number_of cell ≡ Some n → list_any (needs_byte default_writer) cell ≡ false
+pub plain_number : (cell : List ℕ) (n : ℤ) → number_of cell ≡ Some n → list_any (needs_byte default_writer) cell ≡ false
 plain_number cell n h =
     let s = SpellsCell-number_of cell n h in
     let digits = digits_no_mark s.digits s.all_digits in

@@ -1,5 +1,5 @@
 -- What a file says, from its first record and the rows under it.
-use Rattle.std.proofs.Common.{◌≡◌, ◌∷◌, ◌∙◌, ℕ, List, [], Bool, true, false, Some, None, Ok, Err, ap, length, refl, sym, arith, ◌++◌, ◌+◌}
+use Rattle.std.proofs.Common.{◌≡◌, ◌∷◌, ◌∙◌, ℕ, List, [], Bool, true, false, Some, None, Ok, Err, ap, length, refl, sym}
 use Rattle.std.specs.Borrow.{Bor}
 use Rattle.csv.specs.declared.reader.Reader.{Reader}
 use Rattle.columns.specs.declared.fault.ColumnFault.{ColumnFault}
@@ -9,13 +9,7 @@ use Rattle.columns.specs.Records.{GaveNext, IsReading}
 use Rattle.columns.specs.Refusals.{header_fault, rows_fault}
 use Rattle.columns.specs.Table.{NamedColumn, columns_under, table_of}
 use Rattle.columns.specs.TableOfColumns.{with_rows}
-use Rattle.std.proofs.lemmas.List.{append-nil}
-use Rattle.csv.specs.Reading.{AreRecords, Reached, default_config, strip_bom}
-use Rattle.csv.specs.declared.parser.State.TheVariants as st
-use Rattle.columns.specs.PlainRows.{AreRead, AreRowsOf, IsAfterFirst}
-use Rattle.columns.proofs.CsvLemmas.{AreRowsOf-none, between, same_rows}
-use Rattle.columns.proofs.RecordLemmas.{AreRecords-records_from}
-use Rattle.columns.proofs.TableLemmas.{length-columns_under, with_rows-columns_under}
+use Rattle.columns.proofs.TableLemmas.{with_rows-columns_under}
 
 pub no_record : (bytes : List ℕ) (found : Bool) (fields : List (List ℕ)) (b : Reader (Bor (List ℕ)))
     → GaveNext (records_of bytes) found fields b → found ≡ false → cells_of bytes ≡ Err NoHeader
@@ -45,17 +39,3 @@ columns_given bytes header rows width empty columns split good wide fits start t
     let all : columns ≡ columns_under header rows = table ∙ ap (λ c. with_rows c rows) start ∙ with_rows-columns_under header [] rows in
     let whole : table_of (header ∷ rows) ≡ Ok (columns_under header rows) = rw (good, sym wide, fits) refl in
     ap table_of split ∙ whole ∙ ap Ok (sym all)
-
--- rows that are read where they stand, after the first record, are all rows there are
-pub plain_given : (bytes text ys : List ℕ) (header : List (List ℕ)) (rows : List (List (List ℕ))) (empty columns : List NamedColumn) → text ≡ strip_bom bytes → IsAfterFirst text ys
-    → AreRead ys [] empty columns → header_fault header ≡ None → empty ≡ columns_under header [] → records_of bytes ≡ header ∷ rows → cells_of bytes ≡ Ok columns
-unfolding Reached
-plain_given bytes text ys header rows empty columns is after read good start split =
-    let all : AreRowsOf text (records_of bytes) = rw is (AreRecords-records_from default_config (length (strip_bom bytes) + 1) st.StartRecord (strip_bom bytes) (omega arith)) in
-    let (s2, zs, (p, first, same, others), none) = rw split at all in
-    let (start_of, rest) = after p first in
-    let under : AreRecords default_config p.1 ys (read.rows ++ []) = between p.1 ys (read.rows ++ []) start_of (read.reads [] AreRowsOf-none) in
-    let one : rows ≡ read.rows = same_rows p.1 ys rows (read.rows ++ []) (s2, zs, rw rest at others, none) under ∙ append-nil read.rows in
-    let wide : length empty ≡ length header = ap length start ∙ length-columns_under header [] in
-    let fits : rows_fault (length header) 1 rows ≡ None = rw (one, sym wide) (read.good 1) in
-    columns_given bytes header rows (length header) empty columns split good refl fits start (read.put ∙ ap (with_rows empty) (sym one))

@@ -1,8 +1,10 @@
 pub mod CellLemmas
 pub mod CsvLemmas
 pub mod DigitLemmas
+pub mod FeedLemmas
 pub mod FileLemmas
 pub mod FirstRecord
+pub mod FrontLemmas
 pub mod LaneLemmas
 pub mod PieceLemmas
 pub mod PlainLemmas

@@ -84,7 +84,7 @@ or_assoc : (a b c : Option ColumnFault) → option_or (option_or a b) c ≡ opti
 or_assoc None b c = refl
 or_assoc (Some f) b c = refl
 
-rows_fault-append : (width r : ℕ) (a b : List (List (List ℕ))) → rows_fault width r (a ++ b) ≡ option_or (rows_fault width r a) (rows_fault width (r + length a) b)
+pub rows_fault-append : (width r : ℕ) (a b : List (List (List ℕ))) → rows_fault width r (a ++ b) ≡ option_or (rows_fault width r a) (rows_fault width (r + length a) b)
 rows_fault-append width r [] b =
     let same : r + 0 ≡ r = omega arith in
     rw same refl
@@ -92,7 +92,7 @@ rows_fault-append width r (row ∷ a) b =
     let on : r + 1 + length a ≡ r + length (row ∷ a) = omega arith in
     rw (rows_fault-append width (r + 1) a b, on) (sym (or_assoc (row_fault width r row) (rows_fault width (r + 1) a) (rows_fault width (r + length (row ∷ a)) b)))
 
-with_rows-append : (columns : List NamedColumn) (a b : List (List (List ℕ))) → with_rows columns (a ++ b) ≡ with_rows (with_rows columns a) b
+pub with_rows-append : (columns : List NamedColumn) (a b : List (List (List ℕ))) → with_rows columns (a ++ b) ≡ with_rows (with_rows columns a) b
 with_rows-append columns [] b = refl
 with_rows-append columns (row ∷ a) b = with_rows-append (with_row columns row) a b
 

@@ -76,25 +76,25 @@ with_row_more columns fields i c n in_columns in_fields value here =
     let cells : drop i fields ≡ get_or fields i [] ∷ drop (i + 1) fields = drop_more fields i [] in_fields in
     rw (front, back, split, cells, value) (append_assoc (take i columns) (after ∷ []) rest)
 
--- the rows that a reader has left, from row n on, give the fault and the table that all rows give, over the columns so far
-pub record RowsLeft (width : ℕ) (reader : Reader (Bor (List ℕ))) (n : ℕ) (now start : List NamedColumn) (rows : List (List (List ℕ))) : Type 0 where
+-- the rows that a reader has left, from row n on, give the fault and the table that all rows give, over the columns so far; the first of all is row f
+pub record RowsLeft (width f : ℕ) (reader : Reader (Bor (List ℕ))) (n : ℕ) (now start : List NamedColumn) (rows : List (List (List ℕ))) : Type 0 where
   pub left : List (List (List ℕ))
   pub reading : IsReading reader left
-  pub faults : rows_fault width n left ≡ rows_fault width 1 rows
+  pub faults : rows_fault width n left ≡ rows_fault width f rows
   pub table : with_rows now left ≡ with_rows start rows
 
 -- no row is left
-pub RowsLeft-end : (width : ℕ) (a b : Reader (Bor (List ℕ))) (n : ℕ) (now start : List NamedColumn) (rows : List (List (List ℕ))) (found : Bool) (fields : List (List ℕ))
-    → (s : RowsLeft width a n now start rows) → GaveNext s.left found fields b → found ≡ false → (rows_fault width 1 rows ≡ None) × (now ≡ with_rows start rows)
-RowsLeft-end width a b n now start rows found fields s gave none =
+pub RowsLeft-end : (width : ℕ) (a b : Reader (Bor (List ℕ))) (f n : ℕ) (now start : List NamedColumn) (rows : List (List (List ℕ))) (found : Bool) (fields : List (List ℕ))
+    → (s : RowsLeft width f a n now start rows) → GaveNext s.left found fields b → found ≡ false → (rows_fault width f rows ≡ None) × (now ≡ with_rows start rows)
+RowsLeft-end width a b f n now start rows found fields s gave none =
     let end = rw none at gave in
     (sym s.faults ∙ ap (rows_fault width n) end, ap (with_rows now) (sym end) ∙ s.table)
 
 -- a row more is read
-pub RowsLeft-more : (width : ℕ) (a b : Reader (Bor (List ℕ))) (n : ℕ) (now next start : List NamedColumn) (rows : List (List (List ℕ))) (found : Bool) (fields : List (List ℕ))
-    → (s : RowsLeft width a n now start rows) → GaveNext s.left found fields b → found ≡ true → row_fault width n fields ≡ None → next ≡ with_row now fields
-    → RowsLeft width b (n + 1) next start rows
-RowsLeft-more width a b n now next start rows found fields s gave some good put =
+pub RowsLeft-more : (width : ℕ) (a b : Reader (Bor (List ℕ))) (f n : ℕ) (now next start : List NamedColumn) (rows : List (List (List ℕ))) (found : Bool) (fields : List (List ℕ))
+    → (s : RowsLeft width f a n now start rows) → GaveNext s.left found fields b → found ≡ true → row_fault width n fields ≡ None → next ≡ with_row now fields
+    → RowsLeft width f b (n + 1) next start rows
+RowsLeft-more width a b f n now next start rows found fields s gave some good put =
     let (others, split, after) = rw some at gave in
     let one : rows_fault width n (fields ∷ others) ≡ rows_fault width (n + 1) others = rw good refl in
     record {
@@ -105,10 +105,10 @@ RowsLeft-more width a b n now next start rows found fields s gave some good put 
     }
 
 -- a row is no good
-pub RowsLeft-fault : (width : ℕ) (a b : Reader (Bor (List ℕ))) (n : ℕ) (now start : List NamedColumn) (rows : List (List (List ℕ))) (found : Bool) (fields : List (List ℕ)) (fault : ColumnFault)
-    → (s : RowsLeft width a n now start rows) → GaveNext s.left found fields b → found ≡ true → row_fault width n fields ≡ Some fault
-    → rows_fault width 1 rows ≡ Some fault
-RowsLeft-fault width a b n now start rows found fields fault s gave some bad =
+pub RowsLeft-fault : (width : ℕ) (a b : Reader (Bor (List ℕ))) (f n : ℕ) (now start : List NamedColumn) (rows : List (List (List ℕ))) (found : Bool) (fields : List (List ℕ)) (fault : ColumnFault)
+    → (s : RowsLeft width f a n now start rows) → GaveNext s.left found fields b → found ≡ true → row_fault width n fields ≡ Some fault
+    → rows_fault width f rows ≡ Some fault
+RowsLeft-fault width a b f n now start rows found fields fault s gave some bad =
     let (others, split, after) = rw some at gave in
     let one : rows_fault width n (fields ∷ others) ≡ Some fault = rw bad refl in
     sym s.faults ∙ ap (rows_fault width n) split ∙ one

@@ -54,9 +54,12 @@ pub record AreCellsThere (xs ys : List ℕ) (count : ℕ) (before after : List N
   pub good : (r c : ℕ) → cell_fault r c cells ≡ None
   pub put : (more : List (List ℕ)) → take count after ++ with_row (drop count after) more ≡ with_row before (cells ++ more)
 
--- the first record of xs, if there is one, ends at ys
-abbrev pub IsAfterFirst : List ℕ → List ℕ → Type 0
-IsAfterFirst xs ys = (p : Read) → next_record default_config st.StartRecord [] [] xs ≡ Some p → IsBetween p.1 × (p.2 ≡ ys)
+-- the first record of a text ends at a place, whatever comes after it
+pub record EndsFirst (xs : List ℕ) (end : ℕ) : Type 0 where
+  pub fields : List (List ℕ)
+  pub state : State
+  pub between : IsBetween state
+  pub reads : (rest : List ℕ) → next_record default_config st.StartRecord [] [] (take end xs ++ rest) ≡ Some (fields, state, rest)
 
 -- from a record's start at xs to one at ys there are rows without a fault, which put the columns from `before` to `after`
 pub record AreRead (xs ys : List ℕ) (before after : List NamedColumn) : Type 0 where

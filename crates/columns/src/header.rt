@@ -1,8 +1,8 @@
 //! Where the records after the header begin.
-ghost use Rattle.std.specs.Prelude.{◌≡◌, ◌≤◌, ◌&&◌, ◌||◌, ◌==◌, true, false, IfSome, IfNone, length, drop, get_or, nat_lt};
+ghost use Rattle.std.specs.Prelude.{◌≡◌, ◌≤◌, ◌&&◌, ◌||◌, ◌==◌, true, false, IfSome, IfNone, length, get_or, nat_lt};
 ghost use Rattle.csv.specs.Machine.{is_end, step};
 ghost use Rattle.csv.specs.Reading.{default_config, is_bom, strip_bom};
-ghost use Rattle.columns.specs.PlainRows.{IsAfterFirst, IsBetween};
+ghost use Rattle.columns.specs.PlainRows.{EndsFirst, IsBetween};
 ghost use Rattle.columns.specs.Places.{state_of};
 
 /// Where a reading stands in a record.
@@ -29,19 +29,19 @@ fn has_mark(bytes: &[u8]) -> bool
     bytes.len() >= 3 && bytes[0] == 0xEF && bytes[1] == 0xBB && bytes[2] == 0xBF
 }
 
-/// Where the first record of a text ends.
-pub(crate) fn first_record_end(text: &[u8]) -> usize
-    ensures within { result ≤ length text.now }
-    ensures after { IsAfterFirst text.now (drop result text.now) }
+/// Where the first record of a text ends, if a line end ends it.
+pub(crate) fn header_end(text: &[u8]) -> Option<usize>
+    ensures within { IfSome result (λ end. end ≤ length text.now) }
+    ensures first { IfSome result (λ end. EndsFirst text.now end) }
 {
     let mut place = Place::RecordStart;
     for at in 0..text.len() {
         match place_after(place, text[at]) {
             Some(next) => place = next,
-            None => return at + 1,
+            None => return Some(at + 1),
         }
     }
-    text.len()
+    None
 }
 
 /// The place after a byte, or `None` if the byte ends the record.

@@ -21,6 +21,7 @@ mod pieces;
 mod plain;
 mod reading;
 mod records;
+mod rounds;
 mod rows;
 mod table;
 

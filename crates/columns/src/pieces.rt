@@ -7,10 +7,12 @@
 //! As many pieces at a time as there are workers are read, each on a thread. Then each column gets their cells on a
 //! thread of its own. The vectors of the pieces are used again, since memory that is new to the system costs more time
 //! than the parsing of what is put there.
-ghost use Rattle.std.specs.Prelude.{◌≡◌, ◌<◌, ◌≤◌, [], true, All, IfSome, length, map, drop};
+ghost use Rattle.std.specs.Prelude.{◌≡◌, ◌<◌, ◌≤◌, [], true, All, List, IfOk, IfSome, length, map, drop};
+ghost use Rattle.std.specs.Bool.{MatchBool};
 ghost use Rattle.std.specs.List.{list_all};
-ghost use Rattle.columns.specs.Pieces.{ArePut, IsPieceThere, IsPut, blanks};
+ghost use Rattle.columns.specs.Pieces.{ArePut, IsPieceThere, IsPut, append_pieces, blanks};
 ghost use Rattle.columns.specs.PlainRows.{AreRead};
+ghost use Rattle.columns.specs.Table.{NamedColumn};
 ghost use Rattle.columns.specs.TableOfColumns.{named};
 
 use crate::plain::read_plain_rows;
@@ -22,7 +24,7 @@ use std::thread::Threads;
 
 /// The rows of a part of a text, under columns without names, if they were read.
 #[derive(Drop)]
-struct Piece {
+pub(crate) struct Piece {
     from: usize,
     to: usize,
     is_read: bool,
@@ -48,7 +50,7 @@ pub(crate) fn read_plain_rows_by<H: Threads + Sync>(
         return read_plain_rows(text, from, text.len(), columns);
     }
     let first = &text[from..from.saturating_add(bytes).min(text.len())];
-    let rows = rows_to_expect(first, columns.len());
+    let rows = rows_to_expect(first, first.len(), columns.len());
     let count = workers.min((text.len() - from).div_ceil(bytes.max(1)));
     let Ok(mut pieces) = empty_pieces(alloc, count, columns.len(), rows) else {
         return false;
@@ -57,7 +59,7 @@ pub(crate) fn read_plain_rows_by<H: Threads + Sync>(
 }
 
 /// Pieces of which none is read, with room for this many rows each.
-fn empty_pieces(
+pub(crate) fn empty_pieces(
     alloc: Global,
     count: usize,
     width: usize,
@@ -108,10 +110,13 @@ fn read_in_turns<H: Threads + Sync>(
             break;
         }
         read_pieces(rt, text, at, bytes, pieces, columns.len());
-        match put_pieces(rt, text, at, pieces, columns) {
-            Some(next) => at = next,
-            None => return false,
+        let Some(next) = end_of_pieces(text, at, pieces) else {
+            return false;
+        };
+        if !put_pieces(rt, pieces, columns) {
+            return false;
         }
+        at = next;
     }
     at == text.len()
 }
@@ -183,39 +188,32 @@ fn line_start(text: &[u8], at: usize) -> usize
     text.len()
 }
 
-/// Puts the rows of pieces under the columns, the first of which starts at `from`, and answers where the last one
-/// ends, if all were read and each starts where the one before it ends.
-fn put_pieces<H: Threads + Sync>(
-    rt: &H,
-    text: &[u8],
-    from: usize,
-    pieces: &[Piece],
-    columns: &mut [Column],
-) -> Option<usize>
+/// Where the last piece ends, if all were read, the first from `from` on, and each starts where the one before it ends.
+fn end_of_pieces(text: &[u8], from: usize, pieces: &[Piece]) -> Option<usize>
     requires within { from ≤ length text.now }
-    requires pieces { All (IsPieceThere text.now (length columns.old)) pieces.now }
-    ensures read { IfSome result (λ to.
-        AreRead (drop from text.now) (drop to text.now) (map named columns.old) (map named columns.new)) }
+    ensures read { IfSome result (λ to. (columns : List NamedColumn) → All (IsPieceThere text.now (length columns)) pieces.now
+        → AreRead (drop from text.now) (drop to text.now) columns (append_pieces columns pieces.now)) }
     ensures ends { IfSome result (λ to. to ≤ length text.now) }
 {
     let mut at = from;
     for piece in pieces {
-        if !piece.is_read || piece.from != at {
+        if !piece.is_read || piece.from != at || piece.to > text.len() {
             return None;
         }
         at = piece.to;
     }
-    put_columns(rt, pieces, columns);
-    if are_whole(columns) { Some(at) } else { None }
+    Some(at)
 }
 
-fn are_whole(columns: &[Column]) -> bool
-    ensures { result ≡ list_all (λ c. c.is_whole) columns.now }
+/// Puts the cells of all pieces under the columns in their places, and answers whether there was memory for all of them.
+fn put_pieces<H: Threads + Sync>(rt: &H, pieces: &[Piece], columns: &mut [Column]) -> bool
+    ensures { result ≡ true → map named columns.new ≡ append_pieces (map named columns.old) pieces.now }
 {
-    columns.iter().all(|column| column.is_whole)
+    put_columns(rt, pieces, columns);
+    are_whole(columns)
 }
 
-/// Puts the cells of all pieces under the columns in their places; those that are whole after it have all of them.
+/// The same; the columns that are whole after it have all of their cells.
 fn put_columns<H: Threads + Sync>(rt: &H, pieces: &[Piece], columns: &mut [Column])
     ensures { ArePut pieces.now columns.old columns.new }
 {
@@ -224,6 +222,38 @@ fn put_columns<H: Threads + Sync>(rt: &H, pieces: &[Piece], columns: &mut [Colum
         ensures { IsPut pieces.entry.now place column.old column.new }
     { put_column(pieces, place, column) };
     thread::for_each_mut(rt, columns, count, &put);
+}
+
+fn are_whole(columns: &[Column]) -> bool
+    ensures { result ≡ list_all (λ c. c.is_whole) columns.now }
+{
+    columns.iter().all(|column| column.is_whole)
+}
+
+/// Puts the rows of a whole text under the columns and answers whether all are plain. If not, the columns stay.
+pub(crate) fn put_plain_text<H: Threads + Sync>(
+    rt: &H,
+    text: &[u8],
+    bytes: usize,
+    pieces: &mut [Piece],
+    columns: &mut [Column],
+) -> Result<bool, AllocError>
+    requires some_column { 0 < length columns.old }
+    ensures { IfOk result (λ is_plain. MatchBool is_plain
+        (AreRead text.now [] (map named columns.old) (map named columns.new)) (map named columns.new ≡ map named columns.old)) }
+{
+    read_pieces(rt, text, 0, bytes, pieces, columns.len());
+    let Some(end) = end_of_pieces(text, 0, pieces) else {
+        return Ok(false);
+    };
+    if end != text.len() {
+        return Ok(false);
+    }
+    if put_pieces(rt, pieces, columns) {
+        Ok(true)
+    } else {
+        Err(AllocError)
+    }
 }
 
 /// Puts the cells of each piece's column in this place under the column.

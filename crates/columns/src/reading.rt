@@ -1,20 +1,20 @@
 //! Column files, read whole.
-ghost use Rattle.std.specs.Prelude.{◌≡◌, ◌≢◌, ◌<◌, ◌≤◌, ◌⊎◌, [], ℕ, List, Ok, IfErr, IfOk, IfSome, OnOk, drop, length, map};
-ghost use Rattle.std.specs.Io.KnownBytes.{IsAtEnd};
+ghost use Rattle.std.specs.Prelude.{◌≡◌, ◌≢◌, ◌<◌, ◌≤◌, ◌⊎◌, [], ℕ, List, Ok, IfErr, IfOk, IfSome, OnOk, length, map, take};
+ghost use Rattle.std.specs.Io.KnownBytes.{Consumes, IsAtEnd};
 ghost use Rattle.counted_io.specs.CountedRead.{GaveSome};
 ghost use Rattle.counted_io.specs.FailureCounts.{HasRisen};
 ghost use Rattle.columns.specs.Cells.{IsAnswerTo, cells_of, records_of};
-ghost use Rattle.columns.specs.PlainRows.{AreRead};
+ghost use Rattle.columns.specs.Fronts.{IsFront, IsReadWhole};
 ghost use Rattle.columns.specs.Records.{IsReading};
-ghost use Rattle.columns.specs.Table.{NamedColumn};
 ghost use Rattle.columns.specs.TableOfColumns.{named};
 ghost use Rattle.csv.specs.Reading.{strip_bom};
 
 use crate::fault::ColumnFault;
-use crate::header::{first_record_end, without_mark};
+use crate::header::{header_end, without_mark};
 use crate::pieces::read_plain_rows_by;
 use crate::plain::read_plain_rows;
 use crate::records::{next_record, reader_of};
+use crate::rounds::{columns_in_rounds, read_on};
 use crate::rows::{columns_of_header, read_rows};
 use crate::table::{Column, Columns};
 use counted_io::{CountedRead, ReadAllFault, read_all_of};
@@ -30,6 +30,8 @@ use std::thread::Threads;
 /// and empty lines are no records. The whole file is held while it is read, and beside it 8 bytes
 /// for each cell. Rows of numbers, bare or whole in quotes, are read where they stand; from the first other row on, the
 /// file is read again by its records. A read that fails otherwise than by an interruption is `Read`.
+///
+/// For other programs: `streamrun` reads on threads, by `read_columns_by`.
 pub fn read_columns<R: CountedRead>(alloc: Global, reader: &mut R) -> Result<Columns, ColumnFault>
     // Of a reader whose bytes are known.
     ensures cells { IfSome (R.remaining reader.old) (λ bytes. IsAnswerTo bytes result) }
@@ -50,12 +52,13 @@ pub fn read_columns<R: CountedRead>(alloc: Global, reader: &mut R) -> Result<Col
 }
 
 /// The same columns or the same fault as `read_columns` gives. Pieces of at least `piece` bytes are cut after line
-/// feeds and read on threads, as many at a time as there are workers.
+/// feeds and parsed on threads, as many at a time as there are workers, while the next ones are read.
 ///
-/// A thread is started for each worker but one whenever that many pieces are read, and again, if there are as many
-/// columns, whenever their cells are put under the columns. With one worker, and for a file of one piece, none is. If a
-/// row isn't plain, the whole file is read again on one thread: if it is refused, or a number is quoted in part. Beside
-/// what `read_columns` holds, the cells of the pieces in hand are held.
+/// A file of no more than a piece for each worker is read whole first. Of a longer one only the pieces in hand, those that
+/// are read meanwhile and their cells are held beside 8 bytes for each cell. A thread is started for each worker whenever
+/// that many pieces are parsed, and again, if there are as many columns, whenever their cells are put under the columns.
+/// With one worker, and for a file of one piece, none is. If a row isn't plain, all bytes from its pieces on are read
+/// whole and parsed on one thread: if the file is refused, or a number is quoted in part.
 pub fn read_columns_by<H: Threads + Sync, R: CountedRead>(
     rt: &H,
     alloc: Global,
@@ -74,10 +77,60 @@ pub fn read_columns_by<H: Threads + Sync, R: CountedRead>(
         → HasRisen (R.failures reader.old) (R.failures reader.new)) }
     ensures counts { R.failures reader.old ≤ R.failures reader.new }
 {
-    let bytes = bytes_of(alloc, reader)?;
-    match plain_columns_by(rt, alloc, &bytes, workers, piece) {
+    let limit = if workers < 2 {
+        usize::MAX
+    } else {
+        workers.saturating_mul(piece).max(1)
+    };
+    columns_up_to(rt, alloc, reader, limit, workers, piece)
+}
+
+/// The same, of a file that is read whole first if it has fewer bytes than `limit`.
+fn columns_up_to<H: Threads + Sync, R: CountedRead>(
+    rt: &H,
+    alloc: Global,
+    reader: &mut R,
+    limit: usize,
+    workers: usize,
+    piece: usize,
+) -> Result<Columns, ColumnFault>
+    requires { 0 < limit }
+    ensures answer { (gone : List ℕ) × Consumes (R.remaining reader.old) (R.remaining reader.new) gone × IsAnswerTo gone result }
+    ensures end { IsReadWhole (R.remaining reader.new) result }
+    ensures read { IfErr result (λ fault. fault ≡ ColumnFault.Read
+        → HasRisen (R.failures reader.old) (R.failures reader.new)) }
+    ensures counts { R.failures reader.old ≤ R.failures reader.new }
+{
+    let mut bytes = no_bytes(alloc, reader.likely_size().min(limit - 1) + 1);
+    if !read_on(reader, &mut bytes, limit)? {
+        return columns_in_rounds(rt, alloc, reader, bytes, workers, piece);
+    }
+    columns_of(rt, alloc, &bytes, workers, piece)
+}
+
+/// No bytes, with room for this many if there is memory.
+fn no_bytes(alloc: Global, room: usize) -> Vec<u8>
+    ensures { result.items ≡ [] }
+{
+    let mut bytes = Vec::new(alloc);
+    let _ = bytes.reserve_exact(room);
+    bytes
+}
+
+/// The columns of some bytes, read in pieces if all rows are plain.
+fn columns_of<H: Threads + Sync>(
+    rt: &H,
+    alloc: Global,
+    bytes: &[u8],
+    workers: usize,
+    piece: usize,
+) -> Result<Columns, ColumnFault>
+    ensures tells { IsAnswerTo bytes.now result }
+    ensures unread { IfErr result (λ fault. fault ≢ ColumnFault.Read) }
+{
+    match plain_columns_by(rt, alloc, bytes, workers, piece) {
         Some(columns) => Ok(columns),
-        None => columns_in(alloc, &bytes),
+        None => columns_in(alloc, bytes),
     }
 }
 
@@ -99,7 +152,7 @@ fn bytes_of<R: CountedRead>(alloc: Global, reader: &mut R) -> Result<Vec<u8>, Co
 }
 
 /// The columns of some bytes by their records, whatever these are.
-fn columns_in(alloc: Global, bytes: &[u8]) -> Result<Columns, ColumnFault>
+pub(crate) fn columns_in(alloc: Global, bytes: &[u8]) -> Result<Columns, ColumnFault>
     ensures tells { IsAnswerTo bytes.now result }
     ensures unread { IfErr result (λ fault. fault ≢ ColumnFault.Read) }
 {
@@ -122,9 +175,9 @@ fn columns_from(
     if !next_record(reader, row)? {
         return Err(ColumnFault::NoHeader);
     }
-    let rows = rows_to_expect(bytes, row.len());
+    let rows = rows_to_expect(bytes, bytes.len(), row.len());
     let mut columns = columns_of_header(alloc, row, rows)?;
-    read_rows(reader, row, columns.as_mut_slice())?;
+    read_rows(reader, row, columns.as_mut_slice(), 1)?;
     Ok(Columns::of(columns))
 }
 
@@ -133,7 +186,7 @@ fn plain_columns(alloc: Global, bytes: &[u8]) -> Option<Columns>
     ensures { IfSome result (λ columns. cells_of bytes.now ≡ Ok columns) }
 {
     let text = without_mark(bytes);
-    let (mut columns, from) = plain_header(alloc, bytes)?;
+    let (mut columns, from) = plain_header(alloc, bytes, bytes.len())?;
     if !read_plain_rows(text, from, text.len(), columns.as_mut_slice()) {
         return None;
     }
@@ -151,7 +204,7 @@ fn plain_columns_by<H: Threads + Sync>(
     ensures { IfSome result (λ columns. cells_of bytes.now ≡ Ok columns) }
 {
     let text = without_mark(bytes);
-    let (mut columns, from) = plain_header(alloc, bytes)?;
+    let (mut columns, from) = plain_header(alloc, bytes, bytes.len())?;
     let slice = columns.as_mut_slice();
     if !read_plain_rows_by(rt, alloc, text, from, workers, piece, slice) {
         return None;
@@ -159,57 +212,61 @@ fn plain_columns_by<H: Threads + Sync>(
     Some(Columns::of(columns))
 }
 
-/// The columns under the header of some bytes, without cells, and where the first row may start in what follows a byte
-/// order mark.
-fn plain_header(alloc: Global, bytes: &[u8]) -> Option<(Vec<Column>, usize)>
-    ensures given { IfSome result (λ header. (columns : List NamedColumn)
-        → AreRead (drop header.1 (strip_bom bytes.now)) [] (map named header.0.items) columns → cells_of bytes.now ≡ Ok columns) }
+/// The columns under the header of some bytes, without cells and with room for the rows of `total` bytes, and where the
+/// first row may start in what follows a byte order mark.
+pub(crate) fn plain_header(
+    alloc: Global,
+    bytes: &[u8],
+    total: usize,
+) -> Option<(Vec<Column>, usize)>
+    ensures front { IfSome result (λ header. IsFront (take header.1 (strip_bom bytes.now)) (map named header.0.items)) }
     ensures some_column { IfSome result (λ header. 0 < length header.0.items) }
     ensures within { IfSome result (λ header. header.1 ≤ length (strip_bom bytes.now)) }
 {
     let mut reader = reader_of(alloc, bytes);
     let mut row = ByteRecord::new(alloc);
-    plain_header_from(alloc, bytes, &mut reader, &mut row)
+    plain_header_from(alloc, bytes, total, &mut reader, &mut row)
 }
 
 /// The same, by a reader of the records.
 fn plain_header_from(
     alloc: Global,
     bytes: &[u8],
+    total: usize,
     reader: &mut Reader<&[u8]>,
     row: &mut ByteRecord,
 ) -> Option<(Vec<Column>, usize)>
     requires { IsReading reader.old (records_of bytes.now) }
-    ensures given { IfSome result (λ header. (columns : List NamedColumn)
-        → AreRead (drop header.1 (strip_bom bytes.now)) [] (map named header.0.items) columns → cells_of bytes.now ≡ Ok columns) }
+    ensures front { IfSome result (λ header. IsFront (take header.1 (strip_bom bytes.now)) (map named header.0.items)) }
     ensures some_column { IfSome result (λ header. 0 < length header.0.items) }
     ensures within { IfSome result (λ header. header.1 ≤ length (strip_bom bytes.now)) }
 {
+    let end = header_end(without_mark(bytes))?;
     let Ok(true) = next_record(reader, row) else {
         return None;
     };
-    let rows = rows_to_expect(bytes, row.len());
+    let rows = rows_to_expect(bytes, total, row.len());
     let Ok(columns) = columns_of_header(alloc, row, rows) else {
         return None;
     };
     if columns.is_empty() {
         return None;
     }
-    Some((columns, first_record_end(without_mark(bytes))))
+    Some((columns, end))
 }
 
 /// How many bytes at the start of a file its row count is estimated from.
 const SAMPLE: usize = 64 * 1024;
 
-/// How many rows to expect: as many as there are if all lines are as long as the first ones, and no
-/// more than a file of numbers can have, whose rows take two bytes or more for each cell.
-pub(crate) fn rows_to_expect(bytes: &[u8], columns: usize) -> usize {
+/// How many rows to expect in `total` bytes, of which these are the first: as many as there are if all lines are as long
+/// as the first ones, and no more than a file of numbers can have, whose rows take two bytes or more for each cell.
+pub(crate) fn rows_to_expect(bytes: &[u8], total: usize, columns: usize) -> usize {
     let sample = &bytes[..bytes.len().min(SAMPLE)];
     let line_feeds = sample.iter().filter(|byte| **byte == b'\n').count();
     let returns = sample.iter().filter(|byte| **byte == b'\r').count();
-    let samples = bytes.len() / SAMPLE + 1;
+    let samples = total / SAMPLE + 1;
     line_feeds
         .max(returns)
         .saturating_mul(samples)
-        .min(bytes.len() / 2 / columns.max(1))
+        .min(total / 2 / columns.max(1))
 }

@@ -109,21 +109,22 @@ fn number_at(row: &ByteRecord, place: usize) -> Option<i64>
     read_cell(row.get(place)?)
 }
 
-/// Puts the rows that are left under the header, from the top, row by row.
+/// Puts the rows that are left under the columns, row by row, of which the next one is the `first`th of its file.
 pub(crate) fn read_rows(
     reader: &mut Reader<&[u8]>,
     row: &mut ByteRecord,
     columns: &mut [Column],
+    first: usize,
 ) -> Result<(), ColumnFault>
     requires { IsSetUp reader.old }
     ensures rows { (rows : List (List (List ℕ))) → IsReading reader.old rows → MatchResult result
-        (λ _. (rows_fault (length columns.old) 1 rows ≡ None)
+        (λ _. (rows_fault (length columns.old) first rows ≡ None)
         × (map named columns.new ≡ with_rows (map named columns.old) rows))
         (λ fault. fault ≢ ColumnFault.NoMemory
-        → rows_fault (length columns.old) 1 rows ≡ Some fault) }
+        → rows_fault (length columns.old) first rows ≡ Some fault) }
     ensures unread { IfErr result (λ fault. fault ≢ ColumnFault.Read) }
 {
-    for number in 1..usize::MAX {
+    for number in first..usize::MAX {
         if !next_record(reader, row)? {
             return Ok(());
         }

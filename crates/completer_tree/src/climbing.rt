@@ -117,7 +117,7 @@ impl<'a, T: PartValue, C: Continuation<T>> Tree<'a, Handed<T>, Completer<T, C>> 
     }
 
     /// Runs one of the node's two continuations, and hands the answer in at the parent (Java: `nextComplete`). At the top of a tree the
-    /// answer is the tree's result.
+    /// answer is the tree's result. For other programs: `streamrun` climbs by `try_complete`.
     pub fn next_complete(
         &self,
         seat: TreeSeat<T, C>,
@@ -204,6 +204,7 @@ impl<'a, T: PartValue, C: Continuation<T>> Tree<'a, Handed<T>, Completer<T, C>> 
     }
 
     /// `try_complete` with a failure in place of a value (Java: `completeExceptionally`, which here waits for the other arrivals).
+    /// For other programs: `streamrun` hands a failure in by `try_complete`.
     pub fn complete_exceptionally(
         &self,
         seat: TreeSeat<T, C>,

@@ -6,7 +6,8 @@
 //!
 //! It stands on no other crate. Whoever counts arrivals in another way, in words or under a lock, is held to `specs/Graph.antt`
 //! and `specs/Legal.antt`: `step`, clauses `legal`, `answer`, `after` and `refused`. A whole list of actions is `play`, whose
-//! clauses `once`, `after_all` and `made_once` say that each node runs once, after all its arrivals.
+//! clauses `once`, `after_all` and `made_once` say that each node runs once, after all its arrivals. These two calls are for
+//! other programs: `streamrun` counts in words, by `pending_count`, whose clauses cite the definitions of this crate.
 //!
 //! Begin with `specs/Graph.antt`, then `specs/Legal.antt`, `specs/Refusals.antt` and `stepping.rt`; what is stored, and which
 //! graphs it stands for, is in `graph.rt` and `specs/Book.antt`. Tests are in the crate `completer_tests`.

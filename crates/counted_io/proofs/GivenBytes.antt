@@ -1,7 +1,8 @@
 -- What several reads gave, one after another.
-use Rattle.std.proofs.Common.{◌≡◌, ◌+◌, ℕ, List, ◌++◌, Some, None, Option, take, drop, sym, ap, subst, ◌∙◌, append_assoc}
+use Rattle.std.proofs.Common.{◌≡◌, ◌+◌, ℕ, List, ◌++◌, Some, None, Option, take, drop, sym, ap, ◌∙◌, append_assoc}
 use Rattle.std.proofs.Math.Seq.{take-add}
 use Rattle.std.specs.Io.KnownBytes.{Consumes}
+use Rattle.counted_io.specs.CountedRead.{GaveSome, HasGiven}
 
 -- two reads in a row gave the bytes of the first and then those of the second
 pub Consumes-append : (a b c : Option (List ℕ)) (xs ys : List ℕ) → Consumes a b xs → Consumes b c ys → Consumes a c (xs ++ ys)
@@ -11,8 +12,14 @@ Consumes-append (Some l) (Some m) None xs ys p q = absurd q
 Consumes-append (Some l) (Some m) (Some n) xs ys p q = p ∙ ap (λ r. xs ++ r) q ∙ sym (append_assoc xs ys n)
 
 -- what is filled grew by n bytes of a read
-pub Consumes-filled : (a b c : Option (List ℕ)) (old new : List ℕ) (f n : ℕ) → take f new ≡ take f old
-    → Consumes a b (take f old) → Consumes b c (take n (drop f new)) → Consumes a c (take (f + n) new)
-Consumes-filled a b c old new f n front before read =
-    let both = Consumes-append a b c (take f old) (take n (drop f new)) before read in
-    subst (Consumes a c) (ap (λ r. r ++ take n (drop f new)) (sym front) ∙ sym (take-add f n new)) both
+pub HasGiven-filled : (a b c : Option (List ℕ)) (first old new : List ℕ) (f n : ℕ) → take f new ≡ take f old
+    → HasGiven a b first (take f old) → Consumes b c (take n (drop f new)) → HasGiven a c first (take (f + n) new)
+HasGiven-filled a b c first old new f n front (gone, before, is) read =
+    let more = take n (drop f new) in (
+      gone ++ more,
+      Consumes-append a b c gone more before read,
+      take-add f n new ∙ ap (λ l. l ++ more) (front ∙ is) ∙ append_assoc first gone more,
+    )
+
+pub GaveSome-more : (a b c : Option (List ℕ)) (xs : List ℕ) → GaveSome a b → Consumes b c xs → GaveSome a c
+GaveSome-more a b c xs (gone, before) read = (gone ++ xs, Consumes-append a b c gone xs before read)

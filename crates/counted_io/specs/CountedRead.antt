@@ -1,5 +1,5 @@
 -- Condition: what a read does to a reader's count of failed reads, and to its bytes.
-use Rattle.std.specs.Prelude.{ℕ, List, Option, Result, Ok, Err}
+use Rattle.std.specs.Prelude.{◌≡◌, ◌++◌, ℕ, List, Option, Result, Ok, Err}
 use Rattle.std.specs.Io.KnownBytes.{Consumes}
 use Rattle.counted_io.specs.declared.counted_read.Counted.{Counted}
 use Rattle.counted_io.specs.FailureCounts.{one_more}
@@ -12,6 +12,10 @@ failures_after n (Err _) = one_more n
 -- the reader gave some bytes, lost none, and still has the rest, if its bytes are known
 abbrev pub GaveSome : Option (List ℕ) → Option (List ℕ) → Type 0
 GaveSome before after = (gone : List ℕ) × Consumes before after gone
+
+-- the same, and some bytes grew by them
+abbrev pub HasGiven : Option (List ℕ) → Option (List ℕ) → List ℕ → List ℕ → Type 0
+HasGiven before after old new = (gone : List ℕ) × Consumes before after gone × (new ≡ old ++ gone)
 
 -- the reader below a counted reader
 abbrev pub counted_reader : {R : Type 0} → Counted R → R

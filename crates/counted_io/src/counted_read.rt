@@ -1,8 +1,8 @@
 //! Readers that count their failed reads, and the whole of what one gives.
-ghost use Rattle.std.specs.Prelude.{◌≡◌, ◌≢◌, ◌+◌, ◌<◌, ◌≤◌, ℕ, List, length, take, drop, vec_len, IfOk, IfErr, IfSome, OnOk, OnErr, Option};
+ghost use Rattle.std.specs.Prelude.{◌≡◌, ◌≢◌, ◌+◌, ◌<◌, ◌≤◌, ℕ, true, List, length, take, drop, vec_len, IfOk, IfErr, IfSome, OnOk, OnErr, Option};
 ghost use Rattle.std.specs.Io.{ReadsAtMost};
 ghost use Rattle.std.specs.Io.KnownBytes.{Consumes, IsAtEnd, Keeps, ReadConsumes};
-ghost use Rattle.counted_io.specs.CountedRead.{GaveSome, counted_reader, failed_reads, failures_after};
+ghost use Rattle.counted_io.specs.CountedRead.{GaveSome, HasGiven, counted_reader, failed_reads, failures_after};
 ghost use Rattle.counted_io.specs.FailureCounts.{HasRisen};
 
 use crate::failure_count::FailureCount;
@@ -134,16 +134,38 @@ pub fn read_all_of<R: CountedRead>(alloc: Global, reader: &mut R) -> Result<Vec<
     ensures gave { GaveSome (R.remaining reader.old) (R.remaining reader.new) }
 {
     let mut bytes = room_for(alloc, reader.likely_size());
-    let mut filled = 0;
-    loop {
-        let count = read_more(reader, &mut bytes, filled)?;
+    if !read_up_to(reader, &mut bytes, usize::MAX)? {
+        // No memory holds that many bytes.
+        return Err(ReadAllFault::NoMemory);
+    }
+    Ok(bytes)
+}
+
+/// Reads on, after the bytes that are there, until they are `limit` bytes or the reader is at its end, and answers
+/// whether it is. Interrupted reads and room are as in `read_all_of`.
+pub fn read_up_to<R: CountedRead>(
+    reader: &mut R,
+    bytes: &mut Vec<u8>,
+    limit: usize,
+) -> Result<bool, ReadAllFault>
+    ensures bytes { OnOk result (HasGiven (R.remaining reader.old) (R.remaining reader.new) bytes.old.items bytes.new.items) }
+    ensures end { IfOk result (λ is_end. is_end ≡ true → IsAtEnd (R.remaining reader.new)) }
+    ensures failed { IfErr result (λ fault. fault ≡ ReadAllFault.Failed
+        → HasRisen (R.failures reader.old) (R.failures reader.new)) }
+    ensures counts { R.failures reader.old ≤ R.failures reader.new }
+    ensures gave { GaveSome (R.remaining reader.old) (R.remaining reader.new) }
+{
+    let mut filled = bytes.len();
+    while filled < limit {
+        let count = read_more(reader, bytes, filled, limit - filled)?;
         if count == 0 {
-            break;
+            bytes.truncate(filled);
+            return Ok(true);
         }
         filled += count;
     }
     bytes.truncate(filled);
-    Ok(bytes)
+    Ok(false)
 }
 
 /// No bytes yet, but room for as many as the guess says if there is memory, and for one more: the read that
@@ -158,8 +180,9 @@ fn room_for(alloc: Global, guess: usize) -> Vec<u8>
     bytes
 }
 
-/// Makes `bytes` longer by zeros, for one read. A full vector is reserved as much again.
-fn make_room(bytes: &mut Vec<u8>) -> Result<(), ReadAllFault>
+/// Makes `bytes` longer by zeros, for one read of `most` bytes or fewer. A full vector is reserved as much again.
+fn make_room(bytes: &mut Vec<u8>, most: usize) -> Result<(), ReadAllFault>
+    requires { 0 < most }
     ensures room { OnOk result (vec_len bytes.old < vec_len bytes.new) }
     ensures front { OnOk result (take (vec_len bytes.old) bytes.new.items ≡ bytes.old.items) }
     ensures err { IfErr result (λ fault. fault ≡ ReadAllFault.NoMemory) }
@@ -168,20 +191,22 @@ fn make_room(bytes: &mut Vec<u8>) -> Result<(), ReadAllFault>
     if filled == bytes.capacity() && bytes.reserve(filled.max(FIRST_ROOM)).is_err() {
         return Err(ReadAllFault::NoMemory);
     }
-    let room = (bytes.capacity() - filled).min(MAX_READ);
+    let room = (bytes.capacity() - filled).min(MAX_READ).min(most);
     if bytes.resize(filled + room, 0).is_err() {
         return Err(ReadAllFault::NoMemory);
     }
     Ok(())
 }
 
-/// One read into `bytes` from place `filled` on; a filled vector is made longer first.
+/// One read into `bytes` from place `filled` on; a filled vector is made longer first, by `most` bytes or fewer.
 fn read_more<R: CountedRead>(
     reader: &mut R,
     bytes: &mut Vec<u8>,
     filled: usize,
+    most: usize,
 ) -> Result<usize, ReadAllFault>
-    requires { filled ≤ vec_len bytes.old }
+    requires filled { filled ≤ vec_len bytes.old }
+    requires most { 0 < most }
     ensures front { OnOk result (take filled bytes.new.items ≡ take filled bytes.old.items) }
     ensures fits { IfOk result (λ n. filled + n ≤ vec_len bytes.new) }
     ensures ok { IfOk result (λ n. Consumes (R.remaining reader.old) (R.remaining reader.new)
@@ -193,7 +218,7 @@ fn read_more<R: CountedRead>(
     ensures counts { R.failures reader.old ≤ R.failures reader.new }
 {
     if filled == bytes.len() {
-        make_room(bytes)?;
+        make_room(bytes, most)?;
     }
     read_at(reader, bytes.as_mut_slice(), filled)
 }

@@ -16,5 +16,5 @@ mod counted_read;
 mod counted_write;
 mod failure_count;
 
-pub use counted_read::{Counted, CountedRead, ReadAllFault, read_all_of};
+pub use counted_read::{Counted, CountedRead, ReadAllFault, read_all_of, read_up_to};
 pub use counted_write::{CountedOut, CountedWrite, WriteFault, write_all_of};

@@ -40,16 +40,36 @@ fn has_json(alloc: Global, answer: Answer, want: &str) -> Result<bool, AllocErro
     Ok(is_line(&json(alloc, &names, &answers)?, line.as_str()))
 }
 
-/// Whether a long array is printed on threads as on one.
-fn is_same_on_threads<H: Threads + Sync>(rt: &H, alloc: Global) -> Result<bool, AllocError> {
+/// The numbers from -10 to 99,999, in pieces that end before these.
+fn in_pieces(alloc: Global, ends: &[i64]) -> Result<Values, AllocError> {
+    let mut pieces = Vec::new(alloc);
+    let mut from = -10;
+    for end in ends {
+        pieces.push((from..*end).collect(alloc)?)?;
+        from = *end;
+    }
+    pieces.push((from..100_000).collect(alloc)?)?;
+    Ok(Values::from_pieces(pieces))
+}
+
+/// Whether the report of these values is that of the same values in one vector, on one thread and on several.
+fn is_same_on_threads<H: Threads + Sync>(
+    rt: &H,
+    alloc: Global,
+    values: Values,
+) -> Result<bool, AllocError> {
     let names = vec![in alloc; name(alloc, "q")?, name(alloc, "r")?]?;
-    let numbers = (-10..70_000).collect(alloc)?;
-    let array = Answer::Array(Values::from_vec(numbers));
-    let answers = vec![in alloc; array, Answer::Number(5)]?;
-    let report = text_by(rt, alloc, 2, &names, &answers)?;
-    let mut held = CountedOut::new(Vec::new(alloc));
-    let is_written = write_report(&mut held, &report) == Ok(());
-    Ok(is_written && held.into_inner() == text(alloc, &names, &answers)?)
+    let one = Values::from_vec(values.to_vec(alloc)?)?;
+    let whole = vec![in alloc; Answer::Array(one), Answer::Number(5)]?;
+    let wanted = text(alloc, &names, &whole)?;
+    let answers = vec![in alloc; Answer::Array(values), Answer::Number(5)]?;
+    let mut is_same = text(alloc, &names, &answers)? == wanted;
+    for workers in [2, 3] {
+        let report = text_by(rt, alloc, workers, &names, &answers)?;
+        let mut held = CountedOut::new(Vec::new(alloc));
+        is_same &= write_report(&mut held, &report) == Ok(()) && held.into_inner() == wanted;
+    }
+    Ok(is_same)
 }
 
 #[test]
@@ -72,12 +92,27 @@ fn numbers_arrays_booleans_and_optionals_are_printed_as_in_java(
         .into_iter()
         .zip("[]|[7]|[1, 2]|[-1, -1, -2, -10]".split('|'))
     {
-        let values = Values::from_vec(values.to_vec(alloc)?);
+        let values = Values::from_vec(values.to_vec(alloc)?)?;
         assert!(rt; has_text(alloc, Answer::Array(values), want)?, "{want}");
     }
     assert!(rt; has_text(alloc, Answer::Truth(true), "true")?, "true");
     assert!(rt; has_text(alloc, Answer::Truth(false), "false")?, "false");
-    assert!(rt; is_same_on_threads(&rt, alloc)?);
+    let cuts = [
+        [].as_slice(),
+        &[-10],
+        &[-10, -10, 5, 5, 6],
+        &[50_000],
+        &[99_999, 99_999],
+        &[33_000, 33_333, 40_000, 66_656, 66_657, 90_000],
+    ];
+    for ends in cuts {
+        let values = in_pieces(alloc, ends)?;
+        assert!(rt;
+            is_same_on_threads(&rt, alloc, values)?,
+            "{} cuts",
+            ends.len()
+        );
+    }
     Ok(())
 }
 
@@ -126,7 +161,7 @@ fn each_answer_has_its_object(rt: HostRuntime) -> Result<(), Fail> {
         stage: 1,
         origin: Some(7),
     };
-    let array = Values::from_vec([1, -2].to_vec(alloc)?);
+    let array = Values::from_vec([1, -2].to_vec(alloc)?)?;
     assert!(rt;
         has_json(
             alloc,

@@ -13,6 +13,8 @@ use lambda_expr::Env;
 use trace::{End, Flow, Item, LongSink, NoMemory};
 
 /// A sink that looks at items until one decides. It takes no memory.
+///
+/// For other programs: `streamrun` ends a segment with `FindPart`.
 #[derive(Drop)]
 pub struct Finder<'a> {
     terminal: &'a FindTerminal,

@@ -20,11 +20,11 @@ use Rattle.reduce_ops.specs.Folds.{fold_from, fold_items, ones}
 use Rattle.reduce_ops.specs.Operators.{value_of}
 use Rattle.reduce_ops.specs.Parts.{StandsFor as FoldStands}
 use Rattle.reduce_ops.proofs.FoldLemmas.{counted}
-use Rattle.job_plan.specs.declared.part.FoldPart.{FoldPart}
+use Rattle.job_plan.specs.declared.fold_part.FoldPart.{FoldPart}
 use Rattle.job_plan.specs.declared.part.Part.TheVariants as part
-use Rattle.job_plan.specs.declared.segment.Fold.{Fold}
+use Rattle.job_plan.specs.declared.ends.Fold.{Fold}
 use Rattle.job_plan.specs.declared.segment.Segment.{Segment}
-use Rattle.job_plan.specs.declared.segment.SegmentEnd.TheVariants as ends
+use Rattle.job_plan.specs.declared.ends.SegmentEnd.TheVariants as ends
 use Rattle.job_plan.specs.Faultless.{never_faults}
 use Rattle.job_plan.specs.Moves.{all_keep}
 use Rattle.job_plan.specs.Parts.{EndsFor, IsFold, StandsFor, end_in, segment_in}

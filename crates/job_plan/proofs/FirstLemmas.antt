@@ -21,7 +21,7 @@ use Rattle.job_plan.specs.declared.outcome.Outcome.TheVariants as outcome
 use Rattle.job_plan.specs.declared.segment.Segment.{Segment}
 use Rattle.job_plan.specs.Firsts.{IsClean, SameOfClean, all_calm, finding_first, is_calm, last_finds}
 use Rattle.job_plan.specs.Parts.{segment_in, segments_in}
-use Rattle.job_plan.specs.Plans.{AbstractEnd, slicing, folding, finding, collecting, exactly, scanning, AbstractSegment, ended, last_stage, on_outcome, segments_answer, walk_of}
+use Rattle.job_plan.specs.Plans.{AbstractEnd, slicing, folding, finding, AbstractSegment, ended, last_stage, on_outcome, segments_answer, walk_of}
 use Rattle.job_plan.specs.Walks.{source_walk, values_of}
 use Rattle.job_plan.specs.Windows.{selects}
 use Rattle.job_plan.proofs.Elements.{drop_of_none}
@@ -87,11 +87,7 @@ selected_clean n [] (slicing (limit (suc k))) h env t clean = (limited (suc k) t
 selected_clean n [] (slicing (skip k)) h env t clean = (skipped k t, refl, λ f e. ap (drop k) (clean f e) ∙ drop_of_none k)
 selected_clean n [] (slicing (take_while p)) h env t clean = absurd (let z : false ≡ true = h in cc)
 selected_clean n [] (slicing (drop_while p)) h env t clean = absurd (let z : false ≡ true = h in cc)
-selected_clean n [] (folding f a counts) h env t clean = absurd (let z : false ≡ true = h in cc)
-selected_clean n [] (finding d) h env t clean = absurd (let z : false ≡ true = h in cc)
-selected_clean n [] collecting h env t clean = absurd (let z : false ≡ true = h in cc)
-selected_clean n [] exactly h env t clean = absurd (let z : false ≡ true = h in cc)
-selected_clean n [] (scanning f r) h env t clean = absurd (let z : false ≡ true = h in cc)
+selected_clean n [] e h env t clean = absurd (let z : false ≡ true = h in cc)
 
 more_found : (s u : AbstractSegment) (us : List AbstractSegment) → selects s.stages s.ending ≡ true → SameOfClean (last_finds (u ∷ us)) (u ∷ us) → SameOfClean (s ∷ last_finds (u ∷ us)) (s ∷ u ∷ us)
 more_found s u us h later = λ env t clean.

@@ -8,9 +8,9 @@ use Rattle.trace.specs.declared.item.End.TheVariants as end
 use Rattle.trace.specs.Stages.{AbstractStage, pipe, stages_of}
 use Rattle.trace.specs.Trace.{Trace, trace, nothing, append}
 use Rattle.job_plan.specs.declared.part.Part.TheVariants as part
-use Rattle.job_plan.specs.declared.segment.Prefix.{Prefix}
+use Rattle.job_plan.specs.declared.ends.Prefix.{Prefix}
 use Rattle.job_plan.specs.declared.segment.Segment.{Segment}
-use Rattle.job_plan.specs.declared.segment.SegmentEnd.TheVariants as ends
+use Rattle.job_plan.specs.declared.ends.SegmentEnd.TheVariants as ends
 use Rattle.job_plan.specs.Maps.{ArePlain, imaged}
 use Rattle.job_plan.specs.Parts.{EndsFor, StandsFor, end_in, segment_in}
 use Rattle.job_plan.specs.Pieces.{elements, piece_of}

@@ -26,4 +26,3 @@ pub mod SideBySide
 pub mod StretchLemmas
 pub mod WalkLemmas
 pub mod WindowLemmas
-pub mod ExactLemmas

@@ -7,7 +7,7 @@ use Rattle.job_plan.specs.declared.links.Link.{Link}
 use Rattle.job_plan.specs.declared.segment.Segment.{Segment}
 use Rattle.job_plan.specs.Links.{AbstractLink, link_walk, linked, link_by, link_in, each_link_in, first_links, after_by, after_links, ends_in_slice, goes_through, Fits, AllFit, walked_segments, walked_source}
 use Rattle.job_plan.specs.Parts.{segment_in, segments_in}
-use Rattle.job_plan.specs.Plans.{AbstractEnd, slicing, folding, finding, collecting, exactly, scanning, AbstractPlan, AbstractSegment, planned_answer, ended, last_stage, on_outcome, walk_of, segments_answer}
+use Rattle.job_plan.specs.Plans.{AbstractEnd, slicing, AbstractPlan, AbstractSegment, planned_answer, ended, last_stage, on_outcome, slice_in, walk_of, segments_answer}
 use Rattle.job_plan.specs.Walks.{instead_of_fault, source_walk}
 use Rattle.job_plan.specs.Windows.{later_segments, selected_source}
 use Rattle.job_plan.proofs.WindowLemmas.{later_answer}
@@ -22,13 +22,9 @@ pub links_answer : (ss : List AbstractSegment) (env : Numbers) (t : Trace) → s
 links_answer [] env t = refl
 links_answer (s ∷ ss) env t = by (links_answer ss env) s.ending refl
   where
-    by : ((u : Trace) → segments_answer ss env u ≡ segments_answer (after_links ss) env (linked (first_links ss) env u)) → (e : AbstractEnd) → s.ending ≡ e → segments_answer (s ∷ ss) env t ≡ segments_answer (after_by e (s ∷ ss) (after_links ss)) env (linked (link_by e s (first_links ss)) env t)
+    by : ((u : Trace) → segments_answer ss env u ≡ segments_answer (after_links ss) env (linked (first_links ss) env u)) → (e : AbstractEnd) → s.ending ≡ e → segments_answer (s ∷ ss) env t ≡ segments_answer (after_by (slice_in e) (s ∷ ss) (after_links ss)) env (linked (link_by (slice_in e) s (first_links ss)) env t)
     by later (slicing d) is = ap (λ e. on_outcome (ended e (last_stage s) env (walk_of s env t)) (segments_answer ss env)) is ∙ later (sliced d (last_stage s) env (walk_of s env t))
-    by later (folding f a counts) is = refl
-    by later (finding d) is = refl
-    by later collecting is = refl
-    by later exactly is = refl
-    by later (scanning f r) is = refl
+    by later e is = refl
 
 pub walked_answer : (env : Numbers) (plan : AbstractPlan) → instead_of_fault plan.fallback (segments_answer (walked_segments plan) env (walked_source env plan)) ≡ planned_answer env plan
 walked_answer env plan = ap (instead_of_fault plan.fallback) (sym (links_answer (later_segments plan.segments) env (selected_source plan)) ∙ later_answer env plan.segments (source_walk plan.sources))
@@ -61,10 +57,6 @@ pub unlinked : (ss : List AbstractSegment) (env : Numbers) (t : Trace) → goes_
 unlinked [] env t none = refl
 unlinked (s ∷ ss) env t none = by s.ending none
   where
-    by : (e : AbstractEnd) → ends_in_slice e ≡ false → linked (link_by e s (first_links ss)) env t ≡ t
+    by : (e : AbstractEnd) → ends_in_slice e ≡ false → linked (link_by (slice_in e) s (first_links ss)) env t ≡ t
     by (slicing d) is = absurd (let z : true ≡ false = is in cc)
-    by (folding f a counts) is = refl
-    by (finding d) is = refl
-    by collecting is = refl
-    by exactly is = refl
-    by (scanning f r) is = refl
+    by e is = refl

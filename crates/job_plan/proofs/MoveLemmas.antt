@@ -3,7 +3,7 @@ use Rattle.std.proofs.Common.{◌≡◌, ℕ, zero, suc, ◌+◌, ◌<◌, ℤ, 
 use Rattle.std.proofs.lemmas.Bool.{ltb-false, ltb-true, lt-ltb}
 use Rattle.std.specs.Ordering.{int_eq}
 use Rattle.lambda_expr.specs.Earlier.{Numbers}
-use Rattle.lambda_expr.specs.Operators.{binary_value, comparison_value, divided, on, unary_value}
+use Rattle.lambda_expr.specs.Operators.{BinaryRule, UnaryRule, always, always_one, binary_by, binary_faults_by, binary_rule, binary_value, comparison_value, divided, exactly, exactly_one, on, unary_by, unary_faults_by, unary_rule, unary_value, unless_zero}
 use Rattle.lambda_expr.specs.Term.{Long, number, parameter, reference, unary, binary, choose, Truth, literal, compare, opposite, connect, choose_truth}
 use Rattle.lambda_expr.specs.Value.{chosen, connected, long_value, truth_value}
 use Rattle.lambda_expr.specs.declared.expr.LongExpr.TheVariants as long_expr
@@ -12,9 +12,7 @@ use Rattle.lambda_expr.specs.declared.fault.FaultKind.TheVariants.{DivideByZero}
 use Rattle.lambda_expr.specs.declared.operator.Connective.{Connective}
 use Rattle.lambda_expr.specs.declared.operator.Connective.TheVariants as connective
 use Rattle.lambda_expr.specs.declared.operator.UnaryOperator.{UnaryOperator}
-use Rattle.lambda_expr.specs.declared.operator.UnaryOperator.TheVariants as unary_operator
 use Rattle.lambda_expr.specs.declared.operator.BinaryOperator.{BinaryOperator}
-use Rattle.lambda_expr.specs.declared.operator.BinaryOperator.TheVariants as binary_operator
 use Rattle.trace.specs.declared.item.Item.{Item}
 use Rattle.trace.specs.declared.item.End.{End}
 use Rattle.trace.specs.declared.item.End.TheVariants as end
@@ -30,11 +28,11 @@ use Rattle.job_plan.specs.declared.segment.Held.{Held}
 use Rattle.job_plan.specs.declared.segment.JobPlan.{JobPlan}
 use Rattle.job_plan.specs.declared.segment.Segment.{Segment}
 use Rattle.job_plan.specs.FileAnswers.{unless_unusable}
-use Rattle.job_plan.specs.Faultless.{is_divisor, is_total, is_total_by, never_faults, test_never_faults}
+use Rattle.job_plan.specs.Faultless.{is_divisor, is_never, is_never_by, is_total, is_total_by, never_faults, test_never_faults}
 use Rattle.job_plan.specs.Moves.{AllSamePlans, IsSamePlan, SameAnswers, all_keep, comes_first, held_in, waiting_in}
 use Rattle.job_plan.specs.Parts.{end_in, plan_in, plans_in, segment_in, segments_in}
 use Rattle.job_plan.specs.PlannedAnswers.{all_put_at, first_unusable_at, numbers_at, planned_after, planned_from, planned_meaning}
-use Rattle.job_plan.specs.Plans.{AbstractEnd, slicing, folding, finding, collecting, exactly, scanning, AbstractSegment, AbstractPlan, ended, on_outcome, outcome_of, segments_answer}
+use Rattle.job_plan.specs.Plans.{AbstractEnd, slicing, AbstractSegment, AbstractPlan, ended, on_outcome, outcome_of, segments_answer}
 use Rattle.job_plan.specs.Walks.{instead_of_fault, source_walk}
 use Rattle.job_plan.proofs.Elements.{drop_none, take_none}
 
@@ -50,11 +48,12 @@ HasValue r = (v : ℤ) × (r ≡ Ok v)
 abbrev HasTruth : Result Bool FaultKind → Type 0
 HasTruth r = (v : Bool) × (r ≡ Ok v)
 
+unary_by_there : (r : UnaryRule) → is_never (unary_faults_by r) ≡ true → (v : ℤ) → HasValue (unary_by r v)
+unary_by_there (always_one f) h v = (_, refl)
+unary_by_there (exactly_one f) h v = absurd (let z : false ≡ true = h in cc)
+
 unary_there : (o : UnaryOperator) → is_total o ≡ true → (v : ℤ) → HasValue (unary_value o v)
-unary_there unary_operator.Negate h v = (_, refl)
-unary_there unary_operator.Complement h v = (_, refl)
-unary_there unary_operator.Absolute h v = (_, refl)
-unary_there unary_operator.NegateExact h v = absurd (let z : false ≡ true = h in cc)
+unary_there o h v = unary_by_there (unary_rule o) h v
 
 -- a number other than 0 is no value 0
 is_not_zero : (b : Long) (w x : ℤ) (env : Numbers) → is_divisor b ≡ true → long_value b x env ≡ Ok w → int_eq w (pos 0) ≡ false
@@ -72,25 +71,13 @@ is_not_zero (choose c a b) w x env h is = absurd (let z : false ≡ true = h in 
 divided_there : (y z : ℤ) → int_eq y (pos 0) ≡ false → HasValue (divided y z)
 divided_there y z h = (z, ap (λ (b : Bool). if b then Err DivideByZero else Ok z) h)
 
+binary_by_there : (r : BinaryRule) (b : Long) (v w x : ℤ) (env : Numbers) → is_never_by (binary_faults_by r) b ≡ true → long_value b x env ≡ Ok w → HasValue (binary_by r v w)
+binary_by_there (always f) b v w x env h is = (_, refl)
+binary_by_there (unless_zero f) b v w x env h is = divided_there w _ (is_not_zero b w x env h is)
+binary_by_there (exactly f) b v w x env h is = absurd (let z : false ≡ true = h in cc)
+
 binary_there : (o : BinaryOperator) (b : Long) (v w x : ℤ) (env : Numbers) → is_total_by o b ≡ true → long_value b x env ≡ Ok w → HasValue (binary_value o v w)
-binary_there binary_operator.Add b v w x env h is = (_, refl)
-binary_there binary_operator.Subtract b v w x env h is = (_, refl)
-binary_there binary_operator.Multiply b v w x env h is = (_, refl)
-binary_there binary_operator.Divide b v w x env h is = divided_there w _ (is_not_zero b w x env h is)
-binary_there binary_operator.Remainder b v w x env h is = divided_there w _ (is_not_zero b w x env h is)
-binary_there binary_operator.ShiftLeft b v w x env h is = (_, refl)
-binary_there binary_operator.ShiftRight b v w x env h is = (_, refl)
-binary_there binary_operator.ShiftRightUnsigned b v w x env h is = (_, refl)
-binary_there binary_operator.And b v w x env h is = (_, refl)
-binary_there binary_operator.Xor b v w x env h is = (_, refl)
-binary_there binary_operator.Or b v w x env h is = (_, refl)
-binary_there binary_operator.Min b v w x env h is = (_, refl)
-binary_there binary_operator.Max b v w x env h is = (_, refl)
-binary_there binary_operator.FloorDivide b v w x env h is = divided_there w _ (is_not_zero b w x env h is)
-binary_there binary_operator.FloorRemainder b v w x env h is = divided_there w _ (is_not_zero b w x env h is)
-binary_there binary_operator.AddExact b v w x env h is = absurd (let z : false ≡ true = h in cc)
-binary_there binary_operator.SubtractExact b v w x env h is = absurd (let z : false ≡ true = h in cc)
-binary_there binary_operator.MultiplyExact b v w x env h is = absurd (let z : false ≡ true = h in cc)
+binary_there o b v w x env h is = binary_by_there (binary_rule o) b v w x env h is
 
 -- an expression that can't have a fault has a value
 mutual
@@ -241,11 +228,7 @@ slice_first m gs (slicing (limit n)) later h = λ env t. ap (segments_answer lat
 slice_first m gs (slicing (skip n)) later h = λ env t. ap (segments_answer later env) (skip_none (pipe m gs env (skipped n t)) ∙ sym (skip_before_maps m gs h n env t))
 slice_first m gs (slicing (take_while p)) later h = absurd (let z : false ≡ true = h in cc)
 slice_first m gs (slicing (drop_while p)) later h = absurd (let z : false ≡ true = h in cc)
-slice_first m gs (folding f a counts) later h = absurd (let z : false ≡ true = h in cc)
-slice_first m gs (finding d) later h = absurd (let z : false ≡ true = h in cc)
-slice_first m gs collecting later h = absurd (let z : false ≡ true = h in cc)
-slice_first m gs exactly later h = absurd (let z : false ≡ true = h in cc)
-slice_first m gs (scanning f r) later h = absurd (let z : false ≡ true = h in cc)
+slice_first m gs e later h = absurd (let z : false ≡ true = h in cc)
 
 -- maps in two parts
 pipe_joined : (n : ℕ) (gs hs : List AbstractStage) (env : Numbers) (t : Trace) → pipe n (gs ++ hs) env t ≡ pipe (n + length gs) hs env (pipe n gs env t)

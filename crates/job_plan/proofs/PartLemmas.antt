@@ -1,5 +1,5 @@
--- Parts of no item, of one more item, of pieces side by side.
-use Rattle.std.proofs.Common.{◌≡◌, ℕ, ℤ, pos, suc, Bool, true, false, List, [], ◌∷◌, ◌++◌, length, map as each_of, Option, Result, Ok, Err, OnOk, refl, sym, ap, subst, ◌∙◌, append_assoc, arith}
+-- What is asked of each end of a segment: parts of no item, of one more item, of pieces side by side; what settles them, and what they give.
+use Rattle.std.proofs.Common.{◌≡◌, ℕ, ◌+◌, ◌-◌, ◌≤◌, ℤ, pos, suc, Bool, true, false, is_some, List, [], ◌∷◌, ◌++◌, length, map as each_of, Option, Some, Result, Ok, Err, OnOk, refl, sym, ap, subst, ◌∙◌, append_assoc, arith}
 use Rattle.lambda_expr.specs.Earlier.{Numbers}
 use Rattle.trace.specs.declared.item.Item.{Item}
 use Rattle.trace.specs.declared.item.Fault.{Fault}
@@ -9,14 +9,23 @@ use Rattle.trace.specs.declared.stage.Stage.{Stage}
 use Rattle.trace.specs.Stages.{AbstractStage, stage_of, stages_of}
 use Rattle.trace.specs.Trace.{Trace, trace, nothing, then_on, append}
 use Rattle.trace.proofs.JoinLemmas.{append_faulted, pipe_append}
+use Rattle.early_stop.specs.Decisive.{Decides}
+use Rattle.early_stop.specs.Leaving.{IsSettled}
+use Rattle.early_stop.proofs.Settling.{enough_decides}
 use Rattle.reduce_ops.specs.declared.op.Op.{Op}
+use Rattle.reduce_ops.specs.declared.sum_part.SumPart.{SumPart}
+use Rattle.reduce_ops.specs.ExactSums.{exact_sum as exactly_summed}
 use Rattle.reduce_ops.specs.Folds.{ones, unless_faulted}
 use Rattle.reduce_ops.specs.Parts.{StandsFor as FoldStands}
-use Rattle.reduce_ops.proofs.SettledSums.{sum_settled}
+use Rattle.reduce_ops.specs.Reaches.{StandsFor as SumStands}
+use Rattle.reduce_ops.proofs.FoldLemmas.{wrapped_sum, counted}
+use Rattle.reduce_ops.proofs.SettledSums.{sum_settled, sum_settles}
 use Rattle.slice_ops.specs.declared.slice_part.SlicePart.{SlicePart}
 use Rattle.slice_ops.proofs.GrownPartLemmas.{settled as slice_settled}
 use Rattle.find_ops.specs.declared.find_part.FindPart.{FindPart}
+use Rattle.find_ops.specs.Finds.{find_answer}
 use Rattle.find_ops.proofs.DecisionLemmas.{settled as find_settled}
+use Rattle.job_language.specs.Jobs.{AbstractTerminal, sum, count}
 use Rattle.job_plan.specs.Arrays.{AbstractArray, array, array_of, values_then, array_append}
 use Rattle.reduce_ops.specs.Operators.{value_of}
 use Rattle.slice_ops.specs.Parts.{StandsFor as SliceStands}
@@ -25,15 +34,17 @@ use Rattle.prefix_scan.specs.Prefixes.{prefixed}
 use Rattle.job_plan.specs.Scans.{AbstractScan, scan, scan_append}
 use Rattle.job_plan.specs.declared.answer.Answer.{Answer}
 use Rattle.job_plan.specs.declared.answer.Answer.TheVariants as answer
-use Rattle.job_plan.specs.declared.part.FoldPart.{FoldPart}
+use Rattle.job_plan.specs.declared.fold_part.FoldPart.{FoldPart}
 use Rattle.job_plan.specs.declared.part.Part.{Part}
 use Rattle.job_plan.specs.declared.part.Part.TheVariants as part
 use Rattle.job_plan.specs.declared.outcome.Outcome.TheVariants as outcome
 use Rattle.job_plan.specs.declared.segment.Segment.{Segment}
 use Rattle.job_plan.specs.declared.segment.JobPlan.{JobPlan}
-use Rattle.job_plan.specs.Parts.{IsFold, EndsFor, StandsFor, is_settled, is_fault, segment_in, segments_in, plan_in, plans_in}
-use Rattle.job_plan.specs.Plans.{AbstractEnd, slicing, folding, finding, collecting, exactly, scanning, AbstractSegment, AbstractPlan, counted_as, ended, walk_of, last_stage}
-use Rattle.job_plan.specs.Walks.{unless_fault}
+use Rattle.job_plan.specs.Parts.{IsFold, EndsFor, StandsEnough, StandsFor, is_running, is_settled, is_fault, may_search, segment_in, segments_in, plan_in, plans_in}
+use Rattle.job_plan.specs.Plans.{AbstractEnd, slicing, folding, finding, collecting, exactly, scanning, AbstractSegment, AbstractPlan, counted_as, end_of, ended, last_stage, on_outcome, outcome_of, walk_of}
+use Rattle.job_plan.specs.Pieces.{piece_of}
+use Rattle.job_plan.specs.Walks.{answer_of, exact_answer, found_answer, unless_fault}
+use Rattle.job_plan.proofs.SettleLemmas.{faults, find_settles, settles_on, slice_settles}
 
 -- ---- folds
 
@@ -121,41 +132,12 @@ faulted_stays a b h = let f = the_fault a.ending h in append_faulted a b f.0 f.1
 -- after what settles a piece, nothing matters
 pub settled : (e : AbstractEnd) (n : ℕ) (env : Numbers) (p : Part) (a b : Trace) → is_settled p ≡ true → EndsFor e n env p a → EndsFor e n env p (append a b)
 settled (slicing d) n env (part.Slice p) a b h s = slice_settled n env a b d p h s
-settled (slicing d) n env (part.Fold p) a b h s = s
-settled (slicing d) n env (part.Find p) a b h s = s
-settled (slicing d) n env (part.Array p) a b h s = s
-settled (slicing d) n env (part.Prefix p) a b h s = s
-settled (slicing d) n env (part.Exact p) a b h s = s
-settled (folding f i c) n env (part.Slice p) a b h s = s
 settled (folding f i c) n env (part.Fold p) a b h s = subst (λ (t : Trace). IsFold f i c p t) (sym (faulted_stays a b (ap is_fault (sym s.stands.ending) ∙ h))) s
-settled (folding f i c) n env (part.Find p) a b h s = s
-settled (folding f i c) n env (part.Array p) a b h s = s
-settled (folding f i c) n env (part.Prefix p) a b h s = s
-settled (folding f i c) n env (part.Exact p) a b h s = s
-settled (finding d) n env (part.Slice p) a b h s = s
-settled (finding d) n env (part.Fold p) a b h s = s
 settled (finding d) n env (part.Find p) a b h s = find_settled d n env p a b h s
-settled (finding d) n env (part.Array p) a b h s = s
-settled (finding d) n env (part.Prefix p) a b h s = s
-settled (finding d) n env (part.Exact p) a b h s = s
-settled collecting n env (part.Slice p) a b h s = s
-settled collecting n env (part.Fold p) a b h s = s
-settled collecting n env (part.Find p) a b h s = s
 settled collecting n env (part.Array p) a b h s = s ∙ ap array_of (sym (faulted_stays a b (ap (λ (k : AbstractArray). is_fault k.ending) (sym s) ∙ h)))
-settled collecting n env (part.Prefix p) a b h s = s
-settled collecting n env (part.Exact p) a b h s = s
-settled (scanning f r) n env (part.Slice p) a b h s = s
-settled (scanning f r) n env (part.Fold p) a b h s = s
-settled (scanning f r) n env (part.Find p) a b h s = s
-settled (scanning f r) n env (part.Array p) a b h s = s
 settled (scanning f r) n env (part.Prefix p) a b h s = s ∙ ap (scan f r n) (sym (faulted_stays a b (ap (λ (k : AbstractScan). is_fault k.walk.ending) (sym s) ∙ h)))
-settled (scanning f r) n env (part.Exact p) a b h s = s
-settled exactly n env (part.Slice p) a b h s = s
-settled exactly n env (part.Fold p) a b h s = s
-settled exactly n env (part.Find p) a b h s = s
-settled exactly n env (part.Array p) a b h s = s
-settled exactly n env (part.Prefix p) a b h s = s
 settled exactly n env (part.Exact p) a b h s = sum_settled n p a b h s
+settled e n env p a b h s = s
 
 -- ---- arrays
 
@@ -185,65 +167,33 @@ module _ (e : AbstractEnd) (n : ℕ) (env : Numbers) (a b : Trace) where
   only_slices p q other s t = by e q s t other
     where
       by : (e : AbstractEnd) (q : Part) → EndsFor e n env (part.Slice p) a → EndsFor e n env q b → ((x : SlicePart) → q ≡ part.Slice x → ⊥) → ⊥
-      by exactly q s t h = s
       by (slicing d) (part.Slice q) s t h = h q refl
-      by (slicing d) (part.Fold q) s t h = t
-      by (slicing d) (part.Find q) s t h = t
-      by (slicing d) (part.Array q) s t h = t
-      by (slicing d) (part.Prefix q) s t h = t
-      by (slicing d) (part.Exact q) s t h = t
-      by (folding f i c) q s t h = s
-      by (finding d) q s t h = s
-      by collecting q s t h = s
-      by (scanning f r) q s t h = s
+      by (slicing d) q s t h = t
+      by e q s t h = s
 
   pub only_folds : (p : FoldPart) (q : Part) → ((x : FoldPart) → q ≡ part.Fold x → ⊥) → EndsFor e n env (part.Fold p) a → EndsFor e n env q b → ⊥
   only_folds p q other s t = by e q s t other
     where
       by : (e : AbstractEnd) (q : Part) → EndsFor e n env (part.Fold p) a → EndsFor e n env q b → ((x : FoldPart) → q ≡ part.Fold x → ⊥) → ⊥
-      by exactly q s t h = s
-      by (slicing d) q s t h = s
-      by (folding f i c) (part.Slice q) s t h = t
       by (folding f i c) (part.Fold q) s t h = h q refl
-      by (folding f i c) (part.Find q) s t h = t
-      by (folding f i c) (part.Array q) s t h = t
-      by (folding f i c) (part.Prefix q) s t h = t
-      by (folding f i c) (part.Exact q) s t h = t
-      by (finding d) q s t h = s
-      by collecting q s t h = s
-      by (scanning f r) q s t h = s
+      by (folding f i c) q s t h = t
+      by e q s t h = s
 
   pub only_finds : (p : FindPart) (q : Part) → ((x : FindPart) → q ≡ part.Find x → ⊥) → EndsFor e n env (part.Find p) a → EndsFor e n env q b → ⊥
   only_finds p q other s t = by e q s t other
     where
       by : (e : AbstractEnd) (q : Part) → EndsFor e n env (part.Find p) a → EndsFor e n env q b → ((x : FindPart) → q ≡ part.Find x → ⊥) → ⊥
-      by exactly q s t h = s
-      by (slicing d) q s t h = s
-      by (folding f i c) q s t h = s
-      by (finding d) (part.Slice q) s t h = t
-      by (finding d) (part.Fold q) s t h = t
       by (finding d) (part.Find q) s t h = h q refl
-      by (finding d) (part.Array q) s t h = t
-      by (finding d) (part.Prefix q) s t h = t
-      by (finding d) (part.Exact q) s t h = t
-      by collecting q s t h = s
-      by (scanning f r) q s t h = s
+      by (finding d) q s t h = t
+      by e q s t h = s
 
   pub only_arrays : (p : AbstractArray) (q : Part) → ((x : AbstractArray) → q ≡ part.Array x → ⊥) → EndsFor e n env (part.Array p) a → EndsFor e n env q b → ⊥
   only_arrays p q other s t = by e q s t other
     where
       by : (e : AbstractEnd) (q : Part) → EndsFor e n env (part.Array p) a → EndsFor e n env q b → ((x : AbstractArray) → q ≡ part.Array x → ⊥) → ⊥
-      by exactly q s t h = s
-      by (slicing d) q s t h = s
-      by (folding f i c) q s t h = s
-      by (finding d) q s t h = s
-      by collecting (part.Slice q) s t h = t
-      by collecting (part.Fold q) s t h = t
-      by collecting (part.Find q) s t h = t
       by collecting (part.Array q) s t h = h q refl
-      by collecting (part.Prefix q) s t h = t
-      by collecting (part.Exact q) s t h = t
-      by (scanning f r) q s t h = s
+      by collecting q s t h = t
+      by e q s t h = s
 
   -- parts of one kind side by side
   pub slices_merge : (p q r : SlicePart) → ((d : _) → EndsFor (slicing d) n env (part.Slice p) a → EndsFor (slicing d) n env (part.Slice q) b → EndsFor (slicing d) n env (part.Slice r) (append a b))
@@ -251,76 +201,48 @@ module _ (e : AbstractEnd) (n : ℕ) (env : Numbers) (a b : Trace) where
   slices_merge p q r merged = by e
     where
       by : (e : AbstractEnd) → EndsFor e n env (part.Slice p) a → EndsFor e n env (part.Slice q) b → EndsFor e n env (part.Slice r) (append a b)
-      by exactly s t = s
       by (slicing d) s t = merged d s t
-      by (folding f i c) s t = s
-      by (finding d) s t = s
-      by collecting s t = s
-      by (scanning f r) s t = s
+      by e s t = s
 
   pub folds_merge : (p q r : FoldPart) → ((f : Op) (i : Option ℤ) (c : Bool) → IsFold f i c p a → IsFold f i c q b → IsFold f i c r (append a b))
       → EndsFor e n env (part.Fold p) a → EndsFor e n env (part.Fold q) b → EndsFor e n env (part.Fold r) (append a b)
   folds_merge p q r merged = by e
     where
       by : (e : AbstractEnd) → EndsFor e n env (part.Fold p) a → EndsFor e n env (part.Fold q) b → EndsFor e n env (part.Fold r) (append a b)
-      by exactly s t = s
-      by (slicing d) s t = s
       by (folding f i c) s t = merged f i c s t
-      by (finding d) s t = s
-      by collecting s t = s
-      by (scanning g r) s t = s
+      by e s t = s
 
   pub finds_merge : (p q r : FindPart) → ((d : _) → EndsFor (finding d) n env (part.Find p) a → EndsFor (finding d) n env (part.Find q) b → EndsFor (finding d) n env (part.Find r) (append a b))
       → EndsFor e n env (part.Find p) a → EndsFor e n env (part.Find q) b → EndsFor e n env (part.Find r) (append a b)
   finds_merge p q r merged = by e
     where
       by : (e : AbstractEnd) → EndsFor e n env (part.Find p) a → EndsFor e n env (part.Find q) b → EndsFor e n env (part.Find r) (append a b)
-      by exactly s t = s
-      by (slicing d) s t = s
-      by (folding f i c) s t = s
       by (finding d) s t = merged d s t
-      by collecting s t = s
-      by (scanning f r) s t = s
+      by e s t = s
 
   pub arrays_merge : (p q r : AbstractArray) → r ≡ array_append p q → EndsFor e n env (part.Array p) a → EndsFor e n env (part.Array q) b → EndsFor e n env (part.Array r) (append a b)
   arrays_merge p q r is = by e
     where
       by : (e : AbstractEnd) → EndsFor e n env (part.Array p) a → EndsFor e n env (part.Array q) b → EndsFor e n env (part.Array r) (append a b)
-      by exactly s t = s
-      by (slicing d) s t = s
-      by (folding f i c) s t = s
-      by (finding d) s t = s
       by collecting s t = is ∙ (λ i. array_append (s i) (t i)) ∙ sym (array_joined a b)
-      by (scanning f r) s t = s
+      by e s t = s
 
   -- of one end, parts have one kind
   pub only_prefixes : (p : AbstractScan) (q : Part) → ((x : AbstractScan) → q ≡ part.Prefix x → ⊥) → EndsFor e n env (part.Prefix p) a → EndsFor e n env q b → ⊥
   only_prefixes p q other s t = by e q s t other
     where
       by : (e : AbstractEnd) (q : Part) → EndsFor e n env (part.Prefix p) a → EndsFor e n env q b → ((x : AbstractScan) → q ≡ part.Prefix x → ⊥) → ⊥
-      by exactly q s t h = s
-      by (slicing d) q s t h = s
-      by (folding f i c) q s t h = s
-      by (finding d) q s t h = s
-      by collecting q s t h = s
-      by (scanning f r) (part.Slice q) s t h = t
-      by (scanning f r) (part.Fold q) s t h = t
-      by (scanning f r) (part.Find q) s t h = t
-      by (scanning f r) (part.Array q) s t h = t
       by (scanning f r) (part.Prefix q) s t h = h q refl
-      by (scanning f r) (part.Exact q) s t h = t
+      by (scanning f r) q s t h = t
+      by e q s t h = s
 
   -- prefixes of pieces side by side
   pub prefixes_merge : (p q r : AbstractScan) → (q.op ≡ p.op → r ≡ scan_append p q.walk) → EndsFor e n env (part.Prefix p) a → EndsFor e n env (part.Prefix q) b → EndsFor e n env (part.Prefix r) (append a b)
   prefixes_merge p q r is = by e
     where
       by : (e : AbstractEnd) → EndsFor e n env (part.Prefix p) a → EndsFor e n env (part.Prefix q) b → EndsFor e n env (part.Prefix r) (append a b)
-      by exactly s t = s
-      by (slicing d) s t = s
-      by (folding f i c) s t = s
-      by (finding d) s t = s
-      by collecting s t = s
       by (scanning f g) s t = is (ap (λ (x : AbstractScan). x.op) t ∙ sym (ap (λ (x : AbstractScan). x.op) s)) ∙ (λ i. scan_append (s i) (t i).walk)
+      by e s t = s
 
 -- the number of the stage that ends a segment
 pub length-stages_of : (gs : List Stage) → length (stages_of gs) ≡ length gs
@@ -348,21 +270,13 @@ plans_more new js j rest e = ap (λ ks. plans_in ks ++ rest) e ∙ ap (λ ks. ks
 
 -- what an array answers
 pub array_ends : (e : AbstractEnd) (n : ℕ) (env : Numbers) (c : AbstractArray) (w : Trace) (a : Answer) → EndsFor e n env (part.Array c) w → a ≡ unless_fault c.ending (answer.Array c.values) → outcome.Answer a ≡ ended e n env w
-array_ends (slicing d) n env c w a s is = absurd s
-array_ends (folding f i k) n env c w a s is = absurd s
-array_ends (finding d) n env c w a s is = absurd s
-array_ends (scanning f r) n env c w a s is = absurd s
 array_ends collecting n env c w a s is = ap outcome.Answer (is ∙ ap (λ (k : AbstractArray). unless_fault k.ending (answer.Array k.values)) s)
-array_ends exactly n env c w a s is = absurd s
+array_ends e n env c w a s is = absurd s
 
 -- an array goes on
 pub array_goes_on : (e : AbstractEnd) (n : ℕ) (env : Numbers) (p r : AbstractArray) (t u : Trace) → r ≡ array_append p (array_of u) → EndsFor e n env (part.Array p) t → EndsFor e n env (part.Array r) (append t u)
-array_goes_on (slicing d) n env p r t u is s = s
-array_goes_on (folding f i c) n env p r t u is s = s
-array_goes_on (finding d) n env p r t u is s = s
-array_goes_on (scanning f g) n env p r t u is s = s
 array_goes_on collecting n env p r t u is s = is ∙ ap (λ (k : AbstractArray). array_append k (array_of u)) s ∙ sym (array_joined t u)
-array_goes_on exactly n env p r t u is s = s
+array_goes_on e n env p r t u is s = s
 
 -- values after those of an array that is done
 pub values_added : (p : AbstractArray) (vs ws : List ℤ) (r : AbstractArray) → is_fault p.ending ≡ false → vs ≡ ws → r ≡ array (p.values ++ vs) end.Done → r ≡ array_append p (array ws end.Done)
@@ -371,12 +285,8 @@ values_added p vs ws r going same is = is ∙ ap (λ (us : List ℤ). array (p.v
 -- a fold goes on
 pub fold_goes_on : (e : AbstractEnd) (n : ℕ) (env : Numbers) (p r : FoldPart) (t u : Trace) → ((f : Op) (i : Option ℤ) (c : Bool) → IsFold f i c p t → IsFold f i c r (append t u))
     → EndsFor e n env (part.Fold p) t → EndsFor e n env (part.Fold r) (append t u)
-fold_goes_on (slicing d) n env p r t u go s = s
 fold_goes_on (folding f i c) n env p r t u go s = go f i c s
-fold_goes_on (finding d) n env p r t u go s = s
-fold_goes_on collecting n env p r t u go s = s
-fold_goes_on exactly n env p r t u go s = s
-fold_goes_on (scanning f g) n env p r t u go s = s
+fold_goes_on e n env p r t u go s = s
 
 pub no_items : {A : Type 0} (xs : List A) → length xs ≡ 0 → xs ≡ []
 no_items [] h = refl
@@ -384,32 +294,77 @@ no_items (x ∷ xs) h = absurd (omega arith)
 
 -- a prefix goes on
 pub scan_goes_on : (e : AbstractEnd) (n : ℕ) (env : Numbers) (p r : AbstractScan) (t u : Trace) → r ≡ scan_append p u → EndsFor e n env (part.Prefix p) t → EndsFor e n env (part.Prefix r) (append t u)
-scan_goes_on (slicing d) n env p r t u is s = s
-scan_goes_on (folding f i c) n env p r t u is s = s
-scan_goes_on (finding d) n env p r t u is s = s
-scan_goes_on collecting n env p r t u is s = s
-scan_goes_on exactly n env p r t u is s = s
 scan_goes_on (scanning f g) n env p r t u is s = is ∙ ap (λ (x : AbstractScan). scan_append x u) s
+scan_goes_on e n env p r t u is s = s
 
 -- what a prefix gives
 pub scan_ends : (e : AbstractEnd) (n : ℕ) (env : Numbers) (p : AbstractScan) (w t : Trace) → EndsFor e n env (part.Prefix p) w → t ≡ prefixed (value_of p.op) p.range p.stage p.walk → outcome.Source t ≡ ended e n env w
-scan_ends (slicing d) n env p w t s is = absurd s
-scan_ends (folding f i k) n env p w t s is = absurd s
-scan_ends (finding d) n env p w t s is = absurd s
-scan_ends collecting n env p w t s is = absurd s
-scan_ends exactly n env p w t s is = absurd s
 scan_ends (scanning f r) n env p w t s is = ap outcome.Source (is ∙ ap (λ (x : AbstractScan). prefixed (value_of x.op) x.range x.stage x.walk) s)
+scan_ends e n env p w t s is = absurd s
 
 -- what a slice gives
 pub slice_ends : (e : AbstractEnd) (n : ℕ) (env : Numbers) (p : SlicePart) (w t : Trace) → ((d : _) → SliceStands d n env p w → t ≡ sliced d n env w) → EndsFor e n env (part.Slice p) w → outcome.Source t ≡ ended e n env w
 slice_ends (slicing d) n env p w t is s = ap outcome.Source (is d s)
-slice_ends (folding f i k) n env p w t is s = absurd s
-slice_ends (finding d) n env p w t is s = absurd s
-slice_ends collecting n env p w t is s = absurd s
-slice_ends exactly n env p w t is s = absurd s
-slice_ends (scanning f r) n env p w t is s = absurd s
+slice_ends e n env p w t is s = absurd s
+
+-- ---- exact sums
+
+-- an exact sum goes on
+pub sum_goes_on : (e : AbstractEnd) (n : ℕ) (env : Numbers) (p r : SumPart) (t u : Trace) → (SumStands n p t → SumStands n r (append t u)) → EndsFor e n env (part.Exact p) t → EndsFor e n env (part.Exact r) (append t u)
+sum_goes_on exactly n env p r t u go s = go s
+sum_goes_on e n env p r t u go s = s
+
+-- exact sums of pieces side by side
+pub sums_merge : (e : AbstractEnd) (n : ℕ) (env : Numbers) (a b : Trace) (p q r : SumPart) → (SumStands n p a → SumStands n q b → SumStands n r (append a b))
+    → EndsFor e n env (part.Exact p) a → EndsFor e n env (part.Exact q) b → EndsFor e n env (part.Exact r) (append a b)
+sums_merge exactly n env a b p q r merged s t = merged s t
+sums_merge e n env a b p q r merged s t = s
+
+-- of one end, parts have one kind
+pub only_sums : (e : AbstractEnd) (n : ℕ) (env : Numbers) (a b : Trace) (p : SumPart) (q : Part) → ((x : SumPart) → q ≡ part.Exact x → ⊥) → EndsFor e n env (part.Exact p) a → EndsFor e n env q b → ⊥
+only_sums exactly n env a b p (part.Exact q) other s t = other q refl
+only_sums exactly n env a b p q other s t = t
+only_sums e n env a b p q other s t = s
+
+-- what an exact sum gives
+pub sum_ends : (e : AbstractEnd) (n : ℕ) (env : Numbers) (p : SumPart) (w : Trace) (r : Result ℤ Fault) → (SumStands n p w → r ≡ exactly_summed n w) → EndsFor e n env (part.Exact p) w → outcome.Answer (exact_answer r) ≡ ended e n env w
+sum_ends exactly n env p w r is s = ap (λ q. outcome.Answer (exact_answer q)) (is s)
+sum_ends e n env p w r is s = absurd s
+
+-- parts of other ends never leave it open what a segment gives
+pub other_ends : (e : AbstractEnd) (n : ℕ) (env : Numbers) (p : Part) (t : Trace) → (e ≡ exactly → ⊥) → EndsFor e n env p t → may_search p ≡ false
+other_ends exactly n env (part.Exact p) t other s = absurd (other refl)
+other_ends e n env (part.Exact p) t other s = absurd s
+other_ends e n env p t other s = refl
 
 -- what follows from a fact follows where the answer is Ok
 pub on_ok_map : {A E P Q : Type 0} (r : Result A E) → (P → Q) → OnOk r P → OnOk r Q
 on_ok_map (Ok a) f p = f p
 on_ok_map (Err e) f p = p
+
+-- ---- what settles a segment
+
+pub part_settles : (e : AbstractEnd) (n : ℕ) (env : Numbers) (p : Part) (t : Trace) → is_settled p ≡ true → is_running p ≡ false → EndsFor e n env p t → IsSettled (ended e n env) t
+part_settles (slicing d) n env (part.Slice p) t h k s = settles_on outcome.Source (sliced d n env) t (slice_settles d n env p t h s)
+part_settles (folding f i c) n env (part.Fold p) t h k s = faults (ended (folding f i c) n env) t (sym (ap is_fault s.stands.ending) ∙ h)
+part_settles (finding d) n env (part.Find p) t h k s = settles_on (λ r. outcome.Answer (found_answer r)) (find_answer d n env) t (find_settles d n env t (sym (ap is_some s.decision) ∙ h))
+part_settles collecting n env (part.Array p) t h k s = faults (ended collecting n env) t (sym (ap (λ (k : AbstractArray). is_fault k.ending) s) ∙ h)
+part_settles (scanning f r) n env (part.Prefix p) t h k s = faults (ended (scanning f r) n env) t (sym (ap (λ (k : AbstractScan). is_fault k.walk.ending) s) ∙ h)
+part_settles exactly n env (part.Exact p) t h k s = settles_on (λ r. outcome.Answer (exact_answer r)) (exactly_summed n) t (sum_settles n p t h k s)
+part_settles e n env p t h k s = absurd s
+
+-- the end of a piece decides what the segment gives if its part is settled, also if some of the piece was left unwalked
+pub settled_decides : (s : AbstractSegment) (env : Numbers) (p : Part) (w : Trace) (from to : ℕ) → from ≤ to → to ≤ length w.items → is_settled p ≡ true → is_running p ≡ false
+    → StandsEnough (Decides (outcome_of s env) w) s env p from (piece_of from (Some to) w) → Decides (outcome_of s env) w to
+settled_decides s env p w from to l h is after (t, enough, stands) =
+    let e : from + (to - from) ≡ to = omega arith in
+    subst (Decides (outcome_of s env) w) e
+    (enough_decides (ended s.ending (last_stage s) env) (walk_of s env) (pipe_append s.first s.stages env) w from (to - from) t (omega arith) enough (part_settles s.ending (last_stage s) env p (walk_of s env t) is after stands))
+
+-- ---- terminals
+
+-- the end of the last segment is the terminal
+pub terminal_ends : (d : AbstractTerminal) (n : ℕ) (env : Numbers) (t : Trace) (later : Trace → Answer) → on_outcome (ended (end_of d) n env t) later ≡ answer_of n env d t
+terminal_ends sum n env t later = ap (λ z. unless_fault t.ending (answer.Number z)) (wrapped_sum t.items)
+terminal_ends count n env t later = ap (λ z. unless_fault t.ending (answer.Number z)) (counted t.items)
+terminal_ends d n env t later = refl

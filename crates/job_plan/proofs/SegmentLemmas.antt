@@ -3,15 +3,13 @@ use Rattle.std.proofs.Common.{◌≡◌, ℕ, suc, ◌+◌, List, [], ◌∷◌,
 use Rattle.lambda_expr.specs.Earlier.{Numbers}
 use Rattle.trace.specs.Stages.{AbstractStage, through, pipe}
 use Rattle.trace.specs.Trace.{Trace}
-use Rattle.reduce_ops.proofs.FoldLemmas.{wrapped_sum, counted}
 use Rattle.reduce_ops.specs.Operators.{value_of}
 use Rattle.slice_ops.specs.Slices.{sliced}
 use Rattle.prefix_scan.specs.Prefixes.{prefixed}
-use Rattle.job_language.specs.Jobs.{AbstractPlainSource, AbstractJobStage, item, slice, prefix, AbstractTerminal, sum, count, min, max, to_array, reduce, reduce_from, find, exact_sum, AbstractJob}
-use Rattle.job_plan.specs.declared.answer.Answer.{Answer}
-use Rattle.job_plan.specs.declared.answer.Answer.TheVariants as answer
-use Rattle.job_plan.specs.Walks.{after_stages, answer_of, answer_of_job, fallback_of, instead_of_fault, source_walk, unless_fault}
-use Rattle.job_plan.specs.Plans.{end_of, ended, on_outcome, plan_of, planned_answer, segments_answer, segments_from}
+use Rattle.job_language.specs.Jobs.{AbstractPlainSource, AbstractJobStage, item, slice, prefix, AbstractTerminal, AbstractJob}
+use Rattle.job_plan.specs.Walks.{after_stages, answer_of, answer_of_job, fallback_of, instead_of_fault, source_walk}
+use Rattle.job_plan.specs.Plans.{plan_of, planned_answer, segments_answer, segments_from}
+use Rattle.job_plan.proofs.PartLemmas.{terminal_ends}
 
 -- one stage more
 pipe_then : (n : ℕ) (gs : List AbstractStage) (g : AbstractStage) (env : Numbers) (t : Trace) → pipe n (gs ++ g ∷ []) env t ≡ through (n + length gs) g env (pipe n gs env t)
@@ -19,18 +17,6 @@ pipe_then n [] g env t = let e : n ≡ n + 0 = omega arith in ap (λ (m : ℕ). 
 pipe_then n (f ∷ gs) g env t =
     let e : suc n + length gs ≡ n + suc (length gs) = omega arith in
     pipe_then (suc n) gs g env (through n f env t) ∙ ap (λ (m : ℕ). through m g env (pipe (suc n) gs env (through n f env t))) e
-
--- the end of the last segment is the terminal
-terminal_ends : (d : AbstractTerminal) (n : ℕ) (env : Numbers) (t : Trace) (later : Trace → Answer) → on_outcome (ended (end_of d) n env t) later ≡ answer_of n env d t
-terminal_ends sum n env t later = ap (λ z. unless_fault t.ending (answer.Number z)) (wrapped_sum t.items)
-terminal_ends count n env t later = ap (λ z. unless_fault t.ending (answer.Number z)) (counted t.items)
-terminal_ends min n env t later = refl
-terminal_ends max n env t later = refl
-terminal_ends to_array n env t later = refl
-terminal_ends (reduce f) n env t later = refl
-terminal_ends (reduce_from a f) n env t later = refl
-terminal_ends (find d) n env t later = refl
-terminal_ends exact_sum n env t later = refl
 
 in_turn : (n : ℕ) (gs : List AbstractStage) (rest : List AbstractJobStage) (d : AbstractTerminal) (env : Numbers) (t : Trace)
     → segments_answer (segments_from n gs rest d) env t ≡ answer_of (n + length gs + length rest) env d (after_stages (n + length gs) rest env (pipe n gs env t))

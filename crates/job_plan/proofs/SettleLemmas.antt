@@ -1,5 +1,5 @@
--- Which parts settle what a segment gives.
-use Rattle.std.proofs.Common.{◌≡◌, ℕ, ◌+◌, ◌-◌, ◌≤◌, Bool, true, false, not, nat_lt, List, ◌++◌, length, take, is_some, Option, Some, None, sym, refl, ap, ◌∙◌, subst, arith, length-append}
+-- Which walks settle what ends make of them.
+use Rattle.std.proofs.Common.{◌≡◌, ℕ, ◌+◌, ◌≤◌, Bool, true, false, not, nat_lt, List, ◌++◌, length, take, is_some, Option, Some, None, sym, refl, ap, ◌∙◌, arith, length-append}
 use Rattle.std.specs.Option.{option_or}
 use Rattle.std.proofs.lemmas.List.{take-append-le}
 use Rattle.lambda_expr.specs.Earlier.{Numbers}
@@ -9,38 +9,26 @@ use Rattle.trace.specs.declared.item.End.{End}
 use Rattle.trace.specs.declared.item.End.TheVariants as end
 use Rattle.trace.specs.Stops.{stop_at, shift, kept_before}
 use Rattle.trace.specs.Trace.{Trace, trace, append}
-use Rattle.trace.proofs.JoinLemmas.{pipe_append}
 use Rattle.trace.proofs.StopLemmas.{stop_joined, stop_within}
-use Rattle.early_stop.specs.Decisive.{Decides}
 use Rattle.early_stop.specs.Leaving.{IsSettled}
-use Rattle.early_stop.proofs.Settling.{fault_settles, settles_by, enough_decides}
-use Rattle.reduce_ops.specs.ExactSums.{exact_sum as exactly_summed}
-use Rattle.reduce_ops.proofs.SettledSums.{sum_settles}
+use Rattle.early_stop.proofs.Settling.{fault_settles, settles_by}
 use Rattle.slice_ops.specs.Slices.{AbstractSlice, limit, skip, take_while, drop_while, limited, sliced, front_ends}
 use Rattle.slice_ops.specs.declared.slice_part.SlicePart.{SlicePart}
 use Rattle.slice_ops.specs.Parts.{StandsFor as SliceStands, stops, is_settled as slice_is_settled, is_settled_by}
 use Rattle.slice_ops.proofs.JoinLemmas.{limited_enough, whole}
 use Rattle.find_ops.specs.Finds.{Find, decision_of, find_answer, decided_or, answer_of_none}
 use Rattle.find_ops.proofs.DecisionLemmas.{decision_joined}
-use Rattle.job_plan.specs.Arrays.{AbstractArray}
-use Rattle.job_plan.specs.Scans.{AbstractScan}
-use Rattle.job_plan.specs.declared.outcome.Outcome.TheVariants as outcome
-use Rattle.job_plan.specs.declared.part.Part.{Part}
-use Rattle.job_plan.specs.declared.part.Part.TheVariants as part
-use Rattle.job_plan.specs.Parts.{EndsFor, StandsEnough, is_running, is_settled, is_fault}
-use Rattle.job_plan.specs.Pieces.{piece_of}
-use Rattle.job_plan.specs.Plans.{AbstractEnd, slicing, folding, finding, collecting, exactly, scanning, AbstractSegment, ended, last_stage, outcome_of, walk_of}
-use Rattle.job_plan.specs.Walks.{exact_answer, found_answer}
+use Rattle.job_plan.specs.Parts.{is_fault}
 
 -- a part of an outcome settles it
-settles_on : {A B : Type 0} (f : A → B) (close : Trace → A) (t : Trace) → IsSettled close t → IsSettled (λ u. f (close u)) t
+pub settles_on : {A B : Type 0} (f : A → B) (close : Trace → A) (t : Trace) → IsSettled close t → IsSettled (λ u. f (close u)) t
 settles_on f close t h a b c = ap f (h a b c)
 
 the_fault : (e : End) → is_fault e ≡ true → (f : Fault) × (e ≡ end.Fault f)
 the_fault end.Done h = absurd (let z : false ≡ true = h in cc)
 the_fault (end.Fault f) h = (f, refl)
 
-faults : {O : Type 0} (close : Trace → O) (t : Trace) → is_fault t.ending ≡ true → IsSettled close t
+pub faults : {O : Type 0} (close : Trace → O) (t : Trace) → is_fault t.ending ≡ true → IsSettled close t
 faults close t h = let f = the_fault t.ending h in fault_settles close t f.0 f.1
 
 -- ---- limit
@@ -97,7 +85,7 @@ module _ (d : Find) (n : ℕ) (env : Numbers) where
   kept_some (Some a) v h = refl
   kept_some None v h = absurd (let z : false ≡ true = h in cc)
 
-  find_settles : (t : Trace) → is_some (decision_of d n env t) ≡ true → IsSettled (find_answer d n env) t
+  pub find_settles : (t : Trace) → is_some (decision_of d n env t) ≡ true → IsSettled (find_answer d n env) t
   find_settles t h a b c = ap (decided_or (answer_of_none d)) (same b ∙ sym (same c))
     where
       decided : is_some (decision_of d n env (append a t)) ≡ true
@@ -108,7 +96,7 @@ module _ (d : Find) (n : ℕ) (env : Numbers) where
 
 -- ---- slices
 
-slice_settles : (d : AbstractSlice) (n : ℕ) (env : Numbers) (p : SlicePart) (t : Trace) → slice_is_settled p ≡ true → SliceStands d n env p t → IsSettled (sliced d n env) t
+pub slice_settles : (d : AbstractSlice) (n : ℕ) (env : Numbers) (p : SlicePart) (t : Trace) → slice_is_settled p ≡ true → SliceStands d n env p t → IsSettled (sliced d n env) t
 slice_settles d n env p t h s = by_stop p.stopped refl
   where
     stopped_by : (d : AbstractSlice) → stops d n env t ≡ true → IsSettled (sliced d n env) t
@@ -126,51 +114,3 @@ slice_settles d n env p t h s = by_stop p.stopped refl
     by_stop : (w : Bool) → p.stopped ≡ w → IsSettled (sliced d n env) t
     by_stop true w = stopped_by d (sym s.stopped ∙ w)
     by_stop false w = by_end p.chunk.ending refl w
-
--- ---- all ends
-
-pub part_settles : (e : AbstractEnd) (n : ℕ) (env : Numbers) (p : Part) (t : Trace) → is_settled p ≡ true → is_running p ≡ false → EndsFor e n env p t → IsSettled (ended e n env) t
-part_settles (slicing d) n env (part.Slice p) t h k s = settles_on outcome.Source (sliced d n env) t (slice_settles d n env p t h s)
-part_settles (slicing d) n env (part.Fold p) t h k s = absurd s
-part_settles (slicing d) n env (part.Find p) t h k s = absurd s
-part_settles (slicing d) n env (part.Array p) t h k s = absurd s
-part_settles (slicing d) n env (part.Prefix p) t h k s = absurd s
-part_settles (slicing d) n env (part.Exact p) t h k s = absurd s
-part_settles (folding f i c) n env (part.Slice p) t h k s = absurd s
-part_settles (folding f i c) n env (part.Fold p) t h k s = faults (ended (folding f i c) n env) t (sym (ap is_fault s.stands.ending) ∙ h)
-part_settles (folding f i c) n env (part.Find p) t h k s = absurd s
-part_settles (folding f i c) n env (part.Array p) t h k s = absurd s
-part_settles (folding f i c) n env (part.Prefix p) t h k s = absurd s
-part_settles (folding f i c) n env (part.Exact p) t h k s = absurd s
-part_settles (finding d) n env (part.Slice p) t h k s = absurd s
-part_settles (finding d) n env (part.Fold p) t h k s = absurd s
-part_settles (finding d) n env (part.Find p) t h k s = settles_on (λ r. outcome.Answer (found_answer r)) (find_answer d n env) t (find_settles d n env t (sym (ap is_some s.decision) ∙ h))
-part_settles (finding d) n env (part.Array p) t h k s = absurd s
-part_settles (finding d) n env (part.Prefix p) t h k s = absurd s
-part_settles (finding d) n env (part.Exact p) t h k s = absurd s
-part_settles collecting n env (part.Slice p) t h k s = absurd s
-part_settles collecting n env (part.Fold p) t h k s = absurd s
-part_settles collecting n env (part.Find p) t h k s = absurd s
-part_settles collecting n env (part.Array p) t h k s = faults (ended collecting n env) t (sym (ap (λ (k : AbstractArray). is_fault k.ending) s) ∙ h)
-part_settles collecting n env (part.Prefix p) t h k s = absurd s
-part_settles collecting n env (part.Exact p) t h k s = absurd s
-part_settles (scanning f r) n env (part.Slice p) t h k s = absurd s
-part_settles (scanning f r) n env (part.Fold p) t h k s = absurd s
-part_settles (scanning f r) n env (part.Find p) t h k s = absurd s
-part_settles (scanning f r) n env (part.Array p) t h k s = absurd s
-part_settles (scanning f r) n env (part.Prefix p) t h k s = faults (ended (scanning f r) n env) t (sym (ap (λ (k : AbstractScan). is_fault k.walk.ending) s) ∙ h)
-part_settles (scanning f r) n env (part.Exact p) t h k s = absurd s
-part_settles exactly n env (part.Slice p) t h k s = absurd s
-part_settles exactly n env (part.Fold p) t h k s = absurd s
-part_settles exactly n env (part.Find p) t h k s = absurd s
-part_settles exactly n env (part.Array p) t h k s = absurd s
-part_settles exactly n env (part.Prefix p) t h k s = absurd s
-part_settles exactly n env (part.Exact p) t h k s = settles_on (λ r. outcome.Answer (exact_answer r)) (exactly_summed n) t (sum_settles n p t h k s)
-
--- the end of a piece decides what the segment gives if its part is settled, also if some of the piece was left unwalked
-pub settled_decides : (s : AbstractSegment) (env : Numbers) (p : Part) (w : Trace) (from to : ℕ) → from ≤ to → to ≤ length w.items → is_settled p ≡ true → is_running p ≡ false
-    → StandsEnough (Decides (outcome_of s env) w) s env p from (piece_of from (Some to) w) → Decides (outcome_of s env) w to
-settled_decides s env p w from to l h is after (t, enough, stands) =
-    let e : from + (to - from) ≡ to = omega arith in
-    subst (Decides (outcome_of s env) w) e
-    (enough_decides (ended s.ending (last_stage s) env) (walk_of s env) (pipe_append s.first s.stages env) w from (to - from) t (omega arith) enough (part_settles s.ending (last_stage s) env p (walk_of s env t) is after stands))

@@ -12,7 +12,7 @@ use Rattle.trace.proofs.Sources.{length-placed}
 use Rattle.slice_ops.specs.Slices.{limit, skip, take_while, drop_while, limited, skipped}
 use Rattle.job_language.specs.Jobs.{AbstractPlainSource}
 use Rattle.job_plan.specs.Pieces.{elements}
-use Rattle.job_plan.specs.Plans.{AbstractEnd, slicing, folding, finding, collecting, exactly, scanning, AbstractSegment, segments_answer}
+use Rattle.job_plan.specs.Plans.{AbstractEnd, slicing, AbstractSegment, segments_answer}
 use Rattle.job_plan.specs.Spans.{earlier, moved, span}
 use Rattle.job_plan.specs.Walks.{source_walk, values_of}
 use Rattle.job_plan.specs.Windows.{end_selected, end_selects, later_segments, selected_walk, selects, windowed}
@@ -138,8 +138,4 @@ later_answer env (s ∷ ss) t = by (λ u. later_answer env ss u) s.first s.stage
     by later n [] (slicing (skip k)) = later (skipped k t)
     by later n [] (slicing (take_while p)) = refl
     by later n [] (slicing (drop_while p)) = refl
-    by later n [] (folding f a counts) = refl
-    by later n [] (finding d) = refl
-    by later n [] collecting = refl
-    by later n [] exactly = refl
-    by later n [] (scanning f r) = refl
+    by later n [] e = refl

@@ -3,16 +3,20 @@ use Rattle.std.specs.Prelude.{pos, Bool, true, false, ◌&&◌, not}
 use Rattle.std.specs.Ordering.{int_eq}
 use Rattle.lambda_expr.specs.Term.{Long, number, parameter, reference, unary, binary, choose, Truth, literal, compare, opposite, connect, choose_truth}
 use Rattle.lambda_expr.specs.declared.operator.UnaryOperator.{UnaryOperator}
-use Rattle.lambda_expr.specs.declared.operator.UnaryOperator.TheVariants as unary_operator
 use Rattle.lambda_expr.specs.declared.operator.BinaryOperator.{BinaryOperator}
-use Rattle.lambda_expr.specs.declared.operator.BinaryOperator.TheVariants as binary_operator
+use Rattle.lambda_expr.specs.declared.operator.Faults.{Faults}
+use Rattle.lambda_expr.specs.declared.operator.Faults.TheVariants as faults
+use Rattle.lambda_expr.specs.Operators.{binary_faults, unary_faults}
+
+-- whether an operator with such faults has none
+abbrev pub is_never : Faults → Bool
+is_never faults.Never = true
+is_never faults.ByZero = false
+is_never faults.Overflow = false
 
 -- whether an operator has a value at every operand
 abbrev pub is_total : UnaryOperator → Bool
-is_total unary_operator.Negate = true
-is_total unary_operator.Complement = true
-is_total unary_operator.Absolute = true
-is_total unary_operator.NegateExact = false
+is_total o = is_never (unary_faults o)
 
 -- whether an expression is a number other than 0
 abbrev pub is_divisor : Long → Bool
@@ -23,26 +27,15 @@ is_divisor (unary o a) = false
 is_divisor (binary o a b) = false
 is_divisor (choose c a b) = false
 
+-- whether an operator with such faults has none with this right operand
+abbrev pub is_never_by : Faults → Long → Bool
+is_never_by faults.Never b = true
+is_never_by faults.ByZero b = is_divisor b
+is_never_by faults.Overflow b = false
+
 -- whether an operator has a value at every left operand, with this right one
 abbrev pub is_total_by : BinaryOperator → Long → Bool
-is_total_by binary_operator.Add b = true
-is_total_by binary_operator.Subtract b = true
-is_total_by binary_operator.Multiply b = true
-is_total_by binary_operator.Divide b = is_divisor b
-is_total_by binary_operator.Remainder b = is_divisor b
-is_total_by binary_operator.ShiftLeft b = true
-is_total_by binary_operator.ShiftRight b = true
-is_total_by binary_operator.ShiftRightUnsigned b = true
-is_total_by binary_operator.And b = true
-is_total_by binary_operator.Xor b = true
-is_total_by binary_operator.Or b = true
-is_total_by binary_operator.Min b = true
-is_total_by binary_operator.Max b = true
-is_total_by binary_operator.FloorDivide b = is_divisor b
-is_total_by binary_operator.FloorRemainder b = is_divisor b
-is_total_by binary_operator.AddExact b = false
-is_total_by binary_operator.SubtractExact b = false
-is_total_by binary_operator.MultiplyExact b = false
+is_total_by o b = is_never_by (binary_faults o) b
 
 -- whether no operator of an expression, or of a test, can have a fault
 abbrev mutual

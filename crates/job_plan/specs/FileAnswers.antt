@@ -1,11 +1,11 @@
 -- Meaning: the answers of the jobs of a file.
-use Rattle.std.specs.Prelude.{ℕ, suc, ℤ, Bool, true, false, if◌then◌else◌, List, [], ◌∷◌, ◌++◌, Option, Some, None}
+use Rattle.std.specs.Prelude.{ℕ, suc, ℤ, if◌then◌else◌, List, [], ◌∷◌, ◌++◌, Option, Some, None}
 use Rattle.lambda_expr.specs.Earlier.{Numbers}
 use Rattle.job_language.specs.Jobs.{AbstractPlainSource, range, range_closed, values, result, AbstractJob}
 use Rattle.job_plan.specs.declared.answer.Answer.{Answer}
 use Rattle.job_plan.specs.declared.answer.Answer.TheVariants as answer
 use Rattle.job_plan.specs.Names.{names_in_job, same_name}
-use Rattle.job_plan.specs.Walks.{answer_of_job}
+use Rattle.job_plan.specs.Walks.{answer_of_job, array_of, is_usable, number_of}
 
 -- the answer of a job, under the job's name
 pub record NamedAnswer : Type 0 where
@@ -21,16 +21,6 @@ found_later (Some found) = Some (suc found.0, found.1)
 abbrev pub found : List NamedAnswer → List ℕ → Option (ℕ × Answer)
 found [] name = None
 found (a ∷ more) name = if same_name a.name name then Some (0, a.answer) else found_later (found more name)
-
--- whether a job that names a job with this answer can be run: not if that is a fault, an empty optional or unusable
-abbrev pub is_usable : Answer → Bool
-is_usable (answer.Number z) = true
-is_usable (answer.Truth b) = true
-is_usable (answer.Optional None) = false
-is_usable (answer.Optional (Some z)) = true
-is_usable (answer.Array vs) = true
-is_usable (answer.Fault f) = false
-is_usable (answer.Unusable place) = false
 
 -- helper: the place of a job, if its answer can't be used
 abbrev pub unless_usable : ℕ → Answer → Option ℕ
@@ -50,15 +40,6 @@ abbrev pub first_unusable : List NamedAnswer → List (List ℕ) → Option ℕ
 first_unusable before [] = None
 first_unusable before (name ∷ names) = or_else (unusable_at (found before name)) (first_unusable before names)
 
--- the number that `$name` stands for, if the answer under this name is one: a number, or the value of an optional
-abbrev pub number_of : Answer → Option ℤ
-number_of (answer.Number z) = Some z
-number_of (answer.Truth b) = None
-number_of (answer.Optional v) = v
-number_of (answer.Array vs) = None
-number_of (answer.Fault f) = None
-number_of (answer.Unusable place) = None
-
 -- helper: a number under a name, if there is one
 abbrev pub numbered : List ℕ → Option ℤ → Numbers
 numbered name None = []
@@ -72,15 +53,6 @@ number_found name (Some found) = numbered name (number_of found.1)
 abbrev pub numbers_named : List NamedAnswer → List (List ℕ) → Numbers
 numbers_named before [] = []
 numbers_named before (name ∷ names) = number_found name (found before name) ++ numbers_named before names
-
--- the values of an array; of any other answer none
-abbrev pub array_of : Answer → List ℤ
-array_of (answer.Number z) = []
-array_of (answer.Truth b) = []
-array_of (answer.Optional v) = []
-array_of (answer.Array vs) = vs
-array_of (answer.Fault f) = []
-array_of (answer.Unusable place) = []
 
 -- helper: those of the job that was found
 abbrev pub array_found : Option (ℕ × Answer) → List ℤ

@@ -5,7 +5,6 @@ pub mod Faultless
 pub mod Firsts
 pub mod FileAnswers
 pub mod Kept
-pub mod Keeping
 pub mod Links
 pub mod Maps
 pub mod Moves

@@ -1,12 +1,12 @@
 -- Condition: slices that a walk goes through one after the other.
-use Rattle.std.specs.Prelude.{◌≡◌, Bool, true, false, List, [], ◌∷◌}
+use Rattle.std.specs.Prelude.{◌≡◌, Bool, true, false, is_some, List, [], ◌∷◌, Option, Some, None}
 use Rattle.lambda_expr.specs.Earlier.{Numbers}
 use Rattle.trace.specs.Trace.{Trace}
 use Rattle.slice_ops.specs.Rests.{rest_of}
 use Rattle.slice_ops.specs.Slices.{AbstractSlice, sliced}
 use Rattle.job_plan.specs.declared.links.Link.{Link}
 use Rattle.job_plan.specs.Parts.{segment_in}
-use Rattle.job_plan.specs.Plans.{AbstractEnd, slicing, folding, finding, collecting, exactly, scanning, AbstractSegment, AbstractPlan, last_stage, walk_of}
+use Rattle.job_plan.specs.Plans.{AbstractEnd, slicing, AbstractSegment, AbstractPlan, last_stage, slice_in, walk_of}
 use Rattle.job_plan.specs.Windows.{later_segments, selected_source}
 
 -- a segment that ends in a slice, and this slice
@@ -23,42 +23,29 @@ abbrev pub linked : List AbstractLink → Numbers → Trace → Trace
 linked [] env t = t
 linked (l ∷ ls) env t = linked ls env (link_walk l env t)
 
--- helper: a segment that ends so, before other links
-abbrev pub link_by : AbstractEnd → AbstractSegment → List AbstractLink → List AbstractLink
-link_by (slicing d) s ls = record { segment = s; rest = d } ∷ ls
-link_by (folding f a counts) s ls = []
-link_by (finding d) s ls = []
-link_by collecting s ls = []
-link_by exactly s ls = []
-link_by (scanning f r) s ls = []
+-- helper: a segment that ends in this slice, if in one, before other links
+abbrev pub link_by : Option AbstractSlice → AbstractSegment → List AbstractLink → List AbstractLink
+link_by None s ls = []
+link_by (Some d) s ls = record { segment = s; rest = d } ∷ ls
 
 -- the first segments that end in slices, before any item
 abbrev pub first_links : List AbstractSegment → List AbstractLink
 first_links [] = []
-first_links (s ∷ ss) = link_by s.ending s (first_links ss)
+first_links (s ∷ ss) = link_by (slice_in s.ending) s (first_links ss)
 
--- helper: these segments, of which the first one ends so, or the later ones
-abbrev pub after_by : AbstractEnd → List AbstractSegment → List AbstractSegment → List AbstractSegment
-after_by (slicing d) ss later = later
-after_by (folding f a counts) ss later = ss
-after_by (finding d) ss later = ss
-after_by collecting ss later = ss
-after_by exactly ss later = ss
-after_by (scanning f r) ss later = ss
+-- helper: these segments, or the later ones if the first one ends in a slice
+abbrev pub after_by : Option AbstractSlice → List AbstractSegment → List AbstractSegment → List AbstractSegment
+after_by None ss later = ss
+after_by (Some d) ss later = later
 
 -- the segments after these
 abbrev pub after_links : List AbstractSegment → List AbstractSegment
 after_links [] = []
-after_links (s ∷ ss) = after_by s.ending (s ∷ ss) (after_links ss)
+after_links (s ∷ ss) = after_by (slice_in s.ending) (s ∷ ss) (after_links ss)
 
 -- whether a segment ends in a slice
 abbrev pub ends_in_slice : AbstractEnd → Bool
-ends_in_slice (slicing d) = true
-ends_in_slice (folding f a counts) = false
-ends_in_slice (finding d) = false
-ends_in_slice collecting = false
-ends_in_slice exactly = false
-ends_in_slice (scanning f r) = false
+ends_in_slice e = is_some (slice_in e)
 
 -- whether the first of these segments does
 abbrev pub goes_through : List AbstractSegment → Bool

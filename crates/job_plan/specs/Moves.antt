@@ -9,7 +9,7 @@ use Rattle.job_plan.specs.declared.moves.Moved.{Moved}
 use Rattle.job_plan.specs.declared.segment.Held.{Held}
 use Rattle.job_plan.specs.Faultless.{never_faults}
 use Rattle.job_plan.specs.Parts.{segments_in}
-use Rattle.job_plan.specs.Plans.{AbstractEnd, slicing, folding, finding, collecting, exactly, scanning, AbstractSegment, AbstractPlan, segments_answer}
+use Rattle.job_plan.specs.Plans.{AbstractEnd, slicing, AbstractSegment, AbstractPlan, segments_answer, slice_in}
 use Rattle.job_plan.specs.Walks.{source_walk}
 
 -- whether stages are all maps; if asked for, maps that can't have a fault
@@ -31,13 +31,12 @@ slice_comes_first gs (skip n) = all_keep true gs
 slice_comes_first gs (take_while p) = false
 slice_comes_first gs (drop_while p) = false
 
+abbrev pub some_comes_first : List AbstractStage → Option AbstractSlice → Bool
+some_comes_first gs None = false
+some_comes_first gs (Some d) = slice_comes_first gs d
+
 abbrev pub comes_first : List AbstractStage → AbstractEnd → Bool
-comes_first gs (slicing d) = slice_comes_first gs d
-comes_first gs (folding f a counts) = false
-comes_first gs (finding d) = false
-comes_first gs collecting = false
-comes_first gs exactly = false
-comes_first gs (scanning f r) = false
+comes_first gs e = some_comes_first gs (slice_in e)
 
 -- segments that go over a walk give the same answer, whatever the walk is
 abbrev pub SameAnswers : List AbstractSegment → List AbstractSegment → Type 0

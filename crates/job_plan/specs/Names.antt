@@ -5,7 +5,7 @@ use Rattle.lambda_expr.specs.References.{long_names, truth_names, inner_names}
 use Rattle.trace.specs.Stages.{AbstractStage, map, filter, flat_map}
 use Rattle.slice_ops.specs.Slices.{AbstractSlice, limit, skip, take_while, drop_while}
 use Rattle.find_ops.specs.Finds.{Find, first, any_match, all_match, none_match}
-use Rattle.job_language.specs.Jobs.{AbstractPlainSource, range, range_closed, values, result, AbstractJobStage, item, slice, prefix, AbstractTerminal, sum, count, min, max, to_array, reduce, reduce_from, find, exact_sum, AbstractJob}
+use Rattle.job_language.specs.Jobs.{AbstractPlainSource, range, range_closed, values, result, AbstractJobStage, item, slice, prefix, AbstractTerminal, find, AbstractJob}
 
 -- helper: the names that stand in a stage that looks at one item at a time, in a stage that looks at a whole walk, in a find
 abbrev pub stage_names : AbstractStage → List (List ℕ)
@@ -25,6 +25,15 @@ find_names (any_match p) = truth_names p
 find_names (all_match p) = truth_names p
 find_names (none_match p) = truth_names p
 
+-- helper: the find or the match that a terminal is, if it is one; the names in it
+abbrev pub find_in : AbstractTerminal → Option Find
+find_in (find d) = Some d
+find_in d = None
+
+abbrev pub some_find_names : Option Find → List (List ℕ)
+some_find_names None = []
+some_find_names (Some d) = find_names d
+
 -- helper: the names that stand in a stage, in a terminal, in a source
 abbrev pub job_stage_names : AbstractJobStage → List (List ℕ)
 job_stage_names (item g) = stage_names g
@@ -32,15 +41,7 @@ job_stage_names (slice d) = slice_names d
 job_stage_names (prefix r f) = []
 
 abbrev pub terminal_names : AbstractTerminal → List (List ℕ)
-terminal_names sum = []
-terminal_names count = []
-terminal_names min = []
-terminal_names max = []
-terminal_names to_array = []
-terminal_names exact_sum = []
-terminal_names (reduce f) = []
-terminal_names (reduce_from a f) = []
-terminal_names (find d) = find_names d
+terminal_names d = some_find_names (find_in d)
 
 abbrev pub source_names : AbstractPlainSource → List (List ℕ)
 source_names (range a b) = []

@@ -19,15 +19,15 @@ use Rattle.job_language.specs.Jobs.{sources_of}
 use Rattle.early_stop.specs.Leaving.{IsEnough}
 use Rattle.job_plan.specs.Arrays.{array_of}
 use Rattle.job_plan.specs.Scans.{scan}
-use Rattle.job_plan.specs.declared.part.FoldPart.{FoldPart}
+use Rattle.job_plan.specs.declared.fold_part.FoldPart.{FoldPart}
 use Rattle.job_plan.specs.declared.part.Part.{Part}
 use Rattle.job_plan.specs.declared.part.Part.TheVariants as part
 use Rattle.job_plan.specs.declared.answer.Answer.{Answer}
 use Rattle.job_plan.specs.declared.answer.Answer.TheVariants as answer
 use Rattle.job_plan.specs.declared.fallback.Fallback.{Fallback}
 use Rattle.job_plan.specs.declared.fallback.Fallback.TheVariants as fallback
-use Rattle.job_plan.specs.declared.segment.SegmentEnd.{SegmentEnd}
-use Rattle.job_plan.specs.declared.segment.SegmentEnd.TheVariants as ends
+use Rattle.job_plan.specs.declared.ends.SegmentEnd.{SegmentEnd}
+use Rattle.job_plan.specs.declared.ends.SegmentEnd.TheVariants as ends
 use Rattle.job_plan.specs.declared.segment.Segment.{Segment}
 use Rattle.job_plan.specs.declared.segment.JobPlan.{JobPlan}
 use Rattle.job_plan.specs.declared.source.Source.{Source}
@@ -83,53 +83,21 @@ pub record IsFold (f : Op) (a : Option ℤ) (counts : Bool) (p : FoldPart) (t : 
   pub counting : p.counts ≡ counts
   pub stands : FoldStands p.partial (trace (counted_as counts t.items) t.ending)
 
--- a part stands for a walk that came through the stages, at this end, which is the stage with this number
+-- a part stands for a walk that came through the stages, at this end, which is the stage with this number; of another kind than the end it
+-- stands for none
 abbrev pub EndsFor : AbstractEnd → ℕ → Numbers → Part → Trace → Type 0
 EndsFor (slicing d) n env (part.Slice p) t = SliceStands d n env p t
-EndsFor (slicing d) n env (part.Fold p) t = ⊥
-EndsFor (slicing d) n env (part.Find p) t = ⊥
-EndsFor (slicing d) n env (part.Array c) t = ⊥
-EndsFor (slicing d) n env (part.Prefix p) t = ⊥
-EndsFor (slicing d) n env (part.Exact p) t = ⊥
-EndsFor (folding f a counts) n env (part.Slice p) t = ⊥
 EndsFor (folding f a counts) n env (part.Fold p) t = IsFold f a counts p t
-EndsFor (folding f a counts) n env (part.Find p) t = ⊥
-EndsFor (folding f a counts) n env (part.Array c) t = ⊥
-EndsFor (folding f a counts) n env (part.Prefix p) t = ⊥
-EndsFor (folding f a counts) n env (part.Exact p) t = ⊥
-EndsFor (finding d) n env (part.Slice p) t = ⊥
-EndsFor (finding d) n env (part.Fold p) t = ⊥
 EndsFor (finding d) n env (part.Find p) t = FindStands d n env p t
-EndsFor (finding d) n env (part.Array c) t = ⊥
-EndsFor (finding d) n env (part.Prefix p) t = ⊥
-EndsFor (finding d) n env (part.Exact p) t = ⊥
-EndsFor collecting n env (part.Slice p) t = ⊥
-EndsFor collecting n env (part.Fold p) t = ⊥
-EndsFor collecting n env (part.Find p) t = ⊥
 EndsFor collecting n env (part.Array c) t = c ≡ array_of t
-EndsFor collecting n env (part.Prefix p) t = ⊥
-EndsFor collecting n env (part.Exact p) t = ⊥
-EndsFor (scanning f r) n env (part.Slice p) t = ⊥
-EndsFor (scanning f r) n env (part.Fold p) t = ⊥
-EndsFor (scanning f r) n env (part.Find p) t = ⊥
-EndsFor (scanning f r) n env (part.Array c) t = ⊥
 EndsFor (scanning f r) n env (part.Prefix p) t = p ≡ scan f r n t
-EndsFor (scanning f r) n env (part.Exact p) t = ⊥
-EndsFor exactly n env (part.Slice p) t = ⊥
-EndsFor exactly n env (part.Fold p) t = ⊥
-EndsFor exactly n env (part.Find p) t = ⊥
-EndsFor exactly n env (part.Array c) t = ⊥
-EndsFor exactly n env (part.Prefix p) t = ⊥
 EndsFor exactly n env (part.Exact p) t = SumStands n p t
+EndsFor e n env p t = ⊥
 
 -- whether a part of a whole walk may leave it open what the segment gives, so that the walk is to be done once more, in order
 abbrev pub may_search : Part → Bool
-may_search (part.Slice p) = false
-may_search (part.Fold p) = false
-may_search (part.Find p) = false
-may_search (part.Array c) = false
-may_search (part.Prefix p) = false
 may_search (part.Exact p) = not (is_running_sum p)
+may_search p = false
 
 -- a part goes on from another one with this walk
 abbrev pub GoesOnFrom : AbstractEnd → ℕ → Numbers → Part → Part → Trace → Type 0
@@ -163,14 +131,19 @@ is_settled (part.Exact p) = sum_is_settled p
 
 -- whether a part is the sum of a walk in order: then it settles nothing for a piece that begins later
 abbrev pub is_running : Part → Bool
-is_running (part.Slice p) = false
-is_running (part.Fold p) = false
-is_running (part.Find p) = false
-is_running (part.Array c) = false
-is_running (part.Prefix p) = false
 is_running (part.Exact p) = is_running_sum p
+is_running p = false
 
--- whether a part keeps items; to merge it may then take memory
+-- whether the parts of an end keep items; to merge two of them may then take memory
+abbrev pub end_keeps_items : AbstractEnd → Bool
+end_keeps_items (slicing d) = true
+end_keeps_items (folding f a counts) = false
+end_keeps_items (finding d) = false
+end_keeps_items collecting = true
+end_keeps_items (scanning f r) = true
+end_keeps_items exactly = false
+
+-- whether a part keeps items
 abbrev pub keeps_items : Part → Bool
 keeps_items (part.Slice p) = true
 keeps_items (part.Fold p) = false

@@ -31,6 +31,17 @@ pub data AbstractEnd : Type 0 where
   exactly : AbstractEnd
   scanning : Op → Range → AbstractEnd
 
+-- the stage that looks at a whole walk, if such a stage is the end
+abbrev pub slice_in : AbstractEnd → Option AbstractSlice
+slice_in (slicing d) = Some d
+slice_in e = None
+
+-- whether an end makes a walk of a walk, over which the next segment goes; others give the answer of the job
+abbrev pub gives_walk : AbstractEnd → Bool
+gives_walk (slicing d) = true
+gives_walk (scanning f r) = true
+gives_walk e = false
+
 -- stages that look at one item at a time, the first one with this number, and what ends them
 pub record AbstractSegment : Type 0 where
   pub first : ℕ

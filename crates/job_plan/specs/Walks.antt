@@ -1,5 +1,5 @@
--- Meaning: the walk of a job, and the answer that its terminal gives.
-use Rattle.std.specs.Prelude.{ℕ, suc, ℤ, pos, ◌+ℤ◌, List, [], ◌∷◌, ◌++◌, length, map as each_of, Option, Some, None, Result, Ok, Err, option_map}
+-- Meaning: the walk of a job, the answer that its terminal gives, and what that is to jobs that name it.
+use Rattle.std.specs.Prelude.{ℕ, suc, ℤ, pos, ◌+ℤ◌, Bool, true, false, List, [], ◌∷◌, ◌++◌, length, map as each_of, Option, Some, None, Result, Ok, Err, option_map}
 use Rattle.lambda_expr.specs.Earlier.{Numbers}
 use Rattle.lambda_expr.specs.Streams.{counted, distance}
 use Rattle.lambda_expr.specs.Wrap.{wrap}
@@ -107,6 +107,34 @@ instead_of_fault (Some b) (answer.Truth t) = answer.Truth t
 instead_of_fault (Some b) (answer.Optional v) = answer.Optional v
 instead_of_fault (Some b) (answer.Array vs) = answer.Array vs
 instead_of_fault (Some b) (answer.Unusable place) = answer.Unusable place
+
+-- whether a job that names a job with this answer can be run: not if that is a fault, an empty optional or unusable
+abbrev pub is_usable : Answer → Bool
+is_usable (answer.Number z) = true
+is_usable (answer.Truth b) = true
+is_usable (answer.Optional None) = false
+is_usable (answer.Optional (Some z)) = true
+is_usable (answer.Array vs) = true
+is_usable (answer.Fault f) = false
+is_usable (answer.Unusable place) = false
+
+-- the number that `$name` stands for, if the answer under this name is one: a number, or the value of an optional
+abbrev pub number_of : Answer → Option ℤ
+number_of (answer.Number z) = Some z
+number_of (answer.Truth b) = None
+number_of (answer.Optional v) = v
+number_of (answer.Array vs) = None
+number_of (answer.Fault f) = None
+number_of (answer.Unusable place) = None
+
+-- the values of an array; of any other answer none
+abbrev pub array_of : Answer → List ℤ
+array_of (answer.Number z) = []
+array_of (answer.Truth b) = []
+array_of (answer.Optional v) = []
+array_of (answer.Array vs) = vs
+array_of (answer.Fault f) = []
+array_of (answer.Unusable place) = []
 
 -- the answer of the walk of a job with the numbers of earlier jobs: its sources, through its stages, which are numbered
 -- from 1, to its terminal, which is the stage after the last

@@ -1,10 +1,10 @@
 -- Meaning: slices before every other stage of a job, which select positions of its sources.
-use Rattle.std.specs.Prelude.{ℕ, zero, suc, Bool, true, false, List, [], ◌∷◌, Option, if◌then◌else◌}
+use Rattle.std.specs.Prelude.{ℕ, zero, suc, Bool, true, false, List, [], ◌∷◌, Option, Some, None, if◌then◌else◌}
 use Rattle.trace.specs.Stages.{AbstractStage}
 use Rattle.trace.specs.Trace.{Trace, trace}
 use Rattle.slice_ops.specs.Slices.{AbstractSlice, limit, skip, take_while, drop_while, limited, skipped}
 use Rattle.job_plan.specs.Pieces.{elements}
-use Rattle.job_plan.specs.Plans.{AbstractEnd, slicing, folding, finding, collecting, exactly, scanning, AbstractSegment, AbstractPlan}
+use Rattle.job_plan.specs.Plans.{AbstractEnd, AbstractSegment, AbstractPlan, slice_in}
 use Rattle.job_plan.specs.Walks.{source_walk}
 
 -- whether a stage selects positions, and leaves the end of the walk over a job's sources as it is: `skip`, and `limit` of at
@@ -16,13 +16,13 @@ slice_selects (skip n) = true
 slice_selects (take_while p) = false
 slice_selects (drop_while p) = false
 
+-- helper: whether such a stage is there, and does
+abbrev pub some_selects : Option AbstractSlice → Bool
+some_selects None = false
+some_selects (Some d) = slice_selects d
+
 abbrev pub end_selects : AbstractEnd → Bool
-end_selects (slicing d) = slice_selects d
-end_selects (folding f a counts) = false
-end_selects (finding d) = false
-end_selects collecting = false
-end_selects exactly = false
-end_selects (scanning f r) = false
+end_selects e = some_selects (slice_in e)
 
 -- whether a segment with these stages and this end does that and nothing else
 abbrev pub selects : List AbstractStage → AbstractEnd → Bool
@@ -41,13 +41,13 @@ slice_selected (skip n) t = skipped n t
 slice_selected (take_while p) t = t
 slice_selected (drop_while p) t = t
 
+-- helper: what such a stage makes of it, if it is there
+abbrev pub some_selected : Option AbstractSlice → Trace → Trace
+some_selected None t = t
+some_selected (Some d) t = slice_selected d t
+
 abbrev pub end_selected : AbstractEnd → Trace → Trace
-end_selected (slicing d) t = slice_selected d t
-end_selected (folding f a counts) t = t
-end_selected (finding d) t = t
-end_selected collecting t = t
-end_selected exactly t = t
-end_selected (scanning f r) t = t
+end_selected e t = some_selected (slice_in e) t
 
 -- what the first ones, one after the other, make of a walk
 abbrev pub selected_walk : List AbstractSegment → Trace → Trace

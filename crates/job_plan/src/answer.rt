@@ -1,10 +1,11 @@
 //! What a job gives.
 
-ghost use Rattle.std.specs.Prelude.{◌≡◌};
-ghost use Rattle.job_plan.specs.FileAnswers.{array_of, is_usable, number_of};
+ghost use Rattle.std.specs.Prelude.{◌≡◌, [], IfNone, IfOk, IfSome};
+ghost use Rattle.job_plan.specs.Walks.{array_of, is_usable, number_of};
 
 use crate::values::Values;
-use trace::Fault;
+use std::alloc::Global;
+use trace::{Fault, NoMemory};
 
 /// What a job gives.
 #[derive(Debug, Drop)]
@@ -47,17 +48,29 @@ impl Answer {
         }
     }
 
-    /// The values of an array; of any other answer none.
-    pub fn array(&self) -> &[i64]
-        ensures { result.now ≡ array_of self.now }
+    /// The values, if the answer is an array.
+    pub fn array(&self) -> Option<&Values>
+        ensures some { IfSome result (λ values. values.now ≡ array_of self.now) }
+        ensures none { IfNone result (array_of self.now ≡ []) }
     {
         match self {
-            Answer::Array(values) => values.as_slice(),
+            Answer::Array(values) => Some(values),
             Answer::Number(_)
             | Answer::Truth(_)
             | Answer::Optional(_)
             | Answer::Fault(_)
-            | Answer::Unusable(_) => &[],
+            | Answer::Unusable(_) => None,
+        }
+    }
+
+    /// The same answer. An array has one piece at most, so that others can go over it as a slice; the values of several pieces are
+    /// copied once, 8 bytes each.
+    pub fn in_one_piece(self, alloc: Global) -> Result<Answer, NoMemory>
+        ensures { IfOk result (λ answer. answer ≡ self) }
+    {
+        match self {
+            Answer::Array(values) => Ok(Answer::Array(values.in_one_piece(alloc)?)),
+            other => Ok(other),
         }
     }
 }

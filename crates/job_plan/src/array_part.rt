@@ -1,12 +1,11 @@
 //! The values of a piece, for `toArray`.
 
-ghost use Rattle.std.specs.Prelude.{◌≡◌, ◌<◌, ◌++◌, [], length, flat_map, OnOk, OnErr, IfErr, IfOk};
+ghost use Rattle.std.specs.Prelude.{◌≡◌, ◌<◌, ◌++◌, [], length, flat_map, OnOk, OnErr, IfErr};
 ghost use Rattle.trace.specs.declared.item.End.TheVariants as end;
 ghost use Rattle.job_plan.specs.Arrays.{array, array_append};
 ghost use Rattle.job_plan.specs.Walks.{unless_fault};
 
 use crate::answer::Answer;
-use crate::given::items_in;
 use crate::values::Values;
 use std::alloc::Global;
 use std::marker::Model;
@@ -99,16 +98,14 @@ impl ArrayPart {
         Ok(())
     }
 
-    /// The values, or the fault that ended the walk. The values of several pieces are copied once, 8 bytes each; those of a
-    /// single piece are moved.
-    pub(crate) fn finish(self, alloc: Global) -> Result<Answer, NoMemory>
-        ensures { IfOk result (λ answer. answer ≡ unless_fault self.ending (Answer.Array self.values)) }
+    /// The values, or the fault that ended the walk. The pieces are moved into the answer; no value is copied.
+    pub(crate) fn finish(self) -> Answer
+        ensures { result ≡ unless_fault self.ending (Answer.Array self.values) }
     {
-        if let End::Fault(fault) = self.end {
-            return Ok(Answer::Fault(fault));
+        match self.end {
+            End::Done => Answer::Array(Values::from_pieces(self.pieces)),
+            End::Fault(fault) => Answer::Fault(fault),
         }
-        let values = in_one(alloc, self.pieces)?;
-        Ok(Answer::Array(Values::from_vec(values)))
     }
 }
 
@@ -135,28 +132,4 @@ fn add_room(pieces: &mut Vec<Vec<i64>>, values: usize)
     if let Ok(piece) = Vec::with_capacity(*pieces.allocator(), values) {
         let _ = pieces.push(piece);
     }
-}
-
-/// The values of pieces in one vector.
-fn in_one(alloc: Global, mut pieces: Vec<Vec<i64>>) -> Result<Vec<i64>, NoMemory>
-    ensures { IfOk result (λ values. values.items ≡ flat_map (λ piece. piece.items) pieces.items) }
-{
-    if pieces.len() == 1 {
-        if let Some(only) = pieces.pop() {
-            return Ok(only);
-        }
-    }
-    copied(alloc, &pieces)
-}
-
-/// The values of pieces, copied.
-fn copied(alloc: Global, pieces: &[Vec<i64>]) -> Result<Vec<i64>, NoMemory>
-    ensures { IfOk result (λ values. values.items ≡ flat_map (λ piece. piece.items) pieces.now) }
-{
-    let mut values = Vec::new(alloc);
-    values.reserve(items_in(pieces) as usize)?;
-    for piece in pieces {
-        values.extend_from_slice(piece)?;
-    }
-    Ok(values)
 }

@@ -8,7 +8,7 @@ ghost use Rattle.job_plan.specs.Maps.{ArePlain, ArePlain-prop, IsPlain, IsPlainS
 use crate::buffer::Buffer;
 use crate::faultless::{is_total, is_total_by};
 use batch_eval::{PlacedValues, Registers, feed_at_once};
-use lambda_expr::{BinaryOperator, BoolExpr, Env, LongExpr};
+use lambda_expr::{BinaryOperator, BoolExpr, Env, Faults, LongExpr};
 use std::alloc::Global;
 use trace::Stage;
 
@@ -143,11 +143,8 @@ fn after_test(test: &BoolExpr, operators: u32) -> Option<u32>
 
 /// For how many operators one counts: a division for more than the maps may have.
 fn cost(operator: BinaryOperator) -> u32 {
-    match operator {
-        BinaryOperator::Divide
-        | BinaryOperator::Remainder
-        | BinaryOperator::FloorDivide
-        | BinaryOperator::FloorRemainder => MOST_OPERATORS + 1,
-        _ => 1,
+    match operator.faults() {
+        Faults::ByZero => MOST_OPERATORS + 1,
+        Faults::Never | Faults::Overflow => 1,
     }
 }

@@ -10,9 +10,11 @@ ghost use Rattle.reduce_ops.specs.Parts.{StandsFor as FoldStands};
 ghost use Rattle.job_plan.specs.Parts.{IsFold, StandsFor, segment_in, walk_in};
 ghost use Rattle.job_plan.specs.Pieces.{piece_of};
 
+use crate::ends::{Fold, SegmentEnd};
+use crate::fold_part::FoldPart;
 use crate::moves::all_keep;
-use crate::part::{FoldPart, Part};
-use crate::segment::{Fold, Segment, SegmentEnd};
+use crate::part::Part;
+use crate::segment::Segment;
 use crate::source::{Source, piece_end};
 use crate::spans::within;
 use reduce_ops::{Op, Partial};

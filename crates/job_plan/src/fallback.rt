@@ -6,6 +6,7 @@ ghost use Rattle.job_plan.specs.Parts.{fallback_in, plan_in};
 ghost use Rattle.job_plan.specs.Walks.{instead_of_fault, number_as};
 
 use crate::answer::Answer;
+use crate::ends::number_as;
 use crate::segment::JobPlan;
 use job_language::Terminal;
 
@@ -27,22 +28,6 @@ impl Fallback {
             Fallback::Number(number) => Answer::Number(number),
             Fallback::Optional(number) => Answer::Optional(Some(number)),
         }
-    }
-}
-
-/// A number as a terminal gives it.
-fn number_as(terminal: &Terminal, number: i64) -> Fallback
-    ensures { fallback_in result ≡ number_as (terminal_of terminal.now) number }
-{
-    match terminal {
-        Terminal::Sum | Terminal::Count | Terminal::ReduceFrom { .. } | Terminal::ExactSum => {
-            Fallback::Number(number)
-        }
-        Terminal::Min
-        | Terminal::Max
-        | Terminal::ToArray
-        | Terminal::Reduce(_)
-        | Terminal::Find(_) => Fallback::Optional(number),
     }
 }
 

@@ -3,15 +3,15 @@ ghost use Rattle.std.specs.Prelude.{◌≡◌};
 ghost use Rattle.lambda_expr.specs.Term.{long_of, truth_of};
 ghost use Rattle.job_plan.specs.Faultless.{is_divisor, is_total, is_total_by, never_faults, test_never_faults};
 
-use lambda_expr::{BinaryOperator, BoolExpr, LongExpr, UnaryOperator};
+use lambda_expr::{BinaryOperator, BoolExpr, Faults, LongExpr, UnaryOperator};
 
 /// Whether an operator has a value at every operand.
 pub(crate) fn is_total(operator: UnaryOperator) -> bool
     ensures { result ≡ is_total operator }
 {
-    match operator {
-        UnaryOperator::Negate | UnaryOperator::Complement | UnaryOperator::Absolute => true,
-        UnaryOperator::NegateExact => false,
+    match operator.faults() {
+        Faults::Never => true,
+        Faults::ByZero | Faults::Overflow => false,
     }
 }
 
@@ -33,24 +33,10 @@ fn is_divisor(expr: &LongExpr) -> bool
 pub(crate) fn is_total_by(operator: BinaryOperator, right: &LongExpr) -> bool
     ensures { result ≡ is_total_by operator (long_of right.now) }
 {
-    match operator {
-        BinaryOperator::Divide
-        | BinaryOperator::Remainder
-        | BinaryOperator::FloorDivide
-        | BinaryOperator::FloorRemainder => is_divisor(right),
-        BinaryOperator::AddExact | BinaryOperator::SubtractExact | BinaryOperator::MultiplyExact =>
-            false,
-        BinaryOperator::Add
-        | BinaryOperator::Subtract
-        | BinaryOperator::Multiply
-        | BinaryOperator::ShiftLeft
-        | BinaryOperator::ShiftRight
-        | BinaryOperator::ShiftRightUnsigned
-        | BinaryOperator::And
-        | BinaryOperator::Xor
-        | BinaryOperator::Or
-        | BinaryOperator::Min
-        | BinaryOperator::Max => true,
+    match operator.faults() {
+        Faults::Never => true,
+        Faults::ByZero => is_divisor(right),
+        Faults::Overflow => false,
     }
 }
 

@@ -6,8 +6,9 @@ ghost use Rattle.job_plan.specs.Firsts.{SameOfClean, all_calm, finding_first, is
 ghost use Rattle.job_plan.specs.Parts.{end_in, segment_in, segments_in};
 ghost use Rattle.job_plan.specs.Plans.{folding};
 
+use crate::ends::{Fold, SegmentEnd};
 use crate::faultless::{never_faults, test_never_faults};
-use crate::segment::{Fold, Segment, SegmentEnd};
+use crate::segment::Segment;
 use crate::windows::selects;
 use find_ops::FindTerminal;
 use reduce_ops::Op;
@@ -47,11 +48,7 @@ fn keeps_first(end: &SegmentEnd) -> bool
 {
     match end {
         SegmentEnd::Fold(fold) => is_first(*fold),
-        SegmentEnd::Slice(_)
-        | SegmentEnd::Find(_)
-        | SegmentEnd::Array
-        | SegmentEnd::Prefix(_)
-        | SegmentEnd::ExactSum => false,
+        _ => false,
     }
 }
 

@@ -14,11 +14,12 @@ ghost use Rattle.job_plan.specs.Plans.{walk_of};
 ghost use Rattle.job_plan.specs.Runs.{Fits, FitsRun, run_values};
 ghost use Rattle.job_plan.specs.Scans.{IsFolded, items_of};
 
+use crate::ends::Prefix;
 use crate::folded_piece::{FoldedPiece, MOST_ITEMS};
 use crate::item_pieces::feed_items;
 use crate::piece_items::PieceItems;
 use crate::run_values::RunValues;
-use crate::segment::{Prefix, Segment};
+use crate::segment::Segment;
 use crate::source::feed_values;
 use crate::spans::within;
 use batch_eval::{BatchSink, Registers};

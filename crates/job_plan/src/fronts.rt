@@ -7,22 +7,10 @@ ghost use Rattle.slice_ops.specs.Parts.{IsFront};
 ghost use Rattle.slice_ops.specs.Rests.{IsTested, rest_of};
 ghost use Rattle.slice_ops.specs.Slices.{slice_of};
 
-use crate::segment::SegmentEnd;
 use batch_eval::count_passing;
 use find_ops::FindTerminal;
-use lambda_expr::{BoolExpr, Env};
+use lambda_expr::Env;
 use slice_ops::{Slice, SliceRest};
-
-/// The test that an end asks of items while it takes them, if it asks one.
-pub(crate) fn test_of(end: &SegmentEnd) -> Option<&BoolExpr> {
-    match end {
-        SegmentEnd::Find(FindTerminal::AnyMatch(test)) => Some(test),
-        SegmentEnd::Find(FindTerminal::AllMatch(test)) => Some(test),
-        SegmentEnd::Find(FindTerminal::NoneMatch(test)) => Some(test),
-        SegmentEnd::Slice(Slice::TakeWhile(test)) => Some(test),
-        _ => None,
-    }
-}
 
 /// How many items with these values, from the first on, decide nothing.
 pub(crate) fn undecided(find: &FindTerminal, env: &Env, values: &[i64], room: &mut [i64]) -> u64

@@ -2,27 +2,26 @@
 
 ghost use Rattle.std.specs.Prelude.{◌≡◌, ◌+◌, ◌<◌, ◌^◌, ℕ, List, [], false, true, length, map, IfOk, OnErr};
 ghost use Rattle.trace.specs.Trace.{Trace, trace, nothing, append};
-ghost use Rattle.job_plan.specs.Keeping.{end_keeps_items};
 ghost use Rattle.job_plan.specs.Spans.{IsNotAfter};
 ghost use Rattle.lambda_expr.specs.Earlier.{Numbers};
 ghost use Rattle.trace.specs.Sinks.{IsFed, flow_after};
 ghost use Rattle.trace.specs.declared.item.End.TheVariants as end;
 ghost use Rattle.trace.specs.declared.item.Item.{Item as item};
-ghost use Rattle.job_plan.specs.Parts.{HasTaken, StandsEnough, StandsFor, end_in, flow_of, is_settled, keeps_items, may_search, segment_in, walk_in};
+ghost use Rattle.job_plan.specs.Parts.{HasTaken, StandsEnough, StandsFor, end_in, end_keeps_items, flow_of, is_settled, keeps_items, may_search, segment_in, walk_in};
 ghost use Rattle.job_plan.specs.Pieces.{piece_of};
 ghost use Rattle.job_plan.specs.Plans.{last_stage};
 ghost use Rattle.job_plan.specs.Arrays.{array};
 ghost use Rattle.job_plan.specs.declared.part.Part.{Part as part_kept};
 ghost use Rattle.job_plan.specs.declared.part.Part.TheVariants as kept;
-ghost use Rattle.job_plan.specs.declared.segment.SegmentEnd.{SegmentEnd};
-ghost use Rattle.job_plan.specs.declared.segment.SegmentEnd.TheVariants as ends;
+ghost use Rattle.job_plan.specs.declared.ends.SegmentEnd.{SegmentEnd};
+ghost use Rattle.job_plan.specs.declared.ends.SegmentEnd.TheVariants as ends;
 
 use crate::counted_part::counted_part;
-use crate::fronts::test_of;
+use crate::ends::SegmentEnd;
 use crate::lent_part::lent_part;
 use crate::part::Part;
 use crate::room::with_room;
-use crate::segment::{Segment, SegmentEnd};
+use crate::segment::Segment;
 use crate::source::{Source, piece_end};
 use crate::stretches::feed_until;
 use batch_eval::{Batch, BatchSink, FlaggedLanes, PlacedValues, Registers, accept_each_flagged};
@@ -123,7 +122,7 @@ impl<K: Ending> BatchSink for PartSink<'_, '_, K> {
     }
 
     fn test(&self) -> Option<&BoolExpr> {
-        test_of(&self.segment.end)
+        self.segment.end.test()
     }
 }
 
@@ -161,6 +160,8 @@ fn accept_all<I: SourceItems>(
 /// most; it stops after the batch in which nothing more matters. Only the parts of slices, arrays and prefixes need
 /// memory, for the items that they keep. If registers for batches aren't to be had, the walk goes item by item. A count
 /// after maps that can't have a fault needs no walk: it takes the number of the positions.
+///
+/// For other programs: a worker of `streamrun` asks on its way whether the walk may stop, by `leaf_until`.
 pub fn leaf<'p>(
     alloc: Global,
     segment: &'p Segment,
@@ -176,7 +177,7 @@ pub fn leaf<'p>(
     leaf_with(alloc, segment, source, from, to, env, &mut registers)
 }
 
-/// The same with the registers of a worker, which it uses for all its leaves.
+/// The same with the registers of a worker, which it uses for all its leaves. For other programs, as `leaf`.
 pub fn leaf_with<'p>(
     alloc: Global,
     segment: &'p Segment,

@@ -16,9 +16,11 @@ mod buffer;
 mod cheap_maps;
 mod closing;
 mod counted_part;
+mod ends;
 mod fallback;
 mod faultless;
 mod first_found;
+mod fold_part;
 mod folded_piece;
 mod folded_walk;
 mod folding;
@@ -27,6 +29,7 @@ mod given;
 mod item_pieces;
 mod kept;
 mod leaves;
+mod lent_arrays;
 mod lent_part;
 mod likely;
 mod link_sink;
@@ -61,17 +64,19 @@ mod windows;
 
 pub use answer::Answer;
 pub use array_part::ArrayPart;
+pub use ends::{Fold, Prefix, SegmentEnd};
 pub use fallback::Fallback;
+pub use fold_part::FoldPart;
 pub use given::GivenWalk;
 pub use leaves::{leaf, leaf_in_order, leaf_stored, leaf_until, leaf_with, unwalked};
 pub use outcome::Outcome;
-pub use part::{FoldPart, Part};
+pub use part::Part;
 pub use plan_laws::{
     later_segments_give_the_answers, pieces_join, plans_give_the_answers, plans_have_the_meaning,
     walked_segments_give_the_answers,
 };
 pub use prefix_part::PrefixPart;
-pub use segment::{Fold, JobPlan, Named, Plan, Prefix, Segment, SegmentEnd};
+pub use segment::{JobPlan, Named, Plan, Segment};
 pub use settings::{Form, Settings};
 pub use source::Source;
 pub use sources::PlainSources;

@@ -5,7 +5,8 @@ ghost use Rattle.job_plan.specs.Links.{AllFit, Fits, after_links, each_link_in, 
 ghost use Rattle.job_plan.specs.Parts.{end_in, plan_in, segment_in, segments_in};
 ghost use Rattle.job_plan.specs.Plans.{AbstractSegment};
 
-use crate::segment::{JobPlan, Segment, SegmentEnd};
+use crate::ends::SegmentEnd;
+use crate::segment::{JobPlan, Segment};
 use slice_ops::SliceRest;
 use trace::NoMemory;
 
@@ -23,16 +24,12 @@ impl<'p> Link<'p> {
         ensures fits { IfSome result (λ link. Fits (link_in link)) }
         ensures none { IfNone result ((later : List AbstractSegment) → first_links (segment_in segment.now ∷ later) ≡ []) }
     {
-        match &segment.end {
-            SegmentEnd::Slice(slice) => Some(Link {
+        match segment.end.slice() {
+            Some(slice) => Some(Link {
                 segment,
                 rest: SliceRest::of(slice),
             }),
-            SegmentEnd::Fold(_)
-            | SegmentEnd::Find(_)
-            | SegmentEnd::Array
-            | SegmentEnd::Prefix(_)
-            | SegmentEnd::ExactSum => None,
+            None => None,
         }
     }
 }
@@ -62,13 +59,9 @@ fn after_links(segments: &[Segment]) -> &[Segment]
     let Some((segment, later)) = segments.split_first() else {
         return segments;
     };
-    match segment.end {
-        SegmentEnd::Slice(_) => after_links(later),
-        SegmentEnd::Fold(_)
-        | SegmentEnd::Find(_)
-        | SegmentEnd::Array
-        | SegmentEnd::Prefix(_)
-        | SegmentEnd::ExactSum => { segments }
+    match segment.end.slice() {
+        Some(_) => after_links(later),
+        None => segments,
     }
 }
 
@@ -76,14 +69,7 @@ fn after_links(segments: &[Segment]) -> &[Segment]
 fn ends_in_slice(end: &SegmentEnd) -> bool
     ensures { result ≡ ends_in_slice (end_in end.now) }
 {
-    match end {
-        SegmentEnd::Slice(_) => true,
-        SegmentEnd::Fold(_)
-        | SegmentEnd::Find(_)
-        | SegmentEnd::Array
-        | SegmentEnd::Prefix(_)
-        | SegmentEnd::ExactSum => { false }
-    }
+    end.slice().is_some()
 }
 
 impl<'c> JobPlan<'c> {

@@ -10,10 +10,11 @@ ghost use Rattle.job_plan.specs.Parts.{end_in, plan_in, plans_in, segment_in, se
 ghost use Rattle.job_plan.specs.PlannedAnswers.{planned_meaning};
 ghost use Rattle.job_plan.specs.Plans.{AbstractPlan, AbstractSegment};
 
+use crate::ends::SegmentEnd;
 use crate::faultless::never_faults;
 use crate::first_found::with_first_found;
 use crate::likely::likely_size;
-use crate::segment::{Held, JobPlan, Plan, Segment, SegmentEnd};
+use crate::segment::{Held, JobPlan, Plan, Segment};
 use lambda_expr::LongExpr;
 use slice_ops::Slice;
 use std::alloc::Global;
@@ -43,15 +44,10 @@ pub(crate) fn all_keep(stages: &[Stage], faultless: bool) -> bool
 fn comes_first(stages: &[Stage], end: &SegmentEnd) -> bool
     ensures { result ≡ comes_first (stages_of stages.now) (end_in end.now) }
 {
-    match end {
-        SegmentEnd::Slice(Slice::Limit(_)) => all_keep(stages, false),
-        SegmentEnd::Slice(Slice::Skip(_)) => all_keep(stages, true),
-        SegmentEnd::Slice(Slice::TakeWhile(_) | Slice::DropWhile(_))
-        | SegmentEnd::Fold(_)
-        | SegmentEnd::Find(_)
-        | SegmentEnd::Array
-        | SegmentEnd::ExactSum
-        | SegmentEnd::Prefix(_) => false,
+    match end.slice() {
+        Some(Slice::Limit(_)) => all_keep(stages, false),
+        Some(Slice::Skip(_)) => all_keep(stages, true),
+        Some(Slice::TakeWhile(_) | Slice::DropWhile(_)) | None => false,
     }
 }
 
@@ -219,11 +215,12 @@ impl<'c> Plan<'c> {
         ensures meaning { IfOk result (λ moved. planned_meaning (plans_in moved.jobs.items) ≡ planned_meaning (plans_in self.entry.jobs.items)) }
         ensures names { IfOk result (λ moved. map (λ (p : AbstractPlan). p.name) (plans_in moved.jobs.items) ≡ map (λ (p : AbstractPlan). p.name) (plans_in self.entry.jobs.items)) }
     {
+        let Plan { jobs: all, lent } = self;
         let mut jobs = Vec::new(alloc);
-        for job in self.jobs {
+        for job in all {
             let moved = job.with_slices_first(alloc, &jobs)?;
             jobs.push(moved)?;
         }
-        Ok(Plan { jobs })
+        Ok(Plan { jobs, lent })
     }
 }

@@ -1,40 +1,28 @@
 //! What a piece of a segment's source gives to the end of the segment.
 
 ghost use Rattle.batch_eval.specs.Batches.{flagged_values};
-ghost use Rattle.std.specs.Prelude.{◌≡◌, ◌<◌, ◌≤◌, ℕ, ℤ, Bool, false, true, List, [], ◌∷◌, length, map, Option, Ok, IfOk, IfErr, IfNone, IfSome, OnOk, OnErr, if◌then◌else◌};
+ghost use Rattle.std.specs.Prelude.{◌≡◌, ◌<◌, ◌≤◌, ℕ, false, true, List, [], ◌∷◌, length, map, IfOk, IfErr, IfNone, IfSome, OnOk, OnErr, if◌then◌else◌};
 ghost use Rattle.lambda_expr.specs.Earlier.{Numbers};
 ghost use Rattle.trace.specs.Trace.{Trace, trace, nothing, append};
 ghost use Rattle.trace.specs.declared.item.End.TheVariants as end;
 ghost use Rattle.trace.specs.declared.item.Item.{Item as item};
-ghost use Rattle.reduce_ops.specs.declared.op.Op.{Op};
-ghost use Rattle.job_plan.specs.Keeping.{end_keeps_items};
-ghost use Rattle.job_plan.specs.Parts.{EndsFor, IsFold, StandsFor, end_in, is_fault, is_running, is_settled, keeps_items, may_search};
-ghost use Rattle.job_plan.specs.Plans.{AbstractEnd, AbstractSegment, counted_as, folded, outcome_of};
-ghost use Rattle.job_plan.specs.Walks.{unless_fault};
+ghost use Rattle.job_plan.specs.Parts.{EndsFor, StandsFor, end_in, end_keeps_items, is_fault, is_running, is_settled, keeps_items, may_search};
+ghost use Rattle.job_plan.specs.Plans.{AbstractEnd, AbstractSegment, outcome_of};
 
-use crate::answer::Answer;
 use crate::array_part::ArrayPart;
-use crate::folding::{folded, folded_flagged};
+use crate::ends::SegmentEnd;
+use crate::fold_part::FoldPart;
 use crate::fronts::{front, undecided};
 use crate::given::GivenWalk;
 use crate::merging::{merge_arrays, merge_prefixes, merge_slices};
 use crate::outcome::{Outcome, answer_of, exact_answer};
 use crate::prefix_part::PrefixPart;
-use crate::segment::{Fold, SegmentEnd};
 use find_ops::{FindPart, FindTerminal};
 use lambda_expr::Env;
-use reduce_ops::{Partial, SumPart};
+use reduce_ops::SumPart;
 use slice_ops::SlicePart;
 use std::alloc::Global;
 use trace::{Chunk, End, Item, NoMemory, SourceItems};
-
-/// The fold of a piece.
-#[derive(Clone, Copy)]
-pub struct FoldPart {
-    pub(crate) partial: Partial,
-    pub(crate) start: Option<i64>,
-    pub(crate) counts: bool,
-}
 
 /// What a piece of a segment's source gives to the end of the segment.
 ///
@@ -49,94 +37,6 @@ pub enum Part<'p> {
     Array(ArrayPart),
     Prefix(PrefixPart<'p>),
     Exact(SumPart),
-}
-
-impl FoldPart {
-    /// The fold of no item.
-    fn none(fold: Fold) -> FoldPart
-        ensures { IsFold fold.op fold.start fold.counts result nothing }
-    {
-        FoldPart {
-            partial: Partial::none(fold.op, End::Done),
-            start: fold.start,
-            counts: fold.counts,
-        }
-    }
-
-    /// Folds one more item in, or a 1 for it.
-    fn push(&mut self, item: Item)
-        requires { self.old.partial.end ≡ end.Done }
-        ensures { (f : Op) (a : Option ℤ) (counts : Bool) (t : Trace) → IsFold f a counts self.old t
-            → IsFold f a counts self.new (append t (trace (item ∷ []) end.Done)) }
-    {
-        self.partial.push(counted(self.counts, item));
-    }
-
-    /// Folds the values of several items in, or a 1 for each.
-    fn push_all(&mut self, values: &[i64])
-        ensures fold { (f : Op) (a : Option ℤ) (counts : Bool) (t : Trace) (xs : List item) → map (λ x. x.value) xs ≡ values.now
-            → IsFold f a counts self.old t → IsFold f a counts self.new (append t (trace xs end.Done)) }
-        ensures ending { self.new.partial.end ≡ self.old.partial.end }
-    {
-        let right = folded(self.partial.op(), self.counts, values);
-        self.partial = self.partial.merge(right);
-    }
-
-    /// Folds the values whose flag isn't 0 in, or a 1 for each, and answers whether it does: not by an operator that has
-    /// no identity.
-    fn push_flagged(&mut self, values: &[i64], flags: &[i64]) -> bool
-        requires { length flags.now ≤ length values.now }
-        ensures taken { result ≡ true → (f : Op) (a : Option ℤ) (counts : Bool) (t : Trace) (xs : List item)
-            → map (λ x. x.value) xs ≡ flagged_values values.now flags.now (length flags.now)
-            → IsFold f a counts self.old t → IsFold f a counts self.new (append t (trace xs end.Done)) }
-        ensures ending { self.new.partial.end ≡ self.old.partial.end }
-        ensures other { result ≡ false → self.new ≡ self.old }
-    {
-        match folded_flagged(self.partial.op(), self.counts, values, flags) {
-            Some(right) => {
-                self.partial = self.partial.merge(right);
-                true
-            }
-            None => false,
-        }
-    }
-
-    /// Ends the piece so, unless a fault has ended it.
-    fn end_with(&mut self, end: End)
-        ensures { (f : Op) (a : Option ℤ) (counts : Bool) (t : Trace) → IsFold f a counts self.old t
-            → IsFold f a counts self.new (append t (trace [] end)) }
-    {
-        self.partial.end_with(end);
-    }
-
-    /// The fold of two pieces side by side.
-    fn merge(self, right: FoldPart) -> FoldPart
-        ensures { (f : Op) (a : Option ℤ) (counts : Bool) (t u : Trace) → IsFold f a counts self t → IsFold f a counts right u
-            → IsFold f a counts result (append t u) }
-    {
-        FoldPart {
-            partial: self.partial.merge(right.partial),
-            start: self.start,
-            counts: self.counts,
-        }
-    }
-
-    /// The answer of the fold.
-    fn finish(self) -> Answer
-        ensures { (f : Op) (a : Option ℤ) (counts : Bool) (t : Trace) → IsFold f a counts self t
-            → result ≡ unless_fault t.ending (folded f a (counted_as counts t.items)) }
-    {
-        match self.start {
-            Some(start) => match self.partial.finish_from(start) {
-                Ok(number) => Answer::Number(number),
-                Err(fault) => Answer::Fault(fault),
-            },
-            None => match self.partial.finish() {
-                Ok(value) => Answer::Optional(value),
-                Err(fault) => Answer::Fault(fault),
-            },
-        }
-    }
 }
 
 impl<'p> Part<'p> {
@@ -356,8 +256,8 @@ impl<'p> Part<'p> {
         }
     }
 
-    /// What the segment gives. `None` if the source has to be walked once more, in order. Only the values of an array in several
-    /// pieces take memory, 8 bytes each.
+    /// What the segment gives. `None` if the source has to be walked once more, in order. An array takes no memory: its pieces are
+    /// moved into the answer.
     pub fn finish(self, alloc: Global, env: &Env) -> Result<Option<Outcome<'p>>, NoMemory>
         ensures some { IfOk result (λ found. IfSome found (λ outcome. (s : AbstractSegment) (t : Trace) → StandsFor s env.now self.entry t
             → outcome ≡ outcome_of s env.now t)) }
@@ -368,7 +268,7 @@ impl<'p> Part<'p> {
             Part::Slice(part) => Ok(Some(Outcome::Source(GivenWalk::of(alloc, part.finish(env))))),
             Part::Fold(part) => Ok(Some(Outcome::Answer(part.finish()))),
             Part::Find(part) => Ok(Some(Outcome::Answer(answer_of(part.finish())))),
-            Part::Array(part) => Ok(Some(Outcome::Answer(part.finish(alloc)?))),
+            Part::Array(part) => Ok(Some(Outcome::Answer(part.finish()))),
             Part::Prefix(part) => Ok(Some(Outcome::Source(part.finish(alloc)?))),
             Part::Exact(part) => match part.finish() {
                 Some(sum) => Ok(Some(Outcome::Answer(exact_answer(sum)))),
@@ -376,19 +276,6 @@ impl<'p> Part<'p> {
             },
         }
     }
-}
-
-/// The item, or a 1 in its place.
-fn counted(counts: bool, item: Item) -> Item
-    ensures { result ∷ [] ≡ counted_as counts (item ∷ []) }
-{
-    if counts {
-        return Item {
-            origin: item.origin,
-            value: 1,
-        };
-    }
-    item
 }
 
 /// Whether a walk ended in a fault.

@@ -4,14 +4,15 @@ ghost use Rattle.std.specs.Prelude.{◌≡◌, ◌≤◌, ◌+◌, List, [], ◌
 ghost use Rattle.trace.specs.Stages.{stages_of};
 ghost use Rattle.job_language.specs.Jobs.{AbstractJobStage, AbstractTerminal, job_of, jobs_of, job_stage_of, job_stages_of, terminal_of};
 ghost use Rattle.job_plan.specs.Parts.{end_in, plan_in, plan_names, plans_in, segment_in, segments_in};
-ghost use Rattle.job_plan.specs.Plans.{end_of, plan_of, plans_of, segments_from};
+ghost use Rattle.job_plan.specs.Plans.{plan_of, plans_of, segments_from};
 
+use crate::ends::{Prefix, SegmentEnd};
 use crate::fallback::fallback_of;
+use crate::lent_arrays::lent_arrays;
 use crate::likely::likely_size;
 use crate::names::named_in;
-use crate::segment::{Fold, JobPlan, Plan, Prefix, Segment, SegmentEnd};
+use crate::segment::{JobPlan, Plan, Segment};
 use job_language::{Job, JobStage, Terminal};
-use reduce_ops::Op;
 use std::alloc::Global;
 use std::mem;
 use trace::{NoMemory, Stage};
@@ -27,7 +28,8 @@ impl<'c> Plan<'c> {
             let plan = JobPlan::of(alloc, job, &plans)?;
             plans.push(plan)?;
         }
-        Ok(Plan { jobs: plans })
+        let lent = lent_arrays(alloc, &plans)?;
+        Ok(Plan { jobs: plans, lent })
     }
 }
 
@@ -56,32 +58,6 @@ impl<'c> JobPlan<'c> {
             fallback,
         })
     }
-}
-
-impl SegmentEnd {
-    /// A terminal as the end of a segment.
-    fn of(terminal: Terminal) -> SegmentEnd
-        ensures { end_in result ≡ end_of (terminal_of terminal) }
-    {
-        match terminal {
-            Terminal::Sum => folding(Op::Sum, Some(0), false),
-            Terminal::Count => folding(Op::Sum, Some(0), true),
-            Terminal::Min => folding(Op::Min, None, false),
-            Terminal::Max => folding(Op::Max, None, false),
-            Terminal::Reduce(op) => folding(op, None, false),
-            Terminal::ReduceFrom { identity, op } => folding(op, Some(identity), false),
-            Terminal::ToArray => SegmentEnd::Array,
-            Terminal::Find(find) => SegmentEnd::Find(find),
-            Terminal::ExactSum => SegmentEnd::ExactSum,
-        }
-    }
-}
-
-/// A fold as the end of a segment.
-fn folding(op: Op, start: Option<i64>, counts: bool) -> SegmentEnd
-    ensures { result ≡ SegmentEnd.Fold (record { op = op; start = start; counts = counts }) }
-{
-    SegmentEnd::Fold(Fold { op, start, counts })
 }
 
 /// Segments that are cut, and the stages after the last of them.

@@ -13,12 +13,12 @@ ghost use Rattle.job_plan.specs.Maps.{imaged};
 ghost use Rattle.job_plan.specs.Scans.{IsFolded, all_items, items_of, scan, scan_append};
 
 use crate::cheap_maps::Maps;
+use crate::ends::Prefix;
 use crate::folded_piece::{FoldedPiece, MOST_ITEMS};
 use crate::folding::folded;
 use crate::given::GivenWalk;
 use crate::pieces::{ItemPiece, RangePiece};
 use crate::scanned::ScannedWalk;
-use crate::segment::Prefix;
 use batch_eval::Registers;
 use lambda_expr::FaultKind;
 use reduce_ops::{Op, Partial};

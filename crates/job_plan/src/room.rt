@@ -2,8 +2,7 @@
 
 ghost use Rattle.std.specs.Prelude.{◌≡◌};
 ghost use Rattle.trace.specs.Trace.{nothing};
-ghost use Rattle.job_plan.specs.Keeping.{end_keeps_items};
-ghost use Rattle.job_plan.specs.Parts.{StandsFor, end_in, keeps_items, segment_in};
+ghost use Rattle.job_plan.specs.Parts.{StandsFor, end_in, end_keeps_items, keeps_items, segment_in};
 
 use crate::leaves::unwalked;
 use crate::moves::all_keep;

@@ -5,8 +5,8 @@ ghost use Rattle.reduce_ops.specs.Operators.{value_of};
 ghost use Rattle.prefix_scan.specs.Scans.{fold_at};
 ghost use Rattle.job_plan.specs.Scans.{IsFolded, IsMarked, all_items, marks_of, scanned_walk};
 
+use crate::ends::Prefix;
 use crate::folded_piece::{FoldedPiece, Mark};
-use crate::segment::Prefix;
 use batch_eval::Registers;
 use std::alloc::Global;
 use std::marker::Model;

@@ -12,13 +12,14 @@ ghost use Rattle.job_plan.specs.Pieces.{elements};
 ghost use Rattle.job_plan.specs.Plans.{walk_of};
 ghost use Rattle.job_plan.specs.Scans.{IsFolded, all_items, items_of, marks_of, mark};
 
+use crate::ends::Prefix;
 use crate::folded_piece::{FoldedPiece, Mark};
 use crate::folded_walk::feed_piece;
 use crate::given::GivenWalk;
 use crate::item_pieces::{feed_items, feed_pieces, is_over};
 use crate::kept::Kept;
 use crate::scanned::ScannedWalk;
-use crate::segment::{Prefix, Segment};
+use crate::segment::Segment;
 use crate::spans::end_after;
 use batch_eval::{BatchSink, Registers};
 use lambda_expr::Env;

@@ -2,48 +2,11 @@
 
 ghost use Rattle.std.specs.Prelude.{◌+◌, ◌<◌, ◌^◌, length};
 
+use crate::ends::SegmentEnd;
 use crate::fallback::Fallback;
-use find_ops::FindTerminal;
 use job_language::PlainSource;
-use reduce_ops::Op;
-use slice_ops::Slice;
 use stream_tokens::Bytes;
 use trace::Stage;
-
-/// A fold of the values of a walk.
-#[derive(Clone, Copy)]
-pub struct Fold {
-    pub op: Op,
-    /// What is folded before the first value: the answer is then a number, else an optional.
-    pub start: Option<i64>,
-    /// Whether a 1 stands for each value.
-    pub counts: bool,
-}
-
-/// A prefix of the values of a walk: each becomes the fold of the values up to and with it.
-#[derive(Clone, Copy)]
-pub struct Prefix {
-    pub op: Op,
-    /// The positions of the walk, from the first up to, not with, the second, at which it does so; without them, all.
-    pub range: Option<(u64, u64)>,
-}
-
-/// What ends a segment.
-#[derive(Drop)]
-pub enum SegmentEnd {
-    /// A stage that looks at a whole walk.
-    Slice(Slice),
-    /// `sum`, `count`, `min`, `max`, `reduce`.
-    Fold(Fold),
-    /// `findFirst` and the three matches.
-    Find(FindTerminal),
-    /// `toArray`.
-    Array,
-    /// `prefix`.
-    Prefix(Prefix),
-    /// `reduce(0, Math::addExact)`.
-    ExactSum,
-}
 
 /// Stages that look at one item at a time, and what ends them.
 #[derive(Drop)]
@@ -90,4 +53,6 @@ pub struct JobPlan<'c> {
 #[derive(Drop)]
 pub struct Plan<'c> {
     pub jobs: Vec<JobPlan<'c>>,
+    /// Whether a later job goes over the array of the job at a place. It is empty if none goes over any. No answer rests on it.
+    pub lent: Vec<bool>,
 }

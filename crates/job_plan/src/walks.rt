@@ -17,7 +17,7 @@ use lambda_expr::Env;
 use std::alloc::Global;
 use trace::NoMemory;
 
-/// A tree that cuts a list of items in pieces, its leaves.
+/// A tree that cuts a list of items in pieces, its leaves. For other programs, as `walk_tree`.
 #[derive(Drop)]
 pub enum SplitTree {
     /// The items in one piece.
@@ -29,6 +29,8 @@ pub enum SplitTree {
 /// The answer of a job. The tree is laid over the source of each segment that is walked.
 ///
 /// A piece after one that settles the answer isn't walked.
+///
+/// For other programs: the workers of `job_table` walk the pieces of `streamrun`.
 pub fn walk_tree(
     alloc: Global,
     job: &JobPlan,
@@ -49,7 +51,7 @@ pub fn walk_tree(
     Ok(job.without_fault(given))
 }
 
-/// The answer of a job, each segment in one piece.
+/// The answer of a job, each segment in one piece. For other programs, as `walk_tree`.
 pub fn walk(alloc: Global, job: &JobPlan, env: &Env) -> Result<Answer, NoMemory>
     ensures { IfOk result (λ answer. answer ≡ planned_answer env.now (plan_in job.now)) }
 {

@@ -12,7 +12,8 @@ ghost use Rattle.job_plan.specs.Spans.{earlier, moved};
 ghost use Rattle.job_plan.specs.Walks.{source_walk};
 ghost use Rattle.job_plan.specs.Windows.{end_selected, end_selects, later_segments, selected_walk, selects, slice_selected, slice_selects, windowed};
 
-use crate::segment::{JobPlan, Segment, SegmentEnd};
+use crate::ends::SegmentEnd;
+use crate::segment::{JobPlan, Segment};
 use crate::spans::{earlier, moved};
 use slice_ops::Slice;
 
@@ -60,13 +61,9 @@ impl Window {
         ensures { (ss : List AbstractPlainSource) → end_selected (end_in end.now) (windowed self.from self.to (source_walk ss))
             ≡ windowed result.from result.to (source_walk ss) }
     {
-        match end {
-            SegmentEnd::Slice(slice) => self.sliced(slice),
-            SegmentEnd::Fold(_)
-            | SegmentEnd::Find(_)
-            | SegmentEnd::Array
-            | SegmentEnd::Prefix(_)
-            | SegmentEnd::ExactSum => self,
+        match end.slice() {
+            Some(slice) => self.sliced(slice),
+            None => self,
         }
     }
 }
@@ -84,15 +81,19 @@ pub(crate) fn selects(segment: &Segment) -> bool
 fn end_selects(end: &SegmentEnd) -> bool
     ensures { result ≡ end_selects (end_in end.now) }
 {
-    match end {
-        SegmentEnd::Slice(Slice::Skip(_)) => true,
-        SegmentEnd::Slice(Slice::Limit(count)) => *count > 0,
-        SegmentEnd::Slice(Slice::TakeWhile(_) | Slice::DropWhile(_))
-        | SegmentEnd::Fold(_)
-        | SegmentEnd::Find(_)
-        | SegmentEnd::Array
-        | SegmentEnd::ExactSum
-        | SegmentEnd::Prefix(_) => false,
+    match end.slice() {
+        Some(slice) => slice_selects(slice),
+        None => false,
+    }
+}
+
+fn slice_selects(slice: &Slice) -> bool
+    ensures { result ≡ slice_selects (slice_of slice.now) }
+{
+    match slice {
+        Slice::Skip(_) => true,
+        Slice::Limit(count) => *count > 0,
+        Slice::TakeWhile(_) | Slice::DropWhile(_) => false,
     }
 }
 

@@ -9,7 +9,7 @@ use Rattle.job_plan.specs.declared.outcome.Outcome.TheVariants as outcome
 use Rattle.job_plan.specs.declared.segment.JobPlan.{JobPlan}
 use Rattle.job_plan.specs.declared.segment.Segment.{Segment}
 use Rattle.job_plan.specs.Parts.{plan_in, plans_in, segment_in, segments_in}
-use Rattle.job_plan.specs.Plans.{AbstractEnd, slicing, folding, finding, collecting, exactly, scanning, AbstractSegment, ended, last_stage, walk_of, on_outcome, outcome_of, segments_answer}
+use Rattle.job_plan.specs.Plans.{AbstractEnd, slicing, exactly, scanning, AbstractSegment, ended, last_stage, walk_of, on_outcome, outcome_of, segments_answer}
 use Rattle.job_table.specs.PlanSegments.{given_walk, one_more, plan_at, slices_first, source_at}
 
 -- the answer that a segment gives; of one that gives a walk, and of none, it is 0
@@ -29,13 +29,10 @@ module _ (env : Numbers) where
   ends_there (slicing d) f same n w s ss t is later =
       let o = is ∙ ap (λ e. ended e n env w) same in
       later (given_walk (ended (slicing d) n env w)) ∙ ap (λ (x : Outcome). answer_at (slice_get ss (slices_first ss)) (source_at env (slices_first ss) ss (given_walk x))) (sym o)
-  ends_there (folding g a counts) f same n w s ss t is later = sym (ap given_answer (is ∙ ap (λ e. ended e n env w) same))
-  ends_there (finding d) f same n w s ss t is later = sym (ap given_answer (is ∙ ap (λ e. ended e n env w) same))
-  ends_there collecting f same n w s ss t is later = sym (ap given_answer (is ∙ ap (λ e. ended e n env w) same))
-  ends_there exactly f same n w s ss t is later = sym (ap given_answer (is ∙ ap (λ e. ended e n env w) same))
   ends_there (scanning g r) f same n w s ss t is later =
       let o = is ∙ ap (λ e. ended e n env w) same in
       later (given_walk (ended (scanning g r) n env w)) ∙ ap (λ (x : Outcome). answer_at (slice_get ss (slices_first ss)) (source_at env (slices_first ss) ss (given_walk x))) (sym o)
+  ends_there e f same n w s ss t is later = sym (ap given_answer (is ∙ ap (λ d. ended d n env w) same))
 
   -- the answer of segments is that of the first which doesn't end in a slice
   pub answer_there : (ss : List AbstractSegment) (t : Trace) → segments_answer ss env t ≡ answer_at (slice_get ss (slices_first ss)) (source_at env (slices_first ss) ss t)
@@ -52,11 +49,8 @@ module _ (env : Numbers) where
 -- before the answer there is a segment
 more_than : (e : AbstractEnd) (k n : ℕ) → suc k < one_more e n → k < n
 more_than (slicing d) k n h = omega arith
-more_than (folding f a counts) k n h = absurd (omega arith)
-more_than (finding d) k n h = absurd (omega arith)
-more_than collecting k n h = absurd (omega arith)
-more_than exactly k n h = absurd (omega arith)
 more_than (scanning g r) k n h = omega arith
+more_than e k n h = absurd (omega arith)
 
 pub stands_there : (ss : List AbstractSegment) (k : ℕ) → k < slices_first ss → slice_get ss k ≡ None → ⊥
 stands_there [] k h e = omega arith

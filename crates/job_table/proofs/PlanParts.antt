@@ -12,8 +12,7 @@ use Rattle.early_stop.proofs.Leaving.{enough_as, enough_gives, enough_joined, en
 use Rattle.job_plan.specs.Parts.{StandsEnough, StandsFor, is_running, is_settled, may_search}
 use Rattle.job_plan.proofs.Elements.{length_dropped}
 use Rattle.job_plan.proofs.EnoughLemmas.{whole_enough}
-use Rattle.job_plan.proofs.ExactLemmas.{other_ends}
-use Rattle.job_plan.proofs.SettleLemmas.{settled_decides}
+use Rattle.job_plan.proofs.PartLemmas.{other_ends, settled_decides}
 use Rattle.job_plan.specs.Pieces.{piece_of}
 use Rattle.job_plan.specs.Plans.{AbstractSegment, AbstractPlan, last_stage, outcome_of, walk_of, planned_answer, segments_answer}
 use Rattle.job_plan.specs.Walks.{instead_of_fault}

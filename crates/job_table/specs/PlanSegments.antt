@@ -11,7 +11,7 @@ use Rattle.early_stop.specs.Decisive.{Decides}
 use Rattle.job_plan.specs.Parts.{StandsEnough}
 use Rattle.job_plan.specs.Pieces.{piece_of}
 use Rattle.job_plan.specs.PlannedAnswers.{numbers_at, planned_meaning, put_into}
-use Rattle.job_plan.specs.Plans.{AbstractEnd, slicing, folding, finding, collecting, exactly, scanning, AbstractSegment, AbstractPlan, outcome_of}
+use Rattle.job_plan.specs.Plans.{AbstractEnd, AbstractSegment, AbstractPlan, gives_walk, outcome_of, slice_in}
 use Rattle.slice_ops.specs.Slices.{AbstractSlice, limit, skip, take_while, drop_while}
 use Rattle.job_plan.specs.Links.{plan_streams, walked_segments, walked_source}
 
@@ -44,12 +44,7 @@ chain_at plans job = chain_of (numbers_at (answers_before plans job) (plan_at pl
 
 -- one more, if it ends in a stage that looks at a whole walk
 abbrev pub one_more : AbstractEnd → ℕ → ℕ
-one_more (slicing d) n = suc n
-one_more (folding f a counts) n = 0
-one_more (finding d) n = 0
-one_more collecting n = 0
-one_more exactly n = 0
-one_more (scanning f r) n = suc n
+one_more e n = if gives_walk e then suc n else 0
 
 -- how many of the first segments end in such a stage: the number of the segment that gives the answer
 abbrev pub slices_first : List AbstractSegment → ℕ
@@ -110,13 +105,13 @@ slice_divides (skip n) = true
 slice_divides (take_while p) = false
 slice_divides (drop_while p) = true
 
+-- helper: the same of a slice, if there is one
+abbrev pub some_divides : Option AbstractSlice → Bool
+some_divides None = true
+some_divides (Some d) = slice_divides d
+
 abbrev pub end_divides : AbstractEnd → Bool
-end_divides (slicing d) = slice_divides d
-end_divides (folding f a counts) = true
-end_divides (finding d) = true
-end_divides collecting = true
-end_divides exactly = true
-end_divides (scanning f r) = true
+end_divides e = some_divides (slice_in e)
 
 abbrev pub segment_divides : Option AbstractSegment → Bool
 segment_divides None = false

@@ -1,7 +1,8 @@
 //! The answers of earlier jobs that the jobs of a plan take.
 ghost use Rattle.std.specs.Prelude.{◌≡◌, ◌<◌, ◌++◌, ℕ, true, length, map, slice_get, Some, None, IfOk, if◌then◌else◌};
 ghost use Rattle.std.specs.Option.{option_map};
-ghost use Rattle.job_language.specs.Jobs.{source_of, sources_of};
+ghost use Rattle.job_language.specs.Jobs.{source_of, sources_of, values};
+ghost use Rattle.job_plan.specs.Walks.{array_of};
 ghost use Rattle.job_plan.specs.Parts.{plan_in, plans_in};
 ghost use Rattle.job_plan.specs.PlannedAnswers.{all_put_at, array_at, first_unusable_at, number_there, numbers_at, place_in, put_at, unusable_there};
 ghost use Rattle.job_plan.specs.declared.answer.Answer.{Answer as answers};
@@ -57,6 +58,20 @@ fn push_number(
     let copy = Vec::from_slice(alloc, name.as_slice())?;
     numbers.push(Bytes::from(copy), number)?;
     Ok(())
+}
+
+/// The array of an answer, as a source: borrowed if it lies in one piece, as each one does that a run has made for later jobs,
+/// and else copied.
+fn array_source(alloc: Global, answer: &Answer) -> Result<PlainSource<'_>, NoMemory>
+    ensures { IfOk result (λ source. source_of source ≡ values (array_of answer.now)) }
+{
+    let Some(array) = answer.array() else {
+        return Ok(PlainSource::Column(&[]));
+    };
+    match array.as_slice() {
+        Some(slice) => Ok(PlainSource::Column(slice)),
+        None => Ok(PlainSource::Values(array.to_vec(alloc)?)),
+    }
 }
 
 impl<'a, 'c, P: Planned> PlanJobs<'a, 'c, P> {
@@ -128,30 +143,32 @@ impl<'a, 'c, P: Planned> PlanJobs<'a, 'c, P> {
         Ok(Begun::Walk(numbers))
     }
 
-    /// The array of the job with this name, borrowed from its answer.
+    /// The array of the job with this name, as a source.
     fn array<'e, E: EarlierAnswers<Answer>>(
         &self,
+        alloc: Global,
         job: usize,
         plan: &JobPlan<'c>,
         name: &[u8],
         earlier: &'e E,
-    ) -> Result<&'e [i64], NoMemory>
+    ) -> Result<PlainSource<'e>, NoMemory>
         requires job { job < length P.jobs }
         requires earlier { (j : ℕ) (a : answers) → E.is_answer j a → a ≡ answer_of (plans_in P.jobs) j }
-        ensures { IfOk result (λ array. array.now ≡ array_at (answers_before (plans_in P.jobs) job) (place_in plan.now.named.items name.now)) }
+        ensures { IfOk result (λ array. source_of array ≡ values (array_at (answers_before (plans_in P.jobs) job) (place_in plan.now.named.items name.now))) }
     {
         let Some(named) = plan.job_named(name) else {
-            return Ok(&[]);
+            return Ok(PlainSource::Column(&[]));
         };
         match self.named_answer(job, named, earlier)? {
-            Some(answer) => Ok(answer.array()),
-            None => Ok(&[]),
+            Some(answer) => array_source(alloc, answer),
+            None => Ok(PlainSource::Column(&[])),
         }
     }
 
     /// A source, with the array in place of `result(NAME)`. Values are borrowed.
     fn put_source<'x, E: EarlierAnswers<Answer>>(
         &self,
+        alloc: Global,
         job: usize,
         plan: &JobPlan<'c>,
         source: &'x PlainSource<'c>,
@@ -172,14 +189,11 @@ impl<'a, 'c, P: Planned> PlanJobs<'a, 'c, P> {
             }),
             PlainSource::Values(values) => Ok(PlainSource::Column(values)),
             PlainSource::Column(cells) => Ok(PlainSource::Column(cells)),
-            PlainSource::Result(name) => {
-                let array = self.array(job, plan, name.as_slice(), earlier)?;
-                Ok(PlainSource::Column(array))
-            }
+            PlainSource::Result(name) => self.array(alloc, job, plan, name.as_slice(), earlier),
         }
     }
 
-    /// The sources of a job, with the array in place of each `result(NAME)`. No value is copied.
+    /// The sources of a job, with the array in place of each `result(NAME)`.
     pub(crate) fn put_sources<'x, E: EarlierAnswers<Answer>>(
         &self,
         alloc: Global,
@@ -193,7 +207,7 @@ impl<'a, 'c, P: Planned> PlanJobs<'a, 'c, P> {
     {
         let mut sources = Vec::new(alloc);
         for source in &plan.sources {
-            let put = self.put_source(job, plan, source, earlier)?;
+            let put = self.put_source(alloc, job, plan, source, earlier)?;
             sources.push(put)?;
         }
         Ok(sources)

@@ -29,9 +29,10 @@ pub(crate) fn slices_first(segments: &[Segment]) -> usize
     let Some((segment, later)) = segments.split_first() else {
         return 0;
     };
-    match segment.end {
-        SegmentEnd::Slice(_) | SegmentEnd::Prefix(_) => slices_first(later) + 1,
-        SegmentEnd::Fold(_) | SegmentEnd::Find(_) | SegmentEnd::Array | SegmentEnd::ExactSum => 0,
+    if segment.end.gives_walk() {
+        slices_first(later) + 1
+    } else {
+        0
     }
 }
 
@@ -40,14 +41,9 @@ pub(crate) fn slices_first(segments: &[Segment]) -> usize
 fn end_divides(end: &SegmentEnd) -> bool
     ensures { result ≡ end_divides (end_in end.now) }
 {
-    match end {
-        SegmentEnd::Slice(Slice::Limit(_) | Slice::TakeWhile(_)) => false,
-        SegmentEnd::Slice(Slice::Skip(_) | Slice::DropWhile(_))
-        | SegmentEnd::Fold(_)
-        | SegmentEnd::Find(_)
-        | SegmentEnd::Array
-        | SegmentEnd::ExactSum
-        | SegmentEnd::Prefix(_) => true,
+    match end.slice() {
+        Some(Slice::Limit(_) | Slice::TakeWhile(_)) => false,
+        Some(Slice::Skip(_) | Slice::DropWhile(_)) | None => true,
     }
 }
 

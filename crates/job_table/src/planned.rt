@@ -75,6 +75,17 @@ impl<'a, 'c, P: Planned> PlanJobs<'a, 'c, P> {
         self.job(job)
     }
 
+    /// The answer of a job as it is kept: in one piece, if a later job goes over its array, so that each of that one's leaves reads it
+    /// in place.
+    fn for_later_jobs(&self, alloc: Global, job: usize, answer: Answer) -> Result<Answer, NoMemory>
+        ensures { IfOk result (λ kept. kept ≡ answer) }
+    {
+        if self.plan.lends(job) {
+            return answer.in_one_piece(alloc);
+        }
+        Ok(answer)
+    }
+
     /// The part of the last segment of a job, whose source is walked in order.
     fn in_order<E: EarlierAnswers<Answer>>(
         &self,
@@ -321,7 +332,7 @@ impl<'a, 'c, P: Planned> JobSegments for PlanJobs<'a, 'c, P> {
     ) -> Result<Answer, NoMemory> {
         let plan = self.job(job);
         if let Some(answer) = job_answer(alloc, plan, part, &given.numbers)? {
-            return Ok(answer);
+            return self.for_later_jobs(alloc, job, answer);
         }
         let again = self.in_order(alloc, job, source, given, earlier, registers)?;
         match job_answer(alloc, plan, again, &given.numbers)? {

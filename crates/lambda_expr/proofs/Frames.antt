@@ -8,7 +8,8 @@ use Rattle.lambda_expr.specs.declared.step.Opening.{Opening}
 use Rattle.lambda_expr.specs.declared.step.Opening.TheVariants.{Paren, Call}
 use Rattle.lambda_expr.specs.declared.lexeme.Lexeme.{Lexeme}
 use Rattle.lambda_expr.specs.declared.lexeme.Lexeme.TheVariants as word
-use Rattle.lambda_expr.specs.Grammar.{Shape, name, number, truth, reference, constant, prefix, binary, ternary, enclosed, level, is_infix, is_prefix, opening, inside, spells, Binds}
+use Rattle.lambda_expr.specs.Grammar.{Shape, name, number, truth, reference, constant, prefix, binary, ternary, enclosed, opening, inside, spells, Binds}
+use Rattle.lambda_expr.specs.Signs.{level, is_infix, is_prefix}
 use Rattle.lambda_expr.specs.Reader.{Frame, opened, signed, left, question, colon, Top, joined, in_call, takes}
 
 -- the words so far

@@ -8,7 +8,7 @@ use Rattle.lambda_expr.specs.declared.head.Mark.{Mark}
 use Rattle.lambda_expr.specs.declared.head.Mark.TheVariants as mark
 use Rattle.lambda_expr.specs.declared.lexeme.Lexeme.{Lexeme}
 use Rattle.lambda_expr.specs.declared.lexeme.Lexeme.TheVariants as word
-use Rattle.lambda_expr.specs.declared.lexeme.Member.TheVariants.{Other}
+use Rattle.lambda_expr.specs.declared.table.Member.TheVariants.{Other}
 use Rattle.lambda_expr.specs.declared.lexeme.Name.TheVariants.{Plain, LowerLong}
 use Rattle.lambda_expr.specs.declared.sign.Sign.TheVariants.{Comma}
 use Rattle.lambda_expr.specs.HeadReading.{IsMatched, AreTried, further}

@@ -12,7 +12,8 @@ use Rattle.lambda_expr.specs.declared.lexeme.Owner.{Owner as Class}
 use Rattle.lambda_expr.specs.declared.lexeme.Lexeme.{Lexeme}
 use Rattle.lambda_expr.specs.declared.lexeme.Lexeme.TheVariants as word
 use Rattle.lambda_expr.specs.declared.lexeme.Name.{Name}
-use Rattle.lambda_expr.specs.Grammar.{Shape, number, enclosed, level, postfix}
+use Rattle.lambda_expr.specs.Grammar.{Shape, number, enclosed, postfix}
+use Rattle.lambda_expr.specs.Signs.{level}
 use Rattle.lambda_expr.specs.Reader.{Frame, Top, State, has, joins, joined, shuts, called, alone}
 use Rattle.lambda_expr.specs.Codes.{reduced, shape_on, rest, apply, run, frames_of, coded, code_of, state_on, state_of, top_of, IsAt, IsCoded}
 

@@ -5,7 +5,8 @@ use Rattle.lambda_expr.specs.declared.step.Opening.{Opening}
 use Rattle.lambda_expr.specs.declared.step.Opening.TheVariants.{Paren, Call}
 use Rattle.lambda_expr.specs.declared.lexeme.Lexeme.{Lexeme}
 use Rattle.lambda_expr.specs.declared.lexeme.Lexeme.TheVariants as word
-use Rattle.lambda_expr.specs.Grammar.{Shape, name, number, truth, reference, constant, prefix, binary, ternary, enclosed, level, opening, inside, spells, Binds, IsExpression, Expression}
+use Rattle.lambda_expr.specs.Grammar.{Shape, name, number, truth, reference, constant, prefix, binary, ternary, enclosed, opening, inside, spells, Binds, IsExpression, Expression}
+use Rattle.lambda_expr.specs.Signs.{level}
 use Rattle.lambda_expr.specs.Stops.{Begins}
 use Rattle.lambda_expr.specs.Reader.{Frame, opened, signed, left, question, colon, Top, joined, State, wants, has, owns, dots, calls, stuck, when, operates, asks, answers, shuts, follows, read, reads, settled, result_of, result_at, whole}
 use Rattle.lambda_expr.proofs.JoinLemmas.{called_next}

@@ -8,7 +8,8 @@ use Rattle.lambda_expr.specs.declared.lexeme.Lexeme.{Lexeme}
 use Rattle.lambda_expr.specs.declared.lexeme.Lexeme.TheVariants as word
 use Rattle.lambda_expr.specs.declared.lexeme.Name.{Name}
 use Rattle.lambda_expr.specs.declared.lexeme.Name.TheVariants.{Plain, Owner, Truth, LowerLong, LongStream}
-use Rattle.lambda_expr.specs.Grammar.{Shape, number, constant, enclosed, level, is_prefix, opening, spells, Binds, IsExpression, Expression}
+use Rattle.lambda_expr.specs.Grammar.{Shape, number, constant, enclosed, opening, spells, Binds, IsExpression, Expression}
+use Rattle.lambda_expr.specs.Signs.{level, is_prefix}
 use Rattle.lambda_expr.specs.Stops.{Begins, StopsAt}
 use Rattle.lambda_expr.specs.Reader.{Frame, opened, signed, left, question, colon, joined, takes, State, wants, has, owns, dots, calls, stuck, when, answers_at, shuts_at, follows, called, read, reads, settled, only, result_of, result_at}
 use Rattle.lambda_expr.proofs.Frames.{before, wanted, Ordered, after, filled, spells_filled, binds_filled, wanted_high, binds_lower, level_high, Keeps, join_keeps, join_stops, not_two, taken}

@@ -4,7 +4,7 @@ use Rattle.lambda_expr.specs.declared.lexeme.Lexeme.{Lexeme}
 use Rattle.lambda_expr.specs.declared.lexeme.Lexeme.TheVariants as word
 use Rattle.lambda_expr.specs.declared.lexeme.Name.TheVariants.{Plain, LongStream}
 use Rattle.lambda_expr.specs.declared.lexeme.PlainName.{PlainName}
-use Rattle.lambda_expr.specs.declared.lexeme.Member.TheVariants as member
+use Rattle.lambda_expr.specs.declared.table.Member.TheVariants as member
 use Rattle.lambda_expr.specs.declared.source.Source.{Source}
 use Rattle.lambda_expr.specs.declared.source.Source.TheVariants as source
 use Rattle.lambda_expr.specs.declared.source.Opened.{Opened}
@@ -38,7 +38,7 @@ opened_begins : (s : Source) → Begins (AnOpened s) []
 opened_begins s = let l = some_list s in (word.Open ∷ l.0, (l.1.0, l.1.1))
 
 abbrev empty_name : PlainName
-empty_name = record { number = 0; member = member.Empty }
+empty_name = record { number = 0; member = member.Source source.Empty }
 
 abbrev empty_words : List Lexeme
 empty_words = word.Name (Plain empty_name) ∷ word.Open ∷ word.Close ∷ []

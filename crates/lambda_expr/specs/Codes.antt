@@ -9,7 +9,8 @@ use Rattle.lambda_expr.specs.declared.parse.Held.{Held}
 use Rattle.lambda_expr.specs.declared.parse.Held.TheVariants as held
 use Rattle.lambda_expr.specs.declared.parse.Stop.{Stop}
 use Rattle.lambda_expr.specs.declared.parse.Stop.TheVariants.{At, NoMemory}
-use Rattle.lambda_expr.specs.Grammar.{Shape, name, number, truth, reference, constant, prefix, binary, ternary, enclosed, level, postfix, IsExpression}
+use Rattle.lambda_expr.specs.Grammar.{Shape, name, number, truth, reference, constant, prefix, binary, ternary, enclosed, postfix, IsExpression}
+use Rattle.lambda_expr.specs.Signs.{level}
 use Rattle.lambda_expr.specs.Stops.{StopsAt}
 use Rattle.lambda_expr.specs.Reader.{Frame, opened, signed, left, question, colon, Top, State, wants, has, owns, dots, calls, stuck, settled, result_of}
 

@@ -9,7 +9,8 @@ use Rattle.lambda_expr.specs.Lexemes.{Names}
 use Rattle.lambda_expr.specs.Stacks.{below, top_or}
 use Rattle.lambda_expr.specs.Term as term
 use Rattle.lambda_expr.specs.Term.{long_of, truth_of}
-use Rattle.lambda_expr.specs.Typing.{Typed, long, boolean, longs, untyped, called_with, constant_of, constant_typed, function_of, operated, operation_of, prefixed, selected}
+use Rattle.lambda_expr.specs.Typing.{Typed, long, boolean, longs, untyped, called_with, constant_of, constant_typed, function_of, operated, prefixed, selected}
+use Rattle.lambda_expr.specs.Signs.{operation_of}
 use Rattle.lambda_expr.specs.Wrap.{wrap}
 
 -- what an operand of the program stands for

@@ -1,7 +1,6 @@
 -- Meaning: the grammar of expressions, apart from any reader.
-use Rattle.std.specs.Prelude.{◌≡◌, ℕ, suc, ◌≤◌, Bool, true, false, List, [], ◌∷◌, ◌++◌}
+use Rattle.std.specs.Prelude.{◌≡◌, ℕ, suc, ◌≤◌, Bool, true, List, [], ◌∷◌, ◌++◌}
 use Rattle.lambda_expr.specs.declared.sign.Sign.{Sign}
-use Rattle.lambda_expr.specs.declared.sign.Sign.TheVariants as sign
 use Rattle.lambda_expr.specs.declared.lexeme.Owner.TheVariants.{Long}
 use Rattle.lambda_expr.specs.declared.step.Opening.{Opening}
 use Rattle.lambda_expr.specs.declared.step.Opening.TheVariants.{Paren, Call}
@@ -12,6 +11,7 @@ use Rattle.lambda_expr.specs.declared.lexeme.PlainName.{PlainName}
 use Rattle.lambda_expr.specs.declared.lexeme.Name.TheVariants.{Plain, Owner, Truth}
 use Rattle.lambda_expr.specs.declared.step.Step.{Step}
 use Rattle.lambda_expr.specs.declared.step.Step.TheVariants as step
+use Rattle.lambda_expr.specs.Signs.{is_infix, is_prefix, level}
 
 -- an expression as it is written; operands of a call hang together by commas, and a reference is known by its place
 pub data Shape : Type 0 where
@@ -24,62 +24,6 @@ pub data Shape : Type 0 where
   binary : Sign → Shape → Shape → Shape
   ternary : Shape → Shape → Shape → Shape
   enclosed : Opening → Shape → Shape
-
--- how tightly a sign binds; level 0 is the comma's, level 1 that of `? :`
-abbrev pub level : Sign → ℕ
-level sign.Comma = 0
-level sign.Or = 2
-level sign.And = 3
-level sign.BitOr = 4
-level sign.BitXor = 5
-level sign.BitAnd = 6
-level sign.Equal = 7
-level sign.NotEqual = 7
-level sign.Less = 8
-level sign.LessOrEqual = 8
-level sign.Greater = 8
-level sign.GreaterOrEqual = 8
-level sign.ShiftLeft = 9
-level sign.ShiftRight = 9
-level sign.ShiftRightUnsigned = 9
-level sign.Add = 10
-level sign.Subtract = 10
-level sign.Multiply = 11
-level sign.Divide = 11
-level sign.Remainder = 11
-level sign.Complement = 2
-level sign.Not = 2
-
-abbrev pub is_infix : Sign → Bool
-is_infix sign.Comma = true
-is_infix sign.Or = true
-is_infix sign.And = true
-is_infix sign.BitOr = true
-is_infix sign.BitXor = true
-is_infix sign.BitAnd = true
-is_infix sign.Equal = true
-is_infix sign.NotEqual = true
-is_infix sign.Less = true
-is_infix sign.LessOrEqual = true
-is_infix sign.Greater = true
-is_infix sign.GreaterOrEqual = true
-is_infix sign.ShiftLeft = true
-is_infix sign.ShiftRight = true
-is_infix sign.ShiftRightUnsigned = true
-is_infix sign.Add = true
-is_infix sign.Subtract = true
-is_infix sign.Multiply = true
-is_infix sign.Divide = true
-is_infix sign.Remainder = true
-is_infix sign.Complement = false
-is_infix sign.Not = false
-
-abbrev pub is_prefix : Sign → Bool
-is_prefix sign.Subtract = true
-is_prefix sign.Add = true
-is_prefix sign.Complement = true
-is_prefix sign.Not = true
-is_prefix s = false
 
 -- the words of an opening, and the level of what stands in it: commas stand in calls alone
 abbrev pub opening : Opening → List Lexeme

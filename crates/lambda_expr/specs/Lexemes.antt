@@ -1,90 +1,37 @@
 -- Meaning: what the words of a text are to the grammar of lambdas.
-use Rattle.std.specs.Prelude.{ℕ, suc, ◌-◌, ◌^◌, min, Bool, true, false, ◌||◌, nat_eq, if◌then◌else◌, List, [], ◌∷◌, codes, drop, slice_index_or}
-use Rattle.std.specs.Cmp.Lexicographic.{pointwise}
+use Rattle.std.specs.Prelude.{ℕ, suc, ◌-◌, ◌^◌, min, Bool, true, false, ◌||◌, if◌then◌else◌, List, [], ◌∷◌, codes, drop, slice_index_or, Option, Some, None}
 use Rattle.stream_tokens.specs.declared.symbol.Symbol.{Symbol}
 use Rattle.stream_tokens.specs.declared.symbol.Symbol.TheVariants as symbol
 use Rattle.stream_tokens.specs.declared.token.Token.{Token}
-use Rattle.lambda_expr.specs.declared.sign.Sign.TheVariants as sign_kind
+use Rattle.lambda_expr.specs.declared.sign.Sign.{Sign}
 use Rattle.lambda_expr.specs.declared.lexeme.Lexeme.{Lexeme}
 use Rattle.lambda_expr.specs.declared.lexeme.Lexeme.TheVariants as lexeme
-use Rattle.lambda_expr.specs.declared.lexeme.Member.{Member}
-use Rattle.lambda_expr.specs.declared.lexeme.Member.TheVariants as member
 use Rattle.lambda_expr.specs.declared.lexeme.Name.{Name}
 use Rattle.lambda_expr.specs.declared.lexeme.Name.TheVariants.{Plain, Owner, Truth, LowerLong, LongStream}
 use Rattle.lambda_expr.specs.declared.lexeme.Owner.TheVariants.{Math, Long}
+use Rattle.lambda_expr.specs.Members.{is_named, member_of}
+use Rattle.lambda_expr.specs.Signs.{sign_of}
 use Rattle.lambda_expr.specs.Words.{Word, named, numeral, quoted, referred, sign, bad, words_of}
 use Rattle.lambda_expr.specs.Numerals.{is_numeral, numeral_value}
 
+-- helper: the symbols of lambdas that are no signs
+abbrev pub punctuation : Symbol → Lexeme
+punctuation symbol.Arrow = lexeme.Arrow
+punctuation symbol.Open = lexeme.Open
+punctuation symbol.Close = lexeme.Close
+punctuation symbol.Dot = lexeme.Dot
+punctuation symbol.Question = lexeme.Question
+punctuation symbol.Colon = lexeme.Colon
+punctuation s = lexeme.Other
+
+-- helper
+abbrev sign_or : Lexeme → Option Sign → Lexeme
+sign_or w (Some s) = lexeme.Sign s
+sign_or w None = w
+
 -- the symbols of lambdas
 abbrev pub symbol_lexeme : Symbol → Lexeme
-symbol_lexeme symbol.Arrow = lexeme.Arrow
-symbol_lexeme symbol.Open = lexeme.Open
-symbol_lexeme symbol.Close = lexeme.Close
-symbol_lexeme symbol.Dot = lexeme.Dot
-symbol_lexeme symbol.Question = lexeme.Question
-symbol_lexeme symbol.Colon = lexeme.Colon
-symbol_lexeme symbol.Comma = lexeme.Sign sign_kind.Comma
-symbol_lexeme symbol.OrOr = lexeme.Sign sign_kind.Or
-symbol_lexeme symbol.AndAnd = lexeme.Sign sign_kind.And
-symbol_lexeme symbol.Or = lexeme.Sign sign_kind.BitOr
-symbol_lexeme symbol.Xor = lexeme.Sign sign_kind.BitXor
-symbol_lexeme symbol.And = lexeme.Sign sign_kind.BitAnd
-symbol_lexeme symbol.Equal = lexeme.Sign sign_kind.Equal
-symbol_lexeme symbol.NotEqual = lexeme.Sign sign_kind.NotEqual
-symbol_lexeme symbol.Less = lexeme.Sign sign_kind.Less
-symbol_lexeme symbol.LessOrEqual = lexeme.Sign sign_kind.LessOrEqual
-symbol_lexeme symbol.Greater = lexeme.Sign sign_kind.Greater
-symbol_lexeme symbol.GreaterOrEqual = lexeme.Sign sign_kind.GreaterOrEqual
-symbol_lexeme symbol.ShiftLeft = lexeme.Sign sign_kind.ShiftLeft
-symbol_lexeme symbol.ShiftRight = lexeme.Sign sign_kind.ShiftRight
-symbol_lexeme symbol.ShiftRightUnsigned = lexeme.Sign sign_kind.ShiftRightUnsigned
-symbol_lexeme symbol.Plus = lexeme.Sign sign_kind.Add
-symbol_lexeme symbol.Minus = lexeme.Sign sign_kind.Subtract
-symbol_lexeme symbol.Star = lexeme.Sign sign_kind.Multiply
-symbol_lexeme symbol.Slash = lexeme.Sign sign_kind.Divide
-symbol_lexeme symbol.Percent = lexeme.Sign sign_kind.Remainder
-symbol_lexeme symbol.Tilde = lexeme.Sign sign_kind.Complement
-symbol_lexeme symbol.Bang = lexeme.Sign sign_kind.Not
-symbol_lexeme s = lexeme.Other
-
-abbrev pub is_named : List ℕ → List ℕ → Bool
-is_named w name = pointwise nat_eq w name
-
--- helper: what makes a stream, after `LongStream .`
-abbrev pub stream_member : List ℕ → Member
-stream_member w =
-    if is_named w (codes "empty") then member.Empty
-    else (if is_named w (codes "of") then member.Of
-    else (if is_named w (codes "range") then member.Range
-    else (if is_named w (codes "rangeClosed") then member.RangeClosed
-    else member.Other)))
-
--- helper: an operation that may overflow
-abbrev pub exact_member : List ℕ → Member
-exact_member w =
-    if is_named w (codes "addExact") then member.AddExact
-    else (if is_named w (codes "multiplyExact") then member.MultiplyExact
-    else (if is_named w (codes "negateExact") then member.NegateExact
-    else (if is_named w (codes "subtractExact") then member.SubtractExact
-    else stream_member w)))
-
--- helper: a method or a constant of both `Math` and `Long`, or of `Long` alone
-abbrev pub long_member : List ℕ → Member
-long_member w =
-    if is_named w (codes "max") then member.Max
-    else (if is_named w (codes "MAX_VALUE") then member.MaxValue
-    else (if is_named w (codes "min") then member.Min
-    else (if is_named w (codes "MIN_VALUE") then member.MinValue
-    else (if is_named w (codes "sum") then member.Sum
-    else exact_member w))))
-
--- what a name is after `Math .`, `Long .` or `LongStream .`
-abbrev pub member_of : List ℕ → Member
-member_of w =
-    if is_named w (codes "abs") then member.Abs
-    else (if is_named w (codes "floorDiv") then member.FloorDiv
-    else (if is_named w (codes "floorMod") then member.FloorMod
-    else long_member w))
+symbol_lexeme s = sign_or (punctuation s) (sign_of s)
 
 -- which of the names of a text this one is, if these are the first two: 0, 1, or 2 for any other
 abbrev pub order_of : List ℕ → List ℕ → List ℕ → ℕ

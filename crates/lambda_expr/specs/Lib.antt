@@ -9,6 +9,7 @@ pub mod HeadReading
 pub mod Heads
 pub mod Judging
 pub mod Lexemes
+pub mod Members
 pub mod NumberReading
 pub mod NumberValues
 pub mod Numbers
@@ -18,6 +19,7 @@ pub mod PairForms
 pub mod Reader
 pub mod References
 pub mod Refusals
+pub mod Signs
 pub mod SourceReading
 pub mod Sources
 pub mod Stacks

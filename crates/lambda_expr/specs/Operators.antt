@@ -8,6 +8,8 @@ use Rattle.lambda_expr.specs.declared.operator.UnaryOperator.{UnaryOperator}
 use Rattle.lambda_expr.specs.declared.operator.UnaryOperator.TheVariants as unary_operator
 use Rattle.lambda_expr.specs.declared.operator.BinaryOperator.{BinaryOperator}
 use Rattle.lambda_expr.specs.declared.operator.BinaryOperator.TheVariants as binary_operator
+use Rattle.lambda_expr.specs.declared.operator.Faults.{Faults}
+use Rattle.lambda_expr.specs.declared.operator.Faults.TheVariants as faults
 use Rattle.lambda_expr.specs.declared.operator.Comparison.{Comparison}
 use Rattle.lambda_expr.specs.declared.operator.Comparison.TheVariants as comparison
 use Rattle.lambda_expr.specs.Wrap.{wrap}
@@ -30,14 +32,6 @@ exact z = if is_long z then Ok z else Err Overflow
 abbrev pub divided : ℤ → ℤ → Result ℤ FaultKind
 divided y z = if int_eq y (pos 0) then Err DivideByZero else Ok z
 
--- rounded toward zero (JLS 17, 15.17.2)
-abbrev pub quotient : ℤ → ℤ → Result ℤ FaultKind
-quotient x y = divided y (wrap (int_div x y))
-
--- with the sign of the dividend (JLS 17, 15.17.3)
-abbrev pub remainder : ℤ → ℤ → Result ℤ FaultKind
-remainder x y = divided y (int_rem x y)
-
 -- x over y, rounded down, for y other than 0
 abbrev pub rounded_down : ℤ → ℤ → ℤ
 rounded_down (pos a) (pos b) = pos (a / b)
@@ -54,14 +48,6 @@ is_opposite (pos (suc r)) (negsuc b) = true
 is_opposite (negsuc r) (pos b) = true
 is_opposite (negsuc r) (negsuc b) = false
 
--- Math.floorDiv
-abbrev pub floor_quotient : ℤ → ℤ → Result ℤ FaultKind
-floor_quotient x y = divided y (wrap (rounded_down x y))
-
--- Math.floorMod
-abbrev pub floor_remainder : ℤ → ℤ → Result ℤ FaultKind
-floor_remainder x y = divided y (wrap (x -ℤ rounded_down x y *ℤ y))
-
 -- how far a shift goes: the six lowest bits of the right operand (JLS 17, 15.19)
 abbrev pub low_six_bits : ℤ → ℕ
 low_six_bits y = cast_unsigned w64 y % 64
@@ -77,34 +63,96 @@ shifted_right x y = rounded_down x (pos (2 ^ low_six_bits y))
 abbrev pub shifted_right_unsigned : ℤ → ℤ → ℤ
 shifted_right_unsigned x y = wrap (pos (cast_unsigned w64 x / 2 ^ low_six_bits y))
 
+-- how an operator on one number has its value: always, or if 64 bits hold it, else a fault
+pub data UnaryRule : Type 0 where
+  always_one : (ℤ → ℤ) → UnaryRule
+  exactly_one : (ℤ → ℤ) → UnaryRule
+
+-- and one on two numbers: always; unless the second one is 0, which is a fault; or if 64 bits hold it, else a fault
+pub data BinaryRule : Type 0 where
+  always : (ℤ → ℤ → ℤ) → BinaryRule
+  unless_zero : (ℤ → ℤ → ℤ) → BinaryRule
+  exactly : (ℤ → ℤ → ℤ) → BinaryRule
+
 -- of one operand: JLS 17, 15.15.4 and 15.15.5; Math.abs, Math.negateExact
-abbrev pub unary_value : UnaryOperator → ℤ → Result ℤ FaultKind
-unary_value unary_operator.Negate x = Ok (wrap (neg_ℤ x))
-unary_value unary_operator.Complement x = Ok (neg_ℤ x -ℤ pos 1)
-unary_value unary_operator.Absolute x = Ok (wrap (pos (unsigned_abs x)))
-unary_value unary_operator.NegateExact x = exact (neg_ℤ x)
+abbrev pub unary_rule : UnaryOperator → UnaryRule
+unary_rule unary_operator.Negate = always_one (λ x. wrap (neg_ℤ x))
+unary_rule unary_operator.Complement = always_one (λ x. neg_ℤ x -ℤ pos 1)
+unary_rule unary_operator.Absolute = always_one (λ x. wrap (pos (unsigned_abs x)))
+unary_rule unary_operator.NegateExact = exactly_one neg_ℤ
 
 -- of two operands: JLS 17, 15.17 to 15.19 and 15.22.1; Math.min, max, floorDiv, floorMod, addExact, subtractExact,
--- multiplyExact
+-- multiplyExact. `/` rounds toward zero, `%` has the sign of the dividend
+abbrev pub binary_rule : BinaryOperator → BinaryRule
+binary_rule binary_operator.Add = always (λ x y. wrap (x +ℤ y))
+binary_rule binary_operator.Subtract = always (λ x y. wrap (x -ℤ y))
+binary_rule binary_operator.Multiply = always (λ x y. wrap (x *ℤ y))
+binary_rule binary_operator.Divide = unless_zero (λ x y. wrap (int_div x y))
+binary_rule binary_operator.Remainder = unless_zero int_rem
+binary_rule binary_operator.ShiftLeft = always shifted_left
+binary_rule binary_operator.ShiftRight = always shifted_right
+binary_rule binary_operator.ShiftRightUnsigned = always shifted_right_unsigned
+binary_rule binary_operator.And = always (int_bit_and w64)
+binary_rule binary_operator.Xor = always (int_bit_xor w64)
+binary_rule binary_operator.Or = always (int_bit_or w64)
+binary_rule binary_operator.Min = always int_min
+binary_rule binary_operator.Max = always int_max
+binary_rule binary_operator.FloorDivide = unless_zero (λ x y. wrap (rounded_down x y))
+binary_rule binary_operator.FloorRemainder = unless_zero (λ x y. wrap (x -ℤ rounded_down x y *ℤ y))
+binary_rule binary_operator.AddExact = exactly (λ x y. x +ℤ y)
+binary_rule binary_operator.SubtractExact = exactly (λ x y. x -ℤ y)
+binary_rule binary_operator.MultiplyExact = exactly (λ x y. x *ℤ y)
+
+-- helper: the value by a rule
+abbrev pub unary_by : UnaryRule → ℤ → Result ℤ FaultKind
+unary_by (always_one f) x = Ok (f x)
+unary_by (exactly_one f) x = exact (f x)
+
+-- helper
+abbrev pub binary_by : BinaryRule → ℤ → ℤ → Result ℤ FaultKind
+binary_by (always f) x y = Ok (f x y)
+binary_by (unless_zero f) x y = divided y (f x y)
+binary_by (exactly f) x y = exact (f x y)
+
+-- what an operator on one number gives
+abbrev pub unary_value : UnaryOperator → ℤ → Result ℤ FaultKind
+unary_value o x = unary_by (unary_rule o) x
+
+-- what an operator on two numbers gives
 abbrev pub binary_value : BinaryOperator → ℤ → ℤ → Result ℤ FaultKind
-binary_value binary_operator.Add x y = Ok (wrap (x +ℤ y))
-binary_value binary_operator.Subtract x y = Ok (wrap (x -ℤ y))
-binary_value binary_operator.Multiply x y = Ok (wrap (x *ℤ y))
-binary_value binary_operator.Divide x y = quotient x y
-binary_value binary_operator.Remainder x y = remainder x y
-binary_value binary_operator.ShiftLeft x y = Ok (shifted_left x y)
-binary_value binary_operator.ShiftRight x y = Ok (shifted_right x y)
-binary_value binary_operator.ShiftRightUnsigned x y = Ok (shifted_right_unsigned x y)
-binary_value binary_operator.And x y = Ok (int_bit_and w64 x y)
-binary_value binary_operator.Xor x y = Ok (int_bit_xor w64 x y)
-binary_value binary_operator.Or x y = Ok (int_bit_or w64 x y)
-binary_value binary_operator.Min x y = Ok (int_min x y)
-binary_value binary_operator.Max x y = Ok (int_max x y)
-binary_value binary_operator.FloorDivide x y = floor_quotient x y
-binary_value binary_operator.FloorRemainder x y = floor_remainder x y
-binary_value binary_operator.AddExact x y = exact (x +ℤ y)
-binary_value binary_operator.SubtractExact x y = exact (x -ℤ y)
-binary_value binary_operator.MultiplyExact x y = exact (x *ℤ y)
+binary_value o x y = binary_by (binary_rule o) x y
+
+-- helper: a division by its name
+abbrev pub quotient : ℤ → ℤ → Result ℤ FaultKind
+quotient x y = binary_value binary_operator.Divide x y
+
+-- helper: the same of `%`
+abbrev pub remainder : ℤ → ℤ → Result ℤ FaultKind
+remainder x y = binary_value binary_operator.Remainder x y
+
+-- helper: the same of Math.floorDiv
+abbrev pub floor_quotient : ℤ → ℤ → Result ℤ FaultKind
+floor_quotient x y = binary_value binary_operator.FloorDivide x y
+
+-- helper: the same of Math.floorMod
+abbrev pub floor_remainder : ℤ → ℤ → Result ℤ FaultKind
+floor_remainder x y = binary_value binary_operator.FloorRemainder x y
+
+-- when an operator by this rule has a fault
+abbrev pub unary_faults_by : UnaryRule → Faults
+unary_faults_by (always_one f) = faults.Never
+unary_faults_by (exactly_one f) = faults.Overflow
+
+abbrev pub binary_faults_by : BinaryRule → Faults
+binary_faults_by (always f) = faults.Never
+binary_faults_by (unless_zero f) = faults.ByZero
+binary_faults_by (exactly f) = faults.Overflow
+
+abbrev pub unary_faults : UnaryOperator → Faults
+unary_faults o = unary_faults_by (unary_rule o)
+
+abbrev pub binary_faults : BinaryOperator → Faults
+binary_faults o = binary_faults_by (binary_rule o)
 
 -- how two numbers compare (JLS 17, 15.20.1 and 15.21.1)
 abbrev pub comparison_value : Comparison → ℤ → ℤ → Bool

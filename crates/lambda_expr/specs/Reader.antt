@@ -10,7 +10,8 @@ use Rattle.lambda_expr.specs.declared.lexeme.Lexeme.{Lexeme}
 use Rattle.lambda_expr.specs.declared.lexeme.Lexeme.TheVariants as word
 use Rattle.lambda_expr.specs.declared.lexeme.Name.{Name}
 use Rattle.lambda_expr.specs.declared.lexeme.Name.TheVariants.{Plain, Owner, Truth}
-use Rattle.lambda_expr.specs.Grammar.{Shape, name, number, truth, reference, constant, prefix, binary, ternary, enclosed, level, is_infix, is_prefix}
+use Rattle.lambda_expr.specs.Grammar.{Shape, name, number, truth, reference, constant, prefix, binary, ternary, enclosed}
+use Rattle.lambda_expr.specs.Signs.{level, is_infix, is_prefix}
 
 -- what waits for the operand to its right
 pub data Frame : Type 0 where

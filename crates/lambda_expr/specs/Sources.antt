@@ -5,17 +5,14 @@ use Rattle.lambda_expr.specs.declared.source.Source.TheVariants as source
 use Rattle.lambda_expr.specs.declared.lexeme.Lexeme.{Lexeme}
 use Rattle.lambda_expr.specs.declared.lexeme.Lexeme.TheVariants as word
 use Rattle.lambda_expr.specs.declared.lexeme.Name.TheVariants.{Plain, LongStream}
-use Rattle.lambda_expr.specs.declared.lexeme.Member.{Member}
-use Rattle.lambda_expr.specs.declared.lexeme.Member.TheVariants as member
+use Rattle.lambda_expr.specs.declared.table.Member.{Member}
+use Rattle.lambda_expr.specs.declared.table.Member.TheVariants as member
 use Rattle.lambda_expr.specs.declared.sign.Sign.TheVariants.{Comma}
 use Rattle.lambda_expr.specs.Grammar.{Shape, Binds, spells}
 
 -- the source that a name is of
 abbrev pub source_of : Member → Option Source
-source_of member.Range = Some source.Range
-source_of member.RangeClosed = Some source.RangeClosed
-source_of member.Of = Some source.Of
-source_of member.Empty = Some source.Empty
+source_of (member.Source s) = Some s
 source_of m = None
 
 -- how many operands a source has: ranges have two, `empty` has none

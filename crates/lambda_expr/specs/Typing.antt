@@ -1,67 +1,32 @@
 -- Meaning: the term that an expression stands for, by the types of its operands.
-use Rattle.std.specs.Prelude.{pos, negsuc, ◌-◌, ◌^◌, ℤ, Option, Some, None}
+use Rattle.std.specs.Prelude.{pos, ℤ, Option, Some, None}
 use Rattle.lambda_expr.specs.declared.sign.Sign.{Sign}
 use Rattle.lambda_expr.specs.declared.sign.Sign.TheVariants as sign
 use Rattle.lambda_expr.specs.declared.lexeme.Owner.{Owner as Class}
 use Rattle.lambda_expr.specs.declared.lexeme.Owner.TheVariants.{Math, Long as LongClass}
-use Rattle.lambda_expr.specs.declared.lexeme.Member.{Member}
-use Rattle.lambda_expr.specs.declared.lexeme.Member.TheVariants as member
+use Rattle.lambda_expr.specs.declared.table.Member.{Member}
+use Rattle.lambda_expr.specs.declared.table.Member.TheVariants as member
 use Rattle.lambda_expr.specs.declared.lexeme.Name.{Name}
 use Rattle.lambda_expr.specs.declared.lexeme.Name.TheVariants.{Plain}
 use Rattle.lambda_expr.specs.declared.operator.UnaryOperator.TheVariants as unary_operator
-use Rattle.lambda_expr.specs.declared.operator.BinaryOperator.TheVariants as binary_operator
-use Rattle.lambda_expr.specs.declared.operator.Comparison.TheVariants as comparison
-use Rattle.lambda_expr.specs.declared.operator.Connective.TheVariants as connective
 use Rattle.lambda_expr.specs.declared.operator.Operation.{Operation}
-use Rattle.lambda_expr.specs.declared.operator.Operation.TheVariants.{Compute, Compare, Connect, Separate, Nothing}
+use Rattle.lambda_expr.specs.declared.operator.Operation.TheVariants.{Compute, Compare, Connect, Separate}
 use Rattle.lambda_expr.specs.declared.operator.Function.{Function}
 use Rattle.lambda_expr.specs.declared.operator.Function.TheVariants.{Unary, Binary}
 use Rattle.lambda_expr.specs.declared.step.Opening.TheVariants.{Paren, Call}
 use Rattle.lambda_expr.specs.Grammar.{Shape, name, number, truth, reference, constant, prefix, binary, ternary, enclosed}
 use Rattle.lambda_expr.specs.Lexemes.{Names}
+use Rattle.lambda_expr.specs.Signs.{operation_of}
 use Rattle.lambda_expr.specs.Term as term
 use Rattle.lambda_expr.specs.Term.{Long, Truth}
 use Rattle.lambda_expr.specs.Wrap.{wrap}
 
--- what a sign does between two operands (JLS 17, 15.17 to 15.24)
-abbrev pub operation_of : Sign → Operation
-operation_of sign.Comma = Separate
-operation_of sign.Or = Connect connective.Or
-operation_of sign.And = Connect connective.And
-operation_of sign.BitOr = Compute binary_operator.Or
-operation_of sign.BitXor = Compute binary_operator.Xor
-operation_of sign.BitAnd = Compute binary_operator.And
-operation_of sign.Equal = Compare comparison.Equal
-operation_of sign.NotEqual = Compare comparison.NotEqual
-operation_of sign.Less = Compare comparison.Less
-operation_of sign.LessOrEqual = Compare comparison.LessOrEqual
-operation_of sign.Greater = Compare comparison.Greater
-operation_of sign.GreaterOrEqual = Compare comparison.GreaterOrEqual
-operation_of sign.ShiftLeft = Compute binary_operator.ShiftLeft
-operation_of sign.ShiftRight = Compute binary_operator.ShiftRight
-operation_of sign.ShiftRightUnsigned = Compute binary_operator.ShiftRightUnsigned
-operation_of sign.Add = Compute binary_operator.Add
-operation_of sign.Subtract = Compute binary_operator.Subtract
-operation_of sign.Multiply = Compute binary_operator.Multiply
-operation_of sign.Divide = Compute binary_operator.Divide
-operation_of sign.Remainder = Compute binary_operator.Remainder
-operation_of sign.Complement = Nothing
-operation_of sign.Not = Nothing
-
--- the methods of Math and Long that a lambda may call
+-- the method of Math or Long that a name calls
 abbrev pub method_of : Class → Member → Option Function
-method_of Math member.Abs = Some (Unary unary_operator.Absolute)
-method_of Math member.NegateExact = Some (Unary unary_operator.NegateExact)
-method_of Math member.Min = Some (Binary binary_operator.Min)
-method_of Math member.Max = Some (Binary binary_operator.Max)
-method_of LongClass member.Min = Some (Binary binary_operator.Min)
-method_of LongClass member.Max = Some (Binary binary_operator.Max)
-method_of LongClass member.Sum = Some (Binary binary_operator.Add)
-method_of Math member.FloorDiv = Some (Binary binary_operator.FloorDivide)
-method_of Math member.FloorMod = Some (Binary binary_operator.FloorRemainder)
-method_of Math member.AddExact = Some (Binary binary_operator.AddExact)
-method_of Math member.SubtractExact = Some (Binary binary_operator.SubtractExact)
-method_of Math member.MultiplyExact = Some (Binary binary_operator.MultiplyExact)
+method_of Math (member.InMath f) = Some f
+method_of Math (member.InBoth f) = Some f
+method_of LongClass (member.InLong f) = Some f
+method_of LongClass (member.InBoth f) = Some f
 method_of o m = None
 
 abbrev pub function_of : Class → Name → Option Function
@@ -70,8 +35,7 @@ function_of o n = None
 
 -- the constants of Long
 abbrev pub member_value : Member → Option ℤ
-member_value member.MaxValue = Some (pos (2 ^ 63 - 1))
-member_value member.MinValue = Some (negsuc (2 ^ 63 - 1))
+member_value (member.Constant z) = Some z
 member_value m = None
 
 abbrev pub constant_of : Name → Option ℤ

@@ -89,6 +89,8 @@ fn list_values(
 impl InnerExpr {
     /// The values at the item `x`, or the first fault from left to right; `SourceTooLong` for a range
     /// of more than 2^62. It takes no memory.
+    ///
+    /// For other programs: `streamrun` evaluates into a list that it keeps, by `eval_into`.
     pub fn eval(&self, x: i64, env: &Env) -> Result<Inner, FaultKind>
         ensures ok { IfOk result (λ inner. inner_value (inner_of self.now) x env.now ≡ Ok (inner_values inner)) }
         ensures fault { IfErr result (λ kind. inner_value (inner_of self.now) x env.now ≡ Err kind) }

@@ -1,11 +1,12 @@
 //! What the tokens of a text are to the grammar of lambdas.
 
-ghost use Rattle.lambda_expr.specs.Lexemes.{exact_member, first_name, is_reserved, is_taken, lexeme_of, lexemes_of, long_member, member_of, name_of, names_in, number_lexeme, order_of, stream_member, symbol_lexeme};
+ghost use Rattle.lambda_expr.specs.Lexemes.{first_name, is_reserved, is_taken, lexeme_of, lexemes_of, name_of, names_in, number_lexeme, order_of, punctuation, symbol_lexeme};
 ghost use Rattle.lambda_expr.specs.Words.{named, word_for, words_of};
 ghost use Rattle.std.specs.Prelude.{◌≡◌, ◌<◌, ◌≤◌, ◌^◌, ℕ, IfNone, IfOk, IfSome, List, drop, false, length, true};
 
 use super::number::{may_stand, numeral_value};
 use super::sign::Sign;
+use super::table::{Member, member_of};
 use std::alloc::{AllocError, Global};
 use stream_tokens::{CutText, Symbol, TokenKind};
 
@@ -23,28 +24,6 @@ pub(crate) struct PlainName {
     /// 2 for any other.
     pub(crate) number: usize,
     pub(crate) member: Member,
-}
-
-/// What a name is after `Math .`, `Long .` or `LongStream .`.
-#[derive(Clone, Copy)]
-pub(crate) enum Member {
-    Abs,
-    AddExact,
-    Empty,
-    FloorDiv,
-    FloorMod,
-    Max,
-    MaxValue,
-    Min,
-    MinValue,
-    MultiplyExact,
-    NegateExact,
-    Of,
-    Range,
-    RangeClosed,
-    SubtractExact,
-    Sum,
-    Other,
 }
 
 /// A name.
@@ -75,74 +54,6 @@ pub(crate) enum Lexeme {
     Colon,
     Arrow,
     Other,
-}
-
-// What makes a stream, after `LongStream .`.
-fn stream_member(name: &[u8]) -> Member
-    ensures { result ≡ stream_member name.now }
-{
-    if name == b"empty".as_slice() {
-        Member::Empty
-    } else if name == b"of".as_slice() {
-        Member::Of
-    } else if name == b"range".as_slice() {
-        Member::Range
-    } else if name == b"rangeClosed".as_slice() {
-        Member::RangeClosed
-    } else {
-        Member::Other
-    }
-}
-
-// An operation that may overflow, or what makes a stream.
-fn exact_member(name: &[u8]) -> Member
-    ensures { result ≡ exact_member name.now }
-{
-    if name == b"addExact".as_slice() {
-        Member::AddExact
-    } else if name == b"multiplyExact".as_slice() {
-        Member::MultiplyExact
-    } else if name == b"negateExact".as_slice() {
-        Member::NegateExact
-    } else if name == b"subtractExact".as_slice() {
-        Member::SubtractExact
-    } else {
-        stream_member(name)
-    }
-}
-
-// A method or a constant of both `Math` and `Long`, or of `Long` alone, or one of the others.
-fn long_member(name: &[u8]) -> Member
-    ensures { result ≡ long_member name.now }
-{
-    if name == b"max".as_slice() {
-        Member::Max
-    } else if name == b"MAX_VALUE".as_slice() {
-        Member::MaxValue
-    } else if name == b"min".as_slice() {
-        Member::Min
-    } else if name == b"MIN_VALUE".as_slice() {
-        Member::MinValue
-    } else if name == b"sum".as_slice() {
-        Member::Sum
-    } else {
-        exact_member(name)
-    }
-}
-
-// What a name is after `Math .`, `Long .` or `LongStream .`. In steps, since one long chain takes minutes to prove.
-fn member_of(name: &[u8]) -> Member
-    ensures { result ≡ member_of name.now }
-{
-    if name == b"abs".as_slice() {
-        Member::Abs
-    } else if name == b"floorDiv".as_slice() {
-        Member::FloorDiv
-    } else if name == b"floorMod".as_slice() {
-        Member::FloorMod
-    } else {
-        long_member(name)
-    }
 }
 
 // Which of the names of a text this one is, if these are the first two: 0, 1, or 2 for any other.
@@ -182,41 +93,28 @@ fn name_of(first: &[u8], second: &[u8], name: &[u8]) -> Name
     }
 }
 
+// The lexeme of a symbol that is no sign.
+fn punctuation(symbol: Symbol) -> Lexeme
+    ensures { result ≡ punctuation symbol }
+{
+    match symbol {
+        Symbol::Arrow => Lexeme::Arrow,
+        Symbol::Open => Lexeme::Open,
+        Symbol::Close => Lexeme::Close,
+        Symbol::Dot => Lexeme::Dot,
+        Symbol::Question => Lexeme::Question,
+        Symbol::Colon => Lexeme::Colon,
+        _ => Lexeme::Other,
+    }
+}
+
 fn symbol_lexeme(symbol: Symbol) -> Lexeme
     ensures { result ≡ symbol_lexeme symbol }
 {
-    let sign = match symbol {
-        Symbol::Arrow => return Lexeme::Arrow,
-        Symbol::Open => return Lexeme::Open,
-        Symbol::Close => return Lexeme::Close,
-        Symbol::Dot => return Lexeme::Dot,
-        Symbol::Question => return Lexeme::Question,
-        Symbol::Colon => return Lexeme::Colon,
-        Symbol::Comma => Sign::Comma,
-        Symbol::OrOr => Sign::Or,
-        Symbol::AndAnd => Sign::And,
-        Symbol::Or => Sign::BitOr,
-        Symbol::Xor => Sign::BitXor,
-        Symbol::And => Sign::BitAnd,
-        Symbol::Equal => Sign::Equal,
-        Symbol::NotEqual => Sign::NotEqual,
-        Symbol::Less => Sign::Less,
-        Symbol::LessOrEqual => Sign::LessOrEqual,
-        Symbol::Greater => Sign::Greater,
-        Symbol::GreaterOrEqual => Sign::GreaterOrEqual,
-        Symbol::ShiftLeft => Sign::ShiftLeft,
-        Symbol::ShiftRight => Sign::ShiftRight,
-        Symbol::ShiftRightUnsigned => Sign::ShiftRightUnsigned,
-        Symbol::Plus => Sign::Add,
-        Symbol::Minus => Sign::Subtract,
-        Symbol::Star => Sign::Multiply,
-        Symbol::Slash => Sign::Divide,
-        Symbol::Percent => Sign::Remainder,
-        Symbol::Tilde => Sign::Complement,
-        Symbol::Bang => Sign::Not,
-        _ => return Lexeme::Other,
-    };
-    Lexeme::Sign(sign)
+    match Sign::of(symbol) {
+        Some(sign) => Lexeme::Sign(sign),
+        None => punctuation(symbol),
+    }
 }
 
 fn number_lexeme(number: &[u8]) -> Lexeme

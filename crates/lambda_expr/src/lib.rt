@@ -55,7 +55,7 @@ pub use laws::{each_text_has_an_answer, one_answer, one_number, one_reading, one
 pub use names::references_decide;
 pub use number::{Numeral, may_stand, read_number};
 pub use operands::Operands;
-pub use operator::{BinaryOperator, Comparison, Connective, UnaryOperator};
+pub use operator::{BinaryOperator, Comparison, Connective, Faults, UnaryOperator};
 pub use read::{read_lambda, read_lambda_of};
 pub use run::Run;
 pub use wrapping::wrap_is_the_remainder_in_64_bits;

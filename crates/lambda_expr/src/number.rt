@@ -139,6 +139,8 @@ fn parse_number<'a>(text: &'a [u8], tokens: &[Token]) -> Result<Numeral<'a>, usi
 ///
 /// `LiteralTooLarge` for a value outside 64 bits, `Syntax` for tokens that are no number. It takes no
 /// memory.
+///
+/// For other programs: `streamrun` reads numbers by `Numeral`.
 pub fn read_number(text: &[u8], tokens: &[Token]) -> Result<i64, ReadFault>
     requires { StandInOrder 0 tokens.now (length text.now) }
     ensures ok { IfOk result (λ number. SpellsNumber text.now tokens.now number) }

@@ -1,6 +1,6 @@
 //! The operators of expressions, grouped by their operands and by the type of their result.
 
-ghost use Rattle.lambda_expr.specs.Operators.{binary_value, comparison_value, exact, floor_quotient, quotient, remainder, unary_value};
+ghost use Rattle.lambda_expr.specs.Operators.{binary_faults, binary_value, comparison_value, exact, floor_quotient, quotient, remainder, unary_faults, unary_value};
 ghost use Rattle.lambda_expr.specs.Operators.{floor_remainder, is_opposite, low_six_bits, rounded_down, shifted_left, shifted_right, shifted_right_unsigned};
 ghost use Rattle.lambda_expr.specs.Wrap.{wrap};
 ghost use Rattle.std.specs.Int.{IsNonZero, w64};
@@ -61,6 +61,17 @@ pub enum BinaryOperator {
     SubtractExact,
     /// `Math.multiplyExact(x, y)`: `Overflow` outside 64 bits.
     MultiplyExact,
+}
+
+/// When an operator has a fault, if at all.
+#[derive(Clone, Copy, PartialEq, Eq)]
+pub enum Faults {
+    /// For no operands.
+    Never,
+    /// `DivideByZero`, exactly for a second operand of 0.
+    ByZero,
+    /// `Overflow`, if 64 bits don't hold the value.
+    Overflow,
 }
 
 /// A comparison of two numbers (JLS 17, 15.20.1 and 15.21.1).
@@ -184,6 +195,18 @@ impl UnaryOperator {
             UnaryOperator::NegateExact => or_overflow(x.checked_neg()),
         }
     }
+
+    /// When the operator has a fault.
+    pub fn faults(self) -> Faults
+        ensures { result ≡ unary_faults self }
+    {
+        match self {
+            UnaryOperator::Negate | UnaryOperator::Complement | UnaryOperator::Absolute => {
+                Faults::Never
+            }
+            UnaryOperator::NegateExact => Faults::Overflow,
+        }
+    }
 }
 
 impl BinaryOperator {
@@ -210,6 +233,41 @@ impl BinaryOperator {
             BinaryOperator::AddExact => or_overflow(x.checked_add(y)),
             BinaryOperator::SubtractExact => or_overflow(x.checked_sub(y)),
             BinaryOperator::MultiplyExact => or_overflow(x.checked_mul(y)),
+        }
+    }
+
+    /// When the operator has a fault.
+    pub fn faults(self) -> Faults
+        ensures { result ≡ binary_faults self }
+    {
+        match self {
+            BinaryOperator::Add
+            | BinaryOperator::Subtract
+            | BinaryOperator::Multiply
+            | BinaryOperator::ShiftLeft
+            | BinaryOperator::ShiftRight
+            | BinaryOperator::ShiftRightUnsigned
+            | BinaryOperator::And
+            | BinaryOperator::Xor
+            | BinaryOperator::Or
+            | BinaryOperator::Min
+            | BinaryOperator::Max => Faults::Never,
+            BinaryOperator::Divide
+            | BinaryOperator::Remainder
+            | BinaryOperator::FloorDivide
+            | BinaryOperator::FloorRemainder => Faults::ByZero,
+            BinaryOperator::AddExact
+            | BinaryOperator::SubtractExact
+            | BinaryOperator::MultiplyExact => Faults::Overflow,
+        }
+    }
+
+    /// About how many additions take as long, if the operator isn't a division. It says how fast a
+    /// job runs and never what it gives, so it has no contract.
+    pub fn additions(self) -> u32 {
+        match self {
+            BinaryOperator::Multiply => 2,
+            _ => 1,
         }
     }
 }

@@ -3,7 +3,8 @@
 ghost use Rattle.std.specs.Prelude.{◌≡◌, ◌<◌, ◌≤◌, ℕ, List, [], ◌∷◌, IfOk, IfErr};
 ghost use Rattle.lambda_expr.specs.declared.step.Step.{Step as step};
 ghost use Rattle.lambda_expr.specs.declared.parse.Pending.{Pending as pending};
-ghost use Rattle.lambda_expr.specs.Grammar.{Expression, level};
+ghost use Rattle.lambda_expr.specs.Grammar.{Expression};
+ghost use Rattle.lambda_expr.specs.Signs.{level};
 ghost use Rattle.lambda_expr.specs.Reader.{read, joins, takes, operates, asks, answers, shuts, follows, starts, called};
 ghost use Rattle.lambda_expr.specs.Codes.{reduced, state_of, top_of, IsAt, IsCoded, IsSettled, Turns, frames_of, run, ArePostfix, IsStop};
 ghost use Rattle.lambda_expr.specs.declared.parse.Stop.TheVariants.{NoMemory};

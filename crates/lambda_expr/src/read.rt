@@ -120,6 +120,8 @@ pub fn read_lambda_of(alloc: Global, text: &CutText, want: Want) -> Result<Lambd
 /// `LiteralTooLarge`, `TooDeep` for a body deeper than 64 or a stream of more than 64 operands,
 /// `UnknownName`, `WrongType`. `NoMemory` may stand in place of any answer if an allocation failed; the
 /// empty text takes no memory.
+///
+/// For other programs: `streamrun` reads tokens that were cut before, by `read_lambda_of`.
 pub fn read_lambda(alloc: Global, text: &[u8], want: Want) -> Result<Lambda, ReadFault>
     ensures ok { IfOk result (λ lambda. SpellsLambda text.now want lambda) }
     ensures refused { IfErr result (λ fault. IsRefused text.now want fault) }

@@ -1,11 +1,11 @@
 //! The operators of expressions as they are written.
 
 ghost use Rattle.lambda_expr.specs.Checks.{is_comma};
-ghost use Rattle.lambda_expr.specs.Grammar.{is_infix, is_prefix, level};
-ghost use Rattle.lambda_expr.specs.Typing.{operation_of};
+ghost use Rattle.lambda_expr.specs.Signs.{is_infix, is_prefix, level, operation_of, sign_of};
 ghost use Rattle.std.specs.Prelude.{◌≡◌};
 
 use super::operator::{BinaryOperator, Comparison, Connective, Operation};
+use stream_tokens::Symbol;
 
 /// A sign before an operand or between two. The comma separates the operands of a call.
 #[derive(Clone, Copy)]
@@ -35,6 +35,38 @@ pub(crate) enum Sign {
 }
 
 impl Sign {
+    /// The sign that a symbol is.
+    pub(crate) fn of(symbol: Symbol) -> Option<Sign>
+        ensures { result ≡ sign_of symbol }
+    {
+        let sign = match symbol {
+            Symbol::Comma => Sign::Comma,
+            Symbol::OrOr => Sign::Or,
+            Symbol::AndAnd => Sign::And,
+            Symbol::Or => Sign::BitOr,
+            Symbol::Xor => Sign::BitXor,
+            Symbol::And => Sign::BitAnd,
+            Symbol::Equal => Sign::Equal,
+            Symbol::NotEqual => Sign::NotEqual,
+            Symbol::Less => Sign::Less,
+            Symbol::LessOrEqual => Sign::LessOrEqual,
+            Symbol::Greater => Sign::Greater,
+            Symbol::GreaterOrEqual => Sign::GreaterOrEqual,
+            Symbol::ShiftLeft => Sign::ShiftLeft,
+            Symbol::ShiftRight => Sign::ShiftRight,
+            Symbol::ShiftRightUnsigned => Sign::ShiftRightUnsigned,
+            Symbol::Plus => Sign::Add,
+            Symbol::Minus => Sign::Subtract,
+            Symbol::Star => Sign::Multiply,
+            Symbol::Slash => Sign::Divide,
+            Symbol::Percent => Sign::Remainder,
+            Symbol::Tilde => Sign::Complement,
+            Symbol::Bang => Sign::Not,
+            _ => return None,
+        };
+        Some(sign)
+    }
+
     /// How tightly the sign binds between two operands; the comma binds least.
     pub(crate) fn level(self) -> u32
         ensures { result ≡ level self }

@@ -5,10 +5,11 @@ ghost use Rattle.lambda_expr.specs.SourceReading.{ArePosted, IsFront, IsNoNext, 
 ghost use Rattle.lambda_expr.specs.Sources.{Takes, source_of};
 ghost use Rattle.std.specs.Prelude.{◌≡◌, ◌≤◌, IfErr, IfOk, option_map};
 
-use super::lexeme::{Lexeme, Member, Name};
+use super::lexeme::{Lexeme, Name};
 use super::parse::{Stop, parse};
 use super::sign::Sign;
 use super::step::Step;
+use super::table::Member;
 use std::alloc::Global;
 
 /// A method that gives a stream.
@@ -33,10 +34,7 @@ fn source_of(member: Member) -> Option<Source>
     ensures { result ≡ source_of member }
 {
     match member {
-        Member::Range => Some(Source::Range),
-        Member::RangeClosed => Some(Source::RangeClosed),
-        Member::Of => Some(Source::Of),
-        Member::Empty => Some(Source::Empty),
+        Member::Source(source) => Some(source),
         _ => None,
     }
 }

@@ -1,29 +1,87 @@
-//! The methods and constants that a lambda may name.
+//! The table of what a lambda may name in `Math`, `Long` and `LongStream`: one row for each name.
 
-ghost use Rattle.lambda_expr.specs.Typing.{constant_of, function_of, method_of};
+ghost use Rattle.lambda_expr.specs.Members.{member_among, member_of, rows_in};
+ghost use Rattle.lambda_expr.specs.Typing.{constant_of, function_of};
 ghost use Rattle.std.specs.Prelude.{◌≡◌};
 
-use super::lexeme::{Member, Name, Owner};
+use super::lexeme::{Name, Owner};
 use super::operator::{BinaryOperator, Function, UnaryOperator};
+use super::source::Source;
 
-// The method of this name.
-fn method_of(owner: Owner, member: Member) -> Option<Function>
-    ensures { result ≡ method_of owner member }
+/// What a name is after `Math .`, `Long .` or `LongStream .`.
+#[derive(Clone, Copy)]
+pub(crate) enum Member {
+    /// A method of `Math` alone.
+    InMath(Function),
+    /// A method of `Long` alone.
+    InLong(Function),
+    /// A method of both.
+    InBoth(Function),
+    /// A constant of `Long`.
+    Constant(i64),
+    /// What makes a stream.
+    Source(Source),
+    Other,
+}
+
+/// The table: a name, and what it is.
+const ROWS: [(&'static str, Member); 16] = [
+    (
+        "abs",
+        Member::InMath(Function::Unary(UnaryOperator::Absolute)),
+    ),
+    (
+        "negateExact",
+        Member::InMath(Function::Unary(UnaryOperator::NegateExact)),
+    ),
+    (
+        "floorDiv",
+        Member::InMath(Function::Binary(BinaryOperator::FloorDivide)),
+    ),
+    (
+        "floorMod",
+        Member::InMath(Function::Binary(BinaryOperator::FloorRemainder)),
+    ),
+    (
+        "addExact",
+        Member::InMath(Function::Binary(BinaryOperator::AddExact)),
+    ),
+    (
+        "subtractExact",
+        Member::InMath(Function::Binary(BinaryOperator::SubtractExact)),
+    ),
+    (
+        "multiplyExact",
+        Member::InMath(Function::Binary(BinaryOperator::MultiplyExact)),
+    ),
+    ("min", Member::InBoth(Function::Binary(BinaryOperator::Min))),
+    ("max", Member::InBoth(Function::Binary(BinaryOperator::Max))),
+    ("sum", Member::InLong(Function::Binary(BinaryOperator::Add))),
+    ("MAX_VALUE", Member::Constant(i64::MAX)),
+    ("MIN_VALUE", Member::Constant(i64::MIN)),
+    ("empty", Member::Source(Source::Empty)),
+    ("of", Member::Source(Source::Of)),
+    ("range", Member::Source(Source::Range)),
+    ("rangeClosed", Member::Source(Source::RangeClosed)),
+];
+
+/// What the first of these rows with this name says.
+fn member_among(rows: &[(&'static str, Member)], name: &[u8]) -> Member
+    ensures { result ≡ member_among (rows_in rows.now) name.now }
 {
-    let function = match (owner, member) {
-        (_, Member::Min) => Function::Binary(BinaryOperator::Min),
-        (_, Member::Max) => Function::Binary(BinaryOperator::Max),
-        (Owner::Long, Member::Sum) => Function::Binary(BinaryOperator::Add),
-        (Owner::Math, Member::Abs) => Function::Unary(UnaryOperator::Absolute),
-        (Owner::Math, Member::NegateExact) => Function::Unary(UnaryOperator::NegateExact),
-        (Owner::Math, Member::FloorDiv) => Function::Binary(BinaryOperator::FloorDivide),
-        (Owner::Math, Member::FloorMod) => Function::Binary(BinaryOperator::FloorRemainder),
-        (Owner::Math, Member::AddExact) => Function::Binary(BinaryOperator::AddExact),
-        (Owner::Math, Member::SubtractExact) => Function::Binary(BinaryOperator::SubtractExact),
-        (Owner::Math, Member::MultiplyExact) => Function::Binary(BinaryOperator::MultiplyExact),
-        _ => return None,
-    };
-    Some(function)
+    for (known, member) in rows {
+        if name == known.as_bytes() {
+            return *member;
+        }
+    }
+    Member::Other
+}
+
+/// What a name is after `Math .`, `Long .` or `LongStream .`.
+pub(crate) fn member_of(name: &[u8]) -> Member
+    ensures { result ≡ member_of name.now }
+{
+    member_among(&ROWS, name)
 }
 
 /// The method that a name after `Math .` or `Long .` calls.
@@ -31,7 +89,11 @@ pub(crate) fn function_of(owner: Owner, name: Name) -> Option<Function>
     ensures { result ≡ function_of owner name }
 {
     match name {
-        Name::Plain(name) => method_of(owner, name.member),
+        Name::Plain(name) => match (owner, name.member) {
+            (Owner::Math, Member::InMath(function) | Member::InBoth(function)) => Some(function),
+            (Owner::Long, Member::InLong(function) | Member::InBoth(function)) => Some(function),
+            _ => None,
+        },
         _ => None,
     }
 }
@@ -42,8 +104,7 @@ pub(crate) fn constant_of(name: Name) -> Option<i64>
 {
     match name {
         Name::Plain(name) => match name.member {
-            Member::MaxValue => Some(i64::MAX),
-            Member::MinValue => Some(i64::MIN),
+            Member::Constant(value) => Some(value),
             _ => None,
         },
         _ => None,

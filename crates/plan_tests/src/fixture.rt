@@ -72,7 +72,7 @@ pub(crate) fn shown(alloc: Global, answer: &Answer) -> Result<String, Fail> {
         Answer::Truth(truth) => Ok(format!(in alloc; "{truth}")?),
         Answer::Optional(Some(number)) => Ok(format!(in alloc; "OptionalLong[{number}]")?),
         Answer::Optional(None) => Ok(format!(in alloc; "OptionalLong.empty")?),
-        Answer::Array(values) => Ok(format!(in alloc; "{:?}", values.as_slice())?),
+        Answer::Array(values) => Ok(format!(in alloc; "{:?}", values.to_vec(alloc)?.as_slice())?),
         Answer::Fault(fault) => shown_fault(alloc, fault),
         Answer::Unusable(job) => Ok(format!(in alloc; "unusable {job}")?),
     }

@@ -15,6 +15,8 @@ use reduce_ops::{Op, Partial};
 use trace::{Chunk, End, Item};
 
 /// The block of a piece: the fold of its items, with `at` of those at these positions alone, and its end. It takes no memory.
+///
+/// For other programs: `streamrun` folds values that lie side by side, by the loops below this one.
 pub fn up(op: Op, at: Option<(u64, u64)>, chunk: &Chunk) -> Partial
     requires few { length chunk.now.items < 2 ^ 64 }
     ensures op { result.op ≡ op }

@@ -14,6 +14,8 @@ use trace::{Chunk, Item, Rewrite};
 /// the end stay. Positions count from the first item of the chunk; without `at` they are all. It takes no memory.
 ///
 /// `start` is the fold of what lies left of the chunk, `None` if that is no item: what `up` and `merge` give of it.
+///
+/// For other programs: `streamrun` scans values that lie side by side, by the loops below this one.
 pub fn down(op: Op, at: Option<(u64, u64)>, start: Option<i64>, chunk: &mut Chunk)
     ensures { chunk.new ≡ trace (scan_at (value_of op) at 0 start chunk.old.items) chunk.old.ending }
 {

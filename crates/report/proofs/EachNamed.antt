@@ -11,12 +11,12 @@ use Rattle.trace.specs.Trace.{Trace}
 use Rattle.find_ops.specs.Finds.{find_answer}
 use Rattle.find_ops.specs.declared.find_part.Found.{Found}
 use Rattle.find_ops.specs.declared.find_part.Found.TheVariants as found
-use Rattle.job_language.specs.Jobs.{AbstractTerminal, sum, count, min, max, to_array, reduce, reduce_from, find, exact_sum, AbstractJob, names_of}
+use Rattle.job_language.specs.Jobs.{AbstractTerminal, sum, find, exact_sum, AbstractJob, names_of}
 use Rattle.job_plan.specs.declared.answer.Answer.{Answer}
 use Rattle.job_plan.specs.declared.answer.Answer.TheVariants.{Unusable}
 use Rattle.job_plan.specs.declared.answer.Answer.TheVariants as answer
-use Rattle.job_plan.specs.Walks.{answer_of, exact_answer, found_answer, instead_of_fault, number_as, unless_fault}
-use Rattle.job_plan.specs.FileAnswers.{NamedAnswer, answer_after, answers_after, first_unusable, found, found_later, is_usable, meaning_of, numbers_named, or_else, unless_unusable, unusable_at}
+use Rattle.job_plan.specs.Walks.{answer_of, exact_answer, found_answer, instead_of_fault, is_usable, number_as, unless_fault}
+use Rattle.job_plan.specs.FileAnswers.{NamedAnswer, answer_after, answers_after, first_unusable, found, found_later, meaning_of, numbers_named, or_else, unless_unusable, unusable_at}
 use Rattle.job_plan.specs.Names.{names_in_job, same_name}
 use Rattle.report.specs.Named.{IsNamed}
 
@@ -34,36 +34,19 @@ usable_exact (Ok z) i is = cc
 usable_exact (Err f) i is = cc
 
 usable : (n : ℕ) (env : Numbers) (terminal : AbstractTerminal) (t : Trace) (i : ℕ) → answer_of n env terminal t ≡ Unusable i → ⊥
-usable n env sum t = usable_or_fault t.ending _ (λ i is. cc)
-usable n env count t = usable_or_fault t.ending _ (λ i is. cc)
-usable n env min t = usable_or_fault t.ending _ (λ i is. cc)
-usable n env max t = usable_or_fault t.ending _ (λ i is. cc)
-usable n env to_array t = usable_or_fault t.ending _ (λ i is. cc)
-usable n env (reduce f) t = usable_or_fault t.ending _ (λ i is. cc)
-usable n env (reduce_from a f) t = usable_or_fault t.ending _ (λ i is. cc)
 usable n env (find d) t = usable_find (find_answer d n env t)
 usable n env exact_sum t = usable_exact _
+usable n env d t = usable_or_fault t.ending _ (λ i is. cc)
 
 -- a number in place of a fault is no such answer either
 usable_number : (d : AbstractTerminal) (z : ℤ) (i : ℕ) → number_as d z ≡ Unusable i → ⊥
 usable_number sum z i is = cc
-usable_number count z i is = cc
-usable_number min z i is = cc
-usable_number max z i is = cc
-usable_number to_array z i is = cc
-usable_number (reduce f) z i is = cc
-usable_number (reduce_from a f) z i is = cc
-usable_number (find d) z i is = cc
-usable_number exact_sum z i is = cc
+usable_number d z i is = cc
 
 usable_instead : (d : AbstractTerminal) (o : Option ℤ) (a : Answer) → ((i : ℕ) → a ≡ Unusable i → ⊥) → (i : ℕ) → instead_of_fault (option_map (number_as d) o) a ≡ Unusable i → ⊥
 usable_instead d None a other i is = other i is
-usable_instead d (Some z) (answer.Number x) other i is = other i is
-usable_instead d (Some z) (answer.Truth b) other i is = other i is
-usable_instead d (Some z) (answer.Optional v) other i is = other i is
-usable_instead d (Some z) (answer.Array vs) other i is = other i is
 usable_instead d (Some z) (answer.Fault f) other i is = usable_number d z i is
-usable_instead d (Some z) (answer.Unusable k) other i is = other i is
+usable_instead d (Some z) a other i is = other i is
 
 -- ---- the place of a job that is named is that of an earlier one
 

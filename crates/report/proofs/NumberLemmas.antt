@@ -16,6 +16,11 @@ pub further-append : (separator : List ℕ) (xs ys : List ℤ) → further separ
 further-append separator [] ys = refl
 further-append separator (x ∷ xs) ys = ap (λ t. separator ++ signed_decimal x ++ t) (further-append separator xs ys) ∙ sym (append_assoc (separator ++ signed_decimal x) (further separator xs) (further separator ys))
 
+-- the text of some more numbers was appended
+pub further_more : (separator start before after : List ℕ) (xs ys : List ℤ) → before ≡ start ++ further separator xs → after ≡ before ++ further separator ys → after ≡ start ++ further separator (xs ++ ys)
+further_more separator start before after xs ys so_far appended =
+    appended ∙ ap (λ t. t ++ further separator ys) so_far ∙ append_assoc start (further separator xs) (further separator ys) ∙ ap (λ t. start ++ t) (sym (further-append separator xs ys))
+
 -- the text of some more numbers, which stands at the end of the room, was appended
 pub further_next : (separator start before after : List ℕ) (values : List ℤ) (at count : ℕ) (room : List ℕ) (from : ℕ) → before ≡ start ++ further separator (take at values)
     → drop from room ≡ further separator (take (at + count - at) (drop at values)) → after ≡ before ++ take (length room - from) (drop from room)

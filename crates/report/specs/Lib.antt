@@ -1,7 +1,9 @@
 -- Condition: the files of this crate's definitions; the first line of each says what it is.
+pub mod Groups
 pub mod Json
 pub mod Named
 pub mod Numbers
 pub mod Pieces
+pub mod Runs
 pub mod Text
 pub mod Worked

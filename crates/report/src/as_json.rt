@@ -11,7 +11,7 @@ use crate::NoMemory;
 use crate::kind::kind_name;
 use crate::numbers::write_numbers;
 use crate::separator::Separator;
-use job_plan::Answer;
+use job_plan::{Answer, Values};
 use serde_json::{Map, Value, json};
 use std::alloc::Global;
 use stream_tokens::Bytes;
@@ -24,6 +24,8 @@ pub(crate) const ARRAY_BEGIN: &[u8] = b"{\"array\":[";
 ///
 /// The names are texts in UTF-8, as those of every job file are. The numbers of an array are written as `text` writes
 /// them; of each other job the object is built first, and dropped when its text is written.
+///
+/// For other programs: `streamrun` makes long arrays on threads, by `json_by`.
 pub fn json(alloc: Global, names: &[Bytes], answers: &[Answer]) -> Result<Vec<u8>, NoMemory>
     requires paired { length names.now ≡ length answers.now }
     requires named { All (IsNamed names.now) answers.now }
@@ -94,7 +96,7 @@ fn write_object(
         Answer::Number(value) => write_member(report, name, "number", Value::from(*value)),
         Answer::Truth(holds) => write_member(report, name, "truth", Value::from(*holds)),
         Answer::Optional(value) => write_member(report, name, "optional", Value::from(*value)),
-        Answer::Array(values) => write_array(report, name, values.as_slice()),
+        Answer::Array(values) => write_array(report, name, values),
         Answer::Fault(fault) => write_fault(report, name, *fault),
         Answer::Unusable(job) => {
             let unusable = Value::try_from_str(*report.allocator(), text_of(&names[*job]))?;
@@ -142,7 +144,7 @@ fn fault_object(alloc: Global, name: &str, fault: Fault) -> Result<Value, NoMemo
 }
 
 /// Appends the object of a job whose answer is an array. No value of a number is built.
-fn write_array(report: &mut Vec<u8>, name: &str, values: &[i64]) -> Result<(), NoMemory>
+fn write_array(report: &mut Vec<u8>, name: &str, values: &Values) -> Result<(), NoMemory>
     ensures { OnOk result (report.new.items ≡ report.old.items ++ array_object name.now values.now) }
 {
     report.extend_from_slice(ARRAY_BEGIN)?;

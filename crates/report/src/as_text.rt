@@ -9,7 +9,7 @@ use crate::kind::kind_name;
 use crate::numbers::{write_number, write_numbers};
 use crate::separator::Separator;
 use itoa::Buffer;
-use job_plan::Answer;
+use job_plan::{Answer, Values};
 use std::alloc::Global;
 use stream_tokens::Bytes;
 use trace::Fault;
@@ -18,6 +18,8 @@ use trace::Fault;
 ///
 /// The bytes are written once, into one buffer that grows by doubling; numbers are printed on the stack.
 /// Without answers nothing is allocated. If an allocation fails, the report is dropped.
+///
+/// For other programs: `streamrun` makes long arrays on threads, by `text_by`.
 pub fn text(alloc: Global, names: &[Bytes], answers: &[Answer]) -> Result<Vec<u8>, NoMemory>
     requires paired { length names.now ≡ length answers.now }
     requires named { All (IsNamed names.now) answers.now }
@@ -56,7 +58,7 @@ fn write_answer(report: &mut Vec<u8>, names: &[Bytes], answer: &Answer) -> Resul
         Answer::Truth(false) => report.extend_from_slice(b"false"),
         Answer::Optional(Some(value)) => write_present(report, *value),
         Answer::Optional(None) => report.extend_from_slice(b"OptionalLong.empty"),
-        Answer::Array(values) => write_array(report, values.as_slice()),
+        Answer::Array(values) => write_array(report, values),
         Answer::Fault(fault) => write_fault(report, *fault),
         Answer::Unusable(job) => {
             report.extend_from_slice(b"unusable ")?;
@@ -79,7 +81,7 @@ fn write_present(report: &mut Vec<u8>, value: i64) -> Result<(), NoMemory>
     report.extend_from_slice(b"]")
 }
 
-fn write_array(report: &mut Vec<u8>, values: &[i64]) -> Result<(), NoMemory>
+fn write_array(report: &mut Vec<u8>, values: &Values) -> Result<(), NoMemory>
     ensures { OnOk result (report.new.items ≡ report.old.items ++ array_text values.now) }
 {
     report.extend_from_slice(b"[")?;

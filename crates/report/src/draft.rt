@@ -5,10 +5,11 @@ ghost use Rattle.report.specs.Text.{further};
 ghost use Rattle.std.specs.Prelude.{◌≡◌, ◌≢◌, ◌<◌, ◌++◌, [], flat_map, IfOk, OnErr, OnOk};
 
 use crate::NoMemory;
-use crate::by_threads::further_by;
-use crate::numbers::{write_further, write_number};
+use crate::by_threads::others_by;
+use crate::numbers::{split_first, write_number, write_others};
 use crate::pieces::Report;
 use crate::separator::Separator;
+use job_plan::Values;
 use std::alloc::Global;
 use std::mem;
 use std::thread::Threads;
@@ -43,47 +44,50 @@ impl Draft {
         Report::of_pieces(self.pieces, self.last)
     }
 
-    /// Adds the numbers, parted by the separator. If they are many, all but the first one are made in pieces, on as many
-    /// threads as there are workers.
+    /// Adds the numbers of an array, parted by the separator. If they are many, the text of all but the first one is made in
+    /// pieces, on as many threads as there are workers.
     pub(crate) fn add_numbers<H: Threads + Sync>(
         &mut self,
         rt: &H,
         workers: usize,
         separator: Separator,
-        values: &[i64],
+        values: &Values,
     ) -> Result<(), NoMemory>
         ensures { OnOk result (draft_bytes self.new ≡ draft_bytes self.old ++ parted separator values.now) }
     {
-        let Some((first, others)) = values.split_first() else {
+        let Some((first, rest, pieces)) = split_first(values.pieces()) else {
             return Ok(());
         };
-        write_number(&mut self.last, *first)?;
-        let threads = workers.min(others.len() / WORTH_A_THREAD);
+        write_number(&mut self.last, first)?;
+        let count = count_of(rest, pieces);
+        let threads = workers.min(count / WORTH_A_THREAD);
         if threads > 1 {
-            return self.add_further(rt, threads, separator, others);
+            let size = count.div_ceil(threads);
+            return self.add_others(rt, separator, rest, pieces, size);
         }
-        write_further(&mut self.last, separator, others)
+        write_others(&mut self.last, separator, rest, pieces)
     }
 
-    /// Adds the numbers, each after the separator: made on this many threads, or on this one if memory for that is
-    /// refused.
-    fn add_further<H: Threads + Sync>(
+    /// Adds the numbers after the first one, each after the separator: made on a thread for each `size` of them, or on this one
+    /// if memory for that is refused.
+    fn add_others<H: Threads + Sync>(
         &mut self,
         rt: &H,
-        threads: usize,
         separator: Separator,
-        values: &[i64],
+        rest: &[i64],
+        pieces: &[Vec<i64>],
+        size: usize,
     ) -> Result<(), NoMemory>
-        requires { 0 < threads }
-        ensures { OnOk result (draft_bytes self.new ≡ draft_bytes self.old ++ further (separator_bytes separator) values.now) }
+        ensures { OnOk result (draft_bytes self.new ≡ draft_bytes self.old
+            ++ further (separator_bytes separator) (rest.now ++ flat_map (λ piece. piece.items) pieces.now)) }
     {
         let alloc = *self.last.allocator();
-        if let Ok(pieces) = further_by(rt, alloc, separator, values, threads)
-            && self.pieces.reserve(pieces.len().saturating_add(1)).is_ok()
+        if let Ok(texts) = others_by(rt, alloc, separator, rest, pieces, size)
+            && self.pieces.reserve(texts.len().saturating_add(1)).is_ok()
         {
-            return self.add_pieces(pieces);
+            return self.add_pieces(texts);
         }
-        write_further(&mut self.last, separator, values)
+        write_others(&mut self.last, separator, rest, pieces)
     }
 
     /// Adds pieces, for which there is room.
@@ -94,4 +98,13 @@ impl Draft {
         self.pieces.push(mem::replace(&mut self.last, none))?;
         self.pieces.append(&mut pieces)
     }
+}
+
+/// How many numbers there are, or the greatest `usize` if there are more. No text rests on it.
+fn count_of(rest: &[i64], pieces: &[Vec<i64>]) -> usize {
+    let mut count = rest.len();
+    for piece in pieces {
+        count = count.saturating_add(piece.len());
+    }
+    count
 }

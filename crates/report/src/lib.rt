@@ -12,6 +12,7 @@ mod as_json;
 mod as_text;
 mod by_threads;
 mod draft;
+mod groups;
 mod kind;
 mod long_json;
 mod long_text;

@@ -11,7 +11,7 @@ use crate::as_json::{ARRAY_BEGIN, text_of, write_array_end, write_comma_if, writ
 use crate::draft::Draft;
 use crate::pieces::Report;
 use crate::separator::Separator;
-use job_plan::Answer;
+use job_plan::{Answer, Values};
 use std::alloc::Global;
 use std::thread::Threads;
 use stream_tokens::Bytes;
@@ -59,7 +59,7 @@ fn write_item_by<H: Threads + Sync>(
     match answer {
         Answer::Array(values) => {
             write_comma_if(&mut draft.last, later)?;
-            write_array_by(rt, workers, draft, name, values.as_slice())
+            write_array_by(rt, workers, draft, name, values)
         }
         _ => write_item(&mut draft.last, later, names, name, answer),
     }
@@ -71,7 +71,7 @@ fn write_array_by<H: Threads + Sync>(
     workers: usize,
     draft: &mut Draft,
     name: &str,
-    values: &[i64],
+    values: &Values,
 ) -> Result<(), NoMemory>
     ensures { OnOk result (draft_bytes draft.new ≡ draft_bytes draft.old ++ array_object name.now values.now) }
 {

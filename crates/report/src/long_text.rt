@@ -12,7 +12,7 @@ use crate::as_text::write_line;
 use crate::draft::Draft;
 use crate::pieces::Report;
 use crate::separator::Separator;
-use job_plan::Answer;
+use job_plan::{Answer, Values};
 use std::alloc::Global;
 use std::thread::Threads;
 use stream_tokens::Bytes;
@@ -52,7 +52,7 @@ fn write_line_by<H: Threads + Sync>(
     ensures { OnOk result (draft_bytes draft.new ≡ draft_bytes draft.old ++ line_of names.now name.now answer.now) }
 {
     match answer {
-        Answer::Array(values) => write_array_line(rt, workers, draft, name, values.as_slice()),
+        Answer::Array(values) => write_array_line(rt, workers, draft, name, values),
         _ => write_line(&mut draft.last, names, name, answer),
     }
 }
@@ -63,7 +63,7 @@ fn write_array_line<H: Threads + Sync>(
     workers: usize,
     draft: &mut Draft,
     name: &[u8],
-    values: &[i64],
+    values: &Values,
 ) -> Result<(), NoMemory>
     ensures { OnOk result (draft_bytes draft.new ≡ draft_bytes draft.old
         ++ (name.now ++ codes " = " ++ array_text values.now ++ codes "\n")) }

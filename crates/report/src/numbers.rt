@@ -2,7 +2,7 @@
 //!
 //! Of many, a few at a time are written into room on the stack, from the last one to the first, since the digits of a
 //! number come from its last one to its first. Then they are appended at once.
-ghost use Rattle.std.specs.Prelude.{◌≡◌, ◌+◌, ◌*◌, ◌≤◌, ◌++◌, drop, length, OnOk};
+ghost use Rattle.std.specs.Prelude.{◌≡◌, ◌+◌, ◌*◌, ◌≤◌, ◌++◌, [], ◌∷◌, drop, flat_map, length, IfNone, IfSome, OnOk};
 ghost use Rattle.std.specs.Fmt.{signed_decimal};
 ghost use Rattle.report.specs.Numbers.{parted, separator_bytes};
 ghost use Rattle.report.specs.Text.{further};
@@ -10,6 +10,7 @@ ghost use Rattle.report.specs.Text.{further};
 use crate::NoMemory;
 use crate::separator::Separator;
 use itoa::{Buffer, write_digits};
+use job_plan::Values;
 
 /// How many numbers are written at a time.
 const AT_A_TIME: usize = 64;
@@ -23,19 +24,53 @@ pub(crate) fn write_number(text: &mut Vec<u8>, value: i64) -> Result<(), NoMemor
     text.extend_from_slice(Buffer::new().format(value).as_bytes())
 }
 
-/// Appends the numbers, parted by the separator.
+/// Appends the numbers of an array, parted by the separator.
 pub(crate) fn write_numbers(
     text: &mut Vec<u8>,
     separator: Separator,
-    values: &[i64],
+    values: &Values,
 ) -> Result<(), NoMemory>
     ensures { OnOk result (text.new.items ≡ text.old.items ++ parted separator values.now) }
 {
-    let Some((first, others)) = values.split_first() else {
+    let Some((first, rest, pieces)) = split_first(values.pieces()) else {
         return Ok(());
     };
-    write_number(text, *first)?;
-    write_further(text, separator, others)
+    write_number(text, first)?;
+    write_others(text, separator, rest, pieces)
+}
+
+/// The first number of pieces, the others of its piece, and the pieces after that one. Pieces without numbers are skipped.
+pub(crate) fn split_first(pieces: &[Vec<i64>]) -> Option<(i64, &[i64], &[Vec<i64>])>
+    ensures some { IfSome result (λ found. flat_map (λ piece. piece.items) pieces.now
+        ≡ found.0 ∷ (found.1.now ++ flat_map (λ piece. piece.items) found.2.now)) }
+    ensures none { IfNone result (flat_map (λ piece. piece.items) pieces.now ≡ []) }
+{
+    let mut left = pieces;
+    while let Some((piece, later)) = left.split_first() {
+        if let Some((first, rest)) = piece.split_first() {
+            return Some((*first, rest, later));
+        }
+        left = later;
+    }
+    None
+}
+
+/// Appends the numbers after the first one, each after the separator: the others of its piece, and those of the pieces after
+/// that.
+pub(crate) fn write_others(
+    text: &mut Vec<u8>,
+    separator: Separator,
+    rest: &[i64],
+    pieces: &[Vec<i64>],
+) -> Result<(), NoMemory>
+    ensures { OnOk result (text.new.items ≡ text.old.items
+        ++ further (separator_bytes separator) (rest.now ++ flat_map (λ piece. piece.items) pieces.now)) }
+{
+    write_further(text, separator, rest)?;
+    for piece in pieces {
+        write_further(text, separator, piece)?;
+    }
+    Ok(())
 }
 
 /// Appends the numbers, each after the separator.

@@ -149,6 +149,8 @@ fn join_lines<'a>(
 /// with `.` continues the job above it, and every other line begins a job; blanks before that don't matter.
 /// A byte order mark at the start of the file is skipped. Takes memory for the vector, and for the bytes of
 /// texts of more than one line; time in proportion to the bytes.
+///
+/// For other programs: `streamrun` takes one text at a time, by `JobTexts`.
 pub fn job_texts<'a>(alloc: Global, bytes: &'a [u8]) -> Result<(u8, Vec<JobText<'a>>), TextFault>
     ensures version { IfOk result (λ found. version_of bytes.now ≡ found.0) }
     ensures texts { IfOk result (λ found. job_texts_of bytes.now ≡ Ok found.1.items) }

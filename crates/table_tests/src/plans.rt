@@ -43,7 +43,7 @@ fn shown(alloc: Global, answer: &Answer) -> Result<String, AllocError> {
         Answer::Truth(truth) => format!(in alloc; "{truth}"),
         Answer::Optional(None) => format!(in alloc; "OptionalLong.empty"),
         Answer::Optional(Some(number)) => format!(in alloc; "OptionalLong[{number}]"),
-        Answer::Array(values) => format!(in alloc; "{:?}", values.as_slice()),
+        Answer::Array(values) => format!(in alloc; "{:?}", values.to_vec(alloc)?.as_slice()),
         Answer::Fault(fault) => format!(in alloc;
             "fault of stage {} at {}",
             fault.stage,

@@ -69,6 +69,8 @@ impl SourceItems for RangeItems {
 }
 
 /// The items of values in a slice, at the places 0, 1, 2 and so on.
+///
+/// For other programs: the sources of `streamrun` are those of `job_plan`.
 #[derive(Clone, Copy)]
 pub struct ValueItems<'a> {
     pub values: &'a [i64],

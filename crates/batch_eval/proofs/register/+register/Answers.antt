@@ -71,3 +71,15 @@ eval_parted-eval_operand-second-requires t c =
     let d = c.decreases in
     let len : length c.eval_operand-first.new.room ≡ length c.args.room.now - 3072 = search rules in
     (omega (arith, d), (omega (arith, c.gather-count-2.ensures.within, c.requires.lanes), (search rules, (search rules, subst (λ (m : ℕ). FitsOperand c.args.b m) (sym len) c.requires.room.2))))
+
+pub eval_parted-eval_operand-requires : goal.eval_parted-eval_operand-requires
+eval_parted-eval_operand-requires t c =
+    let d = c.decreases in
+    let len : length c.split_at_mut-others.result.1.now ≡ length c.args.room.now - 3072 = search rules in
+    (omega (arith, d), (c.requires.lanes, (c.requires.xs, (c.requires.out, subst (λ (m : ℕ). FitsOperand c.args.a m) (sym len) c.requires.room.1))))
+
+pub eval_parted-eval_operand-requires-then-all_flags-2 : goal.eval_parted-eval_operand-requires-then-all_flags-2
+eval_parted-eval_operand-requires-then-all_flags-2 t c =
+    let d = c.decreases in
+    let len : length c.split_at_mut-others.result.1.now ≡ length c.args.room.now - 3072 = search rules in
+    (omega (arith, d), (c.requires.lanes, (c.requires.xs, (c.requires.out, subst (λ (m : ℕ). FitsOperand c.args.b m) (sym len) c.requires.room.2))))

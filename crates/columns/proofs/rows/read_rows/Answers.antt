@@ -6,7 +6,7 @@ use Rattle.columns.proofs.rows.read_rows.Goals as goal
 pub returns-then-not-branch-clause-rows : goal.returns-then-not-branch-clause-rows
 returns-then-not-branch-clause-rows c rows r =
     let so_far = c.loop-number.invariant.so_far rows r in
-    RowsLeft-end _ _ _ _ _ _ rows _ _ so_far (c.in_ok-next_record.ensures.gave so_far.left so_far.reading) c.if-not-branch.true
+    RowsLeft-end _ _ _ _ _ _ _ rows _ _ so_far (c.in_ok-next_record.ensures.gave so_far.left so_far.reading) c.if-not-branch.true
 
 pub returns-in_err-read_row-clause-rows : goal.returns-in_err-read_row-clause-rows
 returns-in_err-read_row-clause-rows c rows r =
@@ -14,7 +14,7 @@ returns-in_err-read_row-clause-rows c rows r =
     let fault = c.in_err-read_row.field-0.0 in
     let answer : c.from_residual-in_err-read_row.result ≡ Err fault = search rules in
     let width : length c.loop-number.columns ≡ length c.args.columns.now = search rules in
-    rw answer (λ no_want. RowsLeft-fault _ _ _ _ _ _ rows _ _ fault so_far
+    rw answer (λ no_want. RowsLeft-fault _ _ _ _ _ _ _ rows _ _ fault so_far
     (c.in_ok-next_record.ensures.gave so_far.left so_far.reading) c.if-not-branch.false (rw width at (c.in_err-read_row.ensures.refused no_want)))
 
 pub loop-number-preserved : goal.loop-number-preserved
@@ -24,6 +24,6 @@ loop-number-preserved c = record {
       let so_far = c.loop-number.invariant.so_far rows r in
       let width : length c.loop-number.columns ≡ length c.args.columns.now = search rules in
       let row = c.in_ok-read_row.ensures in
-      RowsLeft-more _ _ _ _ (map named c.loop-number.columns) _ _ rows _ _ so_far
+      RowsLeft-more _ _ _ _ _ (map named c.loop-number.columns) _ _ rows _ _ so_far
       (c.in_ok-next_record.ensures.gave so_far.left so_far.reading) c.if-not-branch.false (rw width at row.fits) row.ok;
 }

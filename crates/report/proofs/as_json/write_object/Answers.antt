@@ -1,4 +1,4 @@
-use Rattle.std.proofs.Common.{sym, subst}
+use Rattle.std.proofs.Common.{refl, sym, subst}
 use Rattle.std.proofs.lemmas.List.Elements.{All-get_or}
 use Rattle.serde_json.specs.View.{view}
 use Rattle.report.proofs.ArrayLemmas.{array_answer, optional_is}
@@ -15,4 +15,4 @@ returns-in-Optional c =
 
 pub returns-in-Array : goal.returns-in-Array
 returns-in-Array c =
-    rw (array_answer c.args.names.now c.args.name.now c.args.answer.now c.in-Array.values c.as_slice.result.now c.in-Array.is c.as_slice.ensures) c.write_array.ensures
+    rw (array_answer c.args.names.now c.args.name.now c.args.answer.now c.in-Array.values c.in-Array.values c.in-Array.is refl) c.write_array.ensures

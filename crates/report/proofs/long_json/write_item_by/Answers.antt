@@ -1,3 +1,4 @@
+use Rattle.std.proofs.Common.{refl}
 use Rattle.serde_json.specs.Written.{comma_if}
 use Rattle.report.specs.Numbers.{array_object}
 use Rattle.report.specs.Pieces.{draft_bytes}
@@ -8,7 +9,7 @@ use Rattle.report.proofs.long_json.write_item_by.Goals as goal
 
 pub returns-in_ok-write_comma_if-in-Array : goal.returns-in_ok-write_comma_if-in-Array
 returns-in_ok-write_comma_if-in-Array g c =
-    let values = c.as_slice.result.now in
+    let values = c.in-Array.values in
     let written = appended_two c.write_array_by.result (joined_bytes c.args.draft.now.pieces.items) c.args.draft.now.last.items c.write_comma_if.new.report.items
     (draft_bytes c.write_array_by.new.draft) (comma_if c.args.later) (array_object c.args.name.now values) c.in_ok-write_comma_if-in-Array.ensures c.write_array_by.ensures in
-    rw (array_answer c.args.names.now c.args.name.now c.args.answer.now c.in-Array.values values c.in-Array.is c.as_slice.ensures) written
+    rw (array_answer c.args.names.now c.args.name.now c.args.answer.now values values c.in-Array.is refl) written

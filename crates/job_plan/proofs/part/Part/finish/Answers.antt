@@ -5,8 +5,8 @@ use Rattle.job_plan.specs.Plans.{walk_of, last_stage}
 use Rattle.job_plan.proofs.PartLemmas.{array_ends}
 use Rattle.job_plan.proofs.part.Part.finish.Goals as goal
 
-pub returns-in_ok-finish-in-Array-clause-some : goal.returns-in_ok-finish-in-Array-clause-some
-returns-in_ok-finish-in-Array-clause-some c s t h =
+pub returns-in-Array-clause-some : goal.returns-in-Array-clause-some
+returns-in-Array-clause-some c s t h =
     let env = c.args.env.now in
-    array_ends s.ending (last_stage s) env c.in-Array.part (walk_of s env t) c.in_ok-finish-in-Array.field-0
-    (subst (λ (p : Part). StandsFor s env p t) c.in-Array.is h) c.in_ok-finish-in-Array.ensures
+    array_ends s.ending (last_stage s) env c.in-Array.part (walk_of s env t) c.finish-in-Array.result
+    (subst (λ (p : Part). StandsFor s env p t) c.in-Array.is h) c.finish-in-Array.ensures

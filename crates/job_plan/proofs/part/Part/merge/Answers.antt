@@ -3,8 +3,7 @@ use Rattle.job_plan.specs.declared.part.Part.{Part}
 use Rattle.job_plan.specs.declared.part.Part.TheVariants as part
 use Rattle.job_plan.specs.Parts.{StandsFor}
 use Rattle.job_plan.specs.Plans.{walk_of, last_stage}
-use Rattle.job_plan.proofs.ExactLemmas.{sums_merge}
-use Rattle.job_plan.proofs.PartLemmas.{on_walks, folds_merge, finds_merge}
+use Rattle.job_plan.proofs.PartLemmas.{on_walks, folds_merge, finds_merge, sums_merge}
 use Rattle.job_plan.proofs.part.Part.merge.Goals as goal
 
 pub returns-in-Fold-right-clause-ok : goal.returns-in-Fold-right-clause-ok

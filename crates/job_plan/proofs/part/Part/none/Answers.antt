@@ -1,6 +1,6 @@
 use Rattle.std.proofs.Common.{sym, subst}
 use Rattle.trace.specs.Trace.{nothing}
-use Rattle.job_plan.specs.declared.segment.SegmentEnd.{SegmentEnd}
+use Rattle.job_plan.specs.declared.ends.SegmentEnd.{SegmentEnd}
 use Rattle.job_plan.specs.declared.part.Part.TheVariants as part
 use Rattle.job_plan.specs.Parts.{EndsFor, end_in}
 use Rattle.job_plan.proofs.part.Part.none.Goals as goal

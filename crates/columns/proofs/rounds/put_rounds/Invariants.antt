@@ -1,0 +1,12 @@
+use Rattle.std.proofs.Common.{◌<◌, ◌≤◌, length, map}
+use Rattle.columns.specs.Fronts.{Goes}
+use Rattle.columns.specs.TableOfColumns.{named}
+use Rattle.columns.proofs.rounds.put_rounds.Given as goal
+
+-- the rounds so far are put
+abbrev pub invariant-loop : goal.invariant-loop
+invariant-loop g l =
+    (0 < length l.columns)
+    × Goes (g.R.CountedRead.remaining l.initial.reader) (g.R.CountedRead.remaining l.reader) l.initial.bytes.items l.bytes.items
+    (map named l.initial.columns) (map named l.columns)
+    × (g.R.CountedRead.failures l.initial.reader ≤ g.R.CountedRead.failures l.reader)

@@ -1,0 +1,399 @@
+//! Long column files, read and parsed at the same time.
+//!
+//! A file is read in rounds. While the whole lines of one round are parsed in pieces, the bytes of the next one are read
+//! into another buffer, after the begin of its first line. So few bytes of the file are held at a time, and the same memory
+//! takes all of them: memory that is new to the system costs more time than the reading.
+//!
+//! From a round with another row than plain ones on, all bytes are read whole, and `csv` puts their rows under the columns.
+ghost use Rattle.std.specs.Prelude.{◌≡◌, ◌≢◌, ◌⊎◌, ◌++◌, ◌+◌, ◌<◌, ◌≤◌, ◌-◌, [], ℕ, List, true, IfErr, IfOk, OnOk, length, map, take, drop, get_or, vec_len};
+ghost use denote.Param.Send.{IsSync};
+ghost use Rattle.std.specs.Bool.{MatchBool};
+ghost use Rattle.std.specs.Io.KnownBytes.{Consumes, IsAtEnd};
+ghost use Rattle.counted_io.specs.CountedRead.{GaveSome, HasGiven};
+ghost use Rattle.counted_io.specs.FailureCounts.{HasRisen};
+ghost use Rattle.columns.specs.Cells.{IsAnswerTo};
+ghost use Rattle.csv.specs.Reading.{strip_bom};
+ghost use Rattle.columns.specs.Fronts.{ArePutUnder, Goes, IsFront, IsPutBy, IsReadWhole};
+ghost use Rattle.columns.specs.Pieces.{cells_at};
+ghost use Rattle.columns.specs.PlainRows.{AreRead};
+ghost use Rattle.columns.specs.TableOfColumns.{named};
+
+use crate::fault::ColumnFault;
+use crate::header::without_mark;
+use crate::pieces::{Piece, empty_pieces, put_plain_text};
+use crate::reading::{columns_in, plain_header, rows_to_expect};
+use crate::records::reader_of;
+use crate::rows::read_rows;
+use crate::table::{Column, Columns};
+use counted_io::{CountedRead, ReadAllFault, read_up_to};
+use csv::ByteRecord;
+use std::alloc::{AllocError, Global};
+use std::thread::Threads;
+use std::{mem, thread};
+
+/// How a round ended.
+#[derive(Clone, Copy)]
+enum Round {
+    /// Its rows are put, and the reader may have more bytes.
+    Put,
+    /// Its rows are put, and the reader has no more bytes.
+    Last,
+    /// It has a row that isn't plain, and none is put.
+    Other,
+}
+
+/// Reads on, after the bytes that are there, until they are `limit` bytes, and answers whether the reader is at its end.
+pub(crate) fn read_on<R: CountedRead>(
+    reader: &mut R,
+    bytes: &mut Vec<u8>,
+    limit: usize,
+) -> Result<bool, ColumnFault>
+    ensures bytes { OnOk result (HasGiven (R.remaining reader.old) (R.remaining reader.new) bytes.old.items bytes.new.items) }
+    ensures end { IfOk result (λ is_end. is_end ≡ true → IsAtEnd (R.remaining reader.new)) }
+    ensures gave { GaveSome (R.remaining reader.old) (R.remaining reader.new) }
+    ensures refused { IfErr result (λ fault. (fault ≡ ColumnFault.Read) ⊎ (fault ≡ ColumnFault.NoMemory)) }
+    ensures read { IfErr result (λ fault. fault ≡ ColumnFault.Read → HasRisen (R.failures reader.old) (R.failures reader.new)) }
+    ensures counts { R.failures reader.old ≤ R.failures reader.new }
+{
+    match read_up_to(reader, bytes, limit) {
+        Ok(is_end) => Ok(is_end),
+        Err(ReadAllFault::Failed) => Err(ColumnFault::Read),
+        Err(ReadAllFault::NoMemory) => Err(ColumnFault::NoMemory),
+    }
+}
+
+/// The columns of a file of which these bytes are read, and of all that the reader has left.
+pub(crate) fn columns_in_rounds<H: Threads + Sync, R: CountedRead>(
+    rt: &H,
+    alloc: Global,
+    reader: &mut R,
+    bytes: Vec<u8>,
+    workers: usize,
+    piece: usize,
+) -> Result<Columns, ColumnFault>
+    ensures answer { (gone : List ℕ) × Consumes (R.remaining reader.old) (R.remaining reader.new) gone
+        × IsAnswerTo (bytes.items ++ gone) result }
+    ensures end { IsReadWhole (R.remaining reader.new) result }
+    ensures read { IfErr result (λ fault. fault ≡ ColumnFault.Read → HasRisen (R.failures reader.old) (R.failures reader.new)) }
+    ensures counts { R.failures reader.old ≤ R.failures reader.new }
+{
+    let total = bytes.len().saturating_add(reader.likely_size());
+    if bytes.len() >= MARK.len() {
+        if let Some((columns, end)) = plain_header(alloc, &bytes, total) {
+            return columns_after(rt, alloc, reader, bytes, end, columns, workers, piece);
+        }
+    }
+    columns_by_records(alloc, reader, bytes)
+}
+
+/// The same, by their records.
+fn columns_by_records<R: CountedRead>(
+    alloc: Global,
+    reader: &mut R,
+    mut bytes: Vec<u8>,
+) -> Result<Columns, ColumnFault>
+    ensures answer { (gone : List ℕ) × Consumes (R.remaining reader.old) (R.remaining reader.new) gone
+        × IsAnswerTo (bytes.items ++ gone) result }
+    ensures end { IsReadWhole (R.remaining reader.new) result }
+    ensures read { IfErr result (λ fault. fault ≡ ColumnFault.Read → HasRisen (R.failures reader.old) (R.failures reader.new)) }
+    ensures counts { R.failures reader.old ≤ R.failures reader.new }
+{
+    if !read_on(reader, &mut bytes, usize::MAX)? {
+        return Err(ColumnFault::NoMemory);
+    }
+    columns_in(alloc, &bytes)
+}
+
+/// The same, of bytes whose header ends at `end` after a mark, with the columns under it.
+fn columns_after<H: Threads + Sync, R: CountedRead>(
+    rt: &H,
+    alloc: Global,
+    reader: &mut R,
+    mut bytes: Vec<u8>,
+    end: usize,
+    mut columns: Vec<Column>,
+    workers: usize,
+    piece: usize,
+) -> Result<Columns, ColumnFault>
+    requires within { end ≤ length (strip_bom bytes.items) }
+    requires some_column { 0 < vec_len columns }
+    requires long { 3 ≤ vec_len bytes }
+    requires front { IsFront (take end (strip_bom bytes.items)) (map named columns.items) }
+    ensures answer { (gone : List ℕ) × Consumes (R.remaining reader.old) (R.remaining reader.new) gone
+        × IsAnswerTo (bytes.items ++ gone) result }
+    ensures end { IsReadWhole (R.remaining reader.new) result }
+    ensures read { IfErr result (λ fault. fault ≡ ColumnFault.Read → HasRisen (R.failures reader.old) (R.failures reader.new)) }
+    ensures counts { R.failures reader.old ≤ R.failures reader.new }
+{
+    put_rows_after(
+        rt,
+        alloc,
+        reader,
+        &mut bytes,
+        end,
+        workers,
+        piece,
+        columns.as_mut_slice(),
+    )?;
+    Ok(Columns::of(columns))
+}
+
+/// Puts the rows from `end` on, after a mark, and of all that the reader has left under the columns.
+fn put_rows_after<H: Threads + Sync, R: CountedRead>(
+    rt: &H,
+    alloc: Global,
+    reader: &mut R,
+    bytes: &mut Vec<u8>,
+    end: usize,
+    workers: usize,
+    piece: usize,
+    columns: &mut [Column],
+) -> Result<(), ColumnFault>
+    requires within { end ≤ length (strip_bom bytes.old.items) }
+    requires some_column { 0 < length columns.old }
+    ensures put { IsPutBy (R.remaining reader.old) (R.remaining reader.new) (drop end (strip_bom bytes.old.items))
+        (map named columns.old) result (map named columns.new) }
+    ensures end { IsReadWhole (R.remaining reader.new) result }
+    ensures read { IfErr result (λ fault. fault ≡ ColumnFault.Read → HasRisen (R.failures reader.old) (R.failures reader.new)) }
+    ensures counts { R.failures reader.old ≤ R.failures reader.new }
+{
+    let limit = bytes.len();
+    let first = &without_mark(bytes)[end..];
+    match room_for_rounds(alloc, first, limit, workers, piece, columns.len()) {
+        Ok((mut next, mut pieces)) => put_rounds(
+            rt,
+            alloc,
+            reader,
+            &mut next,
+            bytes,
+            limit,
+            piece,
+            pieces.as_mut_slice(),
+            columns,
+        ),
+        Err(AllocError) => put_by_records(alloc, reader, first, columns),
+    }
+}
+
+/// A buffer of `limit` bytes that begins with these, and pieces for the workers.
+fn room_for_rounds(
+    alloc: Global,
+    bytes: &[u8],
+    limit: usize,
+    workers: usize,
+    piece: usize,
+    width: usize,
+) -> Result<(Vec<u8>, Vec<Piece>), AllocError>
+    ensures { IfOk result (λ room. room.0.items ≡ bytes.now) }
+{
+    let mut next = Vec::with_capacity(alloc, limit)?;
+    next.extend_from_slice(bytes)?;
+    let first = &bytes[..piece.min(bytes.len())];
+    let rows = rows_to_expect(first, first.len(), width);
+    let pieces = empty_pieces(alloc, workers, width, rows)?;
+    Ok((next, pieces))
+}
+
+/// Puts the rows of these bytes and of all that the reader has left under the columns, round by round.
+fn put_rounds<H: Threads + Sync, R: CountedRead>(
+    rt: &H,
+    alloc: Global,
+    reader: &mut R,
+    bytes: &mut Vec<u8>,
+    spare: &mut Vec<u8>,
+    limit: usize,
+    piece: usize,
+    pieces: &mut [Piece],
+    columns: &mut [Column],
+) -> Result<(), ColumnFault>
+    requires some_column { 0 < length columns.old }
+    ensures put { IsPutBy (R.remaining reader.old) (R.remaining reader.new) bytes.old.items
+        (map named columns.old) result (map named columns.new) }
+    ensures end { IsReadWhole (R.remaining reader.new) result }
+    ensures read { IfErr result (λ fault. fault ≡ ColumnFault.Read → HasRisen (R.failures reader.old) (R.failures reader.new)) }
+    ensures counts { R.failures reader.old ≤ R.failures reader.new }
+{
+    for _ in 0..u64::MAX {
+        match next_round(rt, reader, bytes, spare, limit, piece, pieces, columns)? {
+            Round::Put => {}
+            Round::Last => return put_last(rt, alloc, reader, bytes, piece, pieces, columns),
+            Round::Other => return put_by_records(alloc, reader, bytes, columns),
+        }
+    }
+    // No file is that long.
+    Err(ColumnFault::NoMemory)
+}
+
+/// Puts the rows of the whole lines that were read under the columns, and reads the next bytes meanwhile.
+fn next_round<H: Threads + Sync, R: CountedRead>(
+    rt: &H,
+    reader: &mut R,
+    bytes: &mut Vec<u8>,
+    spare: &mut Vec<u8>,
+    limit: usize,
+    piece: usize,
+    pieces: &mut [Piece],
+    columns: &mut [Column],
+) -> Result<Round, ColumnFault>
+    requires some_column { 0 < length columns.old }
+    ensures goes { OnOk result (Goes (R.remaining reader.old) (R.remaining reader.new) bytes.old.items bytes.new.items
+        (map named columns.old) (map named columns.new)) }
+    ensures end { IfOk result (λ round. round ≡ Round.Last → IsAtEnd (R.remaining reader.new)) }
+    ensures gave { GaveSome (R.remaining reader.old) (R.remaining reader.new) }
+    ensures refused { IfErr result (λ fault. (fault ≡ ColumnFault.Read) ⊎ (fault ≡ ColumnFault.NoMemory)) }
+    ensures read { IfErr result (λ fault. fault ≡ ColumnFault.Read → HasRisen (R.failures reader.old) (R.failures reader.new)) }
+    ensures counts { R.failures reader.old ≤ R.failures reader.new }
+{
+    let end = last_line_end(bytes);
+    if end == 0 {
+        return Ok(Round::Other);
+    }
+    begin_with(spare, &bytes[end..])?;
+    let (put, read) = put_and_read(
+        rt,
+        reader,
+        spare,
+        limit,
+        &bytes[..end],
+        piece,
+        pieces,
+        columns,
+    );
+    let is_end = read?;
+    if !put? {
+        bytes.truncate(end);
+        bytes.extend_from_slice(spare)?;
+        return Ok(Round::Other);
+    }
+    mem::swap(bytes, spare);
+    Ok(if is_end { Round::Last } else { Round::Put })
+}
+
+/// Puts bytes in place of those that are there.
+fn begin_with(spare: &mut Vec<u8>, bytes: &[u8]) -> Result<(), AllocError>
+    ensures { OnOk result (spare.new.items ≡ bytes.now) }
+{
+    spare.clear();
+    spare.extend_from_slice(bytes)?;
+    Ok(())
+}
+
+/// Where the last line feed ends, or 0 if there is none.
+fn last_line_end(bytes: &[u8]) -> usize
+    ensures within { result ≤ length bytes.now }
+    ensures feed { 0 < result → get_or bytes.now (result - 1) 0 ≡ 10 }
+{
+    let mut end = bytes.len();
+    while end > 0 && bytes[end - 1] != b'\n' {
+        end -= 1;
+    }
+    end
+}
+
+/// Puts the rows of whole lines under the columns, on threads, and reads on into `spare` on this one.
+fn put_and_read<H: Threads + Sync, R: CountedRead>(
+    rt: &H,
+    reader: &mut R,
+    spare: &mut Vec<u8>,
+    limit: usize,
+    text: &[u8],
+    piece: usize,
+    pieces: &mut [Piece],
+    columns: &mut [Column],
+) -> (Result<bool, AllocError>, Result<bool, ColumnFault>)
+    requires some_column { 0 < length columns.old }
+    ensures put { IfOk result.0 (λ is_plain. MatchBool is_plain
+        (AreRead text.now [] (map named columns.old) (map named columns.new)) (map named columns.new ≡ map named columns.old)) }
+    ensures bytes { OnOk result.1 (HasGiven (R.remaining reader.old) (R.remaining reader.new) spare.old.items spare.new.items) }
+    ensures end { IfOk result.1 (λ is_end. is_end ≡ true → IsAtEnd (R.remaining reader.new)) }
+    ensures gave { GaveSome (R.remaining reader.old) (R.remaining reader.new) }
+    ensures refused { IfErr result.1 (λ fault. (fault ≡ ColumnFault.Read) ⊎ (fault ≡ ColumnFault.NoMemory)) }
+    ensures read { IfErr result.1 (λ fault. fault ≡ ColumnFault.Read → HasRisen (R.failures reader.old) (R.failures reader.new)) }
+    ensures counts { R.failures reader.old ≤ R.failures reader.new }
+{
+    let mut put = || -> Result<bool, AllocError>
+        requires { IsSync H.row × (0 < length columns.now) }
+        ensures { IfOk result (λ is_plain. MatchBool is_plain
+            (AreRead text.entry.now [] (map named columns.entry.now) (map named columns.exit.now))
+            (map named columns.exit.now ≡ map named columns.entry.now)) }
+    { put_plain_text(rt, text, piece, pieces, columns) };
+    let mut read = || -> Result<bool, ColumnFault>
+        ensures bytes { OnOk result (HasGiven (R.remaining reader.entry.now) (R.remaining reader.exit.now) spare.entry.now.items spare.exit.now.items) }
+        ensures end { IfOk result (λ is_end. is_end ≡ true → IsAtEnd (R.remaining reader.exit.now)) }
+        ensures gave { GaveSome (R.remaining reader.entry.now) (R.remaining reader.exit.now) }
+        ensures refused { IfErr result (λ fault. (fault ≡ ColumnFault.Read) ⊎ (fault ≡ ColumnFault.NoMemory)) }
+        ensures read { IfErr result (λ fault. fault ≡ ColumnFault.Read → HasRisen (R.failures reader.entry.now) (R.failures reader.exit.now)) }
+        ensures counts { R.failures reader.entry.now ≤ R.failures reader.exit.now }
+    { read_on(reader, spare, limit) };
+    thread::join_mut(rt, &mut put, &mut read)
+}
+
+/// Puts the rows of the last bytes under the columns, after which the reader has none.
+fn put_last<H: Threads + Sync, R: CountedRead>(
+    rt: &H,
+    alloc: Global,
+    reader: &mut R,
+    bytes: &[u8],
+    piece: usize,
+    pieces: &mut [Piece],
+    columns: &mut [Column],
+) -> Result<(), ColumnFault>
+    requires end { IsAtEnd (R.remaining reader.old) }
+    requires some_column { 0 < length columns.old }
+    ensures put { IsPutBy (R.remaining reader.old) (R.remaining reader.new) bytes.now
+        (map named columns.old) result (map named columns.new) }
+    ensures end { IsReadWhole (R.remaining reader.new) result }
+    ensures read { IfErr result (λ fault. fault ≡ ColumnFault.Read → HasRisen (R.failures reader.old) (R.failures reader.new)) }
+    ensures counts { R.failures reader.old ≤ R.failures reader.new }
+{
+    if put_plain_text(rt, bytes, piece, pieces, columns)? {
+        return Ok(());
+    }
+    put_by_records(alloc, reader, bytes, columns)
+}
+
+/// A byte order mark. `csv` skips one at the start of a text.
+const MARK: [u8; 3] = [0xEF, 0xBB, 0xBF];
+
+/// Puts the rows of these bytes and of all that the reader has left under the columns, by their records.
+fn put_by_records<R: CountedRead>(
+    alloc: Global,
+    reader: &mut R,
+    bytes: &[u8],
+    columns: &mut [Column],
+) -> Result<(), ColumnFault>
+    requires some_column { 0 < length columns.old }
+    ensures put { IsPutBy (R.remaining reader.old) (R.remaining reader.new) bytes.now
+        (map named columns.old) result (map named columns.new) }
+    ensures end { IsReadWhole (R.remaining reader.new) result }
+    ensures read { IfErr result (λ fault. fault ≡ ColumnFault.Read → HasRisen (R.failures reader.old) (R.failures reader.new)) }
+    ensures counts { R.failures reader.old ≤ R.failures reader.new }
+{
+    // The mark that `csv` skips stands before the bytes, so it skips none of theirs.
+    let mut text = Vec::from_slice(alloc, &MARK)?;
+    text.extend_from_slice(bytes)?;
+    if !read_on(reader, &mut text, usize::MAX)? {
+        return Err(ColumnFault::NoMemory);
+    }
+    put_records(alloc, &text, columns)
+}
+
+/// Puts the rows of a text, after a mark at its start, under the columns.
+fn put_records(alloc: Global, text: &[u8], columns: &mut [Column]) -> Result<(), ColumnFault>
+    requires some_column { 0 < length columns.old }
+    ensures put { ArePutUnder (strip_bom text.now) (map named columns.old) result (map named columns.new) }
+    ensures unread { IfErr result (λ fault. fault ≢ ColumnFault.Read) }
+{
+    let mut reader = reader_of(alloc, text);
+    let mut row = ByteRecord::new(alloc);
+    let number = next_row(columns);
+    read_rows(&mut reader, &mut row, columns, number)
+}
+
+/// The number of the row that comes under the columns next.
+fn next_row(columns: &[Column]) -> usize
+    requires { 0 < length columns.now }
+    ensures { result ≡ length (cells_at (map named columns.now) 0) + 1 }
+{
+    columns[0].cells.len() + 1
+}

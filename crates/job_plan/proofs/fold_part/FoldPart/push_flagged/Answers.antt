@@ -1,0 +1,23 @@
+use Rattle.std.proofs.Common.{refl, subst, ◌∙◌}
+use Rattle.trace.specs.declared.item.End.TheVariants as end
+use Rattle.trace.specs.Trace.{trace}
+use Rattle.reduce_ops.specs.Parts.{StandsFor}
+use Rattle.job_plan.specs.declared.fold_part.FoldPart.{FoldPart}
+use Rattle.job_plan.specs.Plans.{counted_as}
+use Rattle.job_plan.proofs.BatchLemmas.{merged_end}
+use Rattle.job_plan.proofs.PartLemmas.{as_counted, fold_on}
+use Rattle.job_plan.proofs.fold_part.FoldPart.push_flagged.Goals as goal
+
+pub returns-in-Some-clause-taken : goal.returns-in-Some-clause-taken
+returns-in-Some-clause-taken c = λ yes f a counts t xs same s.
+    let p = c.args.self.now in
+    let right = c.in-Some.right in
+    let r : FoldPart = record { partial = c.merge-self.result; start = p.start; counts = p.counts } in
+    let op = c.in-Some.ensures.op ∙ c.op.ensures in
+    let here = subst (λ k. StandsFor right (trace (counted_as k xs) end.Done)) s.counting (c.in-Some.ensures.stands xs same) in
+    fold_on f a counts p r t (trace xs end.Done) s refl refl c.merge-self.ensures.op
+    (λ stands. c.merge-self.ensures.stands (as_counted counts t) (trace (counted_as counts xs) end.Done) op stands here)
+
+pub returns-in-Some-clause-ending : goal.returns-in-Some-clause-ending
+returns-in-Some-clause-ending c =
+    merged_end c.args.self.now.partial c.in-Some.right c.merge-self.result c.merge-self.ensures.stands (c.in-Some.ensures.op ∙ c.op.ensures) c.in-Some.ensures.ending

@@ -1,0 +1,129 @@
+//! What ends a segment, and all that is asked of it but its parts.
+
+ghost use Rattle.std.specs.Prelude.{◌≡◌, None, Some, IfNone, IfSome};
+ghost use Rattle.slice_ops.specs.Slices.{slice_of};
+ghost use Rattle.job_language.specs.Jobs.{terminal_of};
+ghost use Rattle.job_plan.specs.Parts.{end_in, fallback_in};
+ghost use Rattle.job_plan.specs.Plans.{end_of, gives_walk, slice_in};
+ghost use Rattle.job_plan.specs.Walks.{number_as};
+
+use crate::fallback::Fallback;
+use find_ops::FindTerminal;
+use job_language::Terminal;
+use lambda_expr::BoolExpr;
+use reduce_ops::Op;
+use slice_ops::Slice;
+
+/// A fold of the values of a walk.
+#[derive(Clone, Copy)]
+pub struct Fold {
+    pub op: Op,
+    /// What is folded before the first value: the answer is then a number, else an optional.
+    pub start: Option<i64>,
+    /// Whether a 1 stands for each value.
+    pub counts: bool,
+}
+
+/// A prefix of the values of a walk: each becomes the fold of the values up to and with it.
+#[derive(Clone, Copy)]
+pub struct Prefix {
+    pub op: Op,
+    /// The positions of the walk, from the first up to, not with, the second, at which it does so; without them, all.
+    pub range: Option<(u64, u64)>,
+}
+
+/// What ends a segment.
+#[derive(Drop)]
+pub enum SegmentEnd {
+    /// A stage that looks at a whole walk.
+    Slice(Slice),
+    /// `sum`, `count`, `min`, `max`, `reduce`.
+    Fold(Fold),
+    /// `findFirst` and the three matches.
+    Find(FindTerminal),
+    /// `toArray`.
+    Array,
+    /// `prefix`.
+    Prefix(Prefix),
+    /// `reduce(0, Math::addExact)`.
+    ExactSum,
+}
+
+impl SegmentEnd {
+    /// A terminal as the end of a segment.
+    pub(crate) fn of(terminal: Terminal) -> SegmentEnd
+        ensures { end_in result ≡ end_of (terminal_of terminal) }
+    {
+        match terminal {
+            Terminal::Sum => folding(Op::Sum, Some(0), false),
+            Terminal::Count => folding(Op::Sum, Some(0), true),
+            Terminal::Min => folding(Op::Min, None, false),
+            Terminal::Max => folding(Op::Max, None, false),
+            Terminal::Reduce(op) => folding(op, None, false),
+            Terminal::ReduceFrom { identity, op } => folding(op, Some(identity), false),
+            Terminal::ToArray => SegmentEnd::Array,
+            Terminal::Find(find) => SegmentEnd::Find(find),
+            Terminal::ExactSum => SegmentEnd::ExactSum,
+        }
+    }
+
+    /// The stage that looks at a whole walk, if such a stage is the end.
+    pub fn slice(&self) -> Option<&Slice>
+        ensures some { IfSome result (λ slice. slice_in (end_in self.now) ≡ Some (slice_of slice.now)) }
+        ensures none { IfNone result (slice_in (end_in self.now) ≡ None) }
+    {
+        match self {
+            SegmentEnd::Slice(slice) => Some(slice),
+            SegmentEnd::Fold(_)
+            | SegmentEnd::Find(_)
+            | SegmentEnd::Array
+            | SegmentEnd::Prefix(_)
+            | SegmentEnd::ExactSum => None,
+        }
+    }
+
+    /// Whether it makes a walk of a walk, over which the next segment goes. Others give the answer of the job.
+    pub fn gives_walk(&self) -> bool
+        ensures { result ≡ gives_walk (end_in self.now) }
+    {
+        match self {
+            SegmentEnd::Slice(_) | SegmentEnd::Prefix(_) => true,
+            SegmentEnd::Fold(_) | SegmentEnd::Find(_) | SegmentEnd::Array | SegmentEnd::ExactSum =>
+                false,
+        }
+    }
+
+    /// The test that it asks of items while it takes them, if it asks one.
+    pub(crate) fn test(&self) -> Option<&BoolExpr> {
+        match self {
+            SegmentEnd::Find(FindTerminal::AnyMatch(test)) => Some(test),
+            SegmentEnd::Find(FindTerminal::AllMatch(test)) => Some(test),
+            SegmentEnd::Find(FindTerminal::NoneMatch(test)) => Some(test),
+            SegmentEnd::Slice(Slice::TakeWhile(test)) => Some(test),
+            _ => None,
+        }
+    }
+}
+
+/// A fold as the end of a segment.
+fn folding(op: Op, start: Option<i64>, counts: bool) -> SegmentEnd
+    ensures { result ≡ SegmentEnd.Fold (record { op = op; start = start; counts = counts }) }
+{
+    SegmentEnd::Fold(Fold { op, start, counts })
+}
+
+/// A number as a terminal gives it, where it stands in place of a fault.
+pub(crate) fn number_as(terminal: &Terminal, number: i64) -> Fallback
+    ensures { fallback_in result ≡ number_as (terminal_of terminal.now) number }
+{
+    match terminal {
+        Terminal::Sum | Terminal::Count | Terminal::ReduceFrom { .. } | Terminal::ExactSum => {
+            Fallback::Number(number)
+        }
+        Terminal::Min
+        | Terminal::Max
+        | Terminal::ToArray
+        | Terminal::Reduce(_)
+        | Terminal::Find(_) => Fallback::Optional(number),
+    }
+}
