@@ -33,6 +33,7 @@ pub fn text(alloc: Global, names: &[Bytes], answers: &[Answer]) -> Result<Vec<u8
     Ok(report)
 }
 
+/// Appends the line of one job: its name, ` = `, its answer and a line feed.
 pub(crate) fn write_line(
     report: &mut Vec<u8>,
     names: &[Bytes],

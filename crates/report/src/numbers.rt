@@ -18,6 +18,7 @@ const AT_A_TIME: usize = 64;
 /// The bytes that a number takes at most: a comma, a blank, a sign and 19 digits.
 const LONGEST: usize = 22;
 
+/// Appends a number in decimal digits, with a minus sign before them if it is negative.
 pub(crate) fn write_number(text: &mut Vec<u8>, value: i64) -> Result<(), NoMemory>
     ensures { OnOk result (text.new.items ≡ text.old.items ++ signed_decimal value) }
 {
