@@ -53,6 +53,7 @@ int main(int argc, char **argv) {
     TIME("any_match", int64_t n = 0, if (times(x, 3) > 1000000) break; n++, n)
     TIME("take_while", int64_t s = 0, if (times(x, 3) >= 1000000) break; s = plus(s, x), s)
     TIME("flat_map", int64_t s = 0, for (int64_t y = 0; y < (x & 3); y++) s = plus(s, y), s)
+    TIME("flat_map_pair", int64_t s = 0, s = plus(s, plus(x, x)), s)
     MAP("add", plus(x, 5))
     MAP("subtract", minus(5, x))
     MAP("multiply", times(x, x))

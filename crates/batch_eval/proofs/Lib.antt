@@ -1,5 +1,6 @@
 pub mod BatchWalkLemmas
 pub mod ChoiceLemmas
+pub mod FewLemmas
 pub mod Flags
 pub mod FlaggedLemmas
 pub mod Items

@@ -26,6 +26,12 @@ module _ {S : Type 0} (h : S → List Item → Type 0) (n : ℕ) (gs : List Abst
   pub holds_more : (whole pending part : List Item) (s : S) → Holds h n gs env xs whole pending s → Holds h n gs env xs (whole ++ part) (pending ++ part) s
   holds_more whole pending part s held = (held.0, ap (λ (ys : List Item). ys ++ part) held.1 ∙ append_assoc held.0 pending part, held.2)
 
+  -- the same of the items of two walks
+  pub holds_further : (front next : Trace) (part pending pending' : List Item) (s : S) → next ≡ trace (front.items ++ part) end.Done → pending' ≡ pending ++ part → Holds h n gs env xs front.items pending s → Holds h n gs env xs next.items pending' s
+  holds_further front next part pending pending' s more waits held =
+      let longer : Holds h n gs env xs (front.items ++ part) pending' s = subst (λ (ys : List Item). Holds h n gs env xs (front.items ++ part) ys s) (sym waits) (holds_more front.items pending part s held) in
+      subst (λ (u : Trace). Holds h n gs env xs u.items pending' s) (sym more) longer
+
   -- what waits goes on, and the walk ends so
   pub holds_ended : (whole pending : List Item) (e : End) (r : Result Fed AllocError) (s s' : S) → Holds h n gs env xs whole pending s → ((vs : List Item) → h s vs → IsFed h vs (pipe n gs env (trace pending e)) r s') → IsFed h xs (pipe n gs env (trace whole e)) r s'
   holds_ended whole pending e r s s' held here =

@@ -1,35 +1,56 @@
-//! The bounds of inner ranges, by columns: of all items of a batch before the first range is walked.
+//! The bounds of inner ranges, by columns: of all items of a batch before the first range is walked. For `of` with two
+//! operands their values are such a pair of numbers, too.
 
-ghost use Rattle.batch_eval.specs.Bounds.{HasBounds};
+ghost use Rattle.batch_eval.specs.Bounds.{HasBounds, HaveValues};
 ghost use Rattle.batch_eval.specs.Lanes.{at};
 ghost use Rattle.batch_eval.specs.Rooms.{FitsStages};
+ghost use Rattle.lambda_expr.specs.Earlier.{Numbers};
 ghost use Rattle.lambda_expr.specs.Streams.{distance, inner_of, inner_value, run_or_listed, run_values, through, up_from};
-ghost use Rattle.std.specs.Prelude.{◌≡◌, ◌+◌, ◌-◌, ◌<◌, ◌≤◌, ℕ, Err, IfErr, IfOk, Ok, length};
+ghost use Rattle.lambda_expr.specs.Term.{long_of};
+ghost use Rattle.std.specs.Prelude.{◌≡◌, ◌+◌, ◌-◌, ◌<◌, ◌≤◌, ℕ, ℤ, Err, IfErr, IfOk, IfSome, Ok, length};
 ghost use Rattle.trace.specs.Stages.{stages_of};
 
 use crate::register::{LANES, eval_long};
 use crate::room::{fits, stages_fit};
-use lambda_expr::{Env, FaultKind, InnerExpr, ListedValues, Run};
+use lambda_expr::{Env, FaultKind, InnerExpr, ListedValues, LongExpr, Run};
 use trace::Stage;
 
 /// How many values a range may have.
 const MAX_VALUES: u64 = 1 << 62;
 
-/// The bounds of the inner ranges at the first lanes of a batch.
+/// The bounds of the inner ranges, or the two values of `of`, at the first lanes of a batch.
 #[derive(Clone, Copy)]
 pub(crate) struct Bounds<'a> {
     pub(crate) froms: &'a [i64],
     pub(crate) tos: &'a [i64],
 }
 
-/// How much room each of the two bounds may take: a register, if the values are ranges and enough is left for the later
-/// stages, and else nothing.
+/// The expressions of the two numbers that the values of an inner stream come from, if it has such.
+fn bounds_of(inner: &InnerExpr) -> Option<(&LongExpr, &LongExpr)>
+    ensures { IfSome result (λ both. (env : Numbers) (x v w : ℤ) → HaveValues (long_of both.0.now) (long_of both.1.now) env x v w → HasBounds (inner_of inner.now) env x v w) }
+{
+    match inner {
+        InnerExpr::Range(from, to) | InnerExpr::RangeClosed(from, to) => Some((from, to)),
+        InnerExpr::Of(operands) => {
+            let (first, others) = operands.exprs().split_first()?;
+            let (second, others) = others.split_first()?;
+            if others.is_empty() {
+                Some((first, second))
+            } else {
+                None
+            }
+        }
+    }
+}
+
+/// How much room each of the two bounds may take: a register, if there are such and enough is left for the later stages,
+/// and else nothing.
 pub(crate) fn bound_room(inner: &InnerExpr, later: &[Stage], room: usize) -> usize
     requires { FitsStages (stages_of later.now) room }
     ensures within { result + result ≤ room }
     ensures left { FitsStages (stages_of later.now) (room - result - result) }
 {
-    if matches!(inner, InnerExpr::Of(_)) || room < 2 * LANES {
+    if bounds_of(inner).is_none() || room < 2 * LANES {
         return 0;
     }
     if stages_fit(later, room - LANES - LANES) {
@@ -39,8 +60,8 @@ pub(crate) fn bound_room(inner: &InnerExpr, later: &[Stage], room: usize) -> usi
     }
 }
 
-/// The bounds of ranges at the items `xs`, up to the first one whose bound has a fault. The result is how many lanes have
-/// bounds: none if the values are no ranges, or if there is no room for the expressions.
+/// The bounds at the items `xs`, up to the first one whose bound has a fault. The result is how many lanes have bounds:
+/// none if the inner stream has none, or if there is no room for the expressions.
 pub(crate) fn eval_bounds(
     inner: &InnerExpr,
     env: &Env,
@@ -49,11 +70,12 @@ pub(crate) fn eval_bounds(
     tos: &mut [i64],
     room: &mut [i64],
 ) -> usize
+    ensures items { result ≤ length xs.now }
     ensures froms { result ≤ length froms.new }
     ensures tos { result ≤ length tos.new }
     ensures bounds { (k : ℕ) → k < result → HasBounds (inner_of inner.now) env.now (at xs.now k) (at froms.new k) (at tos.new k) }
 {
-    let (InnerExpr::Range(from, to) | InnerExpr::RangeClosed(from, to)) = inner else {
+    let Some((from, to)) = bounds_of(inner) else {
         return 0;
     };
     if froms.len() < LANES
@@ -69,7 +91,7 @@ pub(crate) fn eval_bounds(
 }
 
 /// The integers from the first up to, not with, the second one.
-fn range(from: i64, to: i64) -> Result<Run, FaultKind>
+pub(crate) fn range(from: i64, to: i64) -> Result<Run, FaultKind>
     ensures ok { IfOk result (λ run. up_from from (distance from to) ≡ Ok (run_values run)) }
     ensures fault { IfErr result (λ kind. up_from from (distance from to) ≡ Err kind) }
 {
@@ -81,7 +103,7 @@ fn range(from: i64, to: i64) -> Result<Run, FaultKind>
 }
 
 /// The integers from the first up to and with the second one.
-fn closed_range(from: i64, to: i64) -> Result<Run, FaultKind>
+pub(crate) fn closed_range(from: i64, to: i64) -> Result<Run, FaultKind>
     ensures ok { IfOk result (λ run. up_from from (through from to) ≡ Ok (run_values run)) }
     ensures fault { IfErr result (λ kind. up_from from (through from to) ≡ Err kind) }
 {

@@ -22,6 +22,7 @@ mod constant;
 mod dispatch;
 mod exact;
 mod feeding;
+mod few;
 mod flag;
 mod flagged;
 mod keep;

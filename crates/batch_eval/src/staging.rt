@@ -108,7 +108,9 @@ pub(crate) fn feed_inner<S: BatchSink>(
         tos: &tos[..lanes],
     };
     let mut listed = ListedValues::new();
-    for position in 0..batch.count() {
+    let count = batch.count();
+    let mut position = pending.add_few(inner, bounds, batch, 0);
+    while position < count {
         let item = batch.item_at(position);
         match bounds.eval_at(position as usize, inner, item.value, env, &mut listed) {
             Ok(run) => {
@@ -127,6 +129,7 @@ pub(crate) fn feed_inner<S: BatchSink>(
                 return finish(later, stage + 1, env, end, pending, rest, room, sink);
             }
         }
+        position = pending.add_few(inner, bounds, batch, position + 1);
     }
     let end = batch.end();
     finish(later, stage + 1, env, end, pending, rest, room, sink)

@@ -9,6 +9,8 @@
 #[cfg(test)]
 mod edges;
 #[cfg(test)]
+mod few;
+#[cfg(test)]
 mod passing;
 #[cfg(test)]
 mod walks;

@@ -10,7 +10,8 @@ use Rattle.trace.specs.Sinks.{IsFed}
 use Rattle.trace.specs.Stages.{at_place, flat_map, flattened, of_item, pipe, stages_of}
 use Rattle.lambda_expr.specs.Streams.{inner_of, inner_value, run_or_listed}
 use Rattle.batch_eval.specs.Pours.{Holds}
-use Rattle.batch_eval.proofs.WaitingItemLemmas.{holds_none, holds_ended, holds_added, flushed, poured_rest, inner_stopped, each_next, each_fault, each_whole}
+use Rattle.batch_eval.proofs.FewLemmas.{bounds_taken}
+use Rattle.batch_eval.proofs.WaitingItemLemmas.{holds_none, holds_ended, holds_added, holds_further, flushed, poured_rest, inner_stopped, each_next, each_fault, each_whole}
 use Rattle.batch_eval.proofs.staging.+batches.Goals as goal
 
 pub feed_batch-returns-in-Map-clause-fed : goal.feed_batch-returns-in-Map-clause-fed
@@ -113,12 +114,22 @@ feed_inner-loop-position-init g t c =
     let n = c.args.stage + 1 in
     let gs = stages_of c.args.later.now in
     let env = c.args.env.now in
+    let os = c.args.batch.now.items in
+    let s = c.args.sink.now in
     let none : List Item = [] in
+    let inner = inner_of c.args.inner.now in
+    let lanes = c.eval_bounds-lanes.result in
+    let froms = c.eval_bounds-lanes.new.froms in
+    let tos = c.eval_bounds-lanes.new.tos in
+    let bounds = bounds_taken inner env os c.values.result.now froms tos (take lanes froms) (take lanes tos) lanes c.values.ensures refl refl c.eval_bounds-lanes.ensures.bounds in
+    let added = c.add_few-position.ensures.added c.args.stage env bounds in
+    let front : Trace = each (of_item c.args.stage (flat_map inner) env) (take c.add_few-position.result os) end.Done in
+    let next : front ≡ trace (none ++ added.0) end.Done = added.2 refl in
     record {
       room = search rules;
       wants = c.requires.wants;
-      done = refl;
-      held = λ xs took. subst (λ (b : Trace). Holds h n gs env xs none b.items c.args.sink.now) (sym c.clear.ensures) (holds_none h n gs env xs c.args.sink.now took);
+      done = ap (λ (u : Trace). u.ending) next;
+      held = λ xs took. holds_further h n gs env xs (trace none end.Done) front added.0 c.clear.new.self.items c.add_few-position.new.self.items s next added.1 (subst (λ (b : Trace). Holds h n gs env xs none b.items s) (sym c.clear.ensures) (holds_none h n gs env xs s took));
     }
 
 pub feed_inner-loop-position-preserved : goal.feed_inner-loop-position-preserved
@@ -135,13 +146,23 @@ feed_inner-loop-position-preserved g t c =
     let front : Trace = each f (take p os) end.Done in
     let same : to_z w64 (of_z w64 c.item_at-item.result.value) ≡ c.item_at-item.result.value = search rules in
     let gives : f y ≡ trace zs end.Done = ap (λ (v : ℤ). flattened c.args.stage y (inner_value (inner_of c.args.inner.now) v env)) (sym same) ∙ ap (flattened c.args.stage y) (c.in-Ok.ensures.ok ∙ ap (λ (vs : List ℤ). Ok (run_or_listed c.in-Ok.run' vs)) (sym c.as_slice.ensures.value)) in
-    let next : each f (take (p + 1) os) end.Done ≡ trace (front.items ++ zs) end.Done = each_next f os p y zs c.item_at-item.ensures c.loop-position.invariant.done gives in
+    let front' : Trace = each f (take (p + 1) os) end.Done in
+    let next : front' ≡ trace (front.items ++ zs) end.Done = each_next f os p y zs c.item_at-item.ensures c.loop-position.invariant.done gives in
     let poured = rw c.in-More.is at c.in_ok-stopped-in-Ok.ensures.poured in
+    let inner = inner_of c.args.inner.now in
+    let lanes = c.eval_bounds-lanes.result in
+    let froms = c.eval_bounds-lanes.new.froms in
+    let tos = c.eval_bounds-lanes.new.tos in
+    let bounds = bounds_taken inner env os c.values.result.now froms tos (take lanes froms) (take lanes tos) lanes c.values.ensures refl refl c.eval_bounds-lanes.ensures.bounds in
+    let further = c.add_few-position-in-loop-position in
+    let added = further.ensures.added c.args.stage env bounds in
+    let last : Trace = each f (take further.result os) end.Done in
+    let more : last ≡ trace (front'.items ++ added.0) end.Done = added.2 (ap (λ (u : Trace). u.ending) next) in
     record {
       room = search rules;
       wants = search rules;
-      done = ap (λ (u : Trace). u.ending) next;
-      held = λ xs took. subst (λ (u : Trace). Holds h n gs env xs u.items c.pour.new.pending.items c.pour.new.sink) (sym next) (poured xs front.items (c.loop-position.invariant.held xs took));
+      done = ap (λ (u : Trace). u.ending) more;
+      held = λ xs took. holds_further h n gs env xs front' last added.0 c.pour.new.pending.items further.new.self.items c.pour.new.sink more added.1 (subst (λ (u : Trace). Holds h n gs env xs u.items c.pour.new.pending.items c.pour.new.sink) (sym next) (poured xs front.items (c.loop-position.invariant.held xs took)));
     }
 
 pub feed_inner-returns-in_default-clause-fed : goal.feed_inner-returns-in_default-clause-fed
@@ -209,7 +230,7 @@ feed_inner-returns-clause-fed g t c = λ xs took.
     let p = c.loop-position.position in
     let f : Item → Trace = of_item c.args.stage (flat_map (inner_of c.args.inner.now)) env in
     let front : Trace = each f (take p os) end.Done in
-    let past : length os ≤ p = omega (arith, c.loop-position-test.false, c.count-position-end.ensures) in
+    let past : length os ≤ p = omega (arith, c.loop-position-test.false, c.count-count.ensures) in
     let whole : each f os e ≡ trace front.items e = each_whole f os p e past c.loop-position.invariant.done in
     let here = subst (λ (d : End). IsFed h xs (pipe n gs env (trace front.items d)) c.finish-2.result c.finish-2.new.sink) c.end-end.ensures (c.finish-2.ensures.fed xs front.items (c.loop-position.invariant.held xs took)) in
     subst (λ (u : Trace). IsFed h xs (pipe n gs env u) c.finish-2.result c.finish-2.new.sink) (sym whole) here

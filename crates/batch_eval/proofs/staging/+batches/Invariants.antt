@@ -24,6 +24,9 @@ decreases-pour g l = 4 * length l.stages.now + 2
 abbrev pub decreases-feed_inner : goal.decreases-feed_inner
 decreases-feed_inner g l = 4 * length l.later.now + 3
 
+abbrev pub decreases-feed_inner-loop-position : goal.decreases-feed_inner-loop-position
+decreases-feed_inner-loop-position g l = l.count - l.position
+
 abbrev pub decreases-pour-loop-position : goal.decreases-pour-loop-position
 decreases-pour-loop-position g l = l.count - l.position
 
