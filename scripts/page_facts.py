@@ -30,7 +30,7 @@ MESSAGES = [
     ('job_language/src/fault.rt', r'=> \{?\s*write!\(f, "([^"]+)"\)'),
     ('columns/src/fault.rt', r'#\[error\("([^"]+)"\)\]'),
     ('engine/src/running.rt', r'#\[error\("([^"]+)"\)\]'),
-    ('report/src/kind.rt', r'=> "([^"]+)"'),
+    ('report/src/answer_forms.rt', r'=> "([^"]+)"'),
     ('streamrun/src/main.rt', r'"streamrun: ([^"]+)"'),
 ]
 

@@ -9,16 +9,16 @@ use Rattle.job_language.specs.declared.piece.WrittenCall as written
 use Rattle.job_language.specs.declared.row.CallPart.{CallPart}
 use Rattle.job_language.specs.declared.fault.Cause.{Cause}
 use Rattle.job_language.specs.declared.fault.Cause.TheVariants as cause
-use Rattle.job_language.specs.declared.scope.Gives.{Gives}
-use Rattle.job_language.specs.declared.scope.Gives.TheVariants as gives
+use Rattle.job_language.specs.declared.terminal.Gives.{Gives}
+use Rattle.job_language.specs.declared.terminal.Gives.TheVariants as gives
 use Rattle.job_language.specs.Rows.{AbstractCall, Argument, Row, as_source, as_concat, as_stage, as_terminal, as_fallback, taken, made, built_by, role_in, source, stage, terminal, fallback}
 use Rattle.job_language.specs.Table.{row, role_of}
 use Rattle.job_language.specs.declared.job.JobStage.{JobStage}
 use Rattle.job_language.specs.declared.job.PlainSource.{PlainSource}
-use Rattle.job_language.specs.Jobs.{AbstractJob, source_of, sources_of, job_stage_of, job_stages_of}
+use Rattle.job_language.specs.Jobs.{AbstractJob, given_by, source_of, sources_of, job_stage_of, job_stages_of}
 use Rattle.job_language.specs.Causes.{Scope, first_cause, when, stage_cause, early_causes, numbers_of}
 use Rattle.job_language.specs.Arguments.{PlacedCall, IsArgumentRead}
-use Rattle.job_language.specs.Verdicts.{call_answer, added, below_terminal, fallback_for, given_by, IsReadAfter, IsCallRead, IsReadInTurn, IsNextCall, AreRead}
+use Rattle.job_language.specs.Verdicts.{call_answer, added, below_terminal, fallback_for, IsReadAfter, IsCallRead, IsReadInTurn, IsNextCall, AreRead}
 use Rattle.job_language.specs.Shapes.{placed_in, all_placed}
 use Rattle.job_language.specs.Parts.{part_in, answer_in, Answers}
 

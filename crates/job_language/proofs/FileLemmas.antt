@@ -11,7 +11,7 @@ use Rattle.columns.specs.Table.{NamedColumn}
 use Rattle.job_language.specs.declared.fault.Cause.{Cause}
 use Rattle.job_language.specs.declared.fault.Cause.TheVariants.{TooLong, NoMemory}
 use Rattle.job_language.specs.Causes.{Earlier}
-use Rattle.job_language.specs.Verdicts.{IsRead, earlier_of, given_by}
+use Rattle.job_language.specs.Verdicts.{IsRead, earlier_of}
 use Rattle.stream_tokens.specs.Forms.{IsName}
 use Rattle.job_language.specs.declared.fault.JobFault.{JobFault}
 use Rattle.job_language.specs.declared.job.Job.{Job}
@@ -19,8 +19,8 @@ use Rattle.job_language.specs.FaultCauses.{fault_of}
 use Rattle.job_language.specs.Files.{AreJobsLeft, AreJobsRead, IsNext, fault_at}
 use Rattle.job_language.specs.FileSteps.{IsNextJob, IsNextFault}
 use Rattle.job_language.specs.declared.scope.EarlierJob as code
-use Rattle.job_language.specs.declared.scope.Gives.{Gives}
-use Rattle.job_language.specs.Jobs.{AbstractJob, job_of, jobs_of, names_of, terminal_of}
+use Rattle.job_language.specs.declared.terminal.Gives.{Gives}
+use Rattle.job_language.specs.Jobs.{AbstractJob, given_by, job_of, jobs_of, names_of, terminal_of}
 use Rattle.job_language.specs.Scopes as scopes
 
 pub jobs_length : (jobs : List Job) → length (jobs_of jobs) ≡ length jobs

@@ -20,8 +20,8 @@ use Rattle.job_language.specs.declared.fault.Cause.TheVariants as cause
 use Rattle.job_language.specs.declared.operation.Operation.{Operation}
 use Rattle.job_language.specs.declared.operation.Param.{Param}
 use Rattle.job_language.specs.declared.operation.Param.TheVariants as param
-use Rattle.job_language.specs.declared.scope.Gives.{Gives}
-use Rattle.job_language.specs.declared.scope.Gives.TheVariants as gives
+use Rattle.job_language.specs.declared.terminal.Gives.{Gives}
+use Rattle.job_language.specs.declared.terminal.Gives.TheVariants as gives
 use Rattle.job_language.specs.Rows.{Argument, nothing, column, job, number, test, stream, operator, exact}
 use Rattle.job_language.specs.Table.{param_of}
 use Rattle.job_language.specs.Calls.{Call}

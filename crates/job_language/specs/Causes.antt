@@ -12,7 +12,7 @@ use Rattle.job_language.specs.declared.operation.Params.{Params}
 use Rattle.job_language.specs.declared.operation.Params.TheVariants as params
 use Rattle.job_language.specs.declared.operation.Role.{Role}
 use Rattle.job_language.specs.declared.operation.Role.TheVariants as role
-use Rattle.job_language.specs.declared.scope.Gives.{Gives}
+use Rattle.job_language.specs.declared.terminal.Gives.{Gives}
 use Rattle.job_language.specs.declared.fault.Cause.{Cause}
 use Rattle.job_language.specs.declared.fault.Cause.TheVariants as cause
 use Rattle.job_language.specs.Table.{param_of, params_of}

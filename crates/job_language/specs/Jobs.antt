@@ -2,14 +2,16 @@
 use Rattle.std.specs.Prelude.{ℕ, ℤ, List, [], ◌∷◌, Option}
 use Rattle.trace.specs.Stages.{AbstractStage, stage_of}
 use Rattle.slice_ops.specs.Slices.{AbstractSlice, slice_of}
-use Rattle.find_ops.specs.Finds.{Find, find_of}
+use Rattle.find_ops.specs.Finds.{Find, first, any_match, all_match, none_match, find_of}
 use Rattle.reduce_ops.specs.declared.op.Op.{Op}
 use Rattle.job_language.specs.declared.job.PlainSource.{PlainSource}
 use Rattle.job_language.specs.declared.job.PlainSource.TheVariants as source
 use Rattle.job_language.specs.declared.job.JobStage.{JobStage}
 use Rattle.job_language.specs.declared.job.JobStage.TheVariants as stage
-use Rattle.job_language.specs.declared.job.Terminal.{Terminal}
-use Rattle.job_language.specs.declared.job.Terminal.TheVariants as terminal
+use Rattle.job_language.specs.declared.terminal.Terminal.{Terminal}
+use Rattle.job_language.specs.declared.terminal.Terminal.TheVariants as terminal
+use Rattle.job_language.specs.declared.terminal.Gives.{Gives}
+use Rattle.job_language.specs.declared.terminal.Gives.TheVariants as gives
 use Rattle.job_language.specs.declared.job.Job.{Job}
 
 -- an abstract source that is no `concat`: a column is its cells, the array of an earlier job is that job's name
@@ -36,6 +38,21 @@ pub data AbstractTerminal : Type 0 where
   reduce_from : ℤ → Op → AbstractTerminal
   find : Find → AbstractTerminal
   exact_sum : AbstractTerminal
+
+-- what a terminal gives to jobs that name its job
+abbrev pub given_by : AbstractTerminal → Gives
+given_by sum = gives.Number
+given_by count = gives.Number
+given_by min = gives.Number
+given_by max = gives.Number
+given_by to_array = gives.Array
+given_by (reduce f) = gives.Number
+given_by (reduce_from a f) = gives.Number
+given_by (find first) = gives.Number
+given_by (find (any_match p)) = gives.Boolean
+given_by (find (all_match p)) = gives.Boolean
+given_by (find (none_match p)) = gives.Boolean
+given_by exact_sum = gives.Number
 
 -- an abstract job: its name in bytes, its plain sources in order of writing, its stages, its terminal, and the number
 -- that stands in place of a fault, if there is one

@@ -4,17 +4,16 @@ use Rattle.stream_tokens.specs.declared.token.Token.{Token}
 use Rattle.stream_tokens.specs.Tokens.{AreTokensOf}
 use Rattle.stream_tokens.specs.CutTexts.{TokenizedText}
 use Rattle.lambda_expr.specs.Words.{words_of}
-use Rattle.find_ops.specs.Finds as find
 use Rattle.job_language.specs.declared.fault.Cause.{Cause}
 use Rattle.job_language.specs.declared.fault.Cause.TheVariants as cause
 use Rattle.job_language.specs.declared.operation.Operation.{Operation}
-use Rattle.job_language.specs.declared.scope.Gives.{Gives}
-use Rattle.job_language.specs.declared.scope.Gives.TheVariants as gives
+use Rattle.job_language.specs.declared.terminal.Gives.{Gives}
+use Rattle.job_language.specs.declared.terminal.Gives.TheVariants as gives
 use Rattle.job_language.specs.Rows.{Argument, AbstractCall, source, stage, terminal, fallback}
 use Rattle.job_language.specs.Table.{role_of, built_of}
 use Rattle.job_language.specs.Calls.{call_words}
 use Rattle.job_language.specs.Grammar.{Piece, call, piece_words, job_pieces, Job, IsJob, IsNoJob}
-use Rattle.job_language.specs.Jobs.{AbstractTerminal, AbstractJob}
+use Rattle.job_language.specs.Jobs.{AbstractTerminal, AbstractJob, given_by}
 use Rattle.job_language.specs.Jobs as term
 use Rattle.job_language.specs.Causes.{Earlier, Scope, first_cause, stage_cause, early_causes, numbers_of, causes_of}
 use Rattle.job_language.specs.Arguments.{PlacedCall, IsArgumentRead}
@@ -45,21 +44,6 @@ added j (source s) = record j { sources = j.sources ++ s ∷ [] }
 added j (stage g) = record j { stages = j.stages ++ g ∷ [] }
 added j (terminal d) = record j { terminal = d }
 added j (fallback z) = record j { on_fault = Some z }
-
--- what a terminal gives
-abbrev pub given_by : AbstractTerminal → Gives
-given_by term.sum = gives.Number
-given_by term.count = gives.Number
-given_by term.min = gives.Number
-given_by term.max = gives.Number
-given_by term.to_array = gives.Array
-given_by (term.reduce f) = gives.Number
-given_by (term.reduce_from a f) = gives.Number
-given_by (term.find find.first) = gives.Number
-given_by (term.find (find.any_match p)) = gives.Boolean
-given_by (term.find (find.all_match p)) = gives.Boolean
-given_by (term.find (find.none_match p)) = gives.Boolean
-given_by term.exact_sum = gives.Number
 
 -- a number stands in place of the faults of a terminal that gives numbers
 abbrev pub fallback_for : Gives → ℤ → Result AbstractCall Cause

@@ -2,7 +2,7 @@
 
 ghost use Rattle.std.specs.Prelude.{◌≤◌, length};
 
-use find_ops::FindTerminal;
+use crate::terminal::Terminal;
 use reduce_ops::Op;
 use slice_ops::Slice;
 use stream_tokens::Bytes;
@@ -35,29 +35,6 @@ pub enum JobStage {
         positions: Option<(u64, u64)>,
         op: Op,
     },
-}
-
-/// What is asked of the items of a job.
-#[derive(Drop)]
-pub enum Terminal {
-    /// `sum()`, wrapping to 64 bits.
-    Sum,
-    /// `count()`.
-    Count,
-    /// `min()`.
-    Min,
-    /// `max()`.
-    Max,
-    /// `toArray()`.
-    ToArray,
-    /// `reduce(OPERATOR)`.
-    Reduce(Op),
-    /// `reduce(identity, OPERATOR)`; the number is the operator's identity.
-    ReduceFrom { identity: i64, op: Op },
-    /// `findFirst()` and the three matches.
-    Find(FindTerminal),
-    /// `reduce(0, Math::addExact)`: the sum, or a fault at the first item after which it is outside 64 bits.
-    ExactSum,
 }
 
 /// A job: its name, where its items come from, what they pass through, what is asked of them, and what is

@@ -39,13 +39,14 @@ mod row;
 mod scope;
 mod shape;
 mod sound;
+mod terminal;
 mod word;
 
 pub use call::one_call;
 pub use causes::name_cause;
 pub use fault::{Cause, JobFault};
 pub use file::read_jobs;
-pub use job::{Job, JobStage, PlainSource, Terminal};
+pub use job::{Job, JobStage, PlainSource};
 pub use laws::{
     a_call_is_no_syntax_fault, a_job_has_a_name, each_file_has_an_answer, each_text_has_a_verdict,
     one_file, one_verdict,
@@ -54,6 +55,7 @@ pub use operation::{Operation, Param, Params, Role, name_of, one_operation, oper
 pub use piece::WrittenCall;
 pub use read::read_job;
 pub use row::{allows, param_of, params_of, role_of};
-pub use scope::{EarlierJob, Gives, Scope};
+pub use scope::{EarlierJob, Scope};
 pub use shape::{ParsedJob, one_job, parse_job};
+pub use terminal::{Gives, Terminal};
 pub use word::Word;

@@ -12,12 +12,13 @@ ghost use Rattle.job_language.specs.Parts.{part_in, answer_in, Answers};
 
 use crate::argument::read_argument;
 use crate::fault::Cause;
-use crate::job::{Job, Terminal};
+use crate::job::Job;
 use crate::numbers::read_values;
 use crate::operation::Role;
 use crate::piece::WrittenCall;
 use crate::row::{CallPart, built, role_of};
-use crate::scope::{Gives, Scope};
+use crate::scope::Scope;
+use crate::terminal::{Gives, Terminal};
 use crate::word::Word;
 use std::alloc::{AllocError, Global};
 use stream_tokens::{Bytes, CutText};

@@ -13,8 +13,9 @@ ghost use Rattle.job_language.specs.Parts.{argument_in, part_in, answer_in};
 
 use crate::argument::Argument;
 use crate::fault::Cause;
-use crate::job::{JobStage, PlainSource, Terminal};
+use crate::job::{JobStage, PlainSource};
 use crate::operation::{Operation, Param, Params, Role};
+use crate::terminal::Terminal;
 use find_ops::FindTerminal;
 use lambda_expr::{BoolExpr, InnerExpr, LongExpr};
 use reduce_ops::Op;

@@ -13,24 +13,18 @@ use Rattle.early_stop.specs.Decisive.{Decides}
 use Rattle.early_stop.specs.Leaving.{IsSettled}
 use Rattle.early_stop.proofs.Settling.{enough_decides}
 use Rattle.reduce_ops.specs.declared.op.Op.{Op}
-use Rattle.reduce_ops.specs.declared.sum_part.SumPart.{SumPart}
 use Rattle.reduce_ops.specs.ExactSums.{exact_sum as exactly_summed}
 use Rattle.reduce_ops.specs.Folds.{ones, unless_faulted}
 use Rattle.reduce_ops.specs.Parts.{StandsFor as FoldStands}
-use Rattle.reduce_ops.specs.Reaches.{StandsFor as SumStands}
 use Rattle.reduce_ops.proofs.FoldLemmas.{wrapped_sum, counted}
 use Rattle.reduce_ops.proofs.SettledSums.{sum_settled, sum_settles}
 use Rattle.slice_ops.specs.declared.slice_part.SlicePart.{SlicePart}
 use Rattle.slice_ops.proofs.GrownPartLemmas.{settled as slice_settled}
-use Rattle.find_ops.specs.declared.find_part.FindPart.{FindPart}
 use Rattle.find_ops.specs.Finds.{find_answer}
 use Rattle.find_ops.proofs.DecisionLemmas.{settled as find_settled}
 use Rattle.job_language.specs.Jobs.{AbstractTerminal, sum, count}
 use Rattle.job_plan.specs.Arrays.{AbstractArray, array, array_of, values_then, array_append}
-use Rattle.reduce_ops.specs.Operators.{value_of}
-use Rattle.slice_ops.specs.Parts.{StandsFor as SliceStands}
 use Rattle.slice_ops.specs.Slices.{sliced}
-use Rattle.prefix_scan.specs.Prefixes.{prefixed}
 use Rattle.job_plan.specs.Scans.{AbstractScan, scan, scan_append}
 use Rattle.job_plan.specs.declared.answer.Answer.{Answer}
 use Rattle.job_plan.specs.declared.answer.Answer.TheVariants as answer
@@ -162,39 +156,6 @@ pub on_walks : (s : AbstractSegment) (env : Numbers) (p q r : Part) (a b : Trace
 on_walks s env p q r a b merged x y = subst (λ (t : Trace). EndsFor s.ending (last_stage s) env r t) (sym (pipe_append s.first s.stages env a b)) (merged x y)
 
 module _ (e : AbstractEnd) (n : ℕ) (env : Numbers) (a b : Trace) where
-  -- of one end, parts have one kind
-  pub only_slices : (p : SlicePart) (q : Part) → ((x : SlicePart) → q ≡ part.Slice x → ⊥) → EndsFor e n env (part.Slice p) a → EndsFor e n env q b → ⊥
-  only_slices p q other s t = by e q s t other
-    where
-      by : (e : AbstractEnd) (q : Part) → EndsFor e n env (part.Slice p) a → EndsFor e n env q b → ((x : SlicePart) → q ≡ part.Slice x → ⊥) → ⊥
-      by (slicing d) (part.Slice q) s t h = h q refl
-      by (slicing d) q s t h = t
-      by e q s t h = s
-
-  pub only_folds : (p : FoldPart) (q : Part) → ((x : FoldPart) → q ≡ part.Fold x → ⊥) → EndsFor e n env (part.Fold p) a → EndsFor e n env q b → ⊥
-  only_folds p q other s t = by e q s t other
-    where
-      by : (e : AbstractEnd) (q : Part) → EndsFor e n env (part.Fold p) a → EndsFor e n env q b → ((x : FoldPart) → q ≡ part.Fold x → ⊥) → ⊥
-      by (folding f i c) (part.Fold q) s t h = h q refl
-      by (folding f i c) q s t h = t
-      by e q s t h = s
-
-  pub only_finds : (p : FindPart) (q : Part) → ((x : FindPart) → q ≡ part.Find x → ⊥) → EndsFor e n env (part.Find p) a → EndsFor e n env q b → ⊥
-  only_finds p q other s t = by e q s t other
-    where
-      by : (e : AbstractEnd) (q : Part) → EndsFor e n env (part.Find p) a → EndsFor e n env q b → ((x : FindPart) → q ≡ part.Find x → ⊥) → ⊥
-      by (finding d) (part.Find q) s t h = h q refl
-      by (finding d) q s t h = t
-      by e q s t h = s
-
-  pub only_arrays : (p : AbstractArray) (q : Part) → ((x : AbstractArray) → q ≡ part.Array x → ⊥) → EndsFor e n env (part.Array p) a → EndsFor e n env q b → ⊥
-  only_arrays p q other s t = by e q s t other
-    where
-      by : (e : AbstractEnd) (q : Part) → EndsFor e n env (part.Array p) a → EndsFor e n env q b → ((x : AbstractArray) → q ≡ part.Array x → ⊥) → ⊥
-      by collecting (part.Array q) s t h = h q refl
-      by collecting q s t h = t
-      by e q s t h = s
-
   -- parts of one kind side by side
   pub slices_merge : (p q r : SlicePart) → ((d : _) → EndsFor (slicing d) n env (part.Slice p) a → EndsFor (slicing d) n env (part.Slice q) b → EndsFor (slicing d) n env (part.Slice r) (append a b))
       → EndsFor e n env (part.Slice p) a → EndsFor e n env (part.Slice q) b → EndsFor e n env (part.Slice r) (append a b)
@@ -212,29 +173,12 @@ module _ (e : AbstractEnd) (n : ℕ) (env : Numbers) (a b : Trace) where
       by (folding f i c) s t = merged f i c s t
       by e s t = s
 
-  pub finds_merge : (p q r : FindPart) → ((d : _) → EndsFor (finding d) n env (part.Find p) a → EndsFor (finding d) n env (part.Find q) b → EndsFor (finding d) n env (part.Find r) (append a b))
-      → EndsFor e n env (part.Find p) a → EndsFor e n env (part.Find q) b → EndsFor e n env (part.Find r) (append a b)
-  finds_merge p q r merged = by e
-    where
-      by : (e : AbstractEnd) → EndsFor e n env (part.Find p) a → EndsFor e n env (part.Find q) b → EndsFor e n env (part.Find r) (append a b)
-      by (finding d) s t = merged d s t
-      by e s t = s
-
   pub arrays_merge : (p q r : AbstractArray) → r ≡ array_append p q → EndsFor e n env (part.Array p) a → EndsFor e n env (part.Array q) b → EndsFor e n env (part.Array r) (append a b)
   arrays_merge p q r is = by e
     where
       by : (e : AbstractEnd) → EndsFor e n env (part.Array p) a → EndsFor e n env (part.Array q) b → EndsFor e n env (part.Array r) (append a b)
       by collecting s t = is ∙ (λ i. array_append (s i) (t i)) ∙ sym (array_joined a b)
       by e s t = s
-
-  -- of one end, parts have one kind
-  pub only_prefixes : (p : AbstractScan) (q : Part) → ((x : AbstractScan) → q ≡ part.Prefix x → ⊥) → EndsFor e n env (part.Prefix p) a → EndsFor e n env q b → ⊥
-  only_prefixes p q other s t = by e q s t other
-    where
-      by : (e : AbstractEnd) (q : Part) → EndsFor e n env (part.Prefix p) a → EndsFor e n env q b → ((x : AbstractScan) → q ≡ part.Prefix x → ⊥) → ⊥
-      by (scanning f r) (part.Prefix q) s t h = h q refl
-      by (scanning f r) q s t h = t
-      by e q s t h = s
 
   -- prefixes of pieces side by side
   pub prefixes_merge : (p q r : AbstractScan) → (q.op ≡ p.op → r ≡ scan_append p q.walk) → EndsFor e n env (part.Prefix p) a → EndsFor e n env (part.Prefix q) b → EndsFor e n env (part.Prefix r) (append a b)
@@ -273,15 +217,6 @@ pub array_ends : (e : AbstractEnd) (n : ℕ) (env : Numbers) (c : AbstractArray)
 array_ends collecting n env c w a s is = ap outcome.Answer (is ∙ ap (λ (k : AbstractArray). unless_fault k.ending (answer.Array k.values)) s)
 array_ends e n env c w a s is = absurd s
 
--- an array goes on
-pub array_goes_on : (e : AbstractEnd) (n : ℕ) (env : Numbers) (p r : AbstractArray) (t u : Trace) → r ≡ array_append p (array_of u) → EndsFor e n env (part.Array p) t → EndsFor e n env (part.Array r) (append t u)
-array_goes_on collecting n env p r t u is s = is ∙ ap (λ (k : AbstractArray). array_append k (array_of u)) s ∙ sym (array_joined t u)
-array_goes_on e n env p r t u is s = s
-
--- values after those of an array that is done
-pub values_added : (p : AbstractArray) (vs ws : List ℤ) (r : AbstractArray) → is_fault p.ending ≡ false → vs ≡ ws → r ≡ array (p.values ++ vs) end.Done → r ≡ array_append p (array ws end.Done)
-values_added p vs ws r going same is = is ∙ ap (λ (us : List ℤ). array (p.values ++ us) end.Done) same ∙ sym (ap (λ (x : End). values_then p.values x (array ws end.Done)) (is_done p.ending going))
-
 -- a fold goes on
 pub fold_goes_on : (e : AbstractEnd) (n : ℕ) (env : Numbers) (p r : FoldPart) (t u : Trace) → ((f : Op) (i : Option ℤ) (c : Bool) → IsFold f i c p t → IsFold f i c r (append t u))
     → EndsFor e n env (part.Fold p) t → EndsFor e n env (part.Fold r) (append t u)
@@ -297,39 +232,7 @@ pub scan_goes_on : (e : AbstractEnd) (n : ℕ) (env : Numbers) (p r : AbstractSc
 scan_goes_on (scanning f g) n env p r t u is s = is ∙ ap (λ (x : AbstractScan). scan_append x u) s
 scan_goes_on e n env p r t u is s = s
 
--- what a prefix gives
-pub scan_ends : (e : AbstractEnd) (n : ℕ) (env : Numbers) (p : AbstractScan) (w t : Trace) → EndsFor e n env (part.Prefix p) w → t ≡ prefixed (value_of p.op) p.range p.stage p.walk → outcome.Source t ≡ ended e n env w
-scan_ends (scanning f r) n env p w t s is = ap outcome.Source (is ∙ ap (λ (x : AbstractScan). prefixed (value_of x.op) x.range x.stage x.walk) s)
-scan_ends e n env p w t s is = absurd s
-
--- what a slice gives
-pub slice_ends : (e : AbstractEnd) (n : ℕ) (env : Numbers) (p : SlicePart) (w t : Trace) → ((d : _) → SliceStands d n env p w → t ≡ sliced d n env w) → EndsFor e n env (part.Slice p) w → outcome.Source t ≡ ended e n env w
-slice_ends (slicing d) n env p w t is s = ap outcome.Source (is d s)
-slice_ends e n env p w t is s = absurd s
-
 -- ---- exact sums
-
--- an exact sum goes on
-pub sum_goes_on : (e : AbstractEnd) (n : ℕ) (env : Numbers) (p r : SumPart) (t u : Trace) → (SumStands n p t → SumStands n r (append t u)) → EndsFor e n env (part.Exact p) t → EndsFor e n env (part.Exact r) (append t u)
-sum_goes_on exactly n env p r t u go s = go s
-sum_goes_on e n env p r t u go s = s
-
--- exact sums of pieces side by side
-pub sums_merge : (e : AbstractEnd) (n : ℕ) (env : Numbers) (a b : Trace) (p q r : SumPart) → (SumStands n p a → SumStands n q b → SumStands n r (append a b))
-    → EndsFor e n env (part.Exact p) a → EndsFor e n env (part.Exact q) b → EndsFor e n env (part.Exact r) (append a b)
-sums_merge exactly n env a b p q r merged s t = merged s t
-sums_merge e n env a b p q r merged s t = s
-
--- of one end, parts have one kind
-pub only_sums : (e : AbstractEnd) (n : ℕ) (env : Numbers) (a b : Trace) (p : SumPart) (q : Part) → ((x : SumPart) → q ≡ part.Exact x → ⊥) → EndsFor e n env (part.Exact p) a → EndsFor e n env q b → ⊥
-only_sums exactly n env a b p (part.Exact q) other s t = other q refl
-only_sums exactly n env a b p q other s t = t
-only_sums e n env a b p q other s t = s
-
--- what an exact sum gives
-pub sum_ends : (e : AbstractEnd) (n : ℕ) (env : Numbers) (p : SumPart) (w : Trace) (r : Result ℤ Fault) → (SumStands n p w → r ≡ exactly_summed n w) → EndsFor e n env (part.Exact p) w → outcome.Answer (exact_answer r) ≡ ended e n env w
-sum_ends exactly n env p w r is s = ap (λ q. outcome.Answer (exact_answer q)) (is s)
-sum_ends e n env p w r is s = absurd s
 
 -- parts of other ends never leave it open what a segment gives
 pub other_ends : (e : AbstractEnd) (n : ℕ) (env : Numbers) (p : Part) (t : Trace) → (e ≡ exactly → ⊥) → EndsFor e n env p t → may_search p ≡ false

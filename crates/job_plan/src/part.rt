@@ -231,6 +231,7 @@ impl<'p> Part<'p> {
     ///
     /// Only slices and arrays may need memory; if the allocation fails, both parts come back. Parts of different
     /// ends don't merge: the left one stays.
+    #[tactic(auto, using(trace::proofs::JoinLemmas::pipe_append))]
     pub fn merge(self, right: Part<'p>) -> Result<Part<'p>, (Part<'p>, Part<'p>)>
         ensures ok { IfOk result (λ part. (s : AbstractSegment) (env : Numbers) (a b : Trace) → StandsFor s env self.entry a
             → StandsFor s env right.entry b → StandsFor s env part (append a b)) }

@@ -10,9 +10,8 @@ use Rattle.serde_json.specs.Written.{compact_text, items_text, number_text}
 use Rattle.job_plan.specs.declared.answer.Answer.{Answer}
 use Rattle.job_plan.specs.declared.answer.Answer.TheVariants as answer
 use Rattle.report.specs.declared.separator.Separator.TheVariants.{Comma, CommaAndBlank}
-use Rattle.report.specs.Json.{integer_json, job_json, optional_json}
+use Rattle.report.specs.AnswerForms.{array_text, further, integer_json, job_json, optional_json}
 use Rattle.report.specs.Numbers.{array_object, parted}
-use Rattle.report.specs.Text.{array_text, further}
 
 -- as text, the numbers stand between brackets
 pub array_parted : (vs : List ℤ) → array_text vs ≡ codes "[" ++ parted CommaAndBlank vs ++ codes "]"

@@ -1,6 +1,5 @@
 mod ArrayLemmas
 pub mod EachNamed
-mod NoFloats
 mod NumberLemmas
 mod PieceLemmas
 mod SentPieces

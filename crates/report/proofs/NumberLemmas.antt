@@ -4,7 +4,7 @@ use lib.Dec.{leb-zero}
 use Rattle.std.proofs.Math.Seq.{take-add}
 use Rattle.std.proofs.lemmas.List.{take_rest}
 use Rattle.std.specs.Fmt.{decimal, signed_decimal}
-use Rattle.report.specs.Text.{further}
+use Rattle.report.specs.AnswerForms.{further}
 
 -- a negative number is a minus and the digits of its size
 pub signed_minus : (z : ℤ) → int_le (pos 0) z ≡ false → 45 ∷ decimal (unsigned_abs z) ≡ signed_decimal z

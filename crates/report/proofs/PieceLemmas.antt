@@ -3,8 +3,8 @@ use Rattle.std.proofs.Common.{◌≡◌, ◌+◌, ◌<◌, ◌∷◌, ◌++◌, 
 use Rattle.std.proofs.lemmas.List.{append-nil, get_or-map, length-map, take_more}
 use Rattle.std.proofs.lemmas.List.Concat.{flat_map-append}
 use denote.Ref.{Bor}
+use Rattle.report.specs.AnswerForms.{further}
 use Rattle.report.specs.Runs.{runs_in}
-use Rattle.report.specs.Text.{further}
 use Rattle.report.proofs.NumberLemmas.{further-append}
 
 -- the numbers of the runs up to one, and then those of that one

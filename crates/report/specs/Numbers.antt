@@ -3,7 +3,7 @@ use Rattle.std.specs.Prelude.{ℕ, ℤ, List, [], ◌∷◌, ◌++◌, codes}
 use Rattle.std.specs.Fmt.{signed_decimal}
 use Rattle.serde_json.specs.Data.{string}
 use Rattle.serde_json.specs.Written.{compact_text}
-use Rattle.report.specs.Text.{further}
+use Rattle.report.specs.AnswerForms.{further}
 use Rattle.report.specs.declared.separator.Separator.{Separator}
 use Rattle.report.specs.declared.separator.Separator.TheVariants.{Comma, CommaAndBlank}
 

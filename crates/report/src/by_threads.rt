@@ -1,8 +1,8 @@
 //! The text of many numbers in a row, made on several threads.
 ghost use Rattle.std.specs.Prelude.{◌≡◌, ◌++◌, flat_map, map, IfOk, Ok};
+ghost use Rattle.report.specs.AnswerForms.{further};
 ghost use Rattle.report.specs.Numbers.{separator_bytes};
 ghost use Rattle.report.specs.Runs.{runs_in};
-ghost use Rattle.report.specs.Text.{further};
 
 use crate::NoMemory;
 use crate::groups::Groups;

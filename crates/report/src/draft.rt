@@ -1,7 +1,7 @@
 //! A report that is being built.
+ghost use Rattle.report.specs.AnswerForms.{further};
 ghost use Rattle.report.specs.Numbers.{parted, separator_bytes};
 ghost use Rattle.report.specs.Pieces.{bytes_of, draft_bytes};
-ghost use Rattle.report.specs.Text.{further};
 ghost use Rattle.std.specs.Prelude.{◌≡◌, ◌≢◌, ◌<◌, ◌++◌, [], flat_map, IfOk, OnErr, OnOk};
 
 use crate::NoMemory;

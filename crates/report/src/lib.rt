@@ -4,16 +4,17 @@
 //! `counted_io`, whose writers it gives out, on `itoa` for digits and on `serde_json`. Used by `engine`.
 //! What it promises to it: `text` and `text_by` give exactly the bytes that `specs/Text.antt` defines, `json` and
 //! `json_by` those of `specs/Json.antt`, and `write_report` writes them all, or says how many of the first ones went out.
-//! Begin with `specs/Text.antt`, then `as_text.rt`, and `draft.rt` for arrays that are printed on threads.
+//! What an answer looks like in either form stands in one place: `specs/AnswerForms.antt` and `answer_forms.rt`.
+//! Begin with these, then `as_text.rt`, and `draft.rt` for arrays that are printed on threads.
 //! Not promised: what a file or a terminal holds afterwards; that is known of writers over memory.
 #![tactic(auto)]
 
+mod answer_forms;
 mod as_json;
 mod as_text;
 mod by_threads;
 mod draft;
 mod groups;
-mod kind;
 mod long_json;
 mod long_text;
 mod numbers;
@@ -22,10 +23,10 @@ mod printable;
 mod separator;
 mod worked;
 
+pub use answer_forms::kind_name;
 pub use as_json::json;
 pub use as_text::text;
 pub use counted_io::{CountedOut, CountedWrite, WriteFault, write_all_of};
-pub use kind::kind_name;
 pub use long_json::json_by;
 pub use long_text::text_by;
 pub use pieces::{Report, write_report};

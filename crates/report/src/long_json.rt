@@ -1,5 +1,6 @@
 //! The same report as JSON, in which several threads make the text of a long array.
-ghost use Rattle.report.specs.Json.{job_json, report_json};
+ghost use Rattle.report.specs.AnswerForms.{job_json};
+ghost use Rattle.report.specs.Json.{report_json};
 ghost use Rattle.report.specs.Named.{IsNamed, IsText};
 ghost use Rattle.report.specs.Numbers.{array_object};
 ghost use Rattle.report.specs.Pieces.{draft_bytes};
@@ -7,7 +8,8 @@ ghost use Rattle.serde_json.specs.Written.{comma_if, compact_text};
 ghost use Rattle.std.specs.Prelude.{◌≡◌, ◌++◌, All, length, IfOk, OnOk};
 
 use crate::NoMemory;
-use crate::as_json::{ARRAY_BEGIN, text_of, write_array_end, write_comma_if, write_item};
+use crate::answer_forms::{ARRAY_BEGIN, text_of, write_array_end};
+use crate::as_json::{write_comma_if, write_item};
 use crate::draft::Draft;
 use crate::pieces::Report;
 use crate::separator::Separator;

@@ -2,9 +2,10 @@
 //!
 //! All that takes the time of a long array is the text of its numbers after the first one. Each thread makes that of a
 //! part of them, into a piece of its own.
+ghost use Rattle.report.specs.AnswerForms.{array_text};
 ghost use Rattle.report.specs.Named.{IsNamed};
 ghost use Rattle.report.specs.Pieces.{draft_bytes};
-ghost use Rattle.report.specs.Text.{array_text, line_of, report_text};
+ghost use Rattle.report.specs.Text.{line_of, report_text};
 ghost use Rattle.std.specs.Prelude.{◌≡◌, ◌≢◌, ◌++◌, [], All, codes, length, IfOk, OnErr, OnOk};
 
 use crate::NoMemory;

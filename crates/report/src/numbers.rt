@@ -4,8 +4,8 @@
 //! number come from its last one to its first. Then they are appended at once.
 ghost use Rattle.std.specs.Prelude.{◌≡◌, ◌+◌, ◌*◌, ◌≤◌, ◌++◌, [], ◌∷◌, drop, flat_map, length, IfNone, IfSome, OnOk};
 ghost use Rattle.std.specs.Fmt.{signed_decimal};
+ghost use Rattle.report.specs.AnswerForms.{further};
 ghost use Rattle.report.specs.Numbers.{parted, separator_bytes};
-ghost use Rattle.report.specs.Text.{further};
 
 use crate::NoMemory;
 use crate::separator::Separator;

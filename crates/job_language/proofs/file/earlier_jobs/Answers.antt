@@ -1,8 +1,7 @@
 use Rattle.std.proofs.Common.{ap, ◌∙◌, is_ok}
 use Rattle.std.proofs.ResultArms.{chosen}
-use Rattle.job_language.specs.Jobs.{terminal_of}
+use Rattle.job_language.specs.Jobs.{given_by, terminal_of}
 use Rattle.job_language.specs.Scopes as scopes
-use Rattle.job_language.specs.Verdicts.{given_by}
 use Rattle.job_language.specs.declared.job.Job.{Job}
 use Rattle.job_language.proofs.FileLemmas.{earlier_more}
 use Rattle.job_language.proofs.file.earlier_jobs.Goals as goal

@@ -1,9 +1,9 @@
 use Rattle.std.proofs.Common.{ℕ, ℤ, List, Vec, Global, get_or, subst, sym, rules}
 use Rattle.std.specs.Prelude.{◌≡◌, IfOk}
 use denote.Ref.{Bor}
+use Rattle.report.specs.AnswerForms.{further}
 use Rattle.report.specs.Runs.{runs_in}
 use Rattle.report.specs.Numbers.{separator_bytes}
-use Rattle.report.specs.Text.{further}
 use Rattle.report.proofs.PieceLemmas.{AreMade, joined}
 use Rattle.report.proofs.by_threads.others_by.Goals as goal
 

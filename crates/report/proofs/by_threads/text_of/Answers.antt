@@ -1,8 +1,8 @@
 use Rattle.std.proofs.Common.{◌∙◌, [], List, ℤ, ap, get_or, sym, take}
 use denote.Ref.{Bor}
+use Rattle.report.specs.AnswerForms.{further}
 use Rattle.report.specs.Numbers.{separator_bytes}
 use Rattle.report.specs.Runs.{runs_in}
-use Rattle.report.specs.Text.{further}
 use Rattle.report.proofs.NumberLemmas.{further_more}
 use Rattle.report.proofs.PieceLemmas.{run_on}
 use Rattle.report.proofs.by_threads.text_of.Goals as goal

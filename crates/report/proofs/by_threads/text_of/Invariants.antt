@@ -1,7 +1,7 @@
 use Rattle.std.proofs.Common.{◌≡◌, take}
+use Rattle.report.specs.AnswerForms.{further}
 use Rattle.report.specs.Runs.{runs_in}
 use Rattle.report.specs.Numbers.{separator_bytes}
-use Rattle.report.specs.Text.{further}
 use Rattle.report.proofs.by_threads.text_of.Given as goal
 
 -- the text so far is that of the runs before this one

@@ -1,6 +1,6 @@
 use Rattle.std.proofs.Common.{◌≡◌, ◌*◌, ◌≤◌, drop, length}
+use Rattle.report.specs.AnswerForms.{further}
 use Rattle.report.specs.Numbers.{separator_bytes}
-use Rattle.report.specs.Text.{further}
 use Rattle.report.proofs.numbers.put_further.Given as goal
 
 -- the text from `start` on is that of the numbers from `left` on, and the others have room before it

@@ -1,6 +1,6 @@
 use Rattle.std.proofs.Common.{◌≡◌, ◌-◌, ◌≤◌, ◌++◌, length, take}
+use Rattle.report.specs.AnswerForms.{further}
 use Rattle.report.specs.Numbers.{separator_bytes}
-use Rattle.report.specs.Text.{further}
 use Rattle.report.proofs.numbers.write_further.Given as goal
 
 -- the text of the numbers up to `at` is appended

@@ -1,6 +1,6 @@
 use Rattle.std.proofs.Common.{◌≡◌, ◌++◌, ◌∙◌, Vec, Global, List, ℤ, ap, flat_map, take, take_all, sym, arith}
+use Rattle.report.specs.AnswerForms.{further}
 use Rattle.report.specs.Numbers.{separator_bytes}
-use Rattle.report.specs.Text.{further}
 use Rattle.report.proofs.NumberLemmas.{further_more}
 use Rattle.trace.proofs.CutLemmas.{take_on}
 use Rattle.report.proofs.numbers.write_others.Goals as goal

@@ -3,7 +3,7 @@ use Rattle.std.proofs.lemmas.List.Elements.{All-get_or}
 use Rattle.serde_json.specs.View.{view}
 use Rattle.report.proofs.ArrayLemmas.{array_answer, optional_is}
 use Rattle.report.specs.Named.{IsText}
-use Rattle.report.proofs.as_json.write_object.Goals as goal
+use Rattle.report.proofs.answer_forms.write_object.Goals as goal
 
 pub text_of-requires : goal.text_of-requires
 text_of-requires c =
@@ -15,4 +15,4 @@ returns-in-Optional c =
 
 pub returns-in-Array : goal.returns-in-Array
 returns-in-Array c =
-    rw (array_answer c.args.names.now c.args.name.now c.args.answer.now c.in-Array.values c.in-Array.values c.in-Array.is refl) c.write_array.ensures
+    rw (array_answer c.args.names.now c.args.name.now c.args.answer.now c.in-Array.values c.in-Array.values c.in-Array.is refl) c.write_array_object.ensures

@@ -3,7 +3,7 @@ use Rattle.std.proofs.lemmas.Int.{to_z-of_z}
 use Rattle.std.specs.Prelude.{codes}
 use Rattle.std.specs.Fmt.{signed_decimal}
 use Rattle.report.proofs.WrittenTextLemmas.{appended_three}
-use Rattle.report.proofs.as_text.write_present.Goals as goal
+use Rattle.report.proofs.answer_forms.write_present.Goals as goal
 
 pub returns : goal.returns
 returns c =
