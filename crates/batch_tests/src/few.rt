@@ -1,5 +1,7 @@
 //! Inner streams of few values each: the values that Java gives, the walk item by item, and the first fault.
 
+ghost use Rattle.std.specs.Prelude.{◌+◌, ◌<◌, ◌^◌, length};
+
 use crate::walks::{agree, division_by_zero, no_items, used_registers};
 use batch_eval::{Registers, feed_batches};
 use lambda_expr::{Body, Env, Want, read_lambda};
