@@ -67,7 +67,7 @@ def crates_of(top):
     found = {}
     for line in read(os.path.join(top, 'crates.txt')).splitlines():
         name, colon, below = line.split('#')[0].partition(':')
-        if colon and not name.split()[0].endswith('_tests'):
+        if colon and not name.split()[0].startswith('test_'):
             found[name.split()[0]] = below.split()
     return found
 
@@ -94,23 +94,14 @@ def floors(top):
                 yield f'architecture.md: {name} stands on {other}, which is drawn on no lower floor'
 
 
-def exported_by(top, name, crates):
-    """The types and constants that a library exports as its own."""
-    library = os.path.join(top, 'crates', name, 'src', 'lib.rt')
-    text = read(library) if os.path.isfile(library) else ''
-    for first, words in re.findall(r'^pub use (\w+)[\w:]*::(\{[^}]*\}|\w+);', text, re.M):
-        if first not in crates and first not in ('std', 'csv', 'atomic_table'):
-            yield from (word.split(' as ')[-1] for word in re.findall(r'\w+(?: as \w+)?', words) if word[0].isupper())
-
-
-def exports(top):
-    """Types and constants that two libraries export under one name."""
-    crates, found = crates_of(top), {}
-    for name in crates:
-        for word in exported_by(top, name, crates):
-            if word in found:
-                yield f'{word} is exported by {found[word]} and by {name}'
-            found[word] = name
+def type_names(top):
+    """Public types, traits and constants that stand in two crates, exported or not."""
+    found = {}
+    for path in sorted(glob.glob(os.path.join(top, 'crates', '*', 'src', '**', '*.rt'), recursive=True)):
+        crate = os.path.relpath(path, os.path.join(top, 'crates')).split(os.sep)[0]
+        for word in re.findall(r'^ *pub (?:struct|enum|trait|type|const) (\w+)', read(path), re.M):
+            if found.setdefault(word, crate) != crate:
+                yield f'{word} is a public name of {found[word]} and of {crate}'
 
 
 def marked(top, crate, name):

@@ -41,7 +41,7 @@ def code(top):
         for block in re.finditer(r'^```rust\n(.*?)^```$', text, re.M | re.S):
             named = TICKED.findall(text[:block.start()].rstrip().splitlines()[-1])
             path = os.path.join(top, named[-1]) if named else top
-            is_test = re.match(r'crates/\w+_tests/src/', named[-1] if named else '')
+            is_test = re.match(r'crates/test_\w+/src/', named[-1] if named else '')
             if not is_test or not os.path.isfile(path) or '\n' + block[1] not in read(path):
                 yield f'{os.path.basename(page)}: code that stands in no crate of tests: {block[1].splitlines()[0]!r}'
 

@@ -1,5 +1,5 @@
 -- Condition: the values of operands, as the definitions of expressions combine them.
-use Rattle.std.specs.Prelude.{ℤ, Bool, Result, Ok}
+use Rattle.std.specs.Prelude.{ℕ, ℤ, Bool, Result, Ok}
 use Rattle.lambda_expr.specs.declared.fault.FaultKind.{FaultKind}
 use Rattle.lambda_expr.specs.Earlier.{Numbers}
 use Rattle.lambda_expr.specs.Operators.{on}
@@ -7,7 +7,12 @@ use Rattle.lambda_expr.specs.Term.{long_of, truth_of}
 use Rattle.lambda_expr.specs.Value.{chosen, long_value, truth_value}
 use Rattle.batch_eval.specs.declared.register.Operand.{Operand}
 use Rattle.batch_eval.specs.declared.register.Operand.TheVariants as operand
-use Rattle.batch_eval.specs.Lanes.{flag_of, flagged, is_set}
+use Rattle.batch_eval.specs.declared.register.Inputs.{Inputs}
+use Rattle.batch_eval.specs.Lanes.{at, flag_of, flagged, is_set}
+
+-- what an expression gives at a lane
+abbrev pub at_each : {A : Type 0} → Inputs → (ℤ → Numbers → A) → ℕ → A
+at_each inputs f k = f (at inputs.xs.now k) inputs.env.now
 
 -- both operands, from left to right, and then the operator
 abbrev pub between : (ℤ → ℤ → Result ℤ FaultKind) → Result ℤ FaultKind → Result ℤ FaultKind → Result ℤ FaultKind

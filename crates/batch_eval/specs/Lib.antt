@@ -3,6 +3,7 @@ pub mod Batches
 pub mod Bounds
 pub mod Choices
 pub mod Lanes
+pub mod Pipelines
 pub mod Places
 pub mod Pours
 pub mod Powers

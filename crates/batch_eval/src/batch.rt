@@ -12,16 +12,17 @@ ghost use Rattle.trace.specs.Sinks.{IsFed, flow_after};
 ghost use Rattle.trace.specs.Trace.{each, trace};
 ghost use Rattle.trace.specs.declared.item.Item.{Item};
 
-use crate::flagged::give_passing;
+use crate::flagged::{LiveLanes, give_passing};
 use crate::keep::{keep_from, keep_lanes, keep_listed};
 use crate::listed::ListedItems;
 use crate::listing::{copy_front, list_items, list_places, list_values};
+use crate::pipeline::Pipeline;
 use crate::placed::PlacedValues;
 use crate::reached::Reached;
-use crate::register::{LANES, eval_bool, eval_long};
+use crate::register::{Inputs, LANES, eval_bool, eval_long};
 use crate::sink::BatchSink;
 use crate::source::BatchSource;
-use lambda_expr::{BoolExpr, Env, LongExpr};
+use lambda_expr::{BoolExpr, LongExpr};
 use std::alloc::Global;
 use std::marker::Model;
 use std::mem;
@@ -110,23 +111,33 @@ impl Batch {
     }
 
     /// `map` of `LongStream`: each item's image, at the same place.
-    pub(crate) fn map(&mut self, image: &LongExpr, stage: u32, env: &Env, room: &mut [i64])
+    pub(crate) fn map(&mut self, image: &LongExpr, line: Pipeline<'_>, room: &mut [i64])
         requires { Fits (long_of image.now) (length room.old) }
-        ensures { self.new ≡ each (of_item stage (abstract_map (long_of image.now)) env.now) self.old.items self.old.ending }
+        ensures { self.new ≡ each (of_item line.entry.first (abstract_map (long_of image.now)) line.entry.env.now) self.old.items self.old.ending }
     {
-        let reached = eval_long(image, env, &self.values, self.live, &mut self.spare, room);
-        self.end = stopped(self.end, stage, self.start, &self.origins, reached);
+        let inputs = Inputs {
+            env: line.env,
+            xs: &self.values,
+            live: self.live,
+        };
+        let reached = eval_long(image, inputs, &mut self.spare, room);
+        self.end = stopped(self.end, line.first, self.start, &self.origins, reached);
         self.live = reached.live;
         mem::swap(&mut self.values, &mut self.spare);
     }
 
     /// `filter` of `LongStream`: the items at which the test is true, moved to the front.
-    pub(crate) fn filter(&mut self, test: &BoolExpr, stage: u32, env: &Env, room: &mut [i64])
+    pub(crate) fn filter(&mut self, test: &BoolExpr, line: Pipeline<'_>, room: &mut [i64])
         requires { FitsTest (truth_of test.now) (length room.old) }
-        ensures { self.new ≡ each (of_item stage (filter (truth_of test.now)) env.now) self.old.items self.old.ending }
+        ensures { self.new ≡ each (of_item line.entry.first (filter (truth_of test.now)) line.entry.env.now) self.old.items self.old.ending }
     {
-        let reached = eval_bool(test, env, &self.values, self.live, &mut self.spare, room);
-        self.end = stopped(self.end, stage, self.start, &self.origins, reached);
+        let inputs = Inputs {
+            env: line.env,
+            xs: &self.values,
+            live: self.live,
+        };
+        let reached = eval_bool(test, inputs, &mut self.spare, room);
+        self.end = stopped(self.end, line.first, self.start, &self.origins, reached);
         self.live = keep_lanes(
             &self.spare,
             reached.live,
@@ -149,18 +160,22 @@ impl Batch {
         &mut self,
         run: PlacedValues<'_>,
         image: &LongExpr,
-        stage: u32,
-        env: &Env,
+        line: Pipeline<'_>,
         room: &mut [i64],
     )
         requires lanes { length run.values.now ≤ 1024 }
         requires room { Fits (long_of image.now) (length room.old) }
-        ensures { self.new ≡ each (of_item stage (abstract_map (long_of image.now)) env.now) (placed run.entry.origin run.entry.values.now) End.Done }
+        ensures { self.new ≡ each (of_item line.entry.first (abstract_map (long_of image.now)) line.entry.env.now) (placed run.entry.origin run.entry.values.now) End.Done }
     {
         let live = run.values.len();
         let start = Some(run.origin);
-        let reached = eval_long(image, env, run.values, live, &mut self.values, room);
-        self.end = stopped(End::Done, stage, start, &self.origins, reached);
+        let inputs = Inputs {
+            env: line.env,
+            xs: run.values,
+            live,
+        };
+        let reached = eval_long(image, inputs, &mut self.values, room);
+        self.end = stopped(End::Done, line.first, start, &self.origins, reached);
         self.live = reached.live;
         self.start = start;
     }
@@ -170,17 +185,22 @@ impl Batch {
         &mut self,
         run: PlacedValues<'_>,
         test: &BoolExpr,
-        stage: u32,
-        env: &Env,
+        line: Pipeline<'_>,
         room: &mut [i64],
     )
         requires lanes { length run.values.now ≤ 1024 }
         requires room { FitsTest (truth_of test.now) (length room.old) }
-        ensures { self.new ≡ each (of_item stage (filter (truth_of test.now)) env.now) (placed run.entry.origin run.entry.values.now) End.Done }
+        ensures { self.new ≡ each (of_item line.entry.first (filter (truth_of test.now)) line.entry.env.now) (placed run.entry.origin run.entry.values.now) End.Done }
     {
         let live = run.values.len();
-        let reached = eval_bool(test, env, run.values, live, &mut self.spare, room);
-        self.end = stopped(End::Done, stage, Some(run.origin), &self.origins, reached);
+        let start = Some(run.origin);
+        let inputs = Inputs {
+            env: line.env,
+            xs: run.values,
+            live,
+        };
+        let reached = eval_bool(test, inputs, &mut self.spare, room);
+        self.end = stopped(End::Done, line.first, start, &self.origins, reached);
         self.live = keep_from(
             &self.spare,
             reached.live,
@@ -197,17 +217,21 @@ impl Batch {
         &mut self,
         listed: ListedItems<'_>,
         test: &BoolExpr,
-        stage: u32,
-        env: &Env,
+        line: Pipeline<'_>,
         room: &mut [i64],
     )
         requires lanes { length listed.values.now ≤ 1024 }
         requires room { FitsTest (truth_of test.now) (length room.old) }
-        ensures { self.new ≡ each (of_item stage (filter (truth_of test.now)) env.now) (listed_items listed.entry.places.now listed.entry.values.now) End.Done }
+        ensures { self.new ≡ each (of_item line.entry.first (filter (truth_of test.now)) line.entry.env.now) (listed_items listed.entry.places.now listed.entry.values.now) End.Done }
     {
         let live = listed.values.len();
-        let reached = eval_bool(test, env, listed.values, live, &mut self.spare, room);
-        self.end = stopped(End::Done, stage, None, listed.places, reached);
+        let inputs = Inputs {
+            env: line.env,
+            xs: listed.values,
+            live,
+        };
+        let reached = eval_bool(test, inputs, &mut self.spare, room);
+        self.end = stopped(End::Done, line.first, None, listed.places, reached);
         self.live = keep_listed(
             &self.spare,
             reached.live,
@@ -235,31 +259,25 @@ impl Batch {
     pub(crate) fn give_passing<S: BatchSink>(
         &mut self,
         test: &BoolExpr,
-        stage: u32,
-        env: &Env,
+        line: Pipeline<'_>,
         room: &mut [i64],
         sink: &mut S,
     ) -> Result<Fed, NoMemory>
         requires room { FitsTest (truth_of test.now) (length room.old) }
         requires wants { S.flow sink.old ≡ Flow.More }
         ensures fed { (xs : List Item) → S.has_taken sink.old xs → IsFed S.has_taken xs
-            (each (of_item stage (filter (truth_of test.now)) env.now) self.old.items self.old.ending) result sink.new }
+            (each (of_item line.entry.first (filter (truth_of test.now)) line.entry.env.now) self.old.items self.old.ending) result sink.new }
         ensures flow { S.flow sink.new ≡ flow_after result }
         ensures refused { OnErr result S.takes_memory }
     {
-        give_passing(
-            test,
-            stage,
-            env,
-            self.live,
-            self.start,
-            &self.origins,
-            &self.values,
-            self.end,
-            &mut self.spare,
-            room,
-            sink,
-        )
+        let lanes = LiveLanes {
+            live: self.live,
+            start: self.start,
+            origins: &self.origins,
+            values: &self.values,
+            end: self.end,
+        };
+        give_passing(test, line, lanes, &mut self.spare, room, sink)
     }
 
     /// The same of values that lie elsewhere.
@@ -267,8 +285,7 @@ impl Batch {
         &mut self,
         run: PlacedValues<'_>,
         test: &BoolExpr,
-        stage: u32,
-        env: &Env,
+        line: Pipeline<'_>,
         room: &mut [i64],
         sink: &mut S,
     ) -> Result<Fed, NoMemory>
@@ -276,23 +293,18 @@ impl Batch {
         requires room { FitsTest (truth_of test.now) (length room.old) }
         requires wants { S.flow sink.old ≡ Flow.More }
         ensures fed { (xs : List Item) → S.has_taken sink.old xs → IsFed S.has_taken xs
-            (each (of_item stage (filter (truth_of test.now)) env.now) (placed run.entry.origin run.entry.values.now) End.Done) result sink.new }
+            (each (of_item line.entry.first (filter (truth_of test.now)) line.entry.env.now) (placed run.entry.origin run.entry.values.now) End.Done) result sink.new }
         ensures flow { S.flow sink.new ≡ flow_after result }
         ensures refused { OnErr result S.takes_memory }
     {
-        give_passing(
-            test,
-            stage,
-            env,
-            run.values.len(),
-            Some(run.origin),
-            &self.origins,
-            run.values,
-            End::Done,
-            &mut self.spare,
-            room,
-            sink,
-        )
+        let lanes = LiveLanes {
+            live: run.values.len(),
+            start: Some(run.origin),
+            origins: &self.origins,
+            values: run.values,
+            end: End::Done,
+        };
+        give_passing(test, line, lanes, &mut self.spare, room, sink)
     }
 
     /// No items, and a walk that is done.

@@ -10,7 +10,7 @@ ghost use Rattle.lambda_expr.specs.Term.{long_of};
 ghost use Rattle.std.specs.Prelude.{◌≡◌, ◌+◌, ◌-◌, ◌<◌, ◌≤◌, ℕ, ℤ, Err, IfErr, IfOk, IfSome, Ok, length};
 ghost use Rattle.trace.specs.Stages.{stages_of};
 
-use crate::register::{LANES, eval_long};
+use crate::register::{Inputs, LANES, eval_long};
 use crate::room::{fits, stages_fit};
 use lambda_expr::{Env, FaultKind, InnerExpr, ListedValues, LongExpr, Run};
 use trace::Stage;
@@ -21,6 +21,7 @@ const MAX_VALUES: u64 = 1 << 62;
 /// The bounds of the inner ranges, or the two values of `of`, at the first lanes of a batch.
 #[derive(Clone, Copy)]
 pub(crate) struct Bounds<'a> {
+    pub(crate) inner: &'a InnerExpr,
     pub(crate) froms: &'a [i64],
     pub(crate) tos: &'a [i64],
 }
@@ -86,8 +87,14 @@ pub(crate) fn eval_bounds(
         return 0;
     }
     let live = xs.len().min(LANES);
-    let first = eval_long(from, env, xs, live, froms, room);
-    eval_long(to, env, xs, first.live, tos, room).live
+    let inputs = Inputs { env, xs, live };
+    let first = eval_long(from, inputs, froms, room);
+    let valid = Inputs {
+        env,
+        xs,
+        live: first.live,
+    };
+    eval_long(to, valid, tos, room).live
 }
 
 /// The integers from the first up to, not with, the second one.
@@ -129,22 +136,21 @@ impl Bounds<'_> {
     pub(crate) fn eval_at(
         &self,
         lane: usize,
-        inner: &InnerExpr,
         x: i64,
         env: &Env,
         listed: &mut ListedValues,
     ) -> Result<Option<Run>, FaultKind>
-        requires { lane < length self.now.froms.now → lane < length self.now.tos.now → HasBounds (inner_of inner.now) env.now x (at self.now.froms.now lane) (at self.now.tos.now lane) }
-        ensures ok { IfOk result (λ run. inner_value (inner_of inner.now) x env.now ≡ Ok (run_or_listed run listed.new.items)) }
-        ensures fault { IfErr result (λ kind. inner_value (inner_of inner.now) x env.now ≡ Err kind) }
+        requires { lane < length self.now.froms.now → lane < length self.now.tos.now → HasBounds (inner_of self.now.inner.now) env.now x (at self.now.froms.now lane) (at self.now.tos.now lane) }
+        ensures ok { IfOk result (λ run. inner_value (inner_of self.now.inner.now) x env.now ≡ Ok (run_or_listed run listed.new.items)) }
+        ensures fault { IfErr result (λ kind. inner_value (inner_of self.now.inner.now) x env.now ≡ Err kind) }
     {
         let (Some(from), Some(to)) = (self.froms.get(lane), self.tos.get(lane)) else {
-            return inner.eval_into(x, env, listed);
+            return self.inner.eval_into(x, env, listed);
         };
-        match inner {
+        match self.inner {
             InnerExpr::Range(..) => Ok(Some(range(*from, *to)?)),
             InnerExpr::RangeClosed(..) => Ok(Some(closed_range(*from, *to)?)),
-            InnerExpr::Of(_) => inner.eval_into(x, env, listed),
+            InnerExpr::Of(_) => self.inner.eval_into(x, env, listed),
         }
     }
 }

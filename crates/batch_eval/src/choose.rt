@@ -46,46 +46,51 @@ pub(crate) fn gather(flags: &[i64], kind: bool, live: usize, xs: &[i64], out: &m
     kept
 }
 
+/// What an operand came to at the lanes of one kind.
+#[derive(Clone, Copy)]
+pub(crate) struct Side<'a> {
+    pub(crate) values: &'a [i64],
+    pub(crate) reached: Reached,
+}
+
 /// What was reached at the lanes whose flag is set, and what at the others, as one column, up to the
 /// first lane that has no value.
 pub(crate) fn merge(
     flags: &[i64],
     live: usize,
-    ones: &[i64],
-    first: Reached,
-    others: &[i64],
-    second: Reached,
+    ones: Side<'_>,
+    others: Side<'_>,
     out: &mut [i64],
 ) -> Reached
     requires flags { live ≤ length flags.now }
-    requires ones { first.live ≤ length ones.now }
-    requires others { second.live ≤ length others.now }
+    requires ones { ones.reached.live ≤ length ones.values.now }
+    requires others { others.reached.live ≤ length others.values.now }
     requires out { live ≤ length out.old }
     ensures { (f : ℕ → Result ℤ FaultKind)
-        → Reaches (λ j. f (slice_index (wanted true flags.now live) j)) (at ones.now) (length (wanted true flags.now live)) first
-        → Reaches (λ j. f (slice_index (wanted false flags.now live) j)) (at others.now) (length (wanted false flags.now live)) second
+        → Reaches (λ j. f (slice_index (wanted true flags.now live) j)) (at ones.entry.values.now) (length (wanted true flags.now live)) ones.entry.reached
+        → Reaches (λ j. f (slice_index (wanted false flags.now live) j)) (at others.entry.values.now) (length (wanted false flags.now live)) others.entry.reached
         → Reaches f (at out.new) live result }
 {
     let mut y = 0;
     let mut n = 0;
     for i in 0..live {
         if is_set(flags[i]) {
-            if y == first.live {
+            if y == ones.reached.live {
                 return Reached {
                     live: i,
-                    fault: first.fault,
+                    fault: ones.reached.fault,
                 };
             }
-            out[i] = ones[y];
+            out[i] = ones.values[y];
             y += 1;
         } else {
-            if n == second.live {
+            if n == others.reached.live {
                 return Reached {
                     live: i,
-                    fault: second.fault,
+                    fault: others.reached.fault,
                 };
             }
-            out[i] = others[n];
+            out[i] = others.values[n];
             n += 1;
         }
     }

@@ -100,9 +100,22 @@ fn by_number_computed(
     ensures { Reaches (λ k. binary_value operator (left_at left out.old xs.now k) y) (at out.new) live result }
 {
     match exponent_of(y) {
-        Some(exponent) => by_power(operator, left, xs, y, exponent, live, out),
+        Some(exponent) => {
+            let by = Power {
+                number: y,
+                exponent,
+            };
+            by_power(operator, left, xs, by, live, out)
+        }
         None => by_any_number(operator, left, xs, y, live, out),
     }
+}
+
+/// A power of two, and its exponent.
+#[derive(Clone, Copy)]
+struct Power {
+    number: i64,
+    exponent: i64,
 }
 
 /// An operator between a left operand and a power of two.
@@ -110,28 +123,27 @@ fn by_power(
     operator: BinaryOperator,
     left: Left,
     xs: &[i64],
-    y: i64,
-    exponent: i64,
+    by: Power,
     live: usize,
     out: &mut [i64],
 ) -> Reached
-    requires power { y ≡ pos (power exponent) }
+    requires power { by.number ≡ pos (power by.exponent) }
     requires xs { live ≤ length xs.now }
     requires out { live ≤ length out.old }
-    ensures { Reaches (λ k. binary_value operator (left_at left out.old xs.now k) y) (at out.new) live result }
+    ensures { Reaches (λ k. binary_value operator (left_at left out.old xs.now k) by.number) (at out.new) live result }
 {
     match operator {
-        BinaryOperator::Divide => by_left_number::<DivideByPower>(left, xs, exponent, live, out),
+        BinaryOperator::Divide => by_left_number::<DivideByPower>(left, xs, by.exponent, live, out),
         BinaryOperator::Remainder => {
-            by_left_number::<RemainderByPower>(left, xs, exponent, live, out)
+            by_left_number::<RemainderByPower>(left, xs, by.exponent, live, out)
         }
         BinaryOperator::FloorDivide => {
-            by_left_number::<FloorDivideByPower>(left, xs, exponent, live, out)
+            by_left_number::<FloorDivideByPower>(left, xs, by.exponent, live, out)
         }
         BinaryOperator::FloorRemainder => {
-            by_left_number::<FloorRemainderByPower>(left, xs, exponent, live, out)
+            by_left_number::<FloorRemainderByPower>(left, xs, by.exponent, live, out)
         }
-        _ => by_any_number(operator, left, xs, y, live, out),
+        _ => by_any_number(operator, left, xs, by.number, live, out),
     }
 }
 

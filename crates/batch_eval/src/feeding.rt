@@ -1,25 +1,25 @@
 //! The items of a source in batches, through the stages and into a sink.
 
 ghost use Rattle.batch_eval.specs.Batches.{listed_items};
+ghost use Rattle.batch_eval.specs.Pipelines.{piped};
 ghost use Rattle.batch_eval.specs.Rooms.{FitsStages};
 ghost use Rattle.std.specs.Prelude.{◌≡◌, ◌+◌, ◌<◌, ◌≤◌, ◌^◌, List, Ok, OnErr, length, take};
 ghost use Rattle.trace.specs.Cover.{placed};
 ghost use Rattle.trace.specs.Sinks.{IsFed, flow_after};
-ghost use Rattle.trace.specs.Stages.{pipe, stages_of};
+ghost use Rattle.trace.specs.Stages.{stages_of};
 ghost use Rattle.trace.specs.Trace.{trace};
 ghost use Rattle.trace.specs.declared.feeding.Fed.TheVariants as fed;
 ghost use Rattle.trace.specs.declared.item.End.TheVariants as end;
 ghost use Rattle.trace.specs.declared.item.Item.{Item};
 
-use crate::batch::Batch;
 use crate::listed::ListedItems;
+use crate::pipeline::Pipeline;
 use crate::placed::PlacedValues;
 use crate::register::LANES;
-use crate::registers::Registers;
+use crate::registers::{Registers, Space};
 use crate::sink::BatchSink;
 use crate::source::BatchSource;
 use crate::staging::feed_batch;
-use lambda_expr::Env;
 use trace::{Fed, Flow, NoMemory, Stage, feed_all};
 
 /// The first batch of a walk. Each further one is four times as large, up to 1,024 items, so that a
@@ -35,115 +35,75 @@ const FIRST_BATCH: u64 = 16;
 /// `flatMap` if no registers are there yet, and of any source if an allocation of registers failed.
 /// `NoMemory` comes from the sink alone, which then keeps what it has accepted before.
 pub fn feed_batches<I: BatchSource, S: BatchSink>(
-    stages: &[Stage],
-    first_stage: u32,
-    env: &Env,
+    line: Pipeline<'_>,
     source: &I,
     registers: &mut Registers,
     sink: &mut S,
 ) -> Result<Fed, NoMemory>
-    requires numbered { first_stage + length stages.now < 2 ^ 32 }
     requires wants { S.flow sink.old ≡ Flow.More }
     ensures fed { (xs : List Item) → S.has_taken sink.old xs → IsFed S.has_taken xs
-        (pipe first_stage (stages_of stages.now) env.now (trace (I.items source.now) end.Done)) result sink.new }
+        (piped line.entry (trace (I.items source.now) end.Done)) result sink.new }
     ensures flow { S.flow sink.new ≡ flow_after result }
     ensures refused { OnErr result S.takes_memory }
 {
-    feed_from(
-        stages,
-        first_stage,
-        env,
-        source,
-        FIRST_BATCH,
-        registers,
-        sink,
-    )
+    feed_from(line, source, FIRST_BATCH, registers, sink)
 }
 
 /// The same, with as many items as a batch holds in the first one already: for items that were in a batch together, so that
 /// there is one batch for each of theirs.
 pub fn feed_at_once<I: BatchSource, S: BatchSink>(
-    stages: &[Stage],
-    first_stage: u32,
-    env: &Env,
+    line: Pipeline<'_>,
     source: &I,
     registers: &mut Registers,
     sink: &mut S,
 ) -> Result<Fed, NoMemory>
-    requires numbered { first_stage + length stages.now < 2 ^ 32 }
     requires wants { S.flow sink.old ≡ Flow.More }
     ensures fed { (xs : List Item) → S.has_taken sink.old xs → IsFed S.has_taken xs
-        (pipe first_stage (stages_of stages.now) env.now (trace (I.items source.now) end.Done)) result sink.new }
+        (piped line.entry (trace (I.items source.now) end.Done)) result sink.new }
     ensures flow { S.flow sink.new ≡ flow_after result }
     ensures refused { OnErr result S.takes_memory }
 {
-    feed_from(
-        stages,
-        first_stage,
-        env,
-        source,
-        LANES as u64,
-        registers,
-        sink,
-    )
+    feed_from(line, source, LANES as u64, registers, sink)
 }
 
 /// The same, with a first batch of this size.
 fn feed_from<I: BatchSource, S: BatchSink>(
-    stages: &[Stage],
-    first_stage: u32,
-    env: &Env,
+    line: Pipeline<'_>,
     source: &I,
     first: u64,
     registers: &mut Registers,
     sink: &mut S,
 ) -> Result<Fed, NoMemory>
-    requires numbered { first_stage + length stages.now < 2 ^ 32 }
     requires wants { S.flow sink.old ≡ Flow.More }
     requires some { 0 < first }
     requires few { first ≤ 1024 }
     ensures fed { (xs : List Item) → S.has_taken sink.old xs → IsFed S.has_taken xs
-        (pipe first_stage (stages_of stages.now) env.now (trace (I.items source.now) end.Done)) result sink.new }
+        (piped line.entry (trace (I.items source.now) end.Done)) result sink.new }
     ensures flow { S.flow sink.new ≡ flow_after result }
     ensures refused { OnErr result S.takes_memory }
 {
-    let Some(mut space) = registers.take_for(stages, sink.test(), source.count()) else {
-        return feed_all(stages, first_stage, env, source, sink);
+    let Some(mut space) = registers.take_for(line.stages, sink.test(), source.count()) else {
+        return feed_all(line.stages, line.first, line.env, source, sink);
     };
-    let fed = feed_pieces(
-        stages,
-        first_stage,
-        env,
-        source,
-        first,
-        &mut space.batch,
-        &mut space.nested,
-        &mut space.room,
-        sink,
-    );
+    let fed = feed_pieces(line, source, first, &mut space, sink);
     registers.put_back(space);
     fed
 }
 
 /// The same of stages that the room is enough for.
 fn feed_pieces<I: BatchSource, S: BatchSink>(
-    stages: &[Stage],
-    first_stage: u32,
-    env: &Env,
+    line: Pipeline<'_>,
     source: &I,
     first: u64,
-    batch: &mut Batch,
-    nested: &mut [Batch],
-    room: &mut [i64],
+    space: &mut Space,
     sink: &mut S,
 ) -> Result<Fed, NoMemory>
-    requires numbered { first_stage + length stages.now < 2 ^ 32 }
     requires wants { S.flow sink.old ≡ Flow.More }
     requires some { 0 < first }
     requires few { first ≤ 1024 }
-    requires room { FitsStages (stages_of stages.now) (length room.old) }
+    requires room { FitsStages (stages_of line.stages.now) (length space.old.room.items) }
     ensures fed { (xs : List Item) → S.has_taken sink.old xs → IsFed S.has_taken xs
-        (pipe first_stage (stages_of stages.now) env.now (trace (I.items source.now) end.Done)) result sink.new }
+        (piped line.entry (trace (I.items source.now) end.Done)) result sink.new }
     ensures flow { S.flow sink.new ≡ flow_after result }
     ensures refused { OnErr result S.takes_memory }
 {
@@ -152,18 +112,7 @@ fn feed_pieces<I: BatchSource, S: BatchSink>(
     let mut size = first;
     while position < count {
         let taken = size.min(count - position);
-        match feed_piece(
-            stages,
-            first_stage,
-            env,
-            source,
-            position,
-            taken,
-            batch,
-            nested,
-            room,
-            sink,
-        )? {
+        match feed_piece(line, source, position, taken, space, sink)? {
             Fed::More => {}
             ended => return Ok(ended),
         }
@@ -175,28 +124,24 @@ fn feed_pieces<I: BatchSource, S: BatchSink>(
 
 /// Takes the items of a source from a position on, up to 1,024 of them.
 fn feed_piece<I: BatchSource, S: BatchSink>(
-    stages: &[Stage],
-    first_stage: u32,
-    env: &Env,
+    line: Pipeline<'_>,
     source: &I,
     position: u64,
     count: u64,
-    batch: &mut Batch,
-    nested: &mut [Batch],
-    room: &mut [i64],
+    space: &mut Space,
     sink: &mut S,
 ) -> Result<Fed, NoMemory>
-    requires numbered { first_stage + length stages.now < 2 ^ 32 }
     requires wants { S.flow sink.old ≡ Flow.More }
-    requires room { FitsStages (stages_of stages.now) (length room.old) }
+    requires room { FitsStages (stages_of line.stages.now) (length space.old.room.items) }
     requires lanes { count ≤ 1024 }
     requires within { position + count ≤ length (I.items source.now) }
     requires bound { length (I.items source.now) < 2 ^ 64 }
     ensures fed { (xs : List Item)
-        → IsFed S.has_taken xs (pipe first_stage (stages_of stages.now) env.now (trace (take position (I.items source.now)) end.Done)) (Ok fed.More) sink.old
-        → IsFed S.has_taken xs (pipe first_stage (stages_of stages.now) env.now (trace (take (position + count) (I.items source.now)) end.Done)) result sink.new }
+        → IsFed S.has_taken xs (piped line.entry (trace (take position (I.items source.now)) end.Done)) (Ok fed.More) sink.old
+        → IsFed S.has_taken xs (piped line.entry (trace (take (position + count) (I.items source.now)) end.Done)) result sink.new }
     ensures flow { S.flow sink.new ≡ flow_after result }
     ensures refused { OnErr result S.takes_memory }
+    ensures room { length space.new.room.items ≡ length space.old.room.items }
 {
     if let Some(first) = source.first_place() {
         if let Some(values) = source.values_at(position, count) {
@@ -204,85 +149,104 @@ fn feed_piece<I: BatchSource, S: BatchSink>(
                 origin: first + position,
                 values,
             };
-            return feed_run(stages, first_stage, env, run, batch, nested, room, sink);
+            return feed_run(line, run, space, sink);
         }
     }
     if let Some(listed) = source.items_at(position, count) {
-        return feed_listed(stages, first_stage, env, listed, batch, nested, room, sink);
+        return feed_listed(line, listed, space, sink);
     }
-    batch.fill(source, position, count);
-    feed_batch(stages, first_stage, env, batch, nested, room, sink)
+    space.batch.fill(source, position, count);
+    feed_space(line, space, sink)
 }
 
 /// Takes up to 1,024 items whose places and values lie side by side. A `filter` that comes first reads them there, unless the sink
 /// takes its flags.
 fn feed_listed<S: BatchSink>(
-    stages: &[Stage],
-    first_stage: u32,
-    env: &Env,
+    line: Pipeline<'_>,
     listed: ListedItems<'_>,
-    batch: &mut Batch,
-    nested: &mut [Batch],
-    room: &mut [i64],
+    space: &mut Space,
     sink: &mut S,
 ) -> Result<Fed, NoMemory>
-    requires numbered { first_stage + length stages.now < 2 ^ 32 }
     requires wants { S.flow sink.old ≡ Flow.More }
-    requires room { FitsStages (stages_of stages.now) (length room.old) }
+    requires room { FitsStages (stages_of line.stages.now) (length space.old.room.items) }
     requires lanes { length listed.values.now ≤ 1024 }
     ensures fed { (xs : List Item) → S.has_taken sink.old xs → IsFed S.has_taken xs
-        (pipe first_stage (stages_of stages.now) env.now (trace (listed_items listed.entry.places.now listed.entry.values.now) end.Done)) result sink.new }
+        (piped line.entry (trace (listed_items listed.entry.places.now listed.entry.values.now) end.Done)) result sink.new }
     ensures flow { S.flow sink.new ≡ flow_after result }
     ensures refused { OnErr result S.takes_memory }
+    ensures room { length space.new.room.items ≡ length space.old.room.items }
 {
-    if let Some((Stage::Filter(test), later)) = stages.split_first() {
-        if !later.is_empty() || !sink.takes_flags() {
-            batch.filter_listed(listed, test, first_stage, env, room);
-            return feed_batch(later, first_stage + 1, env, batch, nested, room, sink);
+    if let Some((Stage::Filter(test), later)) = line.split_first() {
+        if !later.stages.is_empty() || !sink.takes_flags() {
+            space
+                .batch
+                .filter_listed(listed, test, line, &mut space.room);
+            return feed_space(later, space, sink);
         }
     }
-    batch.copy(listed);
-    feed_batch(stages, first_stage, env, batch, nested, room, sink)
+    space.batch.copy(listed);
+    feed_space(line, space, sink)
 }
 
 /// Takes up to 1,024 values that lie side by side. A `map` or a `filter` that comes first, and a sink, read them there.
 fn feed_run<S: BatchSink>(
-    stages: &[Stage],
-    first_stage: u32,
-    env: &Env,
+    line: Pipeline<'_>,
     run: PlacedValues<'_>,
-    batch: &mut Batch,
-    nested: &mut [Batch],
-    room: &mut [i64],
+    space: &mut Space,
     sink: &mut S,
 ) -> Result<Fed, NoMemory>
-    requires numbered { first_stage + length stages.now < 2 ^ 32 }
     requires wants { S.flow sink.old ≡ Flow.More }
-    requires room { FitsStages (stages_of stages.now) (length room.old) }
+    requires room { FitsStages (stages_of line.stages.now) (length space.old.room.items) }
     requires lanes { length run.values.now ≤ 1024 }
     ensures fed { (xs : List Item) → S.has_taken sink.old xs → IsFed S.has_taken xs
-        (pipe first_stage (stages_of stages.now) env.now (trace (placed run.entry.origin run.entry.values.now) end.Done)) result sink.new }
+        (piped line.entry (trace (placed run.entry.origin run.entry.values.now) end.Done)) result sink.new }
     ensures flow { S.flow sink.new ≡ flow_after result }
     ensures refused { OnErr result S.takes_memory }
+    ensures room { length space.new.room.items ≡ length space.old.room.items }
 {
-    let Some((stage, later)) = stages.split_first() else {
-        return sink.accept_run(run, room);
+    let Some((stage, later)) = line.split_first() else {
+        return sink.accept_run(run, &mut space.room);
     };
     match stage {
         Stage::Map(image) => {
-            batch.map_run(run, image, first_stage, env, room);
-            feed_batch(later, first_stage + 1, env, batch, nested, room, sink)
+            space.batch.map_run(run, image, line, &mut space.room);
+            feed_space(later, space, sink)
         }
         Stage::Filter(test) => {
-            if later.is_empty() && sink.takes_flags() {
-                return batch.give_passing_run(run, test, first_stage, env, room, sink);
+            if later.stages.is_empty() && sink.takes_flags() {
+                return space
+                    .batch
+                    .give_passing_run(run, test, line, &mut space.room, sink);
             }
-            batch.filter_run(run, test, first_stage, env, room);
-            feed_batch(later, first_stage + 1, env, batch, nested, room, sink)
+            space.batch.filter_run(run, test, line, &mut space.room);
+            feed_space(later, space, sink)
         }
         Stage::FlatMap(_) => {
-            batch.fill(&run, 0, run.values.len() as u64);
-            feed_batch(stages, first_stage, env, batch, nested, room, sink)
+            space.batch.fill(&run, 0, run.values.len() as u64);
+            feed_space(line, space, sink)
         }
     }
+}
+
+/// Takes the batch of these registers through the stages.
+fn feed_space<S: BatchSink>(
+    line: Pipeline<'_>,
+    space: &mut Space,
+    sink: &mut S,
+) -> Result<Fed, NoMemory>
+    requires wants { S.flow sink.old ≡ Flow.More }
+    requires room { FitsStages (stages_of line.stages.now) (length space.old.room.items) }
+    ensures fed { (xs : List Item) → S.has_taken sink.old xs → IsFed S.has_taken xs
+        (piped line.entry space.old.batch) result sink.new }
+    ensures flow { S.flow sink.new ≡ flow_after result }
+    ensures refused { OnErr result S.takes_memory }
+    ensures room { length space.new.room.items ≡ length space.old.room.items }
+{
+    feed_batch(
+        line,
+        &mut space.batch,
+        &mut space.nested,
+        &mut space.room,
+        sink,
+    )
 }

@@ -1,6 +1,7 @@
 //! Lanes with a flag each, as a `filter` that comes last gives them to a sink: nothing is moved.
 
-ghost use Rattle.batch_eval.specs.Batches.{CountsUp, StopsInside, flagged_items, item_at, lanes};
+ghost use Rattle.batch_eval.specs.Batches.{CountsUp, StopsInside, flagged_items, item_at};
+ghost use Rattle.batch_eval.specs.Batches.{lanes as lanes_of};
 ghost use Rattle.batch_eval.specs.Rooms.{FitsTest};
 ghost use Rattle.lambda_expr.specs.Term.{truth_of};
 ghost use Rattle.std.specs.Prelude.{◌≡◌, ℕ, ◌+◌, ◌<◌, ◌≤◌, ◌^◌, List, OnErr, Some, length};
@@ -12,10 +13,11 @@ ghost use Rattle.trace.specs.declared.item.Item.{Item};
 
 use crate::batch::{origin_of, stopped};
 use crate::flag::is_set;
-use crate::register::eval_bool;
+use crate::pipeline::Pipeline;
+use crate::register::{Inputs, eval_bool};
 use crate::sink::BatchSink;
 use crate::staging::fed_by;
-use lambda_expr::{BoolExpr, Env};
+use lambda_expr::BoolExpr;
 use trace::{End, Fed, Flow, Item, LongSink, NoMemory};
 
 /// Values in lanes, and a flag for each of the first lanes. The items are those of the lanes whose flag isn't 0.
@@ -65,42 +67,51 @@ pub fn accept_each_flagged<S: LongSink>(
     Ok(Fed::More)
 }
 
+/// Items in lanes, and how the walk ends after them.
+#[derive(Clone, Copy)]
+pub(crate) struct LiveLanes<'a> {
+    pub(crate) live: usize,
+    pub(crate) start: Option<u64>,
+    pub(crate) origins: &'a [u64],
+    pub(crate) values: &'a [i64],
+    pub(crate) end: End,
+}
+
 /// Tests lanes, and gives a sink the items at which the test is true. `flags` gets the flags.
 pub(crate) fn give_passing<S: BatchSink>(
     test: &BoolExpr,
-    stage: u32,
-    env: &Env,
-    live: usize,
-    start: Option<u64>,
-    origins: &[u64],
-    values: &[i64],
-    end: End,
+    line: Pipeline<'_>,
+    lanes: LiveLanes<'_>,
     flags: &mut [i64],
     room: &mut [i64],
     sink: &mut S,
 ) -> Result<Fed, NoMemory>
-    requires lanes { live ≤ 1024 }
-    requires counts { CountsUp start (length origins.now) }
-    requires origins { 1024 ≤ length origins.now }
-    requires values { live ≤ length values.now }
-    requires flags { live ≤ length flags.old }
+    requires lanes { lanes.live ≤ 1024 }
+    requires counts { CountsUp lanes.start (length lanes.origins.now) }
+    requires origins { 1024 ≤ length lanes.origins.now }
+    requires values { lanes.live ≤ length lanes.values.now }
+    requires flags { lanes.live ≤ length flags.old }
     requires room { FitsTest (truth_of test.now) (length room.old) }
     requires wants { S.flow sink.old ≡ Flow.More }
     ensures fed { (xs : List Item) → S.has_taken sink.old xs → IsFed S.has_taken xs
-        (each (of_item stage (filter (truth_of test.now)) env.now) (lanes live (item_at start origins.now values.now)) end) result sink.new }
+        (each (of_item line.entry.first (filter (truth_of test.now)) line.entry.env.now) (lanes_of lanes.entry.live (item_at lanes.entry.start lanes.entry.origins.now lanes.entry.values.now)) lanes.entry.end) result sink.new }
     ensures flow { S.flow sink.new ≡ flow_after result }
     ensures refused { OnErr result S.takes_memory }
 {
-    let reached = eval_bool(test, env, values, live, flags, room);
-    let end = stopped(end, stage, start, origins, reached);
-    let flags = &flags[..reached.live];
-    let lanes = FlaggedLanes {
-        start,
-        origins,
-        values,
-        flags,
+    let inputs = Inputs {
+        env: line.env,
+        xs: lanes.values,
+        live: lanes.live,
     };
-    give_flagged(lanes, end, sink)
+    let reached = eval_bool(test, inputs, flags, room);
+    let end = stopped(lanes.end, line.first, lanes.start, lanes.origins, reached);
+    let flagged = FlaggedLanes {
+        start: lanes.start,
+        origins: lanes.origins,
+        values: lanes.values,
+        flags: &flags[..reached.live],
+    };
+    give_flagged(flagged, end, sink)
 }
 
 /// Gives a sink the items of lanes whose flag is set, after which the walk ends so.

@@ -6,19 +6,19 @@ ghost use Rattle.trace.specs.Stages.{flat_map, of_item};
 ghost use Rattle.trace.specs.Trace.{each};
 
 use crate::batch::Batch;
+use crate::pipeline::Pipeline;
 use crate::room::fits;
-use lambda_expr::{Env, InnerExpr};
+use lambda_expr::InnerExpr;
 
 /// `flatMap` to inner streams of at most one value, as `of(x + 1)` or `empty()`: that value, at the same place. For
 /// others, and if there is no room for the expression, it changes nothing and answers false.
 pub(crate) fn map_to_one(
     batch: &mut Batch,
     inner: &InnerExpr,
-    stage: u32,
-    env: &Env,
+    line: Pipeline<'_>,
     room: &mut [i64],
 ) -> bool
-    ensures mapped { IsTrue result → batch.new ≡ each (of_item stage (flat_map (inner_of inner.now)) env.now) batch.old.items batch.old.ending }
+    ensures mapped { IsTrue result → batch.new ≡ each (of_item line.entry.first (flat_map (inner_of inner.now)) line.entry.env.now) batch.old.items batch.old.ending }
     ensures other { result ≡ false → batch.new ≡ batch.old }
 {
     let InnerExpr::Of(operands) = inner else {
@@ -31,6 +31,6 @@ pub(crate) fn map_to_one(
     if !others.is_empty() || !fits(image, room.len()) {
         return false;
     }
-    batch.map(image, stage, env, room);
+    batch.map(image, line, room);
     true
 }

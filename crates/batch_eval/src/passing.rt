@@ -6,7 +6,7 @@ ghost use Rattle.lambda_expr.specs.Value.{truth_value};
 ghost use Rattle.std.specs.Prelude.{◌≡◌, ◌≢◌, ◌<◌, ◌≤◌, ℕ, Ok, length};
 
 use crate::flag::is_set;
-use crate::register::{LANES, eval_bool};
+use crate::register::{Inputs, LANES, eval_bool};
 use crate::room::test_fits;
 use lambda_expr::{BoolExpr, Env};
 
@@ -30,7 +30,12 @@ pub fn count_passing(
         return count_one_by_one(test, wanted, env, values);
     }
     let (flags, rest) = room.split_at_mut(LANES);
-    let reached = eval_bool(test, env, values, live, flags, rest);
+    let inputs = Inputs {
+        env,
+        xs: values,
+        live,
+    };
+    let reached = eval_bool(test, inputs, flags, rest);
     count_flags(flags, wanted, reached.live)
 }
 

@@ -2,14 +2,14 @@
 
 ghost use Rattle.batch_eval.specs.Lanes.{Reaches, at, flagged, infix_value, left_at};
 ghost use Rattle.batch_eval.specs.Rooms.{Fits, FitsBoth, FitsChosen, FitsOperand, FitsParted, FitsTest};
-ghost use Rattle.batch_eval.specs.Choices.{between, by_flag, chosen_value, operand_value};
+ghost use Rattle.batch_eval.specs.Choices.{at_each, between, by_flag, chosen_value, operand_value};
 ghost use Rattle.lambda_expr.specs.Earlier.{Numbers};
 ghost use Rattle.lambda_expr.specs.Term.{long_of, truth_of};
 ghost use Rattle.lambda_expr.specs.Value.{long_value, truth_value};
 ghost use Rattle.std.specs.Prelude.{◌≡◌, ◌<◌, ◌≤◌, ℕ, ℤ, IfSome, IsTrue, Ok, length};
 
 use crate::cheap::is_cheap;
-use crate::choose::{all_flags, gather, merge, select, set_ones, set_others};
+use crate::choose::{Side, all_flags, gather, merge, select, set_ones, set_others};
 use crate::constant::constant_in;
 use crate::dispatch::{Infix, by_number, by_register};
 use crate::flag::flag;
@@ -30,88 +30,90 @@ pub(crate) enum Operand<'a> {
     Flag(bool),
 }
 
-/// Puts the values of an expression at the numbers `xs` into a register, up to its first fault. It
-/// takes no memory.
+/// What an expression is evaluated at: the first `live` of these numbers, with the values of the names that it uses.
+#[derive(Clone, Copy)]
+pub(crate) struct Inputs<'a> {
+    pub(crate) env: &'a Env,
+    pub(crate) xs: &'a [i64],
+    pub(crate) live: usize,
+}
+
+/// Puts the values of an expression into a register, up to its first fault. It takes no memory.
 #[cycle(register)]
 pub(crate) fn eval_long(
     expr: &LongExpr,
-    env: &Env,
-    xs: &[i64],
-    live: usize,
+    inputs: Inputs<'_>,
     out: &mut [i64],
     room: &mut [i64],
 ) -> Reached
-    requires lanes { live ≤ 1024 }
-    requires xs { live ≤ length xs.now }
-    requires out { live ≤ length out.old }
+    requires lanes { inputs.live ≤ 1024 }
+    requires xs { inputs.live ≤ length inputs.xs.now }
+    requires out { inputs.live ≤ length out.old }
     requires room { Fits (long_of expr.now) (length room.old) }
-    ensures { Reaches (λ k. long_value (long_of expr.now) (at xs.now k) env.now) (at out.new) live result }
+    ensures { Reaches (at_each inputs.entry (long_value (long_of expr.now))) (at out.new) inputs.entry.live result }
 {
     match expr {
-        LongExpr::Number(number) => fill(*number, live, out),
-        LongExpr::Parameter(_) => copy(xs, live, out),
-        LongExpr::Reference(name) => fill(env.number(name.as_slice()).unwrap_or(0), live, out),
+        LongExpr::Number(number) => fill(*number, inputs.live, out),
+        LongExpr::Parameter(_) => copy(inputs.xs, inputs.live, out),
+        LongExpr::Reference(name) => {
+            let number = inputs.env.number(name.as_slice()).unwrap_or(0);
+            fill(number, inputs.live, out)
+        }
         LongExpr::Unary(operator, operand) => {
-            let (left, first) = eval_left(operand, env, xs, live, out, room);
-            by_unary(*operator, left, xs, first.live, out).after(first)
+            let (left, first) = eval_left(operand, inputs, out, room);
+            by_unary(*operator, left, inputs.xs, first.live, out).after(first)
         }
         LongExpr::Binary(operator, a, b) => {
-            eval_between(Infix::Compute(*operator), a, b, env, xs, live, out, room)
+            eval_between(Infix::Compute(*operator), a, b, inputs, out, room)
         }
         LongExpr::Choose(condition, a, b) => eval_chosen(
             condition,
             Operand::Long(a),
             Operand::Long(b),
-            env,
-            xs,
-            live,
+            inputs,
             out,
             room,
         ),
     }
 }
 
-/// Puts the booleans of a test at the numbers `xs` into a register as flags, up to its first fault.
+/// Puts the booleans of a test into a register as flags, up to its first fault.
 #[cycle(register)]
 #[tactic(auto, using(crate::proofs::Flags::flagged_between, crate::proofs::Flags::flagged_opposite, crate::proofs::Flags::flagged_chosen))]
 pub(crate) fn eval_bool(
     test: &BoolExpr,
-    env: &Env,
-    xs: &[i64],
-    live: usize,
+    inputs: Inputs<'_>,
     out: &mut [i64],
     room: &mut [i64],
 ) -> Reached
-    requires lanes { live ≤ 1024 }
-    requires xs { live ≤ length xs.now }
-    requires out { live ≤ length out.old }
+    requires lanes { inputs.live ≤ 1024 }
+    requires xs { inputs.live ≤ length inputs.xs.now }
+    requires out { inputs.live ≤ length out.old }
     requires room { FitsTest (truth_of test.now) (length room.old) }
-    ensures { Reaches (λ k. flagged (truth_value (truth_of test.now) (at xs.now k) env.now)) (at out.new) live result }
+    ensures { Reaches (at_each inputs.entry (λ x env. flagged (truth_value (truth_of test.now) x env))) (at out.new) inputs.entry.live result }
 {
     match test {
-        BoolExpr::Literal(value) => fill(flag(*value), live, out),
+        BoolExpr::Literal(value) => fill(flag(*value), inputs.live, out),
         BoolExpr::Compare(comparison, a, b) => {
-            eval_between(Infix::Compare(*comparison), a, b, env, xs, live, out, room)
+            eval_between(Infix::Compare(*comparison), a, b, inputs, out, room)
         }
         BoolExpr::Not(operand) => {
-            let first = eval_bool(operand, env, xs, live, out, room);
+            let first = eval_bool(operand, inputs, out, room);
             each_in::<Opposite>(0, first.live, out).after(first)
         }
         BoolExpr::Connect(Connective::And, a, b) => {
             let b = Operand::Bool(b);
-            eval_chosen(a, b, Operand::Flag(false), env, xs, live, out, room)
+            eval_chosen(a, b, Operand::Flag(false), inputs, out, room)
         }
         BoolExpr::Connect(Connective::Or, a, b) => {
             let b = Operand::Bool(b);
-            eval_chosen(a, Operand::Flag(true), b, env, xs, live, out, room)
+            eval_chosen(a, Operand::Flag(true), b, inputs, out, room)
         }
         BoolExpr::Choose(condition, a, b) => eval_chosen(
             condition,
             Operand::Bool(a),
             Operand::Bool(b),
-            env,
-            xs,
-            live,
+            inputs,
             out,
             room,
         ),
@@ -122,22 +124,20 @@ pub(crate) fn eval_bool(
 #[cycle(register)]
 fn eval_operand(
     operand: Operand<'_>,
-    env: &Env,
-    xs: &[i64],
-    live: usize,
+    inputs: Inputs<'_>,
     out: &mut [i64],
     room: &mut [i64],
 ) -> Reached
-    requires lanes { live ≤ 1024 }
-    requires xs { live ≤ length xs.now }
-    requires out { live ≤ length out.old }
+    requires lanes { inputs.live ≤ 1024 }
+    requires xs { inputs.live ≤ length inputs.xs.now }
+    requires out { inputs.live ≤ length out.old }
     requires room { FitsOperand operand (length room.old) }
-    ensures { Reaches (λ k. operand_value operand.entry (at xs.now k) env.now) (at out.new) live result }
+    ensures { Reaches (at_each inputs.entry (operand_value operand.entry)) (at out.new) inputs.entry.live result }
 {
     match operand {
-        Operand::Long(expr) => eval_long(expr, env, xs, live, out, room),
-        Operand::Bool(test) => eval_bool(test, env, xs, live, out, room),
-        Operand::Flag(value) => fill(flag(value), live, out),
+        Operand::Long(expr) => eval_long(expr, inputs, out, room),
+        Operand::Bool(test) => eval_bool(test, inputs, out, room),
+        Operand::Flag(value) => fill(flag(value), inputs.live, out),
     }
 }
 
@@ -152,31 +152,34 @@ fn number_of(operand: Operand<'_>) -> Option<i64>
     }
 }
 
-/// Puts `condition ? a : b` at the numbers `xs` into a register, up to its first fault. Where `a` and
+/// Puts `condition ? a : b` into a register, up to its first fault. Where `a` and
 /// `b` are cheap and have no fault, both are evaluated at all lanes.
 #[cycle(register)]
 fn eval_chosen(
     condition: &BoolExpr,
     a: Operand<'_>,
     b: Operand<'_>,
-    env: &Env,
-    xs: &[i64],
-    live: usize,
+    inputs: Inputs<'_>,
     out: &mut [i64],
     room: &mut [i64],
 ) -> Reached
-    requires lanes { live ≤ 1024 }
-    requires xs { live ≤ length xs.now }
-    requires out { live ≤ length out.old }
+    requires lanes { inputs.live ≤ 1024 }
+    requires xs { inputs.live ≤ length inputs.xs.now }
+    requires out { inputs.live ≤ length out.old }
     requires room { FitsChosen (truth_of condition.now) a b (length room.old) }
-    ensures { Reaches (λ k. chosen_value (truth_value (truth_of condition.now) (at xs.now k) env.now) (operand_value a.entry (at xs.now k) env.now) (operand_value b.entry (at xs.now k) env.now)) (at out.new) live result }
+    ensures { Reaches (at_each inputs.entry (λ x env. chosen_value (truth_value (truth_of condition.now) x env) (operand_value a.entry x env) (operand_value b.entry x env))) (at out.new) inputs.entry.live result }
 {
     let (flags, rest) = room.split_at_mut(LANES);
-    let tested = eval_bool(condition, env, xs, live, flags, rest);
-    if eval_both(flags, a, b, env, xs, tested.live, out, rest) {
+    let tested = eval_bool(condition, inputs, flags, rest);
+    let valid = Inputs {
+        env: inputs.env,
+        xs: inputs.xs,
+        live: tested.live,
+    };
+    if eval_both(flags, a, b, valid, out, rest) {
         return all(tested.live).after(tested);
     }
-    eval_parted(flags, a, b, env, xs, tested.live, out, rest).after(tested)
+    eval_parted(flags, a, b, valid, out, rest).after(tested)
 }
 
 /// Puts the one of two operands that each flag chooses into a register, up to the first fault. Each is
@@ -186,33 +189,50 @@ fn eval_parted(
     flags: &[i64],
     a: Operand<'_>,
     b: Operand<'_>,
-    env: &Env,
-    xs: &[i64],
-    live: usize,
+    inputs: Inputs<'_>,
     out: &mut [i64],
     room: &mut [i64],
 ) -> Reached
-    requires lanes { live ≤ 1024 }
-    requires flags { live ≤ length flags.now }
-    requires xs { live ≤ length xs.now }
-    requires out { live ≤ length out.old }
+    requires lanes { inputs.live ≤ 1024 }
+    requires flags { inputs.live ≤ length flags.now }
+    requires xs { inputs.live ≤ length inputs.xs.now }
+    requires out { inputs.live ≤ length out.old }
     requires room { FitsParted a b (length room.old) }
-    ensures { Reaches (λ k. by_flag (at flags.now k) (operand_value a.entry (at xs.now k) env.now) (operand_value b.entry (at xs.now k) env.now)) (at out.new) live result }
+    ensures { Reaches (λ k. by_flag (at flags.now k) (at_each inputs.entry (operand_value a.entry) k) (at_each inputs.entry (operand_value b.entry) k)) (at out.new) inputs.entry.live result }
 {
     let (items, rest) = room.split_at_mut(LANES);
     let (ones, rest) = rest.split_at_mut(LANES);
     let (others, rest) = rest.split_at_mut(LANES);
+    let Inputs { env, xs, live } = inputs;
     if all_flags(flags, true, live) {
-        return eval_operand(a, env, xs, live, out, rest);
+        return eval_operand(a, inputs, out, rest);
     }
     if all_flags(flags, false, live) {
-        return eval_operand(b, env, xs, live, out, rest);
+        return eval_operand(b, inputs, out, rest);
     }
     let count = gather(flags, true, live, xs, items);
-    let first = eval_operand(a, env, items, count, ones, rest);
+    let chosen = Inputs {
+        env,
+        xs: items,
+        live: count,
+    };
+    let first = eval_operand(a, chosen, ones, rest);
     let count = gather(flags, false, live, xs, items);
-    let second = eval_operand(b, env, items, count, others, rest);
-    merge(flags, live, ones, first, others, second, out)
+    let other = Inputs {
+        env,
+        xs: items,
+        live: count,
+    };
+    let second = eval_operand(b, other, others, rest);
+    let ones = Side {
+        values: ones,
+        reached: first,
+    };
+    let others = Side {
+        values: others,
+        reached: second,
+    };
+    merge(flags, live, ones, others, out)
 }
 
 /// The same where both operands are cheap and have a value at each lane, and else false. Both are
@@ -222,36 +242,34 @@ fn eval_both(
     flags: &[i64],
     a: Operand<'_>,
     b: Operand<'_>,
-    env: &Env,
-    xs: &[i64],
-    live: usize,
+    inputs: Inputs<'_>,
     out: &mut [i64],
     room: &mut [i64],
 ) -> bool
-    requires lanes { live ≤ 1024 }
-    requires flags { live ≤ length flags.now }
-    requires xs { live ≤ length xs.now }
-    requires out { live ≤ length out.old }
+    requires lanes { inputs.live ≤ 1024 }
+    requires flags { inputs.live ≤ length flags.now }
+    requires xs { inputs.live ≤ length inputs.xs.now }
+    requires out { inputs.live ≤ length out.old }
     requires room { FitsParted a b (length room.old) }
-    ensures { IsTrue result → (k : ℕ) → k < live → by_flag (at flags.now k) (operand_value a.entry (at xs.now k) env.now) (operand_value b.entry (at xs.now k) env.now) ≡ Ok (at out.new k) }
+    ensures { IsTrue result → (k : ℕ) → k < inputs.entry.live → by_flag (at flags.now k) (at_each inputs.entry (operand_value a.entry) k) (at_each inputs.entry (operand_value b.entry) k) ≡ Ok (at out.new k) }
 {
     if !is_cheap(a) || !is_cheap(b) {
         return false;
     }
     let (ones, rest) = room.split_at_mut(3 * LANES);
     if let Some(number) = number_of(b) {
-        let first = eval_operand(a, env, xs, live, out, rest);
-        set_others(flags, number, live, out);
-        return first.live == live;
+        let first = eval_operand(a, inputs, out, rest);
+        set_others(flags, number, inputs.live, out);
+        return first.live == inputs.live;
     }
-    let second = eval_operand(b, env, xs, live, out, rest);
+    let second = eval_operand(b, inputs, out, rest);
     if let Some(number) = number_of(a) {
-        set_ones(flags, number, live, out);
-        return second.live == live;
+        set_ones(flags, number, inputs.live, out);
+        return second.live == inputs.live;
     }
-    let first = eval_operand(a, env, xs, live, ones, rest);
-    select(flags, ones, live, out);
-    first.live == live && second.live == live
+    let first = eval_operand(a, inputs, ones, rest);
+    select(flags, ones, inputs.live, out);
+    first.live == inputs.live && second.live == inputs.live
 }
 
 /// Two operands from left to right, and an operator between them.
@@ -260,32 +278,37 @@ fn eval_between(
     op: Infix,
     a: &LongExpr,
     b: &LongExpr,
-    env: &Env,
-    xs: &[i64],
-    live: usize,
+    inputs: Inputs<'_>,
     out: &mut [i64],
     room: &mut [i64],
 ) -> Reached
-    requires lanes { live ≤ 1024 }
-    requires xs { live ≤ length xs.now }
-    requires out { live ≤ length out.old }
+    requires lanes { inputs.live ≤ 1024 }
+    requires xs { inputs.live ≤ length inputs.xs.now }
+    requires out { inputs.live ≤ length out.old }
     requires room { FitsBoth (long_of a.now) (long_of b.now) (length room.old) }
-    ensures { Reaches (λ k. between (infix_value op) (long_value (long_of a.now) (at xs.now k) env.now) (long_value (long_of b.now) (at xs.now k) env.now)) (at out.new) live result }
+    ensures { Reaches (at_each inputs.entry (λ x env. between (infix_value op) (long_value (long_of a.now) x env) (long_value (long_of b.now) x env))) (at out.new) inputs.entry.live result }
 {
-    let (left, first) = eval_left(a, env, xs, live, out, room);
+    let (left, first) = eval_left(a, inputs, out, room);
     if let Some(y) = constant_in(b) {
-        return by_number(op, left, xs, y, first.live, out).after(first);
+        return by_number(op, left, inputs.xs, y, first.live, out).after(first);
     }
     match b {
-        LongExpr::Parameter(_) => by_register(op, left, xs, xs, first.live, out).after(first),
+        LongExpr::Parameter(_) => by_register(
+            op, left, inputs.xs, inputs.xs, first.live, out,
+        ).after(first),
         LongExpr::Reference(name) => {
-            let y = env.number(name.as_slice()).unwrap_or(0);
-            by_number(op, left, xs, y, first.live, out).after(first)
+            let y = inputs.env.number(name.as_slice()).unwrap_or(0);
+            by_number(op, left, inputs.xs, y, first.live, out).after(first)
         }
         _ => {
             let (ys, rest) = room.split_at_mut(LANES);
-            let second = eval_long(b, env, xs, first.live, ys, rest);
-            let third = by_register(op, left, xs, ys, second.live, out);
+            let valid = Inputs {
+                env: inputs.env,
+                xs: inputs.xs,
+                live: first.live,
+            };
+            let second = eval_long(b, valid, ys, rest);
+            let third = by_register(op, left, inputs.xs, ys, second.live, out);
             third.after(second).after(first)
         }
     }
@@ -295,25 +318,23 @@ fn eval_between(
 #[cycle(register)]
 fn eval_left(
     expr: &LongExpr,
-    env: &Env,
-    xs: &[i64],
-    live: usize,
+    inputs: Inputs<'_>,
     out: &mut [i64],
     room: &mut [i64],
 ) -> (Left, Reached)
-    requires lanes { live ≤ 1024 }
-    requires xs { live ≤ length xs.now }
-    requires out { live ≤ length out.old }
+    requires lanes { inputs.live ≤ 1024 }
+    requires xs { inputs.live ≤ length inputs.xs.now }
+    requires out { inputs.live ≤ length out.old }
     requires room { Fits (long_of expr.now) (length room.old) }
-    ensures { Reaches (λ k. long_value (long_of expr.now) (at xs.now k) env.now) (left_at result.0 out.new xs.now) live result.1 }
+    ensures { Reaches (at_each inputs.entry (long_value (long_of expr.now))) (left_at result.0 out.new inputs.entry.xs.now) inputs.entry.live result.1 }
 {
     match expr {
-        LongExpr::Number(number) => (Left::Number(*number), all(live)),
-        LongExpr::Parameter(_) => (Left::Item, all(live)),
+        LongExpr::Number(number) => (Left::Number(*number), all(inputs.live)),
+        LongExpr::Parameter(_) => (Left::Item, all(inputs.live)),
         LongExpr::Reference(name) => {
-            let number = env.number(name.as_slice()).unwrap_or(0);
-            (Left::Number(number), all(live))
+            let number = inputs.env.number(name.as_slice()).unwrap_or(0);
+            (Left::Number(number), all(inputs.live))
         }
-        _ => (Left::Out, eval_long(expr, env, xs, live, out, room)),
+        _ => (Left::Out, eval_long(expr, inputs, out, room)),
     }
 }

@@ -2,12 +2,13 @@
 //! depth first.
 
 ghost use Rattle.batch_eval.specs.Batches.{fed_of};
+ghost use Rattle.batch_eval.specs.Pipelines.{piped};
 ghost use Rattle.batch_eval.specs.Pours.{Holds, Poured};
 ghost use Rattle.batch_eval.specs.Rooms.{FitsStages};
 ghost use Rattle.lambda_expr.specs.Streams.{inner_of, run_or_listed};
 ghost use Rattle.std.specs.Prelude.{◌≡◌, ◌+◌, ◌<◌, ◌^◌, List, ◌++◌, Ok, OnErr, Some, length};
 ghost use Rattle.trace.specs.Sinks.{IsFed, flow_after};
-ghost use Rattle.trace.specs.Stages.{at_place, flat_map, of_item, pipe, stages_of};
+ghost use Rattle.trace.specs.Stages.{at_place, flat_map, of_item, stages_of};
 ghost use Rattle.trace.specs.Trace.{each, trace};
 ghost use Rattle.trace.specs.declared.feeding.Fed.TheVariants as fed;
 ghost use Rattle.trace.specs.declared.item.Item.{Item};
@@ -15,62 +16,65 @@ ghost use Rattle.trace.specs.declared.item.Item.{Item};
 use crate::batch::Batch;
 use crate::bounds::{Bounds, bound_room, eval_bounds};
 use crate::one_value::map_to_one;
+use crate::pipeline::Pipeline;
 use crate::register::LANES;
 use crate::sink::BatchSink;
-use lambda_expr::{Env, FaultKind, InnerExpr, ListedValues};
+use lambda_expr::{FaultKind, InnerExpr, ListedValues};
 use trace::{End, Fault, Fed, Flow, InnerItems, Item, NoMemory, SourceItems, Stage, feed_all};
+
+/// A `flatMap` of a pipeline: its number, its expression, and the stages after it.
+#[derive(Clone, Copy)]
+struct FlatMapStage<'a> {
+    number: u32,
+    inner: &'a InnerExpr,
+    later: Pipeline<'a>,
+}
 
 /// Takes a batch through all stages, and gives the sink what comes out.
 #[cycle(batches)]
 pub(crate) fn feed_batch<S: BatchSink>(
-    stages: &[Stage],
-    first_stage: u32,
-    env: &Env,
+    line: Pipeline<'_>,
     batch: &mut Batch,
     nested: &mut [Batch],
     room: &mut [i64],
     sink: &mut S,
 ) -> Result<Fed, NoMemory>
-    requires numbered { first_stage + length stages.now < 2 ^ 32 }
     requires wants { S.flow sink.old ≡ Flow.More }
-    requires room { FitsStages (stages_of stages.now) (length room.old) }
+    requires room { FitsStages (stages_of line.stages.now) (length room.old) }
     ensures fed { (xs : List Item) → S.has_taken sink.old xs → IsFed S.has_taken xs
-        (pipe first_stage (stages_of stages.now) env.now batch.old) result sink.new }
+        (piped line.entry batch.old) result sink.new }
     ensures flow { S.flow sink.new ≡ flow_after result }
     ensures refused { OnErr result S.takes_memory }
 {
-    let Some((stage, later)) = stages.split_first() else {
+    let Some((stage, later)) = line.split_first() else {
         return give(batch, room, sink);
     };
     match stage {
         Stage::Map(image) => {
-            batch.map(image, first_stage, env, room);
-            feed_batch(later, first_stage + 1, env, batch, nested, room, sink)
+            batch.map(image, line, room);
+            feed_batch(later, batch, nested, room, sink)
         }
         Stage::Filter(test) => {
-            if later.is_empty() && sink.takes_flags() {
-                return batch.give_passing(test, first_stage, env, room, sink);
+            if later.stages.is_empty() && sink.takes_flags() {
+                return batch.give_passing(test, line, room, sink);
             }
-            batch.filter(test, first_stage, env, room);
-            feed_batch(later, first_stage + 1, env, batch, nested, room, sink)
+            batch.filter(test, line, room);
+            feed_batch(later, batch, nested, room, sink)
         }
         Stage::FlatMap(inner) => {
-            if map_to_one(batch, inner, first_stage, env, room) {
-                return feed_batch(later, first_stage + 1, env, batch, nested, room, sink);
+            if map_to_one(batch, inner, line, room) {
+                return feed_batch(later, batch, nested, room, sink);
             }
             match nested.split_first_mut() {
-                Some((pending, rest)) => feed_inner(
-                    inner,
-                    later,
-                    first_stage,
-                    env,
-                    batch,
-                    pending,
-                    rest,
-                    room,
-                    sink,
-                ),
-                None => feed_lanes(stages, first_stage, env, batch, sink),
+                Some((pending, rest)) => {
+                    let stage = FlatMapStage {
+                        number: line.first,
+                        inner,
+                        later,
+                    };
+                    feed_inner(stage, batch, pending, rest, room, sink)
+                }
+                None => feed_lanes(line, batch, sink),
             }
         }
     }
@@ -79,87 +83,83 @@ pub(crate) fn feed_batch<S: BatchSink>(
 /// Takes the inner values of the items of a batch through the later stages. They are put together in
 /// `pending`, which goes on when it is full and after the last item.
 #[cycle(batches)]
-pub(crate) fn feed_inner<S: BatchSink>(
-    inner: &InnerExpr,
-    later: &[Stage],
-    stage: u32,
-    env: &Env,
+fn feed_inner<S: BatchSink>(
+    stage: FlatMapStage<'_>,
     batch: &Batch,
     pending: &mut Batch,
     rest: &mut [Batch],
     room: &mut [i64],
     sink: &mut S,
 ) -> Result<Fed, NoMemory>
-    requires numbered { stage + 1 + length later.now < 2 ^ 32 }
     requires wants { S.flow sink.old ≡ Flow.More }
-    requires room { FitsStages (stages_of later.now) (length room.old) }
+    requires room { FitsStages (stages_of stage.later.stages.now) (length room.old) }
     ensures fed { (xs : List Item) → S.has_taken sink.old xs → IsFed S.has_taken xs
-        (pipe (stage + 1) (stages_of later.now) env.now (each (of_item stage (flat_map (inner_of inner.now)) env.now) batch.now.items batch.now.ending)) result sink.new }
+        (piped stage.entry.later (each (of_item stage.entry.number (flat_map (inner_of stage.entry.inner.now)) stage.entry.later.env.now) batch.now.items batch.now.ending)) result sink.new }
     ensures flow { S.flow sink.new ≡ flow_after result }
     ensures refused { OnErr result S.takes_memory }
 {
+    let inner = stage.inner;
+    let later = stage.later;
     pending.clear();
-    let part = bound_room(inner, later, room.len());
+    let part = bound_room(inner, later.stages, room.len());
     let (froms, room) = room.split_at_mut(part);
     let (tos, room) = room.split_at_mut(part);
-    let lanes = eval_bounds(inner, env, batch.values(), froms, tos, room);
+    let lanes = eval_bounds(inner, later.env, batch.values(), froms, tos, room);
     let bounds = Bounds {
+        inner,
         froms: &froms[..lanes],
         tos: &tos[..lanes],
     };
     let mut listed = ListedValues::new();
     let count = batch.count();
-    let mut position = pending.add_few(inner, bounds, batch, 0);
+    let mut position = pending.add_few(bounds, batch, 0);
     while position < count {
         let item = batch.item_at(position);
-        match bounds.eval_at(position as usize, inner, item.value, env, &mut listed) {
+        match bounds.eval_at(position as usize, item.value, later.env, &mut listed) {
             Ok(run) => {
                 let values = InnerItems {
                     origin: item.origin,
                     run,
                     listed: listed.as_slice(),
                 };
-                match pour(later, stage + 1, env, &values, pending, rest, room, sink)? {
+                match pour(later, &values, pending, rest, room, sink)? {
                     Fed::More => {}
                     stopped => return Ok(stopped),
                 }
             }
             Err(kind) => {
-                let end = fault_at(stage, item, kind);
-                return finish(later, stage + 1, env, end, pending, rest, room, sink);
+                let end = fault_at(stage.number, item, kind);
+                return finish(later, end, pending, rest, room, sink);
             }
         }
-        position = pending.add_few(inner, bounds, batch, position + 1);
+        position = pending.add_few(bounds, batch, position + 1);
     }
     let end = batch.end();
-    finish(later, stage + 1, env, end, pending, rest, room, sink)
+    finish(later, end, pending, rest, room, sink)
 }
 
 /// Adds the values of an inner stream to those that wait, and takes them through the stages whenever
 /// the batch is full.
 #[cycle(batches)]
 fn pour<S: BatchSink>(
-    stages: &[Stage],
-    first_stage: u32,
-    env: &Env,
+    line: Pipeline<'_>,
     values: &InnerItems<'_>,
     pending: &mut Batch,
     rest: &mut [Batch],
     room: &mut [i64],
     sink: &mut S,
 ) -> Result<Fed, NoMemory>
-    requires numbered { first_stage + length stages.now < 2 ^ 32 }
     requires wants { S.flow sink.old ≡ Flow.More }
-    requires room { FitsStages (stages_of stages.now) (length room.old) }
-    ensures poured { (xs whole : List Item) → Holds S.has_taken first_stage (stages_of stages.now) env.now xs whole pending.old.items sink.old
-        → Poured S.has_taken first_stage (stages_of stages.now) env.now xs (whole ++ at_place values.now.origin (run_or_listed values.now.run values.now.listed.now)) result pending.new.items sink.new }
+    requires room { FitsStages (stages_of line.stages.now) (length room.old) }
+    ensures poured { (xs whole : List Item) → Holds S.has_taken line.entry xs whole pending.old.items sink.old
+        → Poured S.has_taken line.entry xs (whole ++ at_place values.now.origin (run_or_listed values.now.run values.now.listed.now)) result pending.new.items sink.new }
     ensures flow { S.flow sink.new ≡ flow_after result }
     ensures refused { OnErr result S.takes_memory }
 {
     let count = values.count();
     let mut position = 0;
     while position < count {
-        match make_space(stages, first_stage, env, pending, rest, room, sink)? {
+        match make_space(line, pending, rest, room, sink)? {
             Fed::More => {}
             stopped => return Ok(stopped),
         }
@@ -173,19 +173,16 @@ fn pour<S: BatchSink>(
 /// Takes the values that wait through the stages, if there is no space for another.
 #[cycle(batches)]
 fn make_space<S: BatchSink>(
-    stages: &[Stage],
-    first_stage: u32,
-    env: &Env,
+    line: Pipeline<'_>,
     pending: &mut Batch,
     rest: &mut [Batch],
     room: &mut [i64],
     sink: &mut S,
 ) -> Result<Fed, NoMemory>
-    requires numbered { first_stage + length stages.now < 2 ^ 32 }
     requires wants { S.flow sink.old ≡ Flow.More }
-    requires room { FitsStages (stages_of stages.now) (length room.old) }
-    ensures poured { (xs whole : List Item) → Holds S.has_taken first_stage (stages_of stages.now) env.now xs whole pending.old.items sink.old
-        → Poured S.has_taken first_stage (stages_of stages.now) env.now xs whole result pending.new.items sink.new }
+    requires room { FitsStages (stages_of line.stages.now) (length room.old) }
+    ensures poured { (xs whole : List Item) → Holds S.has_taken line.entry xs whole pending.old.items sink.old
+        → Poured S.has_taken line.entry xs whole result pending.new.items sink.new }
     ensures space { result ≡ Ok fed.More → length pending.new.items < 1024 }
     ensures flow { S.flow sink.new ≡ flow_after result }
     ensures refused { OnErr result S.takes_memory }
@@ -194,7 +191,7 @@ fn make_space<S: BatchSink>(
         return Ok(Fed::More);
     }
     pending.end_with(End::Done);
-    let fed = feed_batch(stages, first_stage, env, pending, rest, room, sink)?;
+    let fed = feed_batch(line, pending, rest, room, sink)?;
     pending.clear();
     Ok(fed)
 }
@@ -202,25 +199,22 @@ fn make_space<S: BatchSink>(
 /// Takes the values that wait through the stages, after which the walk ends so.
 #[cycle(batches)]
 fn finish<S: BatchSink>(
-    stages: &[Stage],
-    first_stage: u32,
-    env: &Env,
+    line: Pipeline<'_>,
     end: End,
     pending: &mut Batch,
     rest: &mut [Batch],
     room: &mut [i64],
     sink: &mut S,
 ) -> Result<Fed, NoMemory>
-    requires numbered { first_stage + length stages.now < 2 ^ 32 }
     requires wants { S.flow sink.old ≡ Flow.More }
-    requires room { FitsStages (stages_of stages.now) (length room.old) }
-    ensures fed { (xs whole : List Item) → Holds S.has_taken first_stage (stages_of stages.now) env.now xs whole pending.old.items sink.old
-        → IsFed S.has_taken xs (pipe first_stage (stages_of stages.now) env.now (trace whole end)) result sink.new }
+    requires room { FitsStages (stages_of line.stages.now) (length room.old) }
+    ensures fed { (xs whole : List Item) → Holds S.has_taken line.entry xs whole pending.old.items sink.old
+        → IsFed S.has_taken xs (piped line.entry (trace whole end)) result sink.new }
     ensures flow { S.flow sink.new ≡ flow_after result }
     ensures refused { OnErr result S.takes_memory }
 {
     pending.end_with(end);
-    feed_batch(stages, first_stage, env, pending, rest, room, sink)
+    feed_batch(line, pending, rest, room, sink)
 }
 
 /// The end by the fault of this stage at this item.
@@ -236,20 +230,17 @@ fn fault_at(stage: u32, item: Item, kind: FaultKind) -> End
 
 /// Takes the items of a batch through all stages one after the other.
 fn feed_lanes<S: BatchSink>(
-    stages: &[Stage],
-    first_stage: u32,
-    env: &Env,
+    line: Pipeline<'_>,
     batch: &Batch,
     sink: &mut S,
 ) -> Result<Fed, NoMemory>
-    requires numbered { first_stage + length stages.now < 2 ^ 32 }
     requires wants { S.flow sink.old ≡ Flow.More }
     ensures fed { (xs : List Item) → S.has_taken sink.old xs → IsFed S.has_taken xs
-        (pipe first_stage (stages_of stages.now) env.now batch.now) result sink.new }
+        (piped line.entry batch.now) result sink.new }
     ensures flow { S.flow sink.new ≡ flow_after result }
     ensures refused { OnErr result S.takes_memory }
 {
-    match feed_all(stages, first_stage, env, batch, sink)? {
+    match feed_all(line.stages, line.first, line.env, batch, sink)? {
         Fed::More => Ok(fed_by(batch.end())),
         stopped => Ok(stopped),
     }

@@ -22,6 +22,14 @@ use std::alloc::{AllocError, Global};
 use std::thread;
 use std::thread::Threads;
 
+/// What parses a text in pieces: workers, each on a thread, and how many bytes a piece has at least.
+#[derive(Drop)]
+pub(crate) struct Team<'a, H> {
+    pub(crate) rt: &'a H,
+    pub(crate) workers: usize,
+    pub(crate) piece: usize,
+}
+
 /// The rows of a part of a text, under columns without names, if they were read.
 #[derive(Drop)]
 pub(crate) struct Piece {
@@ -34,28 +42,27 @@ pub(crate) struct Piece {
 /// Reads the rows from place `from` on, which is the start of a record, under the columns, and answers whether all are
 /// plain. If not, the columns may hold some of their cells.
 pub(crate) fn read_plain_rows_by<H: Threads + Sync>(
-    rt: &H,
+    team: &Team<'_, H>,
     alloc: Global,
     text: &[u8],
     from: usize,
-    workers: usize,
-    bytes: usize,
     columns: &mut [Column],
 ) -> bool
     requires within { from ≤ length text.now }
     requires some_column { 0 < length columns.old }
     ensures { result ≡ true → AreRead (drop from text.now) [] (map named columns.old) (map named columns.new) }
 {
-    if workers < 2 || text.len() - from <= bytes {
+    let bytes = team.piece;
+    if team.workers < 2 || text.len() - from <= bytes {
         return read_plain_rows(text, from, text.len(), columns);
     }
     let first = &text[from..from.saturating_add(bytes).min(text.len())];
     let rows = rows_to_expect(first, first.len(), columns.len());
-    let count = workers.min((text.len() - from).div_ceil(bytes.max(1)));
+    let count = team.workers.min((text.len() - from).div_ceil(bytes.max(1)));
     let Ok(mut pieces) = empty_pieces(alloc, count, columns.len(), rows) else {
         return false;
     };
-    read_in_turns(rt, text, from, bytes, pieces.as_mut_slice(), columns)
+    read_in_turns(team.rt, text, from, bytes, pieces.as_mut_slice(), columns)
 }
 
 /// Pieces of which none is read, with room for this many rows each.

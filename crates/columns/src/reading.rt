@@ -11,7 +11,7 @@ ghost use Rattle.csv.specs.Reading.{strip_bom};
 
 use crate::fault::ColumnFault;
 use crate::header::{header_end, without_mark};
-use crate::pieces::read_plain_rows_by;
+use crate::pieces::{Team, read_plain_rows_by};
 use crate::plain::read_plain_rows;
 use crate::records::{next_record, reader_of};
 use crate::rounds::{columns_in_rounds, read_on};
@@ -82,17 +82,16 @@ pub fn read_columns_by<H: Threads + Sync, R: CountedRead>(
     } else {
         workers.saturating_mul(piece).max(1)
     };
-    columns_up_to(rt, alloc, reader, limit, workers, piece)
+    let team = Team { rt, workers, piece };
+    columns_up_to(&team, alloc, reader, limit)
 }
 
 /// The same, of a file that is read whole first if it has fewer bytes than `limit`.
 fn columns_up_to<H: Threads + Sync, R: CountedRead>(
-    rt: &H,
+    team: &Team<'_, H>,
     alloc: Global,
     reader: &mut R,
     limit: usize,
-    workers: usize,
-    piece: usize,
 ) -> Result<Columns, ColumnFault>
     requires { 0 < limit }
     ensures answer { (gone : List ℕ) × Consumes (R.remaining reader.old) (R.remaining reader.new) gone × IsAnswerTo gone result }
@@ -103,9 +102,9 @@ fn columns_up_to<H: Threads + Sync, R: CountedRead>(
 {
     let mut bytes = no_bytes(alloc, reader.likely_size().min(limit - 1) + 1);
     if !read_on(reader, &mut bytes, limit)? {
-        return columns_in_rounds(rt, alloc, reader, bytes, workers, piece);
+        return columns_in_rounds(team, alloc, reader, bytes);
     }
-    columns_of(rt, alloc, &bytes, workers, piece)
+    columns_of(team, alloc, &bytes)
 }
 
 /// No bytes, with room for this many if there is memory.
@@ -119,16 +118,14 @@ fn no_bytes(alloc: Global, room: usize) -> Vec<u8>
 
 /// The columns of some bytes, read in pieces if all rows are plain.
 fn columns_of<H: Threads + Sync>(
-    rt: &H,
+    team: &Team<'_, H>,
     alloc: Global,
     bytes: &[u8],
-    workers: usize,
-    piece: usize,
 ) -> Result<Columns, ColumnFault>
     ensures tells { IsAnswerTo bytes.now result }
     ensures unread { IfErr result (λ fault. fault ≢ ColumnFault.Read) }
 {
-    match plain_columns_by(rt, alloc, bytes, workers, piece) {
+    match plain_columns_by(team, alloc, bytes) {
         Some(columns) => Ok(columns),
         None => columns_in(alloc, bytes),
     }
@@ -195,18 +192,16 @@ fn plain_columns(alloc: Global, bytes: &[u8]) -> Option<Columns>
 
 /// The same, read in pieces.
 fn plain_columns_by<H: Threads + Sync>(
-    rt: &H,
+    team: &Team<'_, H>,
     alloc: Global,
     bytes: &[u8],
-    workers: usize,
-    piece: usize,
 ) -> Option<Columns>
     ensures { IfSome result (λ columns. cells_of bytes.now ≡ Ok columns) }
 {
     let text = without_mark(bytes);
     let (mut columns, from) = plain_header(alloc, bytes, bytes.len())?;
     let slice = columns.as_mut_slice();
-    if !read_plain_rows_by(rt, alloc, text, from, workers, piece, slice) {
+    if !read_plain_rows_by(team, alloc, text, from, slice) {
         return None;
     }
     Some(Columns::of(columns))

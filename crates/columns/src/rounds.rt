@@ -20,7 +20,7 @@ ghost use Rattle.columns.specs.TableOfColumns.{named};
 
 use crate::fault::ColumnFault;
 use crate::header::without_mark;
-use crate::pieces::{Piece, empty_pieces, put_plain_text};
+use crate::pieces::{Piece, Team, empty_pieces, put_plain_text};
 use crate::reading::{columns_in, plain_header, rows_to_expect};
 use crate::records::reader_of;
 use crate::rows::read_rows;
@@ -40,6 +40,20 @@ enum Round {
     Last,
     /// It has a row that isn't plain, and none is put.
     Other,
+}
+
+/// What the rounds of a file are read into, and the pieces in which they are parsed.
+#[derive(Drop)]
+struct Rounds {
+    /// The bytes of this round.
+    bytes: Vec<u8>,
+    /// Those of the next one.
+    spare: Vec<u8>,
+    /// How many bytes a round has at most, if a line isn't longer.
+    limit: usize,
+    /// How many bytes a piece has at least.
+    piece: usize,
+    pieces: Vec<Piece>,
 }
 
 /// Reads on, after the bytes that are there, until they are `limit` bytes, and answers whether the reader is at its end.
@@ -64,12 +78,10 @@ pub(crate) fn read_on<R: CountedRead>(
 
 /// The columns of a file of which these bytes are read, and of all that the reader has left.
 pub(crate) fn columns_in_rounds<H: Threads + Sync, R: CountedRead>(
-    rt: &H,
+    team: &Team<'_, H>,
     alloc: Global,
     reader: &mut R,
     bytes: Vec<u8>,
-    workers: usize,
-    piece: usize,
 ) -> Result<Columns, ColumnFault>
     ensures answer { (gone : List ℕ) × Consumes (R.remaining reader.old) (R.remaining reader.new) gone
         × IsAnswerTo (bytes.items ++ gone) result }
@@ -80,7 +92,7 @@ pub(crate) fn columns_in_rounds<H: Threads + Sync, R: CountedRead>(
     let total = bytes.len().saturating_add(reader.likely_size());
     if bytes.len() >= MARK.len() {
         if let Some((columns, end)) = plain_header(alloc, &bytes, total) {
-            return columns_after(rt, alloc, reader, bytes, end, columns, workers, piece);
+            return columns_after(team, alloc, reader, bytes, end, columns);
         }
     }
     columns_by_records(alloc, reader, bytes)
@@ -106,14 +118,12 @@ fn columns_by_records<R: CountedRead>(
 
 /// The same, of bytes whose header ends at `end` after a mark, with the columns under it.
 fn columns_after<H: Threads + Sync, R: CountedRead>(
-    rt: &H,
+    team: &Team<'_, H>,
     alloc: Global,
     reader: &mut R,
-    mut bytes: Vec<u8>,
+    bytes: Vec<u8>,
     end: usize,
     mut columns: Vec<Column>,
-    workers: usize,
-    piece: usize,
 ) -> Result<Columns, ColumnFault>
     requires within { end ≤ length (strip_bom bytes.items) }
     requires some_column { 0 < vec_len columns }
@@ -125,99 +135,82 @@ fn columns_after<H: Threads + Sync, R: CountedRead>(
     ensures read { IfErr result (λ fault. fault ≡ ColumnFault.Read → HasRisen (R.failures reader.old) (R.failures reader.new)) }
     ensures counts { R.failures reader.old ≤ R.failures reader.new }
 {
-    put_rows_after(
-        rt,
-        alloc,
-        reader,
-        &mut bytes,
-        end,
-        workers,
-        piece,
-        columns.as_mut_slice(),
-    )?;
+    put_rows_after(team, alloc, reader, bytes, end, columns.as_mut_slice())?;
     Ok(Columns::of(columns))
 }
 
 /// Puts the rows from `end` on, after a mark, and of all that the reader has left under the columns.
 fn put_rows_after<H: Threads + Sync, R: CountedRead>(
-    rt: &H,
+    team: &Team<'_, H>,
     alloc: Global,
     reader: &mut R,
-    bytes: &mut Vec<u8>,
+    bytes: Vec<u8>,
     end: usize,
-    workers: usize,
-    piece: usize,
     columns: &mut [Column],
 ) -> Result<(), ColumnFault>
-    requires within { end ≤ length (strip_bom bytes.old.items) }
+    requires within { end ≤ length (strip_bom bytes.items) }
     requires some_column { 0 < length columns.old }
-    ensures put { IsPutBy (R.remaining reader.old) (R.remaining reader.new) (drop end (strip_bom bytes.old.items))
+    ensures put { IsPutBy (R.remaining reader.old) (R.remaining reader.new) (drop end (strip_bom bytes.items))
         (map named columns.old) result (map named columns.new) }
     ensures end { IsReadWhole (R.remaining reader.new) result }
     ensures read { IfErr result (λ fault. fault ≡ ColumnFault.Read → HasRisen (R.failures reader.old) (R.failures reader.new)) }
     ensures counts { R.failures reader.old ≤ R.failures reader.new }
 {
     let limit = bytes.len();
-    let first = &without_mark(bytes)[end..];
-    match room_for_rounds(alloc, first, limit, workers, piece, columns.len()) {
-        Ok((mut next, mut pieces)) => put_rounds(
-            rt,
-            alloc,
-            reader,
-            &mut next,
-            bytes,
-            limit,
-            piece,
-            pieces.as_mut_slice(),
-            columns,
-        ),
+    let first = &without_mark(&bytes)[end..];
+    match room_for_rounds(team, alloc, first, limit, columns.len()) {
+        Ok((next, pieces)) => {
+            let mut rounds = Rounds {
+                bytes: next,
+                spare: bytes,
+                limit,
+                piece: team.piece,
+                pieces,
+            };
+            put_rounds(team.rt, alloc, reader, &mut rounds, columns)
+        }
         Err(AllocError) => put_by_records(alloc, reader, first, columns),
     }
 }
 
 /// A buffer of `limit` bytes that begins with these, and pieces for the workers.
-fn room_for_rounds(
+fn room_for_rounds<H>(
+    team: &Team<'_, H>,
     alloc: Global,
     bytes: &[u8],
     limit: usize,
-    workers: usize,
-    piece: usize,
     width: usize,
 ) -> Result<(Vec<u8>, Vec<Piece>), AllocError>
     ensures { IfOk result (λ room. room.0.items ≡ bytes.now) }
 {
     let mut next = Vec::with_capacity(alloc, limit)?;
     next.extend_from_slice(bytes)?;
-    let first = &bytes[..piece.min(bytes.len())];
+    let first = &bytes[..team.piece.min(bytes.len())];
     let rows = rows_to_expect(first, first.len(), width);
-    let pieces = empty_pieces(alloc, workers, width, rows)?;
+    let pieces = empty_pieces(alloc, team.workers, width, rows)?;
     Ok((next, pieces))
 }
 
-/// Puts the rows of these bytes and of all that the reader has left under the columns, round by round.
+/// Puts the rows of these rounds and of all that the reader has left under the columns, round by round.
 fn put_rounds<H: Threads + Sync, R: CountedRead>(
     rt: &H,
     alloc: Global,
     reader: &mut R,
-    bytes: &mut Vec<u8>,
-    spare: &mut Vec<u8>,
-    limit: usize,
-    piece: usize,
-    pieces: &mut [Piece],
+    rounds: &mut Rounds,
     columns: &mut [Column],
 ) -> Result<(), ColumnFault>
     requires some_column { 0 < length columns.old }
-    ensures put { IsPutBy (R.remaining reader.old) (R.remaining reader.new) bytes.old.items
+    ensures put { IsPutBy (R.remaining reader.old) (R.remaining reader.new) rounds.old.bytes.items
         (map named columns.old) result (map named columns.new) }
     ensures end { IsReadWhole (R.remaining reader.new) result }
     ensures read { IfErr result (λ fault. fault ≡ ColumnFault.Read → HasRisen (R.failures reader.old) (R.failures reader.new)) }
     ensures counts { R.failures reader.old ≤ R.failures reader.new }
 {
     for _ in 0..u64::MAX {
-        match next_round(rt, reader, bytes, spare, limit, piece, pieces, columns)? {
+        match next_round(rt, reader, rounds, columns)? {
             Round::Put => {}
-            Round::Last => return put_last(rt, alloc, reader, bytes, piece, pieces, columns),
-            Round::Other => return put_by_records(alloc, reader, bytes, columns),
+            Round::Last => return put_last(rt, alloc, reader, rounds, columns),
+            Round::Other => return put_by_records(alloc, reader, &rounds.bytes, columns),
         }
     }
     // No file is that long.
@@ -228,15 +221,11 @@ fn put_rounds<H: Threads + Sync, R: CountedRead>(
 fn next_round<H: Threads + Sync, R: CountedRead>(
     rt: &H,
     reader: &mut R,
-    bytes: &mut Vec<u8>,
-    spare: &mut Vec<u8>,
-    limit: usize,
-    piece: usize,
-    pieces: &mut [Piece],
+    rounds: &mut Rounds,
     columns: &mut [Column],
 ) -> Result<Round, ColumnFault>
     requires some_column { 0 < length columns.old }
-    ensures goes { OnOk result (Goes (R.remaining reader.old) (R.remaining reader.new) bytes.old.items bytes.new.items
+    ensures goes { OnOk result (Goes (R.remaining reader.old) (R.remaining reader.new) rounds.old.bytes.items rounds.new.bytes.items
         (map named columns.old) (map named columns.new)) }
     ensures end { IfOk result (λ round. round ≡ Round.Last → IsAtEnd (R.remaining reader.new)) }
     ensures gave { GaveSome (R.remaining reader.old) (R.remaining reader.new) }
@@ -244,28 +233,19 @@ fn next_round<H: Threads + Sync, R: CountedRead>(
     ensures read { IfErr result (λ fault. fault ≡ ColumnFault.Read → HasRisen (R.failures reader.old) (R.failures reader.new)) }
     ensures counts { R.failures reader.old ≤ R.failures reader.new }
 {
-    let end = last_line_end(bytes);
+    let end = last_line_end(&rounds.bytes);
     if end == 0 {
         return Ok(Round::Other);
     }
-    begin_with(spare, &bytes[end..])?;
-    let (put, read) = put_and_read(
-        rt,
-        reader,
-        spare,
-        limit,
-        &bytes[..end],
-        piece,
-        pieces,
-        columns,
-    );
+    begin_with(&mut rounds.spare, &rounds.bytes[end..])?;
+    let (put, read) = put_and_read(rt, reader, rounds, end, columns);
     let is_end = read?;
     if !put? {
-        bytes.truncate(end);
-        bytes.extend_from_slice(spare)?;
+        rounds.bytes.truncate(end);
+        rounds.bytes.extend_from_slice(&rounds.spare)?;
         return Ok(Round::Other);
     }
-    mem::swap(bytes, spare);
+    mem::swap(&mut rounds.bytes, &mut rounds.spare);
     Ok(if is_end { Round::Last } else { Round::Put })
 }
 
@@ -290,27 +270,31 @@ fn last_line_end(bytes: &[u8]) -> usize
     end
 }
 
-/// Puts the rows of whole lines under the columns, on threads, and reads on into `spare` on this one.
+/// Puts the rows of the whole lines before `end` under the columns, on threads, and reads on into `spare` on this one.
 fn put_and_read<H: Threads + Sync, R: CountedRead>(
     rt: &H,
     reader: &mut R,
-    spare: &mut Vec<u8>,
-    limit: usize,
-    text: &[u8],
-    piece: usize,
-    pieces: &mut [Piece],
+    rounds: &mut Rounds,
+    end: usize,
     columns: &mut [Column],
 ) -> (Result<bool, AllocError>, Result<bool, ColumnFault>)
+    requires within { end ≤ vec_len rounds.old.bytes }
     requires some_column { 0 < length columns.old }
     ensures put { IfOk result.0 (λ is_plain. MatchBool is_plain
-        (AreRead text.now [] (map named columns.old) (map named columns.new)) (map named columns.new ≡ map named columns.old)) }
-    ensures bytes { OnOk result.1 (HasGiven (R.remaining reader.old) (R.remaining reader.new) spare.old.items spare.new.items) }
+        (AreRead (take end rounds.old.bytes.items) [] (map named columns.old) (map named columns.new)) (map named columns.new ≡ map named columns.old)) }
+    ensures same { rounds.new.bytes ≡ rounds.old.bytes }
+    ensures bytes { OnOk result.1 (HasGiven (R.remaining reader.old) (R.remaining reader.new) rounds.old.spare.items rounds.new.spare.items) }
     ensures end { IfOk result.1 (λ is_end. is_end ≡ true → IsAtEnd (R.remaining reader.new)) }
     ensures gave { GaveSome (R.remaining reader.old) (R.remaining reader.new) }
     ensures refused { IfErr result.1 (λ fault. (fault ≡ ColumnFault.Read) ⊎ (fault ≡ ColumnFault.NoMemory)) }
     ensures read { IfErr result.1 (λ fault. fault ≡ ColumnFault.Read → HasRisen (R.failures reader.old) (R.failures reader.new)) }
     ensures counts { R.failures reader.old ≤ R.failures reader.new }
 {
+    let text = &rounds.bytes[..end];
+    let piece = rounds.piece;
+    let pieces = rounds.pieces.as_mut_slice();
+    let spare = &mut rounds.spare;
+    let limit = rounds.limit;
     let mut put = || -> Result<bool, AllocError>
         requires { IsSync H.row × (0 < length columns.now) }
         ensures { IfOk result (λ is_plain. MatchBool is_plain
@@ -328,25 +312,29 @@ fn put_and_read<H: Threads + Sync, R: CountedRead>(
     thread::join_mut(rt, &mut put, &mut read)
 }
 
-/// Puts the rows of the last bytes under the columns, after which the reader has none.
+/// Puts the rows of the last round under the columns, after which the reader has no bytes.
 fn put_last<H: Threads + Sync, R: CountedRead>(
     rt: &H,
     alloc: Global,
     reader: &mut R,
-    bytes: &[u8],
-    piece: usize,
-    pieces: &mut [Piece],
+    rounds: &mut Rounds,
     columns: &mut [Column],
 ) -> Result<(), ColumnFault>
     requires end { IsAtEnd (R.remaining reader.old) }
     requires some_column { 0 < length columns.old }
-    ensures put { IsPutBy (R.remaining reader.old) (R.remaining reader.new) bytes.now
+    ensures put { IsPutBy (R.remaining reader.old) (R.remaining reader.new) rounds.old.bytes.items
         (map named columns.old) result (map named columns.new) }
     ensures end { IsReadWhole (R.remaining reader.new) result }
     ensures read { IfErr result (λ fault. fault ≡ ColumnFault.Read → HasRisen (R.failures reader.old) (R.failures reader.new)) }
     ensures counts { R.failures reader.old ≤ R.failures reader.new }
 {
-    if put_plain_text(rt, bytes, piece, pieces, columns)? {
+    let Rounds {
+        bytes,
+        piece,
+        pieces,
+        ..
+    } = rounds;
+    if put_plain_text(rt, bytes, *piece, pieces.as_mut_slice(), columns)? {
         return Ok(());
     }
     put_by_records(alloc, reader, bytes, columns)

@@ -7,7 +7,7 @@
 //! Stands on `pending_count` for the counts and on `trace` for `Fault`. Used by `job_table`, which runs jobs by trees: it cites
 //! `Tree::fork`, clauses `split` and `tops`, and `Tree::try_complete`, clauses `found` and `kept`.
 //! Begin with `continuation.rt` and `specs/Places.antt`, then `specs/Trees.antt`, `tree.rt` and `climbing.rt`;
-//! docs/completers.md has a worked picture. Proved callers and tests are in the crate `completer_tests`.
+//! docs/completers.md has a worked picture. Proved callers and tests are in the crate `test_completers`.
 //! Not promised: that a result ever comes, since a seat may be dropped. No call allocates or waits.
 #![tactic(auto)]
 

@@ -10,7 +10,7 @@
 //! other programs: `streamrun` counts in words, by `pending_count`, whose clauses cite the definitions of this crate.
 //!
 //! Begin with `specs/Graph.antt`, then `specs/Legal.antt`, `specs/Refusals.antt` and `stepping.rt`; what is stored, and which
-//! graphs it stands for, is in `graph.rt` and `specs/Book.antt`. Tests are in the crate `completer_tests`.
+//! graphs it stands for, is in `graph.rt` and `specs/Book.antt`. Tests are in the crate `test_completers`.
 //! Not promised: that a last arrival ever comes.
 #![tactic(auto)]
 

@@ -1,12 +1,12 @@
 -- Design: what calls show of a cut and of a seat.
 use Rattle.std.specs.Prelude.{◌≡◌, ℕ}
 use Rattle.atomic_table.specs.Seated.{TableId}
-use Rattle.early_stop.specs.declared.view.View.{View}
+use Rattle.early_stop.specs.declared.view.KnownPlaces.{KnownPlaces}
 use Rattle.early_stop.specs.declared.cut.Cut.{Cut}
 use Rattle.early_stop.specs.declared.cut.CutSeat.{CutSeat}
 
 -- what the seat knows
-abbrev pub view_of : CutSeat → View
+abbrev pub view_of : CutSeat → KnownPlaces
 view_of seat = seat.token.me.0
 
 -- the number of the seat

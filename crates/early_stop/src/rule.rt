@@ -4,22 +4,22 @@ ghost use Rattle.early_stop.specs.Decisive.{IsDecisive};
 ghost use Rattle.early_stop.specs.Cuts.{Ruled, blank, rest_view, part_view, lowered_at, seen_at};
 
 use crate::segments::Segments;
-use crate::view::View;
+use crate::view::KnownPlaces;
 use atomic_table::{Play, Split, TableRule};
 use std::marker::{Brand, PhantomData};
 
-pub struct Rule<S> {
+pub struct CutRule<S> {
     of: PhantomData<S>,
 }
 
-impl<S: Segments> TableRule<(), View, S> for Rule<S> {
+impl<S: Segments> TableRule<(), KnownPlaces, S> for CutRule<S> {
     ghost holds = { λ z. Ruled (λ i. IsDecisive (S.outcome z i) (S.source z i)) (S.count z + 1) };
 
     ghost first = { λ _. blank };
 }
 
 /// Whose step it is, over which segments. Each call picks it.
-pub trait Acting {
+pub trait CutActor {
     ghost decides: { ℕ → ℕ → Type 0 };
 
     ghost words: { ℕ };
@@ -27,7 +27,7 @@ pub trait Acting {
     ghost actor: { ℕ };
 }
 
-impl Acting for Brand {
+impl CutActor for Brand {
     ghost decides = { λ _ _. ⊤ };
 
     ghost words = { 0 };
@@ -39,21 +39,21 @@ pub struct Lower<A> {
     of: PhantomData<A>,
 }
 
-impl<A: Acting> Play<(), View> for Lower<A> {
+impl<A: CutActor> Play<(), KnownPlaces> for Lower<A> {
     ghost then = { lowered_at A.decides A.words A.actor };
 }
 
-pub struct Look<A> {
+pub struct See<A> {
     of: PhantomData<A>,
 }
 
-impl<A: Acting> Play<(), View> for Look<A> {
+impl<A: CutActor> Play<(), KnownPlaces> for See<A> {
     ghost then = { seen_at A.decides A.words A.actor };
 }
 
-pub struct Part;
+pub struct SplitPlaces;
 
-impl Split<View> for Part {
+impl Split<KnownPlaces> for SplitPlaces {
     ghost left = { rest_view };
 
     ghost right = { part_view };

@@ -5,7 +5,7 @@ ghost use Rattle.early_stop.specs.Cuts.{greatest, least, blank, rest_view, part_
 ghost use Rattle.early_stop.specs.Seats.{view_of, actor_of, table_of, segments_of, count_of, IsSeatOf, IsSameSeat};
 
 use crate::cut::{Cut, CutSeat};
-use crate::rule::{Acting, Look, Lower, Part};
+use crate::rule::{CutActor, Lower, See, SplitPlaces};
 use crate::segments::Segments;
 use atomic_table::Table;
 use std::alloc::{AllocError, Global};
@@ -36,7 +36,7 @@ impl<S: Segments> Cut<S> {
         ensures split { IsSplit (λ i. IsDecisive (S.outcome (segments_of self.now) i) (S.source (segments_of self.now) i)) (S.count (segments_of self.now) + 1) (view_of seat) (view_of result.0) (view_of result.1) }
     {
         let CutSeat { mut token } = seat;
-        let part = self.table.shared.split_seat::<Part>(&mut token);
+        let part = self.table.shared.split_seat::<SplitPlaces>(&mut token);
         (CutSeat { token }, CutSeat { token: part })
     }
 
@@ -64,7 +64,7 @@ impl<S: Segments> Cut<S> {
         self.lower_by::<Brand>(seat, segment, place)
     }
 
-    fn lower_by<A: Acting>(&self, seat: &mut CutSeat, segment: u32, place: u64)
+    fn lower_by<A: CutActor>(&self, seat: &mut CutSeat, segment: u32, place: u64)
         requires table { IsSeatOf self.now seat.old }
         requires segment { (segment < count_of self.now) × (count_of self.now ≡ S.count (segments_of self.now)) }
         requires decisive { A.decides segment place }
@@ -105,7 +105,7 @@ impl<S: Segments> Cut<S> {
         self.seen_by::<Brand>(seat, segment)
     }
 
-    fn seen_by<A: Acting>(&self, seat: &mut CutSeat, segment: u32) -> u64
+    fn seen_by<A: CutActor>(&self, seat: &mut CutSeat, segment: u32) -> u64
         requires table { IsSeatOf self.now seat.old }
         requires segment { (segment < count_of self.now) × (count_of self.now ≡ S.count (segments_of self.now)) }
         requires picked { (A.words ≡ S.count (segments_of self.now) + 1) × (A.actor ≡ actor_of seat.old) }
@@ -115,7 +115,7 @@ impl<S: Segments> Cut<S> {
     {
         self.table
             .shared
-            .load::<Look<A>>(&mut seat.token, segment as usize)
+            .load::<See<A>>(&mut seat.token, segment as usize)
     }
 
     /// How many words there are.

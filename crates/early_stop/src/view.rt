@@ -5,13 +5,13 @@ ghost use Rattle.std.specs.Borrow.{ftrue};
 use std::marker::Model;
 
 /// Places by their segments. No value of it is made.
-pub struct View {
+pub struct KnownPlaces {
     /// The places that the seat lowered.
     pub ghost lowered: { List (ℕ × ℕ) },
     /// The places that a word was known to have reached: those that the seat lowered or saw, or a seat that it was split off from.
     pub ghost known: { List (ℕ × ℕ) },
 }
 
-impl Model for View {
+impl Model for KnownPlaces {
     ghost also_owns = { λ _. ftrue };
 }

@@ -15,7 +15,7 @@ use Rattle.prefix_scan.specs.Scans.{cut_to, fold_at, scan_at, joined_value}
 use Rattle.prefix_scan.proofs.LoopLemmas.{drop_next, drop_past, fold_none}
 use Rattle.prefix_scan.proofs.ScanLemmas.{fold_all, fold_as, fold_cut, fold_joined, fold_more, length-scan_at, scan_cut, scan_is, scan_more}
 use Rattle.job_plan.specs.declared.folded_piece.FoldedPiece.{FoldedPiece}
-use Rattle.job_plan.specs.declared.folded_piece.Mark.{Mark}
+use Rattle.job_plan.specs.declared.folded_piece.PieceStart.{PieceStart}
 use Rattle.job_plan.specs.Pieces.{elements}
 use Rattle.job_plan.specs.Spans.{after}
 use Rattle.job_plan.proofs.Elements.{elements_both, elements_none, past_first}
@@ -63,7 +63,7 @@ dropped ps w p h is =
 pub items_step : (ps : List FoldedPiece) (w : ℕ) (p : FoldedPiece) → w < length ps → p ≡ get_or ps w p → all_items (drop w ps) ≡ items_of p ++ all_items (drop (w + 1) ps)
 items_step ps w p h is = ap all_items (dropped ps w p h is)
 
-pub marks_step : (f : ℤ → ℤ → ℤ) (r : Range) (q : ℕ) (start : Option ℤ) (ps : List FoldedPiece) (w : ℕ) (p : FoldedPiece) (ms new : List Mark) (next : ℕ) (after : Option ℤ) → w < length ps → p ≡ get_or ps w p
+pub marks_step : (f : ℤ → ℤ → ℤ) (r : Range) (q : ℕ) (start : Option ℤ) (ps : List FoldedPiece) (w : ℕ) (p : FoldedPiece) (ms new : List PieceStart) (next : ℕ) (after : Option ℤ) → w < length ps → p ≡ get_or ps w p
     → new ≡ ms ++ mark q start ∷ [] → next ≡ q + length (items_of p) → after ≡ fold_at f r q start (items_of p)
     → new ++ marks_of f r next after (drop (w + 1) ps) ≡ ms ++ marks_of f r q start (drop w ps)
 marks_step f r q start ps w p ms new next after h is one n a =
@@ -110,19 +110,19 @@ pub none_scanned : (f : ℤ → ℤ → ℤ) (r : Range) (q : ℕ) (start : Opti
 none_scanned f r q start ps w from to h = ap (λ qs. elements from to (scan_at f r q start (all_items qs))) (none_left ps w h) ∙ elements_none from to
 
 -- the pieces from one on, with what lies left of them
-mark_is : (f : ℤ → ℤ → ℤ) (r : Range) (q : ℕ) (start : Option ℤ) (ps : List FoldedPiece) (k : ℕ) (m : Mark) → slice_get (marks_of f r q start ps) k ≡ Some m
+mark_is : (f : ℤ → ℤ → ℤ) (r : Range) (q : ℕ) (start : Option ℤ) (ps : List FoldedPiece) (k : ℕ) (m : PieceStart) → slice_get (marks_of f r q start ps) k ≡ Some m
     → (m.before ≡ q + length (all_items (take k ps))) × (m.start ≡ fold_at f r q start (all_items (take k ps)))
 mark_is f r q start [] k m h = absurd (let z : None ≡ Some m = h in cc)
 mark_is f r q start (p ∷ ps) zero m h =
     let e : mark q start ≡ m = cc in
     let z : q ≡ q + 0 = omega arith in
-    (ap (λ (n : Mark). n.before) (sym e) ∙ z, ap (λ (n : Mark). n.start) (sym e))
+    (ap (λ (n : PieceStart). n.before) (sym e) ∙ z, ap (λ (n : PieceStart). n.start) (sym e))
 mark_is f r q start (p ∷ ps) (suc k) m h =
     let later = mark_is f r (q + length (items_of p)) (fold_at f r q start (items_of p)) ps k m h in
     let l = length-append (items_of p) (all_items (take k ps)) in
     (later.0 ∙ omega (arith, l), later.1 ∙ sym (fold_more f r q start (items_of p) (all_items (take k ps))))
 
-pub marked : (f : ℤ → ℤ → ℤ) (r : Range) (ps : List FoldedPiece) (k : ℕ) (m : Mark) → slice_get (marks_of f r 0 None ps) k ≡ Some m
+pub marked : (f : ℤ → ℤ → ℤ) (r : Range) (ps : List FoldedPiece) (k : ℕ) (m : PieceStart) → slice_get (marks_of f r 0 None ps) k ≡ Some m
     → (m.before ≡ length (all_items (take k ps))) × (m.start ≡ fold_at f r 0 None (all_items (take k ps)))
 marked f r ps k m h = let is = mark_is f r 0 None ps k m h in (is.0 ∙ omega arith, is.1)
 
@@ -143,7 +143,7 @@ scanned_after f r ps k n from start to e s h =
     ∙ ap (λ us. us ++ elements (from - length here) (after to (length here)) (scan_at f r (0 + length xs) (fold_at f r 0 None xs) ys)) (past_first from to here few)
     ∙ (λ i. elements (from - l i) (after to (l i)) (scan_at f r (z i) (sym s i) ys))
 
-pub marks_within : (f : ℤ → ℤ → ℤ) (r : Range) (q : ℕ) (start : Option ℤ) (ps : List FoldedPiece) (k : ℕ) (m : Mark) → slice_get (marks_of f r q start ps) k ≡ Some m → k ≤ length ps
+pub marks_within : (f : ℤ → ℤ → ℤ) (r : Range) (q : ℕ) (start : Option ℤ) (ps : List FoldedPiece) (k : ℕ) (m : PieceStart) → slice_get (marks_of f r q start ps) k ≡ Some m → k ≤ length ps
 marks_within f r q start [] k m h = absurd (let z : None ≡ Some m = h in cc)
 marks_within f r q start (p ∷ ps) zero m h = omega arith
 marks_within f r q start (p ∷ ps) (suc k) m h = let l = marks_within f r (q + length (items_of p)) (fold_at f r q start (items_of p)) ps k m h in omega (arith, l)

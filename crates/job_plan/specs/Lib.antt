@@ -4,6 +4,7 @@ pub mod Batches
 pub mod Faultless
 pub mod Firsts
 pub mod FileAnswers
+pub mod FoldFaults
 pub mod Kept
 pub mod Links
 pub mod Maps

@@ -1,5 +1,5 @@
 -- Condition: slices that a walk goes through one after the other.
-use Rattle.std.specs.Prelude.{◌≡◌, Bool, true, false, is_some, List, [], ◌∷◌, Option, Some, None}
+use Rattle.std.specs.Prelude.{◌≡◌, Bool, false, is_some, List, [], ◌∷◌, Option, Some, None}
 use Rattle.lambda_expr.specs.Earlier.{Numbers}
 use Rattle.trace.specs.Trace.{Trace}
 use Rattle.slice_ops.specs.Rests.{rest_of}

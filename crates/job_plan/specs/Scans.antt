@@ -10,7 +10,7 @@ use Rattle.prefix_scan.specs.Prefixes.{Range}
 use Rattle.prefix_scan.specs.Scans.{fold_at, scan_at}
 use Rattle.job_plan.specs.Runs.{FitsPlaces, items_in}
 use Rattle.job_plan.specs.declared.folded_piece.FoldedPiece.{FoldedPiece}
-use Rattle.job_plan.specs.declared.folded_piece.Mark.{Mark}
+use Rattle.job_plan.specs.declared.folded_piece.PieceStart.{PieceStart}
 
 -- the part of a prefix, the stage with this number: its operator, its range, and the walk so far
 pub record AbstractScan : Type 0 where
@@ -41,15 +41,15 @@ pub record IsFolded (f : Op) (p : FoldedPiece) : Type 0 where
   pub places : FitsPlaces p.items
 
 -- for each piece the position of its first item, and the fold of what lies left of it
-abbrev pub mark : ℕ → Option ℤ → Mark
+abbrev pub mark : ℕ → Option ℤ → PieceStart
 mark q start = record { before = q; start = start }
 
-abbrev pub marks_of : (ℤ → ℤ → ℤ) → Range → ℕ → Option ℤ → List FoldedPiece → List Mark
+abbrev pub marks_of : (ℤ → ℤ → ℤ) → Range → ℕ → Option ℤ → List FoldedPiece → List PieceStart
 marks_of f r q start [] = []
 marks_of f r q start (p ∷ ps) = mark q start ∷ marks_of f r (q + length (items_of p)) (fold_at f r q start (items_of p)) ps
 
 -- pieces that are scanned as they are walked
-pub record IsMarked (f : Op) (r : Range) (ps : List FoldedPiece) (ms : List Mark) (size : ℕ) : Type 0 where
+pub record IsMarked (f : Op) (r : Range) (ps : List FoldedPiece) (ms : List PieceStart) (size : ℕ) : Type 0 where
   pub folds : All (IsFolded f) ps
   pub marks : ms ≡ marks_of (value_of f) r 0 None ps
   pub size_is : size ≡ length (all_items ps)

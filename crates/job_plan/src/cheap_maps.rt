@@ -7,7 +7,7 @@ ghost use Rattle.job_plan.specs.Maps.{ArePlain, ArePlain-prop, IsPlain, IsPlainS
 
 use crate::buffer::Buffer;
 use crate::faultless::{is_total, is_total_by};
-use batch_eval::{PlacedValues, Registers, feed_at_once};
+use batch_eval::{Pipeline, PlacedValues, Registers, feed_at_once};
 use lambda_expr::{BinaryOperator, BoolExpr, Env, Faults, LongExpr};
 use std::alloc::Global;
 use trace::Stage;
@@ -63,7 +63,12 @@ impl<'a> Maps<'a> {
     {
         let env = Env::empty(self.alloc);
         let items = PlacedValues { origin: 0, values };
-        let _ = feed_at_once(self.stages, 0, &env, &items, registers, buffer);
+        let line = Pipeline {
+            stages: self.stages,
+            first: 0,
+            env: &env,
+        };
+        let _ = feed_at_once(line, &items, registers, buffer);
     }
 }
 

@@ -21,7 +21,7 @@ pub enum Fallback {
 
 impl Fallback {
     /// The fallback as an answer.
-    fn answer(self) -> Answer
+    pub fn answer(self) -> Answer
         ensures { result ≡ fallback_in self }
     {
         match self {

@@ -36,7 +36,7 @@ pub struct FoldedPiece<'a> {
 
 /// Where a piece begins: the position of its first item, and the fold of what lies left of it.
 #[derive(Clone, Copy)]
-pub struct Mark {
+pub struct PieceStart {
     pub(crate) before: u64,
     pub(crate) start: Option<i64>,
 }

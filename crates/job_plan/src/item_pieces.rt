@@ -5,43 +5,32 @@ ghost use Rattle.trace.specs.Sinks.{IsFed, flow_after};
 ghost use Rattle.trace.specs.Trace.{trace};
 ghost use Rattle.trace.specs.declared.item.Item.{Item as item};
 ghost use Rattle.trace.specs.declared.item.End.TheVariants as end;
-ghost use Rattle.job_plan.specs.Parts.{segment_in};
+ghost use Rattle.batch_eval.specs.Pipelines.{piped};
 ghost use Rattle.job_plan.specs.Pieces.{elements};
-ghost use Rattle.job_plan.specs.Plans.{walk_of};
 
 use crate::pieces::ItemPiece;
-use crate::segment::Segment;
-use crate::spans::{end_after, within};
-use batch_eval::{BatchSink, Registers, feed_batches};
-use lambda_expr::Env;
+use crate::spans::within;
+use crate::windows::Window;
+use batch_eval::{BatchSink, Pipeline, Registers, feed_batches};
 use trace::{Fed, Flow, Item, NoMemory};
 
 /// Takes the items at these positions of pieces. It looks for the first of them once, and at no piece after the last one.
 pub(crate) fn feed_pieces<S: BatchSink>(
-    segment: &Segment,
-    env: &Env,
+    line: Pipeline<'_>,
     pieces: &[Vec<Item>],
-    from: u64,
-    to: Option<u64>,
+    window: Window,
     registers: &mut Registers,
     sink: &mut S,
 ) -> Result<Fed, NoMemory>
     requires wants { S.flow sink.old ≡ Flow.More }
     ensures fed { (xs : List item) → S.has_taken sink.old xs → IsFed S.has_taken xs
-        (walk_of (segment_in segment.now) env.now (trace (elements from to (flat_map (λ piece. piece.items) pieces.now)) end.Done)) result sink.new }
+        (piped line.entry (trace (elements window.from window.to (flat_map (λ piece. piece.items) pieces.now)) end.Done)) result sink.new }
     ensures flow { S.flow sink.new ≡ flow_after result }
     ensures refused { OnErr result S.takes_memory }
 {
-    let (first, before) = piece_at(pieces, from);
-    feed_from(
-        segment,
-        env,
-        &pieces[first..],
-        from - before,
-        end_after(to, before),
-        registers,
-        sink,
-    )
+    let (first, before) = piece_at(pieces, window.from);
+    let left = window.after(before);
+    feed_from(line, &pieces[first..], left, registers, sink)
 }
 
 /// How many pieces come before the one in which a position lies, and how many items stand in them.
@@ -70,61 +59,48 @@ pub(crate) fn is_over(to: Option<u64>) -> bool
 
 /// Takes the items at these positions of pieces, from the first piece on, up to that in which they end.
 fn feed_from<S: BatchSink>(
-    segment: &Segment,
-    env: &Env,
+    line: Pipeline<'_>,
     pieces: &[Vec<Item>],
-    from: u64,
-    to: Option<u64>,
+    window: Window,
     registers: &mut Registers,
     sink: &mut S,
 ) -> Result<Fed, NoMemory>
     requires wants { S.flow sink.old ≡ Flow.More }
     ensures fed { (xs : List item) → S.has_taken sink.old xs → IsFed S.has_taken xs
-        (walk_of (segment_in segment.now) env.now (trace (elements from to (flat_map (λ piece. piece.items) pieces.now)) end.Done)) result sink.new }
+        (piped line.entry (trace (elements window.from window.to (flat_map (λ piece. piece.items) pieces.now)) end.Done)) result sink.new }
     ensures flow { S.flow sink.new ≡ flow_after result }
     ensures refused { OnErr result S.takes_memory }
 {
-    let mut next = from;
-    let mut last = to;
+    let mut left = window;
     for piece in pieces {
-        if is_over(last) {
+        if is_over(left.to) {
             return Ok(Fed::More);
         }
         let size = piece.len() as u64;
-        match feed_items(segment, env, piece, next, last, registers, sink)? {
+        match feed_items(line, piece, left, registers, sink)? {
             Fed::More => {}
             stopped => return Ok(stopped),
         }
-        next = next.saturating_sub(size);
-        last = end_after(last, size);
+        left = left.after(size);
     }
     Ok(Fed::More)
 }
 
 /// Takes the items at these positions of one piece.
 pub(crate) fn feed_items<S: BatchSink>(
-    segment: &Segment,
-    env: &Env,
+    line: Pipeline<'_>,
     items: &[Item],
-    from: u64,
-    to: Option<u64>,
+    window: Window,
     registers: &mut Registers,
     sink: &mut S,
 ) -> Result<Fed, NoMemory>
     requires wants { S.flow sink.old ≡ Flow.More }
     ensures fed { (xs : List item) → S.has_taken sink.old xs → IsFed S.has_taken xs
-        (walk_of (segment_in segment.now) env.now (trace (elements from to items.now) end.Done)) result sink.new }
+        (piped line.entry (trace (elements window.from window.to items.now) end.Done)) result sink.new }
     ensures flow { S.flow sink.new ≡ flow_after result }
     ensures refused { OnErr result S.takes_memory }
 {
-    let (start, count) = within(from, to, items.len() as u64);
+    let (start, count) = within(window.from, window.to, items.len() as u64);
     let items = &items[start as usize..(start + count) as usize];
-    feed_batches(
-        &segment.stages,
-        segment.first_stage,
-        env,
-        &ItemPiece { items },
-        registers,
-        sink,
-    )
+    feed_batches(line, &ItemPiece { items }, registers, sink)
 }

@@ -17,13 +17,13 @@ ghost use Rattle.job_plan.specs.declared.ends.SegmentEnd.{SegmentEnd};
 ghost use Rattle.job_plan.specs.declared.ends.SegmentEnd.TheVariants as ends;
 
 use crate::counted_part::counted_part;
-use crate::ends::SegmentEnd;
 use crate::lent_part::lent_part;
-use crate::part::Part;
+use crate::part::{LastStage, Part};
 use crate::room::with_room;
 use crate::segment::Segment;
-use crate::source::{Source, piece_end};
+use crate::source::{Source, Walked, piece_end};
 use crate::stretches::feed_until;
+use crate::windows::Window;
 use batch_eval::{Batch, BatchSink, FlaggedLanes, PlacedValues, Registers, accept_each_flagged};
 use early_stop::Stop;
 use lambda_expr::{BoolExpr, Env};
@@ -73,8 +73,12 @@ impl<K: Ending> LongSink for PartSink<'_, '_, K> {
     ghost takes_memory = { keeps_items K.begun ≡ true };
 
     fn accept(&mut self, item: Item) -> Result<Flow, NoMemory> {
-        self.part
-            .push(&self.segment.end, self.stage, self.env, item)?;
+        let last = LastStage {
+            end: &self.segment.end,
+            number: self.stage,
+            env: self.env,
+        };
+        self.part.push(last, item)?;
         if self.part.is_settled() {
             return Ok(Flow::Enough);
         }
@@ -85,29 +89,21 @@ impl<K: Ending> LongSink for PartSink<'_, '_, K> {
 impl<K: Ending> BatchSink for PartSink<'_, '_, K> {
     fn accept_batch(&mut self, batch: &Batch, room: &mut [i64]) -> Result<Fed, NoMemory> {
         let values = batch.values();
-        let close = &self.segment.end;
-        accept_all(
-            &mut self.part,
-            close,
-            self.stage,
-            self.env,
-            batch,
-            values,
-            room,
-        )
+        let last = LastStage {
+            end: &self.segment.end,
+            number: self.stage,
+            env: self.env,
+        };
+        accept_all(&mut self.part, last, batch, values, room)
     }
 
     fn accept_run(&mut self, run: PlacedValues<'_>, room: &mut [i64]) -> Result<Fed, NoMemory> {
-        let close = &self.segment.end;
-        accept_all(
-            &mut self.part,
-            close,
-            self.stage,
-            self.env,
-            &run,
-            run.values,
-            room,
-        )
+        let last = LastStage {
+            end: &self.segment.end,
+            number: self.stage,
+            env: self.env,
+        };
+        accept_all(&mut self.part, last, &run, run.values, room)
     }
 
     fn takes_flags(&self) -> bool {
@@ -129,17 +125,15 @@ impl<K: Ending> BatchSink for PartSink<'_, '_, K> {
 /// Puts the items of a source, which have these values, into a part, and answers whether it takes more.
 fn accept_all<I: SourceItems>(
     part: &mut Part<'_>,
-    close: &SegmentEnd,
-    stage: u32,
-    env: &Env,
+    last: LastStage<'_>,
     source: &I,
     values: &[i64],
     room: &mut [i64],
 ) -> Result<Fed, NoMemory>
     requires wants { is_settled part.old ≡ false }
     requires values { map (λ x. x.value) (I.items source.now) ≡ values.now }
-    ensures fed { (begun : part_kept) (xs : List item) → HasTaken (end_in close.now) stage env.now begun part.old xs
-        → IsFed (HasTaken (end_in close.now) stage env.now begun) xs (trace (I.items source.now) end.Done) result part.new }
+    ensures fed { (begun : part_kept) (xs : List item) → HasTaken (end_in last.entry.end.now) last.entry.number last.entry.env.now begun part.old xs
+        → IsFed (HasTaken (end_in last.entry.end.now) last.entry.number last.entry.env.now begun) xs (trace (I.items source.now) end.Done) result part.new }
     ensures flow { flow_of (is_settled part.new) ≡ flow_after result }
     ensures memory { OnErr result (keeps_items part.old ≡ true) }
     ensures keeps { keeps_items part.new ≡ keeps_items part.old }
@@ -147,7 +141,7 @@ fn accept_all<I: SourceItems>(
     if values.is_empty() {
         return Ok(Fed::More);
     }
-    part.push_all(close, stage, env, source, values, room)?;
+    part.push_all(last, source, values, room)?;
     if part.is_settled() {
         return Ok(Fed::Enough);
     }
@@ -193,7 +187,7 @@ pub fn leaf_with<'p>(
     if let Some(part) = lent_part(alloc, segment, source, from, to, registers)? {
         return Ok(part);
     }
-    leaf_copied(alloc, segment, source, from, to, env, registers)
+    leaf_copied(alloc, segment, source, Window { from, to }, env, registers)
 }
 
 /// The same, of a source that may be gone before the part is: the part borrows none of its values.
@@ -201,19 +195,18 @@ pub(crate) fn leaf_copied<'p>(
     alloc: Global,
     segment: &'p Segment,
     source: &Source,
-    from: u64,
-    to: Option<u64>,
+    window: Window,
     env: &Env,
     registers: &mut Registers,
 ) -> Result<Part<'p>, NoMemory>
-    ensures stands { IfOk result (λ part. StandsFor (segment_in segment.now) env.now part (piece_of from to (walk_in source.now))) }
+    ensures stands { IfOk result (λ part. StandsFor (segment_in segment.now) env.now part (piece_of window.from window.to (walk_in source.now))) }
     ensures memory { OnErr result (end_keeps_items (end_in segment.now.end) ≡ true) }
 {
-    if let Some(part) = counted_part(segment, source, from, to) {
+    if let Some(part) = counted_part(segment, source, window.from, window.to) {
         return Ok(part);
     }
-    let none = with_room(alloc, segment, source, from, to, env);
-    leaf_from(none, segment, source, from, to, env, registers)
+    let none = with_room(alloc, segment, source, window.from, window.to, env);
+    leaf_from(none, segment, source, window, env, registers)
 }
 
 /// The part of a whole source that is walked in order, from its first item on. It never has to be walked once more.
@@ -229,7 +222,14 @@ pub fn leaf_in_order<'p>(
     ensures memory { OnErr result (end_keeps_items (end_in segment.now.end) ≡ true) }
 {
     let none = first_part(alloc, segment, env);
-    leaf_from(none, segment, source, 0, None, env, registers)
+    leaf_from(
+        none,
+        segment,
+        source,
+        Window { from: 0, to: None },
+        env,
+        registers,
+    )
 }
 
 /// The part of what this part stands for and then of the items at these positions. It borrows none of the values of the source.
@@ -237,17 +237,16 @@ pub(crate) fn leaf_from<'p>(
     part: Part<'p>,
     segment: &'p Segment,
     source: &Source,
-    from: u64,
-    to: Option<u64>,
+    window: Window,
     env: &Env,
     registers: &mut Registers,
 ) -> Result<Part<'p>, NoMemory>
     ensures stands { IfOk result (λ made. (before : Trace) → StandsFor (segment_in segment.now) env.now part.entry before
-        → StandsFor (segment_in segment.now) env.now made (append before (piece_of from to (walk_in source.now)))) }
+        → StandsFor (segment_in segment.now) env.now made (append before (piece_of window.from window.to (walk_in source.now)))) }
     ensures kind { IfOk result (λ made. may_search made ≡ may_search part.entry) }
     ensures memory { OnErr result (keeps_items part.entry ≡ true) }
 {
-    leaf_as::<Brand>(part, segment, source, from, to, env, registers)
+    leaf_as::<Brand>(part, segment, source, window, env, registers)
 }
 
 /// The same, for an end that contracts can name.
@@ -255,8 +254,7 @@ fn leaf_as<'p, K: Ending>(
     part: Part<'p>,
     segment: &'p Segment,
     source: &Source,
-    from: u64,
-    to: Option<u64>,
+    window: Window,
     env: &Env,
     registers: &mut Registers,
 ) -> Result<Part<'p>, NoMemory>
@@ -265,7 +263,7 @@ fn leaf_as<'p, K: Ending>(
     requires env { env.now ≡ K.env }
     requires begun { part ≡ K.begun }
     ensures stands { IfOk result (λ made. (before : Trace) → StandsFor (segment_in segment.now) env.now part.entry before
-        → StandsFor (segment_in segment.now) env.now made (append before (piece_of from to (walk_in source.now)))) }
+        → StandsFor (segment_in segment.now) env.now made (append before (piece_of window.from window.to (walk_in source.now)))) }
     ensures kind { IfOk result (λ made. may_search made ≡ may_search part.entry) }
     ensures memory { OnErr result (keeps_items part.entry ≡ true) }
 {
@@ -279,8 +277,8 @@ fn leaf_as<'p, K: Ending>(
         env,
         of: PhantomData,
     };
-    match source.feed(segment, env, from, to, registers, &mut sink)? {
-        Fed::More => sink.part.end_with(piece_end(source, to)),
+    match source.feed(segment.pipeline(env), window, registers, &mut sink)? {
+        Fed::More => sink.part.end_with(piece_end(source, window.to)),
         Fed::Fault(fault) => sink.part.end_with(End::Fault(fault)),
         Fed::Enough => {}
     }
@@ -328,27 +326,30 @@ pub fn leaf_stored<'p, W: Stop>(
         return Ok(part);
     }
     let none = with_room(alloc, segment, source, from, to, env);
-    leaf_until_as::<Brand, W>(none, segment, source, from, to, env, registers, stop)
+    let walked = Walked {
+        source: *source,
+        env,
+    };
+    let window = Window { from, to };
+    leaf_until_as::<Brand, W>(none, segment, walked, window, registers, stop)
 }
 
 /// The same, for an end that contracts can name.
 fn leaf_until_as<'p, K: Ending, W: Stop>(
     part: Part<'p>,
     segment: &'p Segment,
-    source: &Source,
-    from: u64,
-    to: Option<u64>,
-    env: &Env,
+    walked: Walked,
+    window: Window,
     registers: &mut Registers,
     stop: &mut W,
 ) -> Result<Part<'p>, NoMemory>
     requires last { segment.now.end ≡ K.last }
     requires stage { last_stage (segment_in segment.now) ≡ K.stage }
-    requires env { env.now ≡ K.env }
+    requires env { walked.env.now ≡ K.env }
     requires begun { part ≡ K.begun }
-    requires none { StandsFor (segment_in segment.now) env.now part nothing }
-    requires ordered { IsNotAfter from to }
-    ensures stands { IfOk result (λ made. StandsEnough (W.decides stop.old) (segment_in segment.now) env.now made from (piece_of from to (walk_in source.now))) }
+    requires none { StandsFor (segment_in segment.now) walked.env.now part nothing }
+    requires ordered { IsNotAfter window.from window.to }
+    ensures stands { IfOk result (λ made. StandsEnough (W.decides stop.old) (segment_in segment.now) walked.entry.env.now made window.from (piece_of window.from window.to (walk_in walked.entry.source))) }
     ensures memory { OnErr result (keeps_items part.entry ≡ true) }
 {
     if part.is_settled() {
@@ -358,15 +359,16 @@ fn leaf_until_as<'p, K: Ending, W: Stop>(
         part,
         segment,
         stage: segment.first_stage + segment.stages.len() as u32,
-        env,
+        env: walked.env,
         of: PhantomData,
     };
-    let ended = feed_until(source, segment, env, from, to, registers, &mut sink, stop)?;
+    let line = segment.pipeline(walked.env);
+    let ended = feed_until(&walked.source, line, window, registers, &mut sink, stop)?;
     let Some(fed) = ended else {
         return Ok(sink.part);
     };
     match fed {
-        Fed::More => sink.part.end_with(piece_end(source, to)),
+        Fed::More => sink.part.end_with(piece_end(&walked.source, window.to)),
         Fed::Fault(fault) => sink.part.end_with(End::Fault(fault)),
         Fed::Enough => {}
     }

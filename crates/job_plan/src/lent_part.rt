@@ -19,9 +19,9 @@ use crate::ends::SegmentEnd;
 use crate::part::Part;
 use crate::prefix_part::PrefixPart;
 use crate::segment::Segment;
-use crate::source::{Source, piece_end, range_piece};
+use crate::source::{ClosedRange, Source, piece_end, range_piece};
 use crate::sources::{PlainSources, plain_size};
-use crate::spans::{end_after, within};
+use crate::spans::{Portion, within};
 use crate::windows::Window;
 use batch_eval::Registers;
 use job_language::PlainSource;
@@ -72,8 +72,8 @@ fn push_plain<'a>(
     if plain.is_too_long {
         return Ok(());
     }
-    let Window { from, to } = plain.window.within(from, to);
-    push_sources(part, maps, plain.sources, 0, from, to, registers)
+    let selected = plain.window.within(from, to);
+    push_sources(part, maps, plain.sources, 0, selected, registers)
 }
 
 /// Adds what maps make of the items at these positions of sources, of which the first item has the place `origin`.
@@ -82,83 +82,89 @@ fn push_sources<'a>(
     maps: Maps<'a>,
     sources: &'a [PlainSource<'_>],
     origin: u64,
-    from: u64,
-    to: Option<u64>,
+    window: Window,
     registers: &mut Registers,
 ) -> Result<(), NoMemory>
     requires open { part.old.walk.ending ≡ end.Done }
     requires few { origin + length (values_of (sources_of sources.now)) ≤ 2 ^ 62 }
-    ensures { OnOk result (part.new ≡ scan_append part.old (trace (imaged (stages_of maps.entry.stages.now) (elements from to (placed origin (values_of (sources_of sources.now))))) end.Done)) }
+    ensures { OnOk result (part.new ≡ scan_append part.old (trace (imaged (stages_of maps.entry.stages.now) (elements window.from window.to (placed origin (values_of (sources_of sources.now))))) end.Done)) }
 {
     match sources.split_first() {
         None => Ok(()),
         Some((source, later)) => {
             let size = plain_size(source);
-            let (start, count) = within(from, to, size);
-            push_one(part, maps, source, origin + start, start, count, registers)?;
-            let from = from.saturating_sub(size);
-            let to = end_after(to, size);
-            push_sources(part, maps, later, origin + size, from, to, registers)
+            let (start, count) = within(window.from, window.to, size);
+            let portion = Portion { start, count };
+            push_one(part, maps, source, origin + start, portion, registers)?;
+            let left = window.after(size);
+            push_sources(part, maps, later, origin + size, left, registers)
         }
     }
 }
 
-/// Adds what maps make of `count` items of a source, from a position on; the first of them has the place `origin`.
+/// Adds what maps make of some items of a source; the first of them has the place `origin`.
 fn push_one<'a>(
     part: &mut PrefixPart<'a>,
     maps: Maps<'a>,
     source: &'a PlainSource<'_>,
     origin: u64,
-    start: u64,
-    count: u64,
+    portion: Portion,
     registers: &mut Registers,
 ) -> Result<(), NoMemory>
     requires open { part.old.walk.ending ≡ end.Done }
-    requires within { start + count ≤ length (plain_values (source_of source.now)) }
+    requires within { portion.start + portion.count ≤ length (plain_values (source_of source.now)) }
     requires short { length (plain_values (source_of source.now)) ≤ 2 ^ 62 }
-    requires few { origin + count ≤ 2 ^ 62 }
-    ensures { OnOk result (part.new ≡ scan_append part.old (trace (imaged (stages_of maps.entry.stages.now) (placed origin (take count (drop start (plain_values (source_of source.now)))))) end.Done)) }
+    requires few { origin + portion.count ≤ 2 ^ 62 }
+    ensures { OnOk result (part.new ≡ scan_append part.old (trace (imaged (stages_of maps.entry.stages.now) (placed origin (take portion.count (drop portion.start (plain_values (source_of source.now)))))) end.Done)) }
 {
-    if count == 0 {
+    if portion.count == 0 {
         return Ok(());
     }
     match source {
         PlainSource::Range { from, to } => {
-            push_range(part, maps, origin, *from, *to - 1, start, count, registers)
+            let range = ClosedRange {
+                from: *from,
+                to: *to - 1,
+            };
+            push_range(part, maps, origin, range, portion, registers)
         }
         PlainSource::RangeClosed { from, to } => {
-            push_range(part, maps, origin, *from, *to, start, count, registers)
+            let range = ClosedRange {
+                from: *from,
+                to: *to,
+            };
+            push_range(part, maps, origin, range, portion, registers)
         }
         PlainSource::Values(values) => {
-            let values = &values[start as usize..(start + count) as usize];
+            let end = portion.start + portion.count;
+            let values = &values[portion.start as usize..end as usize];
             part.push_lent(maps, origin, values, registers)
         }
         PlainSource::Column(cells) => {
-            let values = &cells[start as usize..(start + count) as usize];
+            let end = portion.start + portion.count;
+            let values = &cells[portion.start as usize..end as usize];
             part.push_lent(maps, origin, values, registers)
         }
         PlainSource::Result(_) => Ok(()),
     }
 }
 
-/// Adds what maps make of `count` of the integers from `from` up to and with `to`, from a position on; the first of them has the
-/// place `origin`.
+/// Adds what maps make of some integers of a range; the first of them has the place `origin`.
 fn push_range<'a>(
     part: &mut PrefixPart<'a>,
     maps: Maps<'a>,
     origin: u64,
-    from: i64,
-    to: i64,
-    start: u64,
-    count: u64,
+    range: ClosedRange,
+    portion: Portion,
     registers: &mut Registers,
 ) -> Result<(), NoMemory>
     requires open { part.old.walk.ending ≡ end.Done }
-    requires some { 0 < count }
-    requires within { start + count ≤ distance from (to +ℤ pos 1) }
-    requires short { start + count ≤ 2 ^ 62 }
-    requires few { origin + count ≤ 2 ^ 62 }
-    ensures { OnOk result (part.new ≡ scan_append part.old (trace (imaged (stages_of maps.entry.stages.now) (placed origin (counted (from +ℤ pos start) count))) end.Done)) }
+    requires some { 0 < portion.count }
+    requires within { portion.start + portion.count ≤ distance range.from (range.to +ℤ pos 1) }
+    requires short { portion.start + portion.count ≤ 2 ^ 62 }
+    requires few { origin + portion.count ≤ 2 ^ 62 }
+    ensures { OnOk result (part.new ≡ scan_append part.old (trace (imaged (stages_of maps.entry.stages.now) (placed origin (counted (range.from +ℤ pos portion.start) portion.count))) end.Done)) }
 {
-    part.push_range(maps, &range_piece(origin, from, start, count), registers)
+    let piece = range_piece(origin, range.from, portion.start, portion.count);
+    part.push_range(maps, &piece, registers)
 }

@@ -10,16 +10,18 @@ ghost use Rattle.trace.specs.declared.item.End.TheVariants as end;
 ghost use Rattle.trace.specs.declared.item.Item.{Item as item};
 ghost use Rattle.slice_ops.specs.Rests.{rest_of};
 ghost use Rattle.slice_ops.specs.Slices.{AbstractSlice, limit};
+ghost use Rattle.batch_eval.specs.Pipelines.{piped};
 ghost use Rattle.job_plan.specs.Parts.{segment_in};
 ghost use Rattle.job_plan.specs.Passages.{HasPassed, IsAfter, fed_by, passage_flow, through_link};
-ghost use Rattle.job_plan.specs.Plans.{AbstractSegment, collecting, walk_of};
+ghost use Rattle.job_plan.specs.Plans.{AbstractSegment, collecting};
 
 use crate::closing::Closing;
 use crate::fronts::tested;
 use crate::pieces::ItemPiece;
 use crate::segment::Segment;
 use batch_eval::{
-    Batch, BatchSink, BatchSource, PlacedValues, Registers, SourcePart, accept_each, feed_at_once,
+    Batch, BatchSink, BatchSource, Pipeline, PlacedValues, Registers, SourcePart, accept_each,
+    feed_at_once,
 };
 use lambda_expr::{BoolExpr, Env};
 use slice_ops::{SliceCut, SliceRest};
@@ -120,42 +122,40 @@ fn answer(passage: Passage) -> Fed
     }
 }
 
-/// Takes some items of a source through the stages of a segment and into a sink.
+/// Takes the items of a source that a slice cut out of it through the stages and into a sink.
 fn hand_on<I: BatchSource, S: BatchSink>(
-    next: &Segment,
-    env: &Env,
+    line: Pipeline<'_>,
     source: &I,
-    from: u64,
-    to: u64,
+    cut: &SliceCut<'_>,
     registers: &mut Registers,
     room: &mut [i64],
     sink: &mut S,
 ) -> Result<Fed, NoMemory>
     requires wants { S.flow sink.old ≡ Flow.More }
-    requires ordered { from ≤ to }
-    requires within { to ≤ length (I.items source.now) }
+    requires ordered { cut.now.from ≤ cut.now.to }
+    requires within { cut.now.to ≤ length (I.items source.now) }
     ensures fed { (xs : List item) → S.has_taken sink.old xs → IsFed S.has_taken xs
-        (walk_of (segment_in next.now) env.now (trace (take (to - from) (drop from (I.items source.now))) end.Done)) result sink.new }
+        (piped line.entry (trace (take (cut.now.to - cut.now.from) (drop cut.now.from (I.items source.now))) end.Done)) result sink.new }
     ensures flow { S.flow sink.new ≡ flow_after result }
 {
     let size = source.count();
-    let count = to - from;
-    let plain = next.stages.is_empty();
+    let count = cut.to - cut.from;
+    let plain = line.stages.is_empty();
     if plain && count == size {
         return source.give(room, sink);
     }
     let part = SourcePart {
         source,
-        from,
+        from: cut.from,
         count,
     };
     if plain {
         return accept_each(&part, sink);
     }
     if count < FEW_ITEMS {
-        return feed_all(&next.stages, next.first_stage, env, &part, sink);
+        return feed_all(line.stages, line.first, line.env, &part, sink);
     }
-    feed_at_once(&next.stages, next.first_stage, env, &part, registers, sink)
+    feed_at_once(line, &part, registers, sink)
 }
 
 /// Lets the items of a source, which have these values, pass as a slice does, and takes those that pass through the stages of the
@@ -185,7 +185,8 @@ fn pass<I: BatchSource, S: BatchSink + Drop>(
     let front = tested(&passing.rest, env, values, room);
     let cut = passing.rest.cut(stage, env, source, front);
     let inner = &mut passing.inner;
-    let fed = match hand_on(next, env, source, cut.from, cut.to, registers, room, inner) {
+    let line = next.pipeline(env);
+    let fed = match hand_on(line, source, &cut, registers, room, inner) {
         Ok(fed) => fed,
         Err(refused) => {
             passing.passage = Passage::Refused;

@@ -10,7 +10,8 @@ use crate::closing::Closing;
 use crate::link_sink::{LinkSink, LinkStart, Passage, Passing};
 use crate::links::Link;
 use crate::segment::Segment;
-use crate::source::Source;
+use crate::source::Walked;
+use crate::windows::Window;
 use batch_eval::Registers;
 use lambda_expr::Env;
 use std::alloc::Global;
@@ -32,14 +33,13 @@ pub(crate) trait Nest {
         alloc: Global,
         links: &[Link<'p>],
         next: &'p Segment,
-        source: &Source,
-        env: &Env,
+        walked: Walked,
         registers: &mut Registers,
         sink: S,
     ) -> Result<S::Made, NoMemory>
         requires few { length links.now ≤ Self.depth }
         requires begun { S.has_taken sink [] }
-        ensures { IfOk result (λ made. S.stands made (walk_of (segment_in next.now) env.now (linked (each_link_in links.now) env.now (walk_in source.now)))) };
+        ensures { IfOk result (λ made. S.stands made (walk_of (segment_in next.now) walked.entry.env.now (linked (each_link_in links.now) walked.entry.env.now (walk_in walked.entry.source)))) };
 }
 
 /// No sink but the one that is given.
@@ -57,12 +57,11 @@ impl Nest for Zero {
         _alloc: Global,
         _links: &[Link<'p>],
         next: &'p Segment,
-        source: &Source,
-        env: &Env,
+        walked: Walked,
         registers: &mut Registers,
         sink: S,
     ) -> Result<S::Made, NoMemory> {
-        feed_source(next, source, env, registers, sink)
+        feed_source(next, walked, registers, sink)
     }
 }
 
@@ -73,16 +72,15 @@ impl<N: Nest> Nest for Next<N> {
         alloc: Global,
         links: &[Link<'p>],
         next: &'p Segment,
-        source: &Source,
-        env: &Env,
+        walked: Walked,
         registers: &mut Registers,
         sink: S,
     ) -> Result<S::Made, NoMemory> {
         match links.split_last() {
             Some((link, before)) => {
-                feed_link::<Brand, N, S>(alloc, before, link, next, source, env, registers, sink)
+                feed_link::<Brand, N, S>(alloc, before, link, next, walked, registers, sink)
             }
-            None => feed_source(next, source, env, registers, sink),
+            None => feed_source(next, walked, registers, sink),
         }
     }
 }
@@ -93,18 +91,17 @@ fn feed_link<'p, K: LinkStart, N: Nest, S: Closing>(
     before: &[Link<'p>],
     link: &Link<'p>,
     next: &'p Segment,
-    source: &Source,
-    env: &Env,
+    walked: Walked,
     registers: &mut Registers,
     sink: S,
 ) -> Result<S::Made, NoMemory>
     requires rest { rest_of link.now.rest ≡ K.rest }
     requires stage { last_stage (segment_in link.now.segment.now) ≡ K.stage }
     requires next { segment_in next.now ≡ K.next }
-    requires env { env.now ≡ K.env }
+    requires env { walked.env.now ≡ K.env }
     requires few { length before.now ≤ N.depth }
     requires begun { S.has_taken sink [] }
-    ensures { IfOk result (λ made. S.stands made (walk_of (segment_in next.now) env.now (linked (link_in link.now ∷ []) env.now (linked (each_link_in before.now) env.now (walk_in source.now))))) }
+    ensures { IfOk result (λ made. S.stands made (walk_of (segment_in next.now) walked.entry.env.now (linked (link_in link.now ∷ []) walked.entry.env.now (linked (each_link_in before.now) walked.entry.env.now (walk_in walked.entry.source))))) }
 {
     let segment = link.segment;
     let passing = Passing {
@@ -116,30 +113,31 @@ fn feed_link<'p, K: LinkStart, N: Nest, S: Closing>(
         passing,
         stage: segment.first_stage + segment.stages.len() as u32,
         next,
-        env,
+        env: walked.env,
         registers: Registers::new(alloc),
         of: PhantomData,
     };
-    N::feed(alloc, before, segment, source, env, registers, sink)
+    N::feed(alloc, before, segment, walked, registers, sink)
 }
 
 /// What a sink makes of the walk of a source through the stages of `next`.
 fn feed_source<S: Closing>(
     next: &Segment,
-    source: &Source,
-    env: &Env,
+    walked: Walked,
     registers: &mut Registers,
     sink: S,
 ) -> Result<S::Made, NoMemory>
     requires begun { S.has_taken sink [] }
-    ensures { IfOk result (λ made. S.stands made (walk_of (segment_in next.now) env.now (walk_in source.now))) }
+    ensures { IfOk result (λ made. S.stands made (walk_of (segment_in next.now) walked.entry.env.now (walk_in walked.entry.source))) }
 {
     if sink.has_enough() {
         return sink.close(End::Done);
     }
     let mut sink = sink;
-    match source.feed(next, env, 0, None, registers, &mut sink)? {
-        Fed::More => sink.close(source.end()),
+    let line = next.pipeline(walked.env);
+    let all = Window { from: 0, to: None };
+    match walked.source.feed(line, all, registers, &mut sink)? {
+        Fed::More => sink.close(walked.source.end()),
         Fed::Fault(fault) => sink.close(End::Fault(fault)),
         Fed::Enough => sink.close(End::Done),
     }

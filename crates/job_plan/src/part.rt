@@ -6,6 +6,7 @@ ghost use Rattle.lambda_expr.specs.Earlier.{Numbers};
 ghost use Rattle.trace.specs.Trace.{Trace, trace, nothing, append};
 ghost use Rattle.trace.specs.declared.item.End.TheVariants as end;
 ghost use Rattle.trace.specs.declared.item.Item.{Item as item};
+ghost use Rattle.job_plan.specs.FoldFaults.{end_fault, fold_fault};
 ghost use Rattle.job_plan.specs.Parts.{EndsFor, StandsFor, end_in, end_keeps_items, is_fault, is_running, is_settled, keeps_items, may_search};
 ghost use Rattle.job_plan.specs.Plans.{AbstractEnd, AbstractSegment, outcome_of};
 
@@ -22,7 +23,7 @@ use lambda_expr::Env;
 use reduce_ops::SumPart;
 use slice_ops::SlicePart;
 use std::alloc::Global;
-use trace::{Chunk, End, Item, NoMemory, SourceItems};
+use trace::{Chunk, End, Fault, Item, NoMemory, SourceItems};
 
 /// What a piece of a segment's source gives to the end of the segment.
 ///
@@ -37,6 +38,14 @@ pub enum Part<'p> {
     Array(ArrayPart),
     Prefix(PrefixPart<'p>),
     Exact(SumPart),
+}
+
+/// The end of a segment, its number as a stage, and the values of the job's names.
+#[derive(Clone, Copy)]
+pub(crate) struct LastStage<'a> {
+    pub(crate) end: &'a SegmentEnd,
+    pub(crate) number: u32,
+    pub(crate) env: &'a Env,
 }
 
 impl<'p> Part<'p> {
@@ -73,37 +82,31 @@ impl<'p> Part<'p> {
     /// Adds one more item after the others.
     ///
     /// If the allocation fails, the part stays as it was.
-    pub(crate) fn push(
-        &mut self,
-        close: &SegmentEnd,
-        stage: u32,
-        env: &Env,
-        item: Item,
-    ) -> Result<(), NoMemory>
+    pub(crate) fn push(&mut self, last: LastStage<'_>, item: Item) -> Result<(), NoMemory>
         requires { is_settled self.old ≡ false }
-        ensures ok { OnOk result ((t : Trace) → EndsFor (end_in close.now) stage env.now self.old t
-            → EndsFor (end_in close.now) stage env.now self.new (append t (trace (item ∷ []) end.Done))) }
+        ensures ok { OnOk result ((t : Trace) → EndsFor (end_in last.entry.end.now) last.entry.number last.entry.env.now self.old t
+            → EndsFor (end_in last.entry.end.now) last.entry.number last.entry.env.now self.new (append t (trace (item ∷ []) end.Done))) }
         ensures err { OnErr result (self.new ≡ self.old) }
         ensures memory { OnErr result (keeps_items self.old ≡ true) }
         ensures kind { may_search self.new ≡ may_search self.old }
         ensures keeps { keeps_items self.new ≡ keeps_items self.old }
     {
         match self {
-            Part::Slice(part) => part.push(env, item),
+            Part::Slice(part) => part.push(last.env, item),
             Part::Fold(part) => {
                 part.push(item);
                 Ok(())
             }
             Part::Find(part) => {
-                if let SegmentEnd::Find(find) = close {
-                    *part = part.look_at(find, stage, env, item);
+                if let SegmentEnd::Find(find) = last.end {
+                    *part = part.look_at(find, last.number, last.env, item);
                 }
                 Ok(())
             }
             Part::Array(part) => part.push_all(&[item.value]),
             Part::Prefix(part) => part.push(item),
             Part::Exact(part) => {
-                part.push(stage, item);
+                part.push(last.number, item);
                 Ok(())
             }
         }
@@ -115,17 +118,15 @@ impl<'p> Part<'p> {
     /// allocation fails, the part stays as it was. Without items it takes no memory.
     pub(crate) fn push_all<I: SourceItems>(
         &mut self,
-        close: &SegmentEnd,
-        stage: u32,
-        env: &Env,
+        last: LastStage<'_>,
         source: &I,
         values: &[i64],
         room: &mut [i64],
     ) -> Result<(), NoMemory>
         requires going { is_settled self.old ≡ false }
         requires values { map (λ x. x.value) (I.items source.now) ≡ values.now }
-        ensures ok { OnOk result ((t : Trace) → EndsFor (end_in close.now) stage env.now self.old t
-            → EndsFor (end_in close.now) stage env.now self.new (append t (trace (I.items source.now) end.Done))) }
+        ensures ok { OnOk result ((t : Trace) → EndsFor (end_in last.entry.end.now) last.entry.number last.entry.env.now self.old t
+            → EndsFor (end_in last.entry.end.now) last.entry.number last.entry.env.now self.new (append t (trace (I.items source.now) end.Done))) }
         ensures err { OnErr result (self.new ≡ self.old) }
         ensures refused { OnErr result (0 < length (I.items source.now)) }
         ensures memory { OnErr result (keeps_items self.old ≡ true) }
@@ -134,24 +135,24 @@ impl<'p> Part<'p> {
     {
         match self {
             Part::Slice(part) => {
-                let front = front(part.slice(), env, values, room);
-                part.push_all(env, source, front)
+                let front = front(part.slice(), last.env, values, room);
+                part.push_all(last.env, source, front)
             }
             Part::Fold(part) => {
                 part.push_all(values);
                 Ok(())
             }
             Part::Find(part) => {
-                if let SegmentEnd::Find(find) = close {
-                    let first = undecided(find, env, values, room);
-                    *part = part.look_after(find, stage, env, source, first);
+                if let SegmentEnd::Find(find) = last.end {
+                    let first = undecided(find, last.env, values, room);
+                    *part = part.look_after(find, last.number, last.env, source, first);
                 }
                 Ok(())
             }
             Part::Array(part) => part.push_all(values),
             Part::Prefix(part) => part.push_all(source, values),
             Part::Exact(part) => {
-                part.push_all(stage, source, values);
+                part.push_all(last.number, source, values);
                 Ok(())
             }
         }
@@ -227,6 +228,18 @@ impl<'p> Part<'p> {
         }
     }
 
+    /// The fault in which a fold ended. The other parts have none.
+    pub fn fold_fault(&self) -> Option<Fault>
+        ensures { result ≡ fold_fault self.now }
+    {
+        match self {
+            Part::Fold(part) => end_fault(part.partial.end()),
+            Part::Slice(_) | Part::Find(_) | Part::Array(_) | Part::Prefix(_) | Part::Exact(_) => {
+                None
+            }
+        }
+    }
+
     /// The part of two pieces side by side, of one segment. A fault of the left one ends both.
     ///
     /// Only slices and arrays may need memory; if the allocation fails, both parts come back. Parts of different
@@ -284,4 +297,14 @@ fn is_fault(end: End) -> bool
     ensures { result ≡ is_fault end }
 {
     matches!(end, End::Fault(_))
+}
+
+/// The fault in which a walk ended.
+fn end_fault(end: End) -> Option<Fault>
+    ensures { result ≡ end_fault end }
+{
+    match end {
+        End::Done => None,
+        End::Fault(fault) => Some(fault),
+    }
 }

@@ -6,7 +6,7 @@ ghost use Rattle.prefix_scan.specs.Scans.{fold_at};
 ghost use Rattle.job_plan.specs.Scans.{IsFolded, IsMarked, all_items, marks_of, scanned_walk};
 
 use crate::ends::Prefix;
-use crate::folded_piece::{FoldedPiece, Mark};
+use crate::folded_piece::{FoldedPiece, PieceStart};
 use batch_eval::Registers;
 use std::alloc::Global;
 use std::marker::Model;
@@ -17,7 +17,7 @@ use trace::{End, NoMemory};
 pub struct ScannedWalk<'a> {
     pub(crate) prefix: Prefix,
     pub(crate) pieces: Vec<FoldedPiece<'a>>,
-    pub(crate) marks: Vec<Mark>,
+    pub(crate) marks: Vec<PieceStart>,
     pub(crate) size: u64,
 }
 
@@ -72,7 +72,7 @@ fn marks(
     alloc: Global,
     prefix: Prefix,
     pieces: &[FoldedPiece],
-) -> Result<(Vec<Mark>, u64), NoMemory>
+) -> Result<(Vec<PieceStart>, u64), NoMemory>
     requires { All (IsFolded prefix.op) pieces.now }
     ensures marks { IfOk result (λ m. m.0.items ≡ marks_of (value_of prefix.op) prefix.range 0 None pieces.now) }
     ensures size { IfOk result (λ m. m.1 ≡ length (all_items pieces.now)) }
@@ -82,7 +82,7 @@ fn marks(
     let mut before = 0u64;
     let mut start = None;
     for piece in pieces {
-        marks.push(Mark { before, start })?;
+        marks.push(PieceStart { before, start })?;
         start = piece.fold_from(prefix.op, prefix.range, before, start, &mut registers);
         let Some(next) = before.checked_add(piece.count() as u64) else {
             return Err(NoMemory);

@@ -4,7 +4,9 @@ ghost use Rattle.std.specs.Prelude.{◌+◌, ◌<◌, ◌^◌, length};
 
 use crate::ends::SegmentEnd;
 use crate::fallback::Fallback;
+use batch_eval::Pipeline;
 use job_language::PlainSource;
+use lambda_expr::Env;
 use stream_tokens::Bytes;
 use trace::Stage;
 
@@ -16,6 +18,25 @@ pub struct Segment {
     pub stages: Vec<Stage>,
     pub end: SegmentEnd,
     ghost numbered: { first_stage + length stages.items < 2 ^ 32 },
+}
+
+impl Segment {
+    ghost use Rattle.std.specs.Prelude.{◌≡◌};
+    ghost use Rattle.trace.specs.Trace.{Trace};
+    ghost use Rattle.batch_eval.specs.Pipelines.{piped};
+    ghost use Rattle.job_plan.specs.Parts.{segment_in};
+    ghost use Rattle.job_plan.specs.Plans.{walk_of};
+
+    /// The stages, with these values of the job's names.
+    pub(crate) fn pipeline<'a>(&'a self, env: &'a Env) -> Pipeline<'a>
+        ensures { (t : Trace) → piped result t ≡ walk_of (segment_in self.now) env.now t }
+    {
+        Pipeline {
+            stages: &self.stages,
+            first: self.first_stage,
+            env,
+        }
+    }
 }
 
 /// Maps that a slice was moved before. They go into the segment after it.

@@ -7,10 +7,10 @@ ghost use Rattle.trace.specs.Sinks.{IsFed, flow_after};
 ghost use Rattle.trace.specs.Trace.{trace};
 ghost use Rattle.trace.specs.declared.item.Item.{Item as item};
 ghost use Rattle.trace.specs.declared.item.End.TheVariants as end;
+ghost use Rattle.batch_eval.specs.Pipelines.{piped};
 ghost use Rattle.job_language.specs.Jobs.{source_of, sources_of};
-ghost use Rattle.job_plan.specs.Parts.{plan_in, segment_in, walk_in};
+ghost use Rattle.job_plan.specs.Parts.{plan_in, walk_in};
 ghost use Rattle.job_plan.specs.Pieces.{elements, piece_of};
-ghost use Rattle.job_plan.specs.Plans.{walk_of};
 ghost use Rattle.job_plan.specs.Spans.{after, span};
 ghost use Rattle.job_plan.specs.Walks.{plain_values, source_walk, values_of};
 ghost use Rattle.job_plan.specs.Windows.{selected_source, selected_walk};
@@ -18,11 +18,11 @@ ghost use Rattle.job_plan.specs.Windows.{selected_source, selected_walk};
 use crate::given::GivenWalk;
 use crate::pieces::RangePiece;
 use crate::scanned_pieces::feed_given;
-use crate::segment::{JobPlan, Segment};
+use crate::segment::JobPlan;
 use crate::sources::{PlainSources, plain_size};
-use crate::spans::{end_after, within};
+use crate::spans::{Portion, within};
 use crate::windows::{Window, selected_window};
-use batch_eval::{BatchSink, PlacedValues, Registers, feed_batches};
+use batch_eval::{BatchSink, Pipeline, PlacedValues, Registers, feed_batches};
 use job_language::PlainSource;
 use lambda_expr::{Env, FaultKind};
 use trace::{End, Fault, Fed, Flow, NoMemory};
@@ -41,6 +41,13 @@ pub enum Source<'g, 'a, 'c> {
     Plain(PlainSources<'a, 'c>),
     /// Of a later segment: what the segment before it gave.
     Given(&'g GivenWalk<'a>),
+}
+
+/// What is walked, with the values of the job's names.
+#[derive(Clone, Copy)]
+pub(crate) struct Walked<'g, 'a, 'c, 'e> {
+    pub(crate) source: Source<'g, 'a, 'c>,
+    pub(crate) env: &'e Env,
 }
 
 impl<'g, 'a, 'c> Source<'g, 'a, 'c> {
@@ -90,19 +97,17 @@ impl<'g, 'a, 'c> Source<'g, 'a, 'c> {
         }
     }
 
-    /// Takes the items at these positions one after the other through the stages of a segment.
+    /// Takes the items at these positions one after the other through the stages.
     pub(crate) fn feed<S: BatchSink>(
         &self,
-        segment: &Segment,
-        env: &Env,
-        from: u64,
-        to: Option<u64>,
+        line: Pipeline<'_>,
+        window: Window,
         registers: &mut Registers,
         sink: &mut S,
     ) -> Result<Fed, NoMemory>
         requires wants { S.flow sink.old ≡ Flow.More }
         ensures fed { (xs : List item) → S.has_taken sink.old xs → IsFed S.has_taken xs
-            (walk_of (segment_in segment.now) env.now (trace (elements from to (walk_in self.now).items) end.Done)) result sink.new }
+            (piped line.entry (trace (elements window.from window.to (walk_in self.now).items) end.Done)) result sink.new }
         ensures flow { S.flow sink.new ≡ flow_after result }
         ensures refused { OnErr result S.takes_memory }
     {
@@ -111,10 +116,10 @@ impl<'g, 'a, 'c> Source<'g, 'a, 'c> {
                 if plain.is_too_long {
                     return Ok(Fed::More);
                 }
-                let Window { from, to } = plain.window.within(from, to);
-                feed_plain(segment, env, plain.sources, 0, from, to, registers, sink)
+                let selected = plain.window.within(window.from, window.to);
+                feed_plain(line, plain.sources, 0, selected, registers, sink)
             }
-            Source::Given(given) => feed_given(segment, env, given, from, to, registers, sink),
+            Source::Given(given) => feed_given(line, given, window, registers, sink),
         }
     }
 }
@@ -131,19 +136,17 @@ pub(crate) fn piece_end(source: &Source, to: Option<u64>) -> End
 
 /// Takes the items at these positions of sources, of which the first item has the place `origin`.
 fn feed_plain<S: BatchSink>(
-    segment: &Segment,
-    env: &Env,
+    line: Pipeline<'_>,
     sources: &[PlainSource],
     origin: u64,
-    from: u64,
-    to: Option<u64>,
+    window: Window,
     registers: &mut Registers,
     sink: &mut S,
 ) -> Result<Fed, NoMemory>
     requires wants { S.flow sink.old ≡ Flow.More }
     requires few { origin + length (values_of (sources_of sources.now)) ≤ 2 ^ 62 }
     ensures fed { (xs : List item) → S.has_taken sink.old xs → IsFed S.has_taken xs
-        (walk_of (segment_in segment.now) env.now (trace (elements from to (placed origin (values_of (sources_of sources.now)))) end.Done)) result sink.new }
+        (piped line.entry (trace (elements window.from window.to (placed origin (values_of (sources_of sources.now)))) end.Done)) result sink.new }
     ensures flow { S.flow sink.new ≡ flow_after result }
     ensures refused { OnErr result S.takes_memory }
 {
@@ -151,84 +154,63 @@ fn feed_plain<S: BatchSink>(
         None => Ok(Fed::More),
         Some((source, later)) => {
             let size = plain_size(source);
-            let (start, count) = within(from, to, size);
-            match feed_one(
-                segment,
-                env,
-                source,
-                origin + start,
-                start,
-                count,
-                registers,
-                sink,
-            )? {
+            let (start, count) = within(window.from, window.to, size);
+            let portion = Portion { start, count };
+            match feed_one(line, source, origin + start, portion, registers, sink)? {
                 Fed::More => {}
                 stopped => return Ok(stopped),
             }
-            let from = from.saturating_sub(size);
-            feed_plain(
-                segment,
-                env,
-                later,
-                origin + size,
-                from,
-                end_after(to, size),
-                registers,
-                sink,
-            )
+            let left = window.after(size);
+            feed_plain(line, later, origin + size, left, registers, sink)
         }
     }
 }
 
-/// Takes `count` items of a source, from a position on; the first of them has the place `origin`.
+/// Takes some items of a source; the first of them has the place `origin`.
 fn feed_one<S: BatchSink>(
-    segment: &Segment,
-    env: &Env,
+    line: Pipeline<'_>,
     source: &PlainSource,
     origin: u64,
-    start: u64,
-    count: u64,
+    portion: Portion,
     registers: &mut Registers,
     sink: &mut S,
 ) -> Result<Fed, NoMemory>
     requires wants { S.flow sink.old ≡ Flow.More }
-    requires within { start + count ≤ length (plain_values (source_of source.now)) }
+    requires within { portion.start + portion.count ≤ length (plain_values (source_of source.now)) }
     requires short { length (plain_values (source_of source.now)) ≤ 2 ^ 62 }
-    requires few { origin + count ≤ 2 ^ 62 }
+    requires few { origin + portion.count ≤ 2 ^ 62 }
     ensures fed { (xs : List item) → S.has_taken sink.old xs → IsFed S.has_taken xs
-        (walk_of (segment_in segment.now) env.now (trace (placed origin (take count (drop start (plain_values (source_of source.now))))) end.Done)) result sink.new }
+        (piped line.entry (trace (placed origin (take portion.count (drop portion.start (plain_values (source_of source.now))))) end.Done)) result sink.new }
     ensures flow { S.flow sink.new ≡ flow_after result }
     ensures refused { OnErr result S.takes_memory }
 {
-    if count == 0 {
+    if portion.count == 0 {
         return Ok(Fed::More);
     }
     match source {
         PlainSource::Range { from, to } => {
-            feed_range(
-                segment,
-                env,
-                origin,
-                *from,
-                *to - 1,
-                start,
-                count,
-                registers,
-                sink,
-            )
+            let range = ClosedRange {
+                from: *from,
+                to: *to - 1,
+            };
+            feed_range(line, origin, range, portion, registers, sink)
         }
         PlainSource::RangeClosed { from, to } => {
-            feed_range(
-                segment, env, origin, *from, *to, start, count, registers, sink,
-            )
+            let range = ClosedRange {
+                from: *from,
+                to: *to,
+            };
+            feed_range(line, origin, range, portion, registers, sink)
         }
         PlainSource::Values(values) => {
-            let values = &values[start as usize..(start + count) as usize];
-            feed_values(segment, env, origin, values, registers, sink)
+            let end = portion.start + portion.count;
+            let values = &values[portion.start as usize..end as usize];
+            feed_values(line, origin, values, registers, sink)
         }
         PlainSource::Column(cells) => {
-            let values = &cells[start as usize..(start + count) as usize];
-            feed_values(segment, env, origin, values, registers, sink)
+            let end = portion.start + portion.count;
+            let values = &cells[portion.start as usize..end as usize];
+            feed_values(line, origin, values, registers, sink)
         }
         PlainSource::Result(_) => Ok(Fed::More),
     }
@@ -236,8 +218,7 @@ fn feed_one<S: BatchSink>(
 
 /// Takes values, of which the first has the place `origin`.
 pub(crate) fn feed_values<S: BatchSink>(
-    segment: &Segment,
-    env: &Env,
+    line: Pipeline<'_>,
     origin: u64,
     values: &[i64],
     registers: &mut Registers,
@@ -246,53 +227,42 @@ pub(crate) fn feed_values<S: BatchSink>(
     requires wants { S.flow sink.old ≡ Flow.More }
     requires few { origin + length values.now ≤ 2 ^ 62 }
     ensures fed { (xs : List item) → S.has_taken sink.old xs → IsFed S.has_taken xs
-        (walk_of (segment_in segment.now) env.now (trace (placed origin values.now) end.Done)) result sink.new }
+        (piped line.entry (trace (placed origin values.now) end.Done)) result sink.new }
     ensures flow { S.flow sink.new ≡ flow_after result }
     ensures refused { OnErr result S.takes_memory }
 {
     let items = PlacedValues { origin, values };
-    feed_batches(
-        &segment.stages,
-        segment.first_stage,
-        env,
-        &items,
-        registers,
-        sink,
-    )
+    feed_batches(line, &items, registers, sink)
 }
 
-/// Takes `count` of the integers from `from` up to and with `to`, from a position on; the first of them has the place
-/// `origin`.
+/// The integers from the first up to and with the second one.
+#[derive(Clone, Copy)]
+pub(crate) struct ClosedRange {
+    pub(crate) from: i64,
+    pub(crate) to: i64,
+}
+
+/// Takes some integers of a range; the first of them has the place `origin`.
 fn feed_range<S: BatchSink>(
-    segment: &Segment,
-    env: &Env,
+    line: Pipeline<'_>,
     origin: u64,
-    from: i64,
-    to: i64,
-    start: u64,
-    count: u64,
+    range: ClosedRange,
+    portion: Portion,
     registers: &mut Registers,
     sink: &mut S,
 ) -> Result<Fed, NoMemory>
     requires wants { S.flow sink.old ≡ Flow.More }
-    requires some { 0 < count }
-    requires within { start + count ≤ distance from (to +ℤ pos 1) }
-    requires short { start + count ≤ 2 ^ 62 }
-    requires few { origin + count ≤ 2 ^ 62 }
+    requires some { 0 < portion.count }
+    requires within { portion.start + portion.count ≤ distance range.from (range.to +ℤ pos 1) }
+    requires short { portion.start + portion.count ≤ 2 ^ 62 }
+    requires few { origin + portion.count ≤ 2 ^ 62 }
     ensures fed { (xs : List item) → S.has_taken sink.old xs → IsFed S.has_taken xs
-        (walk_of (segment_in segment.now) env.now (trace (placed origin (counted (from +ℤ pos start) count)) end.Done)) result sink.new }
+        (piped line.entry (trace (placed origin (counted (range.from +ℤ pos portion.start) portion.count)) end.Done)) result sink.new }
     ensures flow { S.flow sink.new ≡ flow_after result }
     ensures refused { OnErr result S.takes_memory }
 {
-    let items = range_piece(origin, from, start, count);
-    feed_batches(
-        &segment.stages,
-        segment.first_stage,
-        env,
-        &items,
-        registers,
-        sink,
-    )
+    let items = range_piece(origin, range.from, portion.start, portion.count);
+    feed_batches(line, &items, registers, sink)
 }
 
 /// `count` integers that count up, from a position on; the first of them has the place `origin`.

@@ -3,6 +3,13 @@
 ghost use Rattle.std.specs.Prelude.{◌≡◌, min};
 ghost use Rattle.job_plan.specs.Spans.{after, earlier, moved, span};
 
+/// Elements of a list: this number of them, from a position on.
+#[derive(Clone, Copy)]
+pub(crate) struct Portion {
+    pub(crate) start: u64,
+    pub(crate) count: u64,
+}
+
 /// The first of these positions within a list of this size, and how many there are.
 pub(crate) fn within(from: u64, to: Option<u64>, size: u64) -> (u64, u64)
     ensures start { result.0 ≡ min from size }

@@ -14,7 +14,7 @@ use crate::nest::{DEEPEST, Deepest, Nest};
 use crate::outcome::Outcome;
 use crate::part::Part;
 use crate::segment::Segment;
-use crate::source::Source;
+use crate::source::{Source, Walked};
 use batch_eval::Registers;
 use lambda_expr::Env;
 use std::alloc::Global;
@@ -35,7 +35,11 @@ pub fn streamed<'p>(
     ensures { IfOk result (λ part. StandsFor (segment_in last.now) env.now part (linked (first_links (segments_in segments.now)) env.now (walk_in source.now))) }
 {
     let none = unwalked(alloc, last, env);
-    streamed_from(alloc, none, segments, last, source, env, registers)
+    let walked = Walked {
+        source: *source,
+        env,
+    };
+    streamed_from(alloc, none, segments, last, walked, registers)
 }
 
 /// The same, of a walk that never has to be done once more.
@@ -51,7 +55,11 @@ pub fn streamed_in_order<'p>(
     ensures kind { IfOk result (λ part. may_search part ≡ false) }
 {
     let none = first_part(alloc, last, env);
-    streamed_from(alloc, none, segments, last, source, env, registers)
+    let walked = Walked {
+        source: *source,
+        env,
+    };
+    streamed_from(alloc, none, segments, last, walked, registers)
 }
 
 /// The same, from the part of no item.
@@ -60,17 +68,16 @@ fn streamed_from<'p>(
     none: Part<'p>,
     segments: &'p [Segment],
     last: &'p Segment,
-    source: &Source,
-    env: &Env,
+    walked: Walked,
     registers: &mut Registers,
 ) -> Result<Part<'p>, NoMemory>
-    requires none { StandsFor (segment_in last.now) env.now none nothing }
-    ensures stands { IfOk result (λ part. StandsFor (segment_in last.now) env.now part (linked (first_links (segments_in segments.now)) env.now (walk_in source.now))) }
+    requires none { StandsFor (segment_in last.now) walked.env.now none nothing }
+    ensures stands { IfOk result (λ part. StandsFor (segment_in last.now) walked.entry.env.now part (linked (first_links (segments_in segments.now)) walked.entry.env.now (walk_in walked.entry.source))) }
     ensures kind { IfOk result (λ part. may_search part ≡ may_search none.entry) }
 {
     let mut links = Vec::new(alloc);
     push_links(&mut links, segments)?;
-    through_links(alloc, none, &links, last, source, env, registers)
+    through_links(alloc, none, &links, last, walked, registers)
 }
 
 /// The same, of a walk through these links.
@@ -79,32 +86,27 @@ fn through_links<'p>(
     none: Part<'p>,
     links: &[Link<'p>],
     last: &'p Segment,
-    source: &Source,
-    env: &Env,
+    walked: Walked,
     registers: &mut Registers,
 ) -> Result<Part<'p>, NoMemory>
-    requires none { StandsFor (segment_in last.now) env.now none nothing }
+    requires none { StandsFor (segment_in last.now) walked.env.now none nothing }
     requires fit { AllFit (each_link_in links.now) }
-    ensures stands { IfOk result (λ part. StandsFor (segment_in last.now) env.now part (linked (each_link_in links.now) env.now (walk_in source.now))) }
+    ensures stands { IfOk result (λ part. StandsFor (segment_in last.now) walked.entry.env.now part (linked (each_link_in links.now) walked.entry.env.now (walk_in walked.entry.source))) }
     ensures kind { IfOk result (λ part. may_search part ≡ may_search none.entry) }
 {
     if links.len() <= DEEPEST {
-        return through_few(alloc, none, links, last, source, env, registers);
+        return through_few(alloc, none, links, last, walked, registers);
     }
     let (first, others) = links.split_at(DEEPEST);
     let Some((link, later)) = others.split_first() else {
-        return through_few(alloc, none, first, last, source, env, registers);
+        return through_few(alloc, none, first, last, walked, registers);
     };
-    let given = gathered(alloc, first, link, source, env, registers)?;
-    through_links(
-        alloc,
-        none,
-        later,
-        last,
-        &Source::of_given(&given),
-        env,
-        registers,
-    )
+    let given = gathered(alloc, first, link, walked, registers)?;
+    let walked = Walked {
+        source: Source::of_given(&given),
+        env: walked.env,
+    };
+    through_links(alloc, none, later, last, walked, registers)
 }
 
 /// What a walk becomes in these links and then in another one.
@@ -112,17 +114,16 @@ fn gathered<'p>(
     alloc: Global,
     links: &[Link<'p>],
     link: &Link<'p>,
-    source: &Source,
-    env: &Env,
+    walked: Walked,
     registers: &mut Registers,
 ) -> Result<GivenWalk<'p>, NoMemory>
     requires few { length links.now ≤ 8 }
     requires fits { Fits (link_in link.now) }
-    ensures { IfOk result (λ given. given ≡ link_walk (link_in link.now) env.now (linked (each_link_in links.now) env.now (walk_in source.now))) }
+    ensures { IfOk result (λ given. given ≡ link_walk (link_in link.now) walked.entry.env.now (linked (each_link_in links.now) walked.entry.env.now (walk_in walked.entry.source))) }
 {
-    let none = first_part(alloc, link.segment, env);
-    let part = through_few(alloc, none, links, link.segment, source, env, registers)?;
-    match part.finish(alloc, env)? {
+    let none = first_part(alloc, link.segment, walked.env);
+    let part = through_few(alloc, none, links, link.segment, walked, registers)?;
+    match part.finish(alloc, walked.env)? {
         Some(Outcome::Source(given)) => Ok(given),
         Some(Outcome::Answer(_)) => Ok(GivenWalk::of(alloc, Chunk::ending(alloc, End::Done))),
         None => Ok(GivenWalk::of(alloc, Chunk::ending(alloc, End::Done))),
@@ -135,16 +136,15 @@ fn through_few<'p>(
     none: Part<'p>,
     links: &[Link<'p>],
     last: &'p Segment,
-    source: &Source,
-    env: &Env,
+    walked: Walked,
     registers: &mut Registers,
 ) -> Result<Part<'p>, NoMemory>
-    requires none { StandsFor (segment_in last.now) env.now none nothing }
+    requires none { StandsFor (segment_in last.now) walked.env.now none nothing }
     requires few { length links.now ≤ 8 }
-    ensures stands { IfOk result (λ part. StandsFor (segment_in last.now) env.now part (linked (each_link_in links.now) env.now (walk_in source.now))) }
+    ensures stands { IfOk result (λ part. StandsFor (segment_in last.now) walked.entry.env.now part (linked (each_link_in links.now) walked.entry.env.now (walk_in walked.entry.source))) }
     ensures kind { IfOk result (λ part. may_search part ≡ may_search none.entry) }
 {
-    nested::<Brand>(alloc, none, links, last, source, env, registers)
+    nested::<Brand>(alloc, none, links, last, walked, registers)
 }
 
 /// The same, for an end that contracts can name.
@@ -153,23 +153,22 @@ fn nested<'p, K: Ending>(
     none: Part<'p>,
     links: &[Link<'p>],
     last: &'p Segment,
-    source: &Source,
-    env: &Env,
+    walked: Walked,
     registers: &mut Registers,
 ) -> Result<Part<'p>, NoMemory>
     requires last { last.now.end ≡ K.last }
     requires stage { last_stage (segment_in last.now) ≡ K.stage }
-    requires env { env.now ≡ K.env }
+    requires env { walked.env.now ≡ K.env }
     requires begun { none ≡ K.begun }
     requires few { length links.now ≤ 8 }
-    ensures { IfOk result (λ part. GoesOnFrom (end_in K.last) K.stage K.env K.begun part (walk_of (segment_in last.now) env.now (linked (each_link_in links.now) env.now (walk_in source.now)))) }
+    ensures { IfOk result (λ part. GoesOnFrom (end_in K.last) K.stage K.env K.begun part (walk_of (segment_in last.now) walked.entry.env.now (linked (each_link_in links.now) walked.entry.env.now (walk_in walked.entry.source)))) }
 {
     let sink = PartSink::<K> {
         part: none,
         segment: last,
         stage: last.first_stage + last.stages.len() as u32,
-        env,
+        env: walked.env,
         of: PhantomData,
     };
-    Deepest::feed(alloc, links, last, source, env, registers, sink)
+    Deepest::feed(alloc, links, last, walked, registers, sink)
 }

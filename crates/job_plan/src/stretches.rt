@@ -7,17 +7,16 @@ ghost use Rattle.trace.specs.declared.item.Item.{Item as item};
 ghost use Rattle.trace.specs.declared.item.End.TheVariants as end;
 ghost use Rattle.trace.specs.declared.feeding.Fed.TheVariants as fed;
 ghost use Rattle.trace.specs.declared.sink.Flow.TheVariants as flow;
-ghost use Rattle.job_plan.specs.Parts.{segment_in, walk_in};
+ghost use Rattle.batch_eval.specs.Pipelines.{piped};
+ghost use Rattle.job_plan.specs.Parts.{walk_in};
 ghost use Rattle.job_plan.specs.Pieces.{elements};
-ghost use Rattle.job_plan.specs.Plans.{walk_of};
 ghost use Rattle.job_plan.specs.Spans.{IsNotAfter};
 ghost use Rattle.job_plan.specs.Stretches.{IsWalked, IsWhole, IsCut};
 
-use crate::segment::Segment;
 use crate::source::Source;
-use batch_eval::{BatchSink, Registers};
+use crate::windows::Window;
+use batch_eval::{BatchSink, Pipeline, Registers};
 use early_stop::Stop;
-use lambda_expr::Env;
 use trace::{Fed, Flow, NoMemory};
 
 /// How many positions are walked before the next look for such a place.
@@ -43,30 +42,32 @@ fn is_past<W: Stop>(stop: &mut W, position: u64) -> bool
     place != u64::MAX && place <= position
 }
 
-/// Takes the items at these positions one after the other through the stages of a segment. `None` says that only those before a place
+/// Takes the items at these positions one after the other through the stages. `None` says that only those before a place
 /// were taken that is at or after one that decides; the sink wants more.
 pub(crate) fn feed_until<S: BatchSink, W: Stop>(
     source: &Source,
-    segment: &Segment,
-    env: &Env,
-    from: u64,
-    to: Option<u64>,
+    line: Pipeline<'_>,
+    window: Window,
     registers: &mut Registers,
     sink: &mut S,
     stop: &mut W,
 ) -> Result<Option<Fed>, NoMemory>
     requires wants { S.flow sink.old ≡ Flow.More }
-    requires ordered { IsNotAfter from to }
-    ensures whole { IfOk result (λ r. IsWhole S.has_taken (λ ys. walk_of (segment_in segment.now) env.now (trace ys end.Done)) (elements from to (walk_in source.now).items) sink.old r sink.new) }
-    ensures cut { IfOk result (λ r. IsCut S.has_taken (λ ys. walk_of (segment_in segment.now) env.now (trace ys end.Done)) (W.decides stop.old) (walk_in source.now).items from to sink.old r sink.new) }
+    requires ordered { IsNotAfter window.from window.to }
+    ensures whole { IfOk result (λ r. IsWhole S.has_taken (λ ys. piped line.entry (trace ys end.Done)) (elements window.from window.to (walk_in source.now).items) sink.old r sink.new) }
+    ensures cut { IfOk result (λ r. IsCut S.has_taken (λ ys. piped line.entry (trace ys end.Done)) (W.decides stop.old) (walk_in source.now).items window.from window.to sink.old r sink.new) }
     ensures flow { IfOk result (λ r. IfSome r (λ fed. S.flow sink.new ≡ flow_after (Ok fed))) }
     ensures refused { OnErr result S.takes_memory }
 {
-    let end = end_of(source, to);
-    let mut position = from;
+    let end = end_of(source, window.to);
+    let mut position = window.from;
     while end.saturating_sub(position) > STRETCH {
         let next = position + STRETCH;
-        match source.feed(segment, env, position, Some(next), registers, sink)? {
+        let stretch = Window {
+            from: position,
+            to: Some(next),
+        };
+        match source.feed(line, stretch, registers, sink)? {
             Fed::More => {}
             ended => return Ok(Some(ended)),
         }
@@ -75,5 +76,9 @@ pub(crate) fn feed_until<S: BatchSink, W: Stop>(
             return Ok(None);
         }
     }
-    Ok(Some(source.feed(segment, env, position, to, registers, sink)?))
+    let last = Window {
+        from: position,
+        to: window.to,
+    };
+    Ok(Some(source.feed(line, last, registers, sink)?))
 }

@@ -11,7 +11,8 @@ use crate::leaves::{leaf_in_order, leaf_with};
 use crate::outcome::Outcome;
 use crate::part::Part;
 use crate::segment::{JobPlan, Segment};
-use crate::source::Source;
+use crate::source::{Source, Walked};
+use crate::windows::Window;
 use batch_eval::Registers;
 use lambda_expr::Env;
 use std::alloc::Global;
@@ -96,7 +97,12 @@ fn walk_segment<'p>(
 ) -> Result<Outcome<'p>, NoMemory>
     ensures { IfOk result (λ outcome. outcome ≡ outcome_of (segment_in segment.now) env.now (walk_in source.now)) }
 {
-    let part = walk_piece(alloc, segment, source, 0, None, tree, env, registers)?;
+    let walked = Walked {
+        source: *source,
+        env,
+    };
+    let all = Window { from: 0, to: None };
+    let part = walk_piece(alloc, segment, walked, all, tree, registers)?;
     if let Some(outcome) = part.finish(alloc, env)? {
         return Ok(outcome);
     }
@@ -111,34 +117,37 @@ fn walk_segment<'p>(
 fn walk_piece<'p>(
     alloc: Global,
     segment: &'p Segment,
-    source: &Source<'_, 'p, '_>,
-    from: u64,
-    to: Option<u64>,
+    walked: Walked<'_, 'p, '_, '_>,
+    window: Window,
     tree: &SplitTree,
-    env: &Env,
     registers: &mut Registers,
 ) -> Result<Part<'p>, NoMemory>
-    requires ordered { IfSome to (λ last. from ≤ last) }
-    ensures { IfOk result (λ part. StandsFor (segment_in segment.now) env.now part (piece_of from to (walk_in source.now))) }
+    requires ordered { IfSome window.to (λ last. window.from ≤ last) }
+    ensures { IfOk result (λ part. StandsFor (segment_in segment.now) walked.entry.env.now part (piece_of window.from window.to (walk_in walked.entry.source))) }
 {
+    let Window { from, to } = window;
     match tree {
-        SplitTree::Leaf => leaf_with(alloc, segment, source, from, to, env, registers),
+        SplitTree::Leaf => leaf_with(
+            alloc,
+            segment,
+            &walked.source,
+            from,
+            to,
+            walked.env,
+            registers,
+        ),
         SplitTree::Node(size, front, back) => {
             let middle = middle_of(from, to, *size);
-            let left = walk_piece(
-                alloc,
-                segment,
-                source,
+            let first = Window {
                 from,
-                Some(middle),
-                front,
-                env,
-                registers,
-            )?;
+                to: Some(middle),
+            };
+            let left = walk_piece(alloc, segment, walked, first, front, registers)?;
             if left.is_settled() {
                 return Ok(left);
             }
-            let right = walk_piece(alloc, segment, source, middle, to, back, env, registers)?;
+            let second = Window { from: middle, to };
+            let right = walk_piece(alloc, segment, walked, second, back, registers)?;
             match left.merge(right) {
                 Ok(part) => Ok(part),
                 Err(_) => Err(NoMemory),

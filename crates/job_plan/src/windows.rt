@@ -8,16 +8,16 @@ ghost use Rattle.slice_ops.specs.Slices.{slice_of};
 ghost use Rattle.job_language.specs.Jobs.{AbstractPlainSource};
 ghost use Rattle.job_plan.specs.Parts.{end_in, plan_in, segment_in, segments_in};
 ghost use Rattle.job_plan.specs.Pieces.{elements};
-ghost use Rattle.job_plan.specs.Spans.{earlier, moved};
+ghost use Rattle.job_plan.specs.Spans.{after, earlier, moved};
 ghost use Rattle.job_plan.specs.Walks.{source_walk};
 ghost use Rattle.job_plan.specs.Windows.{end_selected, end_selects, later_segments, selected_walk, selects, slice_selected, slice_selects, windowed};
 
 use crate::ends::SegmentEnd;
 use crate::segment::{JobPlan, Segment};
-use crate::spans::{earlier, moved};
+use crate::spans::{earlier, end_after, moved};
 use slice_ops::Slice;
 
-/// Positions of the sources of a job: from one on, up to, not with, a second one, if there is one.
+/// Positions of a list: from one on, up to, not with, a second one, if there is one.
 #[derive(Clone, Copy)]
 pub(crate) struct Window {
     pub(crate) from: u64,
@@ -39,6 +39,17 @@ impl Window {
         Window {
             from: self.from.saturating_add(from),
             to: earlier(self.to, moved(to, self.from)),
+        }
+    }
+
+    /// The same positions, counted after this number of elements.
+    pub(crate) fn after(self, size: u64) -> Window
+        ensures from { result.from ≡ self.from - size }
+        ensures to { result.to ≡ after self.to size }
+    {
+        Window {
+            from: self.from.saturating_sub(size),
+            to: end_after(self.to, size),
         }
     }
 

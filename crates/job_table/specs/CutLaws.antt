@@ -1,29 +1,27 @@
 -- Condition: laws of parts that continuations of a tree need.
-use Rattle.std.proofs.Common.{◌≡◌, ℕ, subst, sym, refl, Bool, Option, Some, None}
-use Rattle.std.specs.Prelude.{Result, Ok}
-use Rattle.completer_tree.specs.Places.{Goes}
-use Rattle.job_table.specs.declared.cut.CutPiece.{CutPiece}
-use Rattle.job_table.specs.Cuts.{begins, ends_at, IsSideOf, Stands}
+use Rattle.std.proofs.Common.{◌≡◌, ℕ, subst, Option, Some, None}
+use Rattle.std.specs.Prelude.{Result}
+use Rattle.std.specs.Coded.{Π_prop}
+use Rattle.trace.specs.declared.item.Fault.{Fault}
+use Rattle.completer_tree.specs.declared.part.Failure.{Failure}
+use Rattle.job_table.specs.declared.cut.Merged.{Merged}
+use Rattle.job_table.specs.Cuts.{ComesOf, IsInstead, StandsWhole}
 
-module _ {A X F : Type 0} (stands : ℕ → ℕ → ℕ → ℕ → A → Type 0) where
-  -- a part by other names for job, segment and positions
-  pub stands_as : (part : X → A) (v : Result X F) {j j' k k' a a' b b' : ℕ} → j ≡ j' → k ≡ k' → a ≡ a' → b ≡ b' → Stands stands j k a b part v → Stands stands j' k' a' b' part v
-  stands_as part v {j} {j'} {k} {k'} {a} {a'} {b} {b'} ej ek ea eb h =
-      subst (λ z. Stands stands z k' a' b' part v) ej (subst (λ z. Stands stands j z a' b' part v) ek (subst (λ z. Stands stands j k z b' part v) ea (subst (λ z. Stands stands j k a z part v) eb h)))
+module _ {A B X : Type 0} (stands : ℕ → ℕ → ℕ → ℕ → A → Type 0) (answers : ℕ → B → Type 0) where
+  -- what comes of a whole segment by other names for job and segment
+  pub stands_moved : (size : ℕ → ℕ → ℕ) (found : X → Merged A B) (v : Result X Failure) {j j' k k' : ℕ} → j ≡ j' → k ≡ k' → StandsWhole stands answers size j k found v → StandsWhole stands answers size j' k' found v
+  stands_moved size found v {j} {j'} {k} {k'} ej ek h =
+      subst (λ z. StandsWhole stands answers size z k' found v) ej (subst (λ z. StandsWhole stands answers size j z found v) ek h)
 
-  -- the whole segment by other names for job and segment
-  pub stands_moved : (size : ℕ → ℕ → ℕ) (part : X → A) (v : Result X F) {j j' k k' : ℕ} → j ≡ j' → k ≡ k' → Stands stands j k 0 (size j k) part v → Stands stands j' k' 0 (size j' k') part v
-  stands_moved size part v {j} {j'} {k} {k'} ej ek h =
-      subst (λ z. Stands stands z k' 0 (size z k') part v) ej (subst (λ z. Stands stands j z 0 (size j z) part v) ek h)
+  -- what comes of all positions
+  pub stands_whole : (size : ℕ → ℕ → ℕ) (found : X → Merged A B) (v : Result X Failure) (j k : ℕ) {a b : ℕ} → a ≡ 0 → b ≡ size j k → ComesOf stands answers found j k a b v → StandsWhole stands answers size j k found v
+  stands_whole size found v j k {a} {b} ea eb h =
+      subst (λ z. ComesOf stands answers found j k 0 z v) eb (subst (λ z. ComesOf stands answers found j k z b v) ea h)
 
-  -- a part of all positions
-  pub stands_whole : (part : X → A) (v : Result X F) (j k : ℕ) {a b n : ℕ} → a ≡ 0 → b ≡ n → Stands stands j k a b part v → Stands stands j k 0 n part v
-  stands_whole part v j k ea eb h = stands_as part v refl refl ea eb h
-
--- the part of a cut's both sides goes where the cut is a side
-pub goes_there : {A X : Type 0} (F : Type 0) (stands : ℕ → ℕ → ℕ → ℕ → A → Type 0) (part : X → A) (cut : CutPiece) (parent : Option (CutPiece × Bool)) (x : X) → stands cut.job cut.segment cut.from cut.to (part x)
-    → ((p : CutPiece × Bool) → parent ≡ Some p → IsSideOf cut p)
-    → Goes {T = CutPiece} {V = X} {F = F} (λ c side v. Stands stands c.job c.segment (begins c side) (ends_at c side) part v) cut parent (Ok x)
-goes_there F stands part cut None x h side = h
-goes_there F stands part cut (Some p) x h side =
-    let s = side p refl in stands_as {F = F} stands part (Ok x) (sym s.0) (sym s.1) (sym s.2) (sym s.3) h
+-- no two proofs of an answer in place of a fault differ, if none of being an answer do
+pub one_instead : {B : Type 0} (faults : ℕ → ℕ → ℕ → ℕ → Fault → Type 0) (size : ℕ → ℕ → ℕ) (answers : ℕ → B → Type 0) → ((job : ℕ) (a : B) → IsProp (answers job a)) → (job : ℕ) (o : Option B) (P : Type 0) → IsProp (P → IsInstead faults size answers job o)
+one_instead {B = B} faults size answers one job o P = Π_prop (λ p. by o)
+  where
+    by : (o : Option B) → IsProp (IsInstead faults size answers job o)
+    by (Some a) = Π_prop (λ segment. Π_prop (λ f. Π_prop (λ h. one job a)))
+    by None = Π_prop (λ segment. Π_prop (λ f. Π_prop (λ h. λ x y. absurd x)))

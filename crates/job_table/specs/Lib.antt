@@ -8,6 +8,8 @@ pub mod Begins
 pub mod Answers
 pub mod PlanSegments
 pub mod PlanLaws
+pub mod Caught
+pub mod CaughtLaws
 pub mod Sources
 pub mod Stops
 pub mod Takings

@@ -1,9 +1,10 @@
 //! Where a piece is cut in two, and how the parts of the two sides are joined.
 ghost use Rattle.std.specs.Prelude.{◌≡◌, ◌≢◌, ◌+◌, ◌-◌, ◌<◌, ◌≤◌, ℕ, Some, None, IfOk};
+ghost use Rattle.trace.specs.declared.item.Fault.{Fault};
 ghost use Rattle.pending_count.specs.Pairs.{side_of};
 ghost use Rattle.pending_count.specs.declared.place.Side.TheVariants.{Whole};
-ghost use Rattle.job_table.specs.Cuts.{begins, ends_at, IsPiece, IsSideOf, Stands};
-ghost use Rattle.job_table.specs.CutLaws.{stands_moved, stands_whole};
+ghost use Rattle.job_table.specs.Cuts.{begins, ends_at, Fits, IsInstead, IsPiece, IsSideOf, StandsWhole};
+ghost use Rattle.job_table.specs.CutLaws.{one_instead, stands_moved, stands_whole};
 
 use crate::segments::JobSegments;
 use completer_tree::{Completer, Continuation, Failure, Handed, PartValue, TreeCounts, TreeSeat};
@@ -58,31 +59,56 @@ pub(crate) fn range_of(place: &Place<CutPiece>) -> (u64, u64)
     }
 }
 
+/// What comes of pieces that were merged.
+#[derive(Drop)]
+pub enum Merged<P, I> {
+    /// Their part.
+    Part(P),
+    /// At the top of a tree whose pieces have a fault: what the job gives in its place.
+    Caught(I),
+}
+
 /// A part as completion trees see it.
 #[derive(Drop)]
 pub struct SegmentPart<S: JobSegments> {
-    pub(crate) part: S::Part,
+    pub(crate) found: Merged<S::Part, S::Instead>,
     pub(crate) of: PhantomData<S>,
+}
+
+impl<S: JobSegments> SegmentPart<S> {
+    /// A part that is handed in.
+    pub(crate) fn of_part(part: S::Part) -> SegmentPart<S>
+        ensures { result.found ≡ Merged.Part part }
+    {
+        SegmentPart {
+            found: Merged::Part(part),
+            of: PhantomData,
+        }
+    }
 }
 
 impl<S: JobSegments> PartValue for SegmentPart<S> {
     type Tag = CutPiece;
 
-    ghost fits = { λ cut side v. Stands S.stands_for cut.job cut.segment (begins cut side) (ends_at cut side) (λ x. x.part) v };
+    ghost fits = { λ cut side v. Fits S.stands_for S.faults_with S.is_instead (λ x. x.found) cut side v };
 
-    ghost result = { λ cut v. Stands S.stands_for cut.job cut.segment 0 (S.size_of cut.job cut.segment) (λ x. x.part) v };
+    ghost result = { λ cut v. StandsWhole S.stands_for S.is_instead S.size_of cut.job cut.segment (λ x. x.found) v };
 }
 
-/// Merges the parts of the two sides of a cut.
+/// Merges the parts of the two sides of a cut. A fault on a side goes on to the parent; at the top what the job gives in its place is
+/// the tree's result.
 #[derive(Drop)]
 pub struct Join<S: JobSegments> {
     pub(crate) cut: CutPiece,
     pub(crate) parent: Option<(CutPiece, bool)>,
+    /// At the top of a tree, what the job gives in place of a fault, if anything.
+    pub(crate) instead: Option<S::Instead>,
     pub(crate) of: PhantomData<S>,
     ghost piece: { IsPiece S.job_count S.last_of S.size_of cut.job cut.segment cut.from cut.to },
     ghost within: { (cut.from < cut.middle) × (cut.middle < cut.to) },
     ghost side: { (p : _) → parent ≡ Some p → IsSideOf cut p },
     ghost top: { parent ≡ None → (cut.from ≡ 0) × (cut.to ≡ S.size_of cut.job cut.segment) },
+    ghost caught: { parent ≡ None → IsInstead S.faults_with S.size_of S.is_instead cut.job instead } by { one_instead S.faults_with S.size_of S.is_instead S.one_instead cut.job instead (parent ≡ None) },
 }
 
 impl<S: JobSegments> Continuation<SegmentPart<S>> for Join<S> {
@@ -90,9 +116,9 @@ impl<S: JobSegments> Continuation<SegmentPart<S>> for Join<S> {
 
     ghost goes_to = { λ c. c.parent };
 
-    ghost leads = { λ c p e v h. stands_moved S.stands_for S.size_of (λ x. x.part) v (c.side p e).0 (c.side p e).1 h };
+    ghost leads = { λ c p e v h. stands_moved S.stands_for S.is_instead S.size_of (λ x. x.found) v (c.side p e).0 (c.side p e).1 h };
 
-    ghost ends = { λ c e v h. stands_whole S.stands_for (λ x. x.part) v c.cut.job c.cut.segment (c.top e).0 (c.top e).1 h };
+    ghost ends = { λ c e v h. stands_whole S.stands_for S.is_instead S.size_of (λ x. x.found) v c.cut.job c.cut.segment (c.top e).0 (c.top e).1 h };
 
     fn tag(&self) -> CutPiece {
         self.cut
@@ -102,18 +128,44 @@ impl<S: JobSegments> Continuation<SegmentPart<S>> for Join<S> {
         self.parent
     }
 
-    #[tactic(auto, using(crate::specs::CutLaws::goes_there))]
     fn on_completion(self, left: SegmentPart<S>, right: SegmentPart<S>) -> Handed<SegmentPart<S>> {
-        let SegmentPart { part: left, of } = left;
-        let SegmentPart { part: right, of: _ } = right;
+        let SegmentPart { found: left, of: _ } = left;
+        let SegmentPart {
+            found: right,
+            of: _,
+        } = right;
+        let Merged::Part(left) = left else {
+            unreachable!()
+        };
+        let Merged::Part(right) = right else {
+            unreachable!()
+        };
         match S::merge(self.cut, left, right) {
-            Ok(part) => Ok(SegmentPart { part, of }),
+            Ok(part) => Ok(SegmentPart::of_part(part)),
             Err(_refused) => Err(Failure::NoMemory),
         }
     }
 
     fn on_exceptional_completion(self, failure: Failure) -> Handed<SegmentPart<S>> {
-        Err(failure)
+        let Failure::Fault(_) = failure else {
+            return Err(failure);
+        };
+        let Join {
+            cut: _,
+            parent,
+            instead,
+            of,
+        } = self;
+        if parent.is_some() {
+            return Err(failure);
+        }
+        let Some(instead) = instead else {
+            unreachable!()
+        };
+        Ok(SegmentPart {
+            found: Merged::Caught(instead),
+            of,
+        })
     }
 }
 

@@ -5,7 +5,7 @@ ghost use Rattle.job_table.specs.Tasks.{HasKept};
 ghost use Rattle.job_table.specs.Waits.{nodes_in};
 
 use crate::NoMemory;
-use crate::cut::{SegmentPart, TableKept, TablePart, TableSeat};
+use crate::cut::{Merged, SegmentPart, TableKept, TablePart, TableSeat};
 use crate::earlier::Earlier;
 use crate::places::{
     drop_source, hold_source, keep_answer, keep_given, keep_source, kept_given, source_in,
@@ -92,8 +92,8 @@ impl<'a, S: JobSegments, R: Running> JobWork<'a, S, TablePart<S>, TableKept<S>, 
         watch: &mut Watch<'_, S, R>,
         spare: &mut Option<TableSpare<S, R>>,
     ) -> Result<Option<TableWhole<S, R>>, TableJobSeat<S, R>>
-        requires { StandsWhole S.stands_for S.size_of whole.job.job whole.segment (λ x. x.part) whole.part }
-        ensures { IfOk result (λ later. IfSome later (λ whole. StandsWhole S.stands_for S.size_of whole.job.job whole.segment (λ x. x.part) whole.part)) }
+        requires { StandsWhole S.stands_for S.is_instead S.size_of whole.job.job whole.segment (λ x. x.found) whole.part }
+        ensures { IfOk result (λ later. IfSome later (λ whole. StandsWhole S.stands_for S.is_instead S.size_of whole.job.job whole.segment (λ x. x.found) whole.part)) }
     {
         let Whole {
             job: begun,
@@ -101,8 +101,17 @@ impl<'a, S: JobSegments, R: Running> JobWork<'a, S, TablePart<S>, TableKept<S>, 
             part,
         } = whole;
         let job = begun.job;
-        let Ok(SegmentPart { part, of: _ }) = part else {
+        let Ok(SegmentPart { found, of: _ }) = part else {
             return Err(begun);
+        };
+        let part = match found {
+            Merged::Part(part) => part,
+            Merged::Caught(instead) => {
+                let answer = self.jobs.answer_instead(job, instead);
+                keep_answer(&self.places, gate, job, answer);
+                drop_source(&self.places, job, segment);
+                return Err(begun);
+            }
         };
         let Some(given) = kept_given(&self.places, job) else {
             return Err(begun);
@@ -135,7 +144,7 @@ impl<'a, S: JobSegments, R: Running> JobWork<'a, S, TablePart<S>, TableKept<S>, 
         watch: &mut Watch<'_, S, R>,
         spare: &mut Option<TableSpare<S, R>>,
     ) -> Option<TableJobSeat<S, R>>
-        requires { IfSome first (λ whole. StandsWhole S.stands_for S.size_of whole.job.job whole.segment (λ x. x.part) whole.part) }
+        requires { IfSome first (λ whole. StandsWhole S.stands_for S.is_instead S.size_of whole.job.job whole.segment (λ x. x.found) whole.part) }
     {
         let mut left = first;
         for _ in 0..u64::MAX {

@@ -21,6 +21,7 @@ mod credit;
 mod cut;
 mod earlier;
 mod ending;
+mod in_order;
 mod kept;
 mod nodes;
 mod opening;
@@ -38,7 +39,7 @@ mod watch;
 mod watching;
 mod work;
 
-pub use cut::{CutPiece, Join, SegmentPart, TableCounts, TableKept, TablePart, TableSeat};
+pub use cut::{CutPiece, Join, Merged, SegmentPart, TableCounts, TableKept, TablePart, TableSeat};
 pub use earlier::{Earlier, EarlierAnswers};
 pub use places::{JobPlaces, KeptAnswer, KeptGiven, KeptSource};
 pub use planned::{PlanJobs, Planned, RunFault, run_jobs};

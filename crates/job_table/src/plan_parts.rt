@@ -1,5 +1,5 @@
 //! The segments of one job of a plan: how a piece is walked, and what comes of a whole segment.
-ghost use Rattle.std.specs.Prelude.{◌≡◌, ◌+◌, ◌<◌, ◌≤◌, ℕ, false, true, length, slice_get, IfNone, IfOk, IfSome};
+ghost use Rattle.std.specs.Prelude.{◌≡◌, ◌≢◌, ◌+◌, ◌<◌, ◌≤◌, ℕ, false, true, length, slice_get, None, IfNone, IfOk, IfSome};
 ghost use Rattle.trace.specs.Trace.{nothing};
 ghost use Rattle.early_stop.specs.Decisive.{Decides};
 ghost use Rattle.job_plan.specs.Parts.{StandsFor, end_in, may_search, plan_in, segments_in, walk_in};
@@ -234,4 +234,19 @@ pub(crate) fn job_answer(
         Some(answer) => Ok(Some(plan.without_fault(answer))),
         None => Ok(None),
     }
+}
+
+/// Whether this segment gives the answer of a job that gives an answer in place of a fault.
+pub(crate) fn catches(plan: &JobPlan, segment: usize) -> bool
+    ensures instead { result ≡ true → (plan_in plan.now).fallback ≢ None }
+    ensures last { result ≡ true → segment ≡ slices_first (walked_segments (plan_in plan.now)) }
+    ensures there { result ≡ true → slice_get (walked_segments (plan_in plan.now)) segment ≢ None }
+    ensures all { (plan_in plan.now).fallback ≢ None → segment ≡ slices_first (walked_segments (plan_in plan.now))
+        → slice_get (walked_segments (plan_in plan.now)) segment ≢ None → result ≡ true }
+{
+    let segments = plan.walked_segments();
+    if segment >= segments.len() {
+        return false;
+    }
+    plan.fallback.is_some() && segment == slices_first(segments)
 }

@@ -2,8 +2,10 @@
 ghost use Rattle.std.specs.Prelude.{◌≡◌, ◌<◌, ◌≤◌, ◌+◌, ℕ, false, List, [], length, slice_get, IfOk};
 ghost use Rattle.job_plan.specs.declared.answer.Answer.{Answer as answers};
 ghost use Rattle.job_plan.specs.declared.segment.JobPlan.{JobPlan as job_plan};
-ghost use Rattle.job_plan.specs.Parts.{may_search, plan_in, plans_in};
+ghost use Rattle.job_plan.specs.Parts.{fallback_in, plan_in, plans_in};
 ghost use Rattle.job_plan.specs.PlannedAnswers.{planned_meaning};
+ghost use Rattle.job_table.specs.Caught.{FaultAmong, IsCaught};
+ghost use Rattle.job_table.specs.CaughtLaws.{among_more};
 ghost use Rattle.job_table.specs.Cuts.{IsPiece};
 ghost use Rattle.early_stop.specs.Decisive.{Decides};
 ghost use Rattle.job_table.specs.PlanSegments.{PartStands, answer_of, chain_at, gives_at, plan_at, segment_divides, size_at, slices_first, walk_at};
@@ -17,18 +19,19 @@ use crate::earlier::EarlierAnswers;
 use crate::kept::{SegmentSource, Taken};
 use crate::plan_names::different;
 use crate::plan_parts::{
-    is_divided, job_answer, left_out, next_walk, part_in_order, piece, slices_first, stored_piece,
-    streamed_part, streamed_piece,
+    catches, is_divided, job_answer, left_out, next_walk, piece, slices_first, stored_piece,
+    streamed_piece,
 };
 use crate::run::run_all;
 use crate::segments::{Begun, JobSegments};
 use batch_eval::Registers;
 use early_stop::Stop;
-use job_plan::{Answer, JobPlan, Outcome, Part, Plan, Settings, Source};
+use job_plan::{Answer, Fallback, JobPlan, Outcome, Part, Plan, Settings, Source};
 use std::alloc::Global;
 use std::marker::{Brand, PhantomData};
 use std::sync::Wait;
 use std::thread::Threads;
+use trace::Fault;
 use worker_pool::Gate;
 
 /// The jobs that a run is over, as they are kept. Whoever makes `PlanJobs` picks them: `run_jobs`, or a caller with a pool of its own.
@@ -68,7 +71,7 @@ impl<'a, 'c, P: Planned> PlanJobs<'a, 'c, P> {
     }
 
     /// The same, borrowed for as long as these jobs are.
-    fn own(&self, job: usize) -> &JobPlan<'c>
+    pub(crate) fn own(&self, job: usize) -> &JobPlan<'c>
         requires { job < length P.jobs }
         ensures { plan_in result.now ≡ plan_at (plans_in P.jobs) job }
     {
@@ -85,51 +88,6 @@ impl<'a, 'c, P: Planned> PlanJobs<'a, 'c, P> {
         }
         Ok(answer)
     }
-
-    /// The part of the last segment of a job, whose source is walked in order.
-    fn in_order<E: EarlierAnswers<Answer>>(
-        &self,
-        alloc: Global,
-        job: usize,
-        source: &SegmentSource<'a>,
-        given: &Taken,
-        earlier: &E,
-        registers: &mut Registers,
-    ) -> Result<Part<'a>, NoMemory>
-        requires job { job < length P.jobs }
-        requires source { IsKept (chain_at (plans_in P.jobs) job) (slices_first (chain_at (plans_in P.jobs) job).segments) source.now }
-        requires given { IsTaken (plans_in P.jobs) job given.now }
-        requires earlier { (j : ℕ) (a : answers) → E.is_answer j a → a ≡ answer_of (plans_in P.jobs) j }
-        ensures stands { IfOk result (λ part. PartStands (chain_at (plans_in P.jobs) job) (slices_first (chain_at (plans_in P.jobs) job).segments) 0
-            (size_at (chain_at (plans_in P.jobs) job) (slices_first (chain_at (plans_in P.jobs) job).segments)) part) }
-        ensures kind { IfOk result (λ part. may_search part ≡ false) }
-    {
-        let plan = self.job(job);
-        let env = &given.numbers;
-        match source {
-            SegmentSource::Own if plan.takes_arrays() => {
-                let own = self.own(job);
-                let sources = self.put_sources(alloc, job, own, earlier)?;
-                let source = Source::of_sources(&sources, own);
-                if plan.streams() {
-                    return streamed_part(alloc, plan, &source, env, registers);
-                }
-                part_in_order(alloc, plan, 0, &source, env, registers)
-            }
-            SegmentSource::Own => {
-                let source = Source::of_selected(plan);
-                if plan.streams() {
-                    return streamed_part(alloc, plan, &source, env, registers);
-                }
-                part_in_order(alloc, plan, 0, &source, env, registers)
-            }
-            SegmentSource::Kept(walk) => {
-                let last = slices_first(plan.walked_segments());
-                let source = Source::of_given(walk);
-                part_in_order(alloc, plan, last, &source, env, registers)
-            }
-        }
-    }
 }
 
 impl<'a, 'c, P: Planned> JobSegments for PlanJobs<'a, 'c, P> {
@@ -140,6 +98,8 @@ impl<'a, 'c, P: Planned> JobSegments for PlanJobs<'a, 'c, P> {
     type Answer = Answer;
 
     type Given = Taken;
+
+    type Instead = Fallback;
 
     type Scratch = Registers;
 
@@ -157,15 +117,25 @@ impl<'a, 'c, P: Planned> JobSegments for PlanJobs<'a, 'c, P> {
 
     ghost stands_for = { λ job segment from to part. PartStands (chain_at (plans_in P.jobs) job) segment from to part };
 
+    ghost faults_with = { λ job segment from to fault. FaultAmong (plans_in P.jobs) job segment from to fault };
+
+    ghost faults_among = { λ job segment from to fault a b low high among. among_more (plans_in P.jobs) job segment from to fault a b low high among };
+
+    ghost is_caught = { λ job segment part fault. IsCaught (plans_in P.jobs) job segment part fault };
+
     ghost is_source = { λ job segment source. IsKept (chain_at (plans_in P.jobs) job) segment source };
 
     ghost is_answer = { λ job answer. answer ≡ answer_of (plans_in P.jobs) job };
+
+    ghost is_instead = { λ job instead. fallback_in instead ≡ answer_of (plans_in P.jobs) job };
 
     ghost is_given = { λ job given. IsTaken (plans_in P.jobs) job given };
 
     ghost one_source = { λ job segment source. one_kept (chain_at (plans_in P.jobs) job) segment source };
 
     ghost one_answer = { λ job answer. one_answer answer (answer_of (plans_in P.jobs) job) };
+
+    ghost one_instead = { λ job instead. one_answer (fallback_in instead) (answer_of (plans_in P.jobs) job) };
 
     ghost one_given = { λ job given. one_taken (plans_in P.jobs) job given };
 
@@ -249,6 +219,41 @@ impl<'a, 'c, P: Planned> JobSegments for PlanJobs<'a, 'c, P> {
         part: &Part<'a>,
     ) -> bool {
         part.settles()
+    }
+
+    fn is_settled_by(
+        &self,
+        _job: usize,
+        _segment: usize,
+        _from: u64,
+        _to: u64,
+        _fault: Fault,
+    ) -> bool {
+        true
+    }
+
+    fn fault(
+        &self,
+        job: usize,
+        segment: usize,
+        _from: u64,
+        _to: u64,
+        _given: &Taken,
+        part: &Part<'a>,
+    ) -> Option<Fault> {
+        if catches(self.job(job), segment) {
+            part.fold_fault()
+        } else {
+            None
+        }
+    }
+
+    fn instead(&self, job: usize) -> Option<Fallback> {
+        self.job(job).fallback
+    }
+
+    fn answer_instead(&self, _job: usize, instead: Fallback) -> Answer {
+        instead.answer()
     }
 
     fn leaf<E: EarlierAnswers<Answer>, W: Stop>(

@@ -10,7 +10,7 @@ use crate::alone::answer_alone;
 use crate::earlier::Earlier;
 use crate::places::{JobPlaces, answer_in, empty_places};
 use crate::segments::JobSegments;
-use crate::task::Running;
+use crate::task::{Running, TableIdle, TableTask};
 use crate::work::{JobWork, TableOpened, TableWork};
 use job_plan::Settings;
 use std::alloc::Global;
@@ -60,6 +60,39 @@ fn read_answers<S: JobSegments, G: Gate>(
     Ok(answers)
 }
 
+/// Has workers run the tasks, if there are workers.
+fn run_tasks<
+    S: JobSegments + Send + Sync,
+    R: Running + Send + Sync,
+    H: Threads + Wait + Sync,
+    G: Gate + Sync,
+>(
+    rt: &H,
+    alloc: Global,
+    gate: &G,
+    work: &TableWork<'_, S, R>,
+    tasks: Vec<TableTask<S, R>>,
+    idles: Vec<TableIdle<S, R>>,
+)
+where
+    S::Part: Send,
+    S::Source: Send + Sync,
+    S::Answer: Send + Sync,
+    S::Given: Send + Sync,
+    S::Instead: Send,
+    S::Scratch: Send,
+{
+    if !idles.is_empty() {
+        run_pool(rt, alloc, gate, work, tasks, idles);
+    }
+}
+
+/// The places of jobs that were run.
+fn places_of<S: JobSegments, R: Running>(work: TableWork<'_, S, R>) -> Vec<JobPlaces<S>> {
+    let JobWork { places, .. } = work;
+    places
+}
+
 /// Runs the jobs over one table of counts, and gives back their places.
 fn run_on<
     S: JobSegments + Send + Sync,
@@ -79,6 +112,7 @@ where
     S::Source: Send + Sync,
     S::Answer: Send + Sync,
     S::Given: Send + Sync,
+    S::Instead: Send,
     S::Scratch: Send,
     requires count { length opened.starts.items ≡ S.job_count }
     requires started { (j : ℕ) → (R.start j ≡ node_at opened.starts.items (R.jobs - 1 - j)) × (R.keeps j ≡ kept_at opened.starts.items (R.jobs - 1 - j)) }
@@ -87,11 +121,8 @@ where
     requires planned { (R.jobs ≡ S.job_count) × ((j : ℕ) → R.last j ≡ S.last_of j) × ((j k : ℕ) → R.size j k ≡ S.size_of j k) }
 {
     let (work, tasks, idles) = TableWork::<S, R>::new(alloc, jobs, settings, opened)?;
-    if !idles.is_empty() {
-        run_pool(rt, alloc, gate, &work, tasks, idles);
-    }
-    let JobWork { places, .. } = work;
-    Ok(places)
+    run_tasks(rt, alloc, gate, &work, tasks, idles);
+    Ok(places_of(work))
 }
 
 /// The answers of all jobs, in their order, worked out by as many workers as the settings say.
@@ -110,6 +141,7 @@ where
     S::Source: Send + Sync,
     S::Answer: Send + Sync,
     S::Given: Send + Sync,
+    S::Instead: Send,
     S::Scratch: Send,
     ensures count { IfOk result (λ answers. length answers.items ≡ S.job_count) }
     ensures each { IfOk result (λ answers. AreAnswers S.is_answer 0 answers.items) }

@@ -1,15 +1,17 @@
 //! What a run is over.
-ghost use Rattle.std.specs.Prelude.{◌≡◌, ◌+◌, ◌<◌, ◌≤◌, ℕ, true, IfOk};
+ghost use Rattle.std.specs.Prelude.{◌≡◌, ◌+◌, ◌<◌, ◌≤◌, ℕ, true, Some, IfOk, IfSome};
+ghost use Rattle.trace.specs.declared.item.Fault.{Fault};
 ghost use Rattle.trace.specs.Trace.{Trace};
 ghost use Rattle.early_stop.specs.Decisive.{Decides};
 ghost use Rattle.job_table.specs.Begins.{IsBegun};
-ghost use Rattle.job_table.specs.Cuts.{IsPiece};
+ghost use Rattle.job_table.specs.Cuts.{IsInstead, IsPiece};
 
 use crate::NoMemory;
 use crate::cut::CutPiece;
 use crate::earlier::EarlierAnswers;
 use early_stop::Stop;
 use std::alloc::Global;
+use trace::Fault;
 
 /// What is known of a job before it is walked.
 #[derive(Drop)]
@@ -39,6 +41,9 @@ pub trait JobSegments {
     /// What a worker keeps from one leaf to the next, such as room to compute in. No part depends on what it holds.
     type Scratch: Drop;
 
+    /// What a job gives in place of a fault, as it is kept while the job is walked. An answer is made of it.
+    type Instead: Copy;
+
     /// What a segment gives, to contracts. No value of it is made.
     type Outcome;
 
@@ -61,11 +66,21 @@ pub trait JobSegments {
     // place that decides what the segment gives may be left out.
     ghost stands_for: { ℕ → ℕ → ℕ → ℕ → Self.Part → Type 0 };
 
+    // A piece of a job's last segment among the positions from the first up to, not with, the second ends in this fault, and the job
+    // gives an answer in place of a fault.
+    ghost faults_with: { ℕ → ℕ → ℕ → ℕ → Fault → Type 0 };
+
+    // A part of a job's segment ends in this fault, and the job gives an answer in its place: the fault is handed in, and not the part.
+    ghost is_caught: { ℕ → ℕ → Self.Part → Fault → Type 0 };
+
     // It is what a job's segment goes over.
     ghost is_source: { ℕ → ℕ → Self.Source → Type 0 };
 
     // It is the answer of a job.
     ghost is_answer: { ℕ → Self.Answer → Type 0 };
+
+    // The answer that is made of it is the answer of a job.
+    ghost is_instead: { ℕ → Self.Instead → Type 0 };
 
     // It is what a job takes of the answers that it names, and the job is to be walked.
     ghost is_given: { ℕ → Self.Given → Type 0 };
@@ -75,7 +90,12 @@ pub trait JobSegments {
 
     ghost one_answer: { (job : ℕ) (answer : Self.Answer) → IsProp (is_answer job answer) };
 
+    ghost one_instead: { (job : ℕ) (instead : Self.Instead) → IsProp (is_instead job instead) };
+
     ghost one_given: { (job : ℕ) (given : Self.Given) → IsProp (is_given job given) };
+
+    // A fault among some positions is one among more of them.
+    ghost faults_among: { (job segment from to : ℕ) (fault : Fault) (a b : ℕ) → a ≤ from → to ≤ b → faults_with job segment from to fault → faults_with job segment a b fault };
 
     /// How many jobs there are.
     fn jobs(&self) -> usize
@@ -149,6 +169,40 @@ pub trait JobSegments {
         requires within { (from ≤ to) × (to < size_of job segment) }
         requires part { stands_for job segment from to part.now }
         ensures { result ≡ true → Decides (gives job segment) (goes_over job segment) to };
+
+    /// Whether nothing after positions with this fault matters.
+    fn is_settled_by(&self, job: usize, segment: usize, from: u64, to: u64, fault: Fault) -> bool
+        requires job { job < job_count }
+        requires segment { segment ≤ last_of job }
+        requires within { to < size_of job segment }
+        requires fault { faults_with job segment from to fault }
+        ensures { result ≡ true → Decides (gives job segment) (goes_over job segment) to };
+
+    /// The fault that ends a piece, if the job gives an answer in its place.
+    fn fault(
+        &self,
+        job: usize,
+        segment: usize,
+        from: u64,
+        to: u64,
+        given: &Self::Given,
+        part: &Self::Part,
+    ) -> Option<Fault>
+        requires piece { IsPiece job_count last_of size_of job segment from to }
+        requires given { is_given job given.now }
+        requires part { stands_for job segment from to part.now }
+        ensures among { IfSome result (λ fault. faults_with job segment from to fault) }
+        ensures caught { (fault : Fault) → is_caught job segment part.now fault → result ≡ Some fault };
+
+    /// What a job gives in place of a fault, if anything.
+    fn instead(&self, job: usize) -> Option<Self::Instead>
+        requires job { job < job_count }
+        ensures { IsInstead faults_with size_of is_instead job result };
+
+    /// The answer of a job that gives this in place of a fault.
+    fn answer_instead(&self, job: usize, instead: Self::Instead) -> Self::Answer
+        requires instead { is_instead job instead }
+        ensures { is_answer job result };
 
     /// Walks a piece. It may stop at a place that `stop` names, or after it. `NoMemory` also if an answer that the job names isn't there.
     fn leaf<E: EarlierAnswers<Self::Answer>, W: Stop>(

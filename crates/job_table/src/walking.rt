@@ -1,11 +1,14 @@
 //! Pieces: cut in two while they are long, and walked.
-ghost use Rattle.std.specs.Prelude.{◌≡◌, ◌<◌, ◌≤◌, ℕ, IfSome};
+ghost use Rattle.std.specs.Prelude.{◌≡◌, ◌<◌, ◌≤◌, ℕ, Some, IfOk, IfSome};
+ghost use Rattle.trace.specs.declared.item.Fault.{Fault};
 ghost use Rattle.completer_tree.specs.Trees.{CanHand};
 ghost use Rattle.pending_count.specs.Seats.{view_of};
-ghost use Rattle.job_table.specs.Cuts.{IsPiece, StandsWhole, begins, ends_at};
+ghost use Rattle.job_table.specs.Cuts.{HandedIn, IfMerged, IsPiece, StandsWhole, begins, ends_at};
 ghost use Rattle.job_table.specs.Tasks.{KnowsStarts, KnowsTop};
 
-use crate::cut::{CutPiece, Join, TableKept, TablePart, is_left, range_of};
+use crate::NoMemory;
+use crate::cut::{CutPiece, Join, SegmentPart, TableKept, TablePart, is_left, range_of};
+use crate::places::kept_given;
 use crate::segments::JobSegments;
 use crate::task::{
     JobSeat, Piece, Running, TableJobSeat, TablePiece, TableSpare, TableTask, TableWhole, Task,
@@ -13,9 +16,54 @@ use crate::task::{
 };
 use crate::watch::Watch;
 use crate::work::{JobWork, TableWork, part_of};
-use completer_tree::{Forked, Half, Tree};
+use completer_tree::{Failure, Forked, Half, Tree};
 use std::marker::PhantomData;
+use trace::Fault;
 use worker_pool::{Gate, Spawn};
+
+/// The fault that ends a piece, if the job gives an answer in its place.
+fn fault_of<S: JobSegments, R: Running>(
+    work: &TableWork<S, R>,
+    job: usize,
+    segment: usize,
+    from: u64,
+    to: u64,
+    part: &S::Part,
+) -> Result<Option<Fault>, NoMemory>
+    requires piece { IsPiece S.job_count S.last_of S.size_of job segment from to }
+    requires part { S.stands_for job segment from to part.now }
+    ensures among { IfOk result (λ found. IfSome found (λ fault. S.faults_with job segment from to fault)) }
+    ensures caught { IfOk result (λ found. (fault : Fault) → S.is_caught job segment part.now fault → found ≡ Some fault) }
+{
+    match kept_given(&work.places, job) {
+        Some(given) => Ok(work.jobs.fault(job, segment, from, to, given, part)),
+        None => Err(NoMemory),
+    }
+}
+
+/// What is handed in for a piece: its part, or the fault that ends it, if the job gives an answer in its place.
+fn handed<S: JobSegments, R: Running>(
+    work: &TableWork<S, R>,
+    job: usize,
+    segment: usize,
+    from: u64,
+    to: u64,
+    walked: Result<S::Part, NoMemory>,
+) -> TablePart<S>
+    requires piece { IsPiece S.job_count S.last_of S.size_of job segment from to }
+    requires part { IfOk walked (λ part. S.stands_for job segment from to part) }
+    ensures handed { HandedIn S.stands_for S.faults_with (λ x. x.found) job segment from to result }
+    ensures caught { IfOk result (λ x. IfMerged (λ part. (fault : Fault) → S.is_caught job segment part fault → ⊥) (λ answer. ⊥) x.found) }
+{
+    let Ok(part) = walked else {
+        return Err(Failure::NoMemory);
+    };
+    match fault_of(work, job, segment, from, to, &part) {
+        Ok(Some(fault)) => Err(Failure::Fault(fault)),
+        Ok(None) => Ok(SegmentPart::of_part(part)),
+        Err(_refused) => Err(Failure::NoMemory),
+    }
+}
 
 /// Walks one side of a cut as one piece, and hands its part in.
 #[tactic(auto, using(crate::proofs::Plans::as_planned))]
@@ -30,12 +78,13 @@ fn leaf<S: JobSegments, R: Running, G: Gate>(
     requires top { KnowsTop (R.keeps half.place.tag.job) half.place.root (view_of half.seat) }
     requires knows { KnowsStarts R.jobs R.start R.keeps (view_of half.seat) }
     requires piece { IsPiece R.jobs R.last R.size half.place.tag.job half.place.tag.segment (begins half.place.tag half.place.side) (ends_at half.place.tag half.place.side) }
-    ensures { IfSome result (λ whole. StandsWhole S.stands_for S.size_of whole.job.job whole.segment (λ x. x.part) whole.part) }
+    ensures { IfSome result (λ whole. StandsWhole S.stands_for S.is_instead S.size_of whole.job.job whole.segment (λ x. x.found) whole.part) }
 {
     let Half { seat, place } = half;
     let cut = place.tag;
     let (from, to) = range_of(&place);
-    let value = part_of(work, gate, cut.job, cut.segment, from, to, scratch, watch);
+    let walked = part_of(work, gate, cut.job, cut.segment, from, to, scratch, watch);
+    let value = handed(work, cut.job, cut.segment, from, to, walked);
     let tree = Tree::new(&work.counts, &[]);
     watch.aim(cut.job, cut.segment);
     let (seat, found) = tree.try_complete_with(seat, Some(place), value, watch);
@@ -78,7 +127,7 @@ impl<'a, S: JobSegments, R: Running> JobWork<'a, S, TablePart<S>, TableKept<S>, 
         scratch: &mut S::Scratch,
         watch: &mut Watch<'_, S, R>,
     ) -> Option<TableWhole<S, R>>
-        ensures { IfSome result (λ whole. StandsWhole S.stands_for S.size_of whole.job.job whole.segment (λ x. x.part) whole.part) }
+        ensures { IfSome result (λ whole. StandsWhole S.stands_for S.is_instead S.size_of whole.job.job whole.segment (λ x. x.found) whole.part) }
     {
         let Piece { half, of: _ } = piece;
         let (from, to) = range_of(&half.place);
@@ -91,6 +140,7 @@ impl<'a, S: JobSegments, R: Running> JobWork<'a, S, TablePart<S>, TableKept<S>, 
         let run = Join {
             cut: CutPiece::halves(place.tag.job, place.tag.segment, from, to),
             parent: Some((place.tag, is_left(&place))),
+            instead: None,
             of: PhantomData,
         };
         let tree = Tree::new(&self.counts, &[]);
@@ -130,9 +180,13 @@ fn walk_whole<S: JobSegments, R: Running, G: Gate>(
 ) -> TableWhole<S, R>
     requires known { segment ≤ R.last job.job }
     requires size { size ≡ R.size job.job segment }
-    ensures { StandsWhole S.stands_for S.size_of result.job.job result.segment (λ x. x.part) result.part }
+    ensures { StandsWhole S.stands_for S.is_instead S.size_of result.job.job result.segment (λ x. x.found) result.part }
 {
-    let part = part_of(work, gate, job.job, segment, 0, size, scratch, watch);
+    let walked = part_of(work, gate, job.job, segment, 0, size, scratch, watch);
+    let part = match walked {
+        Ok(part) => Ok(SegmentPart::of_part(part)),
+        Err(_refused) => Err(Failure::NoMemory),
+    };
     Whole { job, segment, part }
 }
 
@@ -152,7 +206,7 @@ impl<'a, S: JobSegments, R: Running> JobWork<'a, S, TablePart<S>, TableKept<S>, 
     ) -> Option<TableWhole<S, R>>
         requires known { segment ≤ R.last begun.job }
         requires size { size ≡ R.size begun.job segment }
-        ensures { IfSome result (λ whole. StandsWhole S.stands_for S.size_of whole.job.job whole.segment (λ x. x.part) whole.part) }
+        ensures { IfSome result (λ whole. StandsWhole S.stands_for S.is_instead S.size_of whole.job.job whole.segment (λ x. x.found) whole.part) }
     {
         let job = begun.job;
         if size <= self.threshold || !self.jobs.is_divided(job, segment) {
@@ -162,6 +216,7 @@ impl<'a, S: JobSegments, R: Running> JobWork<'a, S, TablePart<S>, TableKept<S>, 
         let run = Join {
             cut: CutPiece::halves(job, segment, 0, size),
             parent: None,
+            instead: self.jobs.instead(job),
             of: PhantomData,
         };
         let tree = Tree::new(&self.counts, &self.start(job).onward);

@@ -1,17 +1,18 @@
 //! A worker looks at the word of a segment before it walks, and lowers it to what decides.
 ghost use Rattle.std.specs.Prelude.{◌≡◌, ◌<◌, ◌≤◌, IfOk, IfSome};
 ghost use Rattle.early_stop.specs.Decisive.{no_place, Decides, IsDecisive};
-ghost use Rattle.job_table.specs.Cuts.{Stands, begins, ends_at};
+ghost use Rattle.job_table.specs.Cuts.{begins, ends_at};
 
-use crate::cut::{CutPiece, SegmentPart, TablePart, range_of};
+use crate::cut::{CutPiece, Merged, SegmentPart, TablePart, range_of};
 use crate::places::{hold_source, kept_given, source_in, word_of};
 use crate::segments::JobSegments;
 use crate::task::Running;
 use crate::watch::Watch;
-use completer_tree::Looker;
+use completer_tree::{Failure, Looker};
 use early_stop::Stop;
 use pending_count::{Place, Side};
 use std::thread::yield_now;
+use trace::Fault;
 
 impl<S: JobSegments, R: Running> Watch<'_, S, R> {
     /// From here on the segment is asked about.
@@ -70,6 +71,22 @@ impl<S: JobSegments, R: Running> Watch<'_, S, R> {
             self.lower(to);
         }
     }
+
+    /// Lowers the word of the segment to the end of positions among which a piece has this fault, if it isn't the end of the source.
+    fn lower_after_fault(&mut self, from: u64, to: u64, fault: Fault)
+        requires fault { S.faults_with self.old.job self.old.segment from to fault }
+    {
+        let Some(size) = self.size() else {
+            return;
+        };
+        if to < size
+            && self
+                .jobs
+                .is_settled_by(self.job, self.segment, from, to, fault)
+        {
+            self.lower(to);
+        }
+    }
 }
 
 impl<S: JobSegments, R: Running> Stop for Watch<'_, S, R> {
@@ -84,13 +101,21 @@ impl<S: JobSegments, R: Running> Stop for Watch<'_, S, R> {
 
 impl<S: JobSegments, R: Running> Looker<SegmentPart<S>> for Watch<'_, S, R> {
     fn look(&mut self, at: &Place<CutPiece>, value: &TablePart<S>) {
-        let Ok(part) = value else {
-            return;
-        };
         if at.side == Side::Whole || at.tag.job != self.job || at.tag.segment != self.segment {
             return;
         }
         let (from, to) = range_of(at);
-        self.lower_after(from, to, &part.part);
+        match value {
+            Ok(handed) => {
+                if let Merged::Part(part) = &handed.found {
+                    self.lower_after(from, to, part);
+                }
+            }
+            Err(failure) => {
+                if let Failure::Fault(fault) = failure {
+                    self.lower_after_fault(from, to, *fault);
+                }
+            }
+        }
     }
 }

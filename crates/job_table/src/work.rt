@@ -6,13 +6,13 @@ ghost use Rattle.completer_tree.specs.Trees.{table_id_of};
 ghost use Rattle.early_stop.specs.Decisive.{Decides};
 ghost use Rattle.early_stop.specs.Seats.{IsSeatOf as IsStopSeatOf, table_of as stop_table_of, segments_of, count_of};
 ghost use Rattle.job_table.specs.Stops.{stop_id_of};
-ghost use Rattle.job_table.specs.Cuts.{IsPiece, Stands};
+ghost use Rattle.job_table.specs.Cuts.{IsPiece};
 ghost use Rattle.job_table.specs.Starts.{HasStarts, kept_at, node_at};
 ghost use Rattle.job_table.specs.Waits.{nodes_in};
 
 use crate::NoMemory;
 use crate::arming::arm_all;
-use crate::cut::{CutPiece, SegmentPart, TableCounts, TableKept, TablePart};
+use crate::cut::{CutPiece, TableCounts, TableKept, TablePart};
 use crate::earlier::Earlier;
 use crate::nodes::{most_positions, node_count, segment_count};
 use crate::places::{JobPlaces, empty_places, hold_source, kept_answer, kept_given, source_in};
@@ -21,7 +21,6 @@ use crate::start::{Start, Waiting};
 use crate::stopping::{RunSegments, RunStops};
 use crate::task::{Idle, Running, TableIdle, TablePurse, TableSpare, TableTask, Task};
 use crate::watch::Watch;
-use completer_tree::Failure;
 use completion_core::END;
 use early_stop::CutSeat;
 use job_plan::Settings;
@@ -168,19 +167,17 @@ fn left_out<S: JobSegments, R: Running>(
     segment: usize,
     from: u64,
     to: u64,
-) -> TablePart<S>
+) -> Result<S::Part, NoMemory>
     requires piece { IsPiece S.job_count S.last_of S.size_of job segment from to }
     requires decided { (c : ℕ) × (c ≤ from) × Decides (S.gives job segment) (S.goes_over job segment) c }
-    ensures { Stands S.stands_for job segment from to (λ x. x.part) result }
+    ensures { IfOk result (λ part. S.stands_for job segment from to part) }
 {
     match kept_given(&work.places, job) {
-        Some(given) => Ok(SegmentPart {
-            part: work
-                .jobs
+        Some(given) => Ok(
+            work.jobs
                 .left_out(work.alloc, job, segment, from, to, given),
-            of: PhantomData,
-        }),
-        None => Err(Failure::NoMemory),
+        ),
+        None => Err(NoMemory),
     }
 }
 
@@ -196,9 +193,9 @@ pub(crate) fn part_of<S: JobSegments, R: Running, G: Gate>(
     to: u64,
     scratch: &mut S::Scratch,
     watch: &mut Watch<'_, S, R>,
-) -> TablePart<S>
+) -> Result<S::Part, NoMemory>
     requires piece { IsPiece S.job_count S.last_of S.size_of job segment from to }
-    ensures { Stands S.stands_for job segment from to (λ x. x.part) result }
+    ensures { IfOk result (λ part. S.stands_for job segment from to part) }
 {
     watch.aim(job, segment);
     let seen = watch.seen();
@@ -206,13 +203,7 @@ pub(crate) fn part_of<S: JobSegments, R: Running, G: Gate>(
         return left_out(work, job, segment, from, to);
     }
     gate.at_leaf(job, from, to);
-    match walked(work, job, segment, from, to, scratch, watch) {
-        Ok(part) => Ok(SegmentPart {
-            part,
-            of: PhantomData,
-        }),
-        Err(_refused) => Err(Failure::NoMemory),
-    }
+    walked(work, job, segment, from, to, scratch, watch)
 }
 
 impl<'a, S: JobSegments, R: Running> JobWork<'a, S, TablePart<S>, TableKept<S>, R> {
@@ -329,6 +320,7 @@ where
     S::Source: Send + Sync,
     S::Answer: Send + Sync,
     S::Given: Send + Sync,
+    S::Instead: Send,
     S::Scratch: Send,
 {
     type Task = TableTask<S, R>;

@@ -7,7 +7,7 @@
 //! of arrivals; pairs, of `arm_pair`, have two, which bring values. `completer_tree` runs continuations on both: it
 //! cites `Counts::arrive`, clause `arrived`, and `Counts::arrive_with`, clause `closed`.
 //! Begin with `specs/Shows.antt`, then `specs/Steps.antt` and `src/steps.rt`; docs/completers.md has the words,
-//! the tokens and a worked trace. Tests and proved callers are in the crate `completer_tests`.
+//! the tokens and a worked trace. Tests and proved callers are in the crate `test_completers`.
 //! Not promised: that a last arrival ever comes, since a seat may be dropped, nor which of two threads comes first.
 //! Java SE 17: the pending count of `CountedCompleter`, which is here the number of arrivals owed, less one.
 #![tactic(auto)]

@@ -12,7 +12,7 @@ ghost use Rattle.pending_count.specs.declared.place.Side.TheVariants.{Whole};
 
 use crate::counts::Counts;
 use crate::place::{Fits, Place, Side, Slot};
-use crate::rule::{ArmPair, Arming, Hand, Handing, Part, Parting, TakeKept, TakeSide};
+use crate::rule::{ArmPair, Arming, Hand, Handing, Parting, SplitArrivals, TakeKept, TakeSide};
 use crate::seat::{ArrivedPair, FinishPair, Seat, Token};
 use completion_core::Node;
 use std::marker::Brand;
@@ -117,7 +117,7 @@ impl<V, K: Fits<V>> Counts<V, K> {
             mut token,
             credit: all,
         } = seat;
-        let part = self.table.shared.split_seat::<Part<A>>(&mut token);
+        let part = self.table.shared.split_seat::<SplitArrivals<A>>(&mut token);
         let rest = Seat {
             token,
             credit: all - credit,

@@ -127,11 +127,11 @@ impl Parting for Brand {
     ghost sides = { [] };
 }
 
-pub struct Part<A> {
+pub struct SplitArrivals<A> {
     of: PhantomData<A>,
 }
 
-impl<T, A: Parting> Split<View<T>> for Part<A> {
+impl<T, A: Parting> Split<View<T>> for SplitArrivals<A> {
     ghost left = { rest_view A.node A.arrivals A.credit A.sides };
 
     ghost right = { part_view A.node A.arrivals A.credit A.sides };

@@ -8,7 +8,7 @@ ghost use Rattle.pending_count.specs.Seats.{Content, view_of, actor_of, table_of
 use crate::counts::Counts;
 use crate::place::Fits;
 use crate::rule::{
-    Acting, Add, All, Arm, Arming, Arrive, Both, Claim, Look, Part, Parting, Settle,
+    Acting, Add, All, Arm, Arming, Arrive, Both, Claim, Look, Parting, Settle, SplitArrivals,
 };
 use crate::seat::{Arrived, Finish, Seat};
 use crate::view::Sizes;
@@ -276,7 +276,7 @@ impl<V, K: Fits<V>> Counts<V, K> {
             mut token,
             credit: all,
         } = seat;
-        let part = self.table.shared.split_seat::<Part<A>>(&mut token);
+        let part = self.table.shared.split_seat::<SplitArrivals<A>>(&mut token);
         let rest = Seat {
             token,
             credit: all - credit,

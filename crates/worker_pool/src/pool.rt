@@ -2,9 +2,9 @@
 ghost use Rattle.std.specs.Prelude.{◌≡◌, ◌<◌, vec_len, slice_get, IfSome};
 
 use crate::gate::Gate;
-use crate::queues::{Finder, Queues, queues_of};
+use crate::queues::{Queues, TaskFinder, queues_of};
 use crate::work::Work;
-use crate::worker::{begin, work_on};
+use crate::worker::{Worker, begin, work_on};
 use deques::Inbox;
 use std::alloc::Global;
 use std::sync::Wait;
@@ -13,15 +13,26 @@ use std::thread;
 use std::thread::Threads;
 use std::vec::IntoIter;
 
+/// Where the workers find tasks: the caller, and the others in turn.
+#[derive(Drop)]
+struct Finders<F> {
+    mine: F,
+    others: IntoIter<F>,
+}
+
 // Worker 0 is the caller. Each other worker has a thread, if one can be made.
-fn run_workers<R: Threads + Wait + Sync, W: Work, G: Gate + Sync, F: Finder<W::Task> + Send + Drop>(
+fn run_workers<
+    R: Threads + Wait + Sync,
+    W: Work,
+    G: Gate + Sync,
+    F: TaskFinder<W::Task> + Send + Drop,
+>(
     rt: &R,
     gate: &G,
     work: &W,
     first: Vec<W::Task>,
     idle: Vec<W::Idle>,
-    mine: F,
-    others: IntoIter<F>,
+    finders: Finders<F>,
 ) -> W::Idle
 where
     W::Task: Drop,
@@ -38,18 +49,27 @@ where
             requires { 0 < vec_len idle }
             ensures { W.is_over work.entry.now result × IfSome (slice_get idle.items 0) (λ i. W.owner_of result ≡ W.owner_of i) }
         {
-            let mut mine = mine;
+            let Finders { mut mine, others } = finders;
             let mut idle = idle.into_iter();
             let Some(my_idle) = idle.next() else {
                 unreachable!()
             };
-            for (worker, (idle, finder)) in (1..).zip(idle.zip(others)) {
+            for (number, (idle, finder)) in (1..).zip(idle.zip(others)) {
+                let worker = Worker {
+                    number,
+                    idle,
+                    finder,
+                };
                 let _ = scope.spawn(move || {
-                    work_on(rt, gate, work, ended, worker, idle, finder);
+                    work_on(rt, gate, work, ended, worker);
                 });
             }
-            let my_idle = begin(rt, gate, work, my_idle, first, &mut mine);
-            work_on(rt, gate, work, ended, 0, my_idle, mine)
+            let me = Worker {
+                number: 0,
+                idle: begin(rt, gate, work, my_idle, first, &mut mine),
+                finder: mine,
+            };
+            work_on(rt, gate, work, ended, me)
         },
     )
 }
@@ -73,5 +93,6 @@ where
     let inbox = Inbox::new(alloc).ok().map(|made| made.0);
     let mut all = queues_of(alloc, idle.len(), inbox.as_ref()).into_iter();
     let mine = all.next().unwrap_or(Queues::none(alloc));
-    run_workers(rt, gate, work, first, idle, mine, all)
+    let finders = Finders { mine, others: all };
+    run_workers(rt, gate, work, first, idle, finders)
 }

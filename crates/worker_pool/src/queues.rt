@@ -10,7 +10,7 @@ use std::sync::Wait;
 
 /// Where a worker finds tasks. Threads are started for a type parameter with this bound, since a closure that is sent to
 /// a thread can't capture a deque whose task type is an associated type.
-pub trait Finder<T>: Spawn<T> {
+pub trait TaskFinder<T>: Spawn<T> {
     fn find<R: Wait>(&mut self, rt: &R) -> Option<T>;
 
     /// Puts a task where every worker finds it.
@@ -77,7 +77,7 @@ impl<'a, T: Drop> Spawn<T> for Queues<'a, T> {
     }
 }
 
-impl<'a, T: Drop> Finder<T> for Queues<'a, T> {
+impl<'a, T: Drop> TaskFinder<T> for Queues<'a, T> {
     // The newest task of its own, then the oldest of another worker, then the oldest of the inbox.
     fn find<R: Wait>(&mut self, rt: &R) -> Option<T>
         ensures none { IfNone result (SameCalls self.old self.new) }

@@ -3,28 +3,39 @@ ghost use Rattle.std.specs.Prelude.{◌≡◌};
 
 use crate::gate::Gate;
 use crate::pause::Pause;
-use crate::queues::Finder;
+use crate::queues::TaskFinder;
 use crate::work::Work;
 use std::sync::Wait;
 use std::sync::atomic::AtomicU64;
 
+/// A worker: its number, what it keeps between tasks, and where it finds them.
+#[derive(Drop)]
+pub struct Worker<I, F> {
+    pub number: usize,
+    pub idle: I,
+    pub finder: F,
+}
+
 /// Runs the tasks that it finds, until nothing is left. `ended` is 0 until a worker of the pool ends.
-pub fn work_on<R: Wait, W: Work, G: Gate, F: Finder<W::Task> + Drop>(
+pub fn work_on<R: Wait, W: Work, G: Gate, F: TaskFinder<W::Task> + Drop>(
     rt: &R,
     gate: &G,
     work: &W,
     ended: &AtomicU64,
-    worker: usize,
-    mut idle: W::Idle,
-    mut finder: F,
+    worker: Worker<W::Idle, F>,
 ) -> W::Idle
     ensures over { W.is_over work.now result }
-    ensures same { W.owner_of result ≡ W.owner_of idle }
+    ensures same { W.owner_of result ≡ W.owner_of worker.idle }
 {
+    let Worker {
+        number,
+        mut idle,
+        mut finder,
+    } = worker;
     let mut pause = Pause::new(ended);
     for _ in rt.forever() {
         if let Some(task) = finder.find(rt) {
-            idle = work.run(rt, worker, gate, idle, task, &mut finder);
+            idle = work.run(rt, number, gate, idle, task, &mut finder);
             pause.reset();
         } else {
             let (asked, left) = work.left(rt, idle);
@@ -40,7 +51,7 @@ pub fn work_on<R: Wait, W: Work, G: Gate, F: Finder<W::Task> + Drop>(
 }
 
 /// Puts the tasks into the inbox, and runs those that it doesn't take.
-pub fn begin<R: Wait, W: Work, G: Gate, F: Finder<W::Task>>(
+pub fn begin<R: Wait, W: Work, G: Gate, F: TaskFinder<W::Task>>(
     rt: &R,
     gate: &G,
     work: &W,

@@ -15,20 +15,20 @@ pub returns-clause-fed : goal.returns-clause-fed
 returns-clause-fed g c = λ xs so_far.
     let h = g.S.LongSink.has_taken in
     let items = g.I.SourceItems.items c.args.source.now in
-    let n = c.args.first_stage in
-    let gs = stages_of c.args.stages.now in
-    let env = c.args.env.now in
+    let n = c.args.line.first in
+    let gs = stages_of c.args.line.stages.now in
+    let env = c.args.line.env.now in
     let part = c.fill.new.self.items in
-    let here = subst (λ (e : End). (vs : List Item) → h c.args.sink.now vs → IsFed h vs (pipe n gs env (trace part e)) c.feed_batch.result c.feed_batch.new.sink) c.fill.ensures.ending c.feed_batch.ensures.fed in
-    IsFed_more h n gs env xs (take c.args.position items) part (take (c.args.position + c.args.count) items) c.feed_batch.result c.args.sink.now c.feed_batch.new.sink c.fill.ensures.items so_far here
+    let here = subst (λ (e : End). (vs : List Item) → h c.args.sink.now vs → IsFed h vs (pipe n gs env (trace part e)) c.feed_space.result c.feed_space.new.sink) c.fill.ensures.ending c.feed_space.ensures.fed in
+    IsFed_more h n gs env xs (take c.args.position items) part (take (c.args.position + c.args.count) items) c.feed_space.result c.args.sink.now c.feed_space.new.sink c.fill.ensures.items so_far here
 
 pub returns-in-Some-values_at-clause-fed : goal.returns-in-Some-values_at-clause-fed
 returns-in-Some-values_at-clause-fed g c = λ xs so_far.
     let h = g.S.LongSink.has_taken in
     let items = g.I.SourceItems.items c.args.source.now in
-    let n = c.args.first_stage in
-    let gs = stages_of c.args.stages.now in
-    let env = c.args.env.now in
+    let n = c.args.line.first in
+    let gs = stages_of c.args.line.stages.now in
+    let env = c.args.line.env.now in
     let p = c.args.position in
     let values = c.in-Some-values_at.values.now in
     let first = c.in-Some.first in
@@ -39,9 +39,9 @@ pub returns-in-Some-items_at-clause-fed : goal.returns-in-Some-items_at-clause-f
 returns-in-Some-items_at-clause-fed g c = λ xs so_far.
     let h = g.S.LongSink.has_taken in
     let items = g.I.SourceItems.items c.args.source.now in
-    let gs = stages_of c.args.stages.now in
+    let gs = stages_of c.args.line.stages.now in
     let p = c.args.position in
     let listed = c.in-Some-items_at.listed in
     let lane = item_at None listed.places.now listed.values.now in
     let taken = lanes_taken items p c.args.count lane c.in-Some-items_at.ensures.items ∙ ap (λ (m : ℕ). take p items ++ lanes m lane) (sym c.in-Some-items_at.ensures.count) in
-    IsFed_more h c.args.first_stage gs c.args.env.now xs (take p items) (listed_items listed.places.now listed.values.now) (take (p + c.args.count) items) c.feed_listed.result c.args.sink.now c.feed_listed.new.sink taken so_far c.feed_listed.ensures.fed
+    IsFed_more h c.args.line.first gs c.args.line.env.now xs (take p items) (listed_items listed.places.now listed.values.now) (take (p + c.args.count) items) c.feed_listed.result c.args.sink.now c.feed_listed.new.sink taken so_far c.feed_listed.ensures.fed

@@ -4,8 +4,9 @@ use Rattle.trace.specs.declared.item.End.TheVariants as end
 use Rattle.trace.specs.declared.sink.Flow.TheVariants as flow
 use Rattle.trace.specs.declared.feeding.Fed.TheVariants as fed
 use Rattle.trace.specs.Trace.{trace}
-use Rattle.trace.specs.Stages.{pipe, stages_of}
+use Rattle.trace.specs.Stages.{stages_of}
 use Rattle.trace.specs.Sinks.{IsFed}
+use Rattle.batch_eval.specs.Pipelines.{piped}
 use Rattle.batch_eval.specs.Rooms.{FitsStages}
 use Rattle.batch_eval.proofs.feeding.feed_pieces.Given as goal
 
@@ -15,9 +16,9 @@ invariant-loop-position g l =
       within : l.position ≤ l.count;
       some : 1 ≤ l.size;
       few : l.size ≤ 1024;
-      room : FitsStages (stages_of l.stages) (length l.room);
+      room : FitsStages (stages_of l.line.stages.now) (length l.space.room.items);
       wants : g.S.LongSink.flow l.sink ≡ flow.More;
-      fed : (xs : List Item) → g.S.LongSink.has_taken l.initial.sink xs → IsFed g.S.LongSink.has_taken xs (pipe l.first_stage (stages_of l.stages) l.env (trace (take l.position (g.I.SourceItems.items l.source)) end.Done)) (Ok fed.More) l.sink;
+      fed : (xs : List Item) → g.S.LongSink.has_taken l.initial.sink xs → IsFed g.S.LongSink.has_taken xs (piped l.line (trace (take l.position (g.I.SourceItems.items l.source)) end.Done)) (Ok fed.More) l.sink;
     }
 
 abbrev pub decreases-loop-position : goal.decreases-loop-position

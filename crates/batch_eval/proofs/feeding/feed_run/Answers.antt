@@ -1,4 +1,4 @@
-use Rattle.std.proofs.Common.{◌≡◌, ◌+◌, ◌∷◌, length, take, sym, ◌∙◌, add-one, rules, arith}
+use Rattle.std.proofs.Common.{◌≡◌, ◌+◌, length, take, sym, ◌∙◌, add-one, arith}
 use Rattle.std.proofs.lemmas.List.{take_all}
 use Rattle.trace.specs.declared.item.End.TheVariants as end
 use Rattle.trace.specs.Trace.{Trace, trace}
@@ -14,15 +14,15 @@ fill-requires-clause-bound g c = omega (arith, length-placed c.args.run.origin c
 
 pub returns-in-Map-clause-fed : goal.returns-in-Map-clause-fed
 returns-in-Map-clause-fed g c = λ xs took.
-    let split : c.args.stages.now ≡ c.in-Some.stage.now ∷ c.in-Some.later.now = search rules in
-    let here = rw (c.map_run.ensures, add-one) at (c.feed_batch.ensures.fed xs took) in
-    rw (split, c.in-Map.is) here
+    let split = c.in-Some.ensures in
+    let here = rw (c.map_run.ensures, split.first, split.env, add-one) at (c.feed_space.ensures.fed xs took) in
+    rw (split.stages, c.in-Map.is) here
 
 pub returns-else-is_empty-clause-fed : goal.returns-else-is_empty-clause-fed
 returns-else-is_empty-clause-fed g c = λ xs took.
-    let split : c.args.stages.now ≡ c.in-Some.stage.now ∷ c.in-Some.later.now = search rules in
-    let here = rw (c.filter_run.ensures, add-one) at (c.feed_batch-in-Filter.ensures.fed xs took) in
-    rw (split, c.in-Filter.is) here
+    let split = c.in-Some.ensures in
+    let here = rw (c.filter_run.ensures, split.first, split.env, add-one) at (c.feed_space-in-Filter.ensures.fed xs took) in
+    rw (split.stages, c.in-Filter.is) here
 
 pub returns-in-FlatMap-clause-fed : goal.returns-in-FlatMap-clause-fed
 returns-in-FlatMap-clause-fed g c = λ xs took.
@@ -30,7 +30,7 @@ returns-in-FlatMap-clause-fed g c = λ xs took.
     let n = length c.args.run.values.now in
     let all : take (0 + n) items ≡ items = take_all (0 + n) items (omega (arith, length-placed c.args.run.origin c.args.run.values.now)) in
     let filled : c.fill.new.self.items ≡ items = sym (sym all ∙ c.fill.ensures.items) in
-    let fed = c.feed_batch-in-FlatMap.ensures.fed xs took in
+    let fed = c.feed_space-in-FlatMap.ensures.fed xs took in
     let h = g.S.LongSink.has_taken in
     let whole : (t : Trace) → t.items ≡ items → t.ending ≡ end.Done → t ≡ trace items end.Done = λ t a b. (λ i. record { items = a i; ending = b i }) in
     rw (whole c.fill.new.self filled c.fill.ensures.ending) at fed

@@ -1,4 +1,4 @@
-use Rattle.std.proofs.Common.{◌≡◌, ◌+◌, ◌≤◌, ◌∷◌, ◌++◌, ℤ, w64, to_z, of_z, List, [], take, length, Ok, Err, Some, ap, sym, subst, ◌∙◌, rules, add-one, arith, refl}
+use Rattle.std.proofs.Common.{◌≡◌, ◌+◌, ◌≤◌, ◌++◌, ℤ, w64, to_z, of_z, List, [], take, length, Ok, Err, Some, ap, sym, subst, ◌∙◌, rules, add-one, arith, refl}
 use Rattle.std.proofs.lemmas.List.{append-nil, take_all}
 use Rattle.std.proofs.lemmas.Result.{err_from_is_err_and}
 use Rattle.trace.specs.declared.item.Item.{Item}
@@ -7,8 +7,9 @@ use Rattle.trace.specs.declared.item.End.{End}
 use Rattle.trace.specs.declared.item.Fault.{Fault}
 use Rattle.trace.specs.Trace.{Trace, trace, each}
 use Rattle.trace.specs.Sinks.{IsFed}
-use Rattle.trace.specs.Stages.{at_place, flat_map, flattened, of_item, pipe, stages_of}
+use Rattle.trace.specs.Stages.{at_place, flat_map, flattened, of_item}
 use Rattle.lambda_expr.specs.Streams.{inner_of, inner_value, run_or_listed}
+use Rattle.batch_eval.specs.Pipelines.{piped}
 use Rattle.batch_eval.specs.Pours.{Holds}
 use Rattle.batch_eval.proofs.FewLemmas.{bounds_taken}
 use Rattle.batch_eval.proofs.WaitingItemLemmas.{holds_none, holds_ended, holds_added, holds_further, flushed, poured_rest, inner_stopped, each_next, each_fault, each_whole}
@@ -16,28 +17,28 @@ use Rattle.batch_eval.proofs.staging.+batches.Goals as goal
 
 pub feed_batch-returns-in-Map-clause-fed : goal.feed_batch-returns-in-Map-clause-fed
 feed_batch-returns-in-Map-clause-fed g t c = λ xs took.
-    let split : c.args.stages.now ≡ c.in-Some.stage.now ∷ c.in-Some.later.now = search rules in
-    let here = rw (c.map.ensures, add-one) at (c.feed_batch.ensures.fed xs took) in
-    rw (split, c.in-Map.is) here
+    let split = c.in-Some.ensures in
+    let here = rw (c.map.ensures, split.first, split.env, add-one) at (c.feed_batch.ensures.fed xs took) in
+    rw (split.stages, c.in-Map.is) here
 
 pub feed_batch-returns-else-is_empty-clause-fed : goal.feed_batch-returns-else-is_empty-clause-fed
 feed_batch-returns-else-is_empty-clause-fed g t c = λ xs took.
-    let split : c.args.stages.now ≡ c.in-Some.stage.now ∷ c.in-Some.later.now = search rules in
-    let here = rw (c.filter.ensures, add-one) at (c.feed_batch-in-Filter.ensures.fed xs took) in
-    rw (split, c.in-Filter.is) here
+    let split = c.in-Some.ensures in
+    let here = rw (c.filter.ensures, split.first, split.env, add-one) at (c.feed_batch-in-Filter.ensures.fed xs took) in
+    rw (split.stages, c.in-Filter.is) here
 
 pub feed_batch-returns-then-map_to_one-clause-fed : goal.feed_batch-returns-then-map_to_one-clause-fed
 feed_batch-returns-then-map_to_one-clause-fed g t c = λ xs took.
-    let split : c.args.stages.now ≡ c.in-Some.stage.now ∷ c.in-Some.later.now = search rules in
-    let here = rw (c.map_to_one.ensures.mapped c.if-map_to_one.true, add-one) at (c.feed_batch-then-map_to_one.ensures.fed xs took) in
-    rw (split, c.in-FlatMap.is) here
+    let split = c.in-Some.ensures in
+    let here = rw (c.map_to_one.ensures.mapped c.if-map_to_one.true, split.first, split.env, add-one) at (c.feed_batch-then-map_to_one.ensures.fed xs took) in
+    rw (split.stages, c.in-FlatMap.is) here
 
 pub feed_batch-returns-in-Some-split_first_mut-clause-fed : goal.feed_batch-returns-in-Some-split_first_mut-clause-fed
 feed_batch-returns-in-Some-split_first_mut-clause-fed g t c = λ xs took.
-    let split : c.args.stages.now ≡ c.in-Some.stage.now ∷ c.in-Some.later.now = search rules in
+    let split = c.in-Some.ensures in
     let same = c.map_to_one.ensures.other c.if-map_to_one.false in
-    let here = rw (same, add-one) at (c.feed_inner.ensures.fed xs took) in
-    rw (split, c.in-FlatMap.is) here
+    let here = rw (same, split.first, split.env, add-one) at (c.feed_inner.ensures.fed xs took) in
+    rw (split.stages, c.in-FlatMap.is) here
 
 pub feed_batch-returns-in-None-clause-fed : goal.feed_batch-returns-in-None-clause-fed
 feed_batch-returns-in-None-clause-fed g t c = λ xs took.
@@ -47,22 +48,20 @@ feed_batch-returns-in-None-clause-fed g t c = λ xs took.
 pub finish-returns-clause-fed : goal.finish-returns-clause-fed
 finish-returns-clause-fed g t c = λ xs whole held.
     let here = rw c.end_with.ensures at c.feed_batch.ensures.fed in
-    holds_ended g.S.LongSink.has_taken c.args.first_stage (stages_of c.args.stages.now) c.args.env.now xs whole c.args.pending.now.items c.args.end c.feed_batch.result c.args.sink.now c.feed_batch.new.sink held here
+    holds_ended g.S.LongSink.has_taken c.args.line xs whole c.args.pending.now.items c.args.end c.feed_batch.result c.args.sink.now c.feed_batch.new.sink held here
 
 pub make_space-returns-clause-poured : goal.make_space-returns-clause-poured
 make_space-returns-clause-poured g t c = λ xs whole held.
     let h = g.S.LongSink.has_taken in
-    let n = c.args.first_stage in
-    let gs = stages_of c.args.stages.now in
-    let env = c.args.env.now in
-    let here = subst (λ (b : Trace). (vs : List Item) → h c.args.sink.now vs → IsFed h vs (pipe n gs env b) (Ok c.in_ok-fed.fed) c.feed_batch.new.sink) c.end_with.ensures c.in_ok-fed.ensures.fed in
-    rw c.clear.ensures (flushed h n gs env xs whole (Ok c.in_ok-fed.fed) c.feed_batch.new.sink (holds_ended h n gs env xs whole c.args.pending.now.items end.Done (Ok c.in_ok-fed.fed) c.args.sink.now c.feed_batch.new.sink held here))
+    let line = c.args.line in
+    let here = subst (λ (b : Trace). (vs : List Item) → h c.args.sink.now vs → IsFed h vs (piped line b) (Ok c.in_ok-fed.fed) c.feed_batch.new.sink) c.end_with.ensures c.in_ok-fed.ensures.fed in
+    rw c.clear.ensures (flushed h line xs whole (Ok c.in_ok-fed.fed) c.feed_batch.new.sink (holds_ended h line xs whole c.args.pending.now.items end.Done (Ok c.in_ok-fed.fed) c.args.sink.now c.feed_batch.new.sink held here))
 
 pub make_space-returns-in_err-fed-clause-poured : goal.make_space-returns-in_err-fed-clause-poured
 make_space-returns-in_err-fed-clause-poured g t c = λ xs whole held.
     let p = err_from_is_err_and c.from_residual.result c.from_residual.ensures.1 in
     let here = rw c.end_with.ensures at c.in_err-fed.ensures.fed in
-    rw p.1 (holds_ended g.S.LongSink.has_taken c.args.first_stage (stages_of c.args.stages.now) c.args.env.now xs whole c.args.pending.now.items end.Done (Err c.in_err-fed.field-0.0) c.args.sink.now c.feed_batch.new.sink held here)
+    rw p.1 (holds_ended g.S.LongSink.has_taken c.args.line xs whole c.args.pending.now.items end.Done (Err c.in_err-fed.field-0.0) c.args.sink.now c.feed_batch.new.sink held here)
 
 pub pour-loop-position-init : goal.pour-loop-position-init
 pour-loop-position-init g t c =
@@ -70,15 +69,13 @@ pour-loop-position-init g t c =
       within = omega arith;
       room = c.requires.room;
       wants = c.requires.wants;
-      held = λ xs whole held. subst (λ (ys : List Item). Holds g.S.LongSink.has_taken c.args.first_stage (stages_of c.args.stages.now) c.args.env.now xs ys c.args.pending.now.items c.args.sink.now) (sym (append-nil whole)) held;
+      held = λ xs whole held. subst (λ (ys : List Item). Holds g.S.LongSink.has_taken c.args.line xs ys c.args.pending.now.items c.args.sink.now) (sym (append-nil whole)) held;
     }
 
 pub pour-loop-position-preserved : goal.pour-loop-position-preserved
 pour-loop-position-preserved g t c =
     let h = g.S.LongSink.has_taken in
-    let n = c.args.first_stage in
-    let gs = stages_of c.args.stages.now in
-    let env = c.args.env.now in
+    let line = c.args.line in
     let zs = at_place c.args.values.now.origin (run_or_listed c.args.values.now.run c.args.values.now.listed.now) in
     let p = c.loop-position.position in
     let poured = rw c.in-More.is at c.in_ok-stopped.ensures.poured in
@@ -86,151 +83,145 @@ pour-loop-position-preserved g t c =
       within = search rules;
       room = search rules;
       wants = search rules;
-      held = λ xs whole held. holds_added h n gs env xs whole zs p (p + c.min-taken.result) c.add.ensures.items.0 c.make_space.new.pending.items c.add.new.self.items c.make_space.new.sink (poured xs (whole ++ take p zs) (c.loop-position.invariant.held xs whole held)) c.add.ensures.items.1 c.add.ensures.items.2;
+      held = λ xs whole held. holds_added h line xs whole zs p (p + c.min-taken.result) c.add.ensures.items.0 c.make_space.new.pending.items c.add.new.self.items c.make_space.new.sink (poured xs (whole ++ take p zs) (c.loop-position.invariant.held xs whole held)) c.add.ensures.items.1 c.add.ensures.items.2;
     }
 
 pub pour-returns-in_default-clause-poured : goal.pour-returns-in_default-clause-poured
 pour-returns-in_default-clause-poured g t c = λ xs whole held.
     let zs = at_place c.args.values.now.origin (run_or_listed c.args.values.now.run c.args.values.now.listed.now) in
     let p = c.loop-position.position in
-    poured_rest g.S.LongSink.has_taken c.args.first_stage (stages_of c.args.stages.now) c.args.env.now xs whole zs p (Ok c.in_ok-stopped.stopped) c.make_space.new.pending.items c.make_space.new.sink (λ e. c.in_default.not-More cc) (c.in_ok-stopped.ensures.poured xs (whole ++ take p zs) (c.loop-position.invariant.held xs whole held))
+    poured_rest g.S.LongSink.has_taken c.args.line xs whole zs p (Ok c.in_ok-stopped.stopped) c.make_space.new.pending.items c.make_space.new.sink (λ e. c.in_default.not-More cc) (c.in_ok-stopped.ensures.poured xs (whole ++ take p zs) (c.loop-position.invariant.held xs whole held))
 
 pub pour-returns-in_err-stopped-clause-poured : goal.pour-returns-in_err-stopped-clause-poured
 pour-returns-in_err-stopped-clause-poured g t c = λ xs whole held.
     let e = err_from_is_err_and c.from_residual.result c.from_residual.ensures.1 in
     let zs = at_place c.args.values.now.origin (run_or_listed c.args.values.now.run c.args.values.now.listed.now) in
     let p = c.loop-position.position in
-    rw e.1 (poured_rest g.S.LongSink.has_taken c.args.first_stage (stages_of c.args.stages.now) c.args.env.now xs whole zs p (Err c.in_err-stopped.field-0.0) c.make_space.new.pending.items c.make_space.new.sink (λ e. cc) (c.in_err-stopped.ensures.poured xs (whole ++ take p zs) (c.loop-position.invariant.held xs whole held)))
+    rw e.1 (poured_rest g.S.LongSink.has_taken c.args.line xs whole zs p (Err c.in_err-stopped.field-0.0) c.make_space.new.pending.items c.make_space.new.sink (λ e. cc) (c.in_err-stopped.ensures.poured xs (whole ++ take p zs) (c.loop-position.invariant.held xs whole held)))
 
 pub pour-returns-clause-poured : goal.pour-returns-clause-poured
 pour-returns-clause-poured g t c = λ xs whole held.
     let zs = at_place c.args.values.now.origin (run_or_listed c.args.values.now.run c.args.values.now.listed.now) in
     let past : length zs ≤ c.loop-position.position = omega (arith, c.loop-position-test.false, c.count-count.ensures) in
-    subst (λ (ys : List Item). Holds g.S.LongSink.has_taken c.args.first_stage (stages_of c.args.stages.now) c.args.env.now xs (whole ++ ys) c.loop-position.pending.items c.loop-position.sink) (take_all c.loop-position.position zs past) (c.loop-position.invariant.held xs whole held)
+    subst (λ (ys : List Item). Holds g.S.LongSink.has_taken c.args.line xs (whole ++ ys) c.loop-position.pending.items c.loop-position.sink) (take_all c.loop-position.position zs past) (c.loop-position.invariant.held xs whole held)
 
 pub feed_inner-loop-position-init : goal.feed_inner-loop-position-init
 feed_inner-loop-position-init g t c =
     let h = g.S.LongSink.has_taken in
-    let n = c.args.stage + 1 in
-    let gs = stages_of c.args.later.now in
-    let env = c.args.env.now in
+    let line = c.args.stage.later in
+    let env = line.env.now in
     let os = c.args.batch.now.items in
     let s = c.args.sink.now in
     let none : List Item = [] in
-    let inner = inner_of c.args.inner.now in
+    let inner = inner_of c.args.stage.inner.now in
     let lanes = c.eval_bounds-lanes.result in
     let froms = c.eval_bounds-lanes.new.froms in
     let tos = c.eval_bounds-lanes.new.tos in
     let bounds = bounds_taken inner env os c.values.result.now froms tos (take lanes froms) (take lanes tos) lanes c.values.ensures refl refl c.eval_bounds-lanes.ensures.bounds in
-    let added = c.add_few-position.ensures.added c.args.stage env bounds in
-    let front : Trace = each (of_item c.args.stage (flat_map inner) env) (take c.add_few-position.result os) end.Done in
+    let added = c.add_few-position.ensures.added c.args.stage.number env bounds in
+    let front : Trace = each (of_item c.args.stage.number (flat_map inner) env) (take c.add_few-position.result os) end.Done in
     let next : front ≡ trace (none ++ added.0) end.Done = added.2 refl in
     record {
       room = search rules;
       wants = c.requires.wants;
       done = ap (λ (u : Trace). u.ending) next;
-      held = λ xs took. holds_further h n gs env xs (trace none end.Done) front added.0 c.clear.new.self.items c.add_few-position.new.self.items s next added.1 (subst (λ (b : Trace). Holds h n gs env xs none b.items s) (sym c.clear.ensures) (holds_none h n gs env xs s took));
+      held = λ xs took. holds_further h line xs (trace none end.Done) front added.0 c.clear.new.self.items c.add_few-position.new.self.items s next added.1 (subst (λ (b : Trace). Holds h line xs none b.items s) (sym c.clear.ensures) (holds_none h line xs s took));
     }
 
 pub feed_inner-loop-position-preserved : goal.feed_inner-loop-position-preserved
 feed_inner-loop-position-preserved g t c =
     let h = g.S.LongSink.has_taken in
-    let n = c.args.stage + 1 in
-    let gs = stages_of c.args.later.now in
-    let env = c.args.env.now in
+    let line = c.args.stage.later in
+    let env = line.env.now in
     let os = c.args.batch.now.items in
     let p = c.loop-position.position in
     let y = c.item_at-item.result in
-    let f : Item → Trace = of_item c.args.stage (flat_map (inner_of c.args.inner.now)) env in
+    let f : Item → Trace = of_item c.args.stage.number (flat_map (inner_of c.args.stage.inner.now)) env in
     let zs = at_place y.origin (run_or_listed c.in-Ok.run' c.as_slice.result.now) in
     let front : Trace = each f (take p os) end.Done in
     let same : to_z w64 (of_z w64 c.item_at-item.result.value) ≡ c.item_at-item.result.value = search rules in
-    let gives : f y ≡ trace zs end.Done = ap (λ (v : ℤ). flattened c.args.stage y (inner_value (inner_of c.args.inner.now) v env)) (sym same) ∙ ap (flattened c.args.stage y) (c.in-Ok.ensures.ok ∙ ap (λ (vs : List ℤ). Ok (run_or_listed c.in-Ok.run' vs)) (sym c.as_slice.ensures.value)) in
+    let gives : f y ≡ trace zs end.Done = ap (λ (v : ℤ). flattened c.args.stage.number y (inner_value (inner_of c.args.stage.inner.now) v env)) (sym same) ∙ ap (flattened c.args.stage.number y) (c.in-Ok.ensures.ok ∙ ap (λ (vs : List ℤ). Ok (run_or_listed c.in-Ok.run' vs)) (sym c.as_slice.ensures.value)) in
     let front' : Trace = each f (take (p + 1) os) end.Done in
     let next : front' ≡ trace (front.items ++ zs) end.Done = each_next f os p y zs c.item_at-item.ensures c.loop-position.invariant.done gives in
     let poured = rw c.in-More.is at c.in_ok-stopped-in-Ok.ensures.poured in
-    let inner = inner_of c.args.inner.now in
+    let inner = inner_of c.args.stage.inner.now in
     let lanes = c.eval_bounds-lanes.result in
     let froms = c.eval_bounds-lanes.new.froms in
     let tos = c.eval_bounds-lanes.new.tos in
     let bounds = bounds_taken inner env os c.values.result.now froms tos (take lanes froms) (take lanes tos) lanes c.values.ensures refl refl c.eval_bounds-lanes.ensures.bounds in
     let further = c.add_few-position-in-loop-position in
-    let added = further.ensures.added c.args.stage env bounds in
+    let added = further.ensures.added c.args.stage.number env bounds in
     let last : Trace = each f (take further.result os) end.Done in
     let more : last ≡ trace (front'.items ++ added.0) end.Done = added.2 (ap (λ (u : Trace). u.ending) next) in
     record {
       room = search rules;
       wants = search rules;
       done = ap (λ (u : Trace). u.ending) more;
-      held = λ xs took. holds_further h n gs env xs front' last added.0 c.pour.new.pending.items further.new.self.items c.pour.new.sink more added.1 (subst (λ (u : Trace). Holds h n gs env xs u.items c.pour.new.pending.items c.pour.new.sink) (sym next) (poured xs front.items (c.loop-position.invariant.held xs took)));
+      held = λ xs took. holds_further h line xs front' last added.0 c.pour.new.pending.items further.new.self.items c.pour.new.sink more added.1 (subst (λ (u : Trace). Holds h line xs u.items c.pour.new.pending.items c.pour.new.sink) (sym next) (poured xs front.items (c.loop-position.invariant.held xs took)));
     }
 
 pub feed_inner-returns-in_default-clause-fed : goal.feed_inner-returns-in_default-clause-fed
 feed_inner-returns-in_default-clause-fed g t c = λ xs took.
     let h = g.S.LongSink.has_taken in
-    let n = c.args.stage + 1 in
-    let gs = stages_of c.args.later.now in
-    let env = c.args.env.now in
+    let line = c.args.stage.later in
+    let env = line.env.now in
     let os = c.args.batch.now.items in
     let e = c.args.batch.now.ending in
     let p = c.loop-position.position in
     let y = c.item_at-item.result in
-    let f : Item → Trace = of_item c.args.stage (flat_map (inner_of c.args.inner.now)) env in
+    let f : Item → Trace = of_item c.args.stage.number (flat_map (inner_of c.args.stage.inner.now)) env in
     let zs = at_place y.origin (run_or_listed c.in-Ok.run' c.as_slice.result.now) in
     let front : Trace = each f (take p os) end.Done in
     let same : to_z w64 (of_z w64 c.item_at-item.result.value) ≡ c.item_at-item.result.value = search rules in
-    let gives : f y ≡ trace zs end.Done = ap (λ (v : ℤ). flattened c.args.stage y (inner_value (inner_of c.args.inner.now) v env)) (sym same) ∙ ap (flattened c.args.stage y) (c.in-Ok.ensures.ok ∙ ap (λ (vs : List ℤ). Ok (run_or_listed c.in-Ok.run' vs)) (sym c.as_slice.ensures.value)) in
-    inner_stopped h n gs env xs f os p y zs e (Ok c.in_ok-stopped-in-Ok.stopped) c.pour.new.pending.items c.pour.new.sink c.item_at-item.ensures c.loop-position.invariant.done gives (λ e. c.in_default.not-More cc) (c.in_ok-stopped-in-Ok.ensures.poured xs front.items (c.loop-position.invariant.held xs took))
+    let gives : f y ≡ trace zs end.Done = ap (λ (v : ℤ). flattened c.args.stage.number y (inner_value (inner_of c.args.stage.inner.now) v env)) (sym same) ∙ ap (flattened c.args.stage.number y) (c.in-Ok.ensures.ok ∙ ap (λ (vs : List ℤ). Ok (run_or_listed c.in-Ok.run' vs)) (sym c.as_slice.ensures.value)) in
+    inner_stopped h line xs f os p y zs e (Ok c.in_ok-stopped-in-Ok.stopped) c.pour.new.pending.items c.pour.new.sink c.item_at-item.ensures c.loop-position.invariant.done gives (λ e. c.in_default.not-More cc) (c.in_ok-stopped-in-Ok.ensures.poured xs front.items (c.loop-position.invariant.held xs took))
 
 pub feed_inner-returns-in_err-stopped-in-Ok-clause-fed : goal.feed_inner-returns-in_err-stopped-in-Ok-clause-fed
 feed_inner-returns-in_err-stopped-in-Ok-clause-fed g t c = λ xs took.
     let q = err_from_is_err_and c.from_residual.result c.from_residual.ensures.1 in
     let h = g.S.LongSink.has_taken in
-    let n = c.args.stage + 1 in
-    let gs = stages_of c.args.later.now in
-    let env = c.args.env.now in
+    let line = c.args.stage.later in
+    let env = line.env.now in
     let os = c.args.batch.now.items in
     let e = c.args.batch.now.ending in
     let p = c.loop-position.position in
     let y = c.item_at-item.result in
-    let f : Item → Trace = of_item c.args.stage (flat_map (inner_of c.args.inner.now)) env in
+    let f : Item → Trace = of_item c.args.stage.number (flat_map (inner_of c.args.stage.inner.now)) env in
     let zs = at_place y.origin (run_or_listed c.in-Ok.run' c.as_slice.result.now) in
     let front : Trace = each f (take p os) end.Done in
     let same : to_z w64 (of_z w64 c.item_at-item.result.value) ≡ c.item_at-item.result.value = search rules in
-    let gives : f y ≡ trace zs end.Done = ap (λ (v : ℤ). flattened c.args.stage y (inner_value (inner_of c.args.inner.now) v env)) (sym same) ∙ ap (flattened c.args.stage y) (c.in-Ok.ensures.ok ∙ ap (λ (vs : List ℤ). Ok (run_or_listed c.in-Ok.run' vs)) (sym c.as_slice.ensures.value)) in
-    rw q.1 (inner_stopped h n gs env xs f os p y zs e (Err c.in_err-stopped-in-Ok.field-0.0) c.pour.new.pending.items c.pour.new.sink c.item_at-item.ensures c.loop-position.invariant.done gives (λ e. cc) (c.in_err-stopped-in-Ok.ensures.poured xs front.items (c.loop-position.invariant.held xs took)))
+    let gives : f y ≡ trace zs end.Done = ap (λ (v : ℤ). flattened c.args.stage.number y (inner_value (inner_of c.args.stage.inner.now) v env)) (sym same) ∙ ap (flattened c.args.stage.number y) (c.in-Ok.ensures.ok ∙ ap (λ (vs : List ℤ). Ok (run_or_listed c.in-Ok.run' vs)) (sym c.as_slice.ensures.value)) in
+    rw q.1 (inner_stopped h line xs f os p y zs e (Err c.in_err-stopped-in-Ok.field-0.0) c.pour.new.pending.items c.pour.new.sink c.item_at-item.ensures c.loop-position.invariant.done gives (λ e. cc) (c.in_err-stopped-in-Ok.ensures.poured xs front.items (c.loop-position.invariant.held xs took)))
 
 pub feed_inner-returns-in-Err-clause-fed : goal.feed_inner-returns-in-Err-clause-fed
 feed_inner-returns-in-Err-clause-fed g t c = λ xs took.
     let h = g.S.LongSink.has_taken in
-    let n = c.args.stage + 1 in
-    let gs = stages_of c.args.later.now in
-    let env = c.args.env.now in
+    let line = c.args.stage.later in
+    let env = line.env.now in
     let os = c.args.batch.now.items in
     let e = c.args.batch.now.ending in
     let p = c.loop-position.position in
     let y = c.item_at-item.result in
-    let f : Item → Trace = of_item c.args.stage (flat_map (inner_of c.args.inner.now)) env in
+    let f : Item → Trace = of_item c.args.stage.number (flat_map (inner_of c.args.stage.inner.now)) env in
     let front : Trace = each f (take p os) end.Done in
-    let fault : Fault = record { kind = c.in-Err.kind; stage = c.args.stage; origin = Some y.origin } in
+    let fault : Fault = record { kind = c.in-Err.kind; stage = c.args.stage.number; origin = Some y.origin } in
     let same : to_z w64 (of_z w64 c.item_at-item.result.value) ≡ c.item_at-item.result.value = search rules in
-    let gives : f y ≡ trace [] (end.Fault fault) = ap (λ (v : ℤ). flattened c.args.stage y (inner_value (inner_of c.args.inner.now) v env)) (sym same) ∙ ap (flattened c.args.stage y) c.in-Err.ensures.fault in
+    let gives : f y ≡ trace [] (end.Fault fault) = ap (λ (v : ℤ). flattened c.args.stage.number y (inner_value (inner_of c.args.stage.inner.now) v env)) (sym same) ∙ ap (flattened c.args.stage.number y) c.in-Err.ensures.fault in
     let whole : each f os e ≡ trace front.items (end.Fault fault) = each_fault f os p y e fault c.item_at-item.ensures c.loop-position.invariant.done gives in
-    let here = subst (λ (d : End). IsFed h xs (pipe n gs env (trace front.items d)) c.finish.result c.finish.new.sink) c.fault_at-end.ensures (c.finish.ensures.fed xs front.items (c.loop-position.invariant.held xs took)) in
-    subst (λ (u : Trace). IsFed h xs (pipe n gs env u) c.finish.result c.finish.new.sink) (sym whole) here
+    let here = subst (λ (d : End). IsFed h xs (piped line (trace front.items d)) c.finish.result c.finish.new.sink) c.fault_at-end.ensures (c.finish.ensures.fed xs front.items (c.loop-position.invariant.held xs took)) in
+    subst (λ (u : Trace). IsFed h xs (piped line u) c.finish.result c.finish.new.sink) (sym whole) here
 
 pub feed_inner-returns-clause-fed : goal.feed_inner-returns-clause-fed
 feed_inner-returns-clause-fed g t c = λ xs took.
     let h = g.S.LongSink.has_taken in
-    let n = c.args.stage + 1 in
-    let gs = stages_of c.args.later.now in
-    let env = c.args.env.now in
+    let line = c.args.stage.later in
+    let env = line.env.now in
     let os = c.args.batch.now.items in
     let e = c.args.batch.now.ending in
     let p = c.loop-position.position in
-    let f : Item → Trace = of_item c.args.stage (flat_map (inner_of c.args.inner.now)) env in
+    let f : Item → Trace = of_item c.args.stage.number (flat_map (inner_of c.args.stage.inner.now)) env in
     let front : Trace = each f (take p os) end.Done in
     let past : length os ≤ p = omega (arith, c.loop-position-test.false, c.count-count.ensures) in
     let whole : each f os e ≡ trace front.items e = each_whole f os p e past c.loop-position.invariant.done in
-    let here = subst (λ (d : End). IsFed h xs (pipe n gs env (trace front.items d)) c.finish-2.result c.finish-2.new.sink) c.end-end.ensures (c.finish-2.ensures.fed xs front.items (c.loop-position.invariant.held xs took)) in
-    subst (λ (u : Trace). IsFed h xs (pipe n gs env u) c.finish-2.result c.finish-2.new.sink) (sym whole) here
+    let here = subst (λ (d : End). IsFed h xs (piped line (trace front.items d)) c.finish-2.result c.finish-2.new.sink) c.end-end.ensures (c.finish-2.ensures.fed xs front.items (c.loop-position.invariant.held xs took)) in
+    subst (λ (u : Trace). IsFed h xs (piped line u) c.finish-2.result c.finish-2.new.sink) (sym whole) here

@@ -10,19 +10,19 @@ use Rattle.batch_eval.specs.Rooms.{FitsStages}
 use Rattle.batch_eval.proofs.staging.+batches.Given as goal
 
 abbrev pub decreases-feed_batch : goal.decreases-feed_batch
-decreases-feed_batch g l = 4 * length l.stages.now
+decreases-feed_batch g l = 4 * length l.line.stages.now
 
 abbrev pub decreases-make_space : goal.decreases-make_space
-decreases-make_space g l = 4 * length l.stages.now + 1
+decreases-make_space g l = 4 * length l.line.stages.now + 1
 
 abbrev pub decreases-finish : goal.decreases-finish
-decreases-finish g l = 4 * length l.stages.now + 1
+decreases-finish g l = 4 * length l.line.stages.now + 1
 
 abbrev pub decreases-pour : goal.decreases-pour
-decreases-pour g l = 4 * length l.stages.now + 2
+decreases-pour g l = 4 * length l.line.stages.now + 2
 
 abbrev pub decreases-feed_inner : goal.decreases-feed_inner
-decreases-feed_inner g l = 4 * length l.later.now + 3
+decreases-feed_inner g l = 4 * length l.stage.later.stages.now + 3
 
 abbrev pub decreases-feed_inner-loop-position : goal.decreases-feed_inner-loop-position
 decreases-feed_inner-loop-position g l = l.count - l.position
@@ -34,16 +34,16 @@ abbrev pub invariant-pour-loop-position : goal.invariant-pour-loop-position
 invariant-pour-loop-position g l =
     record {
       within : l.position ≤ l.count;
-      room : FitsStages (stages_of l.stages) (length l.room);
+      room : FitsStages (stages_of l.line.stages.now) (length l.room);
       wants : g.S.LongSink.flow l.sink ≡ flow.More;
-      held : (xs whole : List Item) → Holds g.S.LongSink.has_taken l.first_stage (stages_of l.stages) l.env xs whole l.initial.pending.items l.initial.sink → Holds g.S.LongSink.has_taken l.first_stage (stages_of l.stages) l.env xs (whole ++ take l.position (at_place l.values.origin (run_or_listed l.values.run l.values.listed.now))) l.pending.items l.sink;
+      held : (xs whole : List Item) → Holds g.S.LongSink.has_taken l.line xs whole l.initial.pending.items l.initial.sink → Holds g.S.LongSink.has_taken l.line xs (whole ++ take l.position (at_place l.values.origin (run_or_listed l.values.run l.values.listed.now))) l.pending.items l.sink;
     }
 
 abbrev pub invariant-feed_inner-loop-position : goal.invariant-feed_inner-loop-position
 invariant-feed_inner-loop-position g l =
     record {
-      room : FitsStages (stages_of l.later) (length l.room);
+      room : FitsStages (stages_of l.stage.later.stages.now) (length l.room);
       wants : g.S.LongSink.flow l.sink ≡ flow.More;
-      done : (each (of_item l.stage (flat_map (inner_of l.inner)) l.env) (take l.position l.batch.items) end.Done).ending ≡ end.Done;
-      held : (xs : List Item) → g.S.LongSink.has_taken l.initial.sink xs → Holds g.S.LongSink.has_taken (l.stage + 1) (stages_of l.later) l.env xs (each (of_item l.stage (flat_map (inner_of l.inner)) l.env) (take l.position l.batch.items) end.Done).items l.pending.items l.sink;
+      done : (each (of_item l.stage.number (flat_map (inner_of l.stage.inner.now)) l.stage.later.env.now) (take l.position l.batch.items) end.Done).ending ≡ end.Done;
+      held : (xs : List Item) → g.S.LongSink.has_taken l.initial.sink xs → Holds g.S.LongSink.has_taken l.stage.later xs (each (of_item l.stage.number (flat_map (inner_of l.stage.inner.now)) l.stage.later.env.now) (take l.position l.batch.items) end.Done).items l.pending.items l.sink;
     }

@@ -10,7 +10,7 @@ loop-preserved g c =
     let (some, so_far, counts) = c.loop.invariant in
     let round = c.in_ok-next_round.ensures in (
       search rules,
-      Goes-on (rem c.args.reader.now) (rem c.loop.reader) (rem c.next_round.new.reader) c.args.bytes.now.items c.loop.bytes.items c.next_round.new.bytes.items
+      Goes-on (rem c.args.reader.now) (rem c.loop.reader) (rem c.next_round.new.reader) c.args.rounds.now.bytes.items c.loop.rounds.bytes.items c.next_round.new.rounds.bytes.items
           (map named c.args.columns.now) (map named c.loop.columns) (map named c.next_round.new.columns) so_far round.goes,
       omega (arith, counts, round.counts),
     )
@@ -21,27 +21,25 @@ returns-in_err-next_round-clause-put g c =
     let fault = c.in_err-next_round.field-0.0 in
     let answer : c.from_residual.result ≡ Err fault = search rules in
     let (some, so_far, counts) = c.loop.invariant in
-    rw answer (Goes-failed (rem c.args.reader.now) (rem c.loop.reader) (rem c.next_round.new.reader) c.args.bytes.now.items c.loop.bytes.items
+    rw answer (Goes-failed (rem c.args.reader.now) (rem c.loop.reader) (rem c.next_round.new.reader) c.args.rounds.now.bytes.items c.loop.rounds.bytes.items
     (map named c.args.columns.now) (map named c.loop.columns) (map named c.next_round.new.columns) fault so_far c.in_err-next_round.ensures.gave c.in_err-next_round.ensures.refused)
 
 pub returns-in-Last-clause-put : goal.returns-in-Last-clause-put
 returns-in-Last-clause-put g c =
     let rem = g.R.CountedRead.remaining in
     let (some, so_far, counts) = c.loop.invariant in
-    let goes = Goes-on (rem c.args.reader.now) (rem c.loop.reader) (rem c.next_round.new.reader) c.args.bytes.now.items c.loop.bytes.items c.next_round.new.bytes.items
+    let goes = Goes-on (rem c.args.reader.now) (rem c.loop.reader) (rem c.next_round.new.reader) c.args.rounds.now.bytes.items c.loop.rounds.bytes.items c.next_round.new.rounds.bytes.items
     (map named c.args.columns.now) (map named c.loop.columns) (map named c.next_round.new.columns) so_far c.in_ok-next_round.ensures.goes in
-    let put = subst (λ l. IsPutBy (rem c.next_round.new.reader) (rem c.put_last.new.reader) l (map named c.next_round.new.columns) c.put_last.result (map named c.put_last.new.columns))
-    c.deref.ensures.value c.put_last.ensures.put in
-    Goes-put (rem c.args.reader.now) (rem c.next_round.new.reader) (rem c.put_last.new.reader) c.args.bytes.now.items c.next_round.new.bytes.items
-    (map named c.args.columns.now) (map named c.next_round.new.columns) (map named c.put_last.new.columns) c.put_last.result goes put
+    Goes-put (rem c.args.reader.now) (rem c.next_round.new.reader) (rem c.put_last.new.reader) c.args.rounds.now.bytes.items c.next_round.new.rounds.bytes.items
+    (map named c.args.columns.now) (map named c.next_round.new.columns) (map named c.put_last.new.columns) c.put_last.result goes c.put_last.ensures.put
 
 pub returns-in-Other-clause-put : goal.returns-in-Other-clause-put
 returns-in-Other-clause-put g c =
     let rem = g.R.CountedRead.remaining in
     let (some, so_far, counts) = c.loop.invariant in
-    let goes = Goes-on (rem c.args.reader.now) (rem c.loop.reader) (rem c.next_round.new.reader) c.args.bytes.now.items c.loop.bytes.items c.next_round.new.bytes.items
+    let goes = Goes-on (rem c.args.reader.now) (rem c.loop.reader) (rem c.next_round.new.reader) c.args.rounds.now.bytes.items c.loop.rounds.bytes.items c.next_round.new.rounds.bytes.items
     (map named c.args.columns.now) (map named c.loop.columns) (map named c.next_round.new.columns) so_far c.in_ok-next_round.ensures.goes in
     let put = subst (λ l. IsPutBy (rem c.next_round.new.reader) (rem c.put_by_records.new.reader) l (map named c.next_round.new.columns) c.put_by_records.result (map named c.put_by_records.new.columns))
-    c.deref-in-Other.ensures.value c.put_by_records.ensures.put in
-    Goes-put (rem c.args.reader.now) (rem c.next_round.new.reader) (rem c.put_by_records.new.reader) c.args.bytes.now.items c.next_round.new.bytes.items
+    c.deref.ensures.value c.put_by_records.ensures.put in
+    Goes-put (rem c.args.reader.now) (rem c.next_round.new.reader) (rem c.put_by_records.new.reader) c.args.rounds.now.bytes.items c.next_round.new.rounds.bytes.items
     (map named c.args.columns.now) (map named c.next_round.new.columns) (map named c.put_by_records.new.columns) c.put_by_records.result goes put

@@ -7,6 +7,6 @@ use Rattle.columns.proofs.rounds.put_rounds.Given as goal
 abbrev pub invariant-loop : goal.invariant-loop
 invariant-loop g l =
     (0 < length l.columns)
-    × Goes (g.R.CountedRead.remaining l.initial.reader) (g.R.CountedRead.remaining l.reader) l.initial.bytes.items l.bytes.items
+    × Goes (g.R.CountedRead.remaining l.initial.reader) (g.R.CountedRead.remaining l.reader) l.initial.rounds.bytes.items l.rounds.bytes.items
     (map named l.initial.columns) (map named l.columns)
     × (g.R.CountedRead.failures l.initial.reader ≤ g.R.CountedRead.failures l.reader)

@@ -6,9 +6,8 @@ use Rattle.trace.specs.Trace.{trace}
 use Rattle.trace.proofs.Sources.{length-placed}
 use Rattle.reduce_ops.specs.Operators.{value_of}
 use Rattle.prefix_scan.specs.Scans.{scan_at}
-use Rattle.job_plan.specs.Parts.{segment_in}
 use Rattle.job_plan.specs.Pieces.{elements}
-use Rattle.job_plan.specs.Plans.{walk_of}
+use Rattle.batch_eval.specs.Pipelines.{piped}
 use Rattle.job_plan.specs.Runs.{items_in, run_values}
 use Rattle.job_plan.specs.Scans.{items_of}
 use Rattle.job_plan.proofs.ScanLemmas.{scanned_cut}
@@ -19,18 +18,18 @@ feed_run-requires-clause-few g c = subst (λ n. n ≤ 4096) (ap (λ p. length (i
 
 pub returns-in-Listed-clause-fed : goal.returns-in-Listed-clause-fed
 returns-in-Listed-clause-fed g c = λ xs took.
-    let op = c.args.prefix.op in
-    let r = c.args.prefix.range in
+    let op = c.args.scan.prefix.op in
+    let r = c.args.scan.prefix.range in
     let at = c.cut_to-at.result in
     let zs = items_of c.args.piece.now in
-    let same = sym (scanned_cut op r at c.args.first c.count.result c.args.start zs c.cut_to-at.ensures c.count.ensures) ∙ ap (λ (ys : List Item). scan_at (value_of op) at 0 c.args.start ys) (ap items_in c.in-Listed.is ∙ sym c.deref.ensures.value) in
-    subst (λ (ys : List Item). IsFed g.S.LongSink.has_taken xs (walk_of (segment_in c.args.segment.now) c.args.env.now (trace (elements c.args.from c.args.to ys) end.Done)) c.feed_listed.result c.feed_listed.new.sink) (sym same) (c.feed_listed.ensures.fed xs took)
+    let same = sym (scanned_cut op r at c.args.scan.position c.count.result c.args.scan.start zs c.cut_to-at.ensures c.count.ensures) ∙ ap (λ (ys : List Item). scan_at (value_of op) at 0 c.args.scan.start ys) (ap items_in c.in-Listed.is ∙ sym c.deref.ensures.value) in
+    subst (λ (ys : List Item). IsFed g.S.LongSink.has_taken xs (piped c.args.line (trace (elements c.args.window.from c.args.window.to ys) end.Done)) c.feed_listed.result c.feed_listed.new.sink) (sym same) (c.feed_listed.ensures.fed xs took)
 
 pub returns-in-Run-clause-fed : goal.returns-in-Run-clause-fed
 returns-in-Run-clause-fed g c = λ xs took.
-    let op = c.args.prefix.op in
-    let r = c.args.prefix.range in
+    let op = c.args.scan.prefix.op in
+    let r = c.args.scan.prefix.range in
     let at = c.cut_to-at.result in
     let zs = items_of c.args.piece.now in
-    let same = sym (scanned_cut op r at c.args.first c.count.result c.args.start zs c.cut_to-at.ensures c.count.ensures) ∙ ap (λ (ys : List Item). scan_at (value_of op) at 0 c.args.start ys) (ap items_in c.in-Run.is) in
-    subst (λ (ys : List Item). IsFed g.S.LongSink.has_taken xs (walk_of (segment_in c.args.segment.now) c.args.env.now (trace (elements c.args.from c.args.to ys) end.Done)) c.feed_run.result c.feed_run.new.sink) (sym same) (c.feed_run.ensures.fed xs took)
+    let same = sym (scanned_cut op r at c.args.scan.position c.count.result c.args.scan.start zs c.cut_to-at.ensures c.count.ensures) ∙ ap (λ (ys : List Item). scan_at (value_of op) at 0 c.args.scan.start ys) (ap items_in c.in-Run.is) in
+    subst (λ (ys : List Item). IsFed g.S.LongSink.has_taken xs (piped c.args.line (trace (elements c.args.window.from c.args.window.to ys) end.Done)) c.feed_run.result c.feed_run.new.sink) (sym same) (c.feed_run.ensures.fed xs took)

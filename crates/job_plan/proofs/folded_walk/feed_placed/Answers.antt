@@ -4,8 +4,7 @@ use Rattle.trace.specs.declared.item.End.TheVariants as end
 use Rattle.trace.specs.Sinks.{IsFed}
 use Rattle.trace.specs.Trace.{trace}
 use Rattle.trace.specs.Cover.{placed}
-use Rattle.job_plan.specs.Parts.{segment_in}
-use Rattle.job_plan.specs.Plans.{walk_of}
+use Rattle.batch_eval.specs.Pipelines.{piped}
 use Rattle.job_plan.proofs.RunLemmas.{placed_between}
 use Rattle.job_plan.proofs.folded_walk.feed_placed.Goals as goal
 
@@ -15,6 +14,6 @@ returns-clause-fed g c = λ xs took.
     let start = c.within-start.result.0 in
     let count = c.within-start.result.1 in
     let size : (start + count) - start ≡ count = omega arith in
-    let same = placed_between c.args.place c.args.from c.args.to vs (length vs) start count refl c.within-start.ensures.start c.within-start.ensures.count
+    let same = placed_between c.args.place c.args.window.from c.args.window.to vs (length vs) start count refl c.within-start.ensures.start c.within-start.ensures.count
     ∙ ap (λ n. placed (c.args.place + start) (take n (drop start vs))) (sym size) in
-    subst (λ (ys : List Item). IsFed g.S.LongSink.has_taken xs (walk_of (segment_in c.args.segment.now) c.args.env.now (trace ys end.Done)) c.feed_values.result c.feed_values.new.sink) (sym same) (c.feed_values.ensures.fed xs took)
+    subst (λ (ys : List Item). IsFed g.S.LongSink.has_taken xs (piped c.args.line (trace ys end.Done)) c.feed_values.result c.feed_values.new.sink) (sym same) (c.feed_values.ensures.fed xs took)

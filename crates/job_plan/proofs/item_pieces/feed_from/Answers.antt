@@ -6,9 +6,8 @@ use Rattle.trace.specs.declared.item.End.TheVariants as end
 use Rattle.trace.specs.declared.feeding.Fed.TheVariants as fed
 use Rattle.trace.specs.Sinks.{IsFed}
 use Rattle.trace.specs.Trace.{trace}
-use Rattle.job_plan.specs.Parts.{segment_in}
 use Rattle.job_plan.specs.Pieces.{elements}
-use Rattle.job_plan.specs.Plans.{walk_of}
+use Rattle.batch_eval.specs.Pipelines.{piped}
 use Rattle.job_plan.specs.Spans.{after}
 use Rattle.job_plan.proofs.Elements.{next_elements, none_after}
 use Rattle.job_plan.proofs.FeedLemmas.{fed_none, fed_both, fed_stopped}
@@ -17,7 +16,7 @@ use Rattle.job_plan.proofs.item_pieces.feed_from.Goals as goal
 pub loop-piece-init : goal.loop-piece-init
 loop-piece-init g c =
     let none : List Item = [] in
-    (c.requires.wants, λ xs took. (none, fed_none g.S.LongSink.has_taken (segment_in c.args.segment.now) c.args.env.now xs none c.args.sink.now refl took, refl))
+    (c.requires.wants, λ xs took. (none, fed_none g.S.LongSink.has_taken c.args.line xs none c.args.sink.now refl took, refl))
 
 pub loop-piece-preserved : goal.loop-piece-preserved
 loop-piece-preserved g c =
@@ -32,17 +31,16 @@ loop-piece-preserved g c =
           let here : c.deref.result.now ≡ p.items = c.deref.ensures.value in
           let inv = c.loop-piece.invariant.1 xs took in
           let has = g.S.LongSink.has_taken in
-          let seg = segment_in c.args.segment.now in
-          let env = c.args.env.now in
+          let line = c.args.line in
           let f = λ (piece : Vec Item Global). piece.items in
-          let ys = elements c.loop-piece.next c.loop-piece.last c.deref.result.now in
-          let zs = elements (c.loop-piece.next - size) (after c.loop-piece.last size) (flat_map f (drop (w + 1) ps)) in
-          let all = elements c.args.from c.args.to (flat_map f ps) in
-          let next = next_elements f ps w c.loop-piece.next c.loop-piece.last p size c.loop-piece-test.true c.piece-item.is same ∙ ap (λ qs. elements c.loop-piece.next c.loop-piece.last qs ++ zs) (sym here) in
+          let ys = elements c.loop-piece.left.from c.loop-piece.left.to c.deref.result.now in
+          let zs = elements (c.loop-piece.left.from - size) (after c.loop-piece.left.to size) (flat_map f (drop (w + 1) ps)) in
+          let all = elements c.args.window.from c.args.window.to (flat_map f ps) in
+          let next = next_elements f ps w c.loop-piece.left.from c.loop-piece.left.to p size c.loop-piece-test.true c.piece-item.is same ∙ ap (λ qs. elements c.loop-piece.left.from c.loop-piece.left.to qs ++ zs) (sym here) in
           let parts : all ≡ inv.0 ++ (ys ++ zs) = sym inv.2 ∙ ap (λ qs. inv.0 ++ qs) next in
           let grouped : all ≡ (inv.0 ++ ys) ++ zs = parts ∙ sym (append_assoc inv.0 ys zs) in
-          let later : zs ≡ elements c.saturating_sub-next.result c.end_after-last.result (flat_map f (drop (w + 1) ps)) = λ i. elements (sym c.saturating_sub-next.ensures i) (sym c.end_after-last.ensures i) (flat_map f (drop (w + 1) ps)) in
-          (inv.0 ++ ys, fed_both has seg env xs inv.0 ys (inv.0 ++ ys) (Ok fed.More) c.loop-piece.sink c.feed_items.new.sink refl inv.1 more, ap (λ qs. (inv.0 ++ ys) ++ qs) (sym later) ∙ sym grouped),
+          let later : zs ≡ elements c.after-left.result.from c.after-left.result.to (flat_map f (drop (w + 1) ps)) = λ i. elements (sym c.after-left.ensures.from i) (sym c.after-left.ensures.to i) (flat_map f (drop (w + 1) ps)) in
+          (inv.0 ++ ys, fed_both has line xs inv.0 ys (inv.0 ++ ys) (Ok fed.More) c.loop-piece.sink c.feed_items.new.sink refl inv.1 more, ap (λ qs. (inv.0 ++ ys) ++ qs) (sym later) ∙ sym grouped),
     )
 
 pub returns-in_default-clause-fed : goal.returns-in_default-clause-fed
@@ -55,17 +53,16 @@ returns-in_default-clause-fed g c = λ xs took.
     let here : c.deref.result.now ≡ p.items = c.deref.ensures.value in
     let inv = c.loop-piece.invariant.1 xs took in
     let has = g.S.LongSink.has_taken in
-    let seg = segment_in c.args.segment.now in
-    let env = c.args.env.now in
+    let line = c.args.line in
     let f = λ (piece : Vec Item Global). piece.items in
-    let ys = elements c.loop-piece.next c.loop-piece.last c.deref.result.now in
-    let zs = elements (c.loop-piece.next - size) (after c.loop-piece.last size) (flat_map f (drop (w + 1) ps)) in
-    let all = elements c.args.from c.args.to (flat_map f ps) in
-    let next = next_elements f ps w c.loop-piece.next c.loop-piece.last p size c.loop-piece-test.true c.piece-item.is same ∙ ap (λ qs. elements c.loop-piece.next c.loop-piece.last qs ++ zs) (sym here) in
+    let ys = elements c.loop-piece.left.from c.loop-piece.left.to c.deref.result.now in
+    let zs = elements (c.loop-piece.left.from - size) (after c.loop-piece.left.to size) (flat_map f (drop (w + 1) ps)) in
+    let all = elements c.args.window.from c.args.window.to (flat_map f ps) in
+    let next = next_elements f ps w c.loop-piece.left.from c.loop-piece.left.to p size c.loop-piece-test.true c.piece-item.is same ∙ ap (λ qs. elements c.loop-piece.left.from c.loop-piece.left.to qs ++ zs) (sym here) in
     let parts : all ≡ inv.0 ++ (ys ++ zs) = sym inv.2 ∙ ap (λ qs. inv.0 ++ qs) next in
     let grouped : all ≡ (inv.0 ++ ys) ++ zs = parts ∙ sym (append_assoc inv.0 ys zs) in
-    fed_both has seg env xs inv.0 (ys ++ zs) all (Ok c.in_ok-stopped.stopped) c.loop-piece.sink c.feed_items.new.sink parts inv.1
-    (λ vs had. fed_stopped has seg env vs ys zs (ys ++ zs) (Ok c.in_ok-stopped.stopped) c.feed_items.new.sink refl (λ e. c.in_default.not-More cc) (c.in_ok-stopped.ensures.fed vs had))
+    fed_both has line xs inv.0 (ys ++ zs) all (Ok c.in_ok-stopped.stopped) c.loop-piece.sink c.feed_items.new.sink parts inv.1
+    (λ vs had. fed_stopped has line vs ys zs (ys ++ zs) (Ok c.in_ok-stopped.stopped) c.feed_items.new.sink refl (λ e. c.in_default.not-More cc) (c.in_ok-stopped.ensures.fed vs had))
 
 pub returns-in_err-stopped-clause-fed : goal.returns-in_err-stopped-clause-fed
 returns-in_err-stopped-clause-fed g c = λ xs took.
@@ -77,18 +74,17 @@ returns-in_err-stopped-clause-fed g c = λ xs took.
     let here : c.deref.result.now ≡ p.items = c.deref.ensures.value in
     let inv = c.loop-piece.invariant.1 xs took in
     let has = g.S.LongSink.has_taken in
-    let seg = segment_in c.args.segment.now in
-    let env = c.args.env.now in
+    let line = c.args.line in
     let f = λ (piece : Vec Item Global). piece.items in
-    let ys = elements c.loop-piece.next c.loop-piece.last c.deref.result.now in
-    let zs = elements (c.loop-piece.next - size) (after c.loop-piece.last size) (flat_map f (drop (w + 1) ps)) in
-    let all = elements c.args.from c.args.to (flat_map f ps) in
-    let next = next_elements f ps w c.loop-piece.next c.loop-piece.last p size c.loop-piece-test.true c.piece-item.is same ∙ ap (λ qs. elements c.loop-piece.next c.loop-piece.last qs ++ zs) (sym here) in
+    let ys = elements c.loop-piece.left.from c.loop-piece.left.to c.deref.result.now in
+    let zs = elements (c.loop-piece.left.from - size) (after c.loop-piece.left.to size) (flat_map f (drop (w + 1) ps)) in
+    let all = elements c.args.window.from c.args.window.to (flat_map f ps) in
+    let next = next_elements f ps w c.loop-piece.left.from c.loop-piece.left.to p size c.loop-piece-test.true c.piece-item.is same ∙ ap (λ qs. elements c.loop-piece.left.from c.loop-piece.left.to qs ++ zs) (sym here) in
     let parts : all ≡ inv.0 ++ (ys ++ zs) = sym inv.2 ∙ ap (λ qs. inv.0 ++ qs) next in
     let grouped : all ≡ (inv.0 ++ ys) ++ zs = parts ∙ sym (append_assoc inv.0 ys zs) in
     let q = err_from_is_err_and c.from_residual.result c.from_residual.ensures.1 in
-    rw q.1 (fed_both has seg env xs inv.0 (ys ++ zs) all (Err c.in_err-stopped.field-0.0) c.loop-piece.sink c.feed_items.new.sink parts inv.1
-    (λ vs had. fed_stopped has seg env vs ys zs (ys ++ zs) (Err c.in_err-stopped.field-0.0) c.feed_items.new.sink refl (λ e. cc) (c.in_err-stopped.ensures.fed vs had)))
+    rw q.1 (fed_both has line xs inv.0 (ys ++ zs) all (Err c.in_err-stopped.field-0.0) c.loop-piece.sink c.feed_items.new.sink parts inv.1
+    (λ vs had. fed_stopped has line vs ys zs (ys ++ zs) (Err c.in_err-stopped.field-0.0) c.feed_items.new.sink refl (λ e. cc) (c.in_err-stopped.ensures.fed vs had)))
 
 pub returns-clause-fed : goal.returns-clause-fed
 returns-clause-fed g c = λ xs took.
@@ -97,5 +93,5 @@ returns-clause-fed g c = λ xs took.
     let f = λ (piece : Vec Item Global). piece.items in
     let inv = c.loop-piece.invariant.1 xs took in
     let past : length ps ≤ w = omega (arith, c.loop-piece-test.false, c.loop-piece.auto.piece-index-end) in
-    let same = sym inv.2 ∙ ap (λ qs. inv.0 ++ qs) (none_after f ps w c.loop-piece.next c.loop-piece.last past) ∙ append-nil inv.0 in
-    subst (λ (qs : List Item). IsFed g.S.LongSink.has_taken xs (walk_of (segment_in c.args.segment.now) c.args.env.now (trace qs end.Done)) (Ok fed.More) c.loop-piece.sink) (sym same) inv.1
+    let same = sym inv.2 ∙ ap (λ qs. inv.0 ++ qs) (none_after f ps w c.loop-piece.left.from c.loop-piece.left.to past) ∙ append-nil inv.0 in
+    subst (λ (qs : List Item). IsFed g.S.LongSink.has_taken xs (piped c.args.line (trace qs end.Done)) (Ok fed.More) c.loop-piece.sink) (sym same) inv.1

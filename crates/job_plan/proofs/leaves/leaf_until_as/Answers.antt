@@ -1,9 +1,12 @@
-use Rattle.std.proofs.Common.{◌≡◌, ◌+◌, suc, List, [], ◌++◌, Some, length, take, sym, ap, subst, ◌∙◌, rules}
+use Rattle.std.proofs.Common.{◌≡◌, ◌+◌, suc, List, [], ◌++◌, Some, Ok, length, take, sym, ap, subst, ◌∙◌, rules}
 use Rattle.trace.specs.declared.item.Item.{Item}
 use Rattle.trace.specs.declared.item.End.{End}
 use Rattle.trace.specs.declared.item.End.TheVariants as end
+use Rattle.trace.specs.declared.feeding.Fed.TheVariants as fed
+use Rattle.trace.specs.Sinks.{IsFed}
 use Rattle.trace.specs.Trace.{Trace, trace, nothing, append}
 use Rattle.trace.proofs.JoinLemmas.{pipe_ended}
+use Rattle.job_plan.specs.declared.leaves.PartSink.{PartSink}
 use Rattle.job_plan.specs.declared.part.Part.{Part}
 use Rattle.job_plan.specs.Parts.{EndsFor, HasTaken, StandsFor, end_in, is_settled, segment_in, walk_in}
 use Rattle.job_plan.specs.Pieces.{elements, piece_of}
@@ -17,9 +20,9 @@ use Rattle.job_plan.proofs.leaves.leaf_until_as.Goals as goal
 pub returns-then-is_settled-clause-stands : goal.returns-then-is_settled-clause-stands
 returns-then-is_settled-clause-stands g c =
     let s = segment_in c.args.segment.now in
-    let env = c.args.env.now in
-    whole_enough s env c.args.part (g.W.Stop.decides c.args.stop.now) c.args.from (piece_of c.args.from c.args.to (walk_in c.args.source.now))
-    (settled_first s env c.args.part nothing (walk_in c.args.source.now) c.args.from c.args.to (sym c.is_settled.ensures ∙ c.if-is_settled.true) c.requires.none)
+    let env = c.args.walked.env.now in
+    whole_enough s env c.args.part (g.W.Stop.decides c.args.stop.now) c.args.window.from (piece_of c.args.window.from c.args.window.to (walk_in c.args.walked.source))
+    (settled_first s env c.args.part nothing (walk_in c.args.walked.source) c.args.window.from c.args.window.to (sym c.is_settled.ensures ∙ c.if-is_settled.true) c.requires.none)
 
 pub returns-clause-stands : goal.returns-clause-stands
 returns-clause-stands g c =
@@ -28,12 +31,12 @@ returns-clause-stands g c =
     let f = end_in g.K.Ending.last in
     let m = last_stage s in
     let n = g.K.Ending.stage in
-    let env = c.args.env.now in
+    let env = c.args.walked.env.now in
     let named = g.K.Ending.env in
     let begun = g.K.Ending.begun in
-    let t = walk_in c.args.source.now in
-    let from = c.args.from in
-    let to = c.args.to in
+    let t = walk_in c.args.walked.source in
+    let from = c.args.window.from in
+    let to = c.args.window.to in
     let len : c.len.result ≡ length c.args.segment.now.stages.items = search rules in
     let stage = ap (λ k. c.args.segment.now.first_stage + k) (len ∙ sym (length-stages_of c.args.segment.now.stages.items)) in
     let ends : e ≡ f = ap end_in c.requires.last in
@@ -43,7 +46,9 @@ returns-clause-stands g c =
     let none : EndsFor e m env c.args.part (walk_of s env nothing) = c.requires.none in
     let at_first : EndsFor f n named begun (walk_of s env nothing) = subst (λ (b : Part). EndsFor f n named b (walk_of s env nothing)) c.requires.begun (unpinned f e n m named env c.args.part (walk_of s env nothing) (sym ends) (sym c.requires.stage) (sym c.requires.env) none) in
     let w_before = walk_of s env nothing in
-    let fed = (rw c.in-Some.is at c.in_ok-ended.ensures.whole) no_items (c.requires.last, stage ∙ c.requires.stage, c.requires.env, first) in
+    let has = λ (sink : PartSink g.row.K.Denot g.K.Ending) (items : List Item). (sink.segment.now.end ≡ g.K.Ending.last) × (sink.stage ≡ n) × (sink.env.now ≡ named) × HasTaken f n named begun sink.part items in
+    let piped_fed = (rw c.in-Some.is at c.in_ok-ended.ensures.whole) no_items (c.requires.last, stage ∙ c.requires.stage, c.requires.env, first) in
+    let fed = subst (λ (u : Trace). IsFed has no_items u (Ok c.in-Some.fed) c.feed_until.new.sink) (c.pipeline-line.ensures (trace (elements from to t.items) end.Done)) piped_fed in
     let part = c.feed_until.new.sink.part in
     whole_enough s env c.match-fed.sink.0 (g.W.Stop.decides c.args.stop.now) from (piece_of from to t)
     (elim c.match-fed.branch [
@@ -75,10 +80,10 @@ returns-in_default-clause-stands g c =
     let f = end_in g.K.Ending.last in
     let m = last_stage s in
     let n = g.K.Ending.stage in
-    let env = c.args.env.now in
+    let env = c.args.walked.env.now in
     let named = g.K.Ending.env in
     let begun = g.K.Ending.begun in
-    let t = walk_in c.args.source.now in
+    let t = walk_in c.args.walked.source in
     let len : c.len.result ≡ length c.args.segment.now.stages.items = search rules in
     let stage = ap (λ k. c.args.segment.now.first_stage + k) (len ∙ sym (length-stages_of c.args.segment.now.stages.items)) in
     let ends : e ≡ f = ap end_in c.requires.last in
@@ -87,8 +92,10 @@ returns-in_default-clause-stands g c =
     let none : EndsFor e m env c.args.part nothing = subst (λ (w : Trace). EndsFor e m env c.args.part w) (pipe_ended s.first s.stages env end.Done) c.requires.none in
     let at_first : EndsFor f n named begun nothing = subst (λ (b : Part). EndsFor f n named b nothing) c.requires.begun (unpinned f e n m named env c.args.part nothing (sym ends) (sym c.requires.stage) (sym c.requires.env) none) in
     let cut = rw c.in_default.is at c.in_ok-ended.ensures.cut in
-    let fed = cut.5 no_items (c.requires.last, stage ∙ c.requires.stage, c.requires.env, first) in
+    let has = λ (sink : PartSink g.row.K.Denot g.K.Ending) (items : List Item). (sink.segment.now.end ≡ g.K.Ending.last) × (sink.stage ≡ n) × (sink.env.now ≡ named) × HasTaken f n named begun sink.part items in
+    let piped_fed = cut.5 no_items (c.requires.last, stage ∙ c.requires.stage, c.requires.env, first) in
+    let fed = subst (λ (u : Trace). IsFed has no_items u (Ok fed.More) c.feed_until.new.sink) (c.pipeline-line.ensures (trace (elements c.args.window.from (Some cut.0) t.items) end.Done)) piped_fed in
     let part = c.feed_until.new.sink.part in
-    let front : Trace = trace (no_items ++ (walk_of s env (piece_of c.args.from (Some cut.0) t)).items) end.Done in
-    cut_enough s env part (g.W.Stop.decides c.args.stop.now) t c.args.from cut.0 c.args.to cut.1 cut.2 cut.3 cut.4.0 cut.4.1 cut.4.2 fed.1
+    let front : Trace = trace (no_items ++ (walk_of s env (piece_of c.args.window.from (Some cut.0) t)).items) end.Done in
+    cut_enough s env part (g.W.Stop.decides c.args.stop.now) t c.args.window.from cut.0 c.args.window.to cut.1 cut.2 cut.3 cut.4.0 cut.4.1 cut.4.2 fed.1
     (unpinned e f m n env named part front ends c.requires.stage c.requires.env (fed.0.3.0 nothing at_first))

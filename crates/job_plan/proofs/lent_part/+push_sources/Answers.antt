@@ -24,9 +24,9 @@ returns-in_ok-push_one-in-Some t c =
     let l = ap length whole ∙ length-append hs ts in
     let same : size ≡ length hs = omega (arith, c.plain_size-size.ensures, c.requires.few, l) in
     let ys = placed (o + start) (take count (drop start hs)) in
-    let zs = elements c.saturating_sub-from.result c.end_after-to.result (placed (o + size) ts) in
-    let all = elements c.args.from c.args.to (placed o (values_of (sources_of c.args.sources.now))) in
+    let zs = elements c.after-left.result.from c.after-left.result.to (placed (o + size) ts) in
+    let all = elements c.args.window.from c.args.window.to (placed o (values_of (sources_of c.args.sources.now))) in
     let gs = stages_of c.args.maps.stages.now in
-    let parts : all ≡ ys ++ zs = ap (λ vs. elements c.args.from c.args.to (placed o vs)) whole ∙ placed_positions o c.args.from c.args.to hs ts size start count same c.within-start.ensures.start c.within-start.ensures.count
-    ∙ (λ i. ys ++ elements (sym c.saturating_sub-from.ensures i) (sym c.end_after-to.ensures i) (placed (o + size) ts)) in
+    let parts : all ≡ ys ++ zs = ap (λ vs. elements c.args.window.from c.args.window.to (placed o vs)) whole ∙ placed_positions o c.args.window.from c.args.window.to hs ts size start count same c.within-start.ensures.start c.within-start.ensures.count
+    ∙ (λ i. ys ++ elements (sym c.after-left.ensures.from i) (sym c.after-left.ensures.to i) (placed (o + size) ts)) in
     on_ok_map c.push_sources.result (λ later. scanned_both c.args.part.now c.push_one.new.part c.push_sources.new.part (imaged gs ys) (imaged gs zs) (imaged gs all) c.in_ok-push_one-in-Some.ensures later (ap (imaged gs) parts ∙ imaged_both gs ys zs)) c.push_sources.ensures

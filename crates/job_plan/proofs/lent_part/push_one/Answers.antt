@@ -20,12 +20,12 @@ push_range-requires-clause-within c =
     let fa : FitsSigned w64 c.in-Range.from = search rules in
     let fb : FitsSigned w64 c.in-Range.to = search rules in
     let l = ap (λ s. length (plain_values (source_of s))) c.in-Range.is ∙ length-counted a (distance a b) in
-    let some : 0 < distance a b = omega (arith, c.requires.within, l, c.if-count-eq0.false) in
+    let some : 0 < distance a b = omega (arith, c.requires.within, l, c.if-portion-eq0.false) in
     let e1 = to_z-of_z w64 b fb in
     let e2 = ap (λ (z : ℤ). to_z w64 (of_z w64 (z -ℤ pos 1))) e1 ∙ to_z-of_z w64 (b -ℤ pos 1) (less_one_fits a b fa fb some) in
     let e3 : (b -ℤ pos 1) +ℤ pos 1 ≡ b = omega (arith, ints) in
     let ends = ap (λ (z : ℤ). z +ℤ pos 1) e2 ∙ e3 in
-    subst (λ (m : ℕ). c.args.start + c.args.count ≤ m) (l ∙ sym (λ i. distance (to_z-of_z w64 a fa i) (ends i))) c.requires.within
+    subst (λ (m : ℕ). c.args.portion.start + c.args.portion.count ≤ m) (l ∙ sym (λ i. distance (to_z-of_z w64 a fa i) (ends i))) c.requires.within
 
 pub push_range-requires-in-RangeClosed-clause-within : goal.push_range-requires-in-RangeClosed-clause-within
 push_range-requires-in-RangeClosed-clause-within c =
@@ -34,7 +34,7 @@ push_range-requires-in-RangeClosed-clause-within c =
     let fa : FitsSigned w64 c.in-RangeClosed.from = search rules in
     let fb : FitsSigned w64 c.in-RangeClosed.to = search rules in
     let l = ap (λ s. length (plain_values (source_of s))) c.in-RangeClosed.is ∙ length-counted a (distance a (b +ℤ pos 1)) in
-    subst (λ (m : ℕ). c.args.start + c.args.count ≤ m) (l ∙ sym (λ i. distance (to_z-of_z w64 a fa i) (to_z-of_z w64 b fb i +ℤ pos 1))) c.requires.within
+    subst (λ (m : ℕ). c.args.portion.start + c.args.portion.count ≤ m) (l ∙ sym (λ i. distance (to_z-of_z w64 a fa i) (to_z-of_z w64 b fb i +ℤ pos 1))) c.requires.within
 
 pub returns-in-Range : goal.returns-in-Range
 returns-in-Range c =
@@ -43,10 +43,10 @@ returns-in-Range c =
     let o = c.args.origin in
     let fa : FitsSigned w64 c.in-Range.from = search rules in
     let l = ap (λ s. length (plain_values (source_of s))) c.in-Range.is ∙ length-counted a n in
-    let few : c.args.start + c.args.count ≤ n = subst (λ (m : ℕ). c.args.start + c.args.count ≤ m) l c.requires.within in
+    let few : c.args.portion.start + c.args.portion.count ≤ n = subst (λ (m : ℕ). c.args.portion.start + c.args.portion.count ≤ m) l c.requires.within in
     let gs = stages_of c.args.maps.stages.now in
-    let e = ap (λ s. imaged gs (placed o (take c.args.count (drop c.args.start (plain_values (source_of s)))))) c.in-Range.is ∙ ap (λ vs. imaged gs (placed o vs)) (counted_piece a n c.args.start c.args.count few)
-    ∙ ap (λ (z : ℤ). imaged gs (placed o (counted (z +ℤ pos c.args.start) c.args.count))) (sym (to_z-of_z w64 a fa)) in
+    let e = ap (λ s. imaged gs (placed o (take c.args.portion.count (drop c.args.portion.start (plain_values (source_of s)))))) c.in-Range.is ∙ ap (λ vs. imaged gs (placed o vs)) (counted_piece a n c.args.portion.start c.args.portion.count few)
+    ∙ ap (λ (z : ℤ). imaged gs (placed o (counted (z +ℤ pos c.args.portion.start) c.args.portion.count))) (sym (to_z-of_z w64 a fa)) in
     subst (λ (ys : List Item). OnOk c.push_range.result (c.push_range.new.part ≡ scan_append c.args.part.now (trace ys end.Done))) (sym e) c.push_range.ensures
 
 pub returns-in-RangeClosed : goal.returns-in-RangeClosed
@@ -56,8 +56,8 @@ returns-in-RangeClosed c =
     let o = c.args.origin in
     let fa : FitsSigned w64 c.in-RangeClosed.from = search rules in
     let l = ap (λ s. length (plain_values (source_of s))) c.in-RangeClosed.is ∙ length-counted a n in
-    let few : c.args.start + c.args.count ≤ n = subst (λ (m : ℕ). c.args.start + c.args.count ≤ m) l c.requires.within in
+    let few : c.args.portion.start + c.args.portion.count ≤ n = subst (λ (m : ℕ). c.args.portion.start + c.args.portion.count ≤ m) l c.requires.within in
     let gs = stages_of c.args.maps.stages.now in
-    let e = ap (λ s. imaged gs (placed o (take c.args.count (drop c.args.start (plain_values (source_of s)))))) c.in-RangeClosed.is ∙ ap (λ vs. imaged gs (placed o vs)) (counted_piece a n c.args.start c.args.count few)
-    ∙ ap (λ (z : ℤ). imaged gs (placed o (counted (z +ℤ pos c.args.start) c.args.count))) (sym (to_z-of_z w64 a fa)) in
+    let e = ap (λ s. imaged gs (placed o (take c.args.portion.count (drop c.args.portion.start (plain_values (source_of s)))))) c.in-RangeClosed.is ∙ ap (λ vs. imaged gs (placed o vs)) (counted_piece a n c.args.portion.start c.args.portion.count few)
+    ∙ ap (λ (z : ℤ). imaged gs (placed o (counted (z +ℤ pos c.args.portion.start) c.args.portion.count))) (sym (to_z-of_z w64 a fa)) in
     subst (λ (ys : List Item). OnOk c.push_range-in-RangeClosed.result (c.push_range-in-RangeClosed.new.part ≡ scan_append c.args.part.now (trace ys end.Done))) (sym e) c.push_range-in-RangeClosed.ensures

@@ -4,7 +4,7 @@ use Rattle.trace.specs.declared.item.Item.{Item}
 use Rattle.trace.specs.declared.item.End.TheVariants as end
 use Rattle.trace.specs.declared.feeding.Fed.{Fed}
 use Rattle.trace.specs.Sinks.{IsFed}
-use Rattle.trace.specs.Trace.{trace}
+use Rattle.trace.specs.Trace.{Trace, trace}
 use Rattle.slice_ops.specs.Rests.{rest_of}
 use Rattle.job_plan.specs.declared.link_sink.Passage.{Passage}
 use Rattle.job_plan.specs.declared.link_sink.Passage.TheVariants as passage
@@ -27,7 +27,7 @@ returns-clause-fed g c = λ begun xs took.
     let win = take (cut.to - cut.from) (drop cut.from items) in
     let here : HasPassed h f begun n next env (rest_of p.rest) passage.Open p.inner xs = subst (λ (q : Passage). HasPassed h f begun n next env (rest_of p.rest) q p.inner xs) c.in-Open.is took in
     let on = passed_on h f begun n next env xs items win cut.end (rest_of p.rest) (rest_of cut.rest) here.0 c.hand_on.new.sink here.2 c.cut-cut.ensures.passes
-    c.in-Ok.fed c.after-passage.result (c.in-Ok.ensures.fed here.0 here.1) c.in-Ok.ensures.flow c.after-passage.ensures in
+    c.in-Ok.fed c.after-passage.result (subst (λ (u : Trace). IsFed h here.0 u (Ok c.in-Ok.fed) c.hand_on.new.sink) (c.pipeline-line.ensures (trace win end.Done)) (c.in-Ok.ensures.fed here.0 here.1)) c.in-Ok.ensures.flow c.after-passage.ensures in
     let values = ap length c.requires.values in
     let size = length-map items (λ (x : Item). x.value) in
     let some_value : 0 < length c.args.values.now = search rules in

@@ -7,16 +7,15 @@ use Rattle.trace.specs.Sinks.{IsFed}
 use Rattle.trace.specs.Trace.{trace}
 use Rattle.reduce_ops.specs.Operators.{value_of}
 use Rattle.prefix_scan.specs.Scans.{scan_at}
-use Rattle.job_plan.specs.Parts.{segment_in}
 use Rattle.job_plan.specs.Pieces.{elements}
-use Rattle.job_plan.specs.Plans.{walk_of}
+use Rattle.batch_eval.specs.Pipelines.{piped}
 use Rattle.job_plan.specs.Scans.{all_items}
 use Rattle.job_plan.proofs.scanned_pieces.feed_from.Given as goal
 
 abbrev pub invariant-loop-piece : goal.invariant-loop-piece
 invariant-loop-piece g l = (g.S.LongSink.flow l.sink ≡ flow.More)
     × ((xs : List Item) → g.S.LongSink.has_taken l.initial.sink xs → (done : List Item)
-    × IsFed g.S.LongSink.has_taken xs (walk_of (segment_in l.segment) l.env (trace done end.Done)) (Ok fed.More) l.sink
-    × (done ++ elements l.next l.last (scan_at (value_of l.prefix.op) l.prefix.range l.first l.folded (all_items (drop l.piece-index l.pieces)))
-    ≡ elements l.fn.from l.fn.to (scan_at (value_of l.prefix.op) l.prefix.range l.fn.position l.fn.start (all_items l.pieces))))
-    × (l.first + length (all_items (drop l.piece-index l.pieces)) < 2 ^ 64)
+    × IsFed g.S.LongSink.has_taken xs (piped l.line (trace done end.Done)) (Ok fed.More) l.sink
+    × (done ++ elements l.left.from l.left.to (scan_at (value_of l.scan.prefix.op) l.scan.prefix.range l.position l.start (all_items (drop l.piece-index l.pieces)))
+    ≡ elements l.fn.window.from l.fn.window.to (scan_at (value_of l.scan.prefix.op) l.scan.prefix.range l.scan.position l.scan.start (all_items l.pieces))))
+    × (l.position + length (all_items (drop l.piece-index l.pieces)) < 2 ^ 64)

@@ -6,10 +6,9 @@ use Rattle.trace.specs.Trace.{Trace, trace}
 use Rattle.reduce_ops.specs.Operators.{value_of}
 use Rattle.prefix_scan.specs.Scans.{scan_at}
 use Rattle.job_plan.specs.declared.folded_piece.FoldedPiece.{FoldedPiece}
-use Rattle.job_plan.specs.declared.folded_piece.Mark.{Mark}
-use Rattle.job_plan.specs.Parts.{segment_in}
+use Rattle.job_plan.specs.declared.folded_piece.PieceStart.{PieceStart}
 use Rattle.job_plan.specs.Pieces.{elements}
-use Rattle.job_plan.specs.Plans.{walk_of}
+use Rattle.batch_eval.specs.Pipelines.{piped}
 use Rattle.job_plan.specs.Scans.{all_items}
 use Rattle.job_plan.proofs.Elements.{rest_of}
 use Rattle.job_plan.proofs.ScanLemmas.{few_after, marked, scanned_after}
@@ -21,7 +20,7 @@ feed_from-requires-clause-few g c =
     let ps = walk.pieces.items in
     let k = c.in-Some.first in
     let m = c.in-Some.mark in
-    let found = sym (ap (λ (ms : List Mark). slice_get ms k) (c.deref.ensures.value ∙ c.walk.invariant.marks)) ∙ c.in-Some.ensures.found in
+    let found = sym (ap (λ (ms : List PieceStart). slice_get ms k) (c.deref.ensures.value ∙ c.walk.invariant.marks)) ∙ c.in-Some.ensures.found in
     let at = marked (value_of walk.prefix.op) walk.prefix.range ps k m found in
     let size : walk.size < 18446744073709551616 = c.walk.invariant.few in
     let few = few_after ps k m.before walk.size 18446744073709551616 at.0 c.walk.invariant.size_is size in
@@ -42,13 +41,13 @@ returns-then-first-len-clause-fed g c = λ xs took.
     let r = walk.prefix.range in
     let k = c.in-Some.first in
     let m = c.in-Some.mark in
-    let found = sym (ap (λ (ms : List Mark). slice_get ms k) (c.deref.ensures.value ∙ c.walk.invariant.marks)) ∙ c.in-Some.ensures.found in
+    let found = sym (ap (λ (ms : List PieceStart). slice_get ms k) (c.deref.ensures.value ∙ c.walk.invariant.marks)) ∙ c.in-Some.ensures.found in
     let at = marked f r ps k m found in
     let all : c.args.walk.now.items ≡ scan_at f r 0 None (all_items ps) = ap (λ (t : Trace). t.items) (sym c.walk.view_is) in
     let left = ap (λ (qs : List FoldedPiece). take (length qs - k) (drop k qs)) c.deref-then-first-len.ensures.value ∙ rest_of k ps in
-    let same = ap (elements c.args.from c.args.to) all ∙ scanned_after f r ps k m.before c.args.from m.start c.args.to at.0 at.1 c.in-Some.ensures.inside
-    ∙ (λ i. elements (c.args.from - m.before) (sym c.end_after-to.ensures i) (scan_at f r m.before m.start (all_items (sym left i)))) in
-    subst (λ (ys : List Item). IsFed g.S.LongSink.has_taken xs (walk_of (segment_in c.args.segment.now) c.args.env.now (trace ys end.Done)) c.feed_from.result c.feed_from.new.sink) (sym same) (c.feed_from.ensures.fed xs took)
+    let same = ap (elements c.args.window.from c.args.window.to) all ∙ scanned_after f r ps k m.before c.args.window.from m.start c.args.window.to at.0 at.1 c.in-Some.ensures.inside
+    ∙ (λ i. elements (sym c.after-left.ensures.from i) (sym c.after-left.ensures.to i) (scan_at f r m.before m.start (all_items (sym left i)))) in
+    subst (λ (ys : List Item). IsFed g.S.LongSink.has_taken xs (piped c.args.line (trace ys end.Done)) c.feed_from.result c.feed_from.new.sink) (sym same) (c.feed_from.ensures.fed xs took)
 
 pub returns-clause-fed : goal.returns-clause-fed
 returns-clause-fed g c = λ xs took.
@@ -57,5 +56,5 @@ returns-clause-fed g c = λ xs took.
     let f = value_of walk.prefix.op in
     let r = walk.prefix.range in
     let all : c.args.walk.now.items ≡ scan_at f r 0 None (all_items ps) = ap (λ (t : Trace). t.items) (sym c.walk.view_is) in
-    let same = ap (elements c.args.from c.args.to) (all ∙ ap (λ (qs : List FoldedPiece). scan_at f r 0 None (all_items qs)) (sym c.deref-2.ensures.value)) in
-    subst (λ (ys : List Item). IsFed g.S.LongSink.has_taken xs (walk_of (segment_in c.args.segment.now) c.args.env.now (trace ys end.Done)) c.feed_from-2.result c.feed_from-2.new.sink) (sym same) (c.feed_from-2.ensures.fed xs took)
+    let same = ap (elements c.args.window.from c.args.window.to) (all ∙ ap (λ (qs : List FoldedPiece). scan_at f r 0 None (all_items qs)) (sym c.deref-2.ensures.value)) in
+    subst (λ (ys : List Item). IsFed g.S.LongSink.has_taken xs (piped c.args.line (trace ys end.Done)) c.feed_from-2.result c.feed_from-2.new.sink) (sym same) (c.feed_from-2.ensures.fed xs took)

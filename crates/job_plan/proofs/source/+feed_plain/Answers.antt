@@ -2,7 +2,6 @@ use Rattle.std.proofs.Common.{◌≡◌, ◌+◌, ◌-◌, ◌∷◌, ◌++◌, 
 use Rattle.std.proofs.lemmas.Result.{err_from_is_err_and}
 use Rattle.trace.specs.Cover.{placed}
 use Rattle.job_language.specs.Jobs.{source_of, sources_of}
-use Rattle.job_plan.specs.Parts.{segment_in}
 use Rattle.job_plan.specs.Pieces.{elements}
 use Rattle.job_plan.specs.Spans.{after}
 use Rattle.job_plan.specs.Walks.{plain_values, values_of}
@@ -14,8 +13,8 @@ use Rattle.job_plan.proofs.source.+feed_plain.Goals as goal
 pub returns-in-None-clause-fed : goal.returns-in-None-clause-fed
 returns-in-None-clause-fed g t c = λ xs took.
     let none = no_items c.args.sources.now c.in-None.ensures.cases in
-    fed_none g.S.LongSink.has_taken (segment_in c.args.segment.now) c.args.env.now xs (elements c.args.from c.args.to (placed c.args.origin (values_of (sources_of c.args.sources.now)))) c.args.sink.now
-    (ap (λ ss. elements c.args.from c.args.to (placed c.args.origin (values_of (sources_of ss)))) none ∙ elements_none c.args.from c.args.to) took
+    fed_none g.S.LongSink.has_taken c.args.line xs (elements c.args.window.from c.args.window.to (placed c.args.origin (values_of (sources_of c.args.sources.now)))) c.args.sink.now
+    (ap (λ ss. elements c.args.window.from c.args.window.to (placed c.args.origin (values_of (sources_of ss)))) none ∙ elements_none c.args.window.from c.args.window.to) took
 
 pub returns-in_default-clause-fed : goal.returns-in_default-clause-fed
 returns-in_default-clause-fed g t c = λ xs took.
@@ -30,13 +29,12 @@ returns-in_default-clause-fed g t c = λ xs took.
     let l = ap length whole ∙ length-append hs ts in
     let same : size ≡ length hs = omega (arith, c.plain_size-size.ensures, c.requires.few, l) in
     let ys = placed (o + start) (take count (drop start hs)) in
-    let zs = elements (c.args.from - size) (after c.args.to size) (placed (o + size) ts) in
-    let all = elements c.args.from c.args.to (placed o (values_of (sources_of c.args.sources.now))) in
-    let parts : all ≡ ys ++ zs = ap (λ vs. elements c.args.from c.args.to (placed o vs)) whole ∙ placed_positions o c.args.from c.args.to hs ts size start count same c.within-start.ensures.start c.within-start.ensures.count in
+    let zs = elements (c.args.window.from - size) (after c.args.window.to size) (placed (o + size) ts) in
+    let all = elements c.args.window.from c.args.window.to (placed o (values_of (sources_of c.args.sources.now))) in
+    let parts : all ≡ ys ++ zs = ap (λ vs. elements c.args.window.from c.args.window.to (placed o vs)) whole ∙ placed_positions o c.args.window.from c.args.window.to hs ts size start count same c.within-start.ensures.start c.within-start.ensures.count in
     let has = g.S.LongSink.has_taken in
-    let seg = segment_in c.args.segment.now in
-    let env = c.args.env.now in
-    fed_stopped has seg env xs ys zs all (Ok c.in_ok-stopped-in-Some.stopped) c.feed_one.new.sink parts (λ e. c.in_default.not-More cc) (c.in_ok-stopped-in-Some.ensures.fed xs took)
+    let line = c.args.line in
+    fed_stopped has line xs ys zs all (Ok c.in_ok-stopped-in-Some.stopped) c.feed_one.new.sink parts (λ e. c.in_default.not-More cc) (c.in_ok-stopped-in-Some.ensures.fed xs took)
 
 pub returns-in_err-stopped-in-Some-clause-fed : goal.returns-in_err-stopped-in-Some-clause-fed
 returns-in_err-stopped-in-Some-clause-fed g t c = λ xs took.
@@ -51,14 +49,13 @@ returns-in_err-stopped-in-Some-clause-fed g t c = λ xs took.
     let l = ap length whole ∙ length-append hs ts in
     let same : size ≡ length hs = omega (arith, c.plain_size-size.ensures, c.requires.few, l) in
     let ys = placed (o + start) (take count (drop start hs)) in
-    let zs = elements (c.args.from - size) (after c.args.to size) (placed (o + size) ts) in
-    let all = elements c.args.from c.args.to (placed o (values_of (sources_of c.args.sources.now))) in
-    let parts : all ≡ ys ++ zs = ap (λ vs. elements c.args.from c.args.to (placed o vs)) whole ∙ placed_positions o c.args.from c.args.to hs ts size start count same c.within-start.ensures.start c.within-start.ensures.count in
+    let zs = elements (c.args.window.from - size) (after c.args.window.to size) (placed (o + size) ts) in
+    let all = elements c.args.window.from c.args.window.to (placed o (values_of (sources_of c.args.sources.now))) in
+    let parts : all ≡ ys ++ zs = ap (λ vs. elements c.args.window.from c.args.window.to (placed o vs)) whole ∙ placed_positions o c.args.window.from c.args.window.to hs ts size start count same c.within-start.ensures.start c.within-start.ensures.count in
     let has = g.S.LongSink.has_taken in
-    let seg = segment_in c.args.segment.now in
-    let env = c.args.env.now in
+    let line = c.args.line in
     let p = err_from_is_err_and c.from_residual.result c.from_residual.ensures.1 in
-    rw p.1 (fed_stopped has seg env xs ys zs all (Err c.in_err-stopped-in-Some.field-0.0) c.feed_one.new.sink parts (λ e. cc) (c.in_err-stopped-in-Some.ensures.fed xs took))
+    rw p.1 (fed_stopped has line xs ys zs all (Err c.in_err-stopped-in-Some.field-0.0) c.feed_one.new.sink parts (λ e. cc) (c.in_err-stopped-in-Some.ensures.fed xs took))
 
 pub returns-in-More-clause-fed : goal.returns-in-More-clause-fed
 returns-in-More-clause-fed g t c = λ xs took.
@@ -73,13 +70,12 @@ returns-in-More-clause-fed g t c = λ xs took.
     let l = ap length whole ∙ length-append hs ts in
     let same : size ≡ length hs = omega (arith, c.plain_size-size.ensures, c.requires.few, l) in
     let ys = placed (o + start) (take count (drop start hs)) in
-    let zs = elements (c.args.from - size) (after c.args.to size) (placed (o + size) ts) in
-    let all = elements c.args.from c.args.to (placed o (values_of (sources_of c.args.sources.now))) in
-    let parts : all ≡ ys ++ zs = ap (λ vs. elements c.args.from c.args.to (placed o vs)) whole ∙ placed_positions o c.args.from c.args.to hs ts size start count same c.within-start.ensures.start c.within-start.ensures.count in
+    let zs = elements (c.args.window.from - size) (after c.args.window.to size) (placed (o + size) ts) in
+    let all = elements c.args.window.from c.args.window.to (placed o (values_of (sources_of c.args.sources.now))) in
+    let parts : all ≡ ys ++ zs = ap (λ vs. elements c.args.window.from c.args.window.to (placed o vs)) whole ∙ placed_positions o c.args.window.from c.args.window.to hs ts size start count same c.within-start.ensures.start c.within-start.ensures.count in
     let has = g.S.LongSink.has_taken in
-    let seg = segment_in c.args.segment.now in
-    let env = c.args.env.now in
+    let line = c.args.line in
     let more = rw c.in-More.is at c.in_ok-stopped-in-Some.ensures.fed in
-    let later = elements c.saturating_sub-from.result c.end_after.result (placed (o + size) ts) in
-    let same_later : zs ≡ later = λ i. elements (sym c.saturating_sub-from.ensures i) (sym c.end_after.ensures i) (placed (o + size) ts) in
-    fed_both has seg env xs ys later all c.feed_plain.result c.feed_one.new.sink c.feed_plain.new.sink (parts ∙ ap (λ vs. ys ++ vs) same_later) (more xs took) c.feed_plain.ensures.fed
+    let later = elements c.after-left.result.from c.after-left.result.to (placed (o + size) ts) in
+    let same_later : zs ≡ later = λ i. elements (sym c.after-left.ensures.from i) (sym c.after-left.ensures.to i) (placed (o + size) ts) in
+    fed_both has line xs ys later all c.feed_plain.result c.feed_one.new.sink c.feed_plain.new.sink (parts ∙ ap (λ vs. ys ++ vs) same_later) (more xs took) c.feed_plain.ensures.fed

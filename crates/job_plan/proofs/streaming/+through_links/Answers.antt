@@ -20,10 +20,10 @@ through_links-requires t c =
 pub returns-clause-stands : goal.returns-clause-stands
 returns-clause-stands t c =
     let s = segment_in c.args.last.now in
-    let env = c.args.env.now in
+    let env = c.args.walked.env.now in
     let given : walk_in c.of_given.result ≡ c.in_ok-given.given = search rules in
     if_ok_map _ _ c.through_links.result
     (λ part stands.
     through_all c.args.links.now c.split_at.result.0.now c.split_at.result.1.now c.in-Some.later.now c.in-Some.link.now c.split_at.ensures.by_index.0 c.in-Some.ensures.cases.0
-    (λ (u : Trace). StandsFor s env part u) env (walk_in c.args.source.now) (walk_in c.of_given.result) (given ∙ c.in_ok-given.ensures) stands)
+    (λ (u : Trace). StandsFor s env part u) env (walk_in c.args.walked.source) (walk_in c.of_given.result) (given ∙ c.in_ok-given.ensures) stands)
     c.through_links.ensures.stands

@@ -1,6 +1,6 @@
 use Rattle.std.proofs.Common.{◌+◌, ◌≤◌, Some, arith}
 use Rattle.trace.specs.declared.feeding.Fed.TheVariants as fed
-use Rattle.job_plan.specs.Parts.{segment_in, walk_in}
+use Rattle.job_plan.specs.Parts.{walk_in}
 use Rattle.job_plan.proofs.StretchLemmas.{in_order, known_end, none_walked, more_walked, ended_walked}
 use Rattle.job_plan.proofs.stretches.feed_until.Goals as goal
 
@@ -10,7 +10,7 @@ loop-next-init g c = record {
   within = c.requires.ordered;
   wants = c.requires.wants;
   still = λ d h. h;
-  fed = none_walked g.S.LongSink.has_taken (segment_in c.args.segment.now) c.args.env.now (walk_in c.args.source.now).items c.args.from c.args.sink.now;
+  fed = none_walked g.S.LongSink.has_taken c.args.line (walk_in c.args.source.now).items c.args.window.from c.args.sink.now;
 }
 
 pub returns-in_default : goal.returns-in_default
@@ -20,9 +20,9 @@ returns-in_default g c =
     let left = c.saturating_sub.ensures in
     let before : next ≤ c.end_of-end.result = omega (arith, test, left) in
     let low = c.loop-next.invariant.after in record {
-      whole = ended_walked g.S.LongSink.has_taken (segment_in c.args.segment.now) c.args.env.now (walk_in c.args.source.now).items c.args.from next c.args.to c.in_ok-ended.ended c.args.sink.now c.feed.new.sink
-          (omega (arith, low)) (in_order c.end_of-end.result next c.args.to c.end_of-end.ensures.given before) c.in_default.not-More
-          (more_walked g.S.LongSink.has_taken (segment_in c.args.segment.now) c.args.env.now (walk_in c.args.source.now).items c.args.from c.loop-next.position (Some next) c.in_ok-ended.ended c.args.sink.now c.loop-next.sink c.feed.new.sink
+      whole = ended_walked g.S.LongSink.has_taken c.args.line (walk_in c.args.source.now).items c.args.window.from next c.args.window.to c.in_ok-ended.ended c.args.sink.now c.feed.new.sink
+          (omega (arith, low)) (in_order c.end_of-end.result next c.args.window.to c.end_of-end.ensures.given before) c.in_default.not-More
+          (more_walked g.S.LongSink.has_taken c.args.line (walk_in c.args.source.now).items c.args.window.from c.loop-next.position (Some next) c.in_ok-ended.ended c.args.sink.now c.loop-next.sink c.feed.new.sink
           low (omega arith) c.loop-next.invariant.fed c.in_ok-ended.ensures.fed);
       cut = tt;
       flow = c.in_ok-ended.ensures.flow;
@@ -40,10 +40,10 @@ returns-then-is_past-clause-cut g c =
     let took = rw c.in-More.is at c.in_ok-ended.ensures.fed in (
       next,
       omega (arith, low),
-      in_order c.end_of-end.result next c.args.to c.end_of-end.ensures.given before,
-      known_end c.end_of-end.result next _ c.args.to c.end_of-end.ensures.whole before,
+      in_order c.end_of-end.result next c.args.window.to c.end_of-end.ensures.given before,
+      known_end c.end_of-end.result next _ c.args.window.to c.end_of-end.ensures.whole before,
       (past.0, c.loop-next.invariant.still past.0 past.1, past.2),
-      more_walked g.S.LongSink.has_taken (segment_in c.args.segment.now) c.args.env.now (walk_in c.args.source.now).items c.args.from c.loop-next.position (Some next) fed.More c.args.sink.now c.loop-next.sink c.feed.new.sink
+      more_walked g.S.LongSink.has_taken c.args.line (walk_in c.args.source.now).items c.args.window.from c.loop-next.position (Some next) fed.More c.args.sink.now c.loop-next.sink c.feed.new.sink
           low (omega arith) c.loop-next.invariant.fed took,
     )
 
@@ -58,14 +58,14 @@ loop-next-preserved g c =
     let flow = rw c.in-More.is at c.in_ok-ended.ensures.flow in
     record {
       after = omega (arith, low);
-      within = in_order c.end_of-end.result next c.args.to c.end_of-end.ensures.given before;
+      within = in_order c.end_of-end.result next c.args.window.to c.end_of-end.ensures.given before;
       wants = flow;
       still = λ d h. c.loop-next.invariant.still d (c.is_past.ensures.still d h);
-      fed = more_walked g.S.LongSink.has_taken (segment_in c.args.segment.now) c.args.env.now (walk_in c.args.source.now).items c.args.from c.loop-next.position (Some next) fed.More c.args.sink.now c.loop-next.sink c.feed.new.sink
+      fed = more_walked g.S.LongSink.has_taken c.args.line (walk_in c.args.source.now).items c.args.window.from c.loop-next.position (Some next) fed.More c.args.sink.now c.loop-next.sink c.feed.new.sink
           low (omega arith) c.loop-next.invariant.fed took;
     }
 
 pub returns-clause-whole : goal.returns-clause-whole
 returns-clause-whole g c =
-    more_walked g.S.LongSink.has_taken (segment_in c.args.segment.now) c.args.env.now (walk_in c.args.source.now).items c.args.from c.loop-next.position c.args.to c.in_ok-feed.field-0 c.args.sink.now c.loop-next.sink c.feed-2.new.sink
+    more_walked g.S.LongSink.has_taken c.args.line (walk_in c.args.source.now).items c.args.window.from c.loop-next.position c.args.window.to c.in_ok-feed.field-0 c.args.sink.now c.loop-next.sink c.feed-2.new.sink
     c.loop-next.invariant.after c.loop-next.invariant.within c.loop-next.invariant.fed c.in_ok-feed.ensures.fed

@@ -3,9 +3,9 @@ use Rattle.trace.specs.declared.item.End.TheVariants as end
 use Rattle.trace.specs.declared.sink.Flow.TheVariants as flow
 use Rattle.trace.specs.declared.feeding.Fed.TheVariants as fed
 use Rattle.trace.specs.Trace.{trace}
-use Rattle.job_plan.specs.Parts.{segment_in, walk_in}
+use Rattle.job_plan.specs.Parts.{walk_in}
 use Rattle.job_plan.specs.Pieces.{elements}
-use Rattle.job_plan.specs.Plans.{walk_of}
+use Rattle.batch_eval.specs.Pipelines.{piped}
 use Rattle.job_plan.specs.Spans.{IsNotAfter}
 use Rattle.job_plan.specs.Stretches.{IsWalked}
 use Rattle.job_plan.proofs.stretches.feed_until.Given as goal
@@ -13,11 +13,11 @@ use Rattle.job_plan.proofs.stretches.feed_until.Given as goal
 abbrev pub invariant-loop-next : goal.invariant-loop-next
 invariant-loop-next g l =
     record {
-      after : l.from ≤ l.position;
-      within : IsNotAfter l.position l.to;
+      after : l.window.from ≤ l.position;
+      within : IsNotAfter l.position l.window.to;
       wants : g.S.LongSink.flow l.sink ≡ flow.More;
       still : (c : ℕ) → g.W.Stop.decides l.stop c → g.W.Stop.decides l.initial.stop c;
-      fed : IsWalked g.S.LongSink.has_taken (λ ys. walk_of (segment_in l.segment) l.env (trace ys end.Done)) (elements l.from (Some l.position) (walk_in l.source).items) l.initial.sink fed.More l.sink;
+      fed : IsWalked g.S.LongSink.has_taken (λ ys. piped l.line (trace ys end.Done)) (elements l.window.from (Some l.position) (walk_in l.source).items) l.initial.sink fed.More l.sink;
     }
 
 abbrev pub decreases-loop-next : goal.decreases-loop-next

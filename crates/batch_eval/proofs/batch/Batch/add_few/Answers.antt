@@ -32,7 +32,7 @@ pub returns-clause-added : goal.returns-clause-added
 returns-clause-added c = λ stage env bounds.
     let b = c.self.inside in
     let from = c.batch.inside in
-    let inner = inner_of c.args.inner.now in
+    let inner = inner_of c.args.bounds.inner.now in
     let froms = c.args.bounds.froms.now in
     let tos = c.args.bounds.tos.now in
     let p = c.args.position in

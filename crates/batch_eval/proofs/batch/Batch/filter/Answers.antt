@@ -26,4 +26,4 @@ returns c =
     λ j below. ap (λ (xs : List ℤ). at xs j) values_are ∙ kept.values j below ∙ ap (λ (xs : List ℤ). at xs (get_or (passing flags live) j 0)) c.deref_mut-2.ensures.value in
     let origin : (j : ℕ) → j < n → get_or new_origins.items j 0 ≡ origin_at b.start b.origins.items (get_or (passing flags live) j 0) =
     λ j below. ap (λ (xs : List ℕ). get_or xs j 0) origins_are ∙ kept.origins j below ∙ ap (λ (xs : List ℕ). origin_at b.start xs (get_or (passing flags live) j 0)) c.deref_mut-3.ensures.value in
-    batch_filtered c.args.env.now c.args.stage b.live b.start b.origins.items b.values.items b.end c.args.self.now c.eval_bool-reached.result out (truth_of c.args.test.now) c.deref.result.now new_values.items flags c.deref-2.result.now new_origins.items c.stopped-self-inside.result n c.eval_bool-reached.ensures c.deref.ensures.value set c.deref-2.ensures.value c.stopped-self-inside.ensures kept.count value origin c.self.view_is
+    batch_filtered c.args.line.env.now c.args.line.first b.live b.start b.origins.items b.values.items b.end c.args.self.now c.eval_bool-reached.result out (truth_of c.args.test.now) c.deref.result.now new_values.items flags c.deref-2.result.now new_origins.items c.stopped-self-inside.result n c.eval_bool-reached.ensures c.deref.ensures.value set c.deref-2.ensures.value c.stopped-self-inside.ensures kept.count value origin c.self.view_is

@@ -30,4 +30,4 @@ returns c =
     λ j below. ap (λ (ys : List ℤ). at ys j) values_are ∙ kept.values j below in
     let origin : (j : ℕ) → j < n → get_or new_origins.items j 0 ≡ get_or places_now (get_or (passing flags live) j 0) 0 =
     λ j below. ap (λ (ys : List ℕ). get_or ys j 0) origins_are ∙ kept.origins j below in
-    batch_filtered c.args.env.now c.args.stage (length xs) None places_now xs end.Done (trace (listed_items places_now xs) end.Done) c.eval_bool-reached.result out (truth_of c.args.test.now) xs new_values.items flags places_now new_origins.items c.stopped-self-inside.result n c.eval_bool-reached.ensures refl set refl c.stopped-self-inside.ensures kept.count value origin refl
+    batch_filtered c.args.line.env.now c.args.line.first (length xs) None places_now xs end.Done (trace (listed_items places_now xs) end.Done) c.eval_bool-reached.result out (truth_of c.args.test.now) xs new_values.items flags places_now new_origins.items c.stopped-self-inside.result n c.eval_bool-reached.ensures refl set refl c.stopped-self-inside.ensures kept.count value origin refl

@@ -34,4 +34,4 @@ returns c =
     let origin : (j : ℕ) → j < n → get_or new_origins.items j 0 ≡ run.origin + get_or (passing flags live) j 0 =
     λ j below. ap (λ (ys : List ℕ). get_or ys j 0) origins_are ∙ kept.origins j below in
     let seen = ap (λ (ys : List Item). trace ys end.Done) (lanes_placed run.origin b.origins.items xs run.few) in
-    batch_filtered c.args.env.now c.args.stage (length xs) (Some run.origin) b.origins.items xs end.Done (trace (placed run.origin xs) end.Done) c.eval_bool-reached.result out (truth_of c.args.test.now) xs new_values.items flags c.deref.result.now new_origins.items c.stopped-self-inside.result n c.eval_bool-reached.ensures refl set c.deref.ensures.value c.stopped-self-inside.ensures kept.count value origin seen
+    batch_filtered c.args.line.env.now c.args.line.first (length xs) (Some run.origin) b.origins.items xs end.Done (trace (placed run.origin xs) end.Done) c.eval_bool-reached.result out (truth_of c.args.test.now) xs new_values.items flags c.deref.result.now new_origins.items c.stopped-self-inside.result n c.eval_bool-reached.ensures refl set c.deref.ensures.value c.stopped-self-inside.ensures kept.count value origin seen

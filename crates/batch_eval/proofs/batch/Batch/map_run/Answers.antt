@@ -18,4 +18,4 @@ returns c =
     let out = c.eval_long-reached.new.out in
     let images = with_items_is b.values out (search (rules, places)) in
     let seen = ap (λ (ys : List Item). trace ys end.Done) (lanes_placed run.origin b.origins.items xs run.few) in
-    batch_mapped c.args.env.now c.args.stage (length xs) (Some run.origin) b.origins.items xs end.Done (trace (placed run.origin xs) end.Done) c.eval_long-reached.result out (long_of c.args.image.now) xs (with_items b.values out).items c.deref.result.now c.stopped-self-inside.result c.eval_long-reached.ensures refl images c.deref.ensures.value c.stopped-self-inside.ensures seen
+    batch_mapped c.args.line.env.now c.args.line.first (length xs) (Some run.origin) b.origins.items xs end.Done (trace (placed run.origin xs) end.Done) c.eval_long-reached.result out (long_of c.args.image.now) xs (with_items b.values out).items c.deref.result.now c.stopped-self-inside.result c.eval_long-reached.ensures refl images c.deref.ensures.value c.stopped-self-inside.ensures seen

@@ -1,5 +1,5 @@
 use Rattle.std.proofs.Common.{arith, sym, subst, ap, ◌+◌}
-use Rattle.early_stop.specs.declared.view.View.{View}
+use Rattle.early_stop.specs.declared.view.KnownPlaces.{KnownPlaces}
 use Rattle.early_stop.specs.Decisive.{IsDecisive}
 use Rattle.early_stop.specs.Cuts.{IsSplit}
 use Rattle.early_stop.specs.Seats.{view_of}
@@ -17,5 +17,5 @@ returns-clause-split g c =
     let z = c.args.self.now.table.shared.key in
     let rest = ap (λ m. m.0) c.split_seat-part.ensures.2 in
     let part = ap (λ m. m.0) c.split_seat-part.ensures.4 in
-    subst (λ (t : View × View). IsSplit (λ i. IsDecisive (g.S.Segments.outcome z i) (g.S.Segments.source z i)) (g.S.Segments.count z + 1) (view_of c.args.seat) t.0 t.1) (λ i. (sym rest i, sym part i))
+    subst (λ (t : KnownPlaces × KnownPlaces). IsSplit (λ i. IsDecisive (g.S.Segments.outcome z i) (g.S.Segments.source z i)) (g.S.Segments.count z + 1) (view_of c.args.seat) t.0 t.1) (λ i. (sym rest i, sym part i))
     (splits (λ i. IsDecisive (g.S.Segments.outcome z i) (g.S.Segments.source z i)) (g.S.Segments.count z + 1) (view_of c.args.seat))

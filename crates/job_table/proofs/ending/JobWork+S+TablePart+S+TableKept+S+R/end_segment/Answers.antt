@@ -1,4 +1,5 @@
-use Rattle.std.proofs.Common.{IfOk, subst, arith}
+use Rattle.std.proofs.Common.{subst, arith}
+use Rattle.job_table.specs.Cuts.{IfMerged, StandsWhole}
 use Rattle.job_table.proofs.ending.JobWork+S+TablePart+S+TableKept+S+R.end_segment.Goals as goal
 
 pub begin-requires-clause-known : goal.begin-requires-clause-known
@@ -17,4 +18,5 @@ last_answer-requires-clause-last g c =
 pub last_answer-requires-clause-part : goal.last_answer-requires-clause-part
 last_answer-requires-clause-part g c =
     let whole = c.args.whole in
-    subst (λ z. IfOk z (λ x. g.S.JobSegments.stands_for whole.job.job whole.segment 0 (g.S.JobSegments.size_of whole.job.job whole.segment) x.part)) c.in-Ok.is c.requires
+    subst (IfMerged (g.S.JobSegments.stands_for whole.job.job whole.segment 0 (g.S.JobSegments.size_of whole.job.job whole.segment)) (g.S.JobSegments.is_instead whole.job.job)) c.in-Part.is
+    (subst (λ z. StandsWhole g.S.JobSegments.stands_for g.S.JobSegments.is_instead g.S.JobSegments.size_of whole.job.job whole.segment (λ x. x.found) z) c.in-Ok.is c.requires)

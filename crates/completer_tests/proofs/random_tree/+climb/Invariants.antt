@@ -1,4 +1,0 @@
-use Rattle.completer_tests.proofs.random_tree.+climb.Given as goal
-
-abbrev pub decreases-climb : goal.decreases-climb
-decreases-climb l = l.node

@@ -1,5 +1,0 @@
-use Rattle.completer_tests.specs.RandomTrees.{CanClimb}
-use Rattle.completer_tests.proofs.random_tree.climb_all.Given as goal
-
-abbrev pub invariant-loop-node : goal.invariant-loop-node
-invariant-loop-node l = CanClimb l.counts l.node l.to l.seat

@@ -1,4 +1,0 @@
-use Rattle.completer_tests.proofs.walks.walk_numbers.Given as goal
-
-abbrev pub ghosts-walk_as : goal.ghosts-walk_as
-ghosts-walk_as g a = record { source = a.numbers.now }

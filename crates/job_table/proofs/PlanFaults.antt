@@ -1,0 +1,209 @@
+-- A piece that ends in a fault: what the whole segment gives, and what the job answers.
+use Rattle.std.proofs.Common.{◌≡◌, ◌≢◌, ℕ, ℤ, ◌+◌, ◌-◌, ◌<◌, ◌≤◌, ◌==◌, Bool, true, false, List, length, take, drop, Option, Some, None, IfSome, slice_get, option_map, if◌then◌else◌, ap, sym, subst, refl, ◌∙◌, le_refl, arith}
+use Rattle.std.proofs.lemmas.List.{length-take}
+use Rattle.lambda_expr.specs.Earlier.{Numbers}
+use Rattle.trace.specs.declared.item.Fault.{Fault}
+use Rattle.trace.specs.declared.item.Item.{Item}
+use Rattle.trace.specs.declared.item.End.{End}
+use Rattle.trace.specs.declared.item.End.TheVariants as end
+use Rattle.trace.specs.Trace.{Trace, trace, append, nothing, then_on}
+use Rattle.trace.proofs.JoinLemmas.{append_faulted, append_nothing, pipe_append}
+use Rattle.early_stop.specs.Decisive.{Decides}
+use Rattle.early_stop.specs.Leaving.{IsEnough}
+use Rattle.early_stop.proofs.Leaving.{enough_gives, enough_joined, enough_walked}
+use Rattle.early_stop.proofs.Settling.{later_decides}
+use Rattle.job_plan.specs.declared.answer.Answer.{Answer}
+use Rattle.job_plan.specs.declared.answer.Answer.TheVariants as answer
+use Rattle.job_plan.specs.declared.outcome.Outcome.{Outcome}
+use Rattle.job_plan.specs.declared.outcome.Outcome.TheVariants as outcome
+use Rattle.job_plan.specs.declared.fallback.Fallback.{Fallback}
+use Rattle.job_plan.specs.declared.fold_part.FoldPart.{FoldPart}
+use Rattle.job_plan.specs.declared.part.Part.{Part}
+use Rattle.job_plan.specs.declared.part.Part.TheVariants as part
+use Rattle.job_plan.specs.Parts.{EndsFor, StandsEnough, fallback_in, is_fault}
+use Rattle.job_plan.specs.FoldFaults.{end_fault, fold_fault}
+use Rattle.job_plan.specs.Links.{walked_segments}
+use Rattle.job_plan.specs.Pieces.{piece_of}
+use Rattle.job_plan.specs.PlannedAnswers.{first_unusable_at, put_into}
+use Rattle.job_plan.specs.Plans.{AbstractEnd, slicing, folding, finding, collecting, exactly, scanning, AbstractPlan, AbstractSegment, counted_as, ended, folded, last_stage, outcome_of, walk_of, segments_answer}
+use Rattle.job_plan.specs.Walks.{instead_of_fault, unless_fault}
+use Rattle.job_plan.proofs.Elements.{length_dropped}
+use Rattle.job_plan.proofs.SideBySide.{pieces_joined, whole_piece}
+use Rattle.job_table.specs.Caught.{FaultAmong, IsCaught}
+use Rattle.job_table.specs.Cuts.{IsInstead}
+use Rattle.job_table.specs.PlanSegments.{AbstractChain, PartStands, answer_of, answers_before, chain_at, gives_at, given_by, piece_between, plan_at, size_at, slices_first, upto, walk_at}
+use Rattle.job_table.proofs.PlanAnswers.{answer_at, answer_there, given_answer}
+use Rattle.job_table.proofs.PlanParts.{chain_answer, part_decides, size_within}
+use Rattle.job_table.proofs.PlanSources.{same_segments}
+use Rattle.job_table.proofs.PlannedAnswers.{walked_answer}
+
+-- the fold that ended in a fault
+pub fold_of : (p : Part) (f : Fault) → fold_fault p ≡ Some f → (fold : FoldPart) × (p ≡ part.Fold fold) × (fold.partial.end ≡ end.Fault f)
+fold_of (part.Slice p) f h = absurd (let z : None ≡ Some f = h in cc)
+fold_of (part.Fold p) f h = (p, refl, ended_so p.partial.end f h)
+  where
+    ended_so : (e : End) (f : Fault) → end_fault e ≡ Some f → e ≡ end.Fault f
+    ended_so end.Done f h = absurd (let z : None ≡ Some f = h in cc)
+    ended_so (end.Fault g) f h = (let z : Some g ≡ Some f = h in let k : g ≡ f = cc in ap end.Fault k)
+fold_of (part.Find p) f h = absurd (let z : None ≡ Some f = h in cc)
+fold_of (part.Array p) f h = absurd (let z : None ≡ Some f = h in cc)
+fold_of (part.Prefix p) f h = absurd (let z : None ≡ Some f = h in cc)
+fold_of (part.Exact p) f h = absurd (let z : None ≡ Some f = h in cc)
+
+-- after positions with this fault nothing matters
+pub fault_decides : (plans : List AbstractPlan) (job segment from to : ℕ) (f : Fault) → to < size_at (chain_at plans job) segment → FaultAmong plans job segment from to f → Decides (gives_at (chain_at plans job) segment) (walk_at (chain_at plans job) segment) to
+fault_decides plans job segment from to f low h =
+    let chain = chain_at plans job in
+    let high = h.high in
+    let fold = fold_of h.piece f h.caught.fault in
+    later_decides (gives_at chain segment) (walk_at chain segment) h.ends to high
+    (part_decides chain segment h.begins h.ends (part.Fold fold.0) h.ordered (omega arith) (ap is_fault fold.2) refl (subst (PartStands chain segment h.begins h.ends) fold.1 h.stands))
+
+-- ---- a fold of a walk that ends in a fault
+
+fold_gives : (e : AbstractEnd) (n : ℕ) (env : Numbers) (p : FoldPart) (t u : Trace) (f g : Fault) → EndsFor e n env (part.Fold p) t → u.ending ≡ end.Fault g → ended e n env u ≡ outcome.Answer (answer.Fault g)
+fold_gives (slicing d) n env p t u f g s h = absurd s
+fold_gives (folding op a c) n env p t u f g s h = ap (λ (e : End). outcome.Answer (unless_fault e (folded op a (counted_as c u.items)))) h
+fold_gives (finding d) n env p t u f g s h = absurd s
+fold_gives collecting n env p t u f g s h = absurd s
+fold_gives exactly n env p t u f g s h = absurd s
+fold_gives (scanning op r) n env p t u f g s h = absurd s
+
+fold_walk : (e : AbstractEnd) (n : ℕ) (env : Numbers) (p : FoldPart) (t : Trace) (f : Fault) → EndsFor e n env (part.Fold p) t → p.partial.end ≡ end.Fault f → t.ending ≡ end.Fault f
+fold_walk (slicing d) n env p t f s h = absurd s
+fold_walk (folding op a c) n env p t f s h = sym s.stands.ending ∙ h
+fold_walk (finding d) n env p t f s h = absurd s
+fold_walk collecting n env p t f s h = absurd s
+fold_walk exactly n env p t f s h = absurd s
+fold_walk (scanning op r) n env p t f s h = absurd s
+
+-- ---- a walk with a fault in its middle
+
+faulted_after : (xs : List Item) (e : End) (b : Trace) (f : Fault) → b.ending ≡ end.Fault f → (g : Fault) × ((then_on xs e b).ending ≡ end.Fault g)
+faulted_after xs end.Done b f h = (f, h)
+faulted_after xs (end.Fault g) b f h = (g, refl)
+
+faulted_inside : (s : AbstractSegment) (env : Numbers) (a t b : Trace) (f : Fault) → (walk_of s env t).ending ≡ end.Fault f → (g : Fault) × ((walk_of s env (append a (append t b))).ending ≡ end.Fault g)
+faulted_inside s env a t b f h =
+    let inner : walk_of s env (append t b) ≡ walk_of s env t = pipe_append s.first s.stages env t b ∙ append_faulted (walk_of s env t) (walk_of s env b) f h in
+    let after = faulted_after (walk_of s env a).items (walk_of s env a).ending (walk_of s env (append t b)) f (ap (λ (u : Trace). u.ending) inner ∙ h) in
+    (after.0, ap (λ (u : Trace). u.ending) (pipe_append s.first s.stages env a (append t b)) ∙ after.1)
+
+-- what is right of a piece
+abbrev right_of : (size to : ℕ) → Trace → Trace
+right_of size to w = if to == size then nothing else piece_of to None w
+
+right_joined : (w : Trace) (size from to : ℕ) → from ≤ to → append (piece_between size from to w) (right_of size to w) ≡ piece_of from None w
+right_joined w size from to h = by (to == size)
+  where
+    by : (b : Bool) → append (piece_of from (if b then None else Some to) w) (if b then nothing else piece_of to None w) ≡ piece_of from None w
+    by true = append_nothing (piece_of from None w)
+    by false = pieces_joined w from to None h tt
+
+left_long : (w : Trace) (m : ℕ) → m ≤ length w.items → 0 + length (piece_of 0 (Some m) w).items ≡ m
+left_long w m h = let a = length-take (m - 0) (drop 0 w.items) in let d = length_dropped 0 w.items in omega arith
+
+-- a walk that stands for all of it, if one stands for a piece
+whole_of : (decides : ℕ → Type 0) (w : Trace) (size from to : ℕ) (t : Trace) → from ≤ to → from ≤ length w.items → IsEnough decides from (piece_between size from to w) t
+    → IsEnough decides 0 w (append (piece_of 0 (Some from) w) (append t (right_of size to w)))
+whole_of decides w size from to t h low enough =
+    let rest = right_of size to w in
+    let left = piece_of 0 (Some from) w in
+    let right : IsEnough decides from (piece_of from None w) (append t rest) =
+    subst (λ (u : Trace). IsEnough decides from u (append t rest)) (right_joined w size from to h)
+    (enough_joined decides from (piece_between size from to w) t rest rest enough (enough_walked decides (from + length (piece_between size from to w).items) rest)) in
+    subst (λ (u : Trace). IsEnough decides 0 u (append left (append t rest))) (pieces_joined w 0 from None (omega arith) tt ∙ whole_piece w)
+    (enough_joined decides 0 left left (piece_of from None w) (append t rest) (enough_walked decides 0 left)
+    (subst (λ (n : ℕ). IsEnough decides n (piece_of from None w) (append t rest)) (sym (left_long w from low)) right))
+
+-- so the segment gives a fault
+pub segment_faults : (chain : AbstractChain) (segment from to : ℕ) (p : FoldPart) (f : Fault) (s : AbstractSegment) → slice_get chain.segments segment ≡ Some s → from ≤ to → to ≤ size_at chain segment → PartStands chain segment from to (part.Fold p) → p.partial.end ≡ end.Fault f
+    → (g : Fault) × (outcome_of s chain.numbers (walk_at chain segment) ≡ outcome.Answer (answer.Fault g))
+segment_faults chain segment from to p f s there h within stands faulted = by (subst (λ (o : Option AbstractSegment). IfSome o Is) there stands)
+  where
+    w : Trace
+    w = walk_at chain segment
+
+    Is : AbstractSegment → Type 0
+    Is r = StandsEnough (Decides (outcome_of r chain.numbers) (walk_at chain segment)) r chain.numbers (part.Fold p) from (piece_between (size_at chain segment) from to (walk_at chain segment))
+
+    by : Is s → (g : Fault) × (outcome_of s chain.numbers (walk_at chain segment) ≡ outcome.Answer (answer.Fault g))
+    by (t, enough, is) =
+        let rest = right_of (size_at chain segment) to (walk_at chain segment) in
+        let left = piece_of 0 (Some from) (walk_at chain segment) in
+        let fits = size_within chain segment in
+        let all = whole_of (Decides (outcome_of s chain.numbers) (walk_at chain segment)) (walk_at chain segment) (size_at chain segment) from to t h (omega arith) enough in
+        let inside = faulted_inside s chain.numbers left t rest f (fold_walk s.ending (last_stage s) chain.numbers p (walk_of s chain.numbers t) f is faulted) in (
+          inside.0,
+          sym (enough_gives (outcome_of s chain.numbers) (walk_at chain segment) (append left (append t rest)) all)
+              ∙ fold_gives s.ending (last_stage s) chain.numbers p (walk_of s chain.numbers t) (walk_of s chain.numbers (append left (append t rest))) f inside.0 is inside.1,
+        )
+
+-- and the job answers what it gives in its place
+pub caught_answer : (plans : List AbstractPlan) (job segment to : ℕ) (f : Fault) (a : Answer) → (plan_at plans job).fallback ≡ Some a → FaultAmong plans job segment 0 to f → a ≡ answer_of plans job
+caught_answer plans job segment to f a gives h =
+    let chain = chain_at plans job in
+    let fold = fold_of h.piece f h.caught.fault in
+    let faults = segment_faults chain segment h.begins h.ends fold.0 f h.caught.of h.caught.there h.ordered h.within (subst (PartStands chain segment h.begins h.ends) fold.1 h.stands) fold.2 in
+    let answers : segments_answer chain.segments chain.numbers chain.source ≡ answer.Fault faults.0 =
+    answer_there chain.numbers chain.segments chain.source
+    ∙ ap (λ (k : ℕ). answer_at chain.numbers (slice_get chain.segments k) (walk_at chain k)) (sym h.caught.last)
+    ∙ ap (λ (o : Option AbstractSegment). answer_at chain.numbers o (walk_at chain segment)) h.caught.there
+    ∙ ap given_answer faults.1 in
+    ap (λ (x : Answer). instead_of_fault (Some a) x) (sym answers)
+    ∙ ap (λ (o : Option Answer). instead_of_fault o (segments_answer chain.segments chain.numbers chain.source)) (sym gives)
+    ∙ chain_answer chain.numbers (put_into (answers_before plans job) (plan_at plans job))
+    ∙ walked_answer plans job h.known h.usable
+
+pub nothing_caught : (plans : List AbstractPlan) (job segment to : ℕ) (f : Fault) → (plan_at plans job).fallback ≡ None → FaultAmong plans job segment 0 to f → ⊥
+nothing_caught plans job segment to f none h = let z : None ≡ Some h.caught.instead = sym none ∙ h.caught.gives in cc
+
+pub some_of : {A : Type 0} (o : Option A) → (o ≡ None → ⊥) → (a : A) × (o ≡ Some a)
+some_of None h = absurd (h refl)
+some_of (Some a) h = (a, refl)
+
+-- the fault of a piece of a job that catches it
+pub piece_fault : (plans : List AbstractPlan) (job segment from to : ℕ) (p : AbstractPlan) (q : Part) (r : Option Fault) → job < length plans → first_unusable_at (answers_before plans job) (plan_at plans job).named ≡ None → p ≡ plan_at plans job
+    → p.fallback ≢ None → segment ≡ slices_first (walked_segments p) → slice_get (walked_segments p) segment ≢ None → from ≤ to → to ≤ size_at (chain_at plans job) segment → PartStands (chain_at plans job) segment from to q
+    → r ≡ fold_fault q → IfSome r (λ f. FaultAmong plans job segment from to f)
+piece_fault plans job segment from to p q None low usable same caught last there ordered within stands h = tt
+piece_fault plans job segment from to p q (Some f) low usable same caught last there ordered within stands h =
+    let chain = chain_at plans job in
+    let segments = same_segments plans job p same in
+    let b = some_of p.fallback caught in
+    let o = some_of (slice_get chain.segments segment) (λ e. there (ap (λ (ss : List AbstractSegment). slice_get ss segment) (sym segments) ∙ e)) in
+    record {
+      known = low;
+      usable = usable;
+      begins = from;
+      ends = to;
+      low = le_refl from;
+      ordered = ordered;
+      high = le_refl to;
+      within = within;
+      piece = q;
+      stands = stands;
+      caught = record {
+        instead = b.0;
+        gives = ap (λ (x : AbstractPlan). x.fallback) (sym same) ∙ b.1;
+        last = last ∙ ap slices_first (sym segments);
+        of = o.0;
+        there = o.1;
+        fault = sym h;
+      };
+    }
+
+-- a job with a fault that it catches gives an answer in its place, and so on
+pub catches_it : (plans : List AbstractPlan) (job segment : ℕ) (q : Part) (f : Fault) (p : AbstractPlan) → p ≡ plan_at plans job → IsCaught plans job segment q f
+    → (p.fallback ≢ None) × (segment ≡ slices_first (walked_segments p)) × (slice_get (walked_segments p) segment ≢ None)
+catches_it plans job segment q f p same h =
+    let segments = same_segments plans job p same in (
+      λ e. (let z : None ≡ Some h.instead = sym e ∙ ap (λ (x : AbstractPlan). x.fallback) same ∙ h.gives in cc),
+      h.last ∙ ap slices_first segments,
+      λ e. (let z : None ≡ Some h.of = sym e ∙ ap (λ (ss : List AbstractSegment). slice_get ss segment) (sym segments) ∙ h.there in cc),
+    )
+
+-- what a job gives in place of a fault
+pub instead_is : (plans : List AbstractPlan) (job : ℕ) (o : Option Fallback) → option_map fallback_in o ≡ (plan_at plans job).fallback → IsInstead (λ job segment from to f. FaultAmong plans job segment from to f) (λ job segment. size_at (chain_at plans job) segment) (λ job b. fallback_in b ≡ answer_of plans job) job o
+instead_is plans job (Some b) e = λ segment f h. caught_answer plans job segment (size_at (chain_at plans job) segment) f (fallback_in b) (sym e) h
+instead_is plans job None e = λ segment f h. nothing_caught plans job segment (size_at (chain_at plans job) segment) f (sym e) h

@@ -1,0 +1,33 @@
+-- Condition: faults of pieces that the jobs of a plan catch.
+use Rattle.std.specs.Prelude.{◌≡◌, ◌<◌, ◌≤◌, ℕ, List, length, Option, Some, None, slice_get}
+use Rattle.trace.specs.declared.item.Fault.{Fault}
+use Rattle.job_plan.specs.declared.answer.Answer.{Answer}
+use Rattle.job_plan.specs.declared.part.Part.{Part}
+use Rattle.job_plan.specs.FoldFaults.{fold_fault}
+use Rattle.job_plan.specs.PlannedAnswers.{first_unusable_at}
+use Rattle.job_plan.specs.Plans.{AbstractPlan, AbstractSegment}
+use Rattle.job_table.specs.PlanSegments.{PartStands, answers_before, chain_at, plan_at, size_at, slices_first}
+
+-- a part of this segment of the job ends in this fault; the segment gives the job's answer, by a fold; and the job gives an answer
+-- in place of a fault
+pub record IsCaught (plans : List AbstractPlan) (job segment : ℕ) (p : Part) (f : Fault) : Type 0 where
+  pub instead : Answer
+  pub gives : (plan_at plans job).fallback ≡ Some instead
+  pub last : segment ≡ slices_first (chain_at plans job).segments
+  pub of : AbstractSegment
+  pub there : slice_get (chain_at plans job).segments segment ≡ Some of
+  pub fault : fold_fault p ≡ Some f
+
+-- the job is walked, and a piece of this segment among these positions ends in this fault, which the job catches
+pub record FaultAmong (plans : List AbstractPlan) (job segment from to : ℕ) (f : Fault) : Type 0 where
+  pub known : job < length plans
+  pub usable : first_unusable_at (answers_before plans job) (plan_at plans job).named ≡ None
+  pub begins : ℕ
+  pub ends : ℕ
+  pub low : from ≤ begins
+  pub ordered : begins ≤ ends
+  pub high : ends ≤ to
+  pub within : ends ≤ size_at (chain_at plans job) segment
+  pub piece : Part
+  pub stands : PartStands (chain_at plans job) segment begins ends piece
+  pub caught : IsCaught plans job segment piece f

@@ -1,0 +1,63 @@
+//! The last segment of a job of a plan, walked in order.
+ghost use Rattle.std.specs.Prelude.{◌≡◌, ◌<◌, ℕ, false, length, IfOk};
+ghost use Rattle.job_plan.specs.declared.answer.Answer.{Answer as answers};
+ghost use Rattle.job_plan.specs.Parts.{may_search, plans_in};
+ghost use Rattle.job_table.specs.PlanSegments.{PartStands, answer_of, chain_at, size_at, slices_first};
+ghost use Rattle.job_table.specs.Sources.{IsKept};
+ghost use Rattle.job_table.specs.Takings.{IsTaken};
+
+use crate::NoMemory;
+use crate::earlier::EarlierAnswers;
+use crate::kept::{SegmentSource, Taken};
+use crate::plan_parts::{part_in_order, slices_first, streamed_part};
+use crate::planned::{PlanJobs, Planned};
+use batch_eval::Registers;
+use job_plan::{Answer, Part, Source};
+use std::alloc::Global;
+
+impl<'a, 'c, P: Planned> PlanJobs<'a, 'c, P> {
+    /// The part of the last segment of a job, whose source is walked in order.
+    pub(crate) fn in_order<E: EarlierAnswers<Answer>>(
+        &self,
+        alloc: Global,
+        job: usize,
+        source: &SegmentSource<'a>,
+        given: &Taken,
+        earlier: &E,
+        registers: &mut Registers,
+    ) -> Result<Part<'a>, NoMemory>
+        requires job { job < length P.jobs }
+        requires source { IsKept (chain_at (plans_in P.jobs) job) (slices_first (chain_at (plans_in P.jobs) job).segments) source.now }
+        requires given { IsTaken (plans_in P.jobs) job given.now }
+        requires earlier { (j : ℕ) (a : answers) → E.is_answer j a → a ≡ answer_of (plans_in P.jobs) j }
+        ensures stands { IfOk result (λ part. PartStands (chain_at (plans_in P.jobs) job) (slices_first (chain_at (plans_in P.jobs) job).segments) 0
+            (size_at (chain_at (plans_in P.jobs) job) (slices_first (chain_at (plans_in P.jobs) job).segments)) part) }
+        ensures kind { IfOk result (λ part. may_search part ≡ false) }
+    {
+        let plan = self.job(job);
+        let env = &given.numbers;
+        match source {
+            SegmentSource::Own if plan.takes_arrays() => {
+                let own = self.own(job);
+                let sources = self.put_sources(alloc, job, own, earlier)?;
+                let source = Source::of_sources(&sources, own);
+                if plan.streams() {
+                    return streamed_part(alloc, plan, &source, env, registers);
+                }
+                part_in_order(alloc, plan, 0, &source, env, registers)
+            }
+            SegmentSource::Own => {
+                let source = Source::of_selected(plan);
+                if plan.streams() {
+                    return streamed_part(alloc, plan, &source, env, registers);
+                }
+                part_in_order(alloc, plan, 0, &source, env, registers)
+            }
+            SegmentSource::Kept(walk) => {
+                let last = slices_first(plan.walked_segments());
+                let source = Source::of_given(walk);
+                part_in_order(alloc, plan, last, &source, env, registers)
+            }
+        }
+    }
+}

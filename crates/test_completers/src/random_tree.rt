@@ -1,0 +1,240 @@
+//! Callers that join seats, and that run a tree of ten thousand nodes on eight threads, proved and run.
+ghost use Rattle.std.specs.Prelude.{◌≡◌, ℕ, ◌+◌, ◌-◌, ◌^◌, ◌<◌, ◌≤◌, [], ◌∷◌, IfOk, IfSome};
+ghost use Rattle.std.specs.Thread.{IsSync};
+ghost use Rattle.completion_core.specs.Legal.{count};
+ghost use Rattle.pending_count.specs.Views.{IsPlainAt, first_view};
+ghost use Rattle.pending_count.specs.Seats.{view_of, IsSeatOf, nodes_of};
+ghost use Rattle.test_completers.specs.RandomTrees.{parent, Knows, Has, IsInTree, CanClimb};
+
+use crate::counting::{Plain, PlainSeat};
+use pending_count::{Arrived, Node};
+use std::alloc::{AllocError, Global};
+use std::test::Fail;
+use std::thread;
+use std::thread::Threads;
+
+const NODES: Node = 10_000;
+
+// A node that owes three arrivals.
+fn three_owed(counts: &Plain, seat: PlainSeat) -> Option<(PlainSeat, Node)>
+    requires table { IsSeatOf counts.now seat }
+    requires first { view_of seat ≡ first_view 0 }
+    ensures table { IfSome result (λ s. IsSeatOf counts.now s.0) }
+    ensures owed { IfSome result (λ s. (0 < s.1) × (2 < count s.1 (view_of s.0).held)) }
+    ensures plain { IfSome result (λ s. IsPlainAt s.1 (view_of s.0)) }
+    ensures credit { IfSome result (λ s. (view_of s.0).credit + 3 ≡ 2 ^ 62) }
+{
+    let (seat, drawn) = counts.claim(seat);
+    let node = drawn?;
+    let seat = counts.arm(seat, node, 0, &[]);
+    let seat = counts.add(seat, node, 2).ok()?;
+    Some((seat, node))
+}
+
+// Three arrivals of one seat: the pending counts that two of them find, and the node that the last one may run.
+fn three_made(counts: &Plain, seat: PlainSeat, node: Node) -> Option<([u64; 2], Node)>
+    requires table { IsSeatOf counts.now seat }
+    requires node { 0 < node }
+    requires have { 2 < count node (view_of seat).held }
+    requires plain { IsPlainAt node (view_of seat) }
+{
+    let Arrived::Pending(seat, first) = counts.arrive(seat, node) else {
+        return None;
+    };
+    let Arrived::Pending(seat, second) = counts.arrive(seat, node) else {
+        return None;
+    };
+    let Arrived::Last(_seat, finish) = counts.arrive(seat, node) else {
+        return None;
+    };
+    Some(([first, second], finish.node()))
+}
+
+// Splits two of three arrivals off, with some credit, and joins them back: the credit before and after, and what the arrivals answer.
+fn split_and_joined(counts: &Plain, seat: PlainSeat) -> Option<([u64; 2], [u64; 2], Node)>
+    requires table { IsSeatOf counts.now seat }
+    requires first { view_of seat ≡ first_view 0 }
+{
+    let (seat, node) = three_owed(counts, seat)?;
+    let before = seat.credit();
+    let (rest, part) = counts.split(seat, node, 2, 5);
+    let seat = counts.join(rest, part);
+    let after = seat.credit();
+    let (pending, last) = three_made(counts, seat, node)?;
+    Some(([before, after], pending, last))
+}
+
+// Where a node keeps an arrival: END for the first node, a smaller one, picked by a multiplicative hash, for each other.
+fn parent_of(node: Node) -> Node
+    ensures { result ≡ parent node }
+{
+    if node < 2 {
+        return 0;
+    }
+    (u64::from(node) * 2_654_435_761 / 65_536 % u64::from(node - 1)) as Node + 1
+}
+
+// Arms the first node, which keeps the arrival at END.
+fn plant(counts: &Plain, seat: PlainSeat) -> Option<PlainSeat>
+    requires table { IsSeatOf counts.now seat }
+    requires first { view_of seat ≡ first_view 1 }
+    ensures { IfSome result (λ later. IsSeatOf counts.now later × Knows 1 (view_of later) × Has 1 2 (view_of later)) }
+{
+    let (seat, drawn) = counts.claim(seat);
+    if drawn? != 1 {
+        return None;
+    }
+    Some(counts.arm(seat, 1, 0, &[0]))
+}
+
+// Arms the next node, which keeps a new arrival at its parent. `None` where another node is drawn than this one.
+fn grow_one(counts: &Plain, seat: PlainSeat, node: Node) -> Option<PlainSeat>
+    requires table { IsSeatOf counts.now seat }
+    requires node { 1 < node }
+    requires knows { Knows (node - 1) (view_of seat) }
+    requires has { Has 1 node (view_of seat) }
+    ensures { IfSome result (λ later. IsSeatOf counts.now later × Knows node (view_of later) × Has 1 (node + 1) (view_of later)) }
+{
+    let parent = parent_of(node);
+    let Ok(seat) = counts.add(seat, parent, 1) else {
+        return None;
+    };
+    let (seat, drawn) = counts.claim(seat);
+    if drawn? != node {
+        return None;
+    }
+    Some(counts.arm(seat, node, 0, &[parent]))
+}
+
+// Arms all nodes in order, on one seat. Each then owes one arrival for itself, and one for each node whose parent it is.
+fn grow(counts: &Plain, seat: PlainSeat) -> Option<PlainSeat>
+    requires table { IsSeatOf counts.now seat }
+    requires first { view_of seat ≡ first_view 1 }
+    ensures { IfSome result (λ later. CanClimb counts.now 1 (nodes_of counts.now + 1) later) }
+{
+    let mut seat = plant(counts, seat)?;
+    for node in 2..=counts.nodes() {
+        seat = grow_one(counts, seat, node)?;
+    }
+    Some(seat)
+}
+
+// Arrives at the node, and where that is the last arrival, at what the node kept, and so on up to END. `entered` gets each node that may run.
+fn climb(
+    counts: &Plain,
+    seat: PlainSeat,
+    node: Node,
+    entered: &mut Vec<Node>,
+) -> Result<PlainSeat, AllocError>
+    requires seat { IsInTree counts.now seat }
+    requires node { (0 < node) × (node ≤ nodes_of counts.now) }
+    requires have { 0 < count node (view_of seat).held }
+    ensures seat { IfOk result (λ later. IsInTree counts.now later) }
+    ensures held { IfOk result (λ later. (j : ℕ) → count j (view_of seat).held ≤ count j (view_of later).held + count j (node ∷ [])) }
+{
+    let (seat, finish) = match counts.arrive(seat, node) {
+        Arrived::Pending(seat, _pending) => return Ok(seat),
+        Arrived::Last(seat, finish) => (seat, finish),
+    };
+    entered.push(finish.node())?;
+    let parent = parent_of(node);
+    if parent == 0 {
+        return Ok(counts.settle(seat));
+    }
+    climb(counts, seat, parent, entered)
+}
+
+// Climbs from each node `from`, `from + 1`, .. `to - 1`: the nodes that it entered.
+fn climb_all(
+    alloc: Global,
+    counts: &Plain,
+    seat: PlainSeat,
+    from: Node,
+    to: Node,
+) -> Result<Vec<Node>, AllocError>
+    requires nodes { (0 < from) × (to ≤ nodes_of counts.now + 1) }
+    requires seat { CanClimb counts.now from to seat }
+{
+    let mut entered = Vec::new(alloc);
+    let mut seat = seat;
+    for node in from..to {
+        seat = climb(counts, seat, node, &mut entered)?;
+    }
+    Ok(entered)
+}
+
+// A second seat for the nodes from `middle` on: their arrivals are split off one by one, and each is joined to that seat.
+fn hand_over(
+    counts: &Plain,
+    seat: PlainSeat,
+    from: Node,
+    middle: Node,
+    to: Node,
+) -> (PlainSeat, PlainSeat)
+    requires nodes { (from ≤ middle) × (middle ≤ to) }
+    requires seat { CanClimb counts.now from to seat }
+    ensures rest { CanClimb counts.now from middle result.0 }
+    ensures part { CanClimb counts.now middle to result.1 }
+{
+    let (mut rest, mut part) = counts.split(seat, 0, 0, 0);
+    for node in middle..to {
+        let (fewer, one) = counts.split(rest, node, 1, 0);
+        rest = fewer;
+        part = counts.join(part, one);
+    }
+    (rest, part)
+}
+
+// The same on 2^`levels` threads.
+#[cycle(halves)]
+fn on_threads<R: Threads + Sync>(
+    rt: &R,
+    alloc: Global,
+    counts: &Plain,
+    seat: PlainSeat,
+    from: Node,
+    to: Node,
+    levels: u32,
+) -> Result<Vec<Node>, AllocError>
+    requires nodes { (0 < from) × (from ≤ to) × (to ≤ nodes_of counts.now + 1) }
+    requires seat { CanClimb counts.now from to seat }
+{
+    if levels == 0 {
+        return climb_all(alloc, counts, seat, from, to);
+    }
+    let middle = from + (to - from) / 2;
+    let (low, high) = hand_over(counts, seat, from, middle, to);
+    let (one, other) = thread::join(
+        rt,
+        move || -> Result<Vec<Node>, AllocError>
+            requires { IsSync R.row × (0 < levels) × (0 < from) × (from ≤ middle) × (middle ≤ nodes_of counts.now + 1) × CanClimb counts.now from middle low }
+        { on_threads(rt, alloc, counts, low, from, middle, levels - 1) },
+        move || -> Result<Vec<Node>, AllocError>
+            requires { IsSync R.row × (0 < levels) × (0 < middle) × (middle ≤ to) × (to ≤ nodes_of counts.now + 1) × CanClimb counts.now middle to high }
+        { on_threads(rt, alloc, counts, high, middle, to, levels - 1) },
+    );
+    let mut entered = one?;
+    entered.append(&mut other?)?;
+    Ok(entered)
+}
+
+#[test]
+fn a_joined_seat_makes_the_arrivals_of_both(rt: HostRuntime) -> Result<(), Fail> {
+    let (counts, seat) = Plain::new(rt.alloc(), 1, 0)?;
+    let credit = (1 << 62) - 3;
+    assert!(rt; split_and_joined(&counts, seat) == Some(([credit, credit], [1, 0], 1)));
+    Ok(())
+}
+
+#[test]
+fn eight_threads_enter_each_node_of_a_large_tree_once(rt: HostRuntime) -> Result<(), Fail> {
+    let (counts, seat) = Plain::new(rt.alloc(), NODES, 1)?;
+    let seat = grow(&counts, seat).expect(&rt, "each node is drawn");
+    let (seat, aside) = counts.split(seat, 0, 0, 0);
+    let mut entered = on_threads(&rt, rt.alloc(), &counts, seat, 1, NODES + 1, 3)?;
+    entered.sort()?;
+    assert!(rt; entered.iter().copied().eq(1..=NODES));
+    let (_aside, left) = counts.left(aside);
+    assert!(rt; left == 0);
+    Ok(())
+}

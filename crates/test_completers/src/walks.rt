@@ -1,0 +1,379 @@
+//! Trees that walk a list of numbers, cut at arbitrary places, on several threads.
+ghost use Rattle.std.specs.Prelude.{◌≡◌, ◌≢◌, ◌+◌, ◌-◌, ◌<◌, ◌≤◌, ℕ, ℤ, List, Option, Some, None, Ok, Err, IfSome, MatchOption, [], length, true, false};
+ghost use Rattle.std.specs.Thread.{IsSync};
+ghost use Rattle.pending_count.specs.Pairs.{side_of};
+ghost use Rattle.pending_count.specs.Seats.{view_of, IsSeatOf};
+ghost use Rattle.pending_count.specs.declared.place.Side.TheVariants.{Whole};
+ghost use Rattle.completer_tree.specs.Trees.{table_id_of, CanFork};
+ghost use Rattle.completer_tree.specs.Roots.{Rooted};
+ghost use Rattle.test_completers.specs.Halves.{CanWalk};
+ghost use Rattle.test_completers.specs.Walks.{begins, ends_at, IsClean, IsFirstNegative, Walked};
+ghost use Rattle.test_completers.specs.WalkLaws.{by_bounds};
+
+use crate::cut::NumberCut;
+use completer_tree::{
+    Completer, CompleterTree, Continuation, Failure, First, Forked, Half, Handed, Next, PartValue,
+    Tree, TreeCounts, TreeSeat,
+};
+use lambda_expr::FaultKind;
+use pending_count::{Place, Side};
+use std::alloc::Global;
+use std::marker::{Brand, PhantomData};
+use std::thread;
+use std::thread::Threads;
+use trace::Fault;
+
+/// The numbers that a run is over.
+pub(crate) trait Planned {
+    ghost source: { List ℤ };
+}
+
+impl Planned for Brand {
+    ghost source = { [] };
+}
+
+/// The numbers of one part of the source.
+#[derive(Drop)]
+pub(crate) struct Items<P: Planned> {
+    pub(crate) items: Vec<i64>,
+    of: PhantomData<P>,
+}
+
+impl<P: Planned> PartValue for Items<P> {
+    type Tag = NumberCut;
+
+    ghost fits = { λ cut side v. Walked (λ x. x.items.items) P.source (begins cut side) (ends_at cut side) v };
+
+    ghost result = { λ _ v. Walked (λ x. x.items.items) P.source 0 (length P.source) v };
+}
+
+/// Puts the numbers of the right side after those of the left one.
+#[derive(Drop)]
+pub(crate) struct Append<P: Planned> {
+    cut: NumberCut,
+    parent: Option<(NumberCut, bool)>,
+    of: PhantomData<P>,
+    ghost ordered: { (cut.from ≤ cut.middle) × (cut.middle ≤ cut.to) },
+    ghost side: { (p : _) → parent ≡ Some p → (begins p.0 (side_of p.1) ≡ cut.from) × (ends_at p.0 (side_of p.1) ≡ cut.to) },
+    ghost top: { parent ≡ None → (cut.from ≡ 0) × (cut.to ≡ length P.source) },
+}
+
+impl<P: Planned> Continuation<Items<P>> for Append<P> {
+    ghost tag_of = { λ c. c.cut };
+
+    ghost goes_to = { λ c. c.parent };
+
+    ghost leads = { λ c p e v h. h };
+
+    ghost ends = { λ c e v h. by_bounds (λ a b. Walked (λ x. x.items.items) P.source a b v) c.cut.from 0 c.cut.to (length P.source) (c.top e).0 (c.top e).1 h };
+
+    fn tag(&self) -> NumberCut {
+        self.cut
+    }
+
+    fn goes_to(&self) -> Option<(NumberCut, bool)> {
+        self.parent
+    }
+
+    fn on_completion(self, left: Items<P>, right: Items<P>) -> Handed<Items<P>> {
+        let Items { items: mut all, of } = left;
+        let Items {
+            items: mut more,
+            of: _,
+        } = right;
+        match all.append(&mut more) {
+            Ok(()) => Ok(Items { items: all, of }),
+            Err(_refused) => Err(Failure::NoMemory),
+        }
+    }
+
+    fn on_exceptional_completion(self, failure: Failure) -> Handed<Items<P>> {
+        Err(failure)
+    }
+}
+
+type ItemTree<'a, P> = CompleterTree<'a, Items<P>, Append<P>>;
+
+type ItemSeat<P> = TreeSeat<Items<P>, Append<P>>;
+
+type ItemHalf<P> = Half<Handed<Items<P>>, Completer<Items<P>, Append<P>>>;
+
+// The place of the first negative number from one place up to, not with, another.
+fn first_negative(numbers: &[i64], from: usize, to: usize) -> Option<usize>
+    requires { (from ≤ to) × (to ≤ length numbers.now) }
+    ensures { MatchOption result (IsClean numbers.now from to) (λ i. IsFirstNegative numbers.now from to i) }
+{
+    for i in from..to {
+        if numbers[i] < 0 {
+            return Some(i);
+        }
+    }
+    None
+}
+
+// The walk of a part: its numbers, or a fault at the first negative one.
+fn walked<P: Planned>(alloc: Global, numbers: &[i64], from: usize, to: usize) -> Handed<Items<P>>
+    requires { (from ≤ to) × (to ≤ length numbers.now) }
+    ensures { Walked (λ x. x.items.items) numbers.now from to result }
+{
+    if let Some(place) = first_negative(numbers, from, to) {
+        return Err(Failure::Fault(Fault {
+            kind: FaultKind::Overflow,
+            stage: 0,
+            origin: Some(place as u64),
+        }));
+    }
+    match numbers[from..to].to_vec(alloc) {
+        Ok(items) => Ok(Items {
+            items,
+            of: PhantomData,
+        }),
+        Err(_refused) => Err(Failure::NoMemory),
+    }
+}
+
+/// Whether a place is on the left side of a cut.
+pub(crate) fn is_left(place: &Place<NumberCut>) -> bool
+    requires { place.now.side ≢ Whole }
+    ensures { place.now.side ≡ side_of result }
+{
+    place.side == Side::Left
+}
+
+/// The positions of one side of a cut.
+pub(crate) fn range_of(place: &Place<NumberCut>) -> (usize, usize)
+    requires { place.now.side ≢ Whole }
+    ensures { (result.0 ≡ begins place.now.tag place.now.side) × (result.1 ≡ ends_at place.now.tag place.now.side) }
+{
+    if is_left(place) {
+        (place.tag.from, place.tag.middle)
+    } else {
+        (place.tag.middle, place.tag.to)
+    }
+}
+
+// Walks one side of a node: in one piece, or in two where it is long enough and a node is left, on 2^`levels` threads.
+#[cycle(walk)]
+fn walk<P: Planned + Send + Sync, R: Threads + Sync>(
+    rt: &R,
+    alloc: Global,
+    tree: &ItemTree<P>,
+    numbers: &[i64],
+    half: ItemHalf<P>,
+    levels: u32,
+) -> Option<Handed<Items<P>>>
+    requires can { CanWalk tree.now.counts.now P.source half }
+    requires source { numbers.now ≡ P.source }
+    ensures { IfSome result (λ v. Walked (λ x. x.items.items) P.source 0 (length P.source) v) }
+{
+    let Half { seat, place } = half;
+    let (from, to) = range_of(&place);
+    if to - from < 2 {
+        return tree
+            .try_complete(seat, Some(place), walked(alloc, numbers, from, to))
+            .1;
+    }
+    let run = Append {
+        cut: NumberCut::within(from, to),
+        parent: Some((place.tag, is_left(&place))),
+        of: PhantomData,
+    };
+    match tree.fork(seat, Some(place), run) {
+        Forked::Whole(seat, _run) => {
+            tree.try_complete(seat, Some(place), walked(alloc, numbers, from, to))
+                .1
+        }
+        Forked::Split(left, right) if levels == 0 => {
+            let one = walk(rt, alloc, tree, numbers, left, 0);
+            let other = walk(rt, alloc, tree, numbers, right, 0);
+            if one.is_some() { one } else { other }
+        }
+        Forked::Split(left, right) => {
+            let (one, other) = thread::join(
+                rt,
+                move || -> Option<Handed<Items<P>>>
+                    requires { IsSync R.row × (0 < levels) × CanWalk tree.now.counts.now P.source left × (numbers.now ≡ P.source) }
+                    ensures { IfSome result (λ v. Walked (λ x. x.items.items) P.source 0 (length P.source) v) }
+                { walk(rt, alloc, tree, numbers, left, levels - 1) },
+                move || -> Option<Handed<Items<P>>>
+                    requires { IsSync R.row × (0 < levels) × CanWalk tree.now.counts.now P.source right × (numbers.now ≡ P.source) }
+                    ensures { IfSome result (λ v. Walked (λ x. x.items.items) P.source 0 (length P.source) v) }
+                { walk(rt, alloc, tree, numbers, right, levels - 1) },
+            );
+            if one.is_some() { one } else { other }
+        }
+    }
+}
+
+// Opens a tree over all numbers.
+fn walk_whole<P: Planned + Send + Sync, R: Threads + Sync>(
+    rt: &R,
+    alloc: Global,
+    counts: &TreeCounts<Items<P>, Append<P>>,
+    seat: ItemSeat<P>,
+    numbers: &[i64],
+    levels: u32,
+) -> Option<Handed<Items<P>>>
+    requires seat { IsSeatOf counts.now seat }
+    requires rooted { Rooted (view_of seat).places }
+    requires source { numbers.now ≡ P.source }
+    ensures { IfSome result (λ v. Walked (λ x. x.items.items) P.source 0 (length P.source) v) }
+{
+    let to = numbers.len();
+    if to < 2 {
+        return Some(walked(alloc, numbers, 0, to));
+    }
+    let cut = NumberCut {
+        from: 0,
+        middle: to / 2,
+        to,
+    };
+    let run = Append {
+        cut,
+        parent: None,
+        of: PhantomData,
+    };
+    let tree = Tree::new(counts, &[]);
+    match tree.fork(seat, None, run) {
+        Forked::Whole(_seat, _run) => Some(walked(alloc, numbers, 0, to)),
+        Forked::Split(left, right) => {
+            let one = walk(rt, alloc, &tree, numbers, left, levels);
+            let other = walk(rt, alloc, &tree, numbers, right, levels);
+            if one.is_some() { one } else { other }
+        }
+    }
+}
+
+fn walk_as<P: Planned + Send + Sync, R: Threads + Sync>(
+    rt: &R,
+    alloc: Global,
+    numbers: &[i64],
+    nodes: u32,
+    levels: u32,
+) -> Option<Handed<Vec<i64>>>
+    requires source { numbers.now ≡ P.source }
+    ensures { IfSome result (λ v. Walked (λ x. x.items) P.source 0 (length P.source) v) }
+{
+    let Ok((counts, seat)) = TreeCounts::<Items<P>, Append<P>>::new(alloc, nodes, 0) else {
+        return Some(Err(Failure::NoMemory));
+    };
+    match walk_whole::<P, R>(rt, alloc, &counts, seat, numbers, levels)? {
+        Ok(found) => Some(Ok(found.items)),
+        Err(failure) => Some(Err(failure)),
+    }
+}
+
+// How many nodes the walk of all numbers claimed: one less than the next one has.
+fn claimed_as<P: Planned + Send + Sync, R: Threads + Sync>(
+    rt: &R,
+    alloc: Global,
+    numbers: &[i64],
+    nodes: u32,
+) -> Option<u32>
+    requires source { numbers.now ≡ P.source }
+{
+    let (counts, seat) = TreeCounts::<Items<P>, Append<P>>::new(alloc, nodes, 0).ok()?;
+    let (seat, aside) = counts.split(seat, 0, 0, 1);
+    let _found = walk_whole::<P, R>(rt, alloc, &counts, seat, numbers, 1)?;
+    let (_aside, next) = counts.claim(aside);
+    Some(next? - 1)
+}
+
+/// How many nodes the walk of all numbers claims, of at most `nodes`; none if these are all.
+pub(crate) fn claimed<R: Threads + Sync>(
+    rt: &R,
+    alloc: Global,
+    numbers: &[i64],
+    nodes: u32,
+) -> Option<u32> {
+    claimed_as::<Brand, R>(rt, alloc, numbers, nodes)
+}
+
+// Both sides of a tree of one node, step by step: the pending count after the first arrival, and the result.
+fn by_steps_as<P: Planned>(
+    alloc: Global,
+    numbers: &[i64],
+    left_first: bool,
+) -> Option<(u64, Handed<Vec<i64>>)>
+    requires source { numbers.now ≡ P.source }
+    ensures { IfSome result (λ r. Walked (λ x. x.items) P.source 0 (length P.source) r.1) }
+{
+    let (counts, seat) = TreeCounts::<Items<P>, Append<P>>::new(alloc, 1, 0).ok()?;
+    let middle = numbers.len() / 2;
+    let cut = NumberCut {
+        from: 0,
+        middle,
+        to: numbers.len(),
+    };
+    let run = Append {
+        cut,
+        parent: None,
+        of: PhantomData,
+    };
+    let tree = Tree::new(&counts, &[]);
+    let Forked::Split(left, right) = tree.fork(seat, None, run) else {
+        return None;
+    };
+    let low = walked(alloc, numbers, 0, middle);
+    let high = walked(alloc, numbers, middle, numbers.len());
+    if left_first {
+        both_steps(&tree, left, low, right, high)
+    } else {
+        both_steps(&tree, right, high, left, low)
+    }
+}
+
+fn both_steps<P: Planned>(
+    tree: &ItemTree<P>,
+    first: ItemHalf<P>,
+    value: Handed<Items<P>>,
+    second: ItemHalf<P>,
+    other: Handed<Items<P>>,
+) -> Option<(u64, Handed<Vec<i64>>)>
+    requires first { CanFork (table_id_of tree.now.counts.now) first.place first.seat }
+    requires second { CanFork (table_id_of tree.now.counts.now) second.place second.seat }
+    requires value { Walked (λ x. x.items.items) P.source (begins first.place.tag first.place.side) (ends_at first.place.tag first.place.side) value }
+    requires other { Walked (λ x. x.items.items) P.source (begins second.place.tag second.place.side) (ends_at second.place.tag second.place.side) other }
+    ensures { IfSome result (λ r. Walked (λ x. x.items) P.source 0 (length P.source) r.1) }
+{
+    if first.place.root() != second.place.root() {
+        return None;
+    }
+    let First::Pending(_seat, pending) = tree.first_complete(first.seat, first.place, value) else {
+        return None;
+    };
+    let First::Last(seat, finisher) = tree.first_complete(second.seat, second.place, other) else {
+        return None;
+    };
+    let Next::Whole(_seat, found) = tree.next_complete(seat, finisher) else {
+        return None;
+    };
+    match found {
+        Ok(found) => Some((pending, Ok(found.items))),
+        Err(failure) => Some((pending, Err(failure))),
+    }
+}
+
+/// The same for any numbers.
+pub(crate) fn by_steps(
+    alloc: Global,
+    numbers: &[i64],
+    left_first: bool,
+) -> Option<(u64, Handed<Vec<i64>>)>
+    ensures { IfSome result (λ r. Walked (λ x. x.items) numbers.now 0 (length numbers.now) r.1) }
+{
+    by_steps_as::<Brand>(alloc, numbers, left_first)
+}
+
+/// What the walk of all numbers gives, over a tree of at most `nodes` nodes, whose sides are walked on up to 2^`levels` threads.
+pub(crate) fn walk_numbers<R: Threads + Sync>(
+    rt: &R,
+    alloc: Global,
+    numbers: &[i64],
+    nodes: u32,
+    levels: u32,
+) -> Option<Handed<Vec<i64>>>
+    ensures { IfSome result (λ v. Walked (λ x. x.items) numbers.now 0 (length numbers.now) v) }
+{
+    walk_as::<Brand, R>(rt, alloc, numbers, nodes, levels)
+}
