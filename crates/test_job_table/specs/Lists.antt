@@ -3,6 +3,7 @@ use Rattle.std.specs.Prelude.{ℕ, ℤ, pos, suc, ◌-◌, ◌%◌, List, [], �
 use Rattle.trace.specs.declared.item.Item.{Item}
 use Rattle.trace.specs.declared.item.End.TheVariants as end
 use Rattle.trace.specs.Trace.{Trace, trace}
+use Rattle.early_stop.specs.Decisive.{Decides}
 use Rattle.test_job_table.specs.declared.lists.ListSource.{ListSource}
 use Rattle.test_job_table.specs.declared.lists.ListSource.TheVariants.{Own, Kept}
 
@@ -23,6 +24,10 @@ items_from place (x ∷ xs) = record { origin = place; value = x } ∷ items_fro
 -- the walk over these numbers
 abbrev pub walk_of : List ℤ → Trace
 walk_of xs = trace (items_from 0 xs) end.Done
+
+-- whatever the walk over these numbers meets, it ends in the same way, as if its first item had a fault
+abbrev pub EndsAtOnce : List ℤ → Type 0
+EndsAtOnce xs = Decides (λ (t : Trace). t.ending) (walk_of xs) 0
 
 abbrev pub three_numbers : List ℤ
 three_numbers = pos 7 ∷ pos 8 ∷ pos 9 ∷ []

@@ -1,7 +1,7 @@
 //! Jobs that copy lists of numbers. They stand outside the tests, since definitions name them.
 ghost use Rattle.std.specs.Prelude.{◌≡◌, ◌%◌, ◌<◌, ◌≤◌, ℕ, ℤ, true, List, [], length, map, slice_index_or, IfOk, ⊤};
 ghost use Rattle.std.specs.Coded.{Unit-prop};
-ghost use Rattle.test_job_table.specs.Lists.{slice, numbers_in, walk_of, JobLast};
+ghost use Rattle.test_job_table.specs.Lists.{EndsAtOnce, slice, numbers_in, walk_of, JobLast};
 ghost use Rattle.test_job_table.specs.ListLaws.{one_list};
 
 use early_stop::Stop;
@@ -85,7 +85,8 @@ impl<'a, P: JobNumbers + Sync> JobSegments for Lists<'a, P> {
 
     type Given = ();
 
-    type Instead = ();
+    // An empty list is made of it, without memory.
+    type Instead = Global;
 
     type Scratch = ();
 
@@ -103,17 +104,17 @@ impl<'a, P: JobNumbers + Sync> JobSegments for Lists<'a, P> {
 
     ghost stands_for = { λ job _ from to part. part.items ≡ slice (P.numbers job) from to };
 
-    ghost faults_with = { λ _ _ _ _ _. ⊥ };
+    ghost faults_with = { λ job _ _ _ _. EndsAtOnce (P.numbers job) };
 
     ghost is_caught = { λ _ _ _ _. ⊥ };
 
-    ghost faults_among = { λ _ _ _ _ _ _ _ _ _ never. never };
+    ghost faults_among = { λ _ _ _ _ _ _ _ _ _ ends. ends };
 
     ghost is_source = { λ job _ source. numbers_in (P.numbers job) source ≡ P.numbers job };
 
     ghost is_answer = { λ job answer. answer.items ≡ P.numbers job };
 
-    ghost is_instead = { λ _ _. ⊥ };
+    ghost is_instead = { λ job _. P.numbers job ≡ [] };
 
     ghost is_given = { λ _ _. ⊤ };
 
@@ -121,7 +122,7 @@ impl<'a, P: JobNumbers + Sync> JobSegments for Lists<'a, P> {
 
     ghost one_answer = { λ job answer. one_list answer.items (P.numbers job) };
 
-    ghost one_instead = { λ _ _ never _. absurd never };
+    ghost one_instead = { λ job _. one_list (P.numbers job) [] };
 
     ghost one_given = { λ _ _. Unit-prop };
 
@@ -212,12 +213,14 @@ impl<'a, P: JobNumbers + Sync> JobSegments for Lists<'a, P> {
         None
     }
 
-    fn instead(&self, _job: usize) -> Option<()> {
+    /// Nothing: no list has a fault.
+    #[tactic(auto, using(crate::proofs::Walks::no_place_decides))]
+    fn instead(&self, _job: usize) -> Option<Global> {
         None
     }
 
-    fn answer_instead(&self, _job: usize, _instead: ()) -> Vec<i64> {
-        unreachable!()
+    fn answer_instead(&self, _job: usize, instead: Global) -> Vec<i64> {
+        Vec::new(instead)
     }
 
     fn leaf<E: EarlierAnswers<Vec<i64>>, W: Stop>(
