@@ -1,5 +1,5 @@
 -- Exact sums of joined lists, and how far their sums reach.
-use Rattle.std.proofs.Common.{◌≡◌, ℕ, ◌<◌, ◌^◌, ℤ, pos, negsuc, ◌+ℤ◌, ◌≤ℤ◌, Bool, true, false, if◌then◌else◌, List, [], ◌∷◌, ◌++◌, take, drop, slice_get, zero, suc, ◌+◌, append_assoc, Some, None, Result, Ok, Err, sym, refl, ap, subst, ◌∙◌, arith}
+use Rattle.std.proofs.Common.{◌≡◌, inl, inr, ℕ, ◌<◌, ◌^◌, ℤ, pos, negsuc, ◌+ℤ◌, ◌≤ℤ◌, Bool, true, false, if◌then◌else◌, List, [], ◌∷◌, ◌++◌, take, drop, slice_get, zero, suc, ◌+◌, append_assoc, Some, None, Result, Ok, Err, sym, refl, ap, subst, ◌∙◌, arith}
 use Rattle.std.specs.List.{fold}
 use Rattle.std.proofs.lemmas.Int.{ints, clamps}
 use Rattle.std.proofs.lemmas.List.Sums.{fold-append}
@@ -15,7 +15,7 @@ use Rattle.reduce_ops.specs.ExactSums.{exact_from, exact_end, exact_sum, sum_on}
 use Rattle.reduce_ops.specs.declared.reach.Reach.{Reach}
 use Rattle.reduce_ops.specs.declared.exact_part.ExactPart.{ExactPart}
 use Rattle.reduce_ops.specs.declared.exact_part.ExactPart.TheVariants as piece
-use Rattle.reduce_ops.specs.Reaches.{AbstractReach, IsPiece, no_reach, reach_on, reach_of, item_values, reach_beside, Holds, IsOver, IsWide}
+use Rattle.reduce_ops.specs.Reaches.{AbstractReach, Covers, IsOneSided, IsPiece, IsWidest, no_reach, reach_on, reach_of, item_values, reach_beside, Holds, IsOver, IsWide}
 
 -- ---- the sum as it goes on
 
@@ -94,6 +94,20 @@ reach t l g = record { total = t; least = l; greatest = g }
 
 pub same_reach : (t t' l l' g g' : ℤ) → t ≡ t' → l ≡ l' → g ≡ g' → reach t l g ≡ reach t' l' g'
 same_reach t t' l l' g g' a b c = λ i. reach (a i) (b i) (c i)
+
+-- sums on one side of 0 reach as far as they could in any order
+pub one_sided_same : (w r : AbstractReach) → IsWidest w r → Ordered r → IsOneSided w → w ≡ r
+one_sided_same w r h o (inl e) = same_reach w.total r.total w.least r.least w.greatest r.greatest h.0 (omega (arith, ints)) (omega (arith, ints))
+one_sided_same w r h o (inr e) = same_reach w.total r.total w.least r.least w.greatest r.greatest h.0 (omega (arith, ints)) (omega (arith, ints))
+
+-- what is covered doesn't matter in detail
+pub covered_same : (b w r : AbstractReach) → IsWidest w r → Ordered r → Covers b w → reach_beside b w ≡ reach_beside b r
+covered_same b w r h o c = same_reach (b.total +ℤ w.total) (b.total +ℤ r.total)
+    (reach_beside b w).least (reach_beside b r).least (reach_beside b w).greatest (reach_beside b r).greatest
+    (ap (λ (z : ℤ). b.total +ℤ z) h.0) (omega (arith, ints, clamps)) (omega (arith, ints, clamps))
+
+pub wide_beside : (b r : AbstractReach) → IsWide r → IsWide (reach_beside b r)
+wide_beside b r h = omega (arith, ints, clamps)
 
 -- to go on beside other values is to go on after them
 beside_on : (r s : AbstractReach) (v : ℤ) → Ordered s → reach_beside r (reach_on s v) ≡ reach_on (reach_beside r s) v
@@ -248,6 +262,10 @@ the_done (end.Fault f) h = absurd (h f refl)
 pub only_over : (p : ExactPart) (t : Trace) → ((r : Reach) (e : End) → p ≡ piece.Within r e → ⊥) → IsPiece p t → IsOver t.items
 only_over (piece.Within r e) t h is = absurd (h r e refl)
 only_over piece.Over t h is = is
+
+pub over_only : (p : ExactPart) → ((r : Reach) (e : End) → p ≡ piece.Within r e → ⊥) → p ≡ piece.Over
+over_only (piece.Within r e) h = absurd (h r e refl)
+over_only piece.Over h = refl
 
 -- ---- values in turn
 

@@ -1,5 +1,5 @@
 -- What settles an exact sum.
-use Rattle.std.proofs.Common.{◌≡◌, ℕ, ℤ, pos, Bool, true, false, Some, Result, Ok, Err, is_err, sym, refl, ap, subst, ◌∙◌}
+use Rattle.std.proofs.Common.{◌≡◌, ℕ, ℤ, pos, true, false, Some, Result, Ok, Err, is_err, sym, refl, ap, subst, ◌∙◌}
 use Rattle.lambda_expr.specs.Operators.{is_long}
 use Rattle.lambda_expr.specs.declared.fault.FaultKind.TheVariants as kind
 use Rattle.trace.specs.declared.item.Item.{Item}
@@ -7,12 +7,11 @@ use Rattle.trace.specs.declared.item.Fault.{Fault}
 use Rattle.trace.specs.declared.item.End.{End}
 use Rattle.trace.specs.declared.item.End.TheVariants as end
 use Rattle.trace.specs.Trace.{Trace, append}
-use Rattle.reduce_ops.specs.declared.exact_part.ExactPart.{ExactPart}
 use Rattle.reduce_ops.specs.declared.exact_part.ExactPart.TheVariants as piece
 use Rattle.reduce_ops.specs.declared.sum_part.SumPart.{SumPart}
 use Rattle.reduce_ops.specs.declared.sum_part.SumPart.TheVariants as part
 use Rattle.reduce_ops.specs.ExactSums.{exact_from, exact_end, exact_sum, sum_on}
-use Rattle.reduce_ops.specs.Reaches.{IsOver, IsPiece, StandsFor, is_fault, is_over, is_running, is_settled}
+use Rattle.reduce_ops.specs.Reaches.{IsOver, IsPiece, StandsFor, is_fault, is_running, is_settled}
 use Rattle.reduce_ops.proofs.ExactLemmas.{joined_sum, long_sum, on_fault, over_stays, sum_joined}
 
 the_fault : (e : End) → is_fault e ≡ true → (f : Fault) × (e ≡ end.Fault f)

@@ -1,5 +1,5 @@
 -- Condition: how far the sums of a piece reach, and what the parts of exact sums stand for.
-use Rattle.std.specs.Prelude.{◌≡◌, ℕ, ◌^◌, ℤ, pos, negsuc, ◌+ℤ◌, ◌-ℤ◌, ◌≤ℤ◌, neg_ℤ, Bool, true, false, is_err, List, map, Option, Some, None, Ok, Err, ⊤}
+use Rattle.std.specs.Prelude.{◌≡◌, ◌⊎◌, ℕ, ◌^◌, ℤ, pos, negsuc, ◌+ℤ◌, ◌-ℤ◌, ◌≤ℤ◌, neg_ℤ, Bool, true, false, is_err, List, map, Option, Some, None, Ok, Err, ⊤}
 use Rattle.std.specs.Int.{int_max, int_min}
 use Rattle.std.specs.List.{fold}
 use Rattle.lambda_expr.specs.Operators.{is_long}
@@ -41,6 +41,18 @@ item_values xs = map (λ (x : Item). x.value) xs
 -- of the values of two pieces side by side
 abbrev pub reach_beside : AbstractReach → AbstractReach → AbstractReach
 reach_beside r s = record { total = r.total +ℤ s.total; least = int_min (r.total +ℤ s.least) r.least; greatest = int_max (r.total +ℤ s.total) (int_max (r.total +ℤ s.greatest) r.greatest) }
+
+-- no sum is below 0, or none is above
+abbrev pub IsOneSided : AbstractReach → Type 0
+IsOneSided r = (r.least ≡ pos 0) ⊎ (r.greatest ≡ pos 0)
+
+-- sums that come after these and reach so far are neither below the least of these nor above the greatest
+abbrev pub Covers : AbstractReach → AbstractReach → Type 0
+Covers r s = (r.least ≤ℤ (r.total +ℤ s.least)) × ((r.total +ℤ s.greatest) ≤ℤ r.greatest)
+
+-- the first reaches down to the sum of the values below 0 and up to that of those above, so at least as far as the second
+abbrev pub IsWidest : AbstractReach → AbstractReach → Type 0
+IsWidest w r = (w.total ≡ r.total) × (w.total ≡ (w.least +ℤ w.greatest)) × (w.least ≤ℤ r.least) × (r.greatest ≤ℤ w.greatest)
 
 -- some sums differ by 2^64 or more
 abbrev pub IsWide : AbstractReach → Type 0

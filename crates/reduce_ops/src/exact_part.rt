@@ -7,7 +7,7 @@ ghost use Rattle.trace.specs.Trace.{Trace, trace, append};
 ghost use Rattle.reduce_ops.specs.Reaches.{IsExact, IsPiece, IsReach, is_over, item_values, reach_of};
 
 use super::reach::Reach;
-use super::reaching::reach_of;
+use super::reaching::reach_with;
 use trace::{End, Fault, Item};
 
 /// The sums of a piece of a stream, wherever they start, and how the walk over the piece ended.
@@ -60,8 +60,13 @@ impl ExactPart {
     pub fn push_all(&mut self, values: &[i64])
         ensures stands { (t : Trace) (xs : List item) → item_values xs ≡ values.now → IsPiece self.old t → IsPiece self.new (append t (trace xs end.Done)) }
     {
-        let right = of_reach(reach_of(values), End::Done);
-        *self = self.merge(right);
+        let ExactPart::Within { reach, end } = *self else {
+            return;
+        };
+        if let End::Fault(_) = end {
+            return;
+        }
+        *self = of_reach(reach_with(reach, values), End::Done);
     }
 
     /// Ends the piece so, unless a fault has ended it.

@@ -1,7 +1,7 @@
 //! How far the sums of values reach.
 
-ghost use Rattle.std.specs.Prelude.{◌≡◌, ◌^◌, ◌≤ℤ◌, pos, negsuc};
-ghost use Rattle.reduce_ops.specs.Reaches.{IsReach, IsSumOf, no_reach, reach_beside, reach_in, reach_on};
+ghost use Rattle.std.specs.Prelude.{◌≡◌, true, ◌^◌, ◌≤ℤ◌, pos, negsuc};
+ghost use Rattle.reduce_ops.specs.Reaches.{Covers, IsOneSided, IsReach, IsSumOf, no_reach, reach_beside, reach_in, reach_on};
 
 /// The sum of values, and the least and the greatest of the sums of the first ones; that of none, 0, is one of them. All differ by
 /// less than 2^64, so that there may be a start in 64 bits from which all sums are in 64 bits.
@@ -67,6 +67,23 @@ impl Reach {
             self.least_beside(right),
             self.greatest_beside(right),
         )
+    }
+
+    /// Whether no sum is below 0, or none is above.
+    pub(crate) fn is_one_sided(self) -> bool
+        ensures { result ≡ true → IsOneSided (reach_in self) }
+    {
+        self.below == 0 || self.above == 0
+    }
+
+    /// Whether sums that come after these and reach so far are neither below the least of these nor above the greatest.
+    pub(crate) fn covers(self, later: Reach) -> bool
+        ensures { result ≡ true → Covers (reach_in self) (reach_in later) }
+    {
+        let total = self.total();
+        let least = total - i128::from(later.below);
+        let greatest = total + i128::from(later.above);
+        least >= -i128::from(self.below) && greatest <= i128::from(self.above)
     }
 
     /// The sum of all values of both.
