@@ -100,14 +100,11 @@ pub one_sided_same : (w r : AbstractReach) → IsWidest w r → Ordered r → Is
 one_sided_same w r h o (inl e) = same_reach w.total r.total w.least r.least w.greatest r.greatest h.0 (omega (arith, ints)) (omega (arith, ints))
 one_sided_same w r h o (inr e) = same_reach w.total r.total w.least r.least w.greatest r.greatest h.0 (omega (arith, ints)) (omega (arith, ints))
 
--- what is covered doesn't matter in detail
+-- of sums that are covered only the total matters
 pub covered_same : (b w r : AbstractReach) → IsWidest w r → Ordered r → Covers b w → reach_beside b w ≡ reach_beside b r
 covered_same b w r h o c = same_reach (b.total +ℤ w.total) (b.total +ℤ r.total)
     (reach_beside b w).least (reach_beside b r).least (reach_beside b w).greatest (reach_beside b r).greatest
     (ap (λ (z : ℤ). b.total +ℤ z) h.0) (omega (arith, ints, clamps)) (omega (arith, ints, clamps))
-
-pub wide_beside : (b r : AbstractReach) → IsWide r → IsWide (reach_beside b r)
-wide_beside b r h = omega (arith, ints, clamps)
 
 -- to go on beside other values is to go on after them
 beside_on : (r s : AbstractReach) (v : ℤ) → Ordered s → reach_beside r (reach_on s v) ≡ reach_on (reach_beside r s) v

@@ -50,7 +50,7 @@ IsOneSided r = (r.least ≡ pos 0) ⊎ (r.greatest ≡ pos 0)
 abbrev pub Covers : AbstractReach → AbstractReach → Type 0
 Covers r s = (r.least ≤ℤ (r.total +ℤ s.least)) × ((r.total +ℤ s.greatest) ≤ℤ r.greatest)
 
--- the first reaches down to the sum of the values below 0 and up to that of those above, so at least as far as the second
+-- the first has the total of the second and reaches at least as far; its least and its greatest sum add up to the total
 abbrev pub IsWidest : AbstractReach → AbstractReach → Type 0
 IsWidest w r = (w.total ≡ r.total) × (w.total ≡ (w.least +ℤ w.greatest)) × (w.least ≤ℤ r.least) × (r.greatest ≤ℤ w.greatest)
 

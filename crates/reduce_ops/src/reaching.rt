@@ -52,6 +52,7 @@ fn reach_with_small(before: Reach, values: &[i64]) -> Option<Reach>
 }
 
 /// How far the sums of a few small values could reach in any order: down to the sum of those below 0, up to that of those above.
+/// No answer rests on how far that is beyond their sums in this order.
 fn widest_of_small(values: &[i64]) -> Reach
     requires few { length values.now ≤ 4096 }
     requires small { All IsSmall values.now }

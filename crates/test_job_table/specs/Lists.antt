@@ -25,7 +25,7 @@ items_from place (x ∷ xs) = record { origin = place; value = x } ∷ items_fro
 abbrev pub walk_of : List ℤ → Trace
 walk_of xs = trace (items_from 0 xs) end.Done
 
--- whatever the walk over these numbers meets, it ends in the same way, as if its first item had a fault
+-- how the walk over these numbers ends is decided before its first item, as it would be by a fault there
 abbrev pub EndsAtOnce : List ℤ → Type 0
 EndsAtOnce xs = Decides (λ (t : Trace). t.ending) (walk_of xs) 0
 
