@@ -1,11 +1,20 @@
 -- Division by multiplication: the factor is a power of two over the divisor, rounded up.
-use Rattle.std.proofs.Common.{◌≡◌, ℕ, zero, suc, ◌+◌, ◌-◌, ◌*◌, ◌/◌, ◌<◌, ◌≤◌, ◌^◌, ap, sym, arith, refl, ◌∙◌, ℤ, pos, negsuc, FitsSigned, of_z, to_z, w64}
-use Rattle.std.specs.Prelude.{false, unsigned_abs}
+use Rattle.std.proofs.Common.{◌≡◌, ℕ, zero, suc, ◌+◌, ◌-◌, ◌*◌, ◌/◌, ◌%◌, ◌<◌, ◌≤◌, ◌^◌, ap, sym, subst, arith, refl, ◌∙◌, ℤ, pos, negsuc, FitsSigned, List, of_z, to_z, w64}
+use Rattle.std.specs.Prelude.{false, bit_or, int_rem, unsigned_abs}
 use Rattle.std.specs.Ordering.{int_eq}
 use Rattle.std.proofs.lemmas.Grind.{common_steps}
-use Rattle.std.proofs.Math.Nat.{div-div-eq-div-mul, div-lt_iff_lt-mul, div-mul-le_self, le-div_iff_mul-le, lt-div-mul-add, lt_of_mul-lt-mul_right, mul-le-mul_left, mul-le-mul_right}
-use Rattle.std.proofs.lemmas.Int.{to_z-of_z}
-use Rattle.batch_eval.specs.Reciprocals.{IsReciprocal}
+use Rattle.std.proofs.Math.Nat.{div-div-eq-div-mul, div-lt_iff_lt-mul, div-mul-le_self, le-div_iff_mul-le, lt-div-mul-add, lt_of_mul-lt-mul_right, mod-le, mul-le-mul_left, mul-le-mul_right}
+use Rattle.std.proofs.lemmas.Int.{int_wrap_fits, to_z-of_z}
+use Rattle.std.proofs.lemmas.Bool.{cases_lt}
+use Rattle.std.proofs.lemmas.Nat.{le_or_l, le_or_r, pow_pos}
+use Rattle.std.proofs.Math.Pow.{pow_mono}
+use mathlib.Core.Logic.{⊎_elim}
+use Rattle.lambda_expr.specs.Wrap.{wrap}
+use Rattle.batch_eval.specs.Lanes.{at}
+use Rattle.batch_eval.specs.Powers.{with_sign_of}
+use Rattle.batch_eval.specs.Reciprocals.{Divides, IsWithin, LeftIsWithin, distance}
+use Rattle.batch_eval.specs.declared.reached.Left.{Left}
+use Rattle.batch_eval.specs.declared.reached.Left.TheVariants as left
 
 -- a power of two over d, rounded up
 abbrev pub factor_of : ℕ → ℕ → ℕ
@@ -36,36 +45,44 @@ product_over n e a m above reach within small =
     let most : n * m / a < q + 1 = (div-lt_iff_lt-mul {k = a} {x = n * m} {y = q + 1} above).1 from_above in
     omega (arith, least, most)
 
--- the quotient by e + 1, for a power p of two that is at most e and more than half of it
-divides_by : (e p n : ℕ) → p ≤ e → e < 2 * p → n ≤ 2 ^ 63 → n * factor_of (suc e) (2 ^ 64 * p) / 2 ^ 64 / p ≡ n / suc e
-divides_by e p n low high within =
-    let a = 2 ^ 64 * p in
-    let some : 0 < a = omega (arith, high) in
+-- the quotient by e + 1 of magnitudes up to h, where w is twice that, for a power p of two that is at most e and more than half of it
+divides_by : (w h e p n : ℕ) → w ≡ 2 * h → 0 < h → p ≤ e → e < 2 * p → n ≤ h → n * factor_of (suc e) (w * p) / w / p ≡ n / suc e
+divides_by w h e p n twice some_h low high within =
+    let a = w * p in
+    let some_p : 1 ≤ p = omega (arith, high) in
+    let double : a ≡ 2 * (h * p) = ap (λ k. k * p) twice ∙ omega arith in
+    let some : 0 < a = omega (arith, double, mul-le-mul_left h some_p, some_h) in
     let m = factor_of (suc e) a in
     let reach : a ≤ m * suc e = factor_reaches (suc e) a (omega arith) some in
     let less : m * suc e ≤ a + e = omega (arith, factor_within (suc e) a some) in
-    let small : n * e < a = omega (arith, mul-le-mul_right e within, high) in
-    div-div-eq-div-mul (n * m) (2 ^ 64) p ∙ product_over n e a m some reach less small
+    let below : suc e ≤ 2 * p = omega (arith, high) in
+    let small : n * e < a = omega (arith, mul-le-mul_right e within, mul-le-mul_left h below, double, some_h) in
+    div-div-eq-div-mul (n * m) w p ∙ product_over n e a m some reach less small
 
-factor_small : (e p : ℕ) → p ≤ e → e < 2 * p → e < 2 ^ 63 → factor_of (suc e) (2 ^ 64 * p) < 2 ^ 64
-factor_small e p low high below =
-    let a = 2 ^ 64 * p in
-    let some : 0 < a = omega (arith, high) in
-    lt_of_mul-lt-mul_right (suc e) {m = factor_of (suc e) a} {n = 2 ^ 64} (omega (arith, factor_within (suc e) a some, low, below))
+factor_small : (w e p : ℕ) → p ≤ e → 0 < p → 0 < w → e < w → factor_of (suc e) (w * p) < w
+factor_small w e p low some_p some_w below =
+    let a = w * p in
+    let some : 0 < a = omega (arith, mul-le-mul_left w some_p, some_w) in
+    let least : w * p ≤ w * e = mul-le-mul_left w low in
+    lt_of_mul-lt-mul_right (suc e) {m = factor_of (suc e) a} {n = w} (omega (arith, factor_within (suc e) a some, least, below))
 
-pub factor_fits : (m s : ℕ) → 1 < m → m ≤ 2 ^ 63 → 2 ^ s ≤ m - 1 → m - 1 < 2 * 2 ^ s → factor_of m (2 ^ 64 * 2 ^ s) < 2 ^ 64
-factor_fits zero s above within low high = absurd (omega (arith, above))
-factor_fits (suc e) s above within low high = factor_small e (2 ^ s) (omega (arith, low)) (omega (arith, high)) (omega (arith, within))
+pub factor_fits : (w m s : ℕ) → 0 < w → 1 < m → m ≤ w → 2 ^ s ≤ m - 1 → factor_of m (w * 2 ^ s) < w
+factor_fits w zero s some above within low = absurd (omega (arith, above))
+factor_fits w (suc e) s some above within low = factor_small w e (2 ^ s) (omega (arith, low)) (pow_pos s) some (omega (arith, within))
 
-pub reciprocal_is : (y : ℤ) (m s f : ℕ) → FitsSigned w64 y → m ≡ unsigned_abs y → 1 < m → 2 ^ s ≤ m - 1 → m - 1 < 2 * 2 ^ s → s < 64 → f ≡ factor_of m (2 ^ 64 * 2 ^ s) → IsReciprocal record { divisor = to_z w64 (of_z w64 y); factor = f; shift = s }
-reciprocal_is y m s f fits size above low high bound is =
+pub divides_bits : (bits : ℕ) (y : ℤ) (m s f : ℕ) → 2 ^ bits ≡ 2 * 2 ^ (bits - 1) → FitsSigned w64 y → m ≡ unsigned_abs y → 1 < m → 2 ^ s ≤ m - 1 → m - 1 < 2 * 2 ^ s → s < bits → f ≡ factor_of m (2 ^ bits * 2 ^ s) → Divides bits (to_z w64 (of_z w64 y)) f s
+divides_bits bits y m s f twice fits size above low high bound is =
     let whole : suc (m - 1) ≡ m = omega (arith, above) in
     let same : unsigned_abs (to_z w64 (of_z w64 y)) ≡ unsigned_abs y = ap unsigned_abs (to_z-of_z w64 y fits) in
     record {
-      divides = λ n within. ap (λ k. n * k / 2 ^ 64 / 2 ^ s) is ∙ ap (λ d. n * factor_of d (2 ^ 64 * 2 ^ s) / 2 ^ 64 / 2 ^ s) (sym whole) ∙ divides_by (m - 1) (2 ^ s) n low high within ∙ ap (λ d. n / d) (whole ∙ size ∙ sym same);
+      divides = λ n within. ap (λ k. n * k / 2 ^ bits / 2 ^ s) is ∙ ap (λ d. n * factor_of d (2 ^ bits * 2 ^ s) / 2 ^ bits / 2 ^ s) (sym whole) ∙ divides_by (2 ^ bits) (2 ^ (bits - 1)) (m - 1) (2 ^ s) n twice (pow_pos (bits - 1)) low high within ∙ ap (λ d. n / d) (whole ∙ size ∙ sym same);
       shift = bound;
       divisor = omega (arith, above, size, same);
     }
+
+-- a power of two below 2^31 has an exponent below 31
+pub exponent_short : (s m : ℕ) → 2 ^ s ≤ m - 1 → m ≤ 2 ^ 31 → 1 < m → s < 31
+exponent_short s m low short above = ⊎_elim (λ less. less) (λ from. absurd (omega (arith, low, short, above, pow_mono {i = 31} {j = s} from))) (cases_lt s 31)
 
 pub magnitude_within : (y : ℤ) (m : ℕ) → FitsSigned w64 y → m ≡ unsigned_abs y → m ≤ 2 ^ 63
 magnitude_within (pos a) m fits is = omega (arith, fits.sfits, is)
@@ -75,3 +92,42 @@ magnitude_within (negsuc a) m fits is = omega (arith, fits.sfits, is)
 pub divisor_counts : (y : ℤ) → 1 < unsigned_abs y → int_eq y (pos 0) ≡ false
 divisor_counts (pos a) above = grind (arith, common_steps)
 divisor_counts (negsuc a) above = refl
+
+within_64 : (x : ℤ) → IsWithin (2 ^ 63) x
+within_64 (pos a) fits = omega (arith, fits.sfits)
+within_64 (negsuc a) fits = omega (arith, fits.sfits)
+
+-- no magnitude of 64 bits is beyond 2^63
+pub left_within_64 : (l : Left) (out xs : List ℤ) (live : ℕ) → LeftIsWithin (2 ^ 63) l out xs live
+left_within_64 left.Out out xs live = λ k _. within_64 _
+left_within_64 left.Item out xs live = λ k _. within_64 _
+left_within_64 (left.Number z) out xs live = within_64 z
+
+-- what is near 0, or near -1 if it is below 0, has a small magnitude
+pub near_within : (x : ℤ) (n : ℕ) → distance x < n → IsWithin n x
+near_within (pos a) n near fits = omega (arith, near)
+near_within (negsuc a) n near fits = omega (arith, near)
+
+-- what is near 0 at the lanes before i, and at lane i, is so at those before i + 1, up to the union of the bits
+pub near_with : (xs : List ℤ) (i b d : ℕ) → ((k : ℕ) → k < i → distance (at xs k) ≤ b) → distance (at xs i) ≤ d → (k : ℕ) → k < i + 1 → distance (at xs k) ≤ bit_or b d
+near_with xs i b d before here k less = ⊎_elim
+    (λ earlier. omega (arith, before k earlier, le_or_l b d))
+    (λ from. let same : k ≡ i = omega (arith, less, from) in subst (λ j. distance (at xs j) ≤ bit_or b d) (sym same) (omega (arith, here, le_or_r b d)))
+    (cases_lt k i)
+
+signed_rest : (x y : ℤ) → with_sign_of x (unsigned_abs x % unsigned_abs y) ≡ int_rem x y
+signed_rest (pos a) (pos b) = refl
+signed_rest (pos a) (negsuc b) = refl
+signed_rest (negsuc a) (pos b) = refl
+signed_rest (negsuc a) (negsuc b) = refl
+
+signed_fits : (x : ℤ) (n : ℕ) → FitsSigned w64 x → n ≤ unsigned_abs x → FitsSigned w64 (with_sign_of x n)
+signed_fits (pos a) n fits within = record { sfits = omega (arith, fits.sfits, within) }
+signed_fits (negsuc a) zero fits within = record { sfits = omega arith }
+signed_fits (negsuc a) (suc n) fits within = record { sfits = omega (arith, fits.sfits, within) }
+
+-- a rest of magnitudes with the sign of the dividend is the remainder
+pub rest_is : (x y r : ℤ) (m : ℕ) → FitsSigned w64 x → m ≡ unsigned_abs x % unsigned_abs y → r ≡ wrap (with_sign_of x m) → r ≡ int_rem x y
+rest_is x y r m fits size is =
+    let within : m ≤ unsigned_abs x = omega (arith, size, mod-le (unsigned_abs x) (unsigned_abs y)) in
+    is ∙ int_wrap_fits w64 (with_sign_of x m) (signed_fits x m fits within) ∙ ap (with_sign_of x) size ∙ signed_rest x y

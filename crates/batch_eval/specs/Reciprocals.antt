@@ -1,12 +1,39 @@
 -- Condition: division by multiplication.
-use Rattle.std.specs.Prelude.{◌≡◌, ℕ, ◌<◌, ◌≤◌, ◌*◌, ◌/◌, ◌^◌, ℤ, pos, negsuc, unsigned_abs}
+use Rattle.std.specs.Prelude.{◌≡◌, ℕ, ◌<◌, ◌≤◌, ◌*◌, ◌-◌, ◌/◌, ◌^◌, ℤ, pos, negsuc, FitsSigned, List, unsigned_abs}
+use Rattle.std.specs.Int.{w64}
+use Rattle.batch_eval.specs.Lanes.{at}
+use Rattle.batch_eval.specs.declared.reached.Left.{Left}
+use Rattle.batch_eval.specs.declared.reached.Left.TheVariants as left
 use Rattle.batch_eval.specs.declared.reciprocal.Reciprocal.{Reciprocal}
+use Rattle.batch_eval.specs.declared.reciprocal.ShortReciprocal.{ShortReciprocal}
 
--- every magnitude of 64 bits over that of the divisor is a product with the factor over a power of two
-pub record IsReciprocal (r : Reciprocal) : Type 0 where
-  pub divides : (n : ℕ) → n ≤ 2 ^ 63 → n * r.factor / 2 ^ 64 / 2 ^ r.shift ≡ n / unsigned_abs r.divisor
-  pub shift : r.shift < 64
-  pub divisor : 1 < unsigned_abs r.divisor
+-- a magnitude that needs no more than these bits with its sign, over that of the divisor, is a product with the factor over a power of two
+pub record Divides (bits : ℕ) (y : ℤ) (m s : ℕ) : Type 0 where
+  pub divides : (n : ℕ) → n ≤ 2 ^ (bits - 1) → n * m / 2 ^ bits / 2 ^ s ≡ n / unsigned_abs y
+  pub shift : s < bits
+  pub divisor : 1 < unsigned_abs y
+
+-- it divides the magnitudes of all integers of 64 bits
+abbrev pub IsReciprocal : Reciprocal → Type 0
+IsReciprocal r = Divides 64 r.divisor r.factor r.shift
+
+-- it divides the magnitudes of all integers of 32 bits
+abbrev pub IsShortReciprocal : ShortReciprocal → Type 0
+IsShortReciprocal r = Divides 32 r.divisor r.factor r.shift
+
+-- the magnitude of an integer of 64 bits is no more than this
+abbrev pub IsWithin : ℕ → ℤ → Type 0
+IsWithin most x = FitsSigned w64 x → unsigned_abs x ≤ most
+
+-- those at the first lanes are
+abbrev pub AreWithin : ℕ → List ℤ → ℕ → Type 0
+AreWithin most xs live = (k : ℕ) → k < live → IsWithin most (at xs k)
+
+-- those of a left operand are
+abbrev pub LeftIsWithin : ℕ → Left → List ℤ → List ℤ → ℕ → Type 0
+LeftIsWithin most left.Out out xs live = AreWithin most out live
+LeftIsWithin most left.Item out xs live = AreWithin most xs live
+LeftIsWithin most (left.Number z) out xs live = IsWithin most z
 
 -- how far an integer is from 0, or from -1 if it is below 0
 abbrev pub distance : ℤ → ℕ

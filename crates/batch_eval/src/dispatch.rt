@@ -3,7 +3,7 @@
 
 ghost use Rattle.batch_eval.specs.Lanes.{Reaches, at, infix_value, left_at};
 ghost use Rattle.batch_eval.specs.Powers.{power};
-ghost use Rattle.batch_eval.specs.Reciprocals.{IsReciprocal};
+ghost use Rattle.batch_eval.specs.Reciprocals.{LeftIsWithin};
 ghost use Rattle.lambda_expr.specs.Operators.{binary_value};
 ghost use Rattle.std.specs.Prelude.{◌≡◌, ◌≤◌, ◌≤ℤ◌, ℤ, length, pos};
 
@@ -12,6 +12,10 @@ use crate::binary::{
     by_operator,
 };
 use crate::comparing::by_comparison;
+use crate::division::{
+    DivideByReciprocal, Division, FloorDivideByReciprocal, FloorRemainderByReciprocal,
+    RemainderByReciprocal,
+};
 use crate::exact::{differences_within, left_within, sums_within};
 use crate::kernel::Kernel;
 use crate::loops::{divide_in, divide_to, fill};
@@ -20,10 +24,8 @@ use crate::power::{
     DivideByPower, FloorDivideByPower, FloorRemainderByPower, RemainderByPower, exponent_of,
 };
 use crate::reached::{Left, Reached};
-use crate::reciprocal::{
-    DivideByReciprocal, Division, FloorDivideByReciprocal, FloorRemainderByReciprocal, Reciprocal,
-    RemainderByReciprocal, reciprocal_of,
-};
+use crate::reciprocal::{Divisor, Reciprocal, ShortReciprocal, reciprocal_of, short_reciprocal_of};
+use crate::short::left_is_short;
 use lambda_expr::{BinaryOperator, Comparison};
 
 /// What stands between two operands.
@@ -209,26 +211,29 @@ pub(crate) fn by_exact_number<K: Kernel, W: Kernel>(
 }
 
 /// A left operand, and a divisor with a reciprocal.
-fn by_left_reciprocal<D: Division>(
+fn by_left_reciprocal<D: Division, R: Divisor>(
     left: Left,
     xs: &[i64],
-    by: Reciprocal,
+    by: R,
     live: usize,
     out: &mut [i64],
 ) -> Reached
-    requires by { IsReciprocal by }
+    requires by { R.divides by }
     requires xs { live ≤ length xs.now }
     requires out { live ≤ length out.old }
-    ensures { Reaches (λ k. D.value (left_at left out.old xs.now k) by.divisor) (at out.new) live result }
+    requires within { LeftIsWithin R.most left out.old xs.now live }
+    ensures { Reaches (λ k. D.value (left_at left out.old xs.now k) (R.number by)) (at out.new) live result }
 {
     match left {
-        Left::Out => divide_in::<D>(by, live, out),
-        Left::Item => divide_to::<D>(xs, by, live, out),
+        Left::Out => divide_in::<D, R>(by, live, out),
+        Left::Item => divide_to::<D, R>(xs, by, live, out),
         Left::Number(x) => fill(D::apply(x, by), live, out),
     }
 }
 
-/// A division by a number: by its reciprocal if it has one, else as the processor divides.
+/// A division by a number: by its short reciprocal if it has one and all operands need no more than 32 bits, else by its reciprocal
+/// if it has one, else as the processor divides.
+#[tactic(auto, using(crate::proofs::ReciprocalLemmas::left_within_64))]
 fn by_divisor<D: Division, K: Kernel>(
     left: Left,
     xs: &[i64],
@@ -241,8 +246,13 @@ fn by_divisor<D: Division, K: Kernel>(
     requires out { live ≤ length out.old }
     ensures { Reaches (λ k. K.value (left_at left out.old xs.now k) y) (at out.new) live result }
 {
+    if let Some(by) = short_reciprocal_of(y) {
+        if left_is_short(left, xs, out, live) {
+            return by_left_reciprocal::<D, ShortReciprocal>(left, xs, by, live, out);
+        }
+    }
     match reciprocal_of(y) {
-        Some(by) => by_left_reciprocal::<D>(left, xs, by, live, out),
+        Some(by) => by_left_reciprocal::<D, Reciprocal>(left, xs, by, live, out),
         None => by_left_number::<K>(left, xs, y, live, out),
     }
 }

@@ -1,12 +1,13 @@
 //! The loops over lanes, each for any operator.
 
 ghost use Rattle.batch_eval.specs.Lanes.{Reaches, at};
-ghost use Rattle.batch_eval.specs.Reciprocals.{IsReciprocal};
+ghost use Rattle.batch_eval.specs.Reciprocals.{AreWithin};
 ghost use Rattle.std.specs.Prelude.{◌≡◌, ℕ, ◌<◌, ◌≤◌, Ok, length};
 
+use crate::division::Division;
 use crate::kernel::Kernel;
 use crate::reached::{Reached, all};
-use crate::reciprocal::{Division, Reciprocal};
+use crate::reciprocal::Divisor;
 
 /// One number in each lane.
 pub(crate) fn fill(number: i64, live: usize, out: &mut [i64]) -> Reached
@@ -121,16 +122,17 @@ pub(crate) fn each_in<K: Kernel>(y: i64, live: usize, out: &mut [i64]) -> Reache
 }
 
 /// A register and a divisor into another register.
-pub(crate) fn divide_to<D: Division>(
+pub(crate) fn divide_to<D: Division, R: Divisor>(
     xs: &[i64],
-    by: Reciprocal,
+    by: R,
     live: usize,
     out: &mut [i64],
 ) -> Reached
-    requires by { IsReciprocal by }
+    requires by { R.divides by }
     requires xs { live ≤ length xs.now }
+    requires within { AreWithin R.most xs.now live }
     requires out { live ≤ length out.old }
-    ensures { Reaches (λ k. D.value (at xs.now k) by.divisor) (at out.new) live result }
+    ensures { Reaches (λ k. D.value (at xs.now k) (R.number by)) (at out.new) live result }
 {
     for i in 0..live {
         out[i] = D::apply(xs[i], by);
@@ -139,10 +141,11 @@ pub(crate) fn divide_to<D: Division>(
 }
 
 /// A register and a divisor into that register.
-pub(crate) fn divide_in<D: Division>(by: Reciprocal, live: usize, out: &mut [i64]) -> Reached
-    requires by { IsReciprocal by }
+pub(crate) fn divide_in<D: Division, R: Divisor>(by: R, live: usize, out: &mut [i64]) -> Reached
+    requires by { R.divides by }
     requires out { live ≤ length out.old }
-    ensures { Reaches (λ k. D.value (at out.old k) by.divisor) (at out.new) live result }
+    requires within { AreWithin R.most out.old live }
+    ensures { Reaches (λ k. D.value (at out.old k) (R.number by)) (at out.new) live result }
 {
     for i in 0..live {
         out[i] = D::apply(out[i], by);

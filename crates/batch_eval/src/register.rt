@@ -1,15 +1,13 @@
 //! The values of an expression at the lanes of a batch: one loop per operator of the expression.
 
 ghost use Rattle.batch_eval.specs.Lanes.{Reaches, at, flagged, infix_value, left_at};
-ghost use Rattle.batch_eval.specs.Rooms.{Fits, FitsBoth, FitsChosen, FitsOperand, FitsParted, FitsTest};
-ghost use Rattle.batch_eval.specs.Choices.{at_each, between, by_flag, chosen_value, operand_value};
-ghost use Rattle.lambda_expr.specs.Earlier.{Numbers};
+ghost use Rattle.batch_eval.specs.Rooms.{Fits, FitsBoth, FitsOperand, FitsTest};
+ghost use Rattle.batch_eval.specs.Choices.{at_each, between, operand_value};
 ghost use Rattle.lambda_expr.specs.Term.{long_of, truth_of};
 ghost use Rattle.lambda_expr.specs.Value.{long_value, truth_value};
-ghost use Rattle.std.specs.Prelude.{◌≡◌, ◌<◌, ◌≤◌, ℕ, ℤ, IfSome, IsTrue, Ok, length};
+ghost use Rattle.std.specs.Prelude.{◌<◌, ◌≤◌, length};
 
-use crate::cheap::is_cheap;
-use crate::choose::{Side, all_flags, gather, merge, select, set_ones, set_others};
+use crate::choice::eval_chosen;
 use crate::constant::constant_in;
 use crate::dispatch::{Infix, by_number, by_register};
 use crate::flag::flag;
@@ -122,7 +120,7 @@ pub(crate) fn eval_bool(
 
 /// What a condition may choose, in a register.
 #[cycle(register)]
-fn eval_operand(
+pub(crate) fn eval_operand(
     operand: Operand<'_>,
     inputs: Inputs<'_>,
     out: &mut [i64],
@@ -139,137 +137,6 @@ fn eval_operand(
         Operand::Bool(test) => eval_bool(test, inputs, out, room),
         Operand::Flag(value) => fill(flag(value), inputs.live, out),
     }
-}
-
-/// The number of an operand that is one.
-fn number_of(operand: Operand<'_>) -> Option<i64>
-    ensures { IfSome result (λ z. (x : ℤ) (env : Numbers) → operand_value operand.entry x env ≡ Ok z) }
-{
-    match operand {
-        Operand::Long(LongExpr::Number(number)) => Some(*number),
-        Operand::Flag(value) => Some(flag(value)),
-        _ => None,
-    }
-}
-
-/// Puts `condition ? a : b` into a register, up to its first fault. Where `a` and
-/// `b` are cheap and have no fault, both are evaluated at all lanes.
-#[cycle(register)]
-fn eval_chosen(
-    condition: &BoolExpr,
-    a: Operand<'_>,
-    b: Operand<'_>,
-    inputs: Inputs<'_>,
-    out: &mut [i64],
-    room: &mut [i64],
-) -> Reached
-    requires lanes { inputs.live ≤ 1024 }
-    requires xs { inputs.live ≤ length inputs.xs.now }
-    requires out { inputs.live ≤ length out.old }
-    requires room { FitsChosen (truth_of condition.now) a b (length room.old) }
-    ensures { Reaches (at_each inputs.entry (λ x env. chosen_value (truth_value (truth_of condition.now) x env) (operand_value a.entry x env) (operand_value b.entry x env))) (at out.new) inputs.entry.live result }
-{
-    let (flags, rest) = room.split_at_mut(LANES);
-    let tested = eval_bool(condition, inputs, flags, rest);
-    let valid = Inputs {
-        env: inputs.env,
-        xs: inputs.xs,
-        live: tested.live,
-    };
-    if eval_both(flags, a, b, valid, out, rest) {
-        return all(tested.live).after(tested);
-    }
-    eval_parted(flags, a, b, valid, out, rest).after(tested)
-}
-
-/// Puts the one of two operands that each flag chooses into a register, up to the first fault. Each is
-/// evaluated at the lanes that need it only; if all need the same one, at those where they lie.
-#[cycle(register)]
-fn eval_parted(
-    flags: &[i64],
-    a: Operand<'_>,
-    b: Operand<'_>,
-    inputs: Inputs<'_>,
-    out: &mut [i64],
-    room: &mut [i64],
-) -> Reached
-    requires lanes { inputs.live ≤ 1024 }
-    requires flags { inputs.live ≤ length flags.now }
-    requires xs { inputs.live ≤ length inputs.xs.now }
-    requires out { inputs.live ≤ length out.old }
-    requires room { FitsParted a b (length room.old) }
-    ensures { Reaches (λ k. by_flag (at flags.now k) (at_each inputs.entry (operand_value a.entry) k) (at_each inputs.entry (operand_value b.entry) k)) (at out.new) inputs.entry.live result }
-{
-    let (items, rest) = room.split_at_mut(LANES);
-    let (ones, rest) = rest.split_at_mut(LANES);
-    let (others, rest) = rest.split_at_mut(LANES);
-    let Inputs { env, xs, live } = inputs;
-    if all_flags(flags, true, live) {
-        return eval_operand(a, inputs, out, rest);
-    }
-    if all_flags(flags, false, live) {
-        return eval_operand(b, inputs, out, rest);
-    }
-    let count = gather(flags, true, live, xs, items);
-    let chosen = Inputs {
-        env,
-        xs: items,
-        live: count,
-    };
-    let first = eval_operand(a, chosen, ones, rest);
-    let count = gather(flags, false, live, xs, items);
-    let other = Inputs {
-        env,
-        xs: items,
-        live: count,
-    };
-    let second = eval_operand(b, other, others, rest);
-    let ones = Side {
-        values: ones,
-        reached: first,
-    };
-    let others = Side {
-        values: others,
-        reached: second,
-    };
-    merge(flags, live, ones, others, out)
-}
-
-/// The same where both operands are cheap and have a value at each lane, and else false. Both are
-/// evaluated at all lanes.
-#[cycle(register)]
-fn eval_both(
-    flags: &[i64],
-    a: Operand<'_>,
-    b: Operand<'_>,
-    inputs: Inputs<'_>,
-    out: &mut [i64],
-    room: &mut [i64],
-) -> bool
-    requires lanes { inputs.live ≤ 1024 }
-    requires flags { inputs.live ≤ length flags.now }
-    requires xs { inputs.live ≤ length inputs.xs.now }
-    requires out { inputs.live ≤ length out.old }
-    requires room { FitsParted a b (length room.old) }
-    ensures { IsTrue result → (k : ℕ) → k < inputs.entry.live → by_flag (at flags.now k) (at_each inputs.entry (operand_value a.entry) k) (at_each inputs.entry (operand_value b.entry) k) ≡ Ok (at out.new k) }
-{
-    if !is_cheap(a) || !is_cheap(b) {
-        return false;
-    }
-    let (ones, rest) = room.split_at_mut(3 * LANES);
-    if let Some(number) = number_of(b) {
-        let first = eval_operand(a, inputs, out, rest);
-        set_others(flags, number, inputs.live, out);
-        return first.live == inputs.live;
-    }
-    let second = eval_operand(b, inputs, out, rest);
-    if let Some(number) = number_of(a) {
-        set_ones(flags, number, inputs.live, out);
-        return second.live == inputs.live;
-    }
-    let first = eval_operand(a, inputs, ones, rest);
-    select(flags, ones, inputs.live, out);
-    first.live == inputs.live && second.live == inputs.live
 }
 
 /// Two operands from left to right, and an operator between them.

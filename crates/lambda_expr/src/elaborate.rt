@@ -3,21 +3,22 @@
 ghost use Rattle.lambda_expr.specs.Elaborating.{operands_of, top_typed, typed_of, typed_step, typed_steps};
 ghost use Rattle.lambda_expr.specs.Lexemes.{names_in};
 ghost use Rattle.lambda_expr.specs.Stacks.{below, stacked};
-ghost use Rattle.lambda_expr.specs.Typing.{Typed as shape_type, called_with, constant_of, constant_typed, operated, prefixed, selected};
-ghost use Rattle.lambda_expr.specs.Term as term;
+ghost use Rattle.lambda_expr.specs.Typing.{Typed as shape_type, called_with, operated, prefixed, selected};
 ghost use Rattle.lambda_expr.specs.Term.{long_of, truth_of};
 ghost use Rattle.lambda_expr.specs.Typing.{long, boolean};
-ghost use Rattle.lambda_expr.specs.Wrap.{wrap};
-ghost use Rattle.std.specs.Prelude.{◌≡◌, IfOk, List, [], ◌∷◌, ◌++◌, pos};
+ghost use Rattle.std.specs.Prelude.{◌≡◌, IfOk, List, [], ◌∷◌, ◌++◌};
 
 use super::expr::{BoolExpr, LongExpr};
-use super::lexeme::{Name, reference_name};
-use super::operator::{BinaryOperator, Comparison, Connective, Function, Operation, UnaryOperator};
+use super::lexeme::Name;
+use super::making::{
+    binary, choose_long, choose_truth, compare, connect, constant, number, reference, unary,
+};
+use super::operator::{Function, Operation, UnaryOperator};
 use super::sign::Sign;
 use super::step::{Opening, Step};
-use super::table::{constant_of, function_of};
+use super::table::function_of;
 use std::alloc::{AllocError, Global};
-use stream_tokens::{Bytes, CutText};
+use stream_tokens::CutText;
 
 /// What the steps so far have made of an operand.
 #[derive(Drop)]
@@ -39,51 +40,6 @@ fn pop(stack: &mut Vec<Operand>) -> Operand
         Some(operand) => operand,
         None => Operand::Untyped,
     }
-}
-
-fn unary(alloc: Global, operator: UnaryOperator, operand: LongExpr) -> Result<Operand, AllocError>
-    ensures { IfOk result (λ o. typed_of o ≡ long (term.unary operator (long_of operand))) }
-{
-    Ok(Operand::Long(LongExpr::Unary(operator, Box::new(alloc, operand)?)))
-}
-
-fn binary(
-    alloc: Global,
-    operator: BinaryOperator,
-    left: LongExpr,
-    right: LongExpr,
-) -> Result<Operand, AllocError>
-    ensures { IfOk result (λ o. typed_of o ≡ long (term.binary operator (long_of left) (long_of right))) }
-{
-    let left = Box::new(alloc, left)?;
-    let right = Box::new(alloc, right)?;
-    Ok(Operand::Long(LongExpr::Binary(operator, left, right)))
-}
-
-fn compare(
-    alloc: Global,
-    comparison: Comparison,
-    left: LongExpr,
-    right: LongExpr,
-) -> Result<Operand, AllocError>
-    ensures { IfOk result (λ o. typed_of o ≡ boolean (term.compare comparison (long_of left) (long_of right))) }
-{
-    let left = Box::new(alloc, left)?;
-    let right = Box::new(alloc, right)?;
-    Ok(Operand::Truth(BoolExpr::Compare(comparison, left, right)))
-}
-
-fn connect(
-    alloc: Global,
-    connective: Connective,
-    left: BoolExpr,
-    right: BoolExpr,
-) -> Result<Operand, AllocError>
-    ensures { IfOk result (λ o. typed_of o ≡ boolean (term.connect connective (truth_of left) (truth_of right))) }
-{
-    let left = Box::new(alloc, left)?;
-    let right = Box::new(alloc, right)?;
-    Ok(Operand::Truth(BoolExpr::Connect(connective, left, right)))
 }
 
 // A sign before an operand.
@@ -220,34 +176,6 @@ fn select(
     }
 }
 
-fn choose_long(
-    alloc: Global,
-    condition: BoolExpr,
-    chosen: LongExpr,
-    other: LongExpr,
-) -> Result<Operand, AllocError>
-    ensures { IfOk result (λ o. typed_of o ≡ long (term.choose (truth_of condition) (long_of chosen) (long_of other))) }
-{
-    let condition = Box::new(alloc, condition)?;
-    let chosen = Box::new(alloc, chosen)?;
-    let other = Box::new(alloc, other)?;
-    Ok(Operand::Long(LongExpr::Choose(condition, chosen, other)))
-}
-
-fn choose_truth(
-    alloc: Global,
-    condition: BoolExpr,
-    chosen: BoolExpr,
-    other: BoolExpr,
-) -> Result<Operand, AllocError>
-    ensures { IfOk result (λ o. typed_of o ≡ boolean (term.choose_truth (truth_of condition) (truth_of chosen) (truth_of other))) }
-{
-    let condition = Box::new(alloc, condition)?;
-    let chosen = Box::new(alloc, chosen)?;
-    let other = Box::new(alloc, other)?;
-    Ok(Operand::Truth(BoolExpr::Choose(condition, chosen, other)))
-}
-
 // A method and its operands.
 fn call(alloc: Global, function: Option<Function>, operand: Operand) -> Result<Operand, AllocError>
     ensures { IfOk result (λ o. typed_of o ≡ called_with function (typed_of operand)) }
@@ -261,30 +189,6 @@ fn call(alloc: Global, function: Option<Function>, operand: Operand) -> Result<O
         ),
         _ => Ok(Operand::Untyped),
     }
-}
-
-// A number that fits, or 2^63, which is its own negative in 64 bits.
-fn number(value: u64) -> Operand
-    ensures { typed_of result ≡ long (term.number (wrap (pos value))) }
-{
-    Operand::Long(LongExpr::Number(value.cast_signed()))
-}
-
-fn constant(name: Name) -> Operand
-    ensures { typed_of result ≡ constant_typed (constant_of name) }
-{
-    match constant_of(name) {
-        Some(value) => Operand::Long(LongExpr::Number(value)),
-        None => Operand::Untyped,
-    }
-}
-
-// The reference at a place, by its name without the `$`.
-fn reference(alloc: Global, text: &CutText, place: usize) -> Result<Operand, AllocError>
-    ensures { IfOk result (λ o. typed_of o ≡ long (term.reference (names_in text.now.bytes text.now.tokens place))) }
-{
-    let name = Vec::from_slice(alloc, reference_name(text, place))?;
-    Ok(Operand::Long(LongExpr::Reference(Bytes::from(name))))
 }
 
 // What a step makes of the operands on top.

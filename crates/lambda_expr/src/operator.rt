@@ -1,13 +1,13 @@
 //! The operators of expressions, grouped by their operands and by the type of their result.
 
-ghost use Rattle.lambda_expr.specs.Operators.{binary_faults, binary_value, comparison_value, exact, floor_quotient, quotient, remainder, unary_faults, unary_value};
-ghost use Rattle.lambda_expr.specs.Operators.{floor_remainder, is_opposite, low_six_bits, rounded_down, shifted_left, shifted_right, shifted_right_unsigned};
-ghost use Rattle.lambda_expr.specs.Wrap.{wrap};
-ghost use Rattle.std.specs.Int.{IsNonZero, w64};
+ghost use Rattle.lambda_expr.specs.Operators.{binary_faults, binary_value, comparison_value, exact, quotient, remainder, unary_faults, unary_value};
+ghost use Rattle.lambda_expr.specs.Operators.{low_six_bits, shifted_left, shifted_right, shifted_right_unsigned};
+ghost use Rattle.std.specs.Int.{w64};
 ghost use Rattle.std.specs.Option.{SomeIff};
 ghost use Rattle.std.specs.Prelude.{◌≡◌, ◌<◌, ℤ, FitsSigned};
 
 use super::fault::FaultKind;
+use super::quotient::{divide, floor_divide, take_floor_remainder, take_remainder};
 
 /// An operation on one number.
 #[derive(Clone, Copy, PartialEq, Eq)]
@@ -125,62 +125,6 @@ fn shift_right_unsigned(x: i64, count: i64) -> i64
     ensures { result ≡ shifted_right_unsigned x count }
 {
     (x.cast_unsigned() >> shift_distance(count)).cast_signed()
-}
-
-fn divide(x: i64, y: i64) -> Result<i64, FaultKind>
-    ensures { result ≡ quotient x y }
-{
-    if y == 0 {
-        return Err(FaultKind::DivideByZero);
-    }
-    Ok(x.wrapping_div(y))
-}
-
-fn take_remainder(x: i64, y: i64) -> Result<i64, FaultKind>
-    ensures { result ≡ remainder x y }
-{
-    if y == 0 {
-        return Err(FaultKind::DivideByZero);
-    }
-    Ok(x.wrapping_rem(y))
-}
-
-// Whether a remainder other than 0 has not the sign of the divisor.
-fn is_opposite(rest: i64, divisor: i64) -> bool
-    ensures { result ≡ is_opposite rest divisor }
-{
-    rest != 0 && (rest < 0) != (divisor < 0)
-}
-
-// A quotient rounded toward zero is one too large if the remainder and the divisor differ in sign.
-fn round_down(x: i64, y: i64) -> i64
-    requires { IsNonZero w64 y }
-    ensures { result ≡ wrap (rounded_down x y) }
-{
-    let toward_zero = x.wrapping_div(y);
-    if is_opposite(x.wrapping_rem(y), y) {
-        toward_zero.wrapping_sub(1)
-    } else {
-        toward_zero
-    }
-}
-
-fn floor_divide(x: i64, y: i64) -> Result<i64, FaultKind>
-    ensures { result ≡ floor_quotient x y }
-{
-    if y == 0 {
-        return Err(FaultKind::DivideByZero);
-    }
-    Ok(round_down(x, y))
-}
-
-fn take_floor_remainder(x: i64, y: i64) -> Result<i64, FaultKind>
-    ensures { result ≡ floor_remainder x y }
-{
-    if y == 0 {
-        return Err(FaultKind::DivideByZero);
-    }
-    Ok(x.wrapping_sub(round_down(x, y).wrapping_mul(y)))
 }
 
 impl UnaryOperator {

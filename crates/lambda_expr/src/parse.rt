@@ -1,14 +1,15 @@
 //! The reader of expressions: one turn for each lexeme, with a stack of what waits for its right operand.
 
-ghost use Rattle.std.specs.Prelude.{◌≡◌, ◌<◌, ◌≤◌, ℕ, List, [], ◌∷◌, IfOk, IfErr};
+ghost use Rattle.std.specs.Prelude.{◌≡◌, ◌<◌, List, [], IfOk, IfErr};
 ghost use Rattle.lambda_expr.specs.declared.step.Step.{Step as step};
 ghost use Rattle.lambda_expr.specs.declared.parse.Pending.{Pending as pending};
 ghost use Rattle.lambda_expr.specs.Grammar.{Expression};
 ghost use Rattle.lambda_expr.specs.Signs.{level};
-ghost use Rattle.lambda_expr.specs.Reader.{read, joins, takes, operates, asks, answers, shuts, follows, starts, called};
-ghost use Rattle.lambda_expr.specs.Codes.{reduced, state_of, top_of, IsAt, IsCoded, IsSettled, Turns, frames_of, run, ArePostfix, IsStop};
+ghost use Rattle.lambda_expr.specs.Reader.{read, joins, starts, called};
+ghost use Rattle.lambda_expr.specs.Codes.{reduced, state_of, top_of, IsCoded, IsSettled, Turns, frames_of, run, ArePostfix, IsStop};
 ghost use Rattle.lambda_expr.specs.declared.parse.Stop.TheVariants.{NoMemory};
 
+use super::following::follow;
 use super::lexeme::{Lexeme, Name, Owner};
 use super::sign::Sign;
 use super::stack::Stack;
@@ -78,8 +79,8 @@ fn reduced(least: u32, top: Pending) -> Option<Step>
     }
 }
 
-// What is on top becomes a step, as far as it binds as tightly as `least`.
-fn join(stack: &mut Stack, steps: &mut Vec<Step>, least: u32) -> Result<(), Stop>
+/// What is on top becomes a step, as far as it binds as tightly as `least`.
+pub(crate) fn join(stack: &mut Stack, steps: &mut Vec<Step>, least: u32) -> Result<(), Stop>
     requires { IsCoded stack.old steps.old.items Held.Whole }
     ensures joins { IfOk result (λ _. joins least (top_of stack.old steps.old.items) ≡ top_of stack.new steps.new.items) }
     ensures coded { IfOk result (λ _. IsCoded stack.new steps.new.items Held.Whole) }
@@ -95,86 +96,6 @@ fn join(stack: &mut Stack, steps: &mut Vec<Step>, least: u32) -> Result<(), Stop
         }
     }
     Ok(())
-}
-
-// Whether a sign may follow an operand here: a comma only where a call is innermost.
-fn takes(sign: Sign, stack: &Stack) -> bool
-    ensures { (ss : List step) → result ≡ takes sign (top_of stack.now ss).frames }
-{
-    match sign {
-        Sign::Comma => matches!(
-            stack.innermost(),
-            Some(Pending::Opened(Opening::Call(_, _)))
-        ),
-        _ => sign.is_infix(),
-    }
-}
-
-// A sign behind an operand.
-fn operate(stack: &mut Stack, steps: &mut Vec<Step>, sign: Sign, at: usize) -> Result<Held, Stop>
-    requires { IsCoded stack.old steps.old.items Held.Whole }
-    ensures { Turns (operates sign (joins (level sign) (top_of stack.old steps.old.items))) at stack.new steps.new.items result }
-{
-    join(stack, steps, sign.level())?;
-    if takes(sign, stack) {
-        stack.put(Pending::Left(sign))?;
-        return Ok(Held::Nothing);
-    }
-    Err(Stop::At(at))
-}
-
-// A question mark behind an operand.
-fn ask(stack: &mut Stack, steps: &mut Vec<Step>, at: usize) -> Result<Held, Stop>
-    requires { IsCoded stack.old steps.old.items Held.Whole }
-    ensures { Turns (asks (joins 2 (top_of stack.old steps.old.items))) at stack.new steps.new.items result }
-{
-    join(stack, steps, 2)?;
-    stack.put(Pending::Question)?;
-    Ok(Held::Nothing)
-}
-
-// A colon behind an operand.
-fn answer(stack: &mut Stack, steps: &mut Vec<Step>, at: usize) -> Result<Held, Stop>
-    requires { IsCoded stack.old steps.old.items Held.Whole }
-    ensures { Turns (answers (joins 0 (top_of stack.old steps.old.items))) at stack.new steps.new.items result }
-{
-    join(stack, steps, 0)?;
-    match stack.take() {
-        Some(Pending::Question) => {
-            stack.put(Pending::Colon)?;
-            Ok(Held::Nothing)
-        }
-        _ => Err(Stop::At(at)),
-    }
-}
-
-// A parenthesis that closes, behind an operand.
-fn close(stack: &mut Stack, steps: &mut Vec<Step>, at: usize) -> Result<Held, Stop>
-    requires { IsCoded stack.old steps.old.items Held.Whole }
-    ensures { Turns (shuts (joins 0 (top_of stack.old steps.old.items))) at stack.new steps.new.items result }
-{
-    join(stack, steps, 0)?;
-    match stack.take() {
-        Some(Pending::Opened(opening)) => {
-            steps.push(Step::Enclose(opening))?;
-            Ok(Held::Whole)
-        }
-        _ => Err(Stop::At(at)),
-    }
-}
-
-// One more word behind an operand.
-fn follow(stack: &mut Stack, steps: &mut Vec<Step>, word: Lexeme, at: usize) -> Result<Held, Stop>
-    requires { IsCoded stack.old steps.old.items Held.Whole }
-    ensures { Turns (follows (top_of stack.old steps.old.items) word) at stack.new steps.new.items result }
-{
-    match word {
-        Lexeme::Sign(sign) => operate(stack, steps, sign, at),
-        Lexeme::Question => ask(stack, steps, at),
-        Lexeme::Colon => answer(stack, steps, at),
-        Lexeme::Close => close(stack, steps, at),
-        _ => Err(Stop::At(at)),
-    }
 }
 
 // A name where an operand is wanted.
@@ -226,7 +147,7 @@ fn start(stack: &mut Stack, steps: &mut Vec<Step>, word: Lexeme, at: usize) -> R
     }
 }
 
-// One more word behind the name of a call or of a constant.
+// One more word after the name of a call or of a constant.
 fn call(
     stack: &mut Stack,
     steps: &mut Vec<Step>,
@@ -279,7 +200,7 @@ fn turn(
     }
 }
 
-// What is behind the last word, a constant made an operand.
+// What stands after the last word, a constant made an operand.
 fn settle(stack: &Stack, steps: &mut Vec<Step>, held: Held) -> Result<bool, Stop>
     requires { IsCoded stack.now steps.old.items held }
     ensures { IsSettled (state_of stack.now steps.old.items held) stack.now steps.new.items result }

@@ -88,10 +88,15 @@ const IMAGES: &str =
     x -> x > 8 ? x / 3 : x % 7 # 6364018992226925541; x -> 9223372036854775807L / 3 - x / 3 # -7582541019259859189; \
     x -> x != 0 && 1024 % x == 0 ? 1 : x % 3 # 6711327508892818336";
 
-/// The values that an image gives, as one number.
-fn hash_of(alloc: Global, image: &str, registers: &mut Registers) -> Result<i64, NoMemory> {
+/// What an image gives at these values, as one number.
+pub(crate) fn hash_of(
+    alloc: Global,
+    image: &str,
+    values: &[i64],
+    registers: &mut Registers,
+) -> Result<i64, NoMemory> {
     let stages = [stage(alloc, image, Want::Long)?];
-    let items = items_of(alloc, &VALUES)?;
+    let items = items_of(alloc, values)?;
     let env = Env::empty(alloc);
     let mut sink = no_items(alloc, true);
     feed_batches(line_of(&stages, &env), &items, registers, &mut sink)?;
@@ -110,7 +115,7 @@ fn images_of_extreme_numbers_are_those_of_java(rt: HostRuntime) -> Result<(), Fa
     let items = items_of(alloc, &VALUES)?;
     for row in IMAGES.split(';') {
         let (image, hash) = row.split_once('#').unwrap_or((row, ""));
-        let found = hash_of(alloc, image, &mut registers)?;
+        let found = hash_of(alloc, image, &VALUES, &mut registers)?;
         assert!(rt;
             hash.trim().parse::<i64>().ok() == Some(found),
             "{image}: {found}"

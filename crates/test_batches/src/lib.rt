@@ -11,8 +11,14 @@ mod edges;
 #[cfg(test)]
 mod few;
 #[cfg(test)]
+mod full_sinks;
+#[cfg(test)]
 mod passing;
 #[cfg(test)]
 mod pipelines;
+#[cfg(test)]
+mod quotients;
+#[cfg(test)]
+mod random;
 #[cfg(test)]
 mod walks;

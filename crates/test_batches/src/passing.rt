@@ -1,6 +1,7 @@
 //! Values that pass a test, counted by registers and one by one.
 
-use crate::walks::{TESTS, any_values, stage};
+use crate::random::any_values;
+use crate::walks::{TESTS, stage};
 use batch_eval::count_passing;
 use lambda_expr::{BoolExpr, Env, Want};
 use std::alloc::{AllocError, Global};

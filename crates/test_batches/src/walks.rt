@@ -1,8 +1,9 @@
 //! Walks by batches against walks item by item, and with faults that were placed by hand.
-ghost use Rattle.std.specs.Prelude.{◌≡◌, ◌+◌, ◌<◌, ◌≤◌, ◌^◌, ⊤, [], length, if◌then◌else◌, ◌==◌};
+ghost use Rattle.std.specs.Prelude.{◌≡◌, ◌+◌, ◌<◌, ◌≤◌, ◌^◌, ⊤, [], length, ◌==◌};
 ghost use Rattle.trace.specs.declared.sink.Flow.TheVariants as flow;
 
 use crate::pipelines::line_of;
+use crate::random::{any_stage, any_values, next};
 use batch_eval::{
     Batch, BatchSink, BatchSource, PlacedValues, Registers, accept_each, feed_batches,
 };
@@ -13,7 +14,7 @@ use trace::{Fault, Fed, Flow, Item, LongSink, NoMemory, RangeItems, Stage, feed_
 
 /// Images and tests, each operator at least once; divisors and exact operations that fault at some of
 /// the values from -8 to 7.
-const IMAGES: &str =
+pub(crate) const IMAGES: &str =
     "x -> x + 1; x -> 3 - x; x -> x * x * 5; x -> 7 / x; x -> x % (x - 5); x -> x << 60 >> x; \
     x -> x >>> 60; x -> (x & 6) ^ (x | 9); x -> Math.min(x, 3) - Math.max(-x, 2); x -> Math.floorDiv(7, x + 8); \
     x -> Math.floorMod(-7, x); x -> Math.addExact(x, 9223372036854775802L); x -> Math.subtractExact(-9, x << 60); \
@@ -25,7 +26,7 @@ pub(crate) const TESTS: &str =
     x -> 5 / x >= 1; x -> x < 0 ? x < -4 : 6 / (x - 3) != 2; x -> true; x -> x == 1 || x > 2 && 9 / (x - 5) < 0";
 
 /// The ends of inner streams that begin with 0, none of them above 6.
-const ENDS: &str = "x -> x & 3; x -> 6 / x; x -> x % (x - 5)";
+pub(crate) const ENDS: &str = "x -> x & 3; x -> 6 / x; x -> x % (x - 5)";
 
 /// The items that came, in order, and whether the sink takes them from lanes with flags.
 #[derive(Drop)]
@@ -100,47 +101,11 @@ pub(crate) fn stage(alloc: Global, text: &str, want: Want) -> Result<Stage, NoMe
 }
 
 /// `flatMap` to the integers from 0 up to, not with, the value of a lambda.
-fn flat_map(alloc: Global, text: &str) -> Result<Stage, NoMemory> {
+pub(crate) fn flat_map(alloc: Global, text: &str) -> Result<Stage, NoMemory> {
     match stage(alloc, text, Want::Long)? {
         Stage::Map(end) => Ok(Stage::FlatMap(InnerExpr::Range(LongExpr::Number(0), end))),
         _ => Err(AllocError),
     }
-}
-
-/// The next one of a row of numbers without a pattern.
-fn next(seed: u64) -> u64 {
-    seed.wrapping_mul(6364136223846793005)
-        .wrapping_add(1442695040888963407)
-}
-
-/// One of the stages of the tables.
-fn any_stage(alloc: Global, seed: u64) -> Result<Stage, NoMemory> {
-    let pick = (seed >> 33) as usize;
-    match pick % 7 {
-        0 | 1 => {
-            let at = pick / 7 % 9;
-            stage(alloc, TESTS.split(';').nth(at).unwrap_or(""), Want::Bool)
-        }
-        2 => {
-            let at = pick / 7 % 3;
-            flat_map(alloc, ENDS.split(';').nth(at).unwrap_or(""))
-        }
-        _ => {
-            let at = pick / 7 % 22;
-            stage(alloc, IMAGES.split(';').nth(at).unwrap_or(""), Want::Long)
-        }
-    }
-}
-
-/// Values from -8 to 7, `count` of them.
-pub(crate) fn any_values(alloc: Global, seed: u64, count: u64) -> Result<Vec<i64>, NoMemory> {
-    let mut values = Vec::new(alloc);
-    let mut seed = seed;
-    for _ in 0..count {
-        seed = next(seed);
-        values.push((seed >> 60) as i64 - 8)?;
-    }
-    Ok(values)
 }
 
 /// Whether all ways give the same items and the same end.
@@ -312,84 +277,5 @@ fn places_that_count_up_stay_with_their_items(rt: HostRuntime) -> Result<(), Fai
     assert!(rt; sink.items.len() == 500);
     let last = sink.items[499];
     assert!(rt; last.origin == 998 && last.value == -2496);
-    Ok(())
-}
-
-/// A sink that takes some items and then has enough, or no memory.
-#[derive(Drop)]
-struct Few {
-    taken: u64,
-    all: u64,
-    room: u64,
-}
-
-impl LongSink for Few {
-    ghost has_taken = { λ sink items. ⊤ };
-
-    ghost flow = { λ sink. if sink.taken == sink.all then flow.Enough else flow.More };
-
-    ghost takes_memory = { ⊤ };
-
-    fn accept(&mut self, _: Item) -> Result<Flow, NoMemory> {
-        if self.taken >= self.room {
-            return Err(AllocError);
-        }
-        self.taken += 1;
-        Ok(if self.taken == self.all {
-            Flow::Enough
-        } else {
-            Flow::More
-        })
-    }
-}
-
-impl BatchSink for Few {
-    fn accept_batch(&mut self, batch: &Batch, _room: &mut [i64]) -> Result<Fed, NoMemory> {
-        accept_each(batch, self)
-    }
-}
-
-/// What a walk into a sink of this kind answers, and how many items the sink took.
-fn walk_into_few(
-    alloc: Global,
-    stages: &[Stage],
-    source: &RangeItems,
-    all: u64,
-    room: u64,
-) -> (Result<Fed, NoMemory>, u64)
-    requires numbered { 1 + length stages.now < 2 ^ 32 }
-    requires some { 0 < all }
-{
-    let env = Env::empty(alloc);
-    let mut registers = Registers::new(alloc);
-    let mut sink = Few {
-        taken: 0,
-        all,
-        room,
-    };
-    let fed = feed_batches(line_of(stages, &env), source, &mut registers, &mut sink);
-    (fed, sink.taken)
-}
-
-#[test]
-fn a_sink_that_has_enough_or_no_memory_ends_the_walk(rt: HostRuntime) -> Result<(), Fail> {
-    let alloc = rt.alloc();
-    let stages = [
-        stage(alloc, "x -> x % 2 == 0", Want::Bool)?,
-        Stage::FlatMap(InnerExpr::Range(LongExpr::Number(0), LongExpr::Number(3))),
-    ];
-    let Some(source) = RangeItems::between(0, 1 << 62) else {
-        return Err(AllocError.into());
-    };
-    for (all, room, answer) in [
-        (1, 9, (Ok(Fed::Enough), 1)),
-        (1000, 5000, (Ok(Fed::Enough), 1000)),
-        (3, 2, (Err(AllocError), 2)),
-        (5000, 3500, (Err(AllocError), 3500)),
-    ] {
-        assert!(rt; all != 0);
-        let found = walk_into_few(alloc, &stages, &source, all, room);
-        assert!(rt; found == answer, "{all}, {room}");
-    }
     Ok(())
 }

@@ -7,50 +7,50 @@ use Rattle.batch_eval.specs.Choices.{operand_value}
 use Rattle.batch_eval.specs.Lanes.{at}
 use Rattle.batch_eval.specs.Rooms.{FitsOperand}
 use Rattle.batch_eval.proofs.ChoiceLemmas.{by_flag_ones, chosen_everywhere, chosen_reaches, parted_reaches}
-use Rattle.batch_eval.proofs.register.+register.Goals as goal
+use Rattle.batch_eval.proofs.+register.Goals as goal
 
-pub eval_chosen-returns : goal.eval_chosen-returns
-eval_chosen-returns m c =
+pub choice::eval_chosen-returns : goal.choice::eval_chosen-returns
+choice::eval_chosen-returns m c =
     let env = c.args.inputs.env.now in
     let xs = c.args.inputs.xs.now in
     let t : ℕ → Result Bool FaultKind = λ k. truth_value (truth_of c.args.condition.now) (at xs k) env in
     let value : Operand → ℕ → Result ℤ FaultKind = λ e k. operand_value e (at xs k) env in
     rw c.after-2.ensures (chosen_reaches t (value c.args.a) (value c.args.b) c.eval_bool-tested.new.out c.eval_parted.new.out c.args.inputs.live c.eval_bool-tested.result c.eval_parted.result c.eval_bool-tested.ensures c.eval_parted.ensures)
 
-pub eval_chosen-returns-then-eval_both : goal.eval_chosen-returns-then-eval_both
-eval_chosen-returns-then-eval_both m c =
+pub choice::eval_chosen-returns-then-eval_both : goal.choice::eval_chosen-returns-then-eval_both
+choice::eval_chosen-returns-then-eval_both m c =
     let env = c.args.inputs.env.now in
     let xs = c.args.inputs.xs.now in
     let t : ℕ → Result Bool FaultKind = λ k. truth_value (truth_of c.args.condition.now) (at xs k) env in
     let value : Operand → ℕ → Result ℤ FaultKind = λ e k. operand_value e (at xs k) env in
     rw (c.after.ensures, c.all.ensures) (chosen_everywhere t (value c.args.a) (value c.args.b) c.eval_bool-tested.new.out c.eval_both.new.out c.args.inputs.live c.eval_bool-tested.result c.eval_bool-tested.ensures (c.eval_both.ensures c.if-eval_both.true))
 
-pub eval_both-returns-in-Some : goal.eval_both-returns-in-Some
-eval_both-returns-in-Some m c = λ is k below.
+pub choice::eval_both-returns-in-Some : goal.choice::eval_both-returns-in-Some
+choice::eval_both-returns-in-Some m c = λ is k below.
     let within : k < c.eval_operand-first.result.live = subst (λ (m : ℕ). k < m) (sym (eqb-true c.eval_operand-first.result.live c.args.inputs.live is)) below in
     let env = c.args.inputs.env.now in
     let x = at c.args.inputs.xs.now k in
     let same : to_z w64 (of_z w64 c.in-Some.number) ≡ c.in-Some.number = search rules in
     by_flag_ones (at c.args.flags.now k) (at c.eval_operand-first.new.out k) (to_z w64 (of_z w64 c.in-Some.number)) (at c.set_others.new.out k) (operand_value c.args.a x env) (operand_value c.args.b x env) (c.set_others.ensures k below) (c.eval_operand-first.ensures.values k within) (c.in-Some.ensures x env ∙ ap Ok (sym same))
 
-pub eval_both-returns-in-Some-number_of : goal.eval_both-returns-in-Some-number_of
-eval_both-returns-in-Some-number_of m c = λ is k below.
+pub choice::eval_both-returns-in-Some-number_of : goal.choice::eval_both-returns-in-Some-number_of
+choice::eval_both-returns-in-Some-number_of m c = λ is k below.
     let within : k < c.eval_operand-second.result.live = subst (λ (m : ℕ). k < m) (sym (eqb-true c.eval_operand-second.result.live c.args.inputs.live is)) below in
     let env = c.args.inputs.env.now in
     let x = at c.args.inputs.xs.now k in
     let same : to_z w64 (of_z w64 c.in-Some-number_of.number) ≡ c.in-Some-number_of.number = search rules in
     by_flag_ones (at c.args.flags.now k) (to_z w64 (of_z w64 c.in-Some-number_of.number)) (at c.eval_operand-second.new.out k) (at c.set_ones.new.out k) (operand_value c.args.a x env) (operand_value c.args.b x env) (c.set_ones.ensures k below) (c.in-Some-number_of.ensures x env ∙ ap Ok (sym same)) (c.eval_operand-second.ensures.values k within)
 
-pub eval_both-returns-then-first-inputs : goal.eval_both-returns-then-first-inputs
-eval_both-returns-then-first-inputs m c = λ is k below.
+pub choice::eval_both-returns-then-first-inputs : goal.choice::eval_both-returns-then-first-inputs
+choice::eval_both-returns-then-first-inputs m c = λ is k below.
     let within : k < c.eval_operand-second.result.live = subst (λ (m : ℕ). k < m) (sym (eqb-true c.eval_operand-second.result.live c.args.inputs.live is)) below in
     let env = c.args.inputs.env.now in
     let x = at c.args.inputs.xs.now k in
     let all = c.if-first-inputs.true in
     by_flag_ones (at c.args.flags.now k) (at c.eval_operand-first-2.new.out k) (at c.eval_operand-second.new.out k) (at c.select.new.out k) (operand_value c.args.a x env) (operand_value c.args.b x env) (c.select.ensures k below) (c.eval_operand-first-2.ensures.values k (omega (arith, all))) (c.eval_operand-second.ensures.values k within)
 
-pub eval_parted-returns : goal.eval_parted-returns
-eval_parted-returns m c =
+pub choice::eval_parted-returns : goal.choice::eval_parted-returns
+choice::eval_parted-returns m c =
     let env = c.args.inputs.env.now in
     let xs = c.args.inputs.xs.now in
     let a = c.args.a in
@@ -60,26 +60,26 @@ eval_parted-returns m c =
     let second : ℕ → Result ℤ FaultKind = λ j. operand_value b (at c.gather-count-2.new.out j) env in
     parted_reaches (value a) (value b) c.args.flags.now c.eval_operand-first.new.out c.eval_operand-second.new.out c.merge.new.out c.args.inputs.live c.gather-count.result c.gather-count-2.result c.eval_operand-first.result c.eval_operand-second.result c.merge.result first second c.gather-count.ensures.count (λ j below. ap (λ (z : ℤ). operand_value a z env) (c.gather-count.ensures.values j below)) c.eval_operand-first.ensures c.gather-count-2.ensures.count (λ j below. ap (λ (z : ℤ). operand_value b z env) (c.gather-count-2.ensures.values j below)) c.eval_operand-second.ensures c.merge.ensures
 
-pub eval_parted-eval_operand-first-requires : goal.eval_parted-eval_operand-first-requires
-eval_parted-eval_operand-first-requires t c =
+pub choice::eval_parted-eval_operand-first-requires : goal.choice::eval_parted-eval_operand-first-requires
+choice::eval_parted-eval_operand-first-requires t c =
     let d = c.decreases in
     let len : length c.split_at_mut-others.result.1.now ≡ length c.args.room.now - 3072 = search rules in
     (omega (arith, d), (omega (arith, c.gather-count.ensures.within, c.requires.lanes), (search rules, (search rules, subst (λ (m : ℕ). FitsOperand c.args.a m) (sym len) c.requires.room.1))))
 
-pub eval_parted-eval_operand-second-requires : goal.eval_parted-eval_operand-second-requires
-eval_parted-eval_operand-second-requires t c =
+pub choice::eval_parted-eval_operand-second-requires : goal.choice::eval_parted-eval_operand-second-requires
+choice::eval_parted-eval_operand-second-requires t c =
     let d = c.decreases in
     let len : length c.eval_operand-first.new.room ≡ length c.args.room.now - 3072 = search rules in
     (omega (arith, d), (omega (arith, c.gather-count-2.ensures.within, c.requires.lanes), (search rules, (search rules, subst (λ (m : ℕ). FitsOperand c.args.b m) (sym len) c.requires.room.2))))
 
-pub eval_parted-eval_operand-requires : goal.eval_parted-eval_operand-requires
-eval_parted-eval_operand-requires t c =
+pub choice::eval_parted-eval_operand-requires : goal.choice::eval_parted-eval_operand-requires
+choice::eval_parted-eval_operand-requires t c =
     let d = c.decreases in
     let len : length c.split_at_mut-others.result.1.now ≡ length c.args.room.now - 3072 = search rules in
     (omega (arith, d), (c.requires.lanes, (c.requires.xs, (c.requires.out, subst (λ (m : ℕ). FitsOperand c.args.a m) (sym len) c.requires.room.1))))
 
-pub eval_parted-eval_operand-requires-then-all_flags-2 : goal.eval_parted-eval_operand-requires-then-all_flags-2
-eval_parted-eval_operand-requires-then-all_flags-2 t c =
+pub choice::eval_parted-eval_operand-requires-then-all_flags-2 : goal.choice::eval_parted-eval_operand-requires-then-all_flags-2
+choice::eval_parted-eval_operand-requires-then-all_flags-2 t c =
     let d = c.decreases in
     let len : length c.split_at_mut-others.result.1.now ≡ length c.args.room.now - 3072 = search rules in
     (omega (arith, d), (c.requires.lanes, (c.requires.xs, (c.requires.out, subst (λ (m : ℕ). FitsOperand c.args.b m) (sym len) c.requires.room.2))))

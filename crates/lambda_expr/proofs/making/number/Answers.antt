@@ -4,7 +4,7 @@ use Rattle.std.specs.Int.{cast_signed}
 use Rattle.lambda_expr.specs.Term as term
 use Rattle.lambda_expr.specs.Typing.{long}
 use Rattle.lambda_expr.proofs.Quotients.{wrap_small}
-use Rattle.lambda_expr.proofs.elaborate.number.Goals as goal
+use Rattle.lambda_expr.proofs.making.number.Goals as goal
 
 pub returns : goal.returns
 returns c =

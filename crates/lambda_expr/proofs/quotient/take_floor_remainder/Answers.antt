@@ -3,7 +3,7 @@ use Rattle.lambda_expr.specs.Operators.{rounded_down}
 use Rattle.lambda_expr.specs.Wrap.{wrap}
 use Rattle.std.proofs.Common.{Ok}
 use Rattle.lambda_expr.proofs.Quotients.{divisor_stays, floor_rest}
-use Rattle.lambda_expr.proofs.operator.take_floor_remainder.Goals as goal
+use Rattle.lambda_expr.proofs.quotient.take_floor_remainder.Goals as goal
 
 pub returns : goal.returns
 returns c =

@@ -1,6 +1,6 @@
 use Rattle.std.proofs.Common.{rules, FitsSigned, w64}
 use Rattle.lambda_expr.proofs.Quotients.{quotient_is}
-use Rattle.lambda_expr.proofs.operator.divide.Goals as goal
+use Rattle.lambda_expr.proofs.quotient.divide.Goals as goal
 
 pub returns : goal.returns
 returns c =

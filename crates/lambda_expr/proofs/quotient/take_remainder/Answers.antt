@@ -1,7 +1,7 @@
 use Rattle.std.proofs.Common.{FitsSigned, rules, w64}
 use Rattle.std.specs.Prelude.{int_rem}
 use Rattle.lambda_expr.proofs.Quotients.{divides}
-use Rattle.lambda_expr.proofs.operator.take_remainder.Goals as goal
+use Rattle.lambda_expr.proofs.quotient.take_remainder.Goals as goal
 
 pub returns : goal.returns
 returns c =

@@ -2,7 +2,7 @@ use Rattle.std.proofs.Common.{FitsSigned, rules, w64}
 use Rattle.lambda_expr.specs.Operators.{rounded_down}
 use Rattle.lambda_expr.specs.Wrap.{wrap}
 use Rattle.lambda_expr.proofs.Quotients.{divides}
-use Rattle.lambda_expr.proofs.operator.floor_divide.Goals as goal
+use Rattle.lambda_expr.proofs.quotient.floor_divide.Goals as goal
 
 pub returns : goal.returns
 returns c =

@@ -4,7 +4,7 @@ use Rattle.std.proofs.lemmas.Int.{to_z-of_z, wrapping_sub_is}
 use Rattle.lambda_expr.specs.Operators.{is_opposite}
 use Rattle.lambda_expr.specs.Wrap.{wrap}
 use Rattle.lambda_expr.proofs.Quotients.{quotient_wraps, rounds_right, rounds_up}
-use Rattle.lambda_expr.proofs.operator.round_down.Goals as goal
+use Rattle.lambda_expr.proofs.quotient.round_down.Goals as goal
 
 pub returns-then-is_opposite : goal.returns-then-is_opposite
 returns-then-is_opposite c =

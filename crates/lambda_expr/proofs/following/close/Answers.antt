@@ -1,7 +1,7 @@
 use Rattle.std.proofs.Common.{◌≡◌, ◌∷◌, rules}
 use Rattle.lambda_expr.specs.declared.parse.Pending.TheVariants as pending
 use Rattle.lambda_expr.proofs.JoinLemmas.{closes_at}
-use Rattle.lambda_expr.proofs.parse.close.Goals as goal
+use Rattle.lambda_expr.proofs.following.close.Goals as goal
 
 pub returns-in_ok-push-in-Some-Opened : goal.returns-in_ok-push-in-Some-Opened
 returns-in_ok-push-in-Some-Opened c =

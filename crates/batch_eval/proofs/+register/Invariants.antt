@@ -1,0 +1,37 @@
+use Rattle.std.proofs.Common.{ℕ, ◌+◌, ◌*◌}
+use Rattle.std.specs.Prelude.{max}
+use Rattle.lambda_expr.specs.declared.expr.LongExpr.{size-LongExpr}
+use Rattle.lambda_expr.specs.declared.expr.BoolExpr.{size-BoolExpr}
+use Rattle.batch_eval.specs.declared.register.Operand.{Operand}
+use Rattle.batch_eval.specs.declared.register.Operand.TheVariants as operand
+use Rattle.batch_eval.proofs.+register.Given as goal
+
+abbrev size : Operand → ℕ
+size (operand.Long e) = size-LongExpr e.now
+size (operand.Bool p) = size-BoolExpr p.now
+size (operand.Flag b) = 0
+
+-- an operator's operands are called between it and them
+abbrev pub decreases-register::eval_long : goal.decreases-register::eval_long
+decreases-register::eval_long l = 4 * size-LongExpr l.expr.now
+
+abbrev pub decreases-register::eval_bool : goal.decreases-register::eval_bool
+decreases-register::eval_bool l = 4 * size-BoolExpr l.test.now
+
+abbrev pub decreases-register::eval_left : goal.decreases-register::eval_left
+decreases-register::eval_left l = 4 * size-LongExpr l.expr.now + 1
+
+abbrev pub decreases-register::eval_operand : goal.decreases-register::eval_operand
+decreases-register::eval_operand l = 4 * size l.operand + 1
+
+abbrev pub decreases-register::eval_between : goal.decreases-register::eval_between
+decreases-register::eval_between l = 4 * max (size-LongExpr l.a.now) (size-LongExpr l.b.now) + 2
+
+abbrev pub decreases-choice::eval_chosen : goal.decreases-choice::eval_chosen
+decreases-choice::eval_chosen l = 4 * max (size-BoolExpr l.condition.now) (max (size l.a) (size l.b)) + 3
+
+abbrev pub decreases-choice::eval_parted : goal.decreases-choice::eval_parted
+decreases-choice::eval_parted l = 4 * max (size l.a) (size l.b) + 2
+
+abbrev pub decreases-choice::eval_both : goal.decreases-choice::eval_both
+decreases-choice::eval_both l = 4 * max (size l.a) (size l.b) + 2

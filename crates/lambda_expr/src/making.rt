@@ -1,0 +1,126 @@
+//! What operators make of operands of the right types, and the operands that are single words.
+
+ghost use Rattle.lambda_expr.specs.Elaborating.{typed_of};
+ghost use Rattle.lambda_expr.specs.Lexemes.{names_in};
+ghost use Rattle.lambda_expr.specs.Typing.{constant_of, constant_typed};
+ghost use Rattle.lambda_expr.specs.Term as term;
+ghost use Rattle.lambda_expr.specs.Term.{long_of, truth_of};
+ghost use Rattle.lambda_expr.specs.Typing.{long, boolean};
+ghost use Rattle.lambda_expr.specs.Wrap.{wrap};
+ghost use Rattle.std.specs.Prelude.{◌≡◌, IfOk, pos};
+
+use super::elaborate::Operand;
+use super::expr::{BoolExpr, LongExpr};
+use super::lexeme::{Name, reference_name};
+use super::operator::{BinaryOperator, Comparison, Connective, UnaryOperator};
+use super::table::constant_of;
+use std::alloc::{AllocError, Global};
+use stream_tokens::{Bytes, CutText};
+
+/// An operator before a number, or a method of one.
+pub(crate) fn unary(
+    alloc: Global,
+    operator: UnaryOperator,
+    operand: LongExpr,
+) -> Result<Operand, AllocError>
+    ensures { IfOk result (λ o. typed_of o ≡ long (term.unary operator (long_of operand))) }
+{
+    Ok(Operand::Long(LongExpr::Unary(operator, Box::new(alloc, operand)?)))
+}
+
+/// An operator between two numbers, or a method of two.
+pub(crate) fn binary(
+    alloc: Global,
+    operator: BinaryOperator,
+    left: LongExpr,
+    right: LongExpr,
+) -> Result<Operand, AllocError>
+    ensures { IfOk result (λ o. typed_of o ≡ long (term.binary operator (long_of left) (long_of right))) }
+{
+    let left = Box::new(alloc, left)?;
+    let right = Box::new(alloc, right)?;
+    Ok(Operand::Long(LongExpr::Binary(operator, left, right)))
+}
+
+/// A comparison of two numbers.
+pub(crate) fn compare(
+    alloc: Global,
+    comparison: Comparison,
+    left: LongExpr,
+    right: LongExpr,
+) -> Result<Operand, AllocError>
+    ensures { IfOk result (λ o. typed_of o ≡ boolean (term.compare comparison (long_of left) (long_of right))) }
+{
+    let left = Box::new(alloc, left)?;
+    let right = Box::new(alloc, right)?;
+    Ok(Operand::Truth(BoolExpr::Compare(comparison, left, right)))
+}
+
+/// `&&` or `||` between two booleans.
+pub(crate) fn connect(
+    alloc: Global,
+    connective: Connective,
+    left: BoolExpr,
+    right: BoolExpr,
+) -> Result<Operand, AllocError>
+    ensures { IfOk result (λ o. typed_of o ≡ boolean (term.connect connective (truth_of left) (truth_of right))) }
+{
+    let left = Box::new(alloc, left)?;
+    let right = Box::new(alloc, right)?;
+    Ok(Operand::Truth(BoolExpr::Connect(connective, left, right)))
+}
+
+/// `c ? p : q` for two numbers.
+pub(crate) fn choose_long(
+    alloc: Global,
+    condition: BoolExpr,
+    chosen: LongExpr,
+    other: LongExpr,
+) -> Result<Operand, AllocError>
+    ensures { IfOk result (λ o. typed_of o ≡ long (term.choose (truth_of condition) (long_of chosen) (long_of other))) }
+{
+    let condition = Box::new(alloc, condition)?;
+    let chosen = Box::new(alloc, chosen)?;
+    let other = Box::new(alloc, other)?;
+    Ok(Operand::Long(LongExpr::Choose(condition, chosen, other)))
+}
+
+/// `c ? p : q` for two booleans.
+pub(crate) fn choose_truth(
+    alloc: Global,
+    condition: BoolExpr,
+    chosen: BoolExpr,
+    other: BoolExpr,
+) -> Result<Operand, AllocError>
+    ensures { IfOk result (λ o. typed_of o ≡ boolean (term.choose_truth (truth_of condition) (truth_of chosen) (truth_of other))) }
+{
+    let condition = Box::new(alloc, condition)?;
+    let chosen = Box::new(alloc, chosen)?;
+    let other = Box::new(alloc, other)?;
+    Ok(Operand::Truth(BoolExpr::Choose(condition, chosen, other)))
+}
+
+/// A number that fits, or 2^63, which is its own negative in 64 bits.
+pub(crate) fn number(value: u64) -> Operand
+    ensures { typed_of result ≡ long (term.number (wrap (pos value))) }
+{
+    Operand::Long(LongExpr::Number(value.cast_signed()))
+}
+
+/// A constant by its name; without a type if there is none of that name.
+pub(crate) fn constant(name: Name) -> Operand
+    ensures { typed_of result ≡ constant_typed (constant_of name) }
+{
+    match constant_of(name) {
+        Some(value) => Operand::Long(LongExpr::Number(value)),
+        None => Operand::Untyped,
+    }
+}
+
+/// The reference at a place, by its name without the `$`.
+pub(crate) fn reference(alloc: Global, text: &CutText, place: usize) -> Result<Operand, AllocError>
+    ensures { IfOk result (λ o. typed_of o ≡ long (term.reference (names_in text.now.bytes text.now.tokens place))) }
+{
+    let name = Vec::from_slice(alloc, reference_name(text, place))?;
+    Ok(Operand::Long(LongExpr::Reference(Bytes::from(name))))
+}
