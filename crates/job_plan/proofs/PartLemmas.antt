@@ -13,12 +13,12 @@ use Rattle.early_stop.specs.Decisive.{Decides}
 use Rattle.early_stop.specs.Leaving.{IsSettled}
 use Rattle.early_stop.proofs.Settling.{enough_decides}
 use Rattle.reduce_ops.specs.declared.op.Op.{Op}
+use Rattle.reduce_ops.specs.declared.partial.Partial.{Partial}
 use Rattle.reduce_ops.specs.ExactSums.{exact_sum as exactly_summed}
 use Rattle.reduce_ops.specs.Folds.{ones, unless_faulted}
 use Rattle.reduce_ops.specs.Parts.{StandsFor as FoldStands}
 use Rattle.reduce_ops.proofs.FoldLemmas.{wrapped_sum, counted}
 use Rattle.reduce_ops.proofs.SettledSums.{sum_settled, sum_settles}
-use Rattle.slice_ops.specs.declared.slice_part.SlicePart.{SlicePart}
 use Rattle.slice_ops.proofs.GrownPartLemmas.{settled as slice_settled}
 use Rattle.find_ops.specs.Finds.{find_answer}
 use Rattle.find_ops.proofs.DecisionLemmas.{settled as find_settled}
@@ -61,15 +61,26 @@ counted_on c xs (end.Fault f) u = refl
 pub counted_append : (c : Bool) (t u : Trace) → as_counted c (append t u) ≡ append (as_counted c t) (as_counted c u)
 counted_append c t u = counted_on c t.items t.ending u
 
--- a fold that goes on with another walk
-pub fold_on : (f : Op) (a : Option ℤ) (c : Bool) (p r : FoldPart) (t u : Trace) → IsFold f a c p t → r.start ≡ p.start → r.counts ≡ p.counts → r.partial.op ≡ p.partial.op
-    → (FoldStands p.partial (as_counted c t) → FoldStands r.partial (append (as_counted c t) (as_counted c u))) → IsFold f a c r (append t u)
-fold_on f a c p r t u s start counting op later = record {
-  start = start ∙ s.start;
+-- a fold goes on with another walk
+pub fold_goes_on : (e : AbstractEnd) (n : ℕ) (env : Numbers) (p : FoldPart) (x : Partial) (t u : Trace) → x.op ≡ p.partial.op
+    → (FoldStands p.partial (as_counted p.counts t) → FoldStands x (append (as_counted p.counts t) (as_counted p.counts u)))
+    → EndsFor e n env (part.Fold p) t → EndsFor e n env (part.Fold (record { partial = x; start = p.start; counts = p.counts })) (append t u)
+fold_goes_on (folding f a c) n env p x t u op later s = record {
+  start = s.start;
   op = op ∙ s.op;
-  counting = counting ∙ s.counting;
-  stands = subst (λ (w : Trace). FoldStands r.partial w) (sym (counted_append c t u)) (later s.stands);
+  counting = s.counting;
+  stands = subst (λ (w : Trace). FoldStands x w) (sym (counted_append c t u))
+      (subst (λ (k : Bool). FoldStands p.partial (as_counted k t) → FoldStands x (append (as_counted k t) (as_counted k u))) s.counting later s.stands);
 }
+fold_goes_on e n env p x t u op later s = s
+
+-- the folds of pieces side by side
+pub folds_merge : (e : AbstractEnd) (n : ℕ) (env : Numbers) (p q : FoldPart) (x : Partial) (t u : Trace) → x.op ≡ p.partial.op
+    → (q.partial.op ≡ p.partial.op → FoldStands p.partial (as_counted p.counts t) → FoldStands q.partial (as_counted p.counts u) → FoldStands x (append (as_counted p.counts t) (as_counted p.counts u)))
+    → EndsFor e n env (part.Fold p) t → EndsFor e n env (part.Fold q) u → EndsFor e n env (part.Fold (record { partial = x; start = p.start; counts = p.counts })) (append t u)
+folds_merge (folding f a c) n env p q x t u op merged s o =
+    fold_goes_on (folding f a c) n env p x t u op (λ h. merged (o.op ∙ sym s.op) h (subst (λ (k : Bool). FoldStands q.partial (as_counted k u)) (sym s.counting) o.stands)) s
+folds_merge e n env p q x t u op merged s o = s
 
 none_counted : (c : Bool) → counted_as c [] ≡ []
 none_counted false = refl
@@ -155,38 +166,17 @@ pub on_walks : (s : AbstractSegment) (env : Numbers) (p q r : Part) (a b : Trace
     → StandsFor s env p a → StandsFor s env q b → StandsFor s env r (append a b)
 on_walks s env p q r a b merged x y = subst (λ (t : Trace). EndsFor s.ending (last_stage s) env r t) (sym (pipe_append s.first s.stages env a b)) (merged x y)
 
-module _ (e : AbstractEnd) (n : ℕ) (env : Numbers) (a b : Trace) where
-  -- parts of one kind side by side
-  pub slices_merge : (p q r : SlicePart) → ((d : _) → EndsFor (slicing d) n env (part.Slice p) a → EndsFor (slicing d) n env (part.Slice q) b → EndsFor (slicing d) n env (part.Slice r) (append a b))
-      → EndsFor e n env (part.Slice p) a → EndsFor e n env (part.Slice q) b → EndsFor e n env (part.Slice r) (append a b)
-  slices_merge p q r merged = by e
-    where
-      by : (e : AbstractEnd) → EndsFor e n env (part.Slice p) a → EndsFor e n env (part.Slice q) b → EndsFor e n env (part.Slice r) (append a b)
-      by (slicing d) s t = merged d s t
-      by e s t = s
+-- of one kind side by side
+pub arrays_merge : (e : AbstractEnd) (n : ℕ) (env : Numbers) (a b : Trace) (p q r : AbstractArray) → r ≡ array_append p q
+    → EndsFor e n env (part.Array p) a → EndsFor e n env (part.Array q) b → EndsFor e n env (part.Array r) (append a b)
+arrays_merge collecting n env a b p q r is s t = is ∙ (λ i. array_append (s i) (t i)) ∙ sym (array_joined a b)
+arrays_merge e n env a b p q r is s t = s
 
-  pub folds_merge : (p q r : FoldPart) → ((f : Op) (i : Option ℤ) (c : Bool) → IsFold f i c p a → IsFold f i c q b → IsFold f i c r (append a b))
-      → EndsFor e n env (part.Fold p) a → EndsFor e n env (part.Fold q) b → EndsFor e n env (part.Fold r) (append a b)
-  folds_merge p q r merged = by e
-    where
-      by : (e : AbstractEnd) → EndsFor e n env (part.Fold p) a → EndsFor e n env (part.Fold q) b → EndsFor e n env (part.Fold r) (append a b)
-      by (folding f i c) s t = merged f i c s t
-      by e s t = s
-
-  pub arrays_merge : (p q r : AbstractArray) → r ≡ array_append p q → EndsFor e n env (part.Array p) a → EndsFor e n env (part.Array q) b → EndsFor e n env (part.Array r) (append a b)
-  arrays_merge p q r is = by e
-    where
-      by : (e : AbstractEnd) → EndsFor e n env (part.Array p) a → EndsFor e n env (part.Array q) b → EndsFor e n env (part.Array r) (append a b)
-      by collecting s t = is ∙ (λ i. array_append (s i) (t i)) ∙ sym (array_joined a b)
-      by e s t = s
-
-  -- prefixes of pieces side by side
-  pub prefixes_merge : (p q r : AbstractScan) → (q.op ≡ p.op → r ≡ scan_append p q.walk) → EndsFor e n env (part.Prefix p) a → EndsFor e n env (part.Prefix q) b → EndsFor e n env (part.Prefix r) (append a b)
-  prefixes_merge p q r is = by e
-    where
-      by : (e : AbstractEnd) → EndsFor e n env (part.Prefix p) a → EndsFor e n env (part.Prefix q) b → EndsFor e n env (part.Prefix r) (append a b)
-      by (scanning f g) s t = is (ap (λ (x : AbstractScan). x.op) t ∙ sym (ap (λ (x : AbstractScan). x.op) s)) ∙ (λ i. scan_append (s i) (t i).walk)
-      by e s t = s
+pub prefixes_merge : (e : AbstractEnd) (n : ℕ) (env : Numbers) (a b : Trace) (p q r : AbstractScan) → (q.op ≡ p.op → r ≡ scan_append p q.walk)
+    → EndsFor e n env (part.Prefix p) a → EndsFor e n env (part.Prefix q) b → EndsFor e n env (part.Prefix r) (append a b)
+prefixes_merge (scanning f g) n env a b p q r is s t =
+    is (ap (λ (x : AbstractScan). x.op) t ∙ sym (ap (λ (x : AbstractScan). x.op) s)) ∙ (λ i. scan_append (s i) (t i).walk)
+prefixes_merge e n env a b p q r is s t = s
 
 -- the number of the stage that ends a segment
 pub length-stages_of : (gs : List Stage) → length (stages_of gs) ≡ length gs
@@ -217,20 +207,9 @@ pub array_ends : (e : AbstractEnd) (n : ℕ) (env : Numbers) (c : AbstractArray)
 array_ends collecting n env c w a s is = ap outcome.Answer (is ∙ ap (λ (k : AbstractArray). unless_fault k.ending (answer.Array k.values)) s)
 array_ends e n env c w a s is = absurd s
 
--- a fold goes on
-pub fold_goes_on : (e : AbstractEnd) (n : ℕ) (env : Numbers) (p r : FoldPart) (t u : Trace) → ((f : Op) (i : Option ℤ) (c : Bool) → IsFold f i c p t → IsFold f i c r (append t u))
-    → EndsFor e n env (part.Fold p) t → EndsFor e n env (part.Fold r) (append t u)
-fold_goes_on (folding f i c) n env p r t u go s = go f i c s
-fold_goes_on e n env p r t u go s = s
-
 pub no_items : {A : Type 0} (xs : List A) → length xs ≡ 0 → xs ≡ []
 no_items [] h = refl
 no_items (x ∷ xs) h = absurd (omega arith)
-
--- a prefix goes on
-pub scan_goes_on : (e : AbstractEnd) (n : ℕ) (env : Numbers) (p r : AbstractScan) (t u : Trace) → r ≡ scan_append p u → EndsFor e n env (part.Prefix p) t → EndsFor e n env (part.Prefix r) (append t u)
-scan_goes_on (scanning f g) n env p r t u is s = is ∙ ap (λ (x : AbstractScan). scan_append x u) s
-scan_goes_on e n env p r t u is s = s
 
 -- ---- exact sums
 

@@ -4,12 +4,14 @@ ghost use Rattle.std.specs.Prelude.{◌≡◌, ◌<◌, ◌++◌, [], length, fl
 ghost use Rattle.trace.specs.declared.item.End.TheVariants as end;
 ghost use Rattle.job_plan.specs.Arrays.{array, array_append};
 ghost use Rattle.job_plan.specs.Walks.{unless_fault};
+ghost use Rattle.job_plan.specs.declared.part.Part.TheVariants as part;
 
 use crate::answer::Answer;
+use crate::end_part::{EndPart, LastStage, is_fault};
 use crate::values::Values;
 use std::alloc::Global;
 use std::marker::Model;
-use trace::{End, NoMemory};
+use trace::{End, NoMemory, SourceItems};
 
 /// The values of a piece, without the places of its items, and how the walk ended. Contracts see just that.
 ///
@@ -73,13 +75,6 @@ impl ArrayPart {
         }
     }
 
-    /// How the walk ended.
-    pub(crate) fn end(&self) -> End
-        ensures { result ≡ self.now.ending }
-    {
-        self.end
-    }
-
     /// Goes on with another part. It moves the pieces of `right` and no value.
     ///
     /// A part that ends in a fault stays as it is. If the allocation fails, `right` comes back and the part stays as it was.
@@ -105,6 +100,35 @@ impl ArrayPart {
         match self.end {
             End::Done => Answer::Array(Values::from_pieces(self.pieces)),
             End::Fault(fault) => Answer::Fault(fault),
+        }
+    }
+}
+
+impl EndPart for ArrayPart {
+    ghost as_part = { part.Array };
+
+    fn push_all<I: SourceItems>(
+        &mut self,
+        _last: LastStage<'_>,
+        _source: &I,
+        values: &[i64],
+        _room: &mut [i64],
+    ) -> Result<(), NoMemory> {
+        ArrayPart::push_all(self, values)
+    }
+
+    fn end_with(&mut self, ending: End) {
+        ArrayPart::end_with(self, ending);
+    }
+
+    fn is_settled(&self) -> bool {
+        is_fault(self.end)
+    }
+
+    fn merge(mut self, right: ArrayPart) -> Result<ArrayPart, (ArrayPart, ArrayPart)> {
+        match self.append(right) {
+            Ok(()) => Ok(self),
+            Err(right) => Err((self, right)),
         }
     }
 }

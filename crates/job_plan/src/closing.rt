@@ -6,8 +6,9 @@ ghost use Rattle.trace.specs.declared.item.End.TheVariants as end;
 ghost use Rattle.trace.specs.declared.item.Item.{Item};
 ghost use Rattle.job_plan.specs.Parts.{GoesOnFrom, end_in, flow_of};
 
-use crate::leaves::{Ending, PartSink};
+use crate::end_part::EndPart;
 use crate::part::Part;
+use crate::part_sink::{Ending, PartSink};
 use batch_eval::BatchSink;
 use trace::{End, Flow, NoMemory};
 

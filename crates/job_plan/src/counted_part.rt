@@ -17,6 +17,7 @@ use crate::part::Part;
 use crate::segment::Segment;
 use crate::source::{Source, piece_end};
 use crate::spans::within;
+use crate::windows::Window;
 use reduce_ops::{Op, Partial};
 use trace::{End, Item, MAX_SOURCE_SIZE};
 
@@ -27,10 +28,9 @@ use trace::{End, Item, MAX_SOURCE_SIZE};
 pub(crate) fn counted_part<'p>(
     segment: &Segment,
     source: &Source,
-    from: u64,
-    to: Option<u64>,
+    window: Window,
 ) -> Option<Part<'p>>
-    ensures { IfSome result (λ part. (env : Numbers) → StandsFor (segment_in segment.now) env part (piece_of from to (walk_in source.now))) }
+    ensures { IfSome result (λ part. (env : Numbers) → StandsFor (segment_in segment.now) env part (piece_of window.from window.to (walk_in source.now))) }
 {
     let SegmentEnd::Fold(fold) = &segment.end else {
         return None;
@@ -45,8 +45,8 @@ pub(crate) fn counted_part<'p>(
     if size > MAX_SOURCE_SIZE {
         return None;
     }
-    let (_, count) = within(from, to, size);
-    let part = FoldPart::of_count(*fold, count, piece_end(source, to));
+    let (_, count) = within(window.from, window.to, size);
+    let part = FoldPart::of_count(*fold, count, piece_end(source, window.to));
     Some(Part::Fold(part))
 }
 

@@ -1,6 +1,5 @@
 //! What a fold keeps of a piece: one partial result, and how it is finished.
 
-ghost use Rattle.batch_eval.specs.Batches.{flagged_values};
 ghost use Rattle.std.specs.Prelude.{◌≡◌, ◌≤◌, ℤ, Bool, true, false, List, [], ◌∷◌, length, map, Option};
 ghost use Rattle.trace.specs.Trace.{Trace, trace, nothing, append};
 ghost use Rattle.trace.specs.declared.item.End.TheVariants as end;
@@ -9,12 +8,14 @@ ghost use Rattle.reduce_ops.specs.declared.op.Op.{Op};
 ghost use Rattle.job_plan.specs.Parts.{IsFold};
 ghost use Rattle.job_plan.specs.Plans.{counted_as, folded};
 ghost use Rattle.job_plan.specs.Walks.{unless_fault};
+ghost use Rattle.job_plan.specs.declared.part.Part.TheVariants as part;
 
 use crate::answer::Answer;
-use crate::ends::Fold;
+use crate::end_part::{EndPart, LastStage, is_fault};
+use crate::ends::{Fold, SegmentEnd};
 use crate::folding::{folded, folded_flagged};
 use reduce_ops::Partial;
-use trace::{End, Item};
+use trace::{End, Item, NoMemory, SourceItems};
 
 /// The fold of a piece.
 #[derive(Clone, Copy)]
@@ -36,64 +37,6 @@ impl FoldPart {
         }
     }
 
-    /// Folds one more item in, or a 1 for it.
-    pub(crate) fn push(&mut self, item: Item)
-        requires { self.old.partial.end ≡ end.Done }
-        ensures { (f : Op) (a : Option ℤ) (counts : Bool) (t : Trace) → IsFold f a counts self.old t
-            → IsFold f a counts self.new (append t (trace (item ∷ []) end.Done)) }
-    {
-        self.partial.push(counted(self.counts, item));
-    }
-
-    /// Folds the values of several items in, or a 1 for each.
-    pub(crate) fn push_all(&mut self, values: &[i64])
-        ensures fold { (f : Op) (a : Option ℤ) (counts : Bool) (t : Trace) (xs : List item) → map (λ x. x.value) xs ≡ values.now
-            → IsFold f a counts self.old t → IsFold f a counts self.new (append t (trace xs end.Done)) }
-        ensures ending { self.new.partial.end ≡ self.old.partial.end }
-    {
-        let right = folded(self.partial.op(), self.counts, values);
-        self.partial = self.partial.merge(right);
-    }
-
-    /// Folds the values whose flag isn't 0 in, or a 1 for each, and answers whether it does: not by an operator that has
-    /// no identity.
-    pub(crate) fn push_flagged(&mut self, values: &[i64], flags: &[i64]) -> bool
-        requires { length flags.now ≤ length values.now }
-        ensures taken { result ≡ true → (f : Op) (a : Option ℤ) (counts : Bool) (t : Trace) (xs : List item)
-            → map (λ x. x.value) xs ≡ flagged_values values.now flags.now (length flags.now)
-            → IsFold f a counts self.old t → IsFold f a counts self.new (append t (trace xs end.Done)) }
-        ensures ending { self.new.partial.end ≡ self.old.partial.end }
-        ensures other { result ≡ false → self.new ≡ self.old }
-    {
-        match folded_flagged(self.partial.op(), self.counts, values, flags) {
-            Some(right) => {
-                self.partial = self.partial.merge(right);
-                true
-            }
-            None => false,
-        }
-    }
-
-    /// Ends the piece so, unless a fault has ended it.
-    pub(crate) fn end_with(&mut self, end: End)
-        ensures { (f : Op) (a : Option ℤ) (counts : Bool) (t : Trace) → IsFold f a counts self.old t
-            → IsFold f a counts self.new (append t (trace [] end)) }
-    {
-        self.partial.end_with(end);
-    }
-
-    /// The fold of two pieces side by side.
-    pub(crate) fn merge(self, right: FoldPart) -> FoldPart
-        ensures { (f : Op) (a : Option ℤ) (counts : Bool) (t u : Trace) → IsFold f a counts self t → IsFold f a counts right u
-            → IsFold f a counts result (append t u) }
-    {
-        FoldPart {
-            partial: self.partial.merge(right.partial),
-            start: self.start,
-            counts: self.counts,
-        }
-    }
-
     /// The answer of the fold.
     pub(crate) fn finish(self) -> Answer
         ensures { (f : Op) (a : Option ℤ) (counts : Bool) (t : Trace) → IsFold f a counts self t
@@ -109,6 +52,57 @@ impl FoldPart {
                 Err(fault) => Answer::Fault(fault),
             },
         }
+    }
+}
+
+impl EndPart for FoldPart {
+    ghost as_part = { part.Fold };
+
+    fn push(&mut self, _last: LastStage<'_>, item: Item) -> Result<(), NoMemory> {
+        self.partial.push(counted(self.counts, item));
+        Ok(())
+    }
+
+    fn push_all<I: SourceItems>(
+        &mut self,
+        _last: LastStage<'_>,
+        _source: &I,
+        values: &[i64],
+        _room: &mut [i64],
+    ) -> Result<(), NoMemory> {
+        let right = folded(self.partial.op(), self.counts, values);
+        self.partial = self.partial.merge(right);
+        Ok(())
+    }
+
+    fn takes_flags(&self, _end: &SegmentEnd) -> bool {
+        self.partial.op().identity().is_some()
+    }
+
+    fn push_flagged(&mut self, values: &[i64], flags: &[i64]) -> bool {
+        match folded_flagged(self.partial.op(), self.counts, values, flags) {
+            Some(right) => {
+                self.partial = self.partial.merge(right);
+                true
+            }
+            None => false,
+        }
+    }
+
+    fn end_with(&mut self, ending: End) {
+        self.partial.end_with(ending);
+    }
+
+    fn is_settled(&self) -> bool {
+        is_fault(self.partial.end())
+    }
+
+    fn merge(self, right: FoldPart) -> Result<FoldPart, (FoldPart, FoldPart)> {
+        Ok(FoldPart {
+            partial: self.partial.merge(right.partial),
+            start: self.start,
+            counts: self.counts,
+        })
     }
 }
 

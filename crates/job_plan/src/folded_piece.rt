@@ -6,21 +6,18 @@ ghost use Rattle.trace.specs.Cover.{counted, placed};
 ghost use Rattle.trace.specs.Stages.{stages_of};
 ghost use Rattle.trace.specs.Trace.{trace};
 ghost use Rattle.trace.specs.declared.item.End.TheVariants as end;
-ghost use Rattle.reduce_ops.specs.Operators.{value_of};
 ghost use Rattle.reduce_ops.specs.Parts.{StandsFor as FoldStands};
-ghost use Rattle.prefix_scan.specs.Prefixes.{is_within};
-ghost use Rattle.prefix_scan.specs.Scans.{fold_at, joined_value};
 ghost use Rattle.job_plan.specs.Maps.{imaged};
-ghost use Rattle.job_plan.specs.Runs.{Fits, FitsPlaces, first_place, items_in, run_values};
+ghost use Rattle.job_plan.specs.Runs.{FitsPlaces, first_place};
 ghost use Rattle.job_plan.specs.Scans.{IsFolded, items_of};
 
 use crate::cheap_maps::Maps;
 use crate::folding::folded;
+use crate::piece_folds::fold_run;
 use crate::piece_items::PieceItems;
 use crate::run_values::RunValues;
 use batch_eval::Registers;
-use prefix_scan::{cut_to, fold_items, scan_values};
-use reduce_ops::{Op, Partial, operators_are_associative};
+use reduce_ops::{Op, Partial};
 use std::alloc::Global;
 use trace::{Item, NoMemory, SourceItems};
 
@@ -192,59 +189,6 @@ impl<'a> FoldedPiece<'a> {
         self.fold = self.fold.merge(folded(op, false, values));
         Ok(true)
     }
-
-    /// The fold of `start` and of the items at positions of the range; the first item has the position `first`. It goes over
-    /// the items only if some of them have such positions, and not all.
-    pub(crate) fn fold_from(
-        &self,
-        op: Op,
-        range: Option<(u64, u64)>,
-        first: u64,
-        start: Option<i64>,
-        registers: &mut Registers,
-    ) -> Option<i64>
-        requires { IsFolded op self.now }
-        ensures { result ≡ fold_at (value_of op) range first start (items_of self.now) }
-    {
-        let count = self.count() as u64;
-        let at = cut_to(range, first, count);
-        if holds_all(at, count) {
-            return self.fold_after(op, start);
-        }
-        if holds_none(at) {
-            return start;
-        }
-        self.fold_some(op, at, start, registers)
-    }
-
-    /// The fold of `start` and of all items.
-    fn fold_after(&self, op: Op, start: Option<i64>) -> Option<i64>
-        requires { IsFolded op self.now }
-        ensures { result ≡ fold_at (value_of op) None 0 start (items_of self.now) }
-    {
-        operators_are_associative();
-        match self.fold.finish() {
-            Ok(value) => joined(op, start, value),
-            Err(_) => start,
-        }
-    }
-
-    /// The fold of `start` and of the items at positions of the range, by positions of the piece.
-    fn fold_some(
-        &self,
-        op: Op,
-        at: Option<(u64, u64)>,
-        start: Option<i64>,
-        registers: &mut Registers,
-    ) -> Option<i64>
-        requires { IsFolded op self.now }
-        ensures { result ≡ fold_at (value_of op) at 0 start (items_of self.now) }
-    {
-        match &self.items {
-            PieceItems::Listed(items) => fold_items(op, at, start, items),
-            PieceItems::Run(_, values) => fold_run_at(op, at, start, values, registers),
-        }
-    }
 }
 
 /// From this many items on a batch is one of several of a walk: then a new piece gets space for all that it may have.
@@ -266,69 +210,6 @@ fn first_place(items: &PieceItems) -> Option<u64>
     match items {
         PieceItems::Listed(_) => None,
         PieceItems::Run(place, _) => Some(*place),
-    }
-}
-
-/// Whether all of this many positions are positions of the range.
-fn holds_all(range: Option<(u64, u64)>, count: u64) -> bool
-    ensures { result ≡ true → (j : ℕ) → j < count → is_within range j ≡ true }
-{
-    match range {
-        Some((from, to)) => from == 0 && count <= to,
-        None => true,
-    }
-}
-
-/// Whether a range has no position.
-fn holds_none(range: Option<(u64, u64)>) -> bool
-    ensures { result ≡ true → (j : ℕ) → is_within range j ≡ false }
-{
-    match range {
-        Some((from, to)) => to <= from,
-        None => false,
-    }
-}
-
-/// The fold of values.
-fn fold_run(op: Op, values: &RunValues, registers: &mut Registers) -> Partial
-    requires fits { Fits values.now }
-    requires few { length (run_values values.now) ≤ 4096 }
-    ensures op { result.op ≡ op }
-    ensures stands { (place : ℕ) → FoldStands result (trace (placed place (run_values values.now)) end.Done) }
-{
-    if let Some(values) = values.as_slice() {
-        return folded(op, false, values);
-    }
-    let mut buffer = [0i64; MOST_ITEMS];
-    values.copy_to(&mut buffer, registers);
-    folded(op, false, &buffer[..values.count()])
-}
-
-/// The fold of `start` and of the values at positions of the range.
-fn fold_run_at(
-    op: Op,
-    range: Option<(u64, u64)>,
-    start: Option<i64>,
-    values: &RunValues,
-    registers: &mut Registers,
-) -> Option<i64>
-    requires fits { Fits values.now }
-    requires few { length (run_values values.now) ≤ 4096 }
-    ensures { (place : ℕ) → result ≡ fold_at (value_of op) range 0 start (placed place (run_values values.now)) }
-{
-    let mut buffer = [0i64; MOST_ITEMS];
-    values.copy_to(&mut buffer, registers);
-    scan_values(op, range, start, &mut buffer[..values.count()])
-}
-
-/// Two folds side by side, each of which may be of no item.
-fn joined(op: Op, left: Option<i64>, right: Option<i64>) -> Option<i64>
-    ensures { result ≡ joined_value (value_of op) left right }
-{
-    match (left, right) {
-        (left, None) => left,
-        (None, right) => right,
-        (Some(left), Some(right)) => Some(op.apply(left, right)),
     }
 }
 

@@ -34,11 +34,10 @@ pub(crate) fn lent_part<'p>(
     alloc: Global,
     segment: &'p Segment,
     source: &Source<'_, 'p, '_>,
-    from: u64,
-    to: Option<u64>,
+    window: Window,
     registers: &mut Registers,
 ) -> Result<Option<Part<'p>>, NoMemory>
-    ensures stands { IfOk result (λ found. IfSome found (λ part. (env : Numbers) → StandsFor (segment_in segment.now) env part (piece_of from to (walk_in source.now)))) }
+    ensures stands { IfOk result (λ found. IfSome found (λ part. (env : Numbers) → StandsFor (segment_in segment.now) env part (piece_of window.from window.to (walk_in source.now)))) }
     ensures memory { OnErr result (end_keeps_items (end_in segment.now.end) ≡ true) }
 {
     let SegmentEnd::Prefix(prefix) = &segment.end else {
@@ -52,8 +51,8 @@ pub(crate) fn lent_part<'p>(
     };
     let stage = segment.first_stage + segment.stages.len() as u32;
     let mut part = PrefixPart::none(alloc, *prefix, stage);
-    push_plain(&mut part, maps, plain, from, to, registers)?;
-    part.end_with(piece_end(source, to));
+    push_plain(&mut part, maps, plain, window, registers)?;
+    part.end_with(piece_end(source, window.to));
     Ok(Some(Part::Prefix(part)))
 }
 
@@ -62,17 +61,16 @@ fn push_plain<'a>(
     part: &mut PrefixPart<'a>,
     maps: Maps<'a>,
     plain: &PlainSources<'a, '_>,
-    from: u64,
-    to: Option<u64>,
+    window: Window,
     registers: &mut Registers,
 ) -> Result<(), NoMemory>
     requires open { part.old.walk.ending ≡ end.Done }
-    ensures { OnOk result (part.new ≡ scan_append part.old (trace (imaged (stages_of maps.entry.stages.now) (elements from to (windowed plain.now.window.from plain.now.window.to (source_walk (sources_of plain.now.sources.now))).items)) end.Done)) }
+    ensures { OnOk result (part.new ≡ scan_append part.old (trace (imaged (stages_of maps.entry.stages.now) (elements window.from window.to (windowed plain.now.window.from plain.now.window.to (source_walk (sources_of plain.now.sources.now))).items)) end.Done)) }
 {
     if plain.is_too_long {
         return Ok(());
     }
-    let selected = plain.window.within(from, to);
+    let selected = plain.window.within(window.from, window.to);
     push_sources(part, maps, plain.sources, 0, selected, registers)
 }
 

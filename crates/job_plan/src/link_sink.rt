@@ -87,13 +87,21 @@ pub(crate) struct Passing<'p, S: Drop> {
     pub(crate) inner: S,
 }
 
+/// Where a slice stands in a walk, with the values of the job's names.
+#[derive(Clone, Copy)]
+pub(crate) struct Junction<'p, 'e> {
+    /// The number of its stage.
+    pub(crate) stage: u32,
+    /// The segment after it.
+    pub(crate) next: &'p Segment,
+    pub(crate) env: &'e Env,
+}
+
 /// A sink that lets items pass as a slice does, and takes them through the stages of the next segment into the next sink.
 #[derive(Drop)]
 pub(crate) struct LinkSink<'p, 'e, K: LinkStart, S: Drop> {
     pub(crate) passing: Passing<'p, S>,
-    pub(crate) stage: u32,
-    pub(crate) next: &'p Segment,
-    pub(crate) env: &'e Env,
+    pub(crate) junction: Junction<'p, 'e>,
     pub(crate) registers: Registers,
     pub(crate) of: PhantomData<K>,
 }
@@ -162,9 +170,7 @@ fn hand_on<I: BatchSource, S: BatchSink>(
 /// next segment.
 fn pass<I: BatchSource, S: BatchSink + Drop>(
     passing: &mut Passing<'_, S>,
-    stage: u32,
-    next: &Segment,
-    env: &Env,
+    junction: Junction,
     source: &I,
     values: &[i64],
     registers: &mut Registers,
@@ -172,8 +178,8 @@ fn pass<I: BatchSource, S: BatchSink + Drop>(
 ) -> Result<Fed, NoMemory>
     requires wants { passage_flow passing.old.passage (S.flow passing.old.inner) ≡ Flow.More }
     requires values { map (λ x. x.value) (I.items source.now) ≡ values.now }
-    ensures fed { (begun : AbstractSlice) (xs : List item) → HasPassed S.has_taken S.flow begun stage (segment_in next.now) env.now (rest_of passing.old.rest) passing.old.passage passing.old.inner xs
-        → IsFed (λ p. HasPassed S.has_taken S.flow begun stage (segment_in next.now) env.now (rest_of p.rest) p.passage p.inner) xs (trace (I.items source.now) end.Done) result passing.new }
+    ensures fed { (begun : AbstractSlice) (xs : List item) → HasPassed S.has_taken S.flow begun junction.entry.stage (segment_in junction.entry.next.now) junction.entry.env.now (rest_of passing.old.rest) passing.old.passage passing.old.inner xs
+        → IsFed (λ p. HasPassed S.has_taken S.flow begun junction.entry.stage (segment_in junction.entry.next.now) junction.entry.env.now (rest_of p.rest) p.passage p.inner) xs (trace (I.items source.now) end.Done) result passing.new }
     ensures flow { passage_flow passing.new.passage (S.flow passing.new.inner) ≡ flow_after result }
 {
     let Passage::Open = passing.passage else {
@@ -182,6 +188,7 @@ fn pass<I: BatchSource, S: BatchSink + Drop>(
     if values.is_empty() {
         return Ok(Fed::More);
     }
+    let Junction { stage, next, env } = junction;
     let front = tested(&passing.rest, env, values, room);
     let cut = passing.rest.cut(stage, env, source, front);
     let inner = &mut passing.inner;
@@ -200,7 +207,7 @@ fn pass<I: BatchSource, S: BatchSink + Drop>(
 }
 
 impl<K: LinkStart, S: Closing> LongSink for LinkSink<'_, '_, K, S> {
-    ghost has_taken = { λ sink items. (segment_in sink.next.now ≡ K.next) × (sink.stage ≡ K.stage) × (sink.env.now ≡ K.env)
+    ghost has_taken = { λ sink items. (segment_in sink.junction.next.now ≡ K.next) × (sink.junction.stage ≡ K.stage) × (sink.junction.env.now ≡ K.env)
         × HasPassed S.has_taken S.flow K.rest K.stage K.next K.env (rest_of sink.passing.rest) sink.passing.passage sink.passing.inner items };
 
     ghost flow = { λ sink. passage_flow sink.passing.passage (S.flow sink.passing.inner) };
@@ -210,9 +217,7 @@ impl<K: LinkStart, S: Closing> LongSink for LinkSink<'_, '_, K, S> {
     fn accept(&mut self, item: Item) -> Result<Flow, NoMemory> {
         let fed = pass(
             &mut self.passing,
-            self.stage,
-            self.next,
-            self.env,
+            self.junction,
             &ItemPiece { items: &[item] },
             &[item.value],
             &mut self.registers,
@@ -230,9 +235,7 @@ impl<K: LinkStart, S: Closing> BatchSink for LinkSink<'_, '_, K, S> {
         let values = batch.values();
         pass(
             &mut self.passing,
-            self.stage,
-            self.next,
-            self.env,
+            self.junction,
             batch,
             values,
             &mut self.registers,
@@ -243,9 +246,7 @@ impl<K: LinkStart, S: Closing> BatchSink for LinkSink<'_, '_, K, S> {
     fn accept_run(&mut self, run: PlacedValues<'_>, room: &mut [i64]) -> Result<Fed, NoMemory> {
         pass(
             &mut self.passing,
-            self.stage,
-            self.next,
-            self.env,
+            self.junction,
             &run,
             run.values,
             &mut self.registers,

@@ -7,7 +7,7 @@ ghost use Rattle.job_plan.specs.Parts.{segment_in, walk_in};
 ghost use Rattle.job_plan.specs.Plans.{last_stage, walk_of};
 
 use crate::closing::Closing;
-use crate::link_sink::{LinkSink, LinkStart, Passage, Passing};
+use crate::link_sink::{Junction, LinkSink, LinkStart, Passage, Passing};
 use crate::links::Link;
 use crate::segment::Segment;
 use crate::source::Walked;
@@ -77,43 +77,54 @@ impl<N: Nest> Nest for Next<N> {
         sink: S,
     ) -> Result<S::Made, NoMemory> {
         match links.split_last() {
-            Some((link, before)) => {
-                feed_link::<Brand, N, S>(alloc, before, link, next, walked, registers, sink)
+            Some((last, before)) => {
+                let chain = LinkChain { before, last };
+                feed_link::<Brand, N, S>(alloc, chain, next, walked, registers, sink)
             }
             None => feed_source(next, walked, registers, sink),
         }
     }
 }
 
-/// The same of links of which the last one is `link`.
+/// Links, the last one apart.
+#[derive(Clone, Copy)]
+struct LinkChain<'l, 'p> {
+    before: &'l [Link<'p>],
+    last: &'l Link<'p>,
+}
+
+/// The same of links whose last one is apart.
 fn feed_link<'p, K: LinkStart, N: Nest, S: Closing>(
     alloc: Global,
-    before: &[Link<'p>],
-    link: &Link<'p>,
+    chain: LinkChain<'_, 'p>,
     next: &'p Segment,
     walked: Walked,
     registers: &mut Registers,
     sink: S,
 ) -> Result<S::Made, NoMemory>
-    requires rest { rest_of link.now.rest ≡ K.rest }
-    requires stage { last_stage (segment_in link.now.segment.now) ≡ K.stage }
+    requires rest { rest_of chain.last.now.rest ≡ K.rest }
+    requires stage { last_stage (segment_in chain.last.now.segment.now) ≡ K.stage }
     requires next { segment_in next.now ≡ K.next }
     requires env { walked.env.now ≡ K.env }
-    requires few { length before.now ≤ N.depth }
+    requires few { length chain.before.now ≤ N.depth }
     requires begun { S.has_taken sink [] }
-    ensures { IfOk result (λ made. S.stands made (walk_of (segment_in next.now) walked.entry.env.now (linked (link_in link.now ∷ []) walked.entry.env.now (linked (each_link_in before.now) walked.entry.env.now (walk_in walked.entry.source))))) }
+    ensures { IfOk result (λ made. S.stands made (walk_of (segment_in next.now) walked.entry.env.now (linked (link_in chain.entry.last.now ∷ []) walked.entry.env.now (linked (each_link_in chain.entry.before.now) walked.entry.env.now (walk_in walked.entry.source))))) }
 {
-    let segment = link.segment;
+    let LinkChain { before, last } = chain;
+    let segment = last.segment;
     let passing = Passing {
-        rest: link.rest,
-        passage: Passage::of(&link.rest),
+        rest: last.rest,
+        passage: Passage::of(&last.rest),
         inner: sink,
     };
-    let sink = LinkSink::<K, S> {
-        passing,
+    let junction = Junction {
         stage: segment.first_stage + segment.stages.len() as u32,
         next,
         env: walked.env,
+    };
+    let sink = LinkSink::<K, S> {
+        passing,
+        junction,
         registers: Registers::new(alloc),
         of: PhantomData,
     };

@@ -11,14 +11,13 @@ ghost use Rattle.job_plan.specs.Parts.{EndsFor, StandsFor, end_in, end_keeps_ite
 ghost use Rattle.job_plan.specs.Plans.{AbstractEnd, AbstractSegment, outcome_of};
 
 use crate::array_part::ArrayPart;
+use crate::end_part::{EndPart, LastStage};
 use crate::ends::SegmentEnd;
 use crate::fold_part::FoldPart;
-use crate::fronts::{front, undecided};
 use crate::given::GivenWalk;
-use crate::merging::{merge_arrays, merge_prefixes, merge_slices};
 use crate::outcome::{Outcome, answer_of, exact_answer};
 use crate::prefix_part::PrefixPart;
-use find_ops::{FindPart, FindTerminal};
+use find_ops::FindPart;
 use lambda_expr::Env;
 use reduce_ops::SumPart;
 use slice_ops::SlicePart;
@@ -40,12 +39,33 @@ pub enum Part<'p> {
     Exact(SumPart),
 }
 
-/// The end of a segment, its number as a stage, and the values of the job's names.
-#[derive(Clone, Copy)]
-pub(crate) struct LastStage<'a> {
-    pub(crate) end: &'a SegmentEnd,
-    pub(crate) number: u32,
-    pub(crate) env: &'a Env,
+/// Does this with what a part of any kind holds.
+macro_rules! of_any_kind {
+    ($part:expr, $held:ident => $done:expr) => {
+        match $part {
+            Part::Slice($held) => $done,
+            Part::Fold($held) => $done,
+            Part::Find($held) => $done,
+            Part::Array($held) => $done,
+            Part::Prefix($held) => $done,
+            Part::Exact($held) => $done,
+        }
+    };
+}
+
+/// Merges two parts if they are of one kind. Of two kinds, the left one stays.
+macro_rules! of_one_kind {
+    ($left:expr, $right:expr, $($kind:ident)*) => {
+        match $left {
+            $(Part::$kind(left) => match $right {
+                Part::$kind(right) => match EndPart::merge(left, right) {
+                    Ok(part) => Ok(Part::$kind(part)),
+                    Err((left, right)) => Err((Part::$kind(left), Part::$kind(right))),
+                },
+                _ => Ok(Part::$kind(left)),
+            },)*
+        }
+    };
 }
 
 impl<'p> Part<'p> {
@@ -79,143 +99,11 @@ impl<'p> Part<'p> {
         }
     }
 
-    /// Adds one more item after the others.
-    ///
-    /// If the allocation fails, the part stays as it was.
-    pub(crate) fn push(&mut self, last: LastStage<'_>, item: Item) -> Result<(), NoMemory>
-        requires { is_settled self.old ≡ false }
-        ensures ok { OnOk result ((t : Trace) → EndsFor (end_in last.entry.end.now) last.entry.number last.entry.env.now self.old t
-            → EndsFor (end_in last.entry.end.now) last.entry.number last.entry.env.now self.new (append t (trace (item ∷ []) end.Done))) }
-        ensures err { OnErr result (self.new ≡ self.old) }
-        ensures memory { OnErr result (keeps_items self.old ≡ true) }
-        ensures kind { may_search self.new ≡ may_search self.old }
-        ensures keeps { keeps_items self.new ≡ keeps_items self.old }
-    {
-        match self {
-            Part::Slice(part) => part.push(last.env, item),
-            Part::Fold(part) => {
-                part.push(item);
-                Ok(())
-            }
-            Part::Find(part) => {
-                if let SegmentEnd::Find(find) = last.end {
-                    *part = part.look_at(find, last.number, last.env, item);
-                }
-                Ok(())
-            }
-            Part::Array(part) => part.push_all(&[item.value]),
-            Part::Prefix(part) => part.push(item),
-            Part::Exact(part) => {
-                part.push(last.number, item);
-                Ok(())
-            }
-        }
-    }
-
-    /// Adds the items of a source, which have these values, after the others.
-    ///
-    /// The test of a match or a `takeWhile` goes over all values first, as far as the room is enough for it. If the
-    /// allocation fails, the part stays as it was. Without items it takes no memory.
-    pub(crate) fn push_all<I: SourceItems>(
-        &mut self,
-        last: LastStage<'_>,
-        source: &I,
-        values: &[i64],
-        room: &mut [i64],
-    ) -> Result<(), NoMemory>
-        requires going { is_settled self.old ≡ false }
-        requires values { map (λ x. x.value) (I.items source.now) ≡ values.now }
-        ensures ok { OnOk result ((t : Trace) → EndsFor (end_in last.entry.end.now) last.entry.number last.entry.env.now self.old t
-            → EndsFor (end_in last.entry.end.now) last.entry.number last.entry.env.now self.new (append t (trace (I.items source.now) end.Done))) }
-        ensures err { OnErr result (self.new ≡ self.old) }
-        ensures refused { OnErr result (0 < length (I.items source.now)) }
-        ensures memory { OnErr result (keeps_items self.old ≡ true) }
-        ensures kind { may_search self.new ≡ may_search self.old }
-        ensures keeps { keeps_items self.new ≡ keeps_items self.old }
-    {
-        match self {
-            Part::Slice(part) => {
-                let front = front(part.slice(), last.env, values, room);
-                part.push_all(last.env, source, front)
-            }
-            Part::Fold(part) => {
-                part.push_all(values);
-                Ok(())
-            }
-            Part::Find(part) => {
-                if let SegmentEnd::Find(find) = last.end {
-                    let first = undecided(find, last.env, values, room);
-                    *part = part.look_after(find, last.number, last.env, source, first);
-                }
-                Ok(())
-            }
-            Part::Array(part) => part.push_all(values),
-            Part::Prefix(part) => part.push_all(source, values),
-            Part::Exact(part) => {
-                part.push_all(last.number, source, values);
-                Ok(())
-            }
-        }
-    }
-
-    /// Whether the items of lanes with flags are to be given with their flags: to a fold, which then moves no value, and to
-    /// `findFirst`, which the first flag decides.
-    pub(crate) fn takes_flags(&self, close: &SegmentEnd) -> bool {
-        match self {
-            Part::Fold(part) => part.partial.op().identity().is_some(),
-            Part::Find(_) => matches!(close, SegmentEnd::Find(FindTerminal::First)),
-            Part::Slice(_) | Part::Array(_) | Part::Prefix(_) | Part::Exact(_) => false,
-        }
-    }
-
-    /// Adds the values whose flag isn't 0, if the end is a fold by an operator that has an identity, and answers whether it is.
-    pub(crate) fn push_flagged(&mut self, values: &[i64], flags: &[i64]) -> bool
-        requires open { is_settled self.old ≡ false }
-        requires flagged { length flags.now ≤ length values.now }
-        ensures taken { result ≡ true → (e : AbstractEnd) (stage : ℕ) (env : Numbers) (t : Trace) (xs : List item)
-            → map (λ x. x.value) xs ≡ flagged_values values.now flags.now (length flags.now)
-            → EndsFor e stage env self.old t → EndsFor e stage env self.new (append t (trace xs end.Done)) }
-        ensures open { is_settled self.new ≡ false }
-        ensures other { result ≡ false → self.new ≡ self.old }
-        ensures kind { may_search self.new ≡ may_search self.old }
-        ensures keeps { keeps_items self.new ≡ keeps_items self.old }
-    {
-        match self {
-            Part::Fold(part) => part.push_flagged(values, flags),
-            Part::Slice(_) | Part::Find(_) | Part::Array(_) | Part::Prefix(_) | Part::Exact(_) => {
-                false
-            }
-        }
-    }
-
-    /// Ends the piece so, unless it is settled. It takes no memory.
-    pub(crate) fn end_with(&mut self, ending: End)
-        ensures stands { (e : AbstractEnd) (stage : ℕ) (env : Numbers) (t : Trace) → EndsFor e stage env self.old t
-            → EndsFor e stage env self.new (append t (trace [] ending)) }
-        ensures kind { may_search self.new ≡ may_search self.old }
-    {
-        match self {
-            Part::Slice(part) => part.end_with(ending),
-            Part::Fold(part) => part.end_with(ending),
-            Part::Find(part) => *part = part.end_with(ending),
-            Part::Array(part) => part.end_with(ending),
-            Part::Prefix(part) => part.end_with(ending),
-            Part::Exact(part) => part.end_with(ending),
-        }
-    }
-
     /// Whether nothing after the piece matters: its end takes no more items, or a fault has ended it.
     pub fn is_settled(&self) -> bool
         ensures { result ≡ is_settled self.now }
     {
-        match self {
-            Part::Slice(part) => part.is_settled(),
-            Part::Fold(part) => is_fault(part.partial.end()),
-            Part::Find(part) => part.is_decided(),
-            Part::Array(part) => is_fault(part.end()),
-            Part::Prefix(part) => is_fault(part.end()),
-            Part::Exact(part) => part.is_settled(),
-        }
+        EndPart::is_settled(self)
     }
 
     /// Whether the part settles what the segment gives, also for a piece that doesn't begin at the first item.
@@ -242,32 +130,15 @@ impl<'p> Part<'p> {
 
     /// The part of two pieces side by side, of one segment. A fault of the left one ends both.
     ///
-    /// Only slices and arrays may need memory; if the allocation fails, both parts come back. Parts of different
+    /// Only slices, arrays and prefixes may need memory; if the allocation fails, both parts come back. Parts of different
     /// ends don't merge: the left one stays.
-    #[tactic(auto, using(trace::proofs::JoinLemmas::pipe_append))]
     pub fn merge(self, right: Part<'p>) -> Result<Part<'p>, (Part<'p>, Part<'p>)>
         ensures ok { IfOk result (λ part. (s : AbstractSegment) (env : Numbers) (a b : Trace) → StandsFor s env self.entry a
             → StandsFor s env right.entry b → StandsFor s env part (append a b)) }
         ensures err { IfErr result (λ parts. (parts.0 ≡ self.entry) × (parts.1 ≡ right.entry)) }
         ensures memory { OnErr result (keeps_items self.entry ≡ true) }
     {
-        match self {
-            Part::Slice(left) => merge_slices(left, right),
-            Part::Fold(left) => match right {
-                Part::Fold(right) => Ok(Part::Fold(left.merge(right))),
-                _ => Ok(Part::Fold(left)),
-            },
-            Part::Find(left) => match right {
-                Part::Find(right) => Ok(Part::Find(left.merge(right))),
-                _ => Ok(Part::Find(left)),
-            },
-            Part::Array(left) => merge_arrays(left, right),
-            Part::Prefix(left) => merge_prefixes(left, right),
-            Part::Exact(left) => match right {
-                Part::Exact(right) => Ok(Part::Exact(left.merge(right))),
-                _ => Ok(Part::Exact(left)),
-            },
-        }
+        EndPart::merge(self, right)
     }
 
     /// What the segment gives. `None` if the source has to be walked once more, in order. An array takes no memory: its pieces are
@@ -292,11 +163,42 @@ impl<'p> Part<'p> {
     }
 }
 
-/// Whether a walk ended in a fault.
-fn is_fault(end: End) -> bool
-    ensures { result ≡ is_fault end }
-{
-    matches!(end, End::Fault(_))
+impl<'a> EndPart for Part<'a> {
+    ghost as_part = { λ part. part };
+
+    fn push(&mut self, last: LastStage<'_>, item: Item) -> Result<(), NoMemory> {
+        of_any_kind!(self, part => EndPart::push(part, last, item))
+    }
+
+    fn push_all<I: SourceItems>(
+        &mut self,
+        last: LastStage<'_>,
+        source: &I,
+        values: &[i64],
+        room: &mut [i64],
+    ) -> Result<(), NoMemory> {
+        of_any_kind!(self, part => EndPart::push_all(part, last, source, values, room))
+    }
+
+    fn takes_flags(&self, end: &SegmentEnd) -> bool {
+        of_any_kind!(self, part => EndPart::takes_flags(part, end))
+    }
+
+    fn push_flagged(&mut self, values: &[i64], flags: &[i64]) -> bool {
+        of_any_kind!(self, part => EndPart::push_flagged(part, values, flags))
+    }
+
+    fn end_with(&mut self, ending: End) {
+        of_any_kind!(self, part => EndPart::end_with(part, ending))
+    }
+
+    fn is_settled(&self) -> bool {
+        of_any_kind!(self, part => EndPart::is_settled(part))
+    }
+
+    fn merge(self, right: Part<'a>) -> Result<Part<'a>, (Part<'a>, Part<'a>)> {
+        of_one_kind!(self, right, Slice Fold Find Array Prefix Exact)
+    }
 }
 
 /// The fault in which a walk ended.

@@ -1,30 +1,29 @@
 //! What a piece gives to a prefix: its items, in pieces with their folds.
 
-ghost use Rattle.std.specs.Prelude.{◌≡◌, ◌+◌, ◌<◌, ◌≤◌, ◌^◌, ◌++◌, ◌∷◌, [], Ok, All, true, false, length, map, OnOk, OnErr, IfErr, IfOk, IfSome};
+ghost use Rattle.std.specs.Prelude.{◌≡◌, ◌+◌, ◌<◌, ◌≤◌, ◌^◌, [], All, length, map, OnOk, OnErr, IfErr, IfOk};
 ghost use Rattle.trace.specs.Cover.{counted, placed};
 ghost use Rattle.trace.specs.Stages.{stages_of};
 ghost use Rattle.trace.specs.Trace.{trace, nothing, append};
 ghost use Rattle.trace.specs.declared.item.End.TheVariants as end;
 ghost use Rattle.reduce_ops.specs.Operators.{value_of};
-ghost use Rattle.reduce_ops.specs.Parts.{StandsFor as FoldStands};
 ghost use Rattle.prefix_scan.specs.Prefixes.{ends_after, prefixed, prefixed_items};
-ghost use Rattle.job_plan.specs.declared.folded_piece.FoldedPiece.{FoldedPiece};
 ghost use Rattle.job_plan.specs.Maps.{imaged};
-ghost use Rattle.job_plan.specs.Scans.{IsFolded, all_items, items_of, scan, scan_append};
+ghost use Rattle.job_plan.specs.Scans.{IsFolded, all_items, scan, scan_append};
+ghost use Rattle.job_plan.specs.declared.part.Part.TheVariants as part;
 
 use crate::cheap_maps::Maps;
+use crate::end_part::{EndPart, LastStage, is_fault};
 use crate::ends::Prefix;
-use crate::folded_piece::{FoldedPiece, MOST_ITEMS};
-use crate::folding::folded;
+use crate::folded_piece::FoldedPiece;
 use crate::given::GivenWalk;
-use crate::pieces::{ItemPiece, RangePiece};
+use crate::pieces::RangePiece;
+use crate::prefix_pieces::{add_items, add_lent, add_range, add_run, run_place};
 use crate::scanned::ScannedWalk;
 use batch_eval::Registers;
 use lambda_expr::FaultKind;
-use reduce_ops::{Op, Partial};
 use std::alloc::Global;
 use std::marker::Model;
-use trace::{Chunk, End, Fault, Item, MAX_SOURCE_SIZE, NoMemory, SourceItems};
+use trace::{Chunk, End, Fault, NoMemory, SourceItems};
 
 /// The items of a piece for a prefix, the stage with this number, and how the walk ended. Contracts see just that.
 ///
@@ -62,20 +61,6 @@ impl<'a> PrefixPart<'a> {
             pieces: Vec::new(alloc),
             end: End::Done,
         }
-    }
-
-    /// Adds one more item. If the allocation fails, the part stays as it was.
-    pub(crate) fn push(&mut self, item: Item) -> Result<(), NoMemory>
-        requires { self.old.walk.ending ≡ end.Done }
-        ensures ok { OnOk result (self.new ≡ scan_append self.old (trace (item ∷ []) end.Done)) }
-        ensures err { OnErr result (self.new ≡ self.old) }
-    {
-        add_items(
-            &mut self.pieces,
-            self.prefix.op,
-            &ItemPiece { items: &[item] },
-            &[item.value],
-        )
     }
 
     /// Adds the items of a source, which have these values. If the allocation fails, the part stays as it was.
@@ -144,13 +129,6 @@ impl<'a> PrefixPart<'a> {
         }
     }
 
-    /// How the walk ended.
-    pub(crate) fn end(&self) -> End
-        ensures { result ≡ self.now.walk.ending }
-    {
-        self.end
-    }
-
     /// Goes on with another part of the same prefix. It moves the pieces of `right` and no item.
     ///
     /// A part that ends in a fault stays as it is. If the allocation fails, `right` comes back and the part stays as it was.
@@ -185,6 +163,38 @@ impl<'a> PrefixPart<'a> {
         match end {
             End::Fault(fault) => Ok(faulted(alloc, fault)),
             End::Done => scanned(alloc, prefix, stage, pieces),
+        }
+    }
+}
+
+impl<'a> EndPart for PrefixPart<'a> {
+    ghost as_part = { part.Prefix };
+
+    fn push_all<I: SourceItems>(
+        &mut self,
+        _last: LastStage<'_>,
+        source: &I,
+        values: &[i64],
+        _room: &mut [i64],
+    ) -> Result<(), NoMemory> {
+        PrefixPart::push_all(self, source, values)
+    }
+
+    fn end_with(&mut self, ending: End) {
+        PrefixPart::end_with(self, ending);
+    }
+
+    fn is_settled(&self) -> bool {
+        is_fault(self.end)
+    }
+
+    fn merge(
+        mut self,
+        right: PrefixPart<'a>,
+    ) -> Result<PrefixPart<'a>, (PrefixPart<'a>, PrefixPart<'a>)> {
+        match self.append(right) {
+            Ok(()) => Ok(self),
+            Err(right) => Err((self, right)),
         }
     }
 }
@@ -226,168 +236,4 @@ fn ends_after(range: Option<(u64, u64)>, count: u64) -> bool
         Some((_, to)) => count < to,
         None => false,
     }
-}
-
-/// How many items there are at least whose values are stored without their places, if these count up.
-const LEAST_RUN: usize = 16;
-
-/// The place of the first of this many items, if the places count up and there are enough of them.
-fn run_place<I: SourceItems>(source: &I, count: usize) -> Option<u64>
-    requires count { length (I.items source.now) ≡ count }
-    ensures items { IfSome result (λ place. I.items source.now ≡ placed place (map (λ x. x.value) (I.items source.now))) }
-    ensures places { IfSome result (λ place. place + count ≤ 2 ^ 62) }
-    ensures few { IfSome result (λ _. count ≤ 4096) }
-{
-    if count < LEAST_RUN || count > MOST_ITEMS {
-        return None;
-    }
-    let place = source.item_at(0).origin;
-    if place > MAX_SOURCE_SIZE - count as u64 {
-        return None;
-    }
-    for position in 0..count as u64 {
-        if source.item_at(position).origin != place + position {
-            return None;
-        }
-    }
-    Some(place)
-}
-
-/// Adds values at places that count up from this one to the last piece, or as a piece of their own.
-fn add_run(
-    pieces: &mut Vec<FoldedPiece<'_>>,
-    op: Op,
-    place: u64,
-    values: &[i64],
-) -> Result<(), NoMemory>
-    requires folds { All (IsFolded op) pieces.old.items }
-    requires few { length values.now ≤ 4096 }
-    requires places { place + length values.now ≤ 2 ^ 62 }
-    ensures ok { OnOk result (all_items pieces.new.items ≡ all_items pieces.old.items ++ placed place values.now) }
-    ensures err { OnErr result (all_items pieces.new.items ≡ all_items pieces.old.items) }
-    ensures folds { All (IsFolded op) pieces.new.items }
-{
-    if add_run_to_last(pieces, op, place, values)? {
-        return Ok(());
-    }
-    let piece = FoldedPiece::stored(*pieces.allocator(), op, place, values)?;
-    pieces.push(piece)?;
-    Ok(())
-}
-
-/// The same to the last piece, or `false` if it doesn't take them.
-fn add_run_to_last(
-    pieces: &mut Vec<FoldedPiece<'_>>,
-    op: Op,
-    place: u64,
-    values: &[i64],
-) -> Result<bool, NoMemory>
-    requires folds { All (IsFolded op) pieces.old.items }
-    requires few { length values.now ≤ 4096 }
-    requires places { place + length values.now ≤ 2 ^ 62 }
-    ensures added { result ≡ Ok true → all_items pieces.new.items ≡ all_items pieces.old.items ++ placed place values.now }
-    ensures other { (result ≡ Ok true → ⊥) → all_items pieces.new.items ≡ all_items pieces.old.items }
-    ensures folds { All (IsFolded op) pieces.new.items }
-{
-    match pieces.last_mut() {
-        Some(piece) => piece.add_run(op, place, values),
-        None => Ok(false),
-    }
-}
-
-/// Adds the items of a source, which have these values, to the last piece, or as a piece of their own.
-fn add_items<I: SourceItems>(
-    pieces: &mut Vec<FoldedPiece<'_>>,
-    op: Op,
-    source: &I,
-    values: &[i64],
-) -> Result<(), NoMemory>
-    requires folds { All (IsFolded op) pieces.old.items }
-    requires values { map (λ x. x.value) (I.items source.now) ≡ values.now }
-    ensures ok { OnOk result (all_items pieces.new.items ≡ all_items pieces.old.items ++ I.items source.now) }
-    ensures err { OnErr result (all_items pieces.new.items ≡ all_items pieces.old.items) }
-    ensures folds { All (IsFolded op) pieces.new.items }
-{
-    let count = values.len();
-    if count > MOST_ITEMS {
-        return Err(NoMemory);
-    }
-    let fold = folded(op, false, values);
-    if add_to_last(pieces, op, source, count, fold)? {
-        return Ok(());
-    }
-    let piece = FoldedPiece::listed(*pieces.allocator(), op, source, fold)?;
-    pieces.push(piece)?;
-    Ok(())
-}
-
-/// The same to the last piece, or `false` if it doesn't take them.
-fn add_to_last<I: SourceItems>(
-    pieces: &mut Vec<FoldedPiece<'_>>,
-    op: Op,
-    source: &I,
-    count: usize,
-    fold: Partial,
-) -> Result<bool, NoMemory>
-    requires folds { All (IsFolded op) pieces.old.items }
-    requires fold { (fold.op ≡ op) × FoldStands fold (trace (I.items source.now) end.Done) }
-    requires count { length (I.items source.now) ≡ count }
-    requires few { count ≤ 4096 }
-    ensures added { result ≡ Ok true → all_items pieces.new.items ≡ all_items pieces.old.items ++ I.items source.now }
-    ensures other { (result ≡ Ok true → ⊥) → all_items pieces.new.items ≡ all_items pieces.old.items }
-    ensures folds { All (IsFolded op) pieces.new.items }
-{
-    match pieces.last_mut() {
-        Some(piece) => piece.add(op, source, count, fold),
-        None => Ok(false),
-    }
-}
-
-/// Adds what maps make of values that are lent, at places that count up from this one, in pieces of 4,096.
-fn add_lent<'a>(
-    pieces: &mut Vec<FoldedPiece<'a>>,
-    op: Op,
-    maps: Maps<'a>,
-    place: u64,
-    values: &'a [i64],
-    registers: &mut Registers,
-) -> Result<(), NoMemory>
-    requires folds { All (IsFolded op) pieces.old.items }
-    requires places { place + length values.now ≤ 2 ^ 62 }
-    ensures ok { OnOk result (all_items pieces.new.items ≡ all_items pieces.old.items ++ imaged (stages_of maps.entry.stages.now) (placed place values.now)) }
-    ensures folds { All (IsFolded op) pieces.new.items }
-{
-    let mut taken = 0;
-    while taken < values.len() {
-        let count = MOST_ITEMS.min(values.len() - taken);
-        let part = &values[taken..taken + count];
-        let piece = FoldedPiece::lent(op, maps, place + taken as u64, part, registers);
-        pieces.push(piece)?;
-        taken += count;
-    }
-    Ok(())
-}
-
-/// Adds what maps make of the integers of a range, in pieces of 4,096.
-fn add_range<'a>(
-    pieces: &mut Vec<FoldedPiece<'a>>,
-    op: Op,
-    maps: Maps<'a>,
-    range: &RangePiece,
-    registers: &mut Registers,
-) -> Result<(), NoMemory>
-    requires folds { All (IsFolded op) pieces.old.items }
-    ensures ok { OnOk result (all_items pieces.new.items ≡ all_items pieces.old.items ++ imaged (stages_of maps.entry.stages.now) (placed range.now.origin (counted range.now.first range.now.count))) }
-    ensures folds { All (IsFolded op) pieces.new.items }
-{
-    let mut taken = 0u64;
-    while taken < range.count {
-        let count = (MOST_ITEMS as u64).min(range.count - taken);
-        let first = range.first + taken as i64;
-        let place = range.origin + taken;
-        let piece = FoldedPiece::counted(op, maps, place, first, count, registers);
-        pieces.push(piece)?;
-        taken += count;
-    }
-    Ok(())
 }

@@ -8,8 +8,8 @@ use crate::leaves::unwalked;
 use crate::moves::all_keep;
 use crate::part::Part;
 use crate::segment::Segment;
-use crate::source::Source;
-use lambda_expr::Env;
+use crate::source::Walked;
+use crate::windows::Window;
 use std::alloc::Global;
 
 /// For how many values room is taken at most: 512 kB. A part with more of them grows by doubling from there on.
@@ -22,23 +22,21 @@ const MOST: u64 = 65_536;
 pub(crate) fn with_room<'p>(
     alloc: Global,
     segment: &'p Segment,
-    source: &Source,
-    from: u64,
-    to: Option<u64>,
-    env: &Env,
+    walked: Walked,
+    window: Window,
 ) -> Part<'p>
-    ensures stands { StandsFor (segment_in segment.now) env.now result nothing }
+    ensures stands { StandsFor (segment_in segment.now) walked.entry.env.now result nothing }
     ensures keeps { keeps_items result ≡ end_keeps_items (end_in segment.now.end) }
 {
-    let part = unwalked(alloc, segment, env);
+    let part = unwalked(alloc, segment, walked.env);
     if !all_keep(&segment.stages, false) {
         return part;
     }
-    let end = match to {
+    let end = match window.to {
         Some(to) => to,
-        None => source.size(),
+        None => walked.source.size(),
     };
-    reserved(part, end.saturating_sub(from).min(MOST) as usize)
+    reserved(part, end.saturating_sub(window.from).min(MOST) as usize)
 }
 
 /// The same part. If it is that of an array, it has room for this many more values, if there is memory for it.

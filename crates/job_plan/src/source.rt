@@ -45,9 +45,9 @@ pub enum Source<'g, 'a, 'c> {
 
 /// What is walked, with the values of the job's names.
 #[derive(Clone, Copy)]
-pub(crate) struct Walked<'g, 'a, 'c, 'e> {
-    pub(crate) source: Source<'g, 'a, 'c>,
-    pub(crate) env: &'e Env,
+pub struct Walked<'g, 'a, 'c, 'e> {
+    pub source: Source<'g, 'a, 'c>,
+    pub env: &'e Env,
 }
 
 impl<'g, 'a, 'c> Source<'g, 'a, 'c> {

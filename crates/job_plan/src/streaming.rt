@@ -8,15 +8,15 @@ ghost use Rattle.job_plan.specs.Parts.{GoesOnFrom, StandsFor, end_in, may_search
 ghost use Rattle.job_plan.specs.Plans.{last_stage, walk_of};
 
 use crate::given::GivenWalk;
-use crate::leaves::{Ending, PartSink, first_part, unwalked};
+use crate::leaves::{first_part, unwalked};
 use crate::links::{Link, push_links};
 use crate::nest::{DEEPEST, Deepest, Nest};
 use crate::outcome::Outcome;
 use crate::part::Part;
+use crate::part_sink::{Ending, PartSink};
 use crate::segment::Segment;
 use crate::source::{Source, Walked};
 use batch_eval::Registers;
-use lambda_expr::Env;
 use std::alloc::Global;
 use std::marker::{Brand, PhantomData};
 use trace::{Chunk, End, NoMemory};
@@ -28,17 +28,12 @@ pub fn streamed<'p>(
     alloc: Global,
     segments: &'p [Segment],
     last: &'p Segment,
-    source: &Source,
-    env: &Env,
+    walked: Walked,
     registers: &mut Registers,
 ) -> Result<Part<'p>, NoMemory>
-    ensures { IfOk result (λ part. StandsFor (segment_in last.now) env.now part (linked (first_links (segments_in segments.now)) env.now (walk_in source.now))) }
+    ensures { IfOk result (λ part. StandsFor (segment_in last.now) walked.entry.env.now part (linked (first_links (segments_in segments.now)) walked.entry.env.now (walk_in walked.entry.source))) }
 {
-    let none = unwalked(alloc, last, env);
-    let walked = Walked {
-        source: *source,
-        env,
-    };
+    let none = unwalked(alloc, last, walked.env);
     streamed_from(alloc, none, segments, last, walked, registers)
 }
 
@@ -47,18 +42,13 @@ pub fn streamed_in_order<'p>(
     alloc: Global,
     segments: &'p [Segment],
     last: &'p Segment,
-    source: &Source,
-    env: &Env,
+    walked: Walked,
     registers: &mut Registers,
 ) -> Result<Part<'p>, NoMemory>
-    ensures stands { IfOk result (λ part. StandsFor (segment_in last.now) env.now part (linked (first_links (segments_in segments.now)) env.now (walk_in source.now))) }
+    ensures stands { IfOk result (λ part. StandsFor (segment_in last.now) walked.entry.env.now part (linked (first_links (segments_in segments.now)) walked.entry.env.now (walk_in walked.entry.source))) }
     ensures kind { IfOk result (λ part. may_search part ≡ false) }
 {
-    let none = first_part(alloc, last, env);
-    let walked = Walked {
-        source: *source,
-        env,
-    };
+    let none = first_part(alloc, last, walked.env);
     streamed_from(alloc, none, segments, last, walked, registers)
 }
 

@@ -106,7 +106,7 @@ fn walk_segment<'p>(
     if let Some(outcome) = part.finish(alloc, env)? {
         return Ok(outcome);
     }
-    let part = leaf_in_order(alloc, segment, source, env, registers)?;
+    let part = leaf_in_order(alloc, segment, walked, registers)?;
     match part.finish(alloc, env)? {
         Some(outcome) => Ok(outcome),
         None => Ok(Outcome::Answer(Answer::Number(0))),
@@ -127,15 +127,7 @@ fn walk_piece<'p>(
 {
     let Window { from, to } = window;
     match tree {
-        SplitTree::Leaf => leaf_with(
-            alloc,
-            segment,
-            &walked.source,
-            from,
-            to,
-            walked.env,
-            registers,
-        ),
+        SplitTree::Leaf => leaf_with(alloc, segment, walked, window, registers),
         SplitTree::Node(size, front, back) => {
             let middle = middle_of(from, to, *size);
             let first = Window {

@@ -19,9 +19,9 @@ use slice_ops::Slice;
 
 /// Positions of a list: from one on, up to, not with, a second one, if there is one.
 #[derive(Clone, Copy)]
-pub(crate) struct Window {
-    pub(crate) from: u64,
-    pub(crate) to: Option<u64>,
+pub struct Window {
+    pub from: u64,
+    pub to: Option<u64>,
 }
 
 impl Window {

@@ -3,7 +3,7 @@
 use crate::fixture::{plan_of, shown};
 use batch_eval::Registers;
 use columns::Columns;
-use job_plan::{JobPlan, Outcome, Source, streamed};
+use job_plan::{JobPlan, Outcome, Source, Walked, streamed};
 use lambda_expr::Env;
 use std::alloc::Global;
 use std::test::Fail;
@@ -28,15 +28,11 @@ fn streams(alloc: Global, job: &JobPlan, want: &str) -> Result<bool, Fail> {
     };
     let env = Env::empty(alloc);
     let mut registers = Registers::new(alloc);
-    let source = Source::of_selected(job);
-    let part = streamed(
-        alloc,
-        job.later_segments(),
-        last,
-        &source,
-        &env,
-        &mut registers,
-    )?;
+    let walked = Walked {
+        source: Source::of_selected(job),
+        env: &env,
+    };
+    let part = streamed(alloc, job.later_segments(), last, walked, &mut registers)?;
     match part.finish(alloc, &env)? {
         Some(Outcome::Answer(answer)) => Ok(
             job.streams() && shown(alloc, &answer)?.as_str() == want,

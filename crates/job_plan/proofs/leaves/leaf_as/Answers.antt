@@ -4,7 +4,7 @@ use Rattle.trace.specs.declared.item.End.{End}
 use Rattle.trace.specs.declared.item.End.TheVariants as end
 use Rattle.trace.specs.Sinks.{IsFed}
 use Rattle.trace.specs.Trace.{Trace, trace, append}
-use Rattle.job_plan.specs.declared.leaves.PartSink.{PartSink}
+use Rattle.job_plan.specs.declared.part_sink.PartSink.{PartSink}
 use Rattle.job_plan.specs.declared.part.Part.{Part}
 use Rattle.job_plan.specs.Parts.{EndsFor, HasTaken, StandsFor, end_in, is_settled, may_search, segment_in, walk_in}
 use Rattle.job_plan.specs.Pieces.{elements, piece_of}
@@ -16,7 +16,7 @@ use Rattle.job_plan.proofs.leaves.leaf_as.Goals as goal
 
 pub returns-then-is_settled : goal.returns-then-is_settled
 returns-then-is_settled g c = record {
-  stands = λ before h. settled_first (segment_in c.args.segment.now) c.args.env.now c.args.part before (walk_in c.args.source.now) c.args.window.from c.args.window.to (sym c.is_settled.ensures ∙ c.if-is_settled.true) h;
+  stands = λ before h. settled_first (segment_in c.args.segment.now) c.args.walked.env.now c.args.part before (walk_in c.args.walked.source) c.args.window.from c.args.window.to (sym c.is_settled.ensures ∙ c.if-is_settled.true) h;
   kind = refl;
   memory = tt;
 }
@@ -28,10 +28,10 @@ returns g c =
     let f = end_in g.K.Ending.last in
     let m = last_stage s in
     let n = g.K.Ending.stage in
-    let env = c.args.env.now in
+    let env = c.args.walked.env.now in
     let named = g.K.Ending.env in
     let begun = g.K.Ending.begun in
-    let t = walk_in c.args.source.now in
+    let t = walk_in c.args.walked.source in
     let from = c.args.window.from in
     let to = c.args.window.to in
     let len : c.len.result ≡ length c.args.segment.now.stages.items = search rules in
@@ -42,7 +42,7 @@ returns g c =
     let walk = walk_of s env (trace (elements from to t.items) end.Done) in
     let has = λ (sink : PartSink g.row.K.Denot g.K.Ending) (items : List Item). (sink.segment.now.end ≡ g.K.Ending.last) × (sink.stage ≡ n) × (sink.env.now ≡ named) × HasTaken f n named begun sink.part items in
     let piped_fed = c.in_ok-feed.ensures.fed no_items (c.requires.last, stage ∙ c.requires.stage, c.requires.env, first) in
-    let fed = subst (λ (u : Trace). IsFed has no_items u (Ok c.in_ok-feed.field-0) c.feed.new.sink) (c.pipeline.ensures (trace (elements from to t.items) end.Done)) piped_fed in
+    let fed = subst (λ (u : Trace). IsFed has no_items u (Ok c.in_ok-feed.field-0) c.feed.new.sink) (c.pipeline-line.ensures (trace (elements from to t.items) end.Done)) piped_fed in
     let part = c.feed.new.sink.part in
     record {
       stands = λ before h.

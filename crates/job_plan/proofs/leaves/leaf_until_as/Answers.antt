@@ -6,7 +6,7 @@ use Rattle.trace.specs.declared.feeding.Fed.TheVariants as fed
 use Rattle.trace.specs.Sinks.{IsFed}
 use Rattle.trace.specs.Trace.{Trace, trace, nothing, append}
 use Rattle.trace.proofs.JoinLemmas.{pipe_ended}
-use Rattle.job_plan.specs.declared.leaves.PartSink.{PartSink}
+use Rattle.job_plan.specs.declared.part_sink.PartSink.{PartSink}
 use Rattle.job_plan.specs.declared.part.Part.{Part}
 use Rattle.job_plan.specs.Parts.{EndsFor, HasTaken, StandsFor, end_in, is_settled, segment_in, walk_in}
 use Rattle.job_plan.specs.Pieces.{elements, piece_of}

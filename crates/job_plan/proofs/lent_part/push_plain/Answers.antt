@@ -21,6 +21,6 @@ returns c =
     let few : length vs ≤ 4611686018427387904 = ltb-false 4611686018427387904 (length vs) fits in
     let l = length-placed 0 vs in
     let gs = stages_of c.args.maps.stages.now in
-    let same = ap (imaged gs) (ap (λ (b : Bool). elements c.args.from c.args.to (elements plain.window.from plain.window.to (if b then too_long else trace (placed 0 vs) end.Done).items)) fits
+    let same = ap (imaged gs) (ap (λ (b : Bool). elements c.args.window.from c.args.window.to (elements plain.window.from plain.window.to (if b then too_long else trace (placed 0 vs) end.Done).items)) fits
     ∙ c.within-selected.ensures (placed 0 vs) (omega arith)) in
     subst (λ (ys : List Item). OnOk c.push_sources.result (c.push_sources.new.part ≡ scan_append c.args.part.now (trace ys end.Done))) (sym same) c.push_sources.ensures

@@ -10,10 +10,10 @@ feed-requires-clause-begun g c =
     let k = g.K.LinkStart in
     let h = g.S.LongSink.has_taken in
     let f = g.S.LongSink.flow in
-    let segment = c.args.link.now.segment.now in
+    let segment = c.args.chain.last.now.segment.now in
     let len : c.len.result ≡ length segment.stages.items = search rules in
     let stage = ap (λ n. segment.first_stage + n) (len ∙ sym (length-stages_of segment.stages.items)) in
-    let d = rest_of c.args.link.now.rest in (
+    let d = rest_of c.args.chain.last.now.rest in (
       c.requires.next,
       stage ∙ c.requires.stage,
       c.requires.env,

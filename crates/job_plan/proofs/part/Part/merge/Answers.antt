@@ -1,17 +1,18 @@
-use Rattle.std.proofs.Common.{subst}
+use Rattle.lambda_expr.specs.Earlier.{Numbers}
+use Rattle.trace.specs.Trace.{Trace, append}
 use Rattle.job_plan.specs.declared.part.Part.{Part}
-use Rattle.job_plan.specs.declared.part.Part.TheVariants as part
-use Rattle.job_plan.specs.Parts.{StandsFor}
-use Rattle.job_plan.specs.Plans.{walk_of, last_stage}
-use Rattle.job_plan.proofs.PartLemmas.{on_walks, folds_merge}
+use Rattle.job_plan.specs.Parts.{EndsFor, StandsFor}
+use Rattle.job_plan.specs.Plans.{AbstractEnd, AbstractSegment, walk_of, last_stage}
+use Rattle.job_plan.proofs.PartLemmas.{on_walks}
+use Rattle.job_plan.proofs.PassageLemmas.{if_ok_map}
 use Rattle.job_plan.proofs.part.Part.merge.Goals as goal
 
-pub returns-in-Fold-right-clause-ok : goal.returns-in-Fold-right-clause-ok
-returns-in-Fold-right-clause-ok c s env a b p q =
-    let left = c.in-Fold.left in
-    let right = c.in-Fold-right.right in
-    let u : StandsFor s env (part.Fold left) a = subst (λ (x : Part). StandsFor s env x a) c.in-Fold.is p in
-    let t : StandsFor s env (part.Fold right) b = subst (λ (x : Part). StandsFor s env x b) c.in-Fold-right.is q in
-    on_walks s env (part.Fold left) (part.Fold right) (part.Fold c.merge.result) a b
-    (folds_merge s.ending (last_stage s) env (walk_of s env a) (walk_of s env b) left right c.merge.result
-    (λ f i k x y. c.merge.ensures f i k (walk_of s env a) (walk_of s env b) x y)) u t
+pub returns-clause-ok : goal.returns-clause-ok
+returns-clause-ok c =
+    let p = c.args.self in
+    let q = c.args.right in
+    if_ok_map (λ (r : Part). (e : AbstractEnd) (n : _) (env : Numbers) (a b : Trace) → EndsFor e n env p a → EndsFor e n env q b → EndsFor e n env r (append a b))
+    (λ (r : Part). (s : AbstractSegment) (env : Numbers) (a b : Trace) → StandsFor s env p a → StandsFor s env q b → StandsFor s env r (append a b))
+    c.merge.result
+    (λ r merged s env a b. on_walks s env p q r a b (merged s.ending (last_stage s) env (walk_of s env a) (walk_of s env b)))
+    c.merge.ensures.ok

@@ -1,0 +1,116 @@
+//! What is asked of the parts that pieces give to an end of a segment, whichever kind of end it is.
+
+ghost use Rattle.batch_eval.specs.Batches.{flagged_values};
+ghost use Rattle.std.specs.Prelude.{◌≡◌, ◌<◌, ◌≤◌, ℕ, false, true, List, [], ◌∷◌, length, map, IfOk, IfErr, OnOk, OnErr};
+ghost use Rattle.lambda_expr.specs.Earlier.{Numbers};
+ghost use Rattle.trace.specs.Trace.{Trace, trace, append};
+ghost use Rattle.trace.specs.declared.item.End.TheVariants as end;
+ghost use Rattle.trace.specs.declared.item.Item.{Item as item};
+ghost use Rattle.job_plan.specs.Parts.{EndsFor, end_in, is_fault, is_settled, keeps_items, may_search};
+ghost use Rattle.job_plan.specs.Plans.{AbstractEnd};
+ghost use Rattle.job_plan.specs.declared.part.Part.{Part as any_part};
+
+use crate::ends::SegmentEnd;
+use crate::pieces::ItemPiece;
+use lambda_expr::Env;
+use trace::{End, Item, NoMemory, SourceItems};
+
+/// The end of a segment, its number as a stage, and the values of the job's names.
+#[derive(Clone, Copy)]
+pub(crate) struct LastStage<'a> {
+    pub(crate) end: &'a SegmentEnd,
+    pub(crate) number: u32,
+    pub(crate) env: &'a Env,
+}
+
+/// What a piece gives to an end of one kind: it takes items in order, and the parts of pieces side by side merge.
+///
+/// `Part` is of any kind, and does what its kind does.
+pub(crate) trait EndPart: Drop + Sized {
+    // the part as one of any kind: `EndsFor` says of that for which walks it stands
+    ghost as_part: { Self → any_part };
+
+    /// Adds one more item after the others, as a source of one, unless the kind has a shorter way.
+    ///
+    /// If the allocation fails, the part stays as it was.
+    fn push(&mut self, last: LastStage<'_>, item: Item) -> Result<(), NoMemory>
+        requires { is_settled (as_part self.old) ≡ false }
+        ensures ok { OnOk result ((t : Trace) → EndsFor (end_in last.entry.end.now) last.entry.number last.entry.env.now (as_part self.old) t
+            → EndsFor (end_in last.entry.end.now) last.entry.number last.entry.env.now (as_part self.new) (append t (trace (item ∷ []) end.Done))) }
+        ensures err { OnErr result (self.new ≡ self.old) }
+        ensures memory { OnErr result (keeps_items (as_part self.old) ≡ true) }
+        ensures kind { may_search (as_part self.new) ≡ may_search (as_part self.old) }
+        ensures keeps { keeps_items (as_part self.new) ≡ keeps_items (as_part self.old) }
+    {
+        let one = ItemPiece { items: &[item] };
+        self.push_all(last, &one, &[item.value], &mut [])
+    }
+
+    /// Adds the items of a source, which have these values, after the others.
+    ///
+    /// The test of a match or a `takeWhile` goes over all values first, as far as the room is enough for it. If the
+    /// allocation fails, the part stays as it was. Without items it takes no memory.
+    fn push_all<I: SourceItems>(
+        &mut self,
+        last: LastStage<'_>,
+        source: &I,
+        values: &[i64],
+        room: &mut [i64],
+    ) -> Result<(), NoMemory>
+        requires going { is_settled (as_part self.old) ≡ false }
+        requires values { map (λ x. x.value) (I.items source.now) ≡ values.now }
+        ensures ok { OnOk result ((t : Trace) → EndsFor (end_in last.entry.end.now) last.entry.number last.entry.env.now (as_part self.old) t
+            → EndsFor (end_in last.entry.end.now) last.entry.number last.entry.env.now (as_part self.new) (append t (trace (I.items source.now) end.Done))) }
+        ensures err { OnErr result (self.new ≡ self.old) }
+        ensures refused { OnErr result (0 < length (I.items source.now)) }
+        ensures memory { OnErr result (keeps_items (as_part self.old) ≡ true) }
+        ensures kind { may_search (as_part self.new) ≡ may_search (as_part self.old) }
+        ensures keeps { keeps_items (as_part self.new) ≡ keeps_items (as_part self.old) };
+
+    /// Whether the items of lanes with flags are to be given with their flags: to a fold, which then moves no value, and to
+    /// `findFirst`, which the first flag decides.
+    fn takes_flags(&self, _end: &SegmentEnd) -> bool {
+        false
+    }
+
+    /// Adds the values whose flag isn't 0, if the end is a fold by an operator that has an identity, and answers whether it is.
+    fn push_flagged(&mut self, _values: &[i64], _flags: &[i64]) -> bool
+        requires open { is_settled (as_part self.old) ≡ false }
+        requires flagged { length _flags.now ≤ length _values.now }
+        ensures taken { result ≡ true → (e : AbstractEnd) (stage : ℕ) (env : Numbers) (t : Trace) (xs : List item)
+            → map (λ x. x.value) xs ≡ flagged_values _values.now _flags.now (length _flags.now)
+            → EndsFor e stage env (as_part self.old) t → EndsFor e stage env (as_part self.new) (append t (trace xs end.Done)) }
+        ensures open { is_settled (as_part self.new) ≡ false }
+        ensures other { result ≡ false → self.new ≡ self.old }
+        ensures kind { may_search (as_part self.new) ≡ may_search (as_part self.old) }
+        ensures keeps { keeps_items (as_part self.new) ≡ keeps_items (as_part self.old) }
+    {
+        false
+    }
+
+    /// Ends the piece so, unless it is settled. It takes no memory.
+    fn end_with(&mut self, ending: End)
+        ensures stands { (e : AbstractEnd) (stage : ℕ) (env : Numbers) (t : Trace) → EndsFor e stage env (as_part self.old) t
+            → EndsFor e stage env (as_part self.new) (append t (trace [] ending)) }
+        ensures kind { may_search (as_part self.new) ≡ may_search (as_part self.old) };
+
+    /// Whether nothing after the piece matters: its end takes no more items, or a fault has ended it.
+    fn is_settled(&self) -> bool
+        ensures { result ≡ is_settled (as_part self.now) };
+
+    /// The part of two pieces side by side. A fault of the left one ends both.
+    ///
+    /// If the allocation fails, both parts come back.
+    fn merge(self, right: Self) -> Result<Self, (Self, Self)>
+        ensures ok { IfOk result (λ part. (e : AbstractEnd) (stage : ℕ) (env : Numbers) (a b : Trace) → EndsFor e stage env (as_part self) a
+            → EndsFor e stage env (as_part right) b → EndsFor e stage env (as_part part) (append a b)) }
+        ensures err { IfErr result (λ parts. (parts.0 ≡ self) × (parts.1 ≡ right)) }
+        ensures memory { OnErr result (keeps_items (as_part self) ≡ true) };
+}
+
+/// Whether a walk ended in a fault.
+pub(crate) fn is_fault(end: End) -> bool
+    ensures { result ≡ is_fault end }
+{
+    matches!(end, End::Fault(_))
+}

@@ -1,0 +1,139 @@
+//! A sink that puts the items of a walk into a part.
+
+ghost use Rattle.std.specs.Prelude.{◌≡◌, ℕ, List, [], false, true, map, OnErr};
+ghost use Rattle.trace.specs.Trace.{trace};
+ghost use Rattle.lambda_expr.specs.Earlier.{Numbers};
+ghost use Rattle.trace.specs.Sinks.{IsFed, flow_after};
+ghost use Rattle.trace.specs.declared.item.End.TheVariants as end;
+ghost use Rattle.trace.specs.declared.item.Item.{Item as item};
+ghost use Rattle.job_plan.specs.Parts.{HasTaken, end_in, flow_of, is_settled, keeps_items};
+ghost use Rattle.job_plan.specs.Arrays.{array};
+ghost use Rattle.job_plan.specs.declared.part.Part.{Part as part_kept};
+ghost use Rattle.job_plan.specs.declared.part.Part.TheVariants as kept;
+ghost use Rattle.job_plan.specs.declared.ends.SegmentEnd.{SegmentEnd};
+ghost use Rattle.job_plan.specs.declared.ends.SegmentEnd.TheVariants as ends;
+
+use crate::end_part::{EndPart, LastStage};
+use crate::part::Part;
+use crate::segment::Segment;
+use batch_eval::{Batch, BatchSink, FlaggedLanes, PlacedValues, accept_each_flagged};
+use lambda_expr::{BoolExpr, Env};
+use std::marker::{Brand, PhantomData};
+use trace::{Fed, Flow, Item, LongSink, NoMemory, SourceItems};
+
+/// The end of a walk, as contracts see it. No value has this type.
+pub(crate) trait Ending {
+    ghost last: { SegmentEnd };
+
+    ghost stage: { ℕ };
+
+    ghost env: { Numbers };
+
+    // the part that the walk goes on from
+    ghost begun: { part_kept };
+}
+
+impl Ending for Brand {
+    ghost last = { ends.Array };
+
+    ghost stage = { 0 };
+
+    ghost env = { [] };
+
+    ghost begun = { kept.Array (array [] end.Done) };
+}
+
+/// A sink that puts each item into a part, until nothing more matters.
+#[derive(Drop)]
+pub(crate) struct PartSink<'p, 'e, K: Ending> {
+    pub(crate) part: Part<'p>,
+    pub(crate) segment: &'p Segment,
+    pub(crate) stage: u32,
+    pub(crate) env: &'e Env,
+    pub(crate) of: PhantomData<K>,
+    ghost kind: { keeps_items part ≡ keeps_items K.begun },
+}
+
+impl<K: Ending> LongSink for PartSink<'_, '_, K> {
+    ghost has_taken = { λ sink items. (sink.segment.now.end ≡ K.last) × (sink.stage ≡ K.stage) × (sink.env.now ≡ K.env)
+        × HasTaken (end_in K.last) K.stage K.env K.begun sink.part items };
+
+    ghost flow = { λ sink. flow_of (is_settled sink.part) };
+
+    ghost takes_memory = { keeps_items K.begun ≡ true };
+
+    fn accept(&mut self, item: Item) -> Result<Flow, NoMemory> {
+        let last = LastStage {
+            end: &self.segment.end,
+            number: self.stage,
+            env: self.env,
+        };
+        self.part.push(last, item)?;
+        if self.part.is_settled() {
+            return Ok(Flow::Enough);
+        }
+        Ok(Flow::More)
+    }
+}
+
+impl<K: Ending> BatchSink for PartSink<'_, '_, K> {
+    fn accept_batch(&mut self, batch: &Batch, room: &mut [i64]) -> Result<Fed, NoMemory> {
+        let values = batch.values();
+        let last = LastStage {
+            end: &self.segment.end,
+            number: self.stage,
+            env: self.env,
+        };
+        accept_all(&mut self.part, last, batch, values, room)
+    }
+
+    fn accept_run(&mut self, run: PlacedValues<'_>, room: &mut [i64]) -> Result<Fed, NoMemory> {
+        let last = LastStage {
+            end: &self.segment.end,
+            number: self.stage,
+            env: self.env,
+        };
+        accept_all(&mut self.part, last, &run, run.values, room)
+    }
+
+    fn takes_flags(&self) -> bool {
+        self.part.takes_flags(&self.segment.end)
+    }
+
+    fn accept_flagged(&mut self, lanes: FlaggedLanes<'_>) -> Result<Fed, NoMemory> {
+        if self.part.push_flagged(lanes.values, lanes.flags) {
+            return Ok(Fed::More);
+        }
+        accept_each_flagged(lanes, self)
+    }
+
+    fn test(&self) -> Option<&BoolExpr> {
+        self.segment.end.test()
+    }
+}
+
+/// Puts the items of a source, which have these values, into a part, and answers whether it takes more.
+fn accept_all<I: SourceItems>(
+    part: &mut Part<'_>,
+    last: LastStage<'_>,
+    source: &I,
+    values: &[i64],
+    room: &mut [i64],
+) -> Result<Fed, NoMemory>
+    requires wants { is_settled part.old ≡ false }
+    requires values { map (λ x. x.value) (I.items source.now) ≡ values.now }
+    ensures fed { (begun : part_kept) (xs : List item) → HasTaken (end_in last.entry.end.now) last.entry.number last.entry.env.now begun part.old xs
+        → IsFed (HasTaken (end_in last.entry.end.now) last.entry.number last.entry.env.now begun) xs (trace (I.items source.now) end.Done) result part.new }
+    ensures flow { flow_of (is_settled part.new) ≡ flow_after result }
+    ensures memory { OnErr result (keeps_items part.old ≡ true) }
+    ensures keeps { keeps_items part.new ≡ keeps_items part.old }
+{
+    if values.is_empty() {
+        return Ok(Fed::More);
+    }
+    part.push_all(last, source, values, room)?;
+    if part.is_settled() {
+        return Ok(Fed::Enough);
+    }
+    Ok(Fed::More)
+}
