@@ -3,6 +3,7 @@ ghost use Rattle.std.specs.Prelude.{◌≡◌, ◌<◌, ◌≤◌, ℕ, IfOk};
 
 use crate::NoMemory;
 use crate::earlier::Earlier;
+use crate::piece::{Piece, SegmentInput};
 use crate::segments::{Begun, JobSegments};
 use early_stop::Never;
 use std::alloc::Global;
@@ -14,21 +15,18 @@ fn walk_whole<S: JobSegments>(
     jobs: &S,
     job: usize,
     segment: usize,
-    source: &S::Source,
-    given: &S::Given,
-    earlier: &Earlier<'_, S>,
+    input: SegmentInput<'_, S::Source, S::Given, Earlier<'_, S>>,
     scratch: &mut S::Scratch,
 ) -> Result<S::Part, NoMemory>
     requires job { job < S.job_count }
     requires segment { segment ≤ S.last_of job }
-    requires source { S.is_source job segment source.now }
-    requires given { S.is_given job given.now }
+    requires source { S.is_source job segment input.source.now }
+    requires given { S.is_given job input.given.now }
     ensures { IfOk result (λ part. S.stands_for job segment 0 (S.size_of job segment) part) }
 {
-    let size = jobs.size(job, segment, source, given);
-    jobs.leaf(
-        alloc, job, segment, source, 0, size, given, earlier, scratch, &mut Never,
-    )
+    let size = jobs.size(job, segment, input.source, input.given);
+    let all = Piece::all(job, segment, size);
+    jobs.leaf(alloc, all, input, scratch, &mut Never)
 }
 
 /// Walks all segments of a job, each as one piece. It enters the gate once, for all of the job's source.
@@ -49,29 +47,26 @@ fn walk_alone<S: JobSegments, G: Gate>(
     let last = jobs.last_segment(job);
     let mut scratch = jobs.scratch(alloc);
     for segment in 0..last {
-        let part = walk_whole(
-            alloc,
-            jobs,
-            job,
-            segment,
-            &source,
+        let input = SegmentInput {
+            source: &source,
             given,
             earlier,
-            &mut scratch,
-        )?;
+        };
+        let part = walk_whole(alloc, jobs, job, segment, input, &mut scratch)?;
         source = jobs.next_source(alloc, job, segment, part, given)?;
     }
-    let part = walk_whole(
-        alloc,
-        jobs,
-        job,
-        last,
-        &source,
+    let input = SegmentInput {
+        source: &source,
         given,
         earlier,
-        &mut scratch,
-    )?;
-    jobs.answer(alloc, job, part, &source, given, earlier, &mut scratch)
+    };
+    let part = walk_whole(alloc, jobs, job, last, input, &mut scratch)?;
+    let input = SegmentInput {
+        source: &source,
+        given,
+        earlier,
+    };
+    jobs.answer(alloc, job, part, input, &mut scratch)
 }
 
 /// Works a job out after the jobs before it, and calls the gate.

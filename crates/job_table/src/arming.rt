@@ -16,6 +16,13 @@ use pending_count::Node;
 use std::alloc::Global;
 use std::mem;
 
+/// The start nodes that are armed, the last job's first, and for each job those that wait for it.
+#[derive(Drop)]
+struct Armed {
+    starts: Vec<Start>,
+    waiting: Vec<Vec<Waiting>>,
+}
+
 /// No job waits for any of this many jobs.
 fn none_waiting(alloc: Global, jobs: usize) -> Result<Vec<Vec<Waiting>>, NoMemory>
     ensures { IfOk result (λ all. (i : ℕ) → count i (all_waiting all.items) ≡ 0) }
@@ -40,8 +47,8 @@ fn onward_of(alloc: Global, waiting: &[Waiting]) -> Result<Vec<Node>, NoMemory>
 }
 
 /// Takes out those that wait for a job.
-fn take_waiting(alloc: Global, all: &mut [Vec<Waiting>], job: usize) -> Vec<Waiting>
-    ensures { (i : ℕ) → count i (all_waiting all.new) + count i (nodes_in result.items) ≡ count i (all_waiting all.old) }
+fn take_waiting(alloc: Global, all: &mut Vec<Vec<Waiting>>, job: usize) -> Vec<Waiting>
+    ensures { (i : ℕ) → count i (all_waiting all.new.items) + count i (nodes_in result.items) ≡ count i (all_waiting all.old.items) }
 {
     if job < all.len() {
         mem::replace(&mut all[job], Vec::new(alloc))
@@ -51,8 +58,8 @@ fn take_waiting(alloc: Global, all: &mut [Vec<Waiting>], job: usize) -> Vec<Wait
 }
 
 /// Has a job wait for another one.
-fn wait_for(all: &mut [Vec<Waiting>], named: usize, job: Waiting) -> Result<(), NoMemory>
-    ensures { OnOk result ((i : ℕ) → count i (all_waiting all.new) ≤ count i (job.node ∷ []) + count i (all_waiting all.old)) }
+fn wait_for(all: &mut Vec<Vec<Waiting>>, named: usize, job: Waiting) -> Result<(), NoMemory>
+    ensures { OnOk result ((i : ℕ) → count i (all_waiting all.new.items) ≤ count i (job.node ∷ []) + count i (all_waiting all.old.items)) }
 {
     if named < all.len() {
         all[named].push(job)?;
@@ -61,8 +68,8 @@ fn wait_for(all: &mut [Vec<Waiting>], named: usize, job: Waiting) -> Result<(), 
 }
 
 /// Has a job wait for each of the jobs that it names.
-fn wait_for_all(all: &mut [Vec<Waiting>], names: &[usize], job: Waiting) -> Result<(), NoMemory>
-    ensures { OnOk result ((i : ℕ) → count i (all_waiting all.new) ≤ count i (copies (length names.now) job.node) + count i (all_waiting all.old)) }
+fn wait_for_all(all: &mut Vec<Vec<Waiting>>, names: &[usize], job: Waiting) -> Result<(), NoMemory>
+    ensures { OnOk result ((i : ℕ) → count i (all_waiting all.new.items) ≤ count i (copies (length names.now) job.node) + count i (all_waiting all.old.items)) }
 {
     for named in names {
         wait_for(all, *named, job)?;
@@ -77,29 +84,28 @@ fn arm_one<S: JobSegments>(
     counts: &TableCounts<S>,
     job: usize,
     seat: TableSeat<S>,
-    starts: &mut Vec<Start>,
-    all: &mut [Vec<Waiting>],
+    armed: &mut Armed,
 ) -> Result<Option<TableSeat<S>>, NoMemory>
     requires job { job < S.job_count }
     requires table { IsSeatOf counts.now seat }
-    requires has { HasStarts (job + 1) starts.old.items (all_waiting all.old) (view_of seat) }
-    ensures table { IfOk result (λ armed. IfSome armed (λ later. IsSeatOf counts.now later)) }
-    ensures count { IfOk result (λ armed. IfSome armed (λ _. length starts.new.items ≡ length starts.old.items + 1)) }
-    ensures has { IfOk result (λ armed. IfSome armed (λ later. HasStarts job starts.new.items (all_waiting all.new) (view_of later))) }
+    requires has { HasStarts (job + 1) armed.old.starts.items (all_waiting armed.old.waiting.items) (view_of seat) }
+    ensures table { IfOk result (λ found. IfSome found (λ later. IsSeatOf counts.now later)) }
+    ensures count { IfOk result (λ found. IfSome found (λ _. length armed.new.starts.items ≡ length armed.old.starts.items + 1)) }
+    ensures has { IfOk result (λ found. IfSome found (λ later. HasStarts job armed.new.starts.items (all_waiting armed.new.waiting.items) (view_of later))) }
 {
     let names = jobs.names(alloc, job)?;
     let Ok(pending) = u32::try_from(names.len()) else {
         return Err(NoMemory);
     };
-    let waiting = take_waiting(alloc, all, job);
+    let waiting = take_waiting(alloc, &mut armed.waiting, job);
     let onward = onward_of(alloc, &waiting)?;
     let (seat, drawn) = counts.claim(seat);
     let Some(node) = drawn else {
         return Ok(None);
     };
     let seat = counts.arm(seat, node, pending, &onward);
-    wait_for_all(all, &names, Waiting { job, node })?;
-    starts.push(Start {
+    wait_for_all(&mut armed.waiting, &names, Waiting { job, node })?;
+    armed.starts.push(Start {
         node,
         onward,
         waiting,
@@ -122,15 +128,17 @@ pub(crate) fn arm_all<S: JobSegments>(
     ensures has { IfOk result (λ armed. IfSome armed (λ a. HasStarts 0 a.1.items [] (view_of a.0))) }
 {
     let count = jobs.jobs();
-    let mut all = none_waiting(alloc, count)?;
-    let mut starts = Vec::new(alloc);
+    let mut armed = Armed {
+        starts: Vec::new(alloc),
+        waiting: none_waiting(alloc, count)?,
+    };
     let mut seat = first;
-    for armed in 0..count {
-        let job = count - 1 - armed;
-        let Some(later) = arm_one(alloc, jobs, counts, job, seat, &mut starts, &mut all)? else {
+    for done in 0..count {
+        let job = count - 1 - done;
+        let Some(later) = arm_one(alloc, jobs, counts, job, seat, &mut armed)? else {
             return Ok(None);
         };
         seat = later;
     }
-    Ok(Some((seat, starts)))
+    Ok(Some((seat, armed.starts)))
 }

@@ -6,6 +6,7 @@ ghost use Rattle.pending_count.specs.declared.place.Side.TheVariants.{Whole};
 ghost use Rattle.job_table.specs.Cuts.{begins, ends_at, Fits, IsInstead, IsPiece, IsSideOf, StandsWhole};
 ghost use Rattle.job_table.specs.CutLaws.{one_instead, stands_moved, stands_whole};
 
+use crate::piece::Piece;
 use crate::segments::JobSegments;
 use completer_tree::{Completer, Continuation, Failure, Handed, PartValue, TreeCounts, TreeSeat};
 use pending_count::{Place, Side};
@@ -23,12 +24,18 @@ pub struct CutPiece {
 
 impl CutPiece {
     /// A cut in the middle. If the two sides can't be equally long, the right one is one longer.
-    pub(crate) fn halves(job: usize, segment: usize, from: u64, to: u64) -> CutPiece
-        requires { from + 1 < to }
-        ensures of { (result.job ≡ job) × (result.segment ≡ segment) × (result.from ≡ from) × (result.to ≡ to) }
-        ensures within { (from < result.middle) × (result.middle < to) }
-        ensures middle { (result.middle - from ≤ to - result.middle) × (to - result.middle ≤ result.middle - from + 1) }
+    pub(crate) fn halves(piece: Piece) -> CutPiece
+        requires { piece.from + 1 < piece.to }
+        ensures of { (result.job ≡ piece.job) × (result.segment ≡ piece.segment) × (result.from ≡ piece.from) × (result.to ≡ piece.to) }
+        ensures within { (piece.from < result.middle) × (result.middle < piece.to) }
+        ensures middle { (result.middle - piece.from ≤ piece.to - result.middle) × (piece.to - result.middle ≤ result.middle - piece.from + 1) }
     {
+        let Piece {
+            job,
+            segment,
+            from,
+            to,
+        } = piece;
         CutPiece {
             job,
             segment,
@@ -47,15 +54,23 @@ pub(crate) fn is_left(place: &Place<CutPiece>) -> bool
     place.side == Side::Left
 }
 
-/// The positions of one side of a cut.
-pub(crate) fn range_of(place: &Place<CutPiece>) -> (u64, u64)
+/// One side of a cut.
+pub(crate) fn side_at(place: &Place<CutPiece>) -> Piece
     requires { place.now.side ≢ Whole }
-    ensures { (result.0 ≡ begins place.now.tag place.now.side) × (result.1 ≡ ends_at place.now.tag place.now.side) }
+    ensures of { (result.job ≡ place.now.tag.job) × (result.segment ≡ place.now.tag.segment) }
+    ensures positions { (result.from ≡ begins place.now.tag place.now.side) × (result.to ≡ ends_at place.now.tag place.now.side) }
 {
-    if is_left(place) {
-        (place.tag.from, place.tag.middle)
+    let cut = place.tag;
+    let (from, to) = if is_left(place) {
+        (cut.from, cut.middle)
     } else {
-        (place.tag.middle, place.tag.to)
+        (cut.middle, cut.to)
+    };
+    Piece {
+        job: cut.job,
+        segment: cut.segment,
+        from,
+        to,
     }
 }
 

@@ -5,16 +5,18 @@ ghost use Rattle.job_table.specs.Tasks.{HasKept};
 ghost use Rattle.job_table.specs.Waits.{nodes_in};
 
 use crate::NoMemory;
+use crate::busy::TableBusy;
 use crate::cut::{Merged, SegmentPart, TableKept, TablePart, TableSeat};
 use crate::earlier::Earlier;
+use crate::parts::size_of;
+use crate::piece::SegmentInput;
 use crate::places::{
     drop_source, hold_source, keep_answer, keep_given, keep_source, kept_given, source_in,
 };
 use crate::segments::{Begun, JobSegments};
 use crate::start::Waiting;
-use crate::task::{JobSeat, Running, TableJobSeat, TableSpare, TableTask, TableWhole, Task, Whole};
-use crate::watch::Watch;
-use crate::work::{JobWork, TableWork, size_of};
+use crate::task::{JobSeat, Running, TableJobSeat, TableTask, TableWhole, Task, Whole};
+use crate::work::{JobWork, TableWork};
 use worker_pool::{Gate, Spawn};
 
 /// The answer of a job, of the part of its whole last segment.
@@ -34,10 +36,12 @@ fn last_answer<S: JobSegments, R: Running>(
 {
     let earlier = Earlier::in_places(&work.places);
     if segment == 0 {
-        let source = work.jobs.first_source(job);
-        return work
-            .jobs
-            .answer(work.alloc, job, part, &source, given, &earlier, scratch);
+        let input = SegmentInput {
+            source: &work.jobs.first_source(job),
+            given,
+            earlier: &earlier,
+        };
+        return work.jobs.answer(work.alloc, job, part, input, scratch);
     }
     let Some(held) = hold_source(&work.places, job, segment) else {
         return Err(NoMemory);
@@ -45,8 +49,12 @@ fn last_answer<S: JobSegments, R: Running>(
     let Some(source) = source_in(&held, job, segment) else {
         return Err(NoMemory);
     };
-    work.jobs
-        .answer(work.alloc, job, part, source, given, &earlier, scratch)
+    let input = SegmentInput {
+        source,
+        given,
+        earlier: &earlier,
+    };
+    work.jobs.answer(work.alloc, job, part, input, scratch)
 }
 
 impl<'a, S: JobSegments, R: Running> JobWork<'a, S, TablePart<S>, TableKept<S>, R> {
@@ -70,16 +78,14 @@ impl<'a, S: JobSegments, R: Running> JobWork<'a, S, TablePart<S>, TableKept<S>, 
         gate: &G,
         begun: TableJobSeat<S, R>,
         spawn: &mut P,
-        scratch: &mut S::Scratch,
-        watch: &mut Watch<'_, S, R>,
-        spare: &mut Option<TableSpare<S, R>>,
+        busy: &mut TableBusy<'_, S, R>,
     ) -> Option<TableJobSeat<S, R>> {
         self.prepare(gate, begun.job);
         let Some(size) = size_of(self, begun.job, 0) else {
             return Some(begun);
         };
-        let whole = self.begin(gate, begun, 0, size, spawn, scratch, watch, spare);
-        self.go_on(gate, whole, spawn, scratch, watch, spare)
+        let whole = self.begin(gate, begun, 0, size, spawn, busy);
+        self.go_on(gate, whole, spawn, busy)
     }
 
     /// Frees what the segment went over, leaves what it gives in its place, and begins the next segment. `Err` if the job is over.
@@ -88,9 +94,7 @@ impl<'a, S: JobSegments, R: Running> JobWork<'a, S, TablePart<S>, TableKept<S>, 
         gate: &G,
         whole: TableWhole<S, R>,
         spawn: &mut P,
-        scratch: &mut S::Scratch,
-        watch: &mut Watch<'_, S, R>,
-        spare: &mut Option<TableSpare<S, R>>,
+        busy: &mut TableBusy<'_, S, R>,
     ) -> Result<Option<TableWhole<S, R>>, TableJobSeat<S, R>>
         requires { StandsWhole S.stands_for S.is_instead S.size_of whole.job.job whole.segment (λ x. x.found) whole.part }
         ensures { IfOk result (λ later. IfSome later (λ whole. StandsWhole S.stands_for S.is_instead S.size_of whole.job.job whole.segment (λ x. x.found) whole.part)) }
@@ -124,9 +128,9 @@ impl<'a, S: JobSegments, R: Running> JobWork<'a, S, TablePart<S>, TableKept<S>, 
             let Some(size) = size_of(self, job, segment + 1) else {
                 return Err(begun);
             };
-            return Ok(self.begin(gate, begun, segment + 1, size, spawn, scratch, watch, spare));
+            return Ok(self.begin(gate, begun, segment + 1, size, spawn, busy));
         }
-        if let Ok(answer) = last_answer(self, job, segment, part, given, scratch) {
+        if let Ok(answer) = last_answer(self, job, segment, part, given, &mut busy.scratch) {
             keep_answer(&self.places, gate, job, answer);
         }
         drop_source(&self.places, job, segment);
@@ -140,15 +144,13 @@ impl<'a, S: JobSegments, R: Running> JobWork<'a, S, TablePart<S>, TableKept<S>, 
         gate: &G,
         first: Option<TableWhole<S, R>>,
         spawn: &mut P,
-        scratch: &mut S::Scratch,
-        watch: &mut Watch<'_, S, R>,
-        spare: &mut Option<TableSpare<S, R>>,
+        busy: &mut TableBusy<'_, S, R>,
     ) -> Option<TableJobSeat<S, R>>
         requires { IfSome first (λ whole. StandsWhole S.stands_for S.is_instead S.size_of whole.job.job whole.segment (λ x. x.found) whole.part) }
     {
         let mut left = first;
         for _ in 0..u64::MAX {
-            match self.end_segment(gate, left.take()?, spawn, scratch, watch, spare) {
+            match self.end_segment(gate, left.take()?, spawn, busy) {
                 Ok(later) => left = later,
                 Err(over) => return Some(over),
             }
@@ -203,9 +205,7 @@ impl<'a, S: JobSegments, R: Running> JobWork<'a, S, TablePart<S>, TableKept<S>, 
         gate: &G,
         over: TableJobSeat<S, R>,
         spawn: &mut P,
-        scratch: &mut S::Scratch,
-        watch: &mut Watch<'_, S, R>,
-        spare: &mut Option<TableSpare<S, R>>,
+        busy: &mut TableBusy<'_, S, R>,
         depth: usize,
     ) -> Option<TableJobSeat<S, R>> {
         let JobSeat { seat, job, of: _ } = over;
@@ -217,7 +217,7 @@ impl<'a, S: JobSegments, R: Running> JobWork<'a, S, TablePart<S>, TableKept<S>, 
             seat = rest;
             if let Some(freed) = freed {
                 if let Some(other) = next.replace(freed) {
-                    self.hand_over(gate, other, spawn, scratch, watch, spare, depth);
+                    self.hand_over(gate, other, spawn, busy, depth);
                 }
             }
         }
@@ -232,15 +232,13 @@ impl<'a, S: JobSegments, R: Running> JobWork<'a, S, TablePart<S>, TableKept<S>, 
         gate: &G,
         begun: TableJobSeat<S, R>,
         spawn: &mut P,
-        scratch: &mut S::Scratch,
-        watch: &mut Watch<'_, S, R>,
-        spare: &mut Option<TableSpare<S, R>>,
+        busy: &mut TableBusy<'_, S, R>,
         depth: usize,
     ) {
         if let Err(Task::Begin(begun)) = spawn.push(Task::Begin(begun)) {
             if let Some(depth) = depth.checked_sub(1) {
-                let over = self.run_job(gate, begun, spawn, scratch, watch, spare);
-                self.finish(gate, over, spawn, scratch, watch, spare, depth);
+                let over = self.run_job(gate, begun, spawn, busy);
+                self.finish(gate, over, spawn, busy, depth);
             }
         }
     }
@@ -252,9 +250,7 @@ impl<'a, S: JobSegments, R: Running> JobWork<'a, S, TablePart<S>, TableKept<S>, 
         gate: &G,
         over: Option<TableJobSeat<S, R>>,
         spawn: &mut P,
-        scratch: &mut S::Scratch,
-        watch: &mut Watch<'_, S, R>,
-        spare: &mut Option<TableSpare<S, R>>,
+        busy: &mut TableBusy<'_, S, R>,
         depth: usize,
     ) {
         let mut left = over;
@@ -262,10 +258,10 @@ impl<'a, S: JobSegments, R: Running> JobWork<'a, S, TablePart<S>, TableKept<S>, 
             let Some(over) = left.take() else {
                 break;
             };
-            let Some(next) = self.end_job(gate, over, spawn, scratch, watch, spare, depth) else {
+            let Some(next) = self.end_job(gate, over, spawn, busy, depth) else {
                 break;
             };
-            left = self.run_job(gate, next, spawn, scratch, watch, spare);
+            left = self.run_job(gate, next, spawn, busy);
         }
     }
 
@@ -275,17 +271,15 @@ impl<'a, S: JobSegments, R: Running> JobWork<'a, S, TablePart<S>, TableKept<S>, 
         gate: &G,
         task: TableTask<S, R>,
         spawn: &mut P,
-        scratch: &mut S::Scratch,
-        watch: &mut Watch<'_, S, R>,
-        spare: &mut Option<TableSpare<S, R>>,
+        busy: &mut TableBusy<'_, S, R>,
     ) {
         let over = match task {
-            Task::Begin(begun) => self.run_job(gate, begun, spawn, scratch, watch, spare),
-            Task::Walk(piece) => {
-                let whole = self.walk(gate, piece, spawn, scratch, watch);
-                self.go_on(gate, whole, spawn, scratch, watch, spare)
+            Task::Begin(begun) => self.run_job(gate, begun, spawn, busy),
+            Task::Walk(side) => {
+                let whole = self.walk(gate, side, spawn, busy);
+                self.go_on(gate, whole, spawn, busy)
             }
         };
-        self.finish(gate, over, spawn, scratch, watch, spare, self.starts.len());
+        self.finish(gate, over, spawn, busy, self.starts.len());
     }
 }

@@ -9,10 +9,11 @@ ghost use Rattle.job_table.specs.Takings.{IsTaken};
 use crate::NoMemory;
 use crate::earlier::EarlierAnswers;
 use crate::kept::{SegmentSource, Taken};
+use crate::piece::SegmentInput;
 use crate::plan_parts::{part_in_order, slices_first, streamed_part};
 use crate::planned::{PlanJobs, Planned};
 use batch_eval::Registers;
-use job_plan::{Answer, Part, Source};
+use job_plan::{Answer, Part, Source, Walked};
 use std::alloc::Global;
 
 impl<'a, 'c, P: Planned> PlanJobs<'a, 'c, P> {
@@ -21,42 +22,43 @@ impl<'a, 'c, P: Planned> PlanJobs<'a, 'c, P> {
         &self,
         alloc: Global,
         job: usize,
-        source: &SegmentSource<'a>,
-        given: &Taken,
-        earlier: &E,
+        input: SegmentInput<'_, SegmentSource<'a>, Taken, E>,
         registers: &mut Registers,
     ) -> Result<Part<'a>, NoMemory>
         requires job { job < length P.jobs }
-        requires source { IsKept (chain_at (plans_in P.jobs) job) (slices_first (chain_at (plans_in P.jobs) job).segments) source.now }
-        requires given { IsTaken (plans_in P.jobs) job given.now }
+        requires source { IsKept (chain_at (plans_in P.jobs) job) (slices_first (chain_at (plans_in P.jobs) job).segments) input.source.now }
+        requires given { IsTaken (plans_in P.jobs) job input.given.now }
         requires earlier { (j : ℕ) (a : answers) → E.is_answer j a → a ≡ answer_of (plans_in P.jobs) j }
         ensures stands { IfOk result (λ part. PartStands (chain_at (plans_in P.jobs) job) (slices_first (chain_at (plans_in P.jobs) job).segments) 0
             (size_at (chain_at (plans_in P.jobs) job) (slices_first (chain_at (plans_in P.jobs) job).segments)) part) }
         ensures kind { IfOk result (λ part. may_search part ≡ false) }
     {
         let plan = self.job(job);
-        let env = &given.numbers;
-        match source {
+        let env = &input.given.numbers;
+        match input.source {
             SegmentSource::Own if plan.takes_arrays() => {
                 let own = self.own(job);
-                let sources = self.put_sources(alloc, job, own, earlier)?;
+                let sources = self.put_sources(alloc, job, own, input.earlier)?;
                 let source = Source::of_sources(&sources, own);
+                let walked = Walked { source, env };
                 if plan.streams() {
-                    return streamed_part(alloc, plan, &source, env, registers);
+                    return streamed_part(alloc, plan, walked, registers);
                 }
-                part_in_order(alloc, plan, 0, &source, env, registers)
+                part_in_order(alloc, plan, 0, walked, registers)
             }
             SegmentSource::Own => {
                 let source = Source::of_selected(plan);
+                let walked = Walked { source, env };
                 if plan.streams() {
-                    return streamed_part(alloc, plan, &source, env, registers);
+                    return streamed_part(alloc, plan, walked, registers);
                 }
-                part_in_order(alloc, plan, 0, &source, env, registers)
+                part_in_order(alloc, plan, 0, walked, registers)
             }
             SegmentSource::Kept(walk) => {
                 let last = slices_first(plan.walked_segments());
                 let source = Source::of_given(walk);
-                part_in_order(alloc, plan, last, &source, env, registers)
+                let walked = Walked { source, env };
+                part_in_order(alloc, plan, last, walked, registers)
             }
         }
     }

@@ -17,6 +17,7 @@
 
 mod alone;
 mod arming;
+mod busy;
 mod credit;
 mod cut;
 mod earlier;
@@ -25,9 +26,12 @@ mod in_order;
 mod kept;
 mod nodes;
 mod opening;
+mod parts;
+mod piece;
 mod places;
 mod plan_names;
 mod plan_parts;
+mod plan_segments;
 mod planned;
 mod run;
 mod segments;
@@ -41,6 +45,7 @@ mod work;
 
 pub use cut::{CutPiece, Join, Merged, SegmentPart, TableCounts, TableKept, TablePart, TableSeat};
 pub use earlier::{Earlier, EarlierAnswers};
+pub use piece::{Piece, SegmentInput};
 pub use places::{JobPlaces, KeptAnswer, KeptGiven, KeptSource};
 pub use planned::{PlanJobs, Planned, RunFault, run_jobs};
 pub use run::run_all;
@@ -49,7 +54,7 @@ pub use start::{Start, Waiting};
 pub use std::alloc::AllocError as NoMemory;
 pub use stopping::{RunSegments, RunStops};
 pub use task::{
-    Idle, JobSeat, Piece, Purse, Running, Spare, TableIdle, TableJobSeat, TablePiece, TablePurse,
-    TableSpare, TableTask, TableWhole, Task, Whole,
+    Idle, JobSeat, Purse, Running, SideTask, Spare, TableIdle, TableJobSeat, TablePurse,
+    TableSideTask, TableSpare, TableTask, TableWhole, Task, Whole,
 };
 pub use work::{JobWork, Opened, TableOpened, TableWork};

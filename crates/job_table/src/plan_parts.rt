@@ -4,17 +4,19 @@ ghost use Rattle.trace.specs.Trace.{nothing};
 ghost use Rattle.early_stop.specs.Decisive.{Decides};
 ghost use Rattle.job_plan.specs.Parts.{StandsFor, end_in, may_search, plan_in, segments_in, walk_in};
 ghost use Rattle.job_plan.specs.Plans.{segments_answer};
+ghost use Rattle.job_plan.specs.Spans.{IsNotAfter};
 ghost use Rattle.job_plan.specs.Links.{first_links, linked, walked_segments};
 ghost use Rattle.job_plan.specs.Walks.{instead_of_fault};
 ghost use Rattle.job_plan.specs.Windows.{later_segments};
-ghost use Rattle.job_table.specs.PlanSegments.{AbstractChain, PartStands, end_divides, gives_at, segment_divides, size_at, slices_first, walk_at, walk_size};
+ghost use Rattle.job_table.specs.PlanSegments.{AbstractChain, PartStands, end_divides, gives_at, segment_divides, size_at, slices_first, upto, walk_at, walk_size};
 
 use crate::NoMemory;
+use crate::piece::Piece;
 use batch_eval::Registers;
 use early_stop::Stop;
 use job_plan::{
-    Answer, ArrayPart, GivenWalk, JobPlan, Outcome, Part, Segment, SegmentEnd, Source,
-    leaf_in_order, leaf_stored, leaf_until, streamed, streamed_in_order, unwalked,
+    Answer, ArrayPart, GivenWalk, JobPlan, Outcome, Part, Segment, SegmentEnd, Source, Walked,
+    Window, leaf_in_order, leaf_stored, leaf_until, streamed, streamed_in_order, unwalked,
 };
 use lambda_expr::Env;
 use slice_ops::Slice;
@@ -67,52 +69,65 @@ pub(crate) fn left_out<'a>(alloc: Global, plan: &'a JobPlan, segment: usize, env
     }
 }
 
+/// Where a piece ends, if that isn't the end of its source.
+fn end_of(piece: Piece, source: &Source) -> Option<u64>
+    requires ordered { piece.from ≤ piece.to }
+    ensures ordered { IsNotAfter piece.from result }
+    ensures end { result ≡ upto (walk_size (walk_in source.now)) piece.to }
+{
+    if piece.to == source.size() {
+        None
+    } else {
+        Some(piece.to)
+    }
+}
+
 /// Walks a piece of a segment, as far as it matters. A segment that isn't there has a part that says nothing.
-pub(crate) fn piece<'a, W: Stop>(
+pub(crate) fn lent_piece<'a, W: Stop>(
     alloc: Global,
     plan: &'a JobPlan,
-    segment: usize,
-    source: &Source<'_, 'a, '_>,
-    from: u64,
-    to: u64,
-    env: &Env,
+    piece: Piece,
+    walked: Walked<'_, 'a, '_, '_>,
     registers: &mut Registers,
     stop: &mut W,
 ) -> Result<Part<'a>, NoMemory>
-    requires ordered { from ≤ to }
-    ensures { (chain : AbstractChain) → chain.segments ≡ walked_segments (plan_in plan.now) → chain.numbers ≡ env.now
-        → walk_in source.now ≡ walk_at chain segment → size_at chain segment ≡ walk_size (walk_at chain segment) → ((c : ℕ) → W.decides stop.old c → Decides (gives_at chain segment) (walk_at chain segment) c)
-        → IfOk result (λ part. PartStands chain segment from to part) }
+    requires ordered { piece.from ≤ piece.to }
+    ensures { (chain : AbstractChain) → chain.segments ≡ walked_segments (plan_in plan.now) → chain.numbers ≡ walked.entry.env.now
+        → walk_in walked.entry.source ≡ walk_at chain piece.segment → size_at chain piece.segment ≡ walk_size (walk_at chain piece.segment) → ((c : ℕ) → W.decides stop.old c → Decides (gives_at chain piece.segment) (walk_at chain piece.segment) c)
+        → IfOk result (λ part. PartStands chain piece.segment piece.from piece.to part) }
 {
-    let Some(of) = plan.walked_segments().get(segment) else {
+    let Some(of) = plan.walked_segments().get(piece.segment) else {
         return Ok(Part::Array(ArrayPart::none(alloc)));
     };
-    let upto = if to == source.size() { None } else { Some(to) };
-    leaf_until(alloc, of, source, from, upto, env, registers, stop)
+    let window = Window {
+        from: piece.from,
+        to: end_of(piece, &walked.source),
+    };
+    leaf_until(alloc, of, walked, window, registers, stop)
 }
 
 /// The same, of a source that may be gone before the part is.
 pub(crate) fn stored_piece<'a, W: Stop>(
     alloc: Global,
     plan: &'a JobPlan,
-    segment: usize,
-    source: &Source,
-    from: u64,
-    to: u64,
-    env: &Env,
+    piece: Piece,
+    walked: Walked,
     registers: &mut Registers,
     stop: &mut W,
 ) -> Result<Part<'a>, NoMemory>
-    requires ordered { from ≤ to }
-    ensures { (chain : AbstractChain) → chain.segments ≡ walked_segments (plan_in plan.now) → chain.numbers ≡ env.now
-        → walk_in source.now ≡ walk_at chain segment → size_at chain segment ≡ walk_size (walk_at chain segment) → ((c : ℕ) → W.decides stop.old c → Decides (gives_at chain segment) (walk_at chain segment) c)
-        → IfOk result (λ part. PartStands chain segment from to part) }
+    requires ordered { piece.from ≤ piece.to }
+    ensures { (chain : AbstractChain) → chain.segments ≡ walked_segments (plan_in plan.now) → chain.numbers ≡ walked.entry.env.now
+        → walk_in walked.entry.source ≡ walk_at chain piece.segment → size_at chain piece.segment ≡ walk_size (walk_at chain piece.segment) → ((c : ℕ) → W.decides stop.old c → Decides (gives_at chain piece.segment) (walk_at chain piece.segment) c)
+        → IfOk result (λ part. PartStands chain piece.segment piece.from piece.to part) }
 {
-    let Some(of) = plan.walked_segments().get(segment) else {
+    let Some(of) = plan.walked_segments().get(piece.segment) else {
         return Ok(Part::Array(ArrayPart::none(alloc)));
     };
-    let upto = if to == source.size() { None } else { Some(to) };
-    leaf_stored(alloc, of, source, from, upto, env, registers, stop)
+    let window = Window {
+        from: piece.from,
+        to: end_of(piece, &walked.source),
+    };
+    leaf_stored(alloc, of, walked, window, registers, stop)
 }
 
 /// Walks all of a job's sources through the slices before its first segment, and through this. A segment that isn't there has a part
@@ -120,18 +135,17 @@ pub(crate) fn stored_piece<'a, W: Stop>(
 pub(crate) fn streamed_piece<'a>(
     alloc: Global,
     plan: &'a JobPlan,
-    source: &Source,
-    env: &Env,
+    walked: Walked,
     registers: &mut Registers,
 ) -> Result<Part<'a>, NoMemory>
-    ensures { (chain : AbstractChain) → chain.segments ≡ walked_segments (plan_in plan.now) → chain.numbers ≡ env.now → chain.streams ≡ true
-        → linked (first_links (later_segments (plan_in plan.now).segments)) env.now (walk_in source.now) ≡ chain.source
+    ensures { (chain : AbstractChain) → chain.segments ≡ walked_segments (plan_in plan.now) → chain.numbers ≡ walked.entry.env.now → chain.streams ≡ true
+        → linked (first_links (later_segments (plan_in plan.now).segments)) walked.entry.env.now (walk_in walked.entry.source) ≡ chain.source
         → IfOk result (λ part. PartStands chain 0 0 0 part) }
 {
     let Some(first) = plan.walked_segments().get(0) else {
         return Ok(Part::Array(ArrayPart::none(alloc)));
     };
-    streamed(alloc, plan.later_segments(), first, source, env, registers)
+    streamed(alloc, plan.later_segments(), first, walked, registers)
 }
 
 /// What the next segment goes over, of the part of a whole segment.
@@ -158,37 +172,35 @@ pub(crate) fn part_in_order<'a>(
     alloc: Global,
     plan: &'a JobPlan,
     segment: usize,
-    source: &Source,
-    env: &Env,
+    walked: Walked,
     registers: &mut Registers,
 ) -> Result<Part<'a>, NoMemory>
-    ensures stands { (chain : AbstractChain) → chain.segments ≡ walked_segments (plan_in plan.now) → chain.numbers ≡ env.now
-        → walk_in source.now ≡ walk_at chain segment → IfOk result (λ part. PartStands chain segment 0 (size_at chain segment) part) }
+    ensures stands { (chain : AbstractChain) → chain.segments ≡ walked_segments (plan_in plan.now) → chain.numbers ≡ walked.entry.env.now
+        → walk_in walked.entry.source ≡ walk_at chain segment → IfOk result (λ part. PartStands chain segment 0 (size_at chain segment) part) }
     ensures kind { IfOk result (λ part. may_search part ≡ false) }
 {
     let Some(of) = plan.walked_segments().get(segment) else {
         return Ok(Part::Array(ArrayPart::none(alloc)));
     };
-    leaf_in_order(alloc, of, source, env, registers)
+    leaf_in_order(alloc, of, walked, registers)
 }
 
 /// The same of the first segment, if the walk of the job's sources goes through slices before it.
 pub(crate) fn streamed_part<'a>(
     alloc: Global,
     plan: &'a JobPlan,
-    source: &Source,
-    env: &Env,
+    walked: Walked,
     registers: &mut Registers,
 ) -> Result<Part<'a>, NoMemory>
-    ensures stands { (chain : AbstractChain) → chain.segments ≡ walked_segments (plan_in plan.now) → chain.numbers ≡ env.now → chain.streams ≡ true
-        → linked (first_links (later_segments (plan_in plan.now).segments)) env.now (walk_in source.now) ≡ chain.source
+    ensures stands { (chain : AbstractChain) → chain.segments ≡ walked_segments (plan_in plan.now) → chain.numbers ≡ walked.entry.env.now → chain.streams ≡ true
+        → linked (first_links (later_segments (plan_in plan.now).segments)) walked.entry.env.now (walk_in walked.entry.source) ≡ chain.source
         → IfOk result (λ part. PartStands chain 0 0 0 part) }
     ensures kind { IfOk result (λ part. may_search part ≡ false) }
 {
     let Some(first) = plan.walked_segments().get(0) else {
         return Ok(Part::Array(ArrayPart::none(alloc)));
     };
-    streamed_in_order(alloc, plan.later_segments(), first, source, env, registers)
+    streamed_in_order(alloc, plan.later_segments(), first, walked, registers)
 }
 
 /// The answer that the part of the whole last segment of a job gives. It is 0 if there is no such segment. `None` if the source of the segment

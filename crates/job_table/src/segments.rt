@@ -9,6 +9,7 @@ ghost use Rattle.job_table.specs.Cuts.{IsInstead, IsPiece};
 use crate::NoMemory;
 use crate::cut::CutPiece;
 use crate::earlier::EarlierAnswers;
+use crate::piece::{Piece, SegmentInput};
 use early_stop::Stop;
 use std::alloc::Global;
 use trace::Fault;
@@ -148,51 +149,35 @@ pub trait JobSegments {
     fn scratch(&self, alloc: Global) -> Self::Scratch;
 
     /// The part of a piece that isn't walked, since a place at or before its first position decides.
-    fn left_out(
-        &self,
-        alloc: Global,
-        job: usize,
-        segment: usize,
-        from: u64,
-        to: u64,
-        given: &Self::Given,
-    ) -> Self::Part
-        requires given { is_given job given.now }
-        requires piece { IsPiece job_count last_of size_of job segment from to }
-        requires decided { (c : ℕ) × (c ≤ from) × Decides (gives job segment) (goes_over job segment) c }
-        ensures { stands_for job segment from to result };
+    fn left_out(&self, alloc: Global, piece: Piece, given: &Self::Given) -> Self::Part
+        requires given { is_given piece.job given.now }
+        requires piece { IsPiece job_count last_of size_of piece.job piece.segment piece.from piece.to }
+        requires decided { (c : ℕ) × (c ≤ piece.from) × Decides (gives piece.job piece.segment) (goes_over piece.job piece.segment) c }
+        ensures { stands_for piece.job piece.segment piece.from piece.to result };
 
     /// Whether nothing after a piece with this part matters.
-    fn is_settled(&self, job: usize, segment: usize, from: u64, to: u64, part: &Self::Part) -> bool
-        requires job { job < job_count }
-        requires segment { segment ≤ last_of job }
-        requires within { (from ≤ to) × (to < size_of job segment) }
-        requires part { stands_for job segment from to part.now }
-        ensures { result ≡ true → Decides (gives job segment) (goes_over job segment) to };
+    fn is_settled(&self, piece: Piece, part: &Self::Part) -> bool
+        requires job { piece.job < job_count }
+        requires segment { piece.segment ≤ last_of piece.job }
+        requires within { (piece.from ≤ piece.to) × (piece.to < size_of piece.job piece.segment) }
+        requires part { stands_for piece.job piece.segment piece.from piece.to part.now }
+        ensures { result ≡ true → Decides (gives piece.job piece.segment) (goes_over piece.job piece.segment) piece.to };
 
     /// Whether nothing after positions with this fault matters.
-    fn is_settled_by(&self, job: usize, segment: usize, from: u64, to: u64, fault: Fault) -> bool
-        requires job { job < job_count }
-        requires segment { segment ≤ last_of job }
-        requires within { to < size_of job segment }
-        requires fault { faults_with job segment from to fault }
-        ensures { result ≡ true → Decides (gives job segment) (goes_over job segment) to };
+    fn is_settled_by(&self, piece: Piece, fault: Fault) -> bool
+        requires job { piece.job < job_count }
+        requires segment { piece.segment ≤ last_of piece.job }
+        requires within { piece.to < size_of piece.job piece.segment }
+        requires fault { faults_with piece.job piece.segment piece.from piece.to fault }
+        ensures { result ≡ true → Decides (gives piece.job piece.segment) (goes_over piece.job piece.segment) piece.to };
 
     /// The fault that ends a piece, if the job gives an answer in its place.
-    fn fault(
-        &self,
-        job: usize,
-        segment: usize,
-        from: u64,
-        to: u64,
-        given: &Self::Given,
-        part: &Self::Part,
-    ) -> Option<Fault>
-        requires piece { IsPiece job_count last_of size_of job segment from to }
-        requires given { is_given job given.now }
-        requires part { stands_for job segment from to part.now }
-        ensures among { IfSome result (λ fault. faults_with job segment from to fault) }
-        ensures caught { (fault : Fault) → is_caught job segment part.now fault → result ≡ Some fault };
+    fn fault(&self, piece: Piece, given: &Self::Given, part: &Self::Part) -> Option<Fault>
+        requires piece { IsPiece job_count last_of size_of piece.job piece.segment piece.from piece.to }
+        requires given { is_given piece.job given.now }
+        requires part { stands_for piece.job piece.segment piece.from piece.to part.now }
+        ensures among { IfSome result (λ fault. faults_with piece.job piece.segment piece.from piece.to fault) }
+        ensures caught { (fault : Fault) → is_caught piece.job piece.segment part.now fault → result ≡ Some fault };
 
     /// What a job gives in place of a fault, if anything.
     fn instead(&self, job: usize) -> Option<Self::Instead>
@@ -208,22 +193,17 @@ pub trait JobSegments {
     fn leaf<E: EarlierAnswers<Self::Answer>, W: Stop>(
         &self,
         alloc: Global,
-        job: usize,
-        segment: usize,
-        source: &Self::Source,
-        from: u64,
-        to: u64,
-        given: &Self::Given,
-        earlier: &E,
+        piece: Piece,
+        input: SegmentInput<'_, Self::Source, Self::Given, E>,
         scratch: &mut Self::Scratch,
         stop: &mut W,
     ) -> Result<Self::Part, NoMemory>
-        requires stop { (c : ℕ) → W.decides stop.old c → Decides (gives job segment) (goes_over job segment) c }
-        requires piece { IsPiece job_count last_of size_of job segment from to }
-        requires source { is_source job segment source.now }
-        requires given { is_given job given.now }
+        requires stop { (c : ℕ) → W.decides stop.old c → Decides (gives piece.job piece.segment) (goes_over piece.job piece.segment) c }
+        requires piece { IsPiece job_count last_of size_of piece.job piece.segment piece.from piece.to }
+        requires source { is_source piece.job piece.segment input.source.now }
+        requires given { is_given piece.job input.given.now }
         requires earlier { (j : ℕ) (answer : Self.Answer) → E.is_answer j answer → is_answer j answer }
-        ensures { IfOk result (λ part. stands_for job segment from to part) };
+        ensures { IfOk result (λ part. stands_for piece.job piece.segment piece.from piece.to part) };
 
     /// Merges the parts of the two sides of a cut.
     fn merge(cut: CutPiece, left: Self::Part, right: Self::Part) -> Result<Self::Part, NoMemory>
@@ -255,14 +235,12 @@ pub trait JobSegments {
         alloc: Global,
         job: usize,
         part: Self::Part,
-        source: &Self::Source,
-        given: &Self::Given,
-        earlier: &E,
+        input: SegmentInput<'_, Self::Source, Self::Given, E>,
         scratch: &mut Self::Scratch,
     ) -> Result<Self::Answer, NoMemory>
         requires job { job < job_count }
-        requires source { is_source job (last_of job) source.now }
-        requires given { is_given job given.now }
+        requires source { is_source job (last_of job) input.source.now }
+        requires given { is_given job input.given.now }
         requires earlier { (j : ℕ) (answer : Self.Answer) → E.is_answer j answer → is_answer j answer }
         requires part { stands_for job (last_of job) 0 (size_of job (last_of job)) part }
         ensures { IfOk result (λ answer. is_answer job answer) };

@@ -63,7 +63,7 @@ pub struct JobSeat<V, K: Fits<V, Tag = CutPiece>, R: Running> {
 
 /// One side of a cut that is still to be handed in, with the seat that does it.
 #[derive(Drop)]
-pub struct Piece<V, K: Fits<V, Tag = CutPiece>, R: Running> {
+pub struct SideTask<V, K: Fits<V, Tag = CutPiece>, R: Running> {
     pub(crate) half: Half<V, K>,
     pub(crate) of: PhantomData<R>,
     ghost can: { CanFork R.table half.place half.seat },
@@ -77,8 +77,8 @@ pub struct Piece<V, K: Fits<V, Tag = CutPiece>, R: Running> {
 pub enum Task<V, K: Fits<V, Tag = CutPiece>, R: Running> {
     /// Begin a job: the jobs that it names have ended.
     Begin(JobSeat<V, K, R>),
-    /// Walk a piece.
-    Walk(Piece<V, K, R>),
+    /// Walk one side of a cut.
+    Walk(SideTask<V, K, R>),
 }
 
 /// The credit of a worker, for the trees that it begins. Its seat has noted no place of a tree.
@@ -127,7 +127,7 @@ pub struct Whole<V, K: Fits<V, Tag = CutPiece>, R: Running> {
 
 pub type TableJobSeat<S, R> = JobSeat<TablePart<S>, TableKept<S>, R>;
 
-pub type TablePiece<S, R> = Piece<TablePart<S>, TableKept<S>, R>;
+pub type TableSideTask<S, R> = SideTask<TablePart<S>, TableKept<S>, R>;
 
 pub type TableTask<S, R> = Task<TablePart<S>, TableKept<S>, R>;
 

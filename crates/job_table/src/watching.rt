@@ -3,7 +3,8 @@ ghost use Rattle.std.specs.Prelude.{◌≡◌, ◌<◌, ◌≤◌, IfOk, IfSome}
 ghost use Rattle.early_stop.specs.Decisive.{no_place, Decides, IsDecisive};
 ghost use Rattle.job_table.specs.Cuts.{begins, ends_at};
 
-use crate::cut::{CutPiece, Merged, SegmentPart, TablePart, range_of};
+use crate::cut::{CutPiece, Merged, SegmentPart, TablePart, side_at};
+use crate::piece::Piece;
 use crate::places::{hold_source, kept_given, source_in, word_of};
 use crate::segments::JobSegments;
 use crate::task::Running;
@@ -67,7 +68,13 @@ impl<S: JobSegments, R: Running> Watch<'_, S, R> {
         let Some(size) = self.size() else {
             return;
         };
-        if from <= to && to < size && self.jobs.is_settled(self.job, self.segment, from, to, part) {
+        let piece = Piece {
+            job: self.job,
+            segment: self.segment,
+            from,
+            to,
+        };
+        if from <= to && to < size && self.jobs.is_settled(piece, part) {
             self.lower(to);
         }
     }
@@ -79,11 +86,13 @@ impl<S: JobSegments, R: Running> Watch<'_, S, R> {
         let Some(size) = self.size() else {
             return;
         };
-        if to < size
-            && self
-                .jobs
-                .is_settled_by(self.job, self.segment, from, to, fault)
-        {
+        let piece = Piece {
+            job: self.job,
+            segment: self.segment,
+            from,
+            to,
+        };
+        if to < size && self.jobs.is_settled_by(piece, fault) {
             self.lower(to);
         }
     }
@@ -104,7 +113,7 @@ impl<S: JobSegments, R: Running> Looker<SegmentPart<S>> for Watch<'_, S, R> {
         if at.side == Side::Whole || at.tag.job != self.job || at.tag.segment != self.segment {
             return;
         }
-        let (from, to) = range_of(at);
+        let Piece { from, to, .. } = side_at(at);
         match value {
             Ok(handed) => {
                 if let Merged::Part(part) = &handed.found {

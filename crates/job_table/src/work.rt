@@ -3,19 +3,17 @@ ghost use Rattle.std.specs.Prelude.{◌≡◌, ◌-◌, ◌<◌, ◌≤◌, ◌+
 ghost use Rattle.job_plan.specs.SettingsParts.{workers_of};
 ghost use Rattle.pending_count.specs.Seats.{actor_of, view_of, IsSeatOf};
 ghost use Rattle.completer_tree.specs.Trees.{table_id_of};
-ghost use Rattle.early_stop.specs.Decisive.{Decides};
 ghost use Rattle.early_stop.specs.Seats.{IsSeatOf as IsStopSeatOf, table_of as stop_table_of, segments_of, count_of};
 ghost use Rattle.job_table.specs.Stops.{stop_id_of};
-ghost use Rattle.job_table.specs.Cuts.{IsPiece};
 ghost use Rattle.job_table.specs.Starts.{HasStarts, kept_at, node_at};
 ghost use Rattle.job_table.specs.Waits.{nodes_in};
 
 use crate::NoMemory;
 use crate::arming::arm_all;
+use crate::busy::Busy;
 use crate::cut::{CutPiece, TableCounts, TableKept, TablePart};
-use crate::earlier::Earlier;
 use crate::nodes::{most_positions, node_count, segment_count};
-use crate::places::{JobPlaces, empty_places, hold_source, kept_answer, kept_given, source_in};
+use crate::places::{JobPlaces, empty_places, kept_answer};
 use crate::segments::JobSegments;
 use crate::start::{Start, Waiting};
 use crate::stopping::{RunSegments, RunStops};
@@ -105,105 +103,6 @@ fn stop_words<S: JobSegments>(alloc: Global, jobs: &S) -> Result<(RunStops<S>, C
         of: PhantomData,
     };
     RunStops::<S>::new(alloc, &segments)
-}
-
-/// How many positions the source of a segment has, if it is there, and what the job takes of earlier answers.
-pub(crate) fn size_of<S: JobSegments, R: Running>(
-    work: &TableWork<S, R>,
-    job: usize,
-    segment: usize,
-) -> Option<u64>
-    requires known { (job < S.job_count) × (segment ≤ S.last_of job) }
-    ensures { IfSome result (λ size. size ≡ S.size_of job segment) }
-{
-    let given = kept_given(&work.places, job)?;
-    if segment == 0 {
-        return Some(work.jobs.size(job, 0, &work.jobs.first_source(job), given));
-    }
-    let held = hold_source(&work.places, job, segment)?;
-    let source = source_in(&held, job, segment)?;
-    Some(work.jobs.size(job, segment, source, given))
-}
-
-/// Walks a piece with what the job takes of earlier answers.
-fn walked<S: JobSegments, R: Running>(
-    work: &TableWork<S, R>,
-    job: usize,
-    segment: usize,
-    from: u64,
-    to: u64,
-    scratch: &mut S::Scratch,
-    watch: &mut Watch<'_, S, R>,
-) -> Result<S::Part, NoMemory>
-    requires watched { (watch.old.job ≡ job) × (watch.old.segment ≡ segment) }
-    requires piece { IsPiece S.job_count S.last_of S.size_of job segment from to }
-    ensures { IfOk result (λ part. S.stands_for job segment from to part) }
-{
-    let Some(given) = kept_given(&work.places, job) else {
-        return Err(NoMemory);
-    };
-    let earlier = Earlier::in_places(&work.places);
-    if segment == 0 {
-        let source = work.jobs.first_source(job);
-        return work.jobs.leaf(
-            work.alloc, job, 0, &source, from, to, given, &earlier, scratch, watch,
-        );
-    }
-    let Some(held) = hold_source(&work.places, job, segment) else {
-        return Err(NoMemory);
-    };
-    let Some(source) = source_in(&held, job, segment) else {
-        return Err(NoMemory);
-    };
-    work.jobs.leaf(
-        work.alloc, job, segment, source, from, to, given, &earlier, scratch, watch,
-    )
-}
-
-/// The part of a piece that isn't walked, since a place at or before its first position decides.
-fn left_out<S: JobSegments, R: Running>(
-    work: &TableWork<S, R>,
-    job: usize,
-    segment: usize,
-    from: u64,
-    to: u64,
-) -> Result<S::Part, NoMemory>
-    requires piece { IsPiece S.job_count S.last_of S.size_of job segment from to }
-    requires decided { (c : ℕ) × (c ≤ from) × Decides (S.gives job segment) (S.goes_over job segment) c }
-    ensures { IfOk result (λ part. S.stands_for job segment from to part) }
-{
-    match kept_given(&work.places, job) {
-        Some(given) => Ok(
-            work.jobs
-                .left_out(work.alloc, job, segment, from, to, given),
-        ),
-        None => Err(NoMemory),
-    }
-}
-
-/// Enters the gate and walks a piece, unless a place at or before its first position decides what the segment gives: then the gate isn't
-/// entered. If the segment's source isn't there, or what the job takes of earlier answers, it is as if an allocation had failed: the
-/// part is missing.
-pub(crate) fn part_of<S: JobSegments, R: Running, G: Gate>(
-    work: &TableWork<S, R>,
-    gate: &G,
-    job: usize,
-    segment: usize,
-    from: u64,
-    to: u64,
-    scratch: &mut S::Scratch,
-    watch: &mut Watch<'_, S, R>,
-) -> Result<S::Part, NoMemory>
-    requires piece { IsPiece S.job_count S.last_of S.size_of job segment from to }
-    ensures { IfOk result (λ part. S.stands_for job segment from to part) }
-{
-    watch.aim(job, segment);
-    let seen = watch.seen();
-    if seen <= from && seen != u64::MAX {
-        return left_out(work, job, segment, from, to);
-    }
-    gate.at_leaf(job, from, to);
-    walked(work, job, segment, from, to, scratch, watch)
 }
 
 impl<'a, S: JobSegments, R: Running> JobWork<'a, S, TablePart<S>, TableKept<S>, R> {
@@ -309,7 +208,7 @@ fn task_job<S: JobSegments, R: Running>(task: &TableTask<S, R>) -> usize
 {
     match task {
         Task::Begin(begun) => begun.job,
-        Task::Walk(piece) => piece.half.place.tag.job,
+        Task::Walk(side) => side.half.place.tag.job,
     }
 }
 
@@ -363,13 +262,23 @@ where
     ) -> TableIdle<S, R> {
         let Idle {
             seat,
-            mut spare,
+            spare,
             stop_seat,
-            mut scratch,
+            scratch,
             of,
         } = idle;
-        let mut watch = self.watch(task_job(&task), stop_seat);
-        self.take(gate, task, spawn, &mut scratch, &mut watch, &mut spare);
+        let watch = self.watch(task_job(&task), stop_seat);
+        let mut busy = Busy {
+            scratch,
+            watch,
+            spare,
+        };
+        self.take(gate, task, spawn, &mut busy);
+        let Busy {
+            scratch,
+            watch,
+            spare,
+        } = busy;
         let Watch {
             seat: stop_seat,
             ..

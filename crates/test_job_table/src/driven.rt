@@ -5,13 +5,18 @@ ghost use Rattle.job_table.specs.Starts.{kept_at, node_at};
 ghost use Rattle.job_table.specs.Stops.{stop_id_of};
 
 use crate::lists::{JobNumbers, Lists};
-use job_plan::{Plan, Settings};
+use job_plan::{Form, Plan, Settings};
 use job_table::{JobSegments, NoMemory, PlanJobs, Running, TableOpened, TableWork};
 use std::alloc::Global;
 use std::marker::{Brand, PhantomData};
 use std::sync::Wait;
 use std::sync::atomic::AtomicU64;
 use worker_pool::{Gate, Spawn, Work};
+
+/// These settings, or `NoMemory` if they are none.
+pub(crate) fn settings(workers: u64, threshold: u64, nodes: u64) -> Result<Settings, NoMemory> {
+    Settings::of(workers, threshold, nodes, Form::Text).ok_or(NoMemory)
+}
 
 /// Hands each task back but the first few, which it drops and says that it took.
 #[derive(Drop)]

@@ -1,12 +1,15 @@
 //! Jobs that copy lists of numbers. They stand outside the tests, since definitions name them.
 ghost use Rattle.std.specs.Prelude.{◌≡◌, ◌%◌, ◌<◌, ◌≤◌, ℕ, ℤ, true, List, [], length, map, slice_index_or, IfOk, ⊤};
 ghost use Rattle.std.specs.Coded.{Unit-prop};
+ghost use Rattle.job_table.specs.Cuts.{IsPiece};
 ghost use Rattle.test_job_table.specs.Lists.{EndsAtOnce, slice, numbers_in, walk_of, JobLast};
 ghost use Rattle.test_job_table.specs.ListLaws.{one_list};
 
 use early_stop::Stop;
 use job_plan::Settings;
-use job_table::{Begun, CutPiece, EarlierAnswers, JobSegments, NoMemory, run_all};
+use job_table::{
+    Begun, CutPiece, EarlierAnswers, JobSegments, NoMemory, Piece, SegmentInput, run_all,
+};
 use std::alloc::Global;
 use std::marker::{Brand, PhantomData};
 use std::sync::Wait;
@@ -167,49 +170,19 @@ impl<'a, P: JobNumbers + Sync> JobSegments for Lists<'a, P> {
 
     /// Never called: no place decides how a list without a fault ends.
     #[tactic(auto, using(crate::proofs::Walks::no_place_decides))]
-    fn left_out(
-        &self,
-        alloc: Global,
-        _job: usize,
-        _segment: usize,
-        _from: u64,
-        _to: u64,
-        _given: &(),
-    ) -> Vec<i64> {
+    fn left_out(&self, alloc: Global, _piece: Piece, _given: &()) -> Vec<i64> {
         Vec::new(alloc)
     }
 
-    fn is_settled(
-        &self,
-        _job: usize,
-        _segment: usize,
-        _from: u64,
-        _to: u64,
-        _part: &Vec<i64>,
-    ) -> bool {
+    fn is_settled(&self, _piece: Piece, _part: &Vec<i64>) -> bool {
         false
     }
 
-    fn is_settled_by(
-        &self,
-        _job: usize,
-        _segment: usize,
-        _from: u64,
-        _to: u64,
-        _fault: Fault,
-    ) -> bool {
+    fn is_settled_by(&self, _piece: Piece, _fault: Fault) -> bool {
         false
     }
 
-    fn fault(
-        &self,
-        _job: usize,
-        _segment: usize,
-        _from: u64,
-        _to: u64,
-        _given: &(),
-        _part: &Vec<i64>,
-    ) -> Option<Fault> {
+    fn fault(&self, _piece: Piece, _given: &(), _part: &Vec<i64>) -> Option<Fault> {
         None
     }
 
@@ -226,20 +199,20 @@ impl<'a, P: JobNumbers + Sync> JobSegments for Lists<'a, P> {
     fn leaf<E: EarlierAnswers<Vec<i64>>, W: Stop>(
         &self,
         alloc: Global,
-        job: usize,
-        _segment: usize,
-        source: &ListSource,
-        from: u64,
-        to: u64,
-        _given: &(),
-        _earlier: &E,
+        piece: Piece,
+        input: SegmentInput<'_, ListSource, (), E>,
         _scratch: &mut (),
         _stop: &mut W,
-    ) -> Result<Vec<i64>, NoMemory> {
+    ) -> Result<Vec<i64>, NoMemory>
+        requires piece { IsPiece P.jobs (λ job. JobLast job) (λ job _. length (P.numbers job)) piece.job piece.segment piece.from piece.to }
+        requires source { numbers_in (P.numbers piece.job) input.source.now ≡ P.numbers piece.job }
+        ensures { IfOk result (λ part. part.items ≡ slice (P.numbers piece.job) piece.from piece.to) }
+    {
         if self.refuses() {
             return Err(NoMemory);
         }
-        self.numbers(job, source)[from as usize..to as usize].to_vec(alloc)
+        let numbers = self.numbers(piece.job, input.source);
+        numbers[piece.from as usize..piece.to as usize].to_vec(alloc)
     }
 
     #[tactic(auto, using(crate::proofs::Slices::slices_join))]
@@ -271,13 +244,14 @@ impl<'a, P: JobNumbers + Sync> JobSegments for Lists<'a, P> {
     fn answer<E: EarlierAnswers<Vec<i64>>>(
         &self,
         _alloc: Global,
-        _job: usize,
+        job: usize,
         part: Vec<i64>,
-        _source: &ListSource,
-        _given: &(),
-        _earlier: &E,
+        _input: SegmentInput<'_, ListSource, (), E>,
         _scratch: &mut (),
-    ) -> Result<Vec<i64>, NoMemory> {
+    ) -> Result<Vec<i64>, NoMemory>
+        requires part { part.items ≡ slice (P.numbers job) 0 (length (P.numbers job)) }
+        ensures { IfOk result (λ answer. answer.items ≡ P.numbers job) }
+    {
         Ok(part)
     }
 }

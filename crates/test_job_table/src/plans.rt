@@ -1,9 +1,9 @@
 //! Jobs of job files on workers: the answers of Java, and the leaves that they were walked in.
-use crate::driven::{Open, plan_found};
+use crate::driven::{Open, plan_found, settings};
 use crate::gates::{Counted, Holding, InTurn, TURNS};
 use columns::Columns;
 use job_language::read_jobs;
-use job_plan::{Answer, Form, Plan, Settings};
+use job_plan::{Answer, Plan, Settings};
 use job_table::run_jobs;
 use std::alloc::{AllocError, Global};
 use std::sync::Wait;
@@ -78,12 +78,9 @@ fn run<H: Threads + Wait + Sync, G: Gate + Sync>(
     rt: &H,
     alloc: Global,
     table: &str,
-    workers: u64,
-    threshold: u64,
-    nodes: u64,
+    settings: Settings,
     gate: &G,
 ) -> Result<Vec<Answer>, Fail> {
-    let settings = Settings::of(workers, threshold, nodes, Form::Text).ok_or(AllocError)?;
     let columns = Columns::none();
     let plan = plan_of(alloc, &columns, table)?;
     let answers = run_jobs(rt, alloc, &plan, &settings, gate).map_err(|_fault| AllocError)?;
@@ -107,7 +104,13 @@ fn jobs_have_the_answers_of_java_with_any_settings(rt: HostRuntime) -> Result<()
     for workers in [1, 2, 8] {
         for threshold in [1, 1000] {
             for nodes in [0, 4096] {
-                let answers = run(&rt, alloc, JOBS, workers, threshold, nodes, &Open)?;
+                let answers = run(
+                    &rt,
+                    alloc,
+                    JOBS,
+                    settings(workers, threshold, nodes)?,
+                    &Open,
+                )?;
                 let row = first_difference(alloc, JOBS, &answers)?;
                 assert!(rt;
                     row == 22,
@@ -142,12 +145,12 @@ fn long_pieces_are_walked_by_tasks_and_each_leaf_enters_the_gate(
         let (_job, want) = row.split_once(" => ").unwrap_or((row, ""));
         for workers in [1, 8] {
             let gate = Counted::new();
-            run(&rt, alloc, row, workers, 1000, 4096, &gate)?;
+            run(&rt, alloc, row, settings(workers, 1000, 4096)?, &gate)?;
             let leaves = format!(in alloc; "{}", gate.leaves.load(SeqCst))?;
             assert!(rt; leaves.as_str() == want, "{row}");
         }
         let gate = Counted::new();
-        run(&rt, alloc, row, 2, 1000, 0, &gate)?;
+        run(&rt, alloc, row, settings(2, 1000, 0)?, &gate)?;
         assert!(rt; gate.leaves.load(SeqCst) <= 3, "without nodes: {row}");
     }
     Ok(())
@@ -167,7 +170,7 @@ fn pieces_after_a_place_that_decides_are_not_walked(rt: HostRuntime) -> Result<(
     let alloc = rt.alloc();
     for row in EARLY.lines() {
         let gate = Counted::new();
-        let answers = run(&rt, alloc, row, 1, 1, 4096, &gate)?;
+        let answers = run(&rt, alloc, row, settings(1, 1, 4096)?, &gate)?;
         assert!(rt; first_difference(alloc, row, &answers)? == 1, "{row}");
         assert!(rt; gate.leaves.load(SeqCst) <= 10, "{row}");
     }
@@ -179,7 +182,7 @@ fn two_workers_have_two_leaves_of_one_job_open_at_once(rt: HostRuntime) -> Resul
     let alloc = rt.alloc();
     let gate = Holding::new();
     let row = "s = of(1, 2).sum() => 3";
-    let answers = run(&rt, alloc, row, 2, 1, 4096, &gate)?;
+    let answers = run(&rt, alloc, row, settings(2, 1, 4096)?, &gate)?;
     assert!(rt; first_difference(alloc, row, &answers)? == 1);
     // One leaf was held, and let go by another one, so each of the two was entered once.
     assert!(rt; gate.leaves.load(SeqCst) == 2 && gate.turns.load(SeqCst) < TURNS);
@@ -192,7 +195,7 @@ fn answers_are_the_same_if_one_leaf_after_the_other_is_held(rt: HostRuntime) -> 
     let mut are_all_held = false;
     for held in 0..400 {
         let gate = InTurn::holding(held);
-        let answers = run(&rt, alloc, JOBS, 4, 1000, 4096, &gate)?;
+        let answers = run(&rt, alloc, JOBS, settings(4, 1000, 4096)?, &gate)?;
         let row = first_difference(alloc, JOBS, &answers)?;
         assert!(rt; row == 22, "row {row} with leaf {held} held");
         are_all_held = gate.entered.load(SeqCst) <= held;
@@ -212,11 +215,11 @@ fn answers_of_a_plan_are_found_exactly_when_no_task_is_dropped(
     let columns = Columns::none();
     let plan = plan_of(alloc, &columns, JOBS)?;
     for nodes in [0, 1, 2, 3, 4096] {
-        let settings = Settings::of(1, 1, nodes, Form::Text).ok_or(AllocError)?;
+        let settings = settings(1, 1, nodes)?;
         let found = plan_found(&rt, alloc, &plan, settings, 0)?;
         assert!(rt; found == 22, "{found} with {nodes} nodes");
     }
-    let settings = Settings::of(1, 1, 4096, Form::Text).ok_or(AllocError)?;
+    let settings = settings(1, 1, 4096)?;
     let found = plan_found(&rt, alloc, &plan, settings, 1)?;
     assert!(rt; found == 21, "{found} of 22");
     let plan = plan_of(alloc, &columns, "s = of(1, 2).sum()")?;
@@ -236,7 +239,13 @@ fn few_nodes_cut_the_longest_pieces_first(rt: HostRuntime) -> Result<(), Fail> {
         (63, 64, 64),
     ] {
         let gate = Counted::new();
-        run(&rt, alloc, "s = range(0, 4096).sum()", 1, 1, nodes, &gate)?;
+        run(
+            &rt,
+            alloc,
+            "s = range(0, 4096).sum()",
+            settings(1, 1, nodes)?,
+            &gate,
+        )?;
         assert!(rt; gate.leaves.load(SeqCst) == leaves, "{nodes} nodes");
         assert!(rt; gate.longest.load(SeqCst) == longest, "{nodes} nodes");
     }

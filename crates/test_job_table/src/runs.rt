@@ -1,19 +1,13 @@
 //! Runs with different settings.
-use crate::driven::lists_found;
+use crate::driven::{lists_found, settings};
 use crate::gates::{Counted, Holding, TURNS};
 use crate::lists::copies;
-use job_plan::{Form, Settings};
-use job_table::NoMemory;
+use job_plan::Settings;
 use std::alloc::Global;
 use std::sync::Wait;
 use std::sync::atomic::Ordering::SeqCst;
 use std::test::Fail;
 use std::thread::Threads;
-
-/// These settings, or `NoMemory` if they are none.
-fn settings(workers: u64, threshold: u64, nodes: u64) -> Result<Settings, NoMemory> {
-    Settings::of(workers, threshold, nodes, Form::Text).ok_or(NoMemory)
-}
 
 /// Six lists of 0, 7, .. 35 numbers.
 fn lists(alloc: Global) -> Result<Vec<Vec<i64>>, Fail> {

@@ -26,6 +26,6 @@ returns c = record {
       let s = c.in-Some.of.now in
       let k = c.args.segment in
       let got : slice_get chain.segments k ≡ Some (segment_in s) = ap (λ (xs : List AbstractSegment). slice_get xs k) (segments ∙ sym c.walked_segments.ensures) ∙ segment_got ss k s h.3.0 h.1 in
-      all_stands chain k (segment_in s) c.leaf_in_order.result c.args.env.now (walk_in c.args.source.now) got (sym numbers) walks c.leaf_in_order.ensures.stands;
+      all_stands chain k (segment_in s) c.leaf_in_order.result c.args.walked.env.now (walk_in c.args.walked.source) got (sym numbers) walks c.leaf_in_order.ensures.stands;
   kind = c.leaf_in_order.ensures.kind;
 }

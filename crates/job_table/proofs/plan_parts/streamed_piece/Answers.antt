@@ -21,5 +21,5 @@ returns c = λ chain segments numbers streams walks.
     let ss = c.walked_segments.result.now in
     let s = c.in-Some.first.now in
     let got : slice_get chain.segments 0 ≡ Some (segment_in s) = ap (λ (xs : List AbstractSegment). slice_get xs 0) (segments ∙ sym c.walked_segments.ensures) ∙ segment_got ss 0 s h.3.0 h.1 in
-    streamed_stands chain (segment_in s) c.streamed.result c.args.env.now (linked (first_links (later_segments (plan_in c.args.plan.now).segments)) c.args.env.now (walk_in c.args.source.now)) got (sym numbers) streams walks
-    (subst (λ (xs : List AbstractSegment). IfOk c.streamed.result (λ p. StandsFor (segment_in s) c.args.env.now p (linked (first_links xs) c.args.env.now (walk_in c.args.source.now)))) c.later_segments.ensures c.streamed.ensures)
+    streamed_stands chain (segment_in s) c.streamed.result c.args.walked.env.now (linked (first_links (later_segments (plan_in c.args.plan.now).segments)) c.args.walked.env.now (walk_in c.args.walked.source)) got (sym numbers) streams walks
+    (subst (λ (xs : List AbstractSegment). IfOk c.streamed.result (λ p. StandsFor (segment_in s) c.args.walked.env.now p (linked (first_links xs) c.args.walked.env.now (walk_in c.args.walked.source)))) c.later_segments.ensures c.streamed.ensures)

@@ -10,13 +10,13 @@ use Rattle.job_table.proofs.walking.JobWork+S+TablePart+S+TableKept+S+R.+walk.Go
 
 pub invariant_of-own : goal.invariant_of-own
 invariant_of-own g t c =
-    let p = c.args.piece in
+    let p = c.args.side in
     let s = c.in-Split in
     let cut = c.halves in
-    let range = c.range_of-from.ensures in
+    let piece = c.side_at-piece.ensures in
     let within : (cut.result.from < cut.result.middle) × (cut.result.middle < cut.result.to) = (let e = cut.ensures.of.2 in let w = cut.ensures.within.0 in omega arith, let e = cut.ensures.of.3 in let w = cut.ensures.within.1 in omega arith) in
-    let whole = piece_as cut.ensures.of.0 cut.ensures.of.1 (cut.ensures.of.2 ∙ range.0) (cut.ensures.of.3 ∙ range.1) p.piece in
-    let named : s.left.place.tag.job ≡ p.half.place.tag.job = ap (λ (q : Place CutPiece). q.tag.job) s.ensures.places.0 ∙ cut.ensures.of.0 in
+    let whole = piece_as (cut.ensures.of.0 ∙ piece.of.0) (cut.ensures.of.1 ∙ piece.of.1) (cut.ensures.of.2 ∙ piece.positions.0) (cut.ensures.of.3 ∙ piece.positions.1) p.piece in
+    let named : s.left.place.tag.job ≡ p.half.place.tag.job = ap (λ (q : Place CutPiece). q.tag.job) s.ensures.places.0 ∙ cut.ensures.of.0 ∙ piece.of.0 in
     record {
       can = subst (λ id. CanFork id s.left.place s.left.seat) (ap table_id_of c.new-tree.ensures.0 ∙ c.args.self.now.table) s.ensures.split.0;
       top = subst (λ j. KnowsTop (g.R.Running.keeps j) s.left.place.root (view_of s.left.seat)) (sym named) (top_still (g.R.Running.keeps p.half.place.tag.job) _ p.half.place s.left.place (view_of p.half.seat) (view_of s.left.seat) p.top s.ensures.tops.0);
@@ -26,13 +26,13 @@ invariant_of-own g t c =
 
 pub invariant_of-other : goal.invariant_of-other
 invariant_of-other g t c =
-    let p = c.args.piece in
+    let p = c.args.side in
     let s = c.in-Split in
     let cut = c.halves in
-    let range = c.range_of-from.ensures in
+    let piece = c.side_at-piece.ensures in
     let within : (cut.result.from < cut.result.middle) × (cut.result.middle < cut.result.to) = (let e = cut.ensures.of.2 in let w = cut.ensures.within.0 in omega arith, let e = cut.ensures.of.3 in let w = cut.ensures.within.1 in omega arith) in
-    let whole = piece_as cut.ensures.of.0 cut.ensures.of.1 (cut.ensures.of.2 ∙ range.0) (cut.ensures.of.3 ∙ range.1) p.piece in
-    let named : s.right.place.tag.job ≡ p.half.place.tag.job = ap (λ (q : Place CutPiece). q.tag.job) s.ensures.places.1 ∙ cut.ensures.of.0 in
+    let whole = piece_as (cut.ensures.of.0 ∙ piece.of.0) (cut.ensures.of.1 ∙ piece.of.1) (cut.ensures.of.2 ∙ piece.positions.0) (cut.ensures.of.3 ∙ piece.positions.1) p.piece in
+    let named : s.right.place.tag.job ≡ p.half.place.tag.job = ap (λ (q : Place CutPiece). q.tag.job) s.ensures.places.1 ∙ cut.ensures.of.0 ∙ piece.of.0 in
     record {
       can = subst (λ id. CanFork id s.right.place s.right.seat) (ap table_id_of c.new-tree.ensures.0 ∙ c.args.self.now.table) s.ensures.split.1;
       top = subst (λ j. KnowsTop (g.R.Running.keeps j) s.right.place.root (view_of s.right.seat)) (sym named) (top_still (g.R.Running.keeps p.half.place.tag.job) _ p.half.place s.right.place (view_of p.half.seat) (view_of s.right.seat) p.top s.ensures.tops.1);

@@ -26,11 +26,12 @@ invariant_of-own g c =
     let p = c.pay-seat.result in
     let s = c.in-Split in
     let cut = c.halves in
+    let piece = c.all-all.ensures in
     let size = c.requires.size in
-    let all : IsPiece g.R.Running.jobs g.R.Running.last g.R.Running.size b.job c.args.segment 0 c.args.size = record { known = b.known; chained = c.requires.known; ordered = omega arith; within = omega arith } in
+    let entire : IsPiece g.R.Running.jobs g.R.Running.last g.R.Running.size b.job c.args.segment 0 c.args.size = record { known = b.known; chained = c.requires.known; ordered = omega arith; within = omega arith } in
     let within : (cut.result.from < cut.result.middle) × (cut.result.middle < cut.result.to) = (let e = cut.ensures.of.2 in let w = cut.ensures.within.0 in omega arith, let e = cut.ensures.of.3 in let w = cut.ensures.within.1 in omega arith) in
-    let whole = piece_as cut.ensures.of.0 cut.ensures.of.1 cut.ensures.of.2 cut.ensures.of.3 all in
-    let named : s.left.place.tag.job ≡ b.job = ap (λ (q : Place CutPiece). q.tag.job) s.ensures.places.0 ∙ cut.ensures.of.0 in
+    let whole = piece_as (cut.ensures.of.0 ∙ piece.of.0) (cut.ensures.of.1 ∙ piece.of.1) (cut.ensures.of.2 ∙ piece.positions.0) (cut.ensures.of.3 ∙ piece.positions.1) entire in
+    let named : s.left.place.tag.job ≡ b.job = ap (λ (q : Place CutPiece). q.tag.job) s.ensures.places.0 ∙ cut.ensures.of.0 ∙ piece.of.0 in
     let onward = c.new-tree.result.onward.now in
     let is : onward ≡ g.R.Running.keeps b.job = c.new-tree.ensures.1 ∙ c.deref.ensures.value ∙ c.start.ensures.1 in
     record {
@@ -46,11 +47,12 @@ invariant_of-other g c =
     let p = c.pay-seat.result in
     let s = c.in-Split in
     let cut = c.halves in
+    let piece = c.all-all.ensures in
     let size = c.requires.size in
-    let all : IsPiece g.R.Running.jobs g.R.Running.last g.R.Running.size b.job c.args.segment 0 c.args.size = record { known = b.known; chained = c.requires.known; ordered = omega arith; within = omega arith } in
+    let entire : IsPiece g.R.Running.jobs g.R.Running.last g.R.Running.size b.job c.args.segment 0 c.args.size = record { known = b.known; chained = c.requires.known; ordered = omega arith; within = omega arith } in
     let within : (cut.result.from < cut.result.middle) × (cut.result.middle < cut.result.to) = (let e = cut.ensures.of.2 in let w = cut.ensures.within.0 in omega arith, let e = cut.ensures.of.3 in let w = cut.ensures.within.1 in omega arith) in
-    let whole = piece_as cut.ensures.of.0 cut.ensures.of.1 cut.ensures.of.2 cut.ensures.of.3 all in
-    let named : s.right.place.tag.job ≡ b.job = ap (λ (q : Place CutPiece). q.tag.job) s.ensures.places.1 ∙ cut.ensures.of.0 in
+    let whole = piece_as (cut.ensures.of.0 ∙ piece.of.0) (cut.ensures.of.1 ∙ piece.of.1) (cut.ensures.of.2 ∙ piece.positions.0) (cut.ensures.of.3 ∙ piece.positions.1) entire in
+    let named : s.right.place.tag.job ≡ b.job = ap (λ (q : Place CutPiece). q.tag.job) s.ensures.places.1 ∙ cut.ensures.of.0 ∙ piece.of.0 in
     let onward = c.new-tree.result.onward.now in
     let is : onward ≡ g.R.Running.keeps b.job = c.new-tree.ensures.1 ∙ c.deref.ensures.value ∙ c.start.ensures.1 in
     record {

@@ -7,7 +7,7 @@ pub lower_after-requires : goal.lower_after-requires
 lower_after-requires g c =
     let at = c.args.at.now in
     let w = c.args.self.now in
-    let range = c.range_of-from.ensures in
+    let range = c.side_at-from.ensures.positions in
     let side : at.side ≢ Whole = search rules in
     let job : at.tag.job ≡ w.job = omega (arith, c.if-at-self.false) in
     let segment : at.tag.segment ≡ w.segment = omega (arith, c.if-at-self-2.false) in
@@ -21,7 +21,7 @@ pub lower_after_fault-requires : goal.lower_after_fault-requires
 lower_after_fault-requires g c =
     let at = c.args.at.now in
     let w = c.args.self.now in
-    let range = c.range_of-from.ensures in
+    let range = c.side_at-from.ensures.positions in
     let side : at.side ≢ Whole = search rules in
     let job : at.tag.job ≡ w.job = omega (arith, c.if-at-self.false) in
     let segment : at.tag.segment ≡ w.segment = omega (arith, c.if-at-self-2.false) in

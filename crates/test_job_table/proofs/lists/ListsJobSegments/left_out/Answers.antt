@@ -4,7 +4,7 @@ use Rattle.test_job_table.proofs.lists.ListsJobSegments.left_out.Goals as goal
 
 pub returns : goal.returns
 returns g c =
-    let early : c.requires.decided.0 ≤ c.args._from = c.requires.decided.1 in
-    let ordered : c.args._from ≤ c.args._to = c.requires.piece.ordered in
-    let within : c.args._to ≤ length (g.P.JobNumbers.numbers c.args._job) = c.requires.piece.within in
-    absurd (no_place_decides (g.P.JobNumbers.numbers c.args._job) c.requires.decided.0 (omega arith) c.requires.decided.2)
+    let early : c.requires.decided.0 ≤ c.args._piece.from = c.requires.decided.1 in
+    let ordered : c.args._piece.from ≤ c.args._piece.to = c.requires.piece.ordered in
+    let within : c.args._piece.to ≤ length (g.P.JobNumbers.numbers c.args._piece.job) = c.requires.piece.within in
+    absurd (no_place_decides (g.P.JobNumbers.numbers c.args._piece.job) c.requires.decided.0 (omega arith) c.requires.decided.2)

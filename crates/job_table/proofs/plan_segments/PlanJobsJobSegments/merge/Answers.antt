@@ -1,7 +1,7 @@
 use Rattle.job_plan.specs.Parts.{plans_in}
 use Rattle.job_table.specs.PlanSegments.{chain_at}
 use Rattle.job_table.proofs.PlanParts.{merged}
-use Rattle.job_table.proofs.planned.PlanJobsJobSegments.merge.Goals as goal
+use Rattle.job_table.proofs.plan_segments.PlanJobsJobSegments.merge.Goals as goal
 
 pub returns-in-Ok : goal.returns-in-Ok
 returns-in-Ok g c =

@@ -6,7 +6,7 @@ use Rattle.job_plan.specs.PlannedAnswers.{first_unusable_at, numbers_at}
 use Rattle.job_table.specs.PlanSegments.{answers_before}
 use Rattle.job_table.proofs.PlanAnswers.{plans_length}
 use Rattle.job_table.proofs.PlanSources.{known_of, begun_known}
-use Rattle.job_table.proofs.planned.PlanJobsJobSegments.given.Goals as goal
+use Rattle.job_table.proofs.plan_segments.PlanJobsJobSegments.given.Goals as goal
 
 pub returns-in-Known : goal.returns-in-Known
 returns-in-Known g c =

@@ -2,9 +2,9 @@ use Rattle.std.proofs.Common.{◌∙◌, sym}
 use Rattle.job_plan.specs.Parts.{plans_in}
 use Rattle.job_table.specs.PlanSegments.{chain_at}
 use Rattle.job_table.proofs.PlanParts.{part_decides, settles_both}
-use Rattle.job_table.proofs.planned.PlanJobsJobSegments.is_settled.Goals as goal
+use Rattle.job_table.proofs.plan_segments.PlanJobsJobSegments.is_settled.Goals as goal
 
 pub returns : goal.returns
 returns g c = λ yes.
     let both = settles_both c.args.part.now (sym c.settles.ensures ∙ yes) in
-    part_decides (chain_at (plans_in g.P.Planned.jobs) c.args._job) c.args._segment c.args._from c.args._to c.args.part.now c.requires.within.0 c.requires.within.1 both.0 both.1 c.requires.part
+    part_decides (chain_at (plans_in g.P.Planned.jobs) c.args._piece.job) c.args._piece.segment c.args._piece.from c.args._piece.to c.args.part.now c.requires.within.0 c.requires.within.1 both.0 both.1 c.requires.part

@@ -1,6 +1,0 @@
-use Rattle.job_plan.specs.Parts.{plans_in}
-use Rattle.job_table.proofs.PlanFaults.{fault_decides}
-use Rattle.job_table.proofs.planned.PlanJobsJobSegments.is_settled_by.Goals as goal
-
-pub returns : goal.returns
-returns g c = λ yes. fault_decides (plans_in g.P.Planned.jobs) c.args._job c.args._segment c.args._from c.args._to c.args._fault c.requires.within c.requires.fault

@@ -1,0 +1,262 @@
+//! The jobs of a plan as segments of a run.
+ghost use Rattle.std.specs.Prelude.{◌≡◌, ◌<◌, ◌≤◌, ◌+◌, ℕ, length, slice_get, IfOk};
+ghost use Rattle.job_plan.specs.declared.answer.Answer.{Answer as answers};
+ghost use Rattle.job_plan.specs.Parts.{fallback_in, plans_in};
+ghost use Rattle.job_table.specs.Caught.{FaultAmong, IsCaught};
+ghost use Rattle.job_table.specs.CaughtLaws.{among_more};
+ghost use Rattle.job_table.specs.Cuts.{IsPiece};
+ghost use Rattle.early_stop.specs.Decisive.{Decides};
+ghost use Rattle.job_table.specs.PlanSegments.{PartStands, answer_of, chain_at, gives_at, segment_divides, size_at, slices_first, walk_at};
+ghost use Rattle.job_table.specs.Sources.{IsKept, one_kept};
+ghost use Rattle.job_table.specs.PlanLaws.{one_answer};
+ghost use Rattle.job_table.specs.Takings.{IsTaken, one_taken};
+
+use crate::NoMemory;
+use crate::cut::CutPiece;
+use crate::earlier::EarlierAnswers;
+use crate::kept::{SegmentSource, Taken};
+use crate::piece::{Piece, SegmentInput};
+use crate::plan_names::different;
+use crate::plan_parts::{
+    catches, is_divided, job_answer, left_out, lent_piece, next_walk, slices_first, stored_piece,
+    streamed_piece,
+};
+use crate::planned::{PlanJobs, Planned};
+use crate::segments::{Begun, JobSegments};
+use batch_eval::Registers;
+use early_stop::Stop;
+use job_plan::{Answer, Fallback, Outcome, Part, Source, Walked};
+use std::alloc::Global;
+use trace::Fault;
+
+impl<'a, 'c, P: Planned> JobSegments for PlanJobs<'a, 'c, P> {
+    type Part = Part<'a>;
+
+    type Source = SegmentSource<'a>;
+
+    type Answer = Answer;
+
+    type Given = Taken;
+
+    type Instead = Fallback;
+
+    type Scratch = Registers;
+
+    type Outcome = Outcome<'a>;
+
+    ghost job_count = { length P.jobs };
+
+    ghost last_of = { λ job. slices_first (chain_at (plans_in P.jobs) job).segments };
+
+    ghost size_of = { λ job segment. size_at (chain_at (plans_in P.jobs) job) segment };
+
+    ghost goes_over = { λ job segment. walk_at (chain_at (plans_in P.jobs) job) segment };
+
+    ghost gives = { λ job segment. gives_at (chain_at (plans_in P.jobs) job) segment };
+
+    ghost stands_for = { λ job segment from to part. PartStands (chain_at (plans_in P.jobs) job) segment from to part };
+
+    ghost faults_with = { λ job segment from to fault. FaultAmong (plans_in P.jobs) job segment from to fault };
+
+    ghost faults_among = { λ job segment from to fault a b low high among. among_more (plans_in P.jobs) job segment from to fault a b low high among };
+
+    ghost is_caught = { λ job segment part fault. IsCaught (plans_in P.jobs) job segment part fault };
+
+    ghost is_source = { λ job segment source. IsKept (chain_at (plans_in P.jobs) job) segment source };
+
+    ghost is_answer = { λ job answer. answer ≡ answer_of (plans_in P.jobs) job };
+
+    ghost is_instead = { λ job instead. fallback_in instead ≡ answer_of (plans_in P.jobs) job };
+
+    ghost is_given = { λ job given. IsTaken (plans_in P.jobs) job given };
+
+    ghost one_source = { λ job segment source. one_kept (chain_at (plans_in P.jobs) job) segment source };
+
+    ghost one_answer = { λ job answer. one_answer answer (answer_of (plans_in P.jobs) job) };
+
+    ghost one_instead = { λ job instead. one_answer (fallback_in instead) (answer_of (plans_in P.jobs) job) };
+
+    ghost one_given = { λ job given. one_taken (plans_in P.jobs) job given };
+
+    fn jobs(&self) -> usize {
+        self.plan.jobs.len()
+    }
+
+    fn names(&self, alloc: Global, job: usize) -> Result<Vec<usize>, NoMemory> {
+        different(alloc, job, &self.job(job).named)
+    }
+
+    fn likely_size(&self, job: usize) -> u64 {
+        let plan = self.job(job);
+        if plan.streams() {
+            return 1;
+        }
+        plan.likely_size
+    }
+
+    fn given<E: EarlierAnswers<Answer>>(
+        &self,
+        alloc: Global,
+        job: usize,
+        earlier: &E,
+    ) -> Result<Begun<Taken, Answer>, NoMemory> {
+        let plan = self.job(job);
+        match self.numbers(alloc, job, &plan.named, earlier)? {
+            Begun::Walk(numbers) => {
+                let size = self.first_size(alloc, job, plan, earlier)?;
+                Ok(Begun::Walk(Taken { numbers, size }))
+            }
+            Begun::Known(answer) => Ok(Begun::Known(answer)),
+        }
+    }
+
+    fn last_segment(&self, job: usize) -> usize {
+        slices_first(self.job(job).walked_segments())
+    }
+
+    fn first_source(&self, _job: usize) -> SegmentSource<'a> {
+        SegmentSource::Own
+    }
+
+    fn size(&self, _job: usize, _segment: usize, source: &SegmentSource<'a>, given: &Taken) -> u64 {
+        match source {
+            SegmentSource::Own => given.size,
+            SegmentSource::Kept(walk) => Source::of_given(walk).size(),
+        }
+    }
+
+    fn is_divided(&self, job: usize, segment: usize) -> bool
+        requires job { job < length P.jobs }
+        requires segment { segment ≤ slices_first (chain_at (plans_in P.jobs) job).segments }
+        ensures { result ≡ segment_divides (slice_get (chain_at (plans_in P.jobs) job).segments segment) }
+    {
+        is_divided(self.job(job), segment)
+    }
+
+    fn scratch(&self, alloc: Global) -> Registers {
+        Registers::new(alloc)
+    }
+
+    fn left_out(&self, alloc: Global, piece: Piece, given: &Taken) -> Part<'a> {
+        left_out(alloc, self.job(piece.job), piece.segment, &given.numbers)
+    }
+
+    fn is_settled(&self, _piece: Piece, part: &Part<'a>) -> bool {
+        part.settles()
+    }
+
+    fn is_settled_by(&self, _piece: Piece, _fault: Fault) -> bool {
+        true
+    }
+
+    fn fault(&self, piece: Piece, _given: &Taken, part: &Part<'a>) -> Option<Fault> {
+        if catches(self.job(piece.job), piece.segment) {
+            part.fold_fault()
+        } else {
+            None
+        }
+    }
+
+    fn instead(&self, job: usize) -> Option<Fallback> {
+        self.job(job).fallback
+    }
+
+    fn answer_instead(&self, _job: usize, instead: Fallback) -> Answer {
+        instead.answer()
+    }
+
+    fn leaf<E: EarlierAnswers<Answer>, W: Stop>(
+        &self,
+        alloc: Global,
+        piece: Piece,
+        input: SegmentInput<'_, SegmentSource<'a>, Taken, E>,
+        registers: &mut Registers,
+        stop: &mut W,
+    ) -> Result<Part<'a>, NoMemory>
+        requires stop { (c : ℕ) → W.decides stop.old c → Decides (gives_at (chain_at (plans_in P.jobs) piece.job) piece.segment) (walk_at (chain_at (plans_in P.jobs) piece.job) piece.segment) c }
+        requires piece { IsPiece (length P.jobs) (λ job. slices_first (chain_at (plans_in P.jobs) job).segments) (λ job segment. size_at (chain_at (plans_in P.jobs) job) segment) piece.job piece.segment piece.from piece.to }
+        requires source { IsKept (chain_at (plans_in P.jobs) piece.job) piece.segment input.source.now }
+        requires given { IsTaken (plans_in P.jobs) piece.job input.given.now }
+        requires earlier { (j : ℕ) (a : answers) → E.is_answer j a → a ≡ answer_of (plans_in P.jobs) j }
+        ensures { IfOk result (λ part. PartStands (chain_at (plans_in P.jobs) piece.job) piece.segment piece.from piece.to part) }
+    {
+        let plan = self.job(piece.job);
+        let env = &input.given.numbers;
+        match input.source {
+            SegmentSource::Own if plan.takes_arrays() => {
+                let own = self.own(piece.job);
+                let sources = self.put_sources(alloc, piece.job, own, input.earlier)?;
+                let source = Source::of_sources(&sources, own);
+                let walked = Walked { source, env };
+                if plan.streams() {
+                    return streamed_piece(alloc, plan, walked, registers);
+                }
+                stored_piece(alloc, plan, piece, walked, registers, stop)
+            }
+            SegmentSource::Own => {
+                let source = Source::of_selected(plan);
+                let walked = Walked { source, env };
+                if plan.streams() {
+                    return streamed_piece(alloc, plan, walked, registers);
+                }
+                lent_piece(alloc, plan, piece, walked, registers, stop)
+            }
+            SegmentSource::Kept(walk) => {
+                let source = Source::of_given(walk);
+                let walked = Walked { source, env };
+                lent_piece(alloc, plan, piece, walked, registers, stop)
+            }
+        }
+    }
+
+    fn merge(cut: CutPiece, left: Part<'a>, right: Part<'a>) -> Result<Part<'a>, NoMemory>
+        requires piece { IsPiece (length P.jobs) (λ job. slices_first (chain_at (plans_in P.jobs) job).segments) (λ job segment. size_at (chain_at (plans_in P.jobs) job) segment) cut.job cut.segment cut.from cut.to }
+        requires within { (cut.from < cut.middle) × (cut.middle < cut.to) }
+        requires left { PartStands (chain_at (plans_in P.jobs) cut.job) cut.segment cut.from cut.middle left }
+        requires right { PartStands (chain_at (plans_in P.jobs) cut.job) cut.segment cut.middle cut.to right }
+        ensures { IfOk result (λ part. PartStands (chain_at (plans_in P.jobs) cut.job) cut.segment cut.from cut.to part) }
+    {
+        match left.merge(right) {
+            Ok(part) => Ok(part),
+            Err(_parts) => Err(NoMemory),
+        }
+    }
+
+    fn next_source(
+        &self,
+        alloc: Global,
+        _job: usize,
+        _segment: usize,
+        part: Part<'a>,
+        given: &Taken,
+    ) -> Result<SegmentSource<'a>, NoMemory> {
+        Ok(SegmentSource::Kept(next_walk(alloc, part, &given.numbers)?))
+    }
+
+    fn answer<E: EarlierAnswers<Answer>>(
+        &self,
+        alloc: Global,
+        job: usize,
+        part: Part<'a>,
+        input: SegmentInput<'_, SegmentSource<'a>, Taken, E>,
+        registers: &mut Registers,
+    ) -> Result<Answer, NoMemory>
+        requires job { job < length P.jobs }
+        requires source { IsKept (chain_at (plans_in P.jobs) job) (slices_first (chain_at (plans_in P.jobs) job).segments) input.source.now }
+        requires given { IsTaken (plans_in P.jobs) job input.given.now }
+        requires earlier { (j : ℕ) (a : answers) → E.is_answer j a → a ≡ answer_of (plans_in P.jobs) j }
+        requires part { PartStands (chain_at (plans_in P.jobs) job) (slices_first (chain_at (plans_in P.jobs) job).segments) 0 (size_at (chain_at (plans_in P.jobs) job) (slices_first (chain_at (plans_in P.jobs) job).segments)) part }
+        ensures { IfOk result (λ answer. answer ≡ answer_of (plans_in P.jobs) job) }
+    {
+        let plan = self.job(job);
+        let given = input.given;
+        if let Some(answer) = job_answer(alloc, plan, part, &given.numbers)? {
+            return self.for_later_jobs(alloc, job, answer);
+        }
+        let again = self.in_order(alloc, job, input, registers)?;
+        match job_answer(alloc, plan, again, &given.numbers)? {
+            Some(answer) => Ok(answer),
+            None => Ok(Answer::Number(0)),
+        }
+    }
+}
