@@ -14,6 +14,7 @@
 
 mod counts;
 mod pairs;
+mod parting;
 mod place;
 mod rule;
 mod seat;
