@@ -13,6 +13,7 @@
 //! Not promised: anything of the bytes that a file or a pipe holds, and that there is memory.
 #![tactic(auto)]
 
+mod by_records;
 mod cell;
 mod digits;
 mod fault;
@@ -21,6 +22,7 @@ mod pieces;
 mod plain;
 mod reading;
 mod records;
+mod round_bytes;
 mod rounds;
 mod rows;
 mod table;

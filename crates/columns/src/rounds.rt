@@ -5,7 +5,7 @@
 //! takes all of them: memory that is new to the system costs more time than the reading.
 //!
 //! From a round with another row than plain ones on, all bytes are read whole, and `csv` puts their rows under the columns.
-ghost use Rattle.std.specs.Prelude.{◌≡◌, ◌≢◌, ◌⊎◌, ◌++◌, ◌+◌, ◌<◌, ◌≤◌, ◌-◌, [], ℕ, List, true, IfErr, IfOk, OnOk, length, map, take, drop, get_or, vec_len};
+ghost use Rattle.std.specs.Prelude.{◌≡◌, ◌⊎◌, ◌++◌, ◌+◌, ◌<◌, ◌≤◌, ◌-◌, [], ℕ, List, true, IfErr, IfOk, OnOk, length, map, take, drop, vec_len};
 ghost use denote.Param.Send.{IsSync};
 ghost use Rattle.std.specs.Bool.{MatchBool};
 ghost use Rattle.std.specs.Io.KnownBytes.{Consumes, IsAtEnd};
@@ -13,20 +13,18 @@ ghost use Rattle.counted_io.specs.CountedRead.{GaveSome, HasGiven};
 ghost use Rattle.counted_io.specs.FailureCounts.{HasRisen};
 ghost use Rattle.columns.specs.Cells.{IsAnswerTo};
 ghost use Rattle.csv.specs.Reading.{strip_bom};
-ghost use Rattle.columns.specs.Fronts.{ArePutUnder, Goes, IsFront, IsPutBy, IsReadWhole};
-ghost use Rattle.columns.specs.Pieces.{cells_at};
+ghost use Rattle.columns.specs.Fronts.{Goes, IsFront, IsPutBy, IsReadWhole};
 ghost use Rattle.columns.specs.PlainRows.{AreRead};
 ghost use Rattle.columns.specs.TableOfColumns.{named};
 
+use crate::by_records::{columns_by_records, put_by_records};
 use crate::fault::ColumnFault;
 use crate::header::without_mark;
 use crate::pieces::{Piece, Team, empty_pieces, put_plain_text};
-use crate::reading::{columns_in, plain_header, rows_to_expect};
-use crate::records::reader_of;
-use crate::rows::read_rows;
+use crate::reading::{plain_header, rows_to_expect};
+use crate::round_bytes::{begin_with, last_line_end, read_on};
 use crate::table::{Column, Columns};
-use counted_io::{CountedRead, ReadAllFault, read_up_to};
-use csv::ByteRecord;
+use counted_io::CountedRead;
 use std::alloc::{AllocError, Global};
 use std::thread::Threads;
 use std::{mem, thread};
@@ -56,26 +54,6 @@ struct Rounds {
     pieces: Vec<Piece>,
 }
 
-/// Reads on, after the bytes that are there, until they are `limit` bytes, and answers whether the reader is at its end.
-pub(crate) fn read_on<R: CountedRead>(
-    reader: &mut R,
-    bytes: &mut Vec<u8>,
-    limit: usize,
-) -> Result<bool, ColumnFault>
-    ensures bytes { OnOk result (HasGiven (R.remaining reader.old) (R.remaining reader.new) bytes.old.items bytes.new.items) }
-    ensures end { IfOk result (λ is_end. is_end ≡ true → IsAtEnd (R.remaining reader.new)) }
-    ensures gave { GaveSome (R.remaining reader.old) (R.remaining reader.new) }
-    ensures refused { IfErr result (λ fault. (fault ≡ ColumnFault.Read) ⊎ (fault ≡ ColumnFault.NoMemory)) }
-    ensures read { IfErr result (λ fault. fault ≡ ColumnFault.Read → HasRisen (R.failures reader.old) (R.failures reader.new)) }
-    ensures counts { R.failures reader.old ≤ R.failures reader.new }
-{
-    match read_up_to(reader, bytes, limit) {
-        Ok(is_end) => Ok(is_end),
-        Err(ReadAllFault::Failed) => Err(ColumnFault::Read),
-        Err(ReadAllFault::NoMemory) => Err(ColumnFault::NoMemory),
-    }
-}
-
 /// The columns of a file of which these bytes are read, and of all that the reader has left.
 pub(crate) fn columns_in_rounds<H: Threads + Sync, R: CountedRead>(
     team: &Team<'_, H>,
@@ -96,24 +74,6 @@ pub(crate) fn columns_in_rounds<H: Threads + Sync, R: CountedRead>(
         }
     }
     columns_by_records(alloc, reader, bytes)
-}
-
-/// The same, by their records.
-fn columns_by_records<R: CountedRead>(
-    alloc: Global,
-    reader: &mut R,
-    mut bytes: Vec<u8>,
-) -> Result<Columns, ColumnFault>
-    ensures answer { (gone : List ℕ) × Consumes (R.remaining reader.old) (R.remaining reader.new) gone
-        × IsAnswerTo (bytes.items ++ gone) result }
-    ensures end { IsReadWhole (R.remaining reader.new) result }
-    ensures read { IfErr result (λ fault. fault ≡ ColumnFault.Read → HasRisen (R.failures reader.old) (R.failures reader.new)) }
-    ensures counts { R.failures reader.old ≤ R.failures reader.new }
-{
-    if !read_on(reader, &mut bytes, usize::MAX)? {
-        return Err(ColumnFault::NoMemory);
-    }
-    columns_in(alloc, &bytes)
 }
 
 /// The same, of bytes whose header ends at `end` after a mark, with the columns under it.
@@ -249,27 +209,6 @@ fn next_round<H: Threads + Sync, R: CountedRead>(
     Ok(if is_end { Round::Last } else { Round::Put })
 }
 
-/// Puts bytes in place of those that are there.
-fn begin_with(spare: &mut Vec<u8>, bytes: &[u8]) -> Result<(), AllocError>
-    ensures { OnOk result (spare.new.items ≡ bytes.now) }
-{
-    spare.clear();
-    spare.extend_from_slice(bytes)?;
-    Ok(())
-}
-
-/// Where the last line feed ends, or 0 if there is none.
-fn last_line_end(bytes: &[u8]) -> usize
-    ensures within { result ≤ length bytes.now }
-    ensures feed { 0 < result → get_or bytes.now (result - 1) 0 ≡ 10 }
-{
-    let mut end = bytes.len();
-    while end > 0 && bytes[end - 1] != b'\n' {
-        end -= 1;
-    }
-    end
-}
-
 /// Puts the rows of the whole lines before `end` under the columns, on threads, and reads on into `spare` on this one.
 fn put_and_read<H: Threads + Sync, R: CountedRead>(
     rt: &H,
@@ -341,47 +280,4 @@ fn put_last<H: Threads + Sync, R: CountedRead>(
 }
 
 /// A byte order mark. `csv` skips one at the start of a text.
-const MARK: [u8; 3] = [0xEF, 0xBB, 0xBF];
-
-/// Puts the rows of these bytes and of all that the reader has left under the columns, by their records.
-fn put_by_records<R: CountedRead>(
-    alloc: Global,
-    reader: &mut R,
-    bytes: &[u8],
-    columns: &mut [Column],
-) -> Result<(), ColumnFault>
-    requires some_column { 0 < length columns.old }
-    ensures put { IsPutBy (R.remaining reader.old) (R.remaining reader.new) bytes.now
-        (map named columns.old) result (map named columns.new) }
-    ensures end { IsReadWhole (R.remaining reader.new) result }
-    ensures read { IfErr result (λ fault. fault ≡ ColumnFault.Read → HasRisen (R.failures reader.old) (R.failures reader.new)) }
-    ensures counts { R.failures reader.old ≤ R.failures reader.new }
-{
-    // The mark that `csv` skips stands before the bytes, so it skips none of theirs.
-    let mut text = Vec::from_slice(alloc, &MARK)?;
-    text.extend_from_slice(bytes)?;
-    if !read_on(reader, &mut text, usize::MAX)? {
-        return Err(ColumnFault::NoMemory);
-    }
-    put_records(alloc, &text, columns)
-}
-
-/// Puts the rows of a text, after a mark at its start, under the columns.
-fn put_records(alloc: Global, text: &[u8], columns: &mut [Column]) -> Result<(), ColumnFault>
-    requires some_column { 0 < length columns.old }
-    ensures put { ArePutUnder (strip_bom text.now) (map named columns.old) result (map named columns.new) }
-    ensures unread { IfErr result (λ fault. fault ≢ ColumnFault.Read) }
-{
-    let mut reader = reader_of(alloc, text);
-    let mut row = ByteRecord::new(alloc);
-    let number = next_row(columns);
-    read_rows(&mut reader, &mut row, columns, number)
-}
-
-/// The number of the row that comes under the columns next.
-fn next_row(columns: &[Column]) -> usize
-    requires { 0 < length columns.now }
-    ensures { result ≡ length (cells_at (map named columns.now) 0) + 1 }
-{
-    columns[0].cells.len() + 1
-}
+pub(crate) const MARK: [u8; 3] = [0xEF, 0xBB, 0xBF];

@@ -6,7 +6,7 @@ ghost use Rattle.job_language.specs.Calls.{Call as call};
 ghost use Rattle.job_language.specs.Splitting.{words_in, reads, start, pieces, fits_from, IsSplit, IsReadAs, IsNoCallOf, AreEnds, IsOpen, Completes};
 
 use crate::operation::Operation;
-use crate::row::{allows, param_of};
+use crate::params::{allows, param_of};
 use crate::word::{Bracket, Word, bracket_at, fits, nest, part};
 use std::alloc::{AllocError, Global};
 

@@ -32,6 +32,7 @@ mod number;
 mod numbers;
 mod operation;
 mod operator;
+mod params;
 mod parts;
 mod piece;
 mod read;
@@ -52,9 +53,9 @@ pub use laws::{
     one_file, one_verdict,
 };
 pub use operation::{Operation, Param, Params, Role, name_of, one_operation, operation_of};
+pub use params::{allows, param_of, params_of, role_of};
 pub use piece::WrittenCall;
 pub use read::read_job;
-pub use row::{allows, param_of, params_of, role_of};
 pub use scope::{EarlierJob, Scope};
 pub use shape::{ParsedJob, one_job, parse_job};
 pub use terminal::{Gives, Terminal};

@@ -7,7 +7,7 @@ ghost use Rattle.job_language.specs.Shapes.{mark_of_symbol, width, is_open, oper
 
 use crate::call::read_call;
 use crate::operation::{Operation, Role, operation_of};
-use crate::row::role_of;
+use crate::params::role_of;
 use crate::word::{Word, after};
 use std::alloc::{AllocError, Global};
 use stream_tokens::Symbol;

@@ -8,13 +8,14 @@ ghost use Rattle.job_language.specs.Jobs.{find as find_terminal};
 ghost use Rattle.job_language.specs.Rows.{terminal as terminal_part};
 ghost use Rattle.job_language.specs.Rows.{nothing, column, exact, from_identity};
 ghost use Rattle.job_language.specs.Rows.{job as job_argument, number as number_argument, test as test_argument, stream as stream_argument, operator as operator_argument};
-ghost use Rattle.job_language.specs.Table.{role_of, params_of, built_of, allowed, allows, param_at, param_of};
+ghost use Rattle.job_language.specs.Table.{role_of, params_of, built_of};
 ghost use Rattle.job_language.specs.Parts.{argument_in, part_in, answer_in};
 
 use crate::argument::Argument;
 use crate::fault::Cause;
 use crate::job::{JobStage, PlainSource};
-use crate::operation::{Operation, Param, Params, Role};
+use crate::operation::{Operation, Params, Role};
+use crate::params::{params_of, role_of};
 use crate::terminal::Terminal;
 use find_ops::FindTerminal;
 use lambda_expr::{BoolExpr, InnerExpr, LongExpr};
@@ -34,7 +35,7 @@ pub enum CallPart<'c> {
 }
 
 /// The row of an operation: where it stands, and what stands between its parentheses.
-fn row(operation: Operation) -> (Role, Params)
+pub(crate) fn row(operation: Operation) -> (Role, Params)
     ensures role { result.0 ≡ role_of operation }
     ensures params { result.1 ≡ params_of operation }
 {
@@ -66,81 +67,6 @@ fn row(operation: Operation) -> (Role, Params)
         Operation::NoneMatch => (Role::Terminal, Params::Test),
         Operation::OnFault => (Role::Fallback, Params::Number),
     }
-}
-
-/// Where an operation stands in a job.
-pub fn role_of(operation: Operation) -> Role
-    ensures { result ≡ role_of operation }
-{
-    row(operation).0
-}
-
-/// What stands between the parentheses of a call.
-pub fn params_of(operation: Operation) -> Params
-    ensures { result ≡ params_of operation }
-{
-    row(operation).1
-}
-
-fn allowed(params: Params, count: usize) -> bool
-    ensures { result ≡ allowed params count }
-{
-    match params {
-        Params::Nothing => count == 0,
-        Params::Bounds => count == 2,
-        Params::Values => true,
-        Params::Number
-        | Params::Count
-        | Params::Column
-        | Params::Job
-        | Params::Long
-        | Params::Test
-        | Params::Stream => count == 1,
-        Params::Positions => count == 1 || count == 3,
-        Params::Identity => count == 1 || count == 2,
-        Params::Sources => false,
-    }
-}
-
-/// Whether a call may have this number of parts.
-pub fn allows(operation: Operation, count: usize) -> bool
-    ensures { result ≡ allows operation count }
-{
-    allowed(params_of(operation), count)
-}
-
-fn param_at(params: Params, count: usize, place: usize) -> Param
-    requires { place < count }
-    ensures { result ≡ param_at params count place }
-{
-    match params {
-        Params::Nothing
-        | Params::Bounds
-        | Params::Values
-        | Params::Number
-        | Params::Count
-        | Params::Sources => Param::Number,
-        Params::Column => Param::Text,
-        Params::Job => Param::Name,
-        Params::Long => Param::Long,
-        Params::Test => Param::Bool,
-        Params::Stream => Param::Stream,
-        Params::Positions | Params::Identity => {
-            if place + 1 < count {
-                Param::Number
-            } else {
-                Param::Operator
-            }
-        }
-    }
-}
-
-/// What part `place` of a call of `count` parts is.
-pub fn param_of(operation: Operation, count: usize, place: usize) -> Param
-    requires { place < count }
-    ensures { result ≡ param_of operation count place }
-{
-    param_at(params_of(operation), count, place)
 }
 
 fn find<'c>(terminal: FindTerminal) -> CallPart<'c>

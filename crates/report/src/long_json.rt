@@ -36,11 +36,22 @@ pub fn json_by<H: Threads + Sync>(
     draft.last.extend_from_slice(b"[")?;
     let mut later = false;
     for (name, answer) in names.iter().zip(answers) {
-        write_item_by(rt, workers, &mut draft, later, names, text_of(name), answer)?;
+        let job = NamedAnswer {
+            name: text_of(name),
+            answer,
+        };
+        write_item_by(rt, workers, &mut draft, later, names, job)?;
         later = true;
     }
     draft.last.extend_from_slice(b"]\n")?;
     draft.finish()
+}
+
+/// A job as the report has it.
+#[derive(Clone, Copy)]
+struct NamedAnswer<'a> {
+    name: &'a str,
+    answer: &'a Answer,
 }
 
 /// Adds the object of a job, after a comma if it is a later one.
@@ -50,14 +61,14 @@ fn write_item_by<H: Threads + Sync>(
     draft: &mut Draft,
     later: bool,
     names: &[Bytes],
-    name: &str,
-    answer: &Answer,
+    job: NamedAnswer,
 ) -> Result<(), NoMemory>
-    requires named { IsNamed names.now answer.now }
+    requires named { IsNamed names.now job.answer.now }
     requires text { All IsText names.now }
     ensures { OnOk result (draft_bytes draft.new
-        ≡ draft_bytes draft.old ++ (comma_if later ++ compact_text (job_json names.now name.now answer.now))) }
+        ≡ draft_bytes draft.old ++ (comma_if later ++ compact_text (job_json names.now job.entry.name.now job.entry.answer.now))) }
 {
+    let NamedAnswer { name, answer } = job;
     match answer {
         Answer::Array(values) => {
             write_comma_if(&mut draft.last, later)?;

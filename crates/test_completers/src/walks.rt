@@ -1,10 +1,9 @@
 //! Trees that walk a list of numbers, cut at arbitrary places, on several threads.
-ghost use Rattle.std.specs.Prelude.{◌≡◌, ◌≢◌, ◌+◌, ◌-◌, ◌<◌, ◌≤◌, ℕ, ℤ, List, Option, Some, None, Ok, Err, IfSome, MatchOption, [], length, true, false};
+ghost use Rattle.std.specs.Prelude.{◌≡◌, ◌≢◌, ◌+◌, ◌-◌, ◌<◌, ◌≤◌, ℤ, List, Option, Some, None, Ok, Err, IfSome, MatchOption, [], length};
 ghost use Rattle.std.specs.Thread.{IsSync};
 ghost use Rattle.pending_count.specs.Pairs.{side_of};
 ghost use Rattle.pending_count.specs.Seats.{view_of, IsSeatOf};
 ghost use Rattle.pending_count.specs.declared.place.Side.TheVariants.{Whole};
-ghost use Rattle.completer_tree.specs.Trees.{table_id_of, CanFork};
 ghost use Rattle.completer_tree.specs.Roots.{Rooted};
 ghost use Rattle.test_completers.specs.Halves.{CanWalk};
 ghost use Rattle.test_completers.specs.Walks.{begins, ends_at, IsClean, IsFirstNegative, Walked};
@@ -12,8 +11,8 @@ ghost use Rattle.test_completers.specs.WalkLaws.{by_bounds};
 
 use crate::cut::NumberCut;
 use completer_tree::{
-    Completer, CompleterTree, Continuation, Failure, First, Forked, Half, Handed, Next, PartValue,
-    Tree, TreeCounts, TreeSeat,
+    Completer, CompleterTree, Continuation, Failure, Forked, Half, Handed, PartValue, Tree,
+    TreeCounts, TreeSeat,
 };
 use lambda_expr::FaultKind;
 use pending_count::{Place, Side};
@@ -50,9 +49,9 @@ impl<P: Planned> PartValue for Items<P> {
 /// Puts the numbers of the right side after those of the left one.
 #[derive(Drop)]
 pub(crate) struct Append<P: Planned> {
-    cut: NumberCut,
-    parent: Option<(NumberCut, bool)>,
-    of: PhantomData<P>,
+    pub(crate) cut: NumberCut,
+    pub(crate) parent: Option<(NumberCut, bool)>,
+    pub(crate) of: PhantomData<P>,
     ghost ordered: { (cut.from ≤ cut.middle) × (cut.middle ≤ cut.to) },
     ghost side: { (p : _) → parent ≡ Some p → (begins p.0 (side_of p.1) ≡ cut.from) × (ends_at p.0 (side_of p.1) ≡ cut.to) },
     ghost top: { parent ≡ None → (cut.from ≡ 0) × (cut.to ≡ length P.source) },
@@ -92,11 +91,11 @@ impl<P: Planned> Continuation<Items<P>> for Append<P> {
     }
 }
 
-type ItemTree<'a, P> = CompleterTree<'a, Items<P>, Append<P>>;
+pub(crate) type ItemTree<'a, P> = CompleterTree<'a, Items<P>, Append<P>>;
 
-type ItemSeat<P> = TreeSeat<Items<P>, Append<P>>;
+pub(crate) type ItemSeat<P> = TreeSeat<Items<P>, Append<P>>;
 
-type ItemHalf<P> = Half<Handed<Items<P>>, Completer<Items<P>, Append<P>>>;
+pub(crate) type ItemHalf<P> = Half<Handed<Items<P>>, Completer<Items<P>, Append<P>>>;
 
 // The place of the first negative number from one place up to, not with, another.
 fn first_negative(numbers: &[i64], from: usize, to: usize) -> Option<usize>
@@ -111,8 +110,13 @@ fn first_negative(numbers: &[i64], from: usize, to: usize) -> Option<usize>
     None
 }
 
-// The walk of a part: its numbers, or a fault at the first negative one.
-fn walked<P: Planned>(alloc: Global, numbers: &[i64], from: usize, to: usize) -> Handed<Items<P>>
+/// The walk of a part: its numbers, or a fault at the first negative one.
+pub(crate) fn walked<P: Planned>(
+    alloc: Global,
+    numbers: &[i64],
+    from: usize,
+    to: usize,
+) -> Handed<Items<P>>
     requires { (from ≤ to) × (to ≤ length numbers.now) }
     ensures { Walked (λ x. x.items.items) numbers.now from to result }
 {
@@ -287,82 +291,6 @@ pub(crate) fn claimed<R: Threads + Sync>(
     nodes: u32,
 ) -> Option<u32> {
     claimed_as::<Brand, R>(rt, alloc, numbers, nodes)
-}
-
-// Both sides of a tree of one node, step by step: the pending count after the first arrival, and the result.
-fn by_steps_as<P: Planned>(
-    alloc: Global,
-    numbers: &[i64],
-    left_first: bool,
-) -> Option<(u64, Handed<Vec<i64>>)>
-    requires source { numbers.now ≡ P.source }
-    ensures { IfSome result (λ r. Walked (λ x. x.items) P.source 0 (length P.source) r.1) }
-{
-    let (counts, seat) = TreeCounts::<Items<P>, Append<P>>::new(alloc, 1, 0).ok()?;
-    let middle = numbers.len() / 2;
-    let cut = NumberCut {
-        from: 0,
-        middle,
-        to: numbers.len(),
-    };
-    let run = Append {
-        cut,
-        parent: None,
-        of: PhantomData,
-    };
-    let tree = Tree::new(&counts, &[]);
-    let Forked::Split(left, right) = tree.fork(seat, None, run) else {
-        return None;
-    };
-    let low = walked(alloc, numbers, 0, middle);
-    let high = walked(alloc, numbers, middle, numbers.len());
-    if left_first {
-        both_steps(&tree, left, low, right, high)
-    } else {
-        both_steps(&tree, right, high, left, low)
-    }
-}
-
-fn both_steps<P: Planned>(
-    tree: &ItemTree<P>,
-    first: ItemHalf<P>,
-    value: Handed<Items<P>>,
-    second: ItemHalf<P>,
-    other: Handed<Items<P>>,
-) -> Option<(u64, Handed<Vec<i64>>)>
-    requires first { CanFork (table_id_of tree.now.counts.now) first.place first.seat }
-    requires second { CanFork (table_id_of tree.now.counts.now) second.place second.seat }
-    requires value { Walked (λ x. x.items.items) P.source (begins first.place.tag first.place.side) (ends_at first.place.tag first.place.side) value }
-    requires other { Walked (λ x. x.items.items) P.source (begins second.place.tag second.place.side) (ends_at second.place.tag second.place.side) other }
-    ensures { IfSome result (λ r. Walked (λ x. x.items) P.source 0 (length P.source) r.1) }
-{
-    if first.place.root() != second.place.root() {
-        return None;
-    }
-    let First::Pending(_seat, pending) = tree.first_complete(first.seat, first.place, value) else {
-        return None;
-    };
-    let First::Last(seat, finisher) = tree.first_complete(second.seat, second.place, other) else {
-        return None;
-    };
-    let Next::Whole(_seat, found) = tree.next_complete(seat, finisher) else {
-        return None;
-    };
-    match found {
-        Ok(found) => Some((pending, Ok(found.items))),
-        Err(failure) => Some((pending, Err(failure))),
-    }
-}
-
-/// The same for any numbers.
-pub(crate) fn by_steps(
-    alloc: Global,
-    numbers: &[i64],
-    left_first: bool,
-) -> Option<(u64, Handed<Vec<i64>>)>
-    ensures { IfSome result (λ r. Walked (λ x. x.items) numbers.now 0 (length numbers.now) r.1) }
-{
-    by_steps_as::<Brand>(alloc, numbers, left_first)
 }
 
 /// What the walk of all numbers gives, over a tree of at most `nodes` nodes, whose sides are walked on up to 2^`levels` threads.

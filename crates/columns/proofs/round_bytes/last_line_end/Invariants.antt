@@ -1,5 +1,5 @@
 use Rattle.std.proofs.Common.{◌≤◌, length}
-use Rattle.columns.proofs.rounds.last_line_end.Given as goal
+use Rattle.columns.proofs.round_bytes.last_line_end.Given as goal
 
 abbrev pub invariant-loop-end : goal.invariant-loop-end
 invariant-loop-end l = l.end ≤ length l.bytes

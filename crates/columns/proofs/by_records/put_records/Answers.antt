@@ -6,7 +6,7 @@ use Rattle.columns.specs.Records.{IsReading}
 use Rattle.columns.specs.TableOfColumns.{named}
 use Rattle.columns.proofs.CsvLemmas.{AreRowsOf-same}
 use Rattle.columns.proofs.FrontLemmas.{rows_of_text}
-use Rattle.columns.proofs.rounds.put_records.Goals as goal
+use Rattle.columns.proofs.by_records.put_records.Goals as goal
 
 pub returns-clause-put : goal.returns-clause-put
 returns-clause-put c rows all =

@@ -3,7 +3,7 @@ use Rattle.std.proofs.lemmas.List.{length-map}
 use Rattle.csv.specs.Reading.{strip_bom}
 use Rattle.columns.specs.TableOfColumns.{named}
 use Rattle.columns.proofs.FrontLemmas.{IsPutBy-records, strip_bom-mark}
-use Rattle.columns.proofs.rounds.put_by_records.Goals as goal
+use Rattle.columns.proofs.by_records.put_by_records.Goals as goal
 
 pub returns-clause-put : goal.returns-clause-put
 returns-clause-put g c =

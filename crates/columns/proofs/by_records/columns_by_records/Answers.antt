@@ -1,5 +1,5 @@
 use Rattle.std.proofs.Common.{◌∙◌}
-use Rattle.columns.proofs.rounds.columns_by_records.Goals as goal
+use Rattle.columns.proofs.by_records.columns_by_records.Goals as goal
 
 pub returns-clause-answer : goal.returns-clause-answer
 returns-clause-answer g c =

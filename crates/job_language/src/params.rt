@@ -1,0 +1,82 @@
+//! What the table of operations says of an operation: where it stands, how many arguments it takes, and what each is.
+
+ghost use Rattle.std.specs.Prelude.{◌≡◌, ◌<◌};
+ghost use Rattle.job_language.specs.Table.{role_of, params_of, allowed, allows, param_at, param_of};
+
+use crate::operation::{Operation, Param, Params, Role};
+use crate::row::row;
+
+/// Where an operation stands in a job.
+pub fn role_of(operation: Operation) -> Role
+    ensures { result ≡ role_of operation }
+{
+    row(operation).0
+}
+
+/// What stands between the parentheses of a call.
+pub fn params_of(operation: Operation) -> Params
+    ensures { result ≡ params_of operation }
+{
+    row(operation).1
+}
+
+fn allowed(params: Params, count: usize) -> bool
+    ensures { result ≡ allowed params count }
+{
+    match params {
+        Params::Nothing => count == 0,
+        Params::Bounds => count == 2,
+        Params::Values => true,
+        Params::Number
+        | Params::Count
+        | Params::Column
+        | Params::Job
+        | Params::Long
+        | Params::Test
+        | Params::Stream => count == 1,
+        Params::Positions => count == 1 || count == 3,
+        Params::Identity => count == 1 || count == 2,
+        Params::Sources => false,
+    }
+}
+
+/// Whether a call may have this number of parts.
+pub fn allows(operation: Operation, count: usize) -> bool
+    ensures { result ≡ allows operation count }
+{
+    allowed(params_of(operation), count)
+}
+
+fn param_at(params: Params, count: usize, place: usize) -> Param
+    requires { place < count }
+    ensures { result ≡ param_at params count place }
+{
+    match params {
+        Params::Nothing
+        | Params::Bounds
+        | Params::Values
+        | Params::Number
+        | Params::Count
+        | Params::Sources => Param::Number,
+        Params::Column => Param::Text,
+        Params::Job => Param::Name,
+        Params::Long => Param::Long,
+        Params::Test => Param::Bool,
+        Params::Stream => Param::Stream,
+        Params::Positions | Params::Identity => {
+            if place + 1 < count {
+                Param::Number
+            } else {
+                Param::Operator
+            }
+        }
+    }
+}
+
+/// What part `place` of a call of `count` parts is.
+pub fn param_of(operation: Operation, count: usize, place: usize) -> Param
+    requires { place < count }
+    ensures { result ≡ param_of operation count place }
+{
+    param_at(params_of(operation), count, place)
+}
