@@ -8,6 +8,7 @@ use mathlib.Core.Logic.{dite}
 use native.Mathlib.Decide.{ℕ_discrete}
 use Rattle.trace.specs.declared.item.Item.{Item}
 use Rattle.trace.specs.Cover.{placed}
+use Rattle.trace.proofs.Ranges.{placed_get}
 use Rattle.trace.proofs.Sources.{length-placed, placed_at}
 use Rattle.batch_eval.specs.Lanes.{at}
 use Rattle.batch_eval.specs.Batches.{item_at, lanes}
@@ -40,12 +41,6 @@ one_value_more items p lane values x v within here is before k below =
     (λ other.
     let h : HasValue items (p + k) (at values k) = before k (omega arith) in
     (h.0, h.1, h.2 ∙ sym (get_or-set_other values lane k v (pos 0) other)))
-
--- the item at a position of values at places
-pub placed_get : (o : ℕ) (vs : List ℤ) (n : ℕ) (z v : ℤ) → n < length vs → get_or vs n z ≡ v → slice_get (placed o vs) n ≡ Some (record { origin = o + n; value = v })
-placed_get o vs n z v within is =
-    let x : Item = record { origin = n; value = v } in
-    slice_get-get_or (placed o vs) n x (rw (length-placed o vs) within) ∙ ap (λ (y : Item). Some y) (placed_at o vs n x z within) ∙ ap (λ (u : ℤ). let y : Item = record { origin = o + n; value = u } in Some y) is
 
 -- the items of lanes that hold values at places that count up
 pub lanes_placed : (o : ℕ) (origins : List ℕ) (vs : List ℤ) → o + length vs ≤ 2 ^ 62 → lanes (length vs) (item_at (Some o) origins vs) ≡ placed o vs

@@ -14,7 +14,6 @@ ghost use Rattle.trace.specs.declared.item.Item.{Item};
 use crate::listed::ListedItems;
 use crate::listing::{copy_front, list_items, list_places, list_values};
 use crate::pipeline::Pipeline;
-use crate::placed::PlacedValues;
 use crate::reached::Reached;
 use crate::register::{Inputs, LANES, eval_long};
 use crate::source::BatchSource;
@@ -22,7 +21,7 @@ use lambda_expr::LongExpr;
 use std::alloc::Global;
 use std::marker::Model;
 use std::mem;
-use trace::{End, Fault, Item, NoMemory, SourceItems};
+use trace::{End, Fault, Item, NoMemory, PlacedValues, SourceItems};
 
 /// Up to 1,024 items in registers, and how the walk ends after them.
 ///

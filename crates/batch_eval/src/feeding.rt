@@ -14,13 +14,12 @@ ghost use Rattle.trace.specs.declared.item.Item.{Item};
 
 use crate::listed::ListedItems;
 use crate::pipeline::Pipeline;
-use crate::placed::PlacedValues;
 use crate::register::LANES;
 use crate::registers::{Registers, Space};
 use crate::sink::BatchSink;
 use crate::source::BatchSource;
 use crate::staging::feed_batch;
-use trace::{Fed, Flow, NoMemory, Stage, feed_all};
+use trace::{Fed, Flow, NoMemory, PlacedValues, Stage, feed_all};
 
 /// The first batch of a walk. Each further one is four times as large, up to 1,024 items, so that a
 /// sink that soon has enough doesn't pay for a large one.

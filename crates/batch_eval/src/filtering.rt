@@ -16,11 +16,10 @@ use crate::flagged::{LiveLanes, give_passing};
 use crate::keep::{keep_from, keep_lanes, keep_listed};
 use crate::listed::ListedItems;
 use crate::pipeline::Pipeline;
-use crate::placed::PlacedValues;
 use crate::register::{Inputs, eval_bool};
 use crate::sink::BatchSink;
 use lambda_expr::BoolExpr;
-use trace::{End, Fed, Flow, Item, NoMemory};
+use trace::{End, Fed, Flow, Item, NoMemory, PlacedValues};
 
 impl Batch {
     /// `filter` of `LongStream`: the items at which the test is true, moved to the front.

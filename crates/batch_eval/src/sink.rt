@@ -10,9 +10,8 @@ ghost use Rattle.trace.specs.declared.item.Item.{Item};
 
 use crate::batch::Batch;
 use crate::flagged::{FlaggedLanes, accept_each_flagged};
-use crate::placed::PlacedValues;
 use lambda_expr::BoolExpr;
-use trace::{Fed, Flow, LongSink, NoMemory, SourceItems};
+use trace::{Fed, Flow, LongSink, NoMemory, PlacedValues, SourceItems};
 
 /// A sink that takes the items of a batch at once.
 pub trait BatchSink: LongSink {

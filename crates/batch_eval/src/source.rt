@@ -94,7 +94,22 @@ impl<I: BatchSource> BatchSource for SourcePart<'_, I> {
 
 impl BatchSource for RangeItems {
     fn first_place(&self) -> Option<u64> {
-        Some(0)
+        Some(self.origin)
+    }
+}
+
+impl BatchSource for PlacedValues<'_> {
+    fn first_place(&self) -> Option<u64> {
+        Some(self.origin)
+    }
+
+    fn values_at(&self, position: u64, count: u64) -> Option<&[i64]> {
+        let first = position as usize;
+        Some(&self.values[first..first + count as usize])
+    }
+
+    fn give<S: BatchSink>(&self, room: &mut [i64], sink: &mut S) -> Result<Fed, NoMemory> {
+        sink.accept_run(*self, room)
     }
 }
 

@@ -17,7 +17,6 @@ pub mod NameLemmas
 pub mod NestLemmas
 pub mod PartLemmas
 pub mod PassageLemmas
-pub mod Positions
 pub mod RunLemmas
 pub mod ScanLemmas
 pub mod SegmentLemmas

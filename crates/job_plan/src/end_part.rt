@@ -67,12 +67,6 @@ pub(crate) trait EndPart: Drop + Sized {
         ensures kind { may_search (as_part self.new) ≡ may_search (as_part self.old) }
         ensures keeps { keeps_items (as_part self.new) ≡ keeps_items (as_part self.old) };
 
-    /// Whether the items of lanes with flags are to be given with their flags: to a fold, which then moves no value, and to
-    /// `findFirst`, which the first flag decides.
-    fn takes_flags(&self, _end: &SegmentEnd) -> bool {
-        false
-    }
-
     /// Adds the values whose flag isn't 0, if the end is a fold by an operator that has an identity, and answers whether it is.
     fn push_flagged(&mut self, _values: &[i64], _flags: &[i64]) -> bool
         requires open { is_settled (as_part self.old) ≡ false }

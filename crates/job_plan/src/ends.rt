@@ -49,6 +49,20 @@ pub enum SegmentEnd {
     ExactSum,
 }
 
+/// What is asked of an end of any kind, apart from its parts.
+#[derive(Clone, Copy)]
+pub(crate) struct EndTraits<'e> {
+    /// The stage that looks at a whole walk, if such a stage is the end.
+    slice: Option<&'e Slice>,
+    /// Whether it makes a walk of a walk, over which the next segment goes.
+    gives_walk: bool,
+    /// The test that it asks of items while it takes them, if it asks one.
+    pub(crate) test: Option<&'e BoolExpr>,
+    /// Whether the items of lanes with flags are to be given with their flags: to a fold, which then moves no value, and to
+    /// `findFirst`, which the first flag decides.
+    pub(crate) takes_flags: bool,
+}
+
 impl SegmentEnd {
     /// A terminal as the end of a segment.
     pub(crate) fn of(terminal: Terminal) -> SegmentEnd
@@ -72,36 +86,72 @@ impl SegmentEnd {
         ensures some { IfSome result (λ slice. slice_in (end_in self.now) ≡ Some (slice_of slice.now)) }
         ensures none { IfNone result (slice_in (end_in self.now) ≡ None) }
     {
-        match self {
-            SegmentEnd::Slice(slice) => Some(slice),
-            SegmentEnd::Fold(_)
-            | SegmentEnd::Find(_)
-            | SegmentEnd::Array
-            | SegmentEnd::Prefix(_)
-            | SegmentEnd::ExactSum => None,
-        }
+        self.traits().slice
     }
 
     /// Whether it makes a walk of a walk, over which the next segment goes. Others give the answer of the job.
     pub fn gives_walk(&self) -> bool
         ensures { result ≡ gives_walk (end_in self.now) }
     {
-        match self {
-            SegmentEnd::Slice(_) | SegmentEnd::Prefix(_) => true,
-            SegmentEnd::Fold(_) | SegmentEnd::Find(_) | SegmentEnd::Array | SegmentEnd::ExactSum =>
-                false,
-        }
+        self.traits().gives_walk
     }
 
-    /// The test that it asks of items while it takes them, if it asks one.
-    pub(crate) fn test(&self) -> Option<&BoolExpr> {
+    /// What is asked of it, apart from its parts: one row for each kind.
+    pub(crate) fn traits(&self) -> EndTraits<'_>
+        ensures some { IfSome result.slice (λ slice. slice_in (end_in self.now) ≡ Some (slice_of slice.now)) }
+        ensures none { IfNone result.slice (slice_in (end_in self.now) ≡ None) }
+        ensures walk { result.gives_walk ≡ gives_walk (end_in self.now) }
+    {
         match self {
-            SegmentEnd::Find(FindTerminal::AnyMatch(test)) => Some(test),
-            SegmentEnd::Find(FindTerminal::AllMatch(test)) => Some(test),
-            SegmentEnd::Find(FindTerminal::NoneMatch(test)) => Some(test),
-            SegmentEnd::Slice(Slice::TakeWhile(test)) => Some(test),
-            _ => None,
+            SegmentEnd::Slice(slice) => EndTraits {
+                slice: Some(slice),
+                gives_walk: true,
+                test: test_of_slice(slice),
+                takes_flags: false,
+            },
+            SegmentEnd::Fold(fold) => EndTraits {
+                slice: None,
+                gives_walk: false,
+                test: None,
+                takes_flags: fold.op.identity().is_some(),
+            },
+            SegmentEnd::Find(find) => EndTraits {
+                slice: None,
+                gives_walk: false,
+                test: test_of_find(find),
+                takes_flags: matches!(find, FindTerminal::First),
+            },
+            SegmentEnd::Prefix(_) => EndTraits {
+                slice: None,
+                gives_walk: true,
+                test: None,
+                takes_flags: false,
+            },
+            SegmentEnd::Array | SegmentEnd::ExactSum => EndTraits {
+                slice: None,
+                gives_walk: false,
+                test: None,
+                takes_flags: false,
+            },
         }
+    }
+}
+
+/// The test that a slice asks of items while it takes them, if it asks one.
+fn test_of_slice(slice: &Slice) -> Option<&BoolExpr> {
+    match slice {
+        Slice::TakeWhile(test) => Some(test),
+        Slice::Limit(_) | Slice::Skip(_) | Slice::DropWhile(_) => None,
+    }
+}
+
+/// The same of a find or a match.
+fn test_of_find(find: &FindTerminal) -> Option<&BoolExpr> {
+    match find {
+        FindTerminal::AnyMatch(test)
+        | FindTerminal::AllMatch(test)
+        | FindTerminal::NoneMatch(test) => Some(test),
+        FindTerminal::First => None,
     }
 }
 

@@ -5,7 +5,7 @@ ghost use Rattle.job_plan.specs.declared.part.Part.TheVariants as part;
 use crate::end_part::{EndPart, LastStage};
 use crate::ends::SegmentEnd;
 use crate::fronts::undecided;
-use find_ops::{FindPart, FindTerminal};
+use find_ops::FindPart;
 use trace::{End, Item, NoMemory, SourceItems};
 
 impl EndPart for FindPart {
@@ -30,10 +30,6 @@ impl EndPart for FindPart {
             *self = self.look_after(find, last.number, last.env, source, first);
         }
         Ok(())
-    }
-
-    fn takes_flags(&self, end: &SegmentEnd) -> bool {
-        matches!(end, SegmentEnd::Find(FindTerminal::First))
     }
 
     fn end_with(&mut self, ending: End) {

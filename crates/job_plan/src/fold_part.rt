@@ -12,7 +12,7 @@ ghost use Rattle.job_plan.specs.declared.part.Part.TheVariants as part;
 
 use crate::answer::Answer;
 use crate::end_part::{EndPart, LastStage, is_fault};
-use crate::ends::{Fold, SegmentEnd};
+use crate::ends::Fold;
 use crate::folding::{folded, folded_flagged};
 use reduce_ops::Partial;
 use trace::{End, Item, NoMemory, SourceItems};
@@ -73,10 +73,6 @@ impl EndPart for FoldPart {
         let right = folded(self.partial.op(), self.counts, values);
         self.partial = self.partial.merge(right);
         Ok(())
-    }
-
-    fn takes_flags(&self, _end: &SegmentEnd) -> bool {
-        self.partial.op().identity().is_some()
     }
 
     fn push_flagged(&mut self, values: &[i64], flags: &[i64]) -> bool {

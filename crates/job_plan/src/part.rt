@@ -180,10 +180,6 @@ impl<'a> EndPart for Part<'a> {
         of_any_kind!(self, part => EndPart::push_all(part, last, source, values, room))
     }
 
-    fn takes_flags(&self, end: &SegmentEnd) -> bool {
-        of_any_kind!(self, part => EndPart::takes_flags(part, end))
-    }
-
     fn push_flagged(&mut self, values: &[i64], flags: &[i64]) -> bool {
         of_any_kind!(self, part => EndPart::push_flagged(part, values, flags))
     }

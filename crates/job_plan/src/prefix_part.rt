@@ -16,14 +16,13 @@ use crate::end_part::{EndPart, LastStage, is_fault};
 use crate::ends::Prefix;
 use crate::folded_piece::FoldedPiece;
 use crate::given::GivenWalk;
-use crate::pieces::RangePiece;
 use crate::prefix_pieces::{add_items, add_lent, add_range, add_run, run_place};
 use crate::scanned::ScannedWalk;
 use batch_eval::Registers;
 use lambda_expr::FaultKind;
 use std::alloc::Global;
 use std::marker::Model;
-use trace::{Chunk, End, Fault, NoMemory, SourceItems};
+use trace::{Chunk, End, Fault, NoMemory, RangeItems, SourceItems};
 
 /// The items of a piece for a prefix, the stage with this number, and how the walk ended. Contracts see just that.
 ///
@@ -111,7 +110,7 @@ impl<'a> PrefixPart<'a> {
     pub(crate) fn push_range(
         &mut self,
         maps: Maps<'a>,
-        range: &RangePiece,
+        range: &RangeItems,
         registers: &mut Registers,
     ) -> Result<(), NoMemory>
         requires open { self.old.walk.ending ≡ end.Done }

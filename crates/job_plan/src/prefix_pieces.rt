@@ -12,10 +12,9 @@ ghost use Rattle.job_plan.specs.Scans.{IsFolded, all_items};
 use crate::cheap_maps::Maps;
 use crate::folded_piece::{FoldedPiece, MOST_ITEMS};
 use crate::folding::folded;
-use crate::pieces::RangePiece;
 use batch_eval::Registers;
 use reduce_ops::{Op, Partial};
-use trace::{MAX_SOURCE_SIZE, NoMemory, SourceItems};
+use trace::{MAX_SOURCE_SIZE, NoMemory, RangeItems, SourceItems};
 
 /// How many items there are at least whose values are stored without their places, if these count up.
 const LEAST_RUN: usize = 16;
@@ -162,7 +161,7 @@ pub(crate) fn add_range<'a>(
     pieces: &mut Vec<FoldedPiece<'a>>,
     op: Op,
     maps: Maps<'a>,
-    range: &RangePiece,
+    range: &RangeItems,
     registers: &mut Registers,
 ) -> Result<(), NoMemory>
     requires folds { All (IsFolded op) pieces.old.items }

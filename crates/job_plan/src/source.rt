@@ -16,7 +16,6 @@ ghost use Rattle.job_plan.specs.Walks.{plain_values, source_walk, values_of};
 ghost use Rattle.job_plan.specs.Windows.{selected_source, selected_walk};
 
 use crate::given::GivenWalk;
-use crate::pieces::RangePiece;
 use crate::scanned_pieces::feed_given;
 use crate::segment::JobPlan;
 use crate::sources::{PlainSources, plain_size};
@@ -25,7 +24,7 @@ use crate::windows::{Window, selected_window};
 use batch_eval::{BatchSink, Pipeline, PlacedValues, Registers, feed_batches};
 use job_language::PlainSource;
 use lambda_expr::{Env, FaultKind};
-use trace::{End, Fault, Fed, Flow, NoMemory};
+use trace::{End, Fault, Fed, Flow, NoMemory, RangeItems};
 
 /// The fault of sources of more than 2^62 values.
 const TOO_LONG: Fault = Fault {
@@ -266,7 +265,7 @@ fn feed_range<S: BatchSink>(
 }
 
 /// `count` integers that count up, from a position on; the first of them has the place `origin`.
-pub(crate) fn range_piece(origin: u64, from: i64, start: u64, count: u64) -> RangePiece
+pub(crate) fn range_piece(origin: u64, from: i64, start: u64, count: u64) -> RangeItems
     requires some { 0 < count }
     requires few { origin + count ≤ 2 ^ 62 }
     requires short { start + count ≤ 2 ^ 62 }
@@ -275,7 +274,7 @@ pub(crate) fn range_piece(origin: u64, from: i64, start: u64, count: u64) -> Ran
     ensures first { result.first ≡ from +ℤ pos start }
     ensures count { result.count ≡ count }
 {
-    RangePiece {
+    RangeItems {
         origin,
         first: from + start as i64,
         count,

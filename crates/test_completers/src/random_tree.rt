@@ -185,6 +185,13 @@ fn hand_over(
     (rest, part)
 }
 
+// The nodes `from`, `from + 1`, .. `to - 1`.
+#[derive(Clone, Copy)]
+struct NodeRange {
+    from: Node,
+    to: Node,
+}
+
 // The same on 2^`levels` threads.
 #[cycle(halves)]
 fn on_threads<R: Threads + Sync>(
@@ -192,13 +199,13 @@ fn on_threads<R: Threads + Sync>(
     alloc: Global,
     counts: &Plain,
     seat: PlainSeat,
-    from: Node,
-    to: Node,
+    nodes: NodeRange,
     levels: u32,
 ) -> Result<Vec<Node>, AllocError>
-    requires nodes { (0 < from) × (from ≤ to) × (to ≤ nodes_of counts.now + 1) }
-    requires seat { CanClimb counts.now from to seat }
+    requires nodes { (0 < nodes.from) × (nodes.from ≤ nodes.to) × (nodes.to ≤ nodes_of counts.now + 1) }
+    requires seat { CanClimb counts.now nodes.from nodes.to seat }
 {
+    let NodeRange { from, to } = nodes;
     if levels == 0 {
         return climb_all(alloc, counts, seat, from, to);
     }
@@ -208,10 +215,28 @@ fn on_threads<R: Threads + Sync>(
         rt,
         move || -> Result<Vec<Node>, AllocError>
             requires { IsSync R.row × (0 < levels) × (0 < from) × (from ≤ middle) × (middle ≤ nodes_of counts.now + 1) × CanClimb counts.now from middle low }
-        { on_threads(rt, alloc, counts, low, from, middle, levels - 1) },
+        {
+            on_threads(
+                rt,
+                alloc,
+                counts,
+                low,
+                NodeRange { from, to: middle },
+                levels - 1,
+            )
+        },
         move || -> Result<Vec<Node>, AllocError>
             requires { IsSync R.row × (0 < levels) × (0 < middle) × (middle ≤ to) × (to ≤ nodes_of counts.now + 1) × CanClimb counts.now middle to high }
-        { on_threads(rt, alloc, counts, high, middle, to, levels - 1) },
+        {
+            on_threads(
+                rt,
+                alloc,
+                counts,
+                high,
+                NodeRange { from: middle, to },
+                levels - 1,
+            )
+        },
     );
     let mut entered = one?;
     entered.append(&mut other?)?;
@@ -231,7 +256,11 @@ fn eight_threads_enter_each_node_of_a_large_tree_once(rt: HostRuntime) -> Result
     let (counts, seat) = Plain::new(rt.alloc(), NODES, 1)?;
     let seat = grow(&counts, seat).expect(&rt, "each node is drawn");
     let (seat, aside) = counts.split(seat, 0, 0, 0);
-    let mut entered = on_threads(&rt, rt.alloc(), &counts, seat, 1, NODES + 1, 3)?;
+    let all = NodeRange {
+        from: 1,
+        to: NODES + 1,
+    };
+    let mut entered = on_threads(&rt, rt.alloc(), &counts, seat, all, 3)?;
     entered.sort()?;
     assert!(rt; entered.iter().copied().eq(1..=NODES));
     let (_aside, left) = counts.left(aside);

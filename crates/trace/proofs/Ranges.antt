@@ -1,5 +1,5 @@
 -- The values of a range in 64 bits.
-use Rattle.std.proofs.Common.{◌≡◌, ℕ, zero, suc, [], ◌∷◌, ◌<◌, ◌≤◌, ◌^◌, ℤ, pos, ◌+ℤ◌, FitsSigned, to_z, of_z, w64, refl, ap, subst, ◌∙◌, arith, zero-add, Some, List, length, get_or}
+use Rattle.std.proofs.Common.{◌≡◌, ℕ, zero, suc, [], ◌∷◌, ◌+◌, ◌<◌, ◌≤◌, ◌^◌, ℤ, pos, ◌+ℤ◌, FitsSigned, to_z, of_z, w64, refl, ap, subst, ◌∙◌, arith, Some, List, length, get_or}
 use Rattle.std.specs.List.{slice_get}
 use Rattle.std.proofs.Math.IntN.{+ℤ_idr}
 use Rattle.std.proofs.lemmas.Int.{to_z-of_z, to_z_pos}
@@ -25,18 +25,17 @@ pub sum_fits : (a : ℤ) (n c : ℕ) → ((i : ℕ) → i < c → FitsSigned w64
 sum_fits a n c all below few =
     ap (λ (z : ℤ). to_z w64 (of_z w64 z)) (sum_is a n c all below few) ∙ to_z-of_z w64 (a +ℤ pos n) (all n below)
 
--- the item at a position of a source
-pub placed_get : (vs : List ℤ) (n : ℕ) (z v : ℤ) → n < length vs → get_or vs n z ≡ v → slice_get (placed 0 vs) n ≡ Some (record { origin = n; value = v })
-placed_get vs n z v within is =
+-- the item at a position of values at places
+pub placed_get : (o : ℕ) (vs : List ℤ) (n : ℕ) (z v : ℤ) → n < length vs → get_or vs n z ≡ v → slice_get (placed o vs) n ≡ Some (record { origin = o + n; value = v })
+placed_get o vs n z v within is =
     let x : Item = record { origin = n; value = v } in
-    let at_place : get_or (placed 0 vs) n x ≡ record { origin = n; value = get_or vs n z } = placed_at 0 vs n x z within ∙ ap (λ (j : ℕ). let y : Item = record { origin = j; value = get_or vs n z } in y) (zero-add n) in
-    slice_get-get_or (placed 0 vs) n x (rw (length-placed 0 vs) within) ∙ ap (λ (y : Item). Some y) at_place ∙ ap (λ (u : ℤ). let y : Item = record { origin = n; value = u } in Some y) is
+    slice_get-get_or (placed o vs) n x (rw (length-placed o vs) within) ∙ ap (λ (y : Item). Some y) (placed_at o vs n x z within) ∙ ap (λ (u : ℤ). let y : Item = record { origin = o + n; value = u } in Some y) is
 
--- the item at a position of a range
-pub counted_get : (a : ℤ) (c n : ℕ) → n < c → slice_get (placed 0 (counted a c)) n ≡ Some (record { origin = n; value = a +ℤ pos n })
-counted_get a c n within =
+-- the item at a position of integers that count up, at places
+pub counted_get : (o : ℕ) (a : ℤ) (c n : ℕ) → n < c → slice_get (placed o (counted a c)) n ≡ Some (record { origin = o + n; value = a +ℤ pos n })
+counted_get o a c n within =
     let v : ℤ = a +ℤ pos n in
-    placed_get (counted a c) n v v (rw (length-counted a c) within) (counted_at a c n v within)
+    placed_get o (counted a c) n v v (rw (length-counted a c) within) (counted_at a c n v within)
 
 pub length-at_place : (i : ℕ) (vs : List ℤ) → length (at_place i vs) ≡ length vs
 length-at_place i [] = refl

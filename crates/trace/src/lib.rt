@@ -26,6 +26,6 @@ pub use laws::{
     joining_is_associative, nothing_is_the_unit, stages_go_item_by_item, stages_keep_joining,
 };
 pub use sink::{Flow, LongSink};
-pub use source::{InnerItems, MAX_SOURCE_SIZE, RangeItems, SourceItems, ValueItems};
+pub use source::{InnerItems, MAX_SOURCE_SIZE, PlacedValues, RangeItems, SourceItems};
 pub use stage::Stage;
 pub use std::alloc::AllocError as NoMemory;

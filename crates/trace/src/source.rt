@@ -1,6 +1,6 @@
 //! Items that are read by their positions, and the sources that have them.
 
-ghost use Rattle.std.specs.Prelude.{◌≡◌, ◌<◌, ◌≤◌, ◌^◌, ℕ, pos, ◌+ℤ◌, List, length, FitsSigned, IfNone, IfSome, Some, slice_get};
+ghost use Rattle.std.specs.Prelude.{◌≡◌, ◌+◌, ◌<◌, ◌≤◌, ◌^◌, ℕ, pos, ◌+ℤ◌, List, length, FitsSigned, IfNone, IfSome, Some, slice_get};
 ghost use Rattle.std.specs.Int.{w64};
 ghost use Rattle.trace.specs.Cover.{counted, cover, placed, range, too_long, values as listed};
 ghost use Rattle.lambda_expr.specs.Streams.{run_or_listed};
@@ -30,18 +30,20 @@ pub trait SourceItems {
         ensures { slice_get (items self.now) position ≡ Some result };
 }
 
-/// The items of `LongStream.range`: integers counted up by 1, at the places 0, 1, 2 and so on.
+/// Integers counted up by 1, at places that count up from `origin`: the items of `LongStream.range`, or a piece of them.
 #[derive(Drop)]
 pub struct RangeItems {
+    pub origin: u64,
     pub first: i64,
     pub count: u64,
-    ghost few: { count ≤ 2 ^ 62 },
+    ghost few: { origin + count ≤ 2 ^ 62 },
     ghost in_range: { (i : ℕ) → i < count → FitsSigned w64 (first +ℤ pos i) },
 }
 
 impl RangeItems {
-    /// The integers from `from` up to, not with, `to`; `None` if there are more than 2^62.
+    /// The integers from `from` up to, not with, `to`, at the places 0, 1, 2 and so on; `None` if there are more than 2^62.
     pub fn between(from: i64, to: i64) -> Option<RangeItems>
+        ensures origin { IfSome result (λ source. source.origin ≡ 0) }
         ensures some { IfSome result (λ source. cover (range from to) ≡ trace (placed 0 (counted source.first source.count)) end.Done) }
         ensures none { IfNone result (cover (range from to) ≡ too_long) }
     {
@@ -49,12 +51,16 @@ impl RangeItems {
         if count > MAX_SOURCE_SIZE {
             return None;
         }
-        Some(RangeItems { first: from, count })
+        Some(RangeItems {
+            origin: 0,
+            first: from,
+            count,
+        })
     }
 }
 
 impl SourceItems for RangeItems {
-    ghost items = { λ source. placed 0 (counted source.first source.count) };
+    ghost items = { λ source. placed source.origin (counted source.first source.count) };
 
     fn count(&self) -> u64 {
         self.count
@@ -62,32 +68,38 @@ impl SourceItems for RangeItems {
 
     fn item_at(&self, position: u64) -> Item {
         Item {
-            origin: position,
+            origin: self.origin + position,
             value: self.first + position as i64,
         }
     }
 }
 
-/// The items of values in a slice, at the places 0, 1, 2 and so on.
-///
-/// For other programs: the sources of `streamrun` are those of `job_plan`.
+/// Values in a slice, at places that count up from `origin`: the items of `LongStream.of` or of an array, or a piece of them.
 #[derive(Clone, Copy)]
-pub struct ValueItems<'a> {
+pub struct PlacedValues<'a> {
+    pub origin: u64,
     pub values: &'a [i64],
+    ghost few: { origin + length values.now ≤ 2 ^ 62 },
 }
 
-impl<'a> ValueItems<'a> {
-    /// The items of these values; `None` if there are more than 2^62.
-    pub fn of(values: &'a [i64]) -> Option<ValueItems<'a>>
+impl<'a> PlacedValues<'a> {
+    /// The items of these values, at the places 0, 1, 2 and so on; `None` if there are more than 2^62.
+    ///
+    /// For other programs: the sources of `streamrun` are those of `job_plan`.
+    pub fn of(values: &'a [i64]) -> Option<PlacedValues<'a>>
+        ensures origin { IfSome result (λ source. source.origin ≡ 0) }
         ensures some { IfSome result (λ source. (source.values.now ≡ values.now) × (cover (listed values.now) ≡ trace (placed 0 values.now) end.Done)) }
         ensures none { IfNone result (cover (listed values.now) ≡ too_long) }
     {
-        (values.len() as u64 <= MAX_SOURCE_SIZE).then_some(ValueItems { values })
+        if values.len() as u64 > MAX_SOURCE_SIZE {
+            return None;
+        }
+        Some(PlacedValues { origin: 0, values })
     }
 }
 
-impl SourceItems for ValueItems<'_> {
-    ghost items = { λ source. placed 0 source.values.now };
+impl SourceItems for PlacedValues<'_> {
+    ghost items = { λ source. placed source.origin source.values.now };
 
     fn count(&self) -> u64 {
         self.values.len() as u64
@@ -95,7 +107,7 @@ impl SourceItems for ValueItems<'_> {
 
     fn item_at(&self, position: u64) -> Item {
         Item {
-            origin: position,
+            origin: self.origin + position,
             value: self.values[position as usize],
         }
     }

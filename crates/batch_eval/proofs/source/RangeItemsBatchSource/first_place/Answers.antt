@@ -7,4 +7,4 @@ use Rattle.batch_eval.proofs.source.RangeItemsBatchSource.first_place.Goals as g
 pub returns : goal.returns
 returns c =
     let self = c.args.self.now in
-    placed_counts 0 (counted self.first self.count) (omega (arith, length-counted self.first self.count, self.few))
+    placed_counts self.origin (counted self.first self.count) (omega (arith, length-counted self.first self.count, self.few))

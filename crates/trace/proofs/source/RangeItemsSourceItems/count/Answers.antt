@@ -6,4 +6,4 @@ use Rattle.trace.proofs.source.RangeItemsSourceItems.count.Goals as goal
 pub returns : goal.returns
 returns c =
     let self = c.args.self.now in
-    sym (length-placed 0 (counted self.first self.count) ∙ length-counted self.first self.count)
+    sym (length-placed self.origin (counted self.first self.count) ∙ length-counted self.first self.count)

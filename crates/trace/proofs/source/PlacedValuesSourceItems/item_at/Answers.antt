@@ -1,8 +1,8 @@
 use Rattle.std.proofs.Common.{◌<◌, length, rules, pos, FitsSigned, w64, to_z, of_z, slice_index_or, sym, arith}
 use Rattle.std.proofs.lemmas.Int.{to_z-of_z}
 use Rattle.trace.proofs.Sources.{length-placed}
-use Rattle.batch_eval.proofs.PlaceLemmas.{placed_get}
-use Rattle.batch_eval.proofs.placed.PlacedValuesSourceItems.item_at.Goals as goal
+use Rattle.trace.proofs.Ranges.{placed_get}
+use Rattle.trace.proofs.source.PlacedValuesSourceItems.item_at.Goals as goal
 
 pub overflow_add-result : goal.overflow_add-result
 overflow_add-result c =

@@ -1,8 +1,8 @@
 use Rattle.std.proofs.Common.{◌+◌, ◌-◌, ◌<◌, ◌≤◌, length, get_or, drop, pos, refl, sym, ◌∙◌, rules, arith}
 use Rattle.std.proofs.lemmas.List.{get_or-take, get_or-drop}
 use Rattle.trace.proofs.Sources.{length-placed}
-use Rattle.batch_eval.proofs.PlaceLemmas.{placed_get}
-use Rattle.batch_eval.proofs.placed.PlacedValuesBatchSource.values_at.Goals as goal
+use Rattle.trace.proofs.Ranges.{placed_get}
+use Rattle.batch_eval.proofs.source.PlacedValuesBatchSource.values_at.Goals as goal
 
 pub overflow_add-result : goal.overflow_add-result
 overflow_add-result c = omega (arith, c.requires.within, length-placed c.args.self.now.origin c.args.self.now.values.now, c.args.self.now.few)
