@@ -4,11 +4,11 @@ use Rattle.std.proofs.lemmas.List.{append-nil, get_or_append_left, get_or_at, ge
 use lib.ListN.{set}
 use mathlib.Core.Logic.{dite}
 use native.Mathlib.Decide.{ℕ_discrete}
-use Rattle.lambda_expr.specs.declared.fault.FaultKind.{FaultKind}
-use Rattle.lambda_expr.specs.Operators.{on}
+use Rattle.lambda_values.specs.declared.fault.FaultKind.{FaultKind}
+use Rattle.lambda_values.specs.Operators.{on}
 use Rattle.batch_eval.specs.declared.reached.Reached.{Reached}
 use Rattle.batch_eval.specs.Lanes.{after, at, flagged, is_set, Reaches, StopsAt}
-use Rattle.lambda_expr.specs.Value.{chosen}
+use Rattle.lambda_values.specs.Value.{chosen}
 use Rattle.batch_eval.specs.Choices.{by_flag, chosen_value}
 use Rattle.batch_eval.specs.Batches.{wanted, picked, wants}
 use Rattle.batch_eval.proofs.Steps.{Reaches_same, Reaches_on}

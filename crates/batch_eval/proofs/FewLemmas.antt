@@ -4,9 +4,9 @@ use Rattle.std.proofs.lemmas.List.{append-nil, get_or-take, length-take, take_al
 use Rattle.std.specs.List.{slice_get}
 use mathlib.Core.Logic.{dite}
 use native.Mathlib.Decide.{ℕ_discrete}
-use Rattle.lambda_expr.specs.Earlier.{Numbers}
-use Rattle.lambda_expr.specs.declared.run.Run.{Run}
-use Rattle.lambda_expr.specs.Streams.{Inner, inner_value, range, range_closed, run_or_listed, values}
+use Rattle.lambda_values.specs.Earlier.{Numbers}
+use Rattle.lambda_values.specs.declared.run.Run.{Run}
+use Rattle.lambda_values.specs.Streams.{Inner, inner_value, range, range_closed, run_or_listed, values}
 use Rattle.trace.specs.declared.item.Item.{Item}
 use Rattle.trace.specs.declared.item.End.{End}
 use Rattle.trace.specs.declared.item.End.TheVariants as end

@@ -1,9 +1,9 @@
 -- Booleans in registers: what an expression's definition says of booleans, said of flags.
 use Rattle.std.proofs.Common.{◌≡◌, ℤ, Bool, true, false, not, Result, Ok, Err, refl}
-use Rattle.lambda_expr.specs.declared.fault.FaultKind.{FaultKind}
-use Rattle.lambda_expr.specs.declared.operator.Comparison.{Comparison}
-use Rattle.lambda_expr.specs.Operators.{on, comparison_value}
-use Rattle.lambda_expr.specs.Value.{chosen}
+use Rattle.lambda_values.specs.declared.fault.FaultKind.{FaultKind}
+use Rattle.lambda_values.specs.declared.operator.Comparison.{Comparison}
+use Rattle.lambda_values.specs.Operators.{on, comparison_value}
+use Rattle.lambda_values.specs.Value.{chosen}
 use Rattle.batch_eval.specs.Choices.{between, chosen_value}
 use Rattle.batch_eval.specs.Lanes.{compared, flagged, opposed}
 

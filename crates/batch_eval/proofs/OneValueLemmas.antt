@@ -1,11 +1,11 @@
 -- Inner streams of no value and of one.
 use Rattle.std.proofs.Common.{◌≡◌, ℕ, List, [], ◌∷◌, length, ℤ, Result, Ok, Err, refl, ap, arith, ◌∙◌}
-use Rattle.lambda_expr.specs.declared.fault.FaultKind.{FaultKind}
-use Rattle.lambda_expr.specs.Earlier.{Numbers}
-use Rattle.lambda_expr.specs.Operators.{on}
-use Rattle.lambda_expr.specs.Streams.{values}
-use Rattle.lambda_expr.specs.Term.{Long}
-use Rattle.lambda_expr.specs.Value.{long_value}
+use Rattle.lambda_values.specs.declared.fault.FaultKind.{FaultKind}
+use Rattle.lambda_values.specs.Earlier.{Numbers}
+use Rattle.lambda_values.specs.Operators.{on}
+use Rattle.lambda_values.specs.Streams.{values}
+use Rattle.lambda_values.specs.Term.{Long}
+use Rattle.lambda_values.specs.Value.{long_value}
 use Rattle.trace.specs.declared.item.Item.{Item}
 use Rattle.trace.specs.declared.item.End.{End}
 use Rattle.trace.specs.declared.item.End.TheVariants as end

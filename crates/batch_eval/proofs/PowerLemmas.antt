@@ -10,9 +10,9 @@ use Rattle.std.proofs.Math.Pow.{pow_mono}
 use Rattle.std.proofs.Math.Nat.{div-le_self}
 use mathlib.Core.Logic.{dite}
 use native.Mathlib.Decide.{ℕ_discrete}
-use Rattle.lambda_expr.proofs.Quotients.{divisor_stays, wrap_small}
-use Rattle.lambda_expr.specs.Operators.{divided, floor_quotient, floor_remainder, low_six_bits, quotient, remainder, rounded_down}
-use Rattle.lambda_expr.specs.Wrap.{wrap}
+use Rattle.lambda_values.proofs.Quotients.{divisor_stays, wrap_small}
+use Rattle.lambda_values.specs.Operators.{divided, floor_quotient, floor_remainder, low_six_bits, quotient, remainder, rounded_down}
+use Rattle.lambda_values.specs.Wrap.{wrap}
 use Rattle.batch_eval.specs.Powers.{power, with_sign_of}
 
 power_above : (k : ℤ) → 0 < power k

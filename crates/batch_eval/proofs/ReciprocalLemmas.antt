@@ -9,7 +9,7 @@ use Rattle.std.proofs.lemmas.Bool.{cases_lt}
 use Rattle.std.proofs.lemmas.Nat.{le_or_l, le_or_r, pow_pos}
 use Rattle.std.proofs.Math.Pow.{pow_mono}
 use mathlib.Core.Logic.{⊎_elim}
-use Rattle.lambda_expr.specs.Wrap.{wrap}
+use Rattle.lambda_values.specs.Wrap.{wrap}
 use Rattle.batch_eval.specs.Lanes.{at}
 use Rattle.batch_eval.specs.Powers.{with_sign_of}
 use Rattle.batch_eval.specs.Reciprocals.{Divides, IsWithin, LeftIsWithin, distance}

@@ -1,7 +1,7 @@
 -- How what one step reaches is what the next one goes on from.
 use Rattle.std.proofs.Common.{◌≡◌, ℕ, ◌<◌, ◌≤◌, ℤ, Option, Some, None, Result, Ok, Err, sym, subst, ◌∙◌, ap, arith}
-use Rattle.lambda_expr.specs.declared.fault.FaultKind.{FaultKind}
-use Rattle.lambda_expr.specs.Operators.{on}
+use Rattle.lambda_values.specs.declared.fault.FaultKind.{FaultKind}
+use Rattle.lambda_values.specs.Operators.{on}
 use Rattle.batch_eval.specs.declared.reached.Reached.{Reached}
 use Rattle.batch_eval.specs.Lanes.{StopsAt, Reaches, later_fault, after}
 

@@ -1,6 +1,6 @@
 -- Condition: the walk that a batch of lanes stands for.
 use Rattle.std.specs.Prelude.{◌≡◌, ℕ, zero, suc, ◌+◌, ◌<◌, ◌≤◌, ◌^◌, ℤ, Bool, true, false, not, List, [], ◌∷◌, ◌++◌, length, slice_index, Option, Some, None, if◌then◌else◌}
-use Rattle.lambda_expr.specs.declared.fault.FaultKind.{FaultKind}
+use Rattle.lambda_values.specs.declared.fault.FaultKind.{FaultKind}
 use Rattle.trace.specs.declared.item.Item.{Item}
 use Rattle.trace.specs.declared.item.End.{End}
 use Rattle.trace.specs.declared.item.End.TheVariants as end

@@ -1,10 +1,10 @@
 -- Condition: the two numbers that the values of an inner stream come from.
 use Rattle.std.specs.Prelude.{◌≡◌, ℕ, ◌<◌, ℤ, List, [], ◌∷◌, ◌++◌, length, map, take, Result, Ok, Err}
-use Rattle.lambda_expr.specs.declared.fault.FaultKind.{FaultKind}
-use Rattle.lambda_expr.specs.Earlier.{Numbers}
-use Rattle.lambda_expr.specs.Streams.{Inner, distance, range, range_closed, through, up_from, values}
-use Rattle.lambda_expr.specs.Term.{Long}
-use Rattle.lambda_expr.specs.Value.{long_value}
+use Rattle.lambda_values.specs.declared.fault.FaultKind.{FaultKind}
+use Rattle.lambda_values.specs.Earlier.{Numbers}
+use Rattle.lambda_values.specs.Streams.{Inner, distance, range, range_closed, through, up_from, values}
+use Rattle.lambda_values.specs.Term.{Long}
+use Rattle.lambda_values.specs.Value.{long_value}
 use Rattle.trace.specs.declared.item.Item.{Item}
 use Rattle.trace.specs.declared.item.End.TheVariants as end
 use Rattle.trace.specs.Trace.{Trace, each, trace}

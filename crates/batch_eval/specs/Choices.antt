@@ -1,10 +1,10 @@
 -- Condition: the values of operands, as the definitions of expressions combine them.
 use Rattle.std.specs.Prelude.{ℕ, ℤ, Bool, Result, Ok}
-use Rattle.lambda_expr.specs.declared.fault.FaultKind.{FaultKind}
-use Rattle.lambda_expr.specs.Earlier.{Numbers}
-use Rattle.lambda_expr.specs.Operators.{on}
-use Rattle.lambda_expr.specs.Term.{long_of, truth_of}
-use Rattle.lambda_expr.specs.Value.{chosen, long_value, truth_value}
+use Rattle.lambda_values.specs.declared.fault.FaultKind.{FaultKind}
+use Rattle.lambda_values.specs.Earlier.{Numbers}
+use Rattle.lambda_values.specs.Operators.{on}
+use Rattle.lambda_values.specs.Term.{long_of, truth_of}
+use Rattle.lambda_values.specs.Value.{chosen, long_value, truth_value}
 use Rattle.batch_eval.specs.declared.register.Operand.{Operand}
 use Rattle.batch_eval.specs.declared.register.Operand.TheVariants as operand
 use Rattle.batch_eval.specs.declared.register.Inputs.{Inputs}

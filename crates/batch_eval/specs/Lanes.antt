@@ -1,9 +1,9 @@
 -- Condition: what registers of numbers hold, lane by lane, and how far a step over lanes came.
 use Rattle.std.specs.Prelude.{◌≡◌, ℕ, ◌<◌, ◌≤◌, ℤ, pos, Bool, true, false, not, List, length, slice_index_or, Option, Some, None, Result, Ok, Err}
 use Rattle.std.specs.Ordering.{int_eq}
-use Rattle.lambda_expr.specs.declared.fault.FaultKind.{FaultKind}
-use Rattle.lambda_expr.specs.declared.operator.Comparison.{Comparison}
-use Rattle.lambda_expr.specs.Operators.{on, binary_value, comparison_value}
+use Rattle.lambda_values.specs.declared.fault.FaultKind.{FaultKind}
+use Rattle.lambda_values.specs.declared.operator.Comparison.{Comparison}
+use Rattle.lambda_values.specs.Operators.{on, binary_value, comparison_value}
 use Rattle.batch_eval.specs.declared.dispatch.Infix.{Infix}
 use Rattle.batch_eval.specs.declared.dispatch.Infix.TheVariants as op
 use Rattle.batch_eval.specs.declared.operands.Right.{Right}

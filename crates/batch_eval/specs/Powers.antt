@@ -1,8 +1,8 @@
 -- Condition: division by powers of two.
 use Rattle.std.specs.Prelude.{ℕ, ◌^◌, ℤ, pos, negsuc, neg_ℤ, Result}
-use Rattle.lambda_expr.specs.declared.fault.FaultKind.{FaultKind}
-use Rattle.lambda_expr.specs.declared.operator.BinaryOperator.{BinaryOperator}
-use Rattle.lambda_expr.specs.Operators.{binary_value, low_six_bits}
+use Rattle.lambda_values.specs.declared.fault.FaultKind.{FaultKind}
+use Rattle.lambda_values.specs.declared.operator.BinaryOperator.{BinaryOperator}
+use Rattle.lambda_values.specs.Operators.{binary_value, low_six_bits}
 
 -- the power of two with this exponent, from 2^0 to 2^63
 abbrev pub power : ℤ → ℕ

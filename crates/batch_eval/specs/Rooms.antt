@@ -1,6 +1,6 @@
 -- Condition: expressions that room of some length is enough for; a register takes 1,024 of it.
 use Rattle.std.specs.Prelude.{ℕ, ◌-◌, ◌≤◌, List, [], ◌∷◌}
-use Rattle.lambda_expr.specs.Term.{Long, number, parameter, reference, unary, binary, choose, long_of, Truth, literal, compare, opposite, connect, choose_truth, truth_of}
+use Rattle.lambda_values.specs.Term.{Long, number, parameter, reference, unary, binary, choose, long_of, Truth, literal, compare, opposite, connect, choose_truth, truth_of}
 use Rattle.trace.specs.Stages.{AbstractStage, map, filter, flat_map}
 use Rattle.batch_eval.specs.declared.register.Operand.{Operand}
 use Rattle.batch_eval.specs.declared.register.Operand.TheVariants as operand

@@ -3,7 +3,7 @@
 ghost use Rattle.batch_eval.specs.Batches.{CountsUp, StopsInside, end_after, item_at, listed_items, origin_at};
 ghost use Rattle.batch_eval.specs.Lanes.{at};
 ghost use Rattle.batch_eval.specs.Rooms.{Fits};
-ghost use Rattle.lambda_expr.specs.Term.{long_of};
+ghost use Rattle.lambda_values.specs.Term.{long_of};
 ghost use Rattle.std.specs.Prelude.{◌≡◌, ◌+◌, ◌<◌, ◌≤◌, ◌^◌, List, [], ◌++◌, IfOk, None, Some, length, map, take};
 ghost use Rattle.trace.specs.Stages.{of_item};
 ghost use Rattle.trace.specs.Stages.{map as abstract_map};
@@ -17,7 +17,7 @@ use crate::pipeline::Pipeline;
 use crate::reached::Reached;
 use crate::register::{Inputs, LANES, eval_long};
 use crate::source::BatchSource;
-use lambda_expr::LongExpr;
+use lambda_values::LongExpr;
 use std::alloc::Global;
 use std::marker::Model;
 use std::mem;

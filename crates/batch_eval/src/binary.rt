@@ -1,14 +1,14 @@
 //! The operators on two numbers: the type of each, and its loop.
 
 ghost use Rattle.batch_eval.specs.Lanes.{HasLanes, Reaches, at, left_at, right_at};
-ghost use Rattle.lambda_expr.specs.Operators.{binary_value};
-ghost use Rattle.lambda_expr.specs.declared.operator.BinaryOperator.TheVariants as binary_operator;
+ghost use Rattle.lambda_values.specs.Operators.{binary_value};
+ghost use Rattle.lambda_values.specs.declared.operator.BinaryOperator.TheVariants as binary_operator;
 ghost use Rattle.std.specs.Prelude.{◌≡◌, ◌≤◌, length};
 
 use crate::kernel::Kernel;
 use crate::operands::{Right, by_kernel};
 use crate::reached::{Left, Reached};
-use lambda_expr::{BinaryOperator, FaultKind};
+use lambda_values::{BinaryOperator, FaultKind};
 
 /// An operator between two operands.
 pub(crate) fn by_operator(

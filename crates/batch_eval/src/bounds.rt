@@ -4,15 +4,15 @@
 ghost use Rattle.batch_eval.specs.Bounds.{HasBounds, HaveValues};
 ghost use Rattle.batch_eval.specs.Lanes.{at};
 ghost use Rattle.batch_eval.specs.Rooms.{FitsStages};
-ghost use Rattle.lambda_expr.specs.Earlier.{Numbers};
-ghost use Rattle.lambda_expr.specs.Streams.{distance, inner_of, inner_value, run_or_listed, run_values, through, up_from};
-ghost use Rattle.lambda_expr.specs.Term.{long_of};
+ghost use Rattle.lambda_values.specs.Earlier.{Numbers};
+ghost use Rattle.lambda_values.specs.Streams.{distance, inner_of, inner_value, run_or_listed, run_values, through, up_from};
+ghost use Rattle.lambda_values.specs.Term.{long_of};
 ghost use Rattle.std.specs.Prelude.{◌≡◌, ◌+◌, ◌-◌, ◌<◌, ◌≤◌, ℕ, ℤ, Err, IfErr, IfOk, IfSome, Ok, length};
 ghost use Rattle.trace.specs.Stages.{stages_of};
 
 use crate::register::{Inputs, LANES, eval_long};
 use crate::room::{fits, stages_fit};
-use lambda_expr::{Env, FaultKind, InnerExpr, ListedValues, LongExpr, Run};
+use lambda_values::{Env, FaultKind, InnerExpr, ListedValues, LongExpr, Run};
 use trace::Stage;
 
 /// How many values a range may have.

@@ -6,7 +6,7 @@ use crate::constant::constant_in;
 use crate::power::exponent_of;
 use crate::reciprocal::reciprocal_of;
 use crate::register::Operand;
-use lambda_expr::{BinaryOperator, BoolExpr, Faults, LongExpr};
+use lambda_values::{BinaryOperator, BoolExpr, Faults, LongExpr};
 
 /// To gather the lanes that need an operand and to merge them again takes about as long as this many operators.
 const FEW_OPERATORS: u32 = 8;

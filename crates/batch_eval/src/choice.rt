@@ -3,9 +3,9 @@
 ghost use Rattle.batch_eval.specs.Lanes.{Reaches, at};
 ghost use Rattle.batch_eval.specs.Rooms.{FitsChosen, FitsParted};
 ghost use Rattle.batch_eval.specs.Choices.{at_each, between, by_flag, chosen_value, operand_value};
-ghost use Rattle.lambda_expr.specs.Earlier.{Numbers};
-ghost use Rattle.lambda_expr.specs.Term.{truth_of};
-ghost use Rattle.lambda_expr.specs.Value.{truth_value};
+ghost use Rattle.lambda_values.specs.Earlier.{Numbers};
+ghost use Rattle.lambda_values.specs.Term.{truth_of};
+ghost use Rattle.lambda_values.specs.Value.{truth_value};
 ghost use Rattle.std.specs.Prelude.{◌≡◌, ◌<◌, ◌≤◌, ℕ, ℤ, IfSome, IsTrue, Ok, length};
 
 use crate::cheap::is_cheap;
@@ -13,7 +13,7 @@ use crate::choose::{Side, all_flags, gather, merge, select, set_ones, set_others
 use crate::flag::flag;
 use crate::reached::{Reached, all};
 use crate::register::{Inputs, LANES, Operand, eval_bool, eval_operand};
-use lambda_expr::{BoolExpr, LongExpr};
+use lambda_values::{BoolExpr, LongExpr};
 
 /// The number of an operand that is one.
 fn number_of(operand: Operand<'_>) -> Option<i64>

@@ -2,7 +2,7 @@
 
 ghost use Rattle.batch_eval.specs.Batches.{wanted, wants};
 ghost use Rattle.batch_eval.specs.Lanes.{Reaches, at, is_set as is_set_flag};
-ghost use Rattle.lambda_expr.specs.declared.fault.FaultKind.{FaultKind};
+ghost use Rattle.lambda_values.specs.declared.fault.FaultKind.{FaultKind};
 ghost use Rattle.std.specs.Prelude.{◌≡◌, ℕ, ℤ, ◌<◌, ◌≤◌, IsTrue, Result, false, length, slice_index, true, if◌then◌else◌};
 
 use crate::flag::is_set;

@@ -1,14 +1,14 @@
 //! The comparisons of two numbers: the type of each, and its loop.
 
 ghost use Rattle.batch_eval.specs.Lanes.{HasLanes, Reaches, at, compared, left_at, right_at};
-ghost use Rattle.lambda_expr.specs.declared.operator.Comparison.TheVariants as comparison;
+ghost use Rattle.lambda_values.specs.declared.operator.Comparison.TheVariants as comparison;
 ghost use Rattle.std.specs.Prelude.{◌≡◌, ◌≤◌, length};
 
 use crate::flag::flag;
 use crate::kernel::Kernel;
 use crate::operands::{Right, by_kernel};
 use crate::reached::{Left, Reached};
-use lambda_expr::{Comparison, FaultKind};
+use lambda_values::{Comparison, FaultKind};
 
 /// A comparison of two operands, as flags.
 pub(crate) fn by_comparison(

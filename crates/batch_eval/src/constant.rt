@@ -1,12 +1,12 @@
 //! Operands that are numbers.
 
-ghost use Rattle.lambda_expr.specs.Earlier.{Numbers};
-ghost use Rattle.lambda_expr.specs.Operators.{on, unary_value};
-ghost use Rattle.lambda_expr.specs.Term.{long_of};
-ghost use Rattle.lambda_expr.specs.Value.{long_value};
+ghost use Rattle.lambda_values.specs.Earlier.{Numbers};
+ghost use Rattle.lambda_values.specs.Operators.{on, unary_value};
+ghost use Rattle.lambda_values.specs.Term.{long_of};
+ghost use Rattle.lambda_values.specs.Value.{long_value};
 ghost use Rattle.std.specs.Prelude.{◌≡◌, ℤ, IfSome, Ok};
 
-use lambda_expr::{LongExpr, UnaryOperator};
+use lambda_values::{LongExpr, UnaryOperator};
 
 /// The number of an operator on a number, if it has no fault.
 fn applied(operator: UnaryOperator, operand: &LongExpr) -> Option<i64>

@@ -4,7 +4,7 @@
 ghost use Rattle.batch_eval.specs.Lanes.{Reaches, at, infix_value, left_at};
 ghost use Rattle.batch_eval.specs.Powers.{power};
 ghost use Rattle.batch_eval.specs.Reciprocals.{LeftIsWithin};
-ghost use Rattle.lambda_expr.specs.Operators.{binary_value};
+ghost use Rattle.lambda_values.specs.Operators.{binary_value};
 ghost use Rattle.std.specs.Prelude.{◌≡◌, ◌≤◌, ◌≤ℤ◌, ℤ, length, pos};
 
 use crate::binary::{
@@ -26,7 +26,7 @@ use crate::power::{
 use crate::reached::{Left, Reached};
 use crate::reciprocal::{Divisor, Reciprocal, ShortReciprocal, reciprocal_of, short_reciprocal_of};
 use crate::short::left_is_short;
-use lambda_expr::{BinaryOperator, Comparison};
+use lambda_values::{BinaryOperator, Comparison};
 
 /// What stands between two operands.
 #[derive(Clone, Copy)]

@@ -1,10 +1,10 @@
 //! Division by a number whose reciprocal is known.
 
 ghost use Rattle.batch_eval.specs.Reciprocals.{away, distance as distance_of};
-ghost use Rattle.lambda_expr.specs.Operators.{binary_value, rounded_down};
-ghost use Rattle.lambda_expr.specs.Wrap.{wrap};
-ghost use Rattle.lambda_expr.specs.declared.fault.FaultKind.{FaultKind};
-ghost use Rattle.lambda_expr.specs.declared.operator.BinaryOperator.TheVariants as binary_operator;
+ghost use Rattle.lambda_values.specs.Operators.{binary_value, rounded_down};
+ghost use Rattle.lambda_values.specs.Wrap.{wrap};
+ghost use Rattle.lambda_values.specs.declared.fault.FaultKind.{FaultKind};
+ghost use Rattle.lambda_values.specs.declared.operator.BinaryOperator.TheVariants as binary_operator;
 ghost use Rattle.std.specs.Prelude.{ℤ, ◌≡◌, ◌<◌, ◌≤◌, ◌%◌, ◌^◌, Ok, Result, neg_ℤ, unsigned_abs};
 
 use crate::power::signed_as;

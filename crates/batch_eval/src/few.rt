@@ -3,9 +3,9 @@
 ghost use Rattle.batch_eval.specs.Batches.{CountsUp, gathered, item_at, lanes, origin_at};
 ghost use Rattle.batch_eval.specs.Bounds.{HaveBounds, IsMore, given, values_at};
 ghost use Rattle.batch_eval.specs.Lanes.{at};
-ghost use Rattle.lambda_expr.specs.Earlier.{Numbers};
-ghost use Rattle.lambda_expr.specs.Streams.{distance, inner_of, run_or_listed, through, up_from};
-ghost use Rattle.lambda_expr.specs.declared.fault.FaultKind.{FaultKind};
+ghost use Rattle.lambda_values.specs.Earlier.{Numbers};
+ghost use Rattle.lambda_values.specs.Streams.{distance, inner_of, run_or_listed, through, up_from};
+ghost use Rattle.lambda_values.specs.declared.fault.FaultKind.{FaultKind};
 ghost use Rattle.std.specs.Prelude.{◌≡◌, ◌+◌, ◌-◌, ◌<◌, ◌≤◌, ℕ, ℤ, List, Result, [], ◌∷◌, ◌++◌, Err, IfErr, IfOk, None, Ok, length};
 ghost use Rattle.trace.specs.Stages.{at_place, flat_map, of_item};
 ghost use Rattle.trace.specs.declared.item.Item.{Item};
@@ -14,7 +14,7 @@ use crate::batch::{Batch, origin_of};
 use crate::bounds::{Bounds, closed_range, range};
 use crate::listing::{list_items, list_places};
 use crate::register::LANES;
-use lambda_expr::{FaultKind, InnerExpr, Run};
+use lambda_values::{FaultKind, InnerExpr, Run};
 use trace::{InnerItems, SourceItems};
 
 /// How far values were put: of how many items, and the lane after the last value.

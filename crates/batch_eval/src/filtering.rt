@@ -3,7 +3,7 @@
 ghost use Rattle.batch_eval.specs.Batches.{listed_items};
 ghost use Rattle.batch_eval.specs.Lanes.{at};
 ghost use Rattle.batch_eval.specs.Rooms.{FitsTest};
-ghost use Rattle.lambda_expr.specs.Term.{truth_of};
+ghost use Rattle.lambda_values.specs.Term.{truth_of};
 ghost use Rattle.std.specs.Prelude.{◌≡◌, ◌<◌, ◌≤◌, List, None, OnErr, Some, length};
 ghost use Rattle.trace.specs.Stages.{filter, of_item};
 ghost use Rattle.trace.specs.Cover.{placed};
@@ -18,7 +18,7 @@ use crate::listed::ListedItems;
 use crate::pipeline::Pipeline;
 use crate::register::{Inputs, eval_bool};
 use crate::sink::BatchSink;
-use lambda_expr::BoolExpr;
+use lambda_values::BoolExpr;
 use trace::{End, Fed, Flow, Item, NoMemory, PlacedValues};
 
 impl Batch {

@@ -3,7 +3,7 @@
 ghost use Rattle.batch_eval.specs.Batches.{CountsUp, StopsInside, flagged_items, item_at};
 ghost use Rattle.batch_eval.specs.Batches.{lanes as lanes_of};
 ghost use Rattle.batch_eval.specs.Rooms.{FitsTest};
-ghost use Rattle.lambda_expr.specs.Term.{truth_of};
+ghost use Rattle.lambda_values.specs.Term.{truth_of};
 ghost use Rattle.std.specs.Prelude.{◌≡◌, ℕ, ◌+◌, ◌<◌, ◌≤◌, ◌^◌, List, OnErr, Some, length};
 ghost use Rattle.trace.specs.Sinks.{IsFed, flow_after};
 ghost use Rattle.trace.specs.Stages.{filter, of_item};
@@ -17,7 +17,7 @@ use crate::pipeline::Pipeline;
 use crate::register::{Inputs, eval_bool};
 use crate::sink::BatchSink;
 use crate::staging::fed_by;
-use lambda_expr::BoolExpr;
+use lambda_values::BoolExpr;
 use trace::{End, Fed, Flow, Item, LongSink, NoMemory};
 
 /// Values in lanes, and a flag for each of the first lanes. The items are those of the lanes whose flag isn't 0.

@@ -1,11 +1,11 @@
 //! The operators between two numbers, each as a type: a loop over lanes is compiled for each of them.
 
 ghost use Rattle.batch_eval.specs.Lanes.{opposed};
-ghost use Rattle.lambda_expr.specs.declared.fault.FaultKind.{FaultKind};
+ghost use Rattle.lambda_values.specs.declared.fault.FaultKind.{FaultKind};
 ghost use Rattle.std.specs.Prelude.{◌≡◌, ℤ, Result};
 
 use crate::flag::{flag, is_set};
-use lambda_expr::FaultKind;
+use lambda_values::FaultKind;
 use std::marker::PhantomData;
 
 /// An operator between two numbers.

@@ -1,6 +1,6 @@
 //! Inner streams of one value each, and of none: they need no batch of their own.
 
-ghost use Rattle.lambda_expr.specs.Streams.{inner_of};
+ghost use Rattle.lambda_values.specs.Streams.{inner_of};
 ghost use Rattle.std.specs.Prelude.{◌≡◌, IsTrue, false};
 ghost use Rattle.trace.specs.Stages.{flat_map, of_item};
 ghost use Rattle.trace.specs.Trace.{each};
@@ -8,7 +8,7 @@ ghost use Rattle.trace.specs.Trace.{each};
 use crate::batch::Batch;
 use crate::pipeline::Pipeline;
 use crate::room::fits;
-use lambda_expr::InnerExpr;
+use lambda_values::InnerExpr;
 
 /// `flatMap` to inner streams of at most one value, as `of(x + 1)` or `empty()`: that value, at the same place. For
 /// others, and if there is no room for the expression, it changes nothing and answers false.

@@ -1,14 +1,14 @@
 //! How many values pass a test, from the first one on.
 
 ghost use Rattle.batch_eval.specs.Lanes.{at, is_set as is_set_flag};
-ghost use Rattle.lambda_expr.specs.Term.{truth_of};
-ghost use Rattle.lambda_expr.specs.Value.{truth_value};
+ghost use Rattle.lambda_values.specs.Term.{truth_of};
+ghost use Rattle.lambda_values.specs.Value.{truth_value};
 ghost use Rattle.std.specs.Prelude.{◌≡◌, ◌≢◌, ◌<◌, ◌≤◌, ℕ, Ok, length};
 
 use crate::flag::is_set;
 use crate::register::{Inputs, LANES, eval_bool};
 use crate::room::test_fits;
-use lambda_expr::{BoolExpr, Env};
+use lambda_values::{BoolExpr, Env};
 
 /// How many values come before the first one at which the test isn't `wanted`, or faults.
 ///

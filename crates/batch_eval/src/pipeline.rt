@@ -2,7 +2,7 @@
 
 ghost use Rattle.std.specs.Prelude.{◌≡◌, ◌∷◌, [], ◌+◌, ◌<◌, ◌^◌, IfNone, IfSome, length};
 
-use lambda_expr::Env;
+use lambda_values::Env;
 use trace::Stage;
 
 /// Stages, the number of the first one in its job, and the values of the names that lambdas of the job use.

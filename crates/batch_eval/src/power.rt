@@ -1,13 +1,13 @@
 //! Division by powers of two, by shifts and masks in place of the processor's division.
 
 ghost use Rattle.batch_eval.specs.Powers.{by_power_value, power, with_sign_of};
-ghost use Rattle.lambda_expr.specs.Operators.{low_six_bits, rounded_down};
-ghost use Rattle.lambda_expr.specs.Wrap.{wrap};
-ghost use Rattle.lambda_expr.specs.declared.operator.BinaryOperator.TheVariants as binary_operator;
+ghost use Rattle.lambda_values.specs.Operators.{low_six_bits, rounded_down};
+ghost use Rattle.lambda_values.specs.Wrap.{wrap};
+ghost use Rattle.lambda_values.specs.declared.operator.BinaryOperator.TheVariants as binary_operator;
 ghost use Rattle.std.specs.Prelude.{ℕ, ◌≡◌, ◌≢◌, ◌<◌, ◌-◌, ◌^◌, ◌*ℤ◌, pos, MatchOption};
 
 use crate::kernel::Kernel;
-use lambda_expr::FaultKind;
+use lambda_values::FaultKind;
 
 /// How many powers of two an `i64` can be: 2^0 to 2^62.
 const POWERS: u32 = 63;

@@ -3,7 +3,7 @@
 ghost use Rattle.batch_eval.specs.Lanes.{after};
 ghost use Rattle.std.specs.Prelude.{◌≡◌, None};
 
-use lambda_expr::FaultKind;
+use lambda_values::FaultKind;
 
 /// How many lanes have a value, and the fault of the lane after them, if it has one.
 #[derive(Clone, Copy)]

@@ -3,8 +3,8 @@
 ghost use Rattle.batch_eval.specs.Lanes.{Reaches, at, flagged, infix_value, left_at};
 ghost use Rattle.batch_eval.specs.Rooms.{Fits, FitsBoth, FitsOperand, FitsTest};
 ghost use Rattle.batch_eval.specs.Choices.{at_each, between, operand_value};
-ghost use Rattle.lambda_expr.specs.Term.{long_of, truth_of};
-ghost use Rattle.lambda_expr.specs.Value.{long_value, truth_value};
+ghost use Rattle.lambda_values.specs.Term.{long_of, truth_of};
+ghost use Rattle.lambda_values.specs.Value.{long_value, truth_value};
 ghost use Rattle.std.specs.Prelude.{◌<◌, ◌≤◌, length};
 
 use crate::choice::eval_chosen;
@@ -15,7 +15,7 @@ use crate::kernel::Opposite;
 use crate::loops::{copy, each_in, fill};
 use crate::reached::{Left, Reached, all};
 use crate::unary::by_unary;
-use lambda_expr::{BoolExpr, Connective, Env, LongExpr};
+use lambda_values::{BoolExpr, Connective, Env, LongExpr};
 
 /// The most lanes of a batch, and the length of a register.
 pub(crate) const LANES: usize = 1024;

@@ -7,7 +7,7 @@ ghost use Rattle.trace.specs.Stages.{stages_of};
 use crate::batch::Batch;
 use crate::register::LANES;
 use crate::room::{flags_fit, stages_fit};
-use lambda_expr::BoolExpr;
+use lambda_values::BoolExpr;
 use std::alloc::Global;
 use trace::{NoMemory, Stage};
 

@@ -1,12 +1,12 @@
 //! Whether the room for registers is enough for an expression.
 
 ghost use Rattle.batch_eval.specs.Rooms.{Fits, FitsBoth, FitsStages, FitsTest};
-ghost use Rattle.lambda_expr.specs.Term.{long_of, truth_of};
+ghost use Rattle.lambda_values.specs.Term.{long_of, truth_of};
 ghost use Rattle.std.specs.Prelude.{IsTrue};
 ghost use Rattle.trace.specs.Stages.{stages_of};
 
 use crate::register::LANES;
-use lambda_expr::{BoolExpr, LongExpr};
+use lambda_values::{BoolExpr, LongExpr};
 use trace::Stage;
 
 /// Whether room of this length is enough for an expression.

@@ -10,7 +10,7 @@ ghost use Rattle.trace.specs.declared.item.Item.{Item};
 
 use crate::batch::Batch;
 use crate::flagged::{FlaggedLanes, accept_each_flagged};
-use lambda_expr::BoolExpr;
+use lambda_values::BoolExpr;
 use trace::{Fed, Flow, LongSink, NoMemory, PlacedValues, SourceItems};
 
 /// A sink that takes the items of a batch at once.

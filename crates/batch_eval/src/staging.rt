@@ -5,7 +5,7 @@ ghost use Rattle.batch_eval.specs.Batches.{fed_of};
 ghost use Rattle.batch_eval.specs.Pipelines.{piped};
 ghost use Rattle.batch_eval.specs.Pours.{Holds, Poured};
 ghost use Rattle.batch_eval.specs.Rooms.{FitsStages};
-ghost use Rattle.lambda_expr.specs.Streams.{inner_of, run_or_listed};
+ghost use Rattle.lambda_values.specs.Streams.{inner_of, run_or_listed};
 ghost use Rattle.std.specs.Prelude.{◌≡◌, ◌+◌, ◌<◌, ◌^◌, List, ◌++◌, Ok, OnErr, Some, length};
 ghost use Rattle.trace.specs.Sinks.{IsFed, flow_after};
 ghost use Rattle.trace.specs.Stages.{at_place, flat_map, of_item, stages_of};
@@ -19,7 +19,7 @@ use crate::one_value::map_to_one;
 use crate::pipeline::Pipeline;
 use crate::register::LANES;
 use crate::sink::BatchSink;
-use lambda_expr::{FaultKind, InnerExpr, ListedValues};
+use lambda_values::{FaultKind, InnerExpr, ListedValues};
 use trace::{End, Fault, Fed, Flow, InnerItems, Item, NoMemory, SourceItems, Stage, feed_all};
 
 /// A `flatMap` of a pipeline: its number, its expression, and the stages after it.

@@ -1,15 +1,15 @@
 //! The operators on one number: the type of each, and its loop.
 
 ghost use Rattle.batch_eval.specs.Lanes.{Reaches, at, first_only, left_at};
-ghost use Rattle.lambda_expr.specs.Operators.{unary_value};
-ghost use Rattle.lambda_expr.specs.declared.operator.UnaryOperator.TheVariants as unary_operator;
+ghost use Rattle.lambda_values.specs.Operators.{unary_value};
+ghost use Rattle.lambda_values.specs.declared.operator.UnaryOperator.TheVariants as unary_operator;
 ghost use Rattle.std.specs.Prelude.{◌≡◌, ◌≤◌, length};
 
 use crate::dispatch::by_exact_number;
 use crate::kernel::Kernel;
 use crate::operands::by_left_number;
 use crate::reached::{Left, Reached};
-use lambda_expr::{FaultKind, UnaryOperator};
+use lambda_values::{FaultKind, UnaryOperator};
 
 /// An operator on a left operand.
 pub(crate) fn by_unary(

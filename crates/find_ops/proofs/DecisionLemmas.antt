@@ -11,7 +11,7 @@ use Rattle.trace.specs.declared.item.End.TheVariants as end
 use Rattle.trace.specs.Trace.{Trace, trace, then_on, append}
 use Rattle.find_ops.specs.declared.find_part.Found.{Found}
 use Rattle.find_ops.specs.declared.find_part.FindPart.{FindPart}
-use Rattle.lambda_expr.specs.Earlier.{Numbers}
+use Rattle.lambda_values.specs.Earlier.{Numbers}
 use Rattle.find_ops.specs.Finds.{Find, decision, first_decision, decision_at_end, decision_of, decided_or, find_answer, answer_of_none}
 use Rattle.find_ops.specs.Parts.{StandsFor}
 

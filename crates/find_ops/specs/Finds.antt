@@ -1,10 +1,10 @@
 -- Meaning: what the terminals that look for an item give.
 use Rattle.std.specs.Prelude.{ℕ, Bool, true, false, List, [], ◌∷◌, Option, Some, None, Result, Ok, Err}
 use Rattle.std.specs.Option.{option_or}
-use Rattle.lambda_expr.specs.Earlier.{Numbers}
-use Rattle.lambda_expr.specs.Term.{Truth, truth_of}
-use Rattle.lambda_expr.specs.Value.{truth_value}
-use Rattle.lambda_expr.specs.declared.fault.FaultKind.{FaultKind}
+use Rattle.lambda_values.specs.Earlier.{Numbers}
+use Rattle.lambda_values.specs.Term.{Truth, truth_of}
+use Rattle.lambda_values.specs.Value.{truth_value}
+use Rattle.lambda_values.specs.declared.fault.FaultKind.{FaultKind}
 use Rattle.trace.specs.declared.item.Item.{Item}
 use Rattle.trace.specs.declared.item.Fault.{Fault}
 use Rattle.trace.specs.declared.item.End.{End}

@@ -2,7 +2,7 @@
 use Rattle.std.specs.Prelude.{◌≡◌, ℕ}
 use Rattle.trace.specs.Trace.{Trace}
 use Rattle.find_ops.specs.declared.find_part.FindPart.{FindPart}
-use Rattle.lambda_expr.specs.Earlier.{Numbers}
+use Rattle.lambda_values.specs.Earlier.{Numbers}
 use Rattle.find_ops.specs.Finds.{Find, answer_of_none, decision_of}
 
 -- the part has what this walk decides, and what an empty stream gives

@@ -3,12 +3,12 @@
 ghost use Rattle.std.specs.Prelude.{◌≡◌, ℕ, [], ◌∷◌, is_some, None, take};
 ghost use Rattle.trace.specs.declared.item.End.TheVariants as end;
 ghost use Rattle.trace.specs.Trace.{Trace, trace, append};
-ghost use Rattle.lambda_expr.specs.Earlier.{Numbers};
+ghost use Rattle.lambda_values.specs.Earlier.{Numbers};
 ghost use Rattle.find_ops.specs.Finds.{Find, find_of, find_answer, first_decision, decision_at_end};
 ghost use Rattle.find_ops.specs.Parts.{StandsFor};
 
 use super::terminal::FindTerminal;
-use lambda_expr::Env;
+use lambda_values::Env;
 use trace::{Chunk, End, Fault, Item, SourceItems};
 
 /// The answer of a find or a match.

@@ -9,7 +9,7 @@ ghost use Rattle.find_ops.specs.Parts.{StandsFor};
 
 use super::find_part::FindPart;
 use super::terminal::FindTerminal;
-use lambda_expr::Env;
+use lambda_values::Env;
 use trace::{End, Flow, Item, LongSink, NoMemory};
 
 /// A sink that looks at items until one decides. It takes no memory.

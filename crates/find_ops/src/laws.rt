@@ -2,7 +2,7 @@
 
 ghost use Rattle.std.specs.Prelude.{◌≡◌, ◌≢◌, ℕ, None};
 ghost use Rattle.trace.specs.Trace.{Trace, append};
-ghost use Rattle.lambda_expr.specs.Earlier.{Numbers};
+ghost use Rattle.lambda_values.specs.Earlier.{Numbers};
 ghost use Rattle.find_ops.specs.Finds.{Find, decision_of, find_answer};
 
 /// What decides stays: after a decision nothing that follows changes the answer.

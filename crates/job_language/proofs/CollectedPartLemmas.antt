@@ -8,7 +8,7 @@ use Rattle.lambda_expr.specs.Words.{Word, named, quoted, sign}
 use Rattle.lambda_expr.specs.Refusals.{IsRefused}
 use Rattle.lambda_expr.specs.declared.fault.ReadFault.{ReadFault}
 use Rattle.lambda_expr.specs.declared.fault.ReadFault.TheVariants as fault
-use Rattle.lambda_expr.specs.declared.lambda.Want.{Want}
+use Rattle.lambda_expr.specs.declared.want.Want.{Want}
 use Rattle.reduce_ops.specs.declared.op.Op.{Op}
 use Rattle.job_language.specs.declared.word.Word as code
 use Rattle.job_language.specs.declared.operation.Operation.{Operation}

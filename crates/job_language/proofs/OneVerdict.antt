@@ -9,11 +9,11 @@ use Rattle.stream_tokens.specs.Tokens.{CutBetween, IsFirstToken, token_text}
 use Rattle.stream_tokens.specs.CutTexts.{TokenizedText}
 use Rattle.stream_tokens.proofs.CutLemmas.{same_tokens}
 use Rattle.lambda_expr.specs.Words.{Word, words_of, named, sign, word_for}
-use Rattle.lambda_expr.specs.Refusals.{AbstractLambda}
+use Rattle.lambda_values.specs.Lambda.{AbstractLambda}
 use Rattle.lambda_expr.specs.declared.fault.ReadFault.{ReadFault}
 use Rattle.lambda_expr.specs.declared.fault.ReadFault.TheVariants as fault
-use Rattle.lambda_expr.specs.declared.lambda.Want.{Want}
-use Rattle.lambda_expr.specs.declared.lambda.Want.TheVariants as want
+use Rattle.lambda_expr.specs.declared.want.Want.{Want}
+use Rattle.lambda_expr.specs.declared.want.Want.TheVariants as want
 use Rattle.lambda_expr.proofs.OneAnswer.{Outcome, many, outside, judged, one_outcome}
 use Rattle.lambda_expr.proofs.WordList.{named_kind, named_bytes}
 use Rattle.reduce_ops.specs.declared.op.Op.{Op}

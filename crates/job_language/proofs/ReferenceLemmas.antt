@@ -1,8 +1,9 @@
 -- Lambdas and their references.
 use Rattle.std.proofs.Common.{◌≡◌, ℕ, ◌+◌, ◌<◌, ◌≤◌, List, ◌∷◌, length, drop, get_or, Some, None, Result, Ok, Err, ap, ◌∙◌}
 use Rattle.std.proofs.lemmas.List.{drop_more, drop_all}
-use Rattle.lambda_expr.specs.Refusals.{AbstractLambda, Judged}
-use Rattle.lambda_expr.specs.declared.lambda.Want.{Want}
+use Rattle.lambda_values.specs.Lambda.{AbstractLambda}
+use Rattle.lambda_expr.specs.Refusals.{Judged}
+use Rattle.lambda_expr.specs.declared.want.Want.{Want}
 use Rattle.job_language.specs.declared.argument.Argument as code
 use Rattle.job_language.specs.declared.fault.Cause.{Cause}
 use Rattle.job_language.specs.Causes.{Scope, given, first_cause}

@@ -6,25 +6,26 @@ use Rattle.std.specs.Ordering.{int_eq}
 use Rattle.std.proofs.lemmas.Bool.{eqb-true}
 use Rattle.stream_tokens.specs.CutTexts.{TokenizedText}
 use Rattle.lambda_expr.specs.Words.{Word, quoted, named}
-use Rattle.lambda_expr.specs.Refusals.{AbstractLambda, long, boolean, stream as inner_stream, pair, wanted, expression_verdict, stream_verdict, lambda_of, streamed, verdict, Judged}
-use Rattle.lambda_expr.specs.References.{names_of}
+use Rattle.lambda_values.specs.Lambda.{AbstractLambda, long, boolean, stream as inner_stream, pair}
+use Rattle.lambda_expr.specs.Refusals.{wanted, expression_verdict, stream_verdict, lambda_of, streamed, verdict, Judged}
+use Rattle.lambda_values.specs.References.{names_of}
 use Rattle.lambda_expr.specs.Checks.{depth, fit, literals, names_known}
 use Rattle.lambda_expr.specs.Grammar.{Shape}
 use Rattle.lambda_expr.specs.Heads.{BodyShape, expression, operands, parameters, IsBody}
 use Rattle.lambda_expr.specs.PairForms.{whole_form}
 use Rattle.lambda_expr.specs.PairForms.{form as form_of}
 use Rattle.lambda_expr.specs.StreamChecks.{all_fit, all_known, deepest, numbers, stream_of}
-use Rattle.lambda_expr.specs.Streams.{Inner}
-use Rattle.lambda_expr.specs.Term.{Long}
+use Rattle.lambda_values.specs.Streams.{Inner}
+use Rattle.lambda_values.specs.Term.{Long}
 use Rattle.lambda_expr.specs.Lexemes.{Names, names_in}
 use Rattle.lambda_expr.specs.Typing.{Typed, typed}
 use Rattle.lambda_expr.specs.Typing as typing
 use Rattle.lambda_expr.specs.declared.fault.ReadFault.{ReadFault}
 use Rattle.lambda_expr.specs.declared.fault.ReadFault.TheVariants.{LiteralTooLarge, TooDeep, UnknownName}
-use Rattle.lambda_expr.specs.declared.lambda.PairForm.{PairForm}
-use Rattle.lambda_expr.specs.declared.lambda.PairForm.TheVariants as form
-use Rattle.lambda_expr.specs.declared.lambda.Want.{Want}
-use Rattle.lambda_expr.specs.declared.lambda.Want.TheVariants as want
+use Rattle.lambda_values.specs.declared.lambda.PairForm.{PairForm}
+use Rattle.lambda_values.specs.declared.lambda.PairForm.TheVariants as form
+use Rattle.lambda_expr.specs.declared.want.Want.{Want}
+use Rattle.lambda_expr.specs.declared.want.Want.TheVariants as want
 use Rattle.reduce_ops.specs.declared.op.Op.{Op}
 use Rattle.reduce_ops.specs.declared.op.Op.TheVariants as op
 use Rattle.reduce_ops.specs.Operators.{identity_of}

@@ -4,14 +4,15 @@ use Rattle.stream_tokens.specs.declared.token.Token.{Token}
 use Rattle.stream_tokens.specs.declared.token.TokenKind.TheVariants.{Bad}
 use Rattle.stream_tokens.specs.CutTexts.{TokenizedText, between}
 use Rattle.lambda_expr.specs.Words.{Word, named, quoted}
-use Rattle.lambda_expr.specs.Refusals.{AbstractLambda, long, boolean, stream as inner_stream, pair, Judged, IsRefused}
-use Rattle.lambda_expr.specs.References.{names_of}
+use Rattle.lambda_values.specs.Lambda.{AbstractLambda, long, boolean, stream as inner_stream, pair}
+use Rattle.lambda_expr.specs.Refusals.{Judged, IsRefused}
+use Rattle.lambda_values.specs.References.{names_of}
 use Rattle.lambda_expr.specs.declared.fault.ReadFault.{ReadFault}
 use Rattle.lambda_expr.specs.declared.fault.ReadFault.TheVariants as fault
-use Rattle.lambda_expr.specs.declared.lambda.PairForm.{PairForm}
-use Rattle.lambda_expr.specs.declared.lambda.PairForm.TheVariants as form
-use Rattle.lambda_expr.specs.declared.lambda.Want.{Want}
-use Rattle.lambda_expr.specs.declared.lambda.Want.TheVariants as want
+use Rattle.lambda_values.specs.declared.lambda.PairForm.{PairForm}
+use Rattle.lambda_values.specs.declared.lambda.PairForm.TheVariants as form
+use Rattle.lambda_expr.specs.declared.want.Want.{Want}
+use Rattle.lambda_expr.specs.declared.want.Want.TheVariants as want
 use Rattle.columns.specs.Table.{cells_named}
 use Rattle.reduce_ops.specs.declared.op.Op.{Op}
 use Rattle.reduce_ops.specs.declared.op.Op.TheVariants as op

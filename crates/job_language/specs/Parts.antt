@@ -1,7 +1,7 @@
 -- Condition: what the program keeps of the parts of a job stands for.
 use Rattle.std.specs.Prelude.{◌≢◌, Option, Result, Ok, Err}
-use Rattle.lambda_expr.specs.Term.{long_of, truth_of}
-use Rattle.lambda_expr.specs.Streams.{inner_of}
+use Rattle.lambda_values.specs.Term.{long_of, truth_of}
+use Rattle.lambda_values.specs.Streams.{inner_of}
 use Rattle.job_language.specs.declared.argument.Argument as code
 use Rattle.job_language.specs.declared.argument.Argument.TheVariants as code_argument
 use Rattle.job_language.specs.declared.row.CallPart as call_part

@@ -1,6 +1,6 @@
 //! The last part of a call: a column, an earlier job, a lambda, an operator.
 ghost use Rattle.std.specs.Prelude.{◌≡◌, ◌≢◌, ◌<◌, IfOk, List, Ok, option_map, length};
-ghost use Rattle.lambda_expr.specs.Refusals.{body_of};
+ghost use Rattle.lambda_values.specs.Lambda.{body_of};
 ghost use Rattle.lambda_expr.specs.Words.{Word as meant, words_of};
 ghost use Rattle.job_language.specs.Splitting.{words_in};
 ghost use Rattle.job_language.specs.Shapes.{StandsIn, call_in, placed_in};
@@ -20,7 +20,8 @@ use crate::piece::WrittenCall;
 use crate::scope::{Scope, given};
 use crate::terminal::Gives;
 use crate::word::{Word, name_in, string_in};
-use lambda_expr::{Body, BoolExpr, InnerExpr, Lambda, LongExpr, PairForm, Want, read_lambda_of};
+use lambda_expr::{Want, read_lambda_of};
+use lambda_values::{Body, BoolExpr, InnerExpr, Lambda, LongExpr, PairForm};
 use reduce_ops::Op;
 use std::alloc::{AllocError, Global};
 use stream_tokens::{Bytes, CutText};

@@ -1,7 +1,7 @@
 //! The table of operations: what each takes between its parentheses, and what it builds.
 ghost use Rattle.std.specs.Prelude.{◌≡◌, ◌≢◌, ◌<◌, ℤ, List, ◌∷◌, []};
-ghost use Rattle.lambda_expr.specs.Term.{long_of, truth_of};
-ghost use Rattle.lambda_expr.specs.Streams.{inner_of};
+ghost use Rattle.lambda_values.specs.Term.{long_of, truth_of};
+ghost use Rattle.lambda_values.specs.Streams.{inner_of};
 ghost use Rattle.find_ops.specs.Finds.{find_of};
 ghost use Rattle.job_language.specs.Jobs.{terminal_of};
 ghost use Rattle.job_language.specs.Jobs.{find as find_terminal};
@@ -18,7 +18,7 @@ use crate::operation::{Operation, Params, Role};
 use crate::params::{params_of, role_of};
 use crate::terminal::Terminal;
 use find_ops::FindTerminal;
-use lambda_expr::{BoolExpr, InnerExpr, LongExpr};
+use lambda_values::{BoolExpr, InnerExpr, LongExpr};
 use reduce_ops::Op;
 use slice_ops::Slice;
 use stream_tokens::Bytes;

@@ -3,11 +3,11 @@ use Rattle.std.proofs.Common.{◌≡◌, ℕ, Bool, suc, ◌+◌, ◌≤◌, ◌
 use Rattle.std.proofs.lemmas.Int.{int_wrap_fits}
 use Rattle.std.proofs.lemmas.List.{append-nil, length-take}
 use Rattle.std.specs.Int.{w64}
-use Rattle.lambda_expr.specs.Earlier.{Numbers}
-use Rattle.lambda_expr.specs.Term.{Long}
-use Rattle.lambda_expr.specs.Value.{long_value}
-use Rattle.lambda_expr.specs.Wrap.{wrap}
-use Rattle.lambda_expr.specs.declared.fault.FaultKind.{FaultKind}
+use Rattle.lambda_values.specs.Earlier.{Numbers}
+use Rattle.lambda_values.specs.Term.{Long}
+use Rattle.lambda_values.specs.Value.{long_value}
+use Rattle.lambda_values.specs.Wrap.{wrap}
+use Rattle.lambda_values.specs.declared.fault.FaultKind.{FaultKind}
 use Rattle.trace.specs.declared.item.Item.{Item}
 use Rattle.trace.specs.declared.item.End.{End}
 use Rattle.trace.specs.declared.item.End.TheVariants as end

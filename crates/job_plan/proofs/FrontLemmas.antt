@@ -2,10 +2,10 @@
 use Rattle.std.proofs.Common.{◌≡◌, ◌≢◌, ℕ, zero, suc, ◌+◌, ◌<◌, ◌≤◌, ℤ, pos, Bool, true, false, List, [], ◌∷◌, length, map, take, slice_index_or, Option, Some, None, Result, Ok, Err, refl, sym, ap, ◌∙◌, arith}
 use Rattle.std.proofs.lemmas.List.{length-map}
 use Rattle.std.specs.Option.{option_or}
-use Rattle.lambda_expr.specs.Earlier.{Numbers}
-use Rattle.lambda_expr.specs.Term.{Truth}
-use Rattle.lambda_expr.specs.Value.{truth_value}
-use Rattle.lambda_expr.specs.declared.fault.FaultKind.{FaultKind}
+use Rattle.lambda_values.specs.Earlier.{Numbers}
+use Rattle.lambda_values.specs.Term.{Truth}
+use Rattle.lambda_values.specs.Value.{truth_value}
+use Rattle.lambda_values.specs.declared.fault.FaultKind.{FaultKind}
 use Rattle.trace.specs.declared.item.Item.{Item}
 use Rattle.trace.specs.declared.item.End.{End}
 use Rattle.trace.specs.Stops.{shift, stop_or, stop_at}

@@ -2,10 +2,10 @@
 use Rattle.std.proofs.Common.{◌≡◌, ℕ, suc, ◌+◌, ◌≤◌, ℤ, Bool, true, ◌&&◌, List, [], ◌∷◌, ◌++◌, length, length-append, map as each_of, Result, Ok, Err, OnErr, refl, sym, ap, subst, ◌∙◌, not, arith}
 use Rattle.std.specs.declared.alloc.AllocError.{AllocError}
 use Rattle.std.proofs.lemmas.List.{length-map, map-append}
-use Rattle.lambda_expr.specs.Earlier.{Numbers}
-use Rattle.lambda_expr.specs.Operators.{on, unary_value, binary_value, comparison_value}
-use Rattle.lambda_expr.specs.Term.{Long, number, parameter, reference, unary, binary, choose, Truth, literal, compare, opposite, connect, choose_truth}
-use Rattle.lambda_expr.specs.Value.{chosen, connected, long_value, truth_value}
+use Rattle.lambda_values.specs.Earlier.{Numbers}
+use Rattle.lambda_values.specs.Operators.{on, unary_value, binary_value, comparison_value}
+use Rattle.lambda_values.specs.Term.{Long, number, parameter, reference, unary, binary, choose, Truth, literal, compare, opposite, connect, choose_truth}
+use Rattle.lambda_values.specs.Value.{chosen, connected, long_value, truth_value}
 use Rattle.trace.specs.Cover.{placed}
 use Rattle.trace.specs.Sinks.{IsFed, flow_after}
 use Rattle.trace.specs.Stages.{AbstractStage, map, filter, flat_map, image as item_image, pipe, through}

@@ -3,7 +3,7 @@ use Rattle.std.proofs.Common.{◌≡◌, ℕ, suc, Bool, true, false, List, [], 
 use Rattle.std.specs.Prelude.{if◌then◌else◌, map, slice_get}
 use Rattle.std.specs.Cmp.Lexicographic.{same_text}
 use Rattle.std.proofs.lemmas.Cmp.{nat_list_eq_equiv}
-use Rattle.lambda_expr.specs.Earlier.{Numbers}
+use Rattle.lambda_values.specs.Earlier.{Numbers}
 use Rattle.job_language.specs.Jobs.{AbstractPlainSource, range, range_closed, values, result, AbstractJob}
 use Rattle.job_plan.specs.declared.answer.Answer.{Answer}
 use Rattle.job_plan.specs.declared.segment.Named.{Named}

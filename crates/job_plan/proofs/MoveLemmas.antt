@@ -2,17 +2,17 @@
 use Rattle.std.proofs.Common.{◌≡◌, ℕ, zero, suc, ◌+◌, ◌<◌, ℤ, pos, nat_lt, if◌then◌else◌, Bool, true, false, ◌&&◌, not, List, [], ◌∷◌, ◌++◌, length, map as each_of, take, Option, Some, None, Result, Ok, Err, length-append, append_assoc, refl, sym, ap, subst, ◌∙◌, arith}
 use Rattle.std.proofs.lemmas.Bool.{ltb-false, ltb-true, lt-ltb}
 use Rattle.std.specs.Ordering.{int_eq}
-use Rattle.lambda_expr.specs.Earlier.{Numbers}
-use Rattle.lambda_expr.specs.Operators.{BinaryRule, UnaryRule, always, always_one, binary_by, binary_faults_by, binary_rule, binary_value, comparison_value, divided, exactly, exactly_one, on, unary_by, unary_faults_by, unary_rule, unary_value, unless_zero}
-use Rattle.lambda_expr.specs.Term.{Long, number, parameter, reference, unary, binary, choose, Truth, literal, compare, opposite, connect, choose_truth}
-use Rattle.lambda_expr.specs.Value.{chosen, connected, long_value, truth_value}
-use Rattle.lambda_expr.specs.declared.expr.LongExpr.TheVariants as long_expr
-use Rattle.lambda_expr.specs.declared.fault.FaultKind.{FaultKind}
-use Rattle.lambda_expr.specs.declared.fault.FaultKind.TheVariants.{DivideByZero}
-use Rattle.lambda_expr.specs.declared.operator.Connective.{Connective}
-use Rattle.lambda_expr.specs.declared.operator.Connective.TheVariants as connective
-use Rattle.lambda_expr.specs.declared.operator.UnaryOperator.{UnaryOperator}
-use Rattle.lambda_expr.specs.declared.operator.BinaryOperator.{BinaryOperator}
+use Rattle.lambda_values.specs.Earlier.{Numbers}
+use Rattle.lambda_values.specs.Operators.{BinaryRule, UnaryRule, always, always_one, binary_by, binary_faults_by, binary_rule, binary_value, comparison_value, divided, exactly, exactly_one, on, unary_by, unary_faults_by, unary_rule, unary_value, unless_zero}
+use Rattle.lambda_values.specs.Term.{Long, number, parameter, reference, unary, binary, choose, Truth, literal, compare, opposite, connect, choose_truth}
+use Rattle.lambda_values.specs.Value.{chosen, connected, long_value, truth_value}
+use Rattle.lambda_values.specs.declared.expr.LongExpr.TheVariants as long_expr
+use Rattle.lambda_values.specs.declared.fault.FaultKind.{FaultKind}
+use Rattle.lambda_values.specs.declared.fault.FaultKind.TheVariants.{DivideByZero}
+use Rattle.lambda_values.specs.declared.operator.Connective.{Connective}
+use Rattle.lambda_values.specs.declared.operator.Connective.TheVariants as connective
+use Rattle.lambda_values.specs.declared.operator.UnaryOperator.{UnaryOperator}
+use Rattle.lambda_values.specs.declared.operator.BinaryOperator.{BinaryOperator}
 use Rattle.trace.specs.declared.item.Item.{Item}
 use Rattle.trace.specs.declared.item.End.{End}
 use Rattle.trace.specs.declared.item.End.TheVariants as end

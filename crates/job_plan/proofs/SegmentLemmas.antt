@@ -1,6 +1,6 @@
 -- The segments of a job, in turn, give the walk by stages.
 use Rattle.std.proofs.Common.{◌≡◌, ℕ, suc, ◌+◌, List, [], ◌∷◌, ◌++◌, length, length-append, ap, ◌∙◌, arith}
-use Rattle.lambda_expr.specs.Earlier.{Numbers}
+use Rattle.lambda_values.specs.Earlier.{Numbers}
 use Rattle.trace.specs.Stages.{AbstractStage, through, pipe}
 use Rattle.trace.specs.Trace.{Trace}
 use Rattle.reduce_ops.specs.Operators.{value_of}

@@ -1,12 +1,12 @@
 -- Condition: expressions that have a value at every item.
 use Rattle.std.specs.Prelude.{pos, Bool, true, false, ◌&&◌, not}
 use Rattle.std.specs.Ordering.{int_eq}
-use Rattle.lambda_expr.specs.Term.{Long, number, parameter, reference, unary, binary, choose, Truth, literal, compare, opposite, connect, choose_truth}
-use Rattle.lambda_expr.specs.declared.operator.UnaryOperator.{UnaryOperator}
-use Rattle.lambda_expr.specs.declared.operator.BinaryOperator.{BinaryOperator}
-use Rattle.lambda_expr.specs.declared.operator.Faults.{Faults}
-use Rattle.lambda_expr.specs.declared.operator.Faults.TheVariants as faults
-use Rattle.lambda_expr.specs.Operators.{binary_faults, unary_faults}
+use Rattle.lambda_values.specs.Term.{Long, number, parameter, reference, unary, binary, choose, Truth, literal, compare, opposite, connect, choose_truth}
+use Rattle.lambda_values.specs.declared.operator.UnaryOperator.{UnaryOperator}
+use Rattle.lambda_values.specs.declared.operator.BinaryOperator.{BinaryOperator}
+use Rattle.lambda_values.specs.declared.operator.Faults.{Faults}
+use Rattle.lambda_values.specs.declared.operator.Faults.TheVariants as faults
+use Rattle.lambda_values.specs.Operators.{binary_faults, unary_faults}
 
 -- whether an operator with such faults has none
 abbrev pub is_never : Faults → Bool

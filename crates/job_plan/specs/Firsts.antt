@@ -1,6 +1,6 @@
 -- Condition: folds that keep the first value, which may be found instead.
 use Rattle.std.specs.Prelude.{◌≡◌, Bool, true, false, ◌&&◌, List, [], ◌∷◌}
-use Rattle.lambda_expr.specs.Earlier.{Numbers}
+use Rattle.lambda_values.specs.Earlier.{Numbers}
 use Rattle.trace.specs.declared.item.Fault.{Fault}
 use Rattle.trace.specs.declared.item.End.TheVariants as end
 use Rattle.trace.specs.Stages.{AbstractStage, map, filter, flat_map}

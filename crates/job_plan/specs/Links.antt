@@ -1,6 +1,6 @@
 -- Condition: slices that a walk goes through one after the other.
 use Rattle.std.specs.Prelude.{◌≡◌, Bool, false, is_some, List, [], ◌∷◌, Option, Some, None}
-use Rattle.lambda_expr.specs.Earlier.{Numbers}
+use Rattle.lambda_values.specs.Earlier.{Numbers}
 use Rattle.trace.specs.Trace.{Trace}
 use Rattle.slice_ops.specs.Rests.{rest_of}
 use Rattle.slice_ops.specs.Slices.{AbstractSlice, sliced}

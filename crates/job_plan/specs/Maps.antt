@@ -1,9 +1,9 @@
 -- Condition: values that maps make where they are read.
 use Rattle.std.specs.Prelude.{◌≡◌, ℤ, pos, true, List, [], ◌∷◌, map as each_of, Result, Ok, Err, ⊤}
 use Rattle.std.specs.Coded.{×_prop, Unit-prop, Coded-set, coded_bool}
-use Rattle.lambda_expr.specs.declared.fault.FaultKind.{FaultKind}
-use Rattle.lambda_expr.specs.Term.{Long, number, parameter, reference, unary, binary, choose, Truth, literal, compare, opposite, connect, choose_truth}
-use Rattle.lambda_expr.specs.Value.{long_value}
+use Rattle.lambda_values.specs.declared.fault.FaultKind.{FaultKind}
+use Rattle.lambda_values.specs.Term.{Long, number, parameter, reference, unary, binary, choose, Truth, literal, compare, opposite, connect, choose_truth}
+use Rattle.lambda_values.specs.Value.{long_value}
 use Rattle.trace.specs.declared.item.Item.{Item}
 use Rattle.trace.specs.Stages.{AbstractStage, map, filter, flat_map}
 use Rattle.job_plan.specs.Faultless.{is_total, is_total_by}

@@ -1,6 +1,6 @@
 -- Condition: slices that come after maps alone, and plans that give the same answers.
 use Rattle.std.specs.Prelude.{◌≡◌, Bool, true, false, ◌&&◌, List, [], ◌∷◌, ◌++◌, Option, Some, None}
-use Rattle.lambda_expr.specs.Earlier.{Numbers}
+use Rattle.lambda_values.specs.Earlier.{Numbers}
 use Rattle.trace.specs.Stages.{AbstractStage, map, filter, flat_map, stages_of}
 use Rattle.trace.specs.Trace.{Trace}
 use Rattle.slice_ops.specs.Slices.{AbstractSlice, limit, skip, take_while, drop_while}

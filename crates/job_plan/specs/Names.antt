@@ -1,7 +1,7 @@
 -- Meaning: the jobs that a job names.
 use Rattle.std.specs.Prelude.{ℕ, suc, nat_eq, if◌then◌else◌, Bool, List, [], ◌∷◌, ◌++◌, Option, Some, None}
 use Rattle.std.specs.Cmp.Lexicographic.{pointwise}
-use Rattle.lambda_expr.specs.References.{long_names, truth_names, inner_names}
+use Rattle.lambda_values.specs.References.{long_names, truth_names, inner_names}
 use Rattle.trace.specs.Stages.{AbstractStage, map, filter, flat_map}
 use Rattle.slice_ops.specs.Slices.{AbstractSlice, limit, skip, take_while, drop_while}
 use Rattle.find_ops.specs.Finds.{Find, first, any_match, all_match, none_match}

@@ -1,6 +1,6 @@
 -- Condition: a slice in the middle of a walk, and what went on from it.
 use Rattle.std.specs.Prelude.{◌≡◌, ℕ, List, [], ⊤}
-use Rattle.lambda_expr.specs.Earlier.{Numbers}
+use Rattle.lambda_values.specs.Earlier.{Numbers}
 use Rattle.trace.specs.declared.item.Item.{Item}
 use Rattle.trace.specs.declared.item.End.{End}
 use Rattle.trace.specs.declared.item.End.TheVariants as end

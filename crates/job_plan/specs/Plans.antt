@@ -1,6 +1,6 @@
 -- Meaning: jobs cut into segments, at each stage that looks at a whole walk.
 use Rattle.std.specs.Prelude.{ℕ, suc, ℤ, pos, Bool, true, false, ◌+◌, List, [], ◌∷◌, ◌++◌, length, map as each_of, Option, Some, None}
-use Rattle.lambda_expr.specs.Earlier.{Numbers}
+use Rattle.lambda_values.specs.Earlier.{Numbers}
 use Rattle.trace.specs.declared.item.Item.{Item}
 use Rattle.trace.specs.Stages.{AbstractStage, pipe}
 use Rattle.trace.specs.Trace.{Trace}

@@ -1,8 +1,8 @@
 -- Meaning: the walk of a job, the answer that its terminal gives, and what that is to jobs that name it.
 use Rattle.std.specs.Prelude.{ℕ, suc, ℤ, pos, ◌+ℤ◌, Bool, true, false, List, [], ◌∷◌, ◌++◌, length, map as each_of, Option, Some, None, Result, Ok, Err, option_map}
-use Rattle.lambda_expr.specs.Earlier.{Numbers}
-use Rattle.lambda_expr.specs.Streams.{counted, distance}
-use Rattle.lambda_expr.specs.Wrap.{wrap}
+use Rattle.lambda_values.specs.Earlier.{Numbers}
+use Rattle.lambda_values.specs.Streams.{counted, distance}
+use Rattle.lambda_values.specs.Wrap.{wrap}
 use Rattle.trace.specs.declared.item.Item.{Item}
 use Rattle.trace.specs.declared.item.Fault.{Fault}
 use Rattle.trace.specs.declared.item.End.{End}

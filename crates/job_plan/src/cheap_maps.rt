@@ -1,14 +1,14 @@
 //! Maps that are so cheap that what they make of values is computed where it is read, and not kept.
 
 ghost use Rattle.std.specs.Prelude.{◌≡◌, ◌≤◌, ◌<◌, ◌^◌, [], IfSome, length, true};
-ghost use Rattle.lambda_expr.specs.Term.{long_of, truth_of};
+ghost use Rattle.lambda_values.specs.Term.{long_of, truth_of};
 ghost use Rattle.trace.specs.Stages.{stage_of, stages_of};
 ghost use Rattle.job_plan.specs.Maps.{ArePlain, ArePlain-prop, IsPlain, IsPlainStage, IsPlainTest, images};
 
 use crate::buffer::Buffer;
 use crate::faultless::{is_total, is_total_by};
 use batch_eval::{Pipeline, PlacedValues, Registers, feed_at_once};
-use lambda_expr::{BinaryOperator, BoolExpr, Env, Faults, LongExpr};
+use lambda_values::{BinaryOperator, BoolExpr, Env, Faults, LongExpr};
 use std::alloc::Global;
 use trace::Stage;
 

@@ -2,7 +2,7 @@
 
 ghost use Rattle.batch_eval.specs.Batches.{flagged_values};
 ghost use Rattle.std.specs.Prelude.{◌≡◌, ◌<◌, ◌≤◌, ℕ, false, true, List, [], ◌∷◌, length, map, IfOk, IfErr, OnOk, OnErr};
-ghost use Rattle.lambda_expr.specs.Earlier.{Numbers};
+ghost use Rattle.lambda_values.specs.Earlier.{Numbers};
 ghost use Rattle.trace.specs.Trace.{Trace, trace, append};
 ghost use Rattle.trace.specs.declared.item.End.TheVariants as end;
 ghost use Rattle.trace.specs.declared.item.Item.{Item as item};
@@ -12,7 +12,7 @@ ghost use Rattle.job_plan.specs.declared.part.Part.{Part as any_part};
 
 use crate::ends::SegmentEnd;
 use crate::pieces::ItemPiece;
-use lambda_expr::Env;
+use lambda_values::Env;
 use trace::{End, Item, NoMemory, SourceItems};
 
 /// The end of a segment, its number as a stage, and the values of the job's names.

@@ -10,7 +10,7 @@ ghost use Rattle.job_plan.specs.Walks.{number_as};
 use crate::fallback::Fallback;
 use find_ops::FindTerminal;
 use job_language::Terminal;
-use lambda_expr::BoolExpr;
+use lambda_values::BoolExpr;
 use reduce_ops::Op;
 use slice_ops::Slice;
 

@@ -1,9 +1,9 @@
 //! Expressions that have a value at every item.
 ghost use Rattle.std.specs.Prelude.{◌≡◌};
-ghost use Rattle.lambda_expr.specs.Term.{long_of, truth_of};
+ghost use Rattle.lambda_values.specs.Term.{long_of, truth_of};
 ghost use Rattle.job_plan.specs.Faultless.{is_divisor, is_total, is_total_by, never_faults, test_never_faults};
 
-use lambda_expr::{BinaryOperator, BoolExpr, Faults, LongExpr, UnaryOperator};
+use lambda_values::{BinaryOperator, BoolExpr, Faults, LongExpr, UnaryOperator};
 
 /// Whether an operator has a value at every operand.
 pub(crate) fn is_total(operator: UnaryOperator) -> bool

@@ -9,7 +9,7 @@ ghost use Rattle.slice_ops.specs.Slices.{slice_of};
 
 use batch_eval::count_passing;
 use find_ops::FindTerminal;
-use lambda_expr::Env;
+use lambda_values::Env;
 use slice_ops::{Slice, SliceRest};
 
 /// How many items with these values, from the first on, decide nothing.

@@ -19,7 +19,7 @@ use crate::stretches::feed_until;
 use crate::windows::Window;
 use batch_eval::Registers;
 use early_stop::Stop;
-use lambda_expr::Env;
+use lambda_values::Env;
 use std::alloc::Global;
 use std::marker::{Brand, PhantomData};
 use trace::{End, Fed, NoMemory};

@@ -1,7 +1,7 @@
 //! The part of a prefix that nothing or cheap maps come before: it borrows the values of the job's sources and the maps.
 
 ghost use Rattle.std.specs.Prelude.{◌≡◌, ◌+◌, ◌<◌, ◌≤◌, ◌^◌, pos, ◌+ℤ◌, length, take, drop, true, IfOk, IfSome, OnErr, OnOk};
-ghost use Rattle.lambda_expr.specs.Earlier.{Numbers};
+ghost use Rattle.lambda_values.specs.Earlier.{Numbers};
 ghost use Rattle.trace.specs.Cover.{counted, distance, placed};
 ghost use Rattle.trace.specs.Stages.{stages_of};
 ghost use Rattle.trace.specs.Trace.{trace};

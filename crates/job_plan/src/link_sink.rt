@@ -2,7 +2,7 @@
 //! slice and into the next sink. Nothing is kept.
 
 ghost use Rattle.std.specs.Prelude.{◌≡◌, ◌-◌, ◌<◌, ◌≤◌, ◌^◌, ℕ, List, [], drop, length, map, take, ⊤};
-ghost use Rattle.lambda_expr.specs.Earlier.{Numbers};
+ghost use Rattle.lambda_values.specs.Earlier.{Numbers};
 ghost use Rattle.trace.specs.Sinks.{IsFed, flow_after};
 ghost use Rattle.trace.specs.Trace.{Trace, trace};
 ghost use Rattle.trace.specs.declared.feeding.Fed.TheVariants as fed;
@@ -23,7 +23,7 @@ use batch_eval::{
     Batch, BatchSink, BatchSource, Pipeline, PlacedValues, Registers, SourcePart, accept_each,
     feed_at_once,
 };
-use lambda_expr::{BoolExpr, Env};
+use lambda_values::{BoolExpr, Env};
 use slice_ops::{SliceCut, SliceRest};
 use std::marker::{Brand, PhantomData};
 use trace::{End, Fed, Flow, Item, LongSink, NoMemory, SourceItems, feed_all};

@@ -15,7 +15,7 @@ use crate::faultless::never_faults;
 use crate::first_found::with_first_found;
 use crate::likely::likely_size;
 use crate::segment::{Held, JobPlan, Plan, Segment};
-use lambda_expr::LongExpr;
+use lambda_values::LongExpr;
 use slice_ops::Slice;
 use std::alloc::Global;
 use trace::{NoMemory, Stage};

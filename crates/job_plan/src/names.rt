@@ -1,9 +1,9 @@
 //! The earlier jobs that a job names.
 
 ghost use Rattle.std.specs.Prelude.{◌≡◌, ◌<◌, ◌++◌, [], ◌∷◌, length, IfOk, IfSome};
-ghost use Rattle.lambda_expr.specs.References.{each_names, inner_names, long_names, truth_names};
-ghost use Rattle.lambda_expr.specs.Streams.{exprs_of, inner_of};
-ghost use Rattle.lambda_expr.specs.Term.{long_of, truth_of};
+ghost use Rattle.lambda_values.specs.References.{each_names, inner_names, long_names, truth_names};
+ghost use Rattle.lambda_values.specs.Streams.{exprs_of, inner_of};
+ghost use Rattle.lambda_values.specs.Term.{long_of, truth_of};
 ghost use Rattle.trace.specs.Stages.{stage_of};
 ghost use Rattle.slice_ops.specs.Slices.{slice_of};
 ghost use Rattle.find_ops.specs.Finds.{find_of};
@@ -15,7 +15,7 @@ ghost use Rattle.job_plan.specs.Plans.{all_placed};
 use crate::segment::{JobPlan, Named};
 use find_ops::FindTerminal;
 use job_language::{Job, JobStage, PlainSource, Terminal};
-use lambda_expr::{BoolExpr, InnerExpr, LongExpr};
+use lambda_values::{BoolExpr, InnerExpr, LongExpr};
 use slice_ops::Slice;
 use std::alloc::Global;
 use stream_tokens::Bytes;

@@ -13,7 +13,7 @@ use crate::segment::Segment;
 use crate::source::Walked;
 use crate::windows::Window;
 use batch_eval::Registers;
-use lambda_expr::Env;
+use lambda_values::Env;
 use std::alloc::Global;
 use std::marker::{Brand, PhantomData};
 use trace::{End, Fed, NoMemory};

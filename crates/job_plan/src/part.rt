@@ -2,7 +2,7 @@
 
 ghost use Rattle.batch_eval.specs.Batches.{flagged_values};
 ghost use Rattle.std.specs.Prelude.{◌≡◌, ◌<◌, ◌≤◌, ℕ, false, true, List, [], ◌∷◌, length, map, IfOk, IfErr, IfNone, IfSome, OnOk, OnErr, if◌then◌else◌};
-ghost use Rattle.lambda_expr.specs.Earlier.{Numbers};
+ghost use Rattle.lambda_values.specs.Earlier.{Numbers};
 ghost use Rattle.trace.specs.Trace.{Trace, trace, nothing, append};
 ghost use Rattle.trace.specs.declared.item.End.TheVariants as end;
 ghost use Rattle.trace.specs.declared.item.Item.{Item as item};
@@ -18,7 +18,7 @@ use crate::given::GivenWalk;
 use crate::outcome::{Outcome, answer_of, exact_answer};
 use crate::prefix_part::PrefixPart;
 use find_ops::FindPart;
-use lambda_expr::Env;
+use lambda_values::Env;
 use reduce_ops::SumPart;
 use slice_ops::SlicePart;
 use std::alloc::Global;

@@ -2,7 +2,7 @@
 
 ghost use Rattle.std.specs.Prelude.{◌≡◌, ℕ, List, [], false, true, map, OnErr};
 ghost use Rattle.trace.specs.Trace.{trace};
-ghost use Rattle.lambda_expr.specs.Earlier.{Numbers};
+ghost use Rattle.lambda_values.specs.Earlier.{Numbers};
 ghost use Rattle.trace.specs.Sinks.{IsFed, flow_after};
 ghost use Rattle.trace.specs.declared.item.End.TheVariants as end;
 ghost use Rattle.trace.specs.declared.item.Item.{Item as item};
@@ -17,7 +17,7 @@ use crate::end_part::{EndPart, LastStage};
 use crate::part::Part;
 use crate::segment::Segment;
 use batch_eval::{Batch, BatchSink, FlaggedLanes, PlacedValues, accept_each_flagged};
-use lambda_expr::{BoolExpr, Env};
+use lambda_values::{BoolExpr, Env};
 use std::marker::{Brand, PhantomData};
 use trace::{Fed, Flow, Item, LongSink, NoMemory, SourceItems};
 

@@ -1,7 +1,7 @@
 //! Laws of segments, pieces and plans. Each is the contract of a function that does nothing.
 
 ghost use Rattle.std.specs.Prelude.{◌≡◌, ℕ, ◌≤◌, List, Option, Some, None};
-ghost use Rattle.lambda_expr.specs.Earlier.{Numbers};
+ghost use Rattle.lambda_values.specs.Earlier.{Numbers};
 ghost use Rattle.trace.specs.Trace.{Trace, append};
 ghost use Rattle.job_language.specs.Jobs.{AbstractJob};
 ghost use Rattle.job_plan.specs.FileAnswers.{meaning_of};

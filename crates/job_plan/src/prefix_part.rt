@@ -19,7 +19,7 @@ use crate::given::GivenWalk;
 use crate::prefix_pieces::{add_items, add_lent, add_range, add_run, run_place};
 use crate::scanned::ScannedWalk;
 use batch_eval::Registers;
-use lambda_expr::FaultKind;
+use lambda_values::FaultKind;
 use std::alloc::Global;
 use std::marker::Model;
 use trace::{Chunk, End, Fault, NoMemory, RangeItems, SourceItems};

@@ -6,7 +6,7 @@ use crate::ends::SegmentEnd;
 use crate::fallback::Fallback;
 use batch_eval::Pipeline;
 use job_language::PlainSource;
-use lambda_expr::Env;
+use lambda_values::Env;
 use stream_tokens::Bytes;
 use trace::Stage;
 

@@ -23,7 +23,7 @@ use crate::spans::{Portion, within};
 use crate::windows::{Window, selected_window};
 use batch_eval::{BatchSink, Pipeline, PlacedValues, Registers, feed_batches};
 use job_language::PlainSource;
-use lambda_expr::{Env, FaultKind};
+use lambda_values::{Env, FaultKind};
 use trace::{End, Fault, Fed, Flow, NoMemory, RangeItems};
 
 /// The fault of sources of more than 2^62 values.

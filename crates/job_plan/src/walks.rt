@@ -14,7 +14,7 @@ use crate::segment::{JobPlan, Segment};
 use crate::source::{Source, Walked};
 use crate::windows::Window;
 use batch_eval::Registers;
-use lambda_expr::Env;
+use lambda_values::Env;
 use std::alloc::Global;
 use trace::NoMemory;
 

@@ -1,6 +1,6 @@
 -- The segments of a plan, from the first to the one that gives the answer.
 use Rattle.std.proofs.Common.{◌≡◌, ℕ, zero, suc, ◌<◌, ◌≤◌, pos, List, [], ◌∷◌, length, Option, Some, None, slice_get, get_or, ap, sym, subst, ◌∙◌, refl, arith}
-use Rattle.lambda_expr.specs.Earlier.{Numbers}
+use Rattle.lambda_values.specs.Earlier.{Numbers}
 use Rattle.trace.specs.Trace.{Trace}
 use Rattle.job_plan.specs.declared.answer.Answer.{Answer}
 use Rattle.job_plan.specs.declared.answer.Answer.TheVariants as answer

@@ -1,7 +1,7 @@
 -- A piece that ends in a fault: what the whole segment gives, and what the job answers.
 use Rattle.std.proofs.Common.{◌≡◌, ◌≢◌, ℕ, ℤ, ◌+◌, ◌-◌, ◌<◌, ◌≤◌, ◌==◌, Bool, true, false, List, length, take, drop, Option, Some, None, IfSome, slice_get, option_map, if◌then◌else◌, ap, sym, subst, refl, ◌∙◌, le_refl, arith}
 use Rattle.std.proofs.lemmas.List.{length-take}
-use Rattle.lambda_expr.specs.Earlier.{Numbers}
+use Rattle.lambda_values.specs.Earlier.{Numbers}
 use Rattle.trace.specs.declared.item.Fault.{Fault}
 use Rattle.trace.specs.declared.item.Item.{Item}
 use Rattle.trace.specs.declared.item.End.{End}

@@ -1,7 +1,7 @@
 -- Parts of a segment: two side by side, and the one for all positions.
 use Rattle.std.proofs.Common.{◌≡◌, ℕ, zero, suc, ◌+◌, ◌-◌, ◌<◌, ◌≤◌, drop, length, pos, Bool, true, false, Option, Some, None, IfSome, Result, Ok, Err, IfOk, slice_get, if◌then◌else◌, ◌==◌, ap, sym, subst, ◌∙◌, refl, arith, eq-eqb, ne_eqb}
 use Rattle.trace.specs.Trace.{Trace, append, nothing}
-use Rattle.lambda_expr.specs.Earlier.{Numbers}
+use Rattle.lambda_values.specs.Earlier.{Numbers}
 use Rattle.job_plan.specs.declared.answer.Answer.TheVariants as answer
 use Rattle.job_plan.specs.declared.outcome.Outcome.{Outcome}
 use Rattle.job_plan.specs.declared.part.Part.{Part}

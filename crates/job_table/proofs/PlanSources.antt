@@ -1,7 +1,7 @@
 -- What the first segment of a job goes over, and the answer of its last one.
 use Rattle.std.proofs.Common.{◌≡◌, ℕ, ◌+◌, ◌<◌, Bool, false, List, [], ◌∷◌, ◌++◌, Some, None, Result, Ok, Err, IfOk, length, get_or, drop, append_assoc, ap, sym, subst, ◌∙◌, refl}
 use Rattle.std.proofs.lemmas.List.{drop_more}
-use Rattle.lambda_expr.specs.Earlier.{Numbers}
+use Rattle.lambda_values.specs.Earlier.{Numbers}
 use Rattle.job_language.specs.declared.job.PlainSource.{PlainSource}
 use Rattle.job_language.specs.Jobs.{AbstractPlainSource, source_of, sources_of}
 use Rattle.trace.specs.Trace.{Trace}

@@ -3,9 +3,9 @@ use denote.Param.Send.{IsSend, IsSync, sendable}
 use denote.Ref.{NamedLft}
 use denote.RattleType.{RattleType}
 use Rattle.std.proofs.Crossing.{crosses}
-use Rattle.lambda_expr.proofs.expr.BoolExpr.TheLaws.TheKnot as exprs
-use Rattle.lambda_expr.specs.contracts.expr.BoolExpr as truths
-use Rattle.lambda_expr.specs.contracts.expr.LongExpr as longs
+use Rattle.lambda_values.proofs.expr.BoolExpr.TheLaws.TheKnot as exprs
+use Rattle.lambda_values.specs.contracts.expr.BoolExpr as truths
+use Rattle.lambda_values.specs.contracts.expr.LongExpr as longs
 use Rattle.trace.specs.contracts.stage.Stage as stages
 use Rattle.job_plan.specs.contracts.segment.Segment as segments
 use Rattle.job_plan.specs.contracts.segment.JobPlan as jobs

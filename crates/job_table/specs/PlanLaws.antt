@@ -2,8 +2,8 @@
 use Rattle.std.proofs.Common.{◌≡◌, List, []}
 use base.Stored.{Coded-set, coded_list}
 use mir.Syntax.{static}
-use Rattle.lambda_expr.specs.Earlier.{Numbers}
-use Rattle.lambda_expr.specs.contracts.env.Env as envs
+use Rattle.lambda_values.specs.Earlier.{Numbers}
+use Rattle.lambda_values.specs.contracts.env.Env as envs
 use Rattle.trace.specs.Trace.{Trace}
 use Rattle.trace.specs.contracts.chunk.Chunk as chunks
 use Rattle.job_plan.specs.contracts.answer.Answer as answers

@@ -1,6 +1,6 @@
 -- Condition: the segments of a plan: what each goes over, and what parts of it stand for.
 use Rattle.std.specs.Prelude.{ℕ, zero, suc, pos, ◌-◌, ◌^◌, min, take, Bool, true, false, List, [], ◌∷◌, length, Option, Some, None, IfSome, slice_get, slice_index_or, if◌then◌else◌, ◌==◌}
-use Rattle.lambda_expr.specs.Earlier.{Numbers}
+use Rattle.lambda_values.specs.Earlier.{Numbers}
 use Rattle.trace.specs.Trace.{Trace, nothing}
 use Rattle.job_plan.specs.declared.answer.Answer.{Answer}
 use Rattle.job_plan.specs.declared.answer.Answer.TheVariants as answer

@@ -16,7 +16,7 @@ use crate::planned::{PlanJobs, Planned};
 use crate::segments::Begun;
 use job_language::PlainSource;
 use job_plan::{Answer, JobPlan, Named, Source};
-use lambda_expr::Env;
+use lambda_values::Env;
 use std::alloc::Global;
 use stream_tokens::Bytes;
 

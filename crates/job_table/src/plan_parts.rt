@@ -18,7 +18,7 @@ use job_plan::{
     Answer, ArrayPart, GivenWalk, JobPlan, Outcome, Part, Segment, SegmentEnd, Source, Walked,
     Window, leaf_in_order, leaf_stored, leaf_until, streamed, streamed_in_order, unwalked,
 };
-use lambda_expr::Env;
+use lambda_values::Env;
 use slice_ops::Slice;
 use std::alloc::Global;
 use trace::{Chunk, End};

@@ -1,7 +1,7 @@
 -- Any words are a body, or stop at a place; bodies from their fronts.
 use Rattle.std.proofs.Common.{◌≡◌, ◌⊎◌, inl, inr, ℕ, ◌+◌, ◌≤◌, List, drop, length, Result, Ok, Err, refl, sym, ap, subst, ◌∙◌, arith}
-use Rattle.lambda_expr.specs.declared.lambda.Want.{Want}
-use Rattle.lambda_expr.specs.declared.lambda.Want.TheVariants as want
+use Rattle.lambda_expr.specs.declared.want.Want.{Want}
+use Rattle.lambda_expr.specs.declared.want.Want.TheVariants as want
 use Rattle.lambda_expr.specs.declared.lexeme.Lexeme.{Lexeme}
 use Rattle.lambda_expr.specs.declared.parse.Stop.{Stop}
 use Rattle.lambda_expr.specs.declared.parse.Stop.TheVariants.{At, NoMemory}

@@ -6,18 +6,19 @@ use Rattle.stream_tokens.specs.declared.token.Token.{Token}
 use Rattle.stream_tokens.specs.Tokens.{AreTokensOf}
 use Rattle.lambda_expr.specs.declared.fault.ReadFault.{ReadFault}
 use Rattle.lambda_expr.specs.declared.fault.ReadFault.TheVariants as fault
-use Rattle.lambda_expr.specs.declared.lambda.PairForm.{PairForm}
-use Rattle.lambda_expr.specs.declared.lambda.Want.{Want}
-use Rattle.lambda_expr.specs.declared.lambda.Want.TheVariants as want
+use Rattle.lambda_values.specs.declared.lambda.PairForm.{PairForm}
+use Rattle.lambda_expr.specs.declared.want.Want.{Want}
+use Rattle.lambda_expr.specs.declared.want.Want.TheVariants as want
 use Rattle.lambda_expr.specs.declared.source.Source.{Source}
 use Rattle.lambda_expr.specs.Checks.{depth, fit, literals, names_known}
 use Rattle.lambda_expr.specs.Heads.{ALambda, BodyShape, expression, operands, parameters}
 use Rattle.lambda_expr.specs.Lexemes.{Names, lexemes_of, names_in}
-use Rattle.lambda_expr.specs.Refusals.{AbstractLambda, Judged, IsRefused, column, lambda_of, streamed, verdict, wanted}
+use Rattle.lambda_values.specs.Lambda.{AbstractLambda}
+use Rattle.lambda_expr.specs.Refusals.{Judged, IsRefused, column, lambda_of, streamed, verdict, wanted}
 use Rattle.lambda_expr.specs.Stops.{StopsAt}
 use Rattle.lambda_expr.specs.StreamChecks.{all_fit, all_known, deepest, numbers, stream_of}
-use Rattle.lambda_expr.specs.Streams.{Inner}
-use Rattle.lambda_expr.specs.Term.{Long}
+use Rattle.lambda_values.specs.Streams.{Inner}
+use Rattle.lambda_values.specs.Term.{Long}
 use Rattle.lambda_expr.specs.Typing.{Typed, long, boolean, longs, untyped}
 use Rattle.lambda_expr.proofs.Heads.{each_lambda}
 

@@ -3,7 +3,7 @@ use Rattle.std.proofs.Common.{◌≡◌, ◌≢◌, ◌⊎◌, inl, inr, ℕ, ze
 use Rattle.std.proofs.str.Laws.{order}
 use Rattle.lambda_expr.specs.declared.head.Mark.{Mark}
 use Rattle.lambda_expr.specs.declared.head.Mark.TheVariants as mark
-use Rattle.lambda_expr.specs.declared.lambda.Want.{Want}
+use Rattle.lambda_expr.specs.declared.want.Want.{Want}
 use Rattle.lambda_expr.specs.declared.lexeme.Lexeme.{Lexeme}
 use Rattle.lambda_expr.specs.HeadReading.{IsMatched, AreTried, first_of}
 use Rattle.lambda_expr.specs.Heads.{ABody, ALambda, mark_of, heads}

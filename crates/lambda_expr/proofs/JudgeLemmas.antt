@@ -3,8 +3,8 @@ use Rattle.std.proofs.Common.{◌≡◌, ℕ, ◌<◌, ◌≤◌, min, nat_lt, t
 use Rattle.std.proofs.lemmas.Grind.{common_steps}
 use Rattle.lambda_expr.specs.declared.check.Summary.{Summary}
 use Rattle.lambda_expr.specs.declared.fault.ReadFault.TheVariants as fault
-use Rattle.lambda_expr.specs.declared.lambda.Want.{Want}
-use Rattle.lambda_expr.specs.declared.lambda.PairForm.{PairForm}
+use Rattle.lambda_expr.specs.declared.want.Want.{Want}
+use Rattle.lambda_values.specs.declared.lambda.PairForm.{PairForm}
 use Rattle.lambda_expr.specs.declared.step.Step.{Step}
 use Rattle.lambda_expr.specs.Checks.{depth, fit, literals, names_known}
 use Rattle.lambda_expr.specs.Elaborating.{top_typed, typed_steps}

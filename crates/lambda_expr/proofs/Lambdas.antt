@@ -1,8 +1,8 @@
 -- Words are one lambda, or stop at one place.
 use Rattle.std.proofs.Common.{◌≡◌, inl, inr, ℕ, ◌+◌, List, [], ◌∷◌, ◌++◌, drop, Result, Ok, Err, refl, ap, subst, sym, ◌∙◌}
 use Rattle.lambda_expr.specs.declared.head.Mark.{Mark}
-use Rattle.lambda_expr.specs.declared.lambda.Want.{Want}
-use Rattle.lambda_expr.specs.declared.lambda.Want.TheVariants as want
+use Rattle.lambda_expr.specs.declared.want.Want.{Want}
+use Rattle.lambda_expr.specs.declared.want.Want.TheVariants as want
 use Rattle.lambda_expr.specs.declared.lexeme.Lexeme.{Lexeme}
 use Rattle.lambda_expr.specs.declared.lexeme.Lexeme.TheVariants as word
 use Rattle.lambda_expr.specs.Grammar.{number}

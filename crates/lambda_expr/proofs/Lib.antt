@@ -2,10 +2,8 @@ pub mod AnswerLemmas
 pub mod Bodies
 pub mod EachBody
 pub mod EachText
-pub mod DivisionLaws
 pub mod ElaborateLemmas
 pub mod EndLemmas
-pub mod ExactLemmas
 pub mod Existence
 pub mod Frames
 pub mod HeadLemmas
@@ -15,7 +13,6 @@ pub mod JudgeLemmas
 pub mod Lambdas
 pub mod Leads
 pub mod LexemeLemmas
-pub mod Multiples
 pub mod NumberLaws
 pub mod NumberStops
 pub mod OneAnswer
@@ -24,11 +21,8 @@ pub mod OneStream
 pub mod OperandLemmas
 pub mod ParseLemmas
 pub mod PartLemmas
-pub mod Quotients
 pub mod ReaderStateLemmas
-pub mod References
 pub mod Sequences
-pub mod Shifts
 pub mod SourceLemmas
 pub mod StackLemmas
 pub mod StreamLemmas

@@ -5,12 +5,13 @@ use Rattle.stream_tokens.specs.Tokens.{AreTokensOf}
 use Rattle.stream_tokens.proofs.CutLemmas.{same_tokens}
 use Rattle.lambda_expr.specs.declared.fault.ReadFault.{ReadFault}
 use Rattle.lambda_expr.specs.declared.fault.ReadFault.TheVariants as fault
-use Rattle.lambda_expr.specs.declared.lambda.Want.{Want}
-use Rattle.lambda_expr.specs.declared.lambda.Lambda.{Lambda}
+use Rattle.lambda_expr.specs.declared.want.Want.{Want}
+use Rattle.lambda_values.specs.declared.lambda.Lambda.{Lambda}
 use Rattle.lambda_expr.specs.Lexemes.{lexemes_of, names_in}
 use Rattle.lambda_expr.specs.Stops.{StopsAt}
 use Rattle.lambda_expr.specs.Heads.{ALambda, IsLambda}
-use Rattle.lambda_expr.specs.Refusals.{AbstractLambda, verdict, Judged, IsNoLambda, HasTooManyTokens, column, body_of, SpellsLambda, IsRefused}
+use Rattle.lambda_values.specs.Lambda.{AbstractLambda, body_of}
+use Rattle.lambda_expr.specs.Refusals.{verdict, Judged, IsNoLambda, HasTooManyTokens, column, SpellsLambda, IsRefused}
 use Rattle.lambda_expr.proofs.OneStop.{one_place}
 use Rattle.lambda_expr.proofs.Lambdas.{one_lambda}
 

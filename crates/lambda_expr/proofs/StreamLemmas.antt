@@ -4,7 +4,7 @@ use Rattle.std.proofs.lemmas.List.{drop_more}
 use Rattle.std.proofs.lemmas.Grind.{common_steps}
 use Rattle.std.specs.Global.{Vec}
 use Rattle.std.specs.Prelude.{◌&&◌}
-use Rattle.lambda_expr.specs.declared.expr.LongExpr.{LongExpr}
+use Rattle.lambda_values.specs.declared.expr.LongExpr.{LongExpr}
 use Rattle.lambda_expr.specs.declared.fault.ReadFault.TheVariants as fault
 use Rattle.lambda_expr.specs.declared.source.Source.{Source}
 use Rattle.lambda_expr.specs.declared.step.Step.{Step}
@@ -17,8 +17,8 @@ use Rattle.lambda_expr.specs.Lexemes.{Names}
 use Rattle.lambda_expr.specs.Refusals.{stream_verdict, streamed}
 use Rattle.lambda_expr.specs.SourceReading.{each_postfix, steps_of}
 use Rattle.lambda_expr.specs.StreamChecks.{all_fit, all_known, and_number, deepest, numbers}
-use Rattle.lambda_expr.specs.Streams.{exprs_of}
-use Rattle.lambda_expr.specs.Term.{Long, long_of}
+use Rattle.lambda_values.specs.Streams.{exprs_of}
+use Rattle.lambda_values.specs.Term.{Long, long_of}
 use Rattle.lambda_expr.specs.Typing.{Typed, long, boolean, longs, untyped}
 use Rattle.lambda_expr.proofs.JudgeLemmas.{summary_is, typed_is}
 

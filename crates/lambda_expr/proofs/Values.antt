@@ -7,7 +7,7 @@ use Rattle.std.specs.Int.{int_wrap, cast_signed}
 use Rattle.std.proofs.lemmas.List.{drop_more, drop_all}
 use Rattle.std.proofs.lemmas.List.Sums.{take_while-cons}
 use Rattle.lambda_expr.specs.Numerals.{read_on}
-use Rattle.lambda_expr.specs.Wrap.{wrap}
+use Rattle.lambda_values.specs.Wrap.{wrap}
 
 -- the digits on, from a number that was cut at m
 pub read_on-min : (m n : ℕ) (ds : List ℕ) → min (read_on (min n m) ds) m ≡ min (read_on n ds) m

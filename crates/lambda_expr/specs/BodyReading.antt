@@ -3,7 +3,7 @@ use Rattle.std.specs.Prelude.{◌≡◌, max, true, ◌&&◌, List, [], ◌∷�
 use Rattle.lambda_expr.specs.declared.body.BodySteps.{BodySteps}
 use Rattle.lambda_expr.specs.declared.body.BodySteps.TheVariants as steps
 use Rattle.lambda_expr.specs.declared.check.Summary.{Summary}
-use Rattle.lambda_expr.specs.declared.lambda.Want.{Want}
+use Rattle.lambda_expr.specs.declared.want.Want.{Want}
 use Rattle.lambda_expr.specs.declared.lexeme.Lexeme.{Lexeme}
 use Rattle.lambda_expr.specs.declared.step.Step.{Step}
 use Rattle.lambda_expr.specs.declared.stream.Checks.{Checks}
@@ -16,7 +16,7 @@ use Rattle.lambda_expr.specs.SourceReading.{each_postfix, steps_of}
 use Rattle.lambda_expr.specs.Sources.{Takes}
 use Rattle.lambda_expr.specs.StreamChecks.{and_number}
 use Rattle.lambda_expr.specs.Summaries.{summary_steps, top_summary}
-use Rattle.lambda_expr.specs.Term.{Long}
+use Rattle.lambda_values.specs.Term.{Long}
 
 -- these are the steps of the body
 abbrev pub AreSteps : BodyShape → BodySteps → Type 0

@@ -7,11 +7,11 @@ use Rattle.lambda_expr.specs.declared.elaborate.Operand.{Operand}
 use Rattle.lambda_expr.specs.declared.elaborate.Operand.TheVariants as operand
 use Rattle.lambda_expr.specs.Lexemes.{Names}
 use Rattle.lambda_expr.specs.Stacks.{below, top_or}
-use Rattle.lambda_expr.specs.Term as term
-use Rattle.lambda_expr.specs.Term.{long_of, truth_of}
+use Rattle.lambda_values.specs.Term as term
+use Rattle.lambda_values.specs.Term.{long_of, truth_of}
 use Rattle.lambda_expr.specs.Typing.{Typed, long, boolean, longs, untyped, called_with, constant_of, constant_typed, function_of, operated, prefixed, selected}
 use Rattle.lambda_expr.specs.Signs.{operation_of}
-use Rattle.lambda_expr.specs.Wrap.{wrap}
+use Rattle.lambda_values.specs.Wrap.{wrap}
 
 -- what an operand of the program stands for
 abbrev pub typed_of : Operand → Typed

@@ -2,8 +2,8 @@
 use Rattle.std.specs.Prelude.{◌≡◌, ◌⊎◌, ℕ, List, [], ◌∷◌, ◌++◌, Option, Some, None}
 use Rattle.lambda_expr.specs.declared.head.Mark.{Mark}
 use Rattle.lambda_expr.specs.declared.head.Mark.TheVariants as mark
-use Rattle.lambda_expr.specs.declared.lambda.Want.{Want}
-use Rattle.lambda_expr.specs.declared.lambda.Want.TheVariants as want
+use Rattle.lambda_expr.specs.declared.want.Want.{Want}
+use Rattle.lambda_expr.specs.declared.want.Want.TheVariants as want
 use Rattle.lambda_expr.specs.declared.lexeme.Lexeme.{Lexeme}
 use Rattle.lambda_expr.specs.declared.lexeme.Lexeme.TheVariants as word
 use Rattle.lambda_expr.specs.declared.lexeme.Name.TheVariants.{Plain, LowerLong}

@@ -2,13 +2,13 @@
 use Rattle.std.specs.Prelude.{◌≡◌, List, Result, Ok, Err}
 use Rattle.lambda_expr.specs.declared.fault.ReadFault.{ReadFault}
 use Rattle.lambda_expr.specs.declared.fault.ReadFault.TheVariants as fault
-use Rattle.lambda_expr.specs.declared.lambda.Lambda.{Lambda}
+use Rattle.lambda_values.specs.declared.lambda.Lambda.{Lambda}
 use Rattle.lambda_expr.specs.declared.lexeme.Lexeme.{Lexeme}
-use Rattle.lambda_expr.specs.declared.lambda.Want.{Want}
+use Rattle.lambda_expr.specs.declared.want.Want.{Want}
 use Rattle.lambda_expr.specs.declared.body.BodySteps.{BodySteps}
 use Rattle.lambda_expr.specs.BodyReading.{AreSteps}
 use Rattle.lambda_expr.specs.Heads.{BodyShape, IsLambda}
-use Rattle.lambda_expr.specs.Refusals.{AbstractLambda, body_of}
+use Rattle.lambda_values.specs.Lambda.{AbstractLambda, body_of}
 
 -- what the judge answers, if this is the verdict
 abbrev pub IsJudged : Result AbstractLambda ReadFault → Result Lambda ReadFault → Type 0

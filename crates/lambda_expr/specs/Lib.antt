@@ -2,7 +2,6 @@
 pub mod Checks
 pub mod BodyReading
 pub mod Codes
-pub mod Earlier
 pub mod Elaborating
 pub mod Grammar
 pub mod HeadReading
@@ -14,10 +13,8 @@ pub mod NumberReading
 pub mod NumberValues
 pub mod Numbers
 pub mod Numerals
-pub mod Operators
 pub mod PairForms
 pub mod Reader
-pub mod References
 pub mod Refusals
 pub mod Signs
 pub mod SourceReading
@@ -25,11 +22,7 @@ pub mod Sources
 pub mod Stacks
 pub mod Stops
 pub mod StreamChecks
-pub mod Streams
 pub mod Summaries
-pub mod Term
 pub mod Tokens
 pub mod Typing
-pub mod Value
 pub mod Words
-pub mod Wrap

@@ -2,9 +2,9 @@
 use Rattle.std.specs.Prelude.{ℕ, pos, negsuc, ◌-◌, ◌^◌, Bool, nat_eq, if◌then◌else◌, List, [], ◌∷◌, codes, map}
 use Rattle.std.specs.Borrow.{Bor}
 use Rattle.std.specs.Cmp.Lexicographic.{pointwise}
-use Rattle.lambda_expr.specs.declared.operator.Function.TheVariants.{Unary, Binary}
-use Rattle.lambda_expr.specs.declared.operator.UnaryOperator.TheVariants as unary_operator
-use Rattle.lambda_expr.specs.declared.operator.BinaryOperator.TheVariants as binary_operator
+use Rattle.lambda_expr.specs.declared.operation.Function.TheVariants.{Unary, Binary}
+use Rattle.lambda_values.specs.declared.operator.UnaryOperator.TheVariants as unary_operator
+use Rattle.lambda_values.specs.declared.operator.BinaryOperator.TheVariants as binary_operator
 use Rattle.lambda_expr.specs.declared.source.Source.TheVariants as source
 use Rattle.lambda_expr.specs.declared.table.Member.{Member}
 use Rattle.lambda_expr.specs.declared.table.Member.TheVariants as member

@@ -5,12 +5,10 @@ use Rattle.stream_tokens.specs.declared.token.Token.{Token}
 use Rattle.stream_tokens.specs.Tokens.{AreTokensOf}
 use Rattle.lambda_expr.specs.declared.fault.ReadFault.{ReadFault}
 use Rattle.lambda_expr.specs.declared.fault.ReadFault.TheVariants as fault
-use Rattle.lambda_expr.specs.declared.lambda.Want.{Want}
-use Rattle.lambda_expr.specs.declared.lambda.Want.TheVariants as want
-use Rattle.lambda_expr.specs.declared.lambda.Lambda.{Lambda}
-use Rattle.lambda_expr.specs.declared.lambda.PairForm.{PairForm}
-use Rattle.lambda_expr.specs.declared.lambda.Body.{Body}
-use Rattle.lambda_expr.specs.declared.lambda.Body.TheVariants as body
+use Rattle.lambda_expr.specs.declared.want.Want.{Want}
+use Rattle.lambda_expr.specs.declared.want.Want.TheVariants as want
+use Rattle.lambda_values.specs.declared.lambda.Lambda.{Lambda}
+use Rattle.lambda_values.specs.declared.lambda.PairForm.{PairForm}
 use Rattle.lambda_expr.specs.declared.source.Source.{Source}
 use Rattle.lambda_expr.specs.Checks.{depth, fit, literals, names_known}
 use Rattle.lambda_expr.specs.Grammar.{Shape}
@@ -19,17 +17,11 @@ use Rattle.lambda_expr.specs.Lexemes.{Names, lexemes_of, names_in}
 use Rattle.lambda_expr.specs.Stops.{StopsAt}
 use Rattle.lambda_expr.specs.PairForms.{form, whole_form}
 use Rattle.lambda_expr.specs.StreamChecks.{all_fit, all_known, deepest, numbers, stream_of}
-use Rattle.lambda_expr.specs.Streams.{Inner, inner_of}
-use Rattle.lambda_expr.specs.Term.{Long, Truth, long_of, truth_of}
+use Rattle.lambda_values.specs.Lambda.{AbstractLambda, long, boolean, stream, pair, body_of}
+use Rattle.lambda_values.specs.Streams.{Inner}
+use Rattle.lambda_values.specs.Term.{Long}
 use Rattle.lambda_expr.specs.Typing as typing
 use Rattle.lambda_expr.specs.Typing.{Typed, typed}
-
--- a lambda: an expression whose value is a number, a boolean or a stream, or the form of one with two parameters
-pub data AbstractLambda : Type 0 where
-  long : Long → AbstractLambda
-  boolean : Truth → AbstractLambda
-  stream : Inner → AbstractLambda
-  pair : PairForm → AbstractLambda
 
 -- the lambda of an expression of this type and form, if it is of the type that is wanted
 abbrev pub wanted : Want → Typed → PairForm → Result AbstractLambda ReadFault
@@ -97,13 +89,6 @@ pub record HasTooManyTokens (text : List ℕ) : Type 0 where
   pub tokens : List Token
   pub cut : AreTokensOf tokens text
   pub many : 4096 < length tokens
-
--- what the body of a lambda of the program stands for
-abbrev pub body_of : Body → AbstractLambda
-body_of (body.Long e) = long (long_of e)
-body_of (body.Bool e) = boolean (truth_of e)
-body_of (body.Stream e) = stream (inner_of e)
-body_of (body.Pair f) = pair f
 
 -- the text spells this lambda of that want
 abbrev pub SpellsLambda : List ℕ → Want → Lambda → Type 0

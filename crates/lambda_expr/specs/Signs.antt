@@ -4,11 +4,11 @@ use Rattle.stream_tokens.specs.declared.symbol.Symbol.{Symbol}
 use Rattle.stream_tokens.specs.declared.symbol.Symbol.TheVariants as symbol
 use Rattle.lambda_expr.specs.declared.sign.Sign.{Sign}
 use Rattle.lambda_expr.specs.declared.sign.Sign.TheVariants as sign
-use Rattle.lambda_expr.specs.declared.operator.BinaryOperator.TheVariants as binary_operator
-use Rattle.lambda_expr.specs.declared.operator.Comparison.TheVariants as comparison
-use Rattle.lambda_expr.specs.declared.operator.Connective.TheVariants as connective
-use Rattle.lambda_expr.specs.declared.operator.Operation.{Operation}
-use Rattle.lambda_expr.specs.declared.operator.Operation.TheVariants.{Compute, Compare, Connect, Separate, Nothing}
+use Rattle.lambda_values.specs.declared.operator.BinaryOperator.TheVariants as binary_operator
+use Rattle.lambda_values.specs.declared.operator.Comparison.TheVariants as comparison
+use Rattle.lambda_values.specs.declared.operator.Connective.TheVariants as connective
+use Rattle.lambda_expr.specs.declared.operation.Operation.{Operation}
+use Rattle.lambda_expr.specs.declared.operation.Operation.TheVariants.{Compute, Compare, Connect, Separate, Nothing}
 
 -- the sign that a symbol is
 abbrev pub sign_of : Symbol → Option Sign

@@ -5,8 +5,8 @@ use Rattle.lambda_expr.specs.declared.source.Source.TheVariants as source
 use Rattle.lambda_expr.specs.Checks.{depth, fit, literals, names_known}
 use Rattle.lambda_expr.specs.Grammar.{Shape}
 use Rattle.lambda_expr.specs.Lexemes.{Names}
-use Rattle.lambda_expr.specs.Streams.{Inner, range, range_closed, values}
-use Rattle.lambda_expr.specs.Term.{Long}
+use Rattle.lambda_values.specs.Streams.{Inner, range, range_closed, values}
+use Rattle.lambda_values.specs.Term.{Long}
 use Rattle.lambda_expr.specs.Typing.{Typed, typed, long}
 
 -- the numbers of each operand fit

@@ -9,7 +9,7 @@ use Rattle.lambda_expr.specs.declared.step.Step.{Step}
 use Rattle.lambda_expr.specs.declared.step.Step.TheVariants as step
 use Rattle.lambda_expr.specs.Checks.{depth, fit, is_comma, is_known, literals, names_known, signed}
 use Rattle.lambda_expr.specs.declared.check.Form.TheVariants.{Whole}
-use Rattle.lambda_expr.specs.declared.lambda.PairForm.TheVariants.{Other}
+use Rattle.lambda_values.specs.declared.lambda.PairForm.TheVariants.{Other}
 use Rattle.lambda_expr.specs.Grammar.{Shape}
 use Rattle.lambda_expr.specs.PairForms.{binary_form, enclosed_form, form, name_form}
 use Rattle.lambda_expr.specs.Stacks.{below, top_or}

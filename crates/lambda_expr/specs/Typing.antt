@@ -8,18 +8,18 @@ use Rattle.lambda_expr.specs.declared.table.Member.{Member}
 use Rattle.lambda_expr.specs.declared.table.Member.TheVariants as member
 use Rattle.lambda_expr.specs.declared.lexeme.Name.{Name}
 use Rattle.lambda_expr.specs.declared.lexeme.Name.TheVariants.{Plain}
-use Rattle.lambda_expr.specs.declared.operator.UnaryOperator.TheVariants as unary_operator
-use Rattle.lambda_expr.specs.declared.operator.Operation.{Operation}
-use Rattle.lambda_expr.specs.declared.operator.Operation.TheVariants.{Compute, Compare, Connect, Separate}
-use Rattle.lambda_expr.specs.declared.operator.Function.{Function}
-use Rattle.lambda_expr.specs.declared.operator.Function.TheVariants.{Unary, Binary}
+use Rattle.lambda_values.specs.declared.operator.UnaryOperator.TheVariants as unary_operator
+use Rattle.lambda_expr.specs.declared.operation.Operation.{Operation}
+use Rattle.lambda_expr.specs.declared.operation.Operation.TheVariants.{Compute, Compare, Connect, Separate}
+use Rattle.lambda_expr.specs.declared.operation.Function.{Function}
+use Rattle.lambda_expr.specs.declared.operation.Function.TheVariants.{Unary, Binary}
 use Rattle.lambda_expr.specs.declared.step.Opening.TheVariants.{Paren, Call}
 use Rattle.lambda_expr.specs.Grammar.{Shape, name, number, truth, reference, constant, prefix, binary, ternary, enclosed}
 use Rattle.lambda_expr.specs.Lexemes.{Names}
 use Rattle.lambda_expr.specs.Signs.{operation_of}
-use Rattle.lambda_expr.specs.Term as term
-use Rattle.lambda_expr.specs.Term.{Long, Truth}
-use Rattle.lambda_expr.specs.Wrap.{wrap}
+use Rattle.lambda_values.specs.Term as term
+use Rattle.lambda_values.specs.Term.{Long, Truth}
+use Rattle.lambda_values.specs.Wrap.{wrap}
 
 -- the method of Math or Long that a name calls
 abbrev pub method_of : Class → Member → Option Function

@@ -5,11 +5,11 @@ ghost use Rattle.lambda_expr.specs.Codes.{IsStop};
 ghost use Rattle.lambda_expr.specs.Heads.{ABody};
 ghost use Rattle.std.specs.Prelude.{IfErr, IfOk};
 
-use super::lambda::Want;
 use super::lexeme::Lexeme;
 use super::parse::{Stop, parse};
 use super::source::{Source, parse_operands, parse_source};
 use super::step::Step;
+use super::want::Want;
 use std::alloc::Global;
 
 /// A body in steps.

@@ -7,11 +7,11 @@ ghost use Rattle.lambda_expr.specs.Summaries.{binary_summary, deeper, enclosed_s
 ghost use Rattle.lambda_expr.specs.declared.check.Summary.{Summary as found};
 ghost use Rattle.std.specs.Prelude.{◌≡◌, IfOk, List, [], ◌∷◌, ◌++◌};
 
-use super::lambda::PairForm;
-use super::operator::{BinaryOperator, Function};
+use super::operation::Function;
 use super::sign::Sign;
 use super::step::{Opening, Step};
 use super::table::{constant_of, function_of};
+use lambda_values::{BinaryOperator, PairForm};
 use std::alloc::{AllocError, Global};
 
 /// How deep an expression may be.

@@ -4,19 +4,19 @@ ghost use Rattle.lambda_expr.specs.Elaborating.{operands_of, top_typed, typed_of
 ghost use Rattle.lambda_expr.specs.Lexemes.{names_in};
 ghost use Rattle.lambda_expr.specs.Stacks.{below, stacked};
 ghost use Rattle.lambda_expr.specs.Typing.{Typed as shape_type, called_with, operated, prefixed, selected};
-ghost use Rattle.lambda_expr.specs.Term.{long_of, truth_of};
+ghost use Rattle.lambda_values.specs.Term.{long_of, truth_of};
 ghost use Rattle.lambda_expr.specs.Typing.{long, boolean};
 ghost use Rattle.std.specs.Prelude.{◌≡◌, IfOk, List, [], ◌∷◌, ◌++◌};
 
-use super::expr::{BoolExpr, LongExpr};
 use super::lexeme::Name;
 use super::making::{
     binary, choose_long, choose_truth, compare, connect, constant, number, reference, unary,
 };
-use super::operator::{Function, Operation, UnaryOperator};
+use super::operation::{Function, Operation};
 use super::sign::Sign;
 use super::step::{Opening, Step};
 use super::table::function_of;
+use lambda_values::{BoolExpr, LongExpr, UnaryOperator};
 use std::alloc::{AllocError, Global};
 use stream_tokens::CutText;
 

@@ -1,24 +1,9 @@
-// Why an expression has no value, and why a text is no lambda.
+// Why a text is no lambda.
 
 ghost use Rattle.std.specs.Prelude.{◌≡◌};
 ghost use Rattle.lambda_expr.specs.declared.fault.ReadFault.TheVariants.{NoMemory};
 
 use std::alloc::{AllocError, AllocFailed};
-
-/// Why an expression has no value at an item, or a source no items.
-///
-/// A report names each kind; a program that keeps numbers has 1 to 4, in this order.
-#[derive(Clone, Copy, Debug, PartialEq, Eq)]
-pub enum FaultKind {
-    /// A quotient or a remainder whose divisor is 0.
-    DivideByZero,
-    /// An exact operation whose result is outside 64 bits.
-    Overflow,
-    /// A range of places that ends past the end of an array.
-    OutOfArray,
-    /// More than 2^62 values.
-    SourceTooLong,
-}
 
 /// Why a text is not read as a lambda of the want. Numbers 1 to 6, in this order.
 #[derive(Clone, Copy, Debug, PartialEq, Eq)]

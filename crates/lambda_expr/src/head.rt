@@ -4,9 +4,9 @@ ghost use Rattle.lambda_expr.specs.HeadReading.{AreTried, IsFit, IsMatched, IsTr
 ghost use Rattle.lambda_expr.specs.Heads.{heads, mark_of, parameters};
 ghost use Rattle.std.specs.Prelude.{◌≡◌};
 
-use super::lambda::Want;
 use super::lexeme::{Lexeme, Name};
 use super::sign::Sign;
+use super::want::Want;
 
 /// What a word of a head has to be.
 #[derive(Clone, Copy, PartialEq, Eq)]

@@ -2,13 +2,14 @@
 // the laws.
 
 ghost use Rattle.lambda_expr.specs.declared.fault.ReadFault.{ReadFault};
-ghost use Rattle.lambda_expr.specs.declared.lambda.Lambda.{Lambda};
-ghost use Rattle.lambda_expr.specs.declared.lambda.Want.{Want};
+ghost use Rattle.lambda_values.specs.declared.lambda.Lambda.{Lambda};
+ghost use Rattle.lambda_expr.specs.declared.want.Want.{Want};
 ghost use Rattle.lambda_expr.specs.declared.lexeme.Lexeme.{Lexeme as word};
 ghost use Rattle.lambda_expr.specs.Heads.{ALambda, BodyShape, IsLambda};
 ghost use Rattle.lambda_expr.specs.Stops.{StopsAt};
 ghost use Rattle.lambda_expr.specs.Numbers.{IsNumberRefused, SpellsNumber};
-ghost use Rattle.lambda_expr.specs.Refusals.{IsRefused, Judged, AbstractLambda, SpellsLambda, body_of};
+ghost use Rattle.lambda_values.specs.Lambda.{AbstractLambda, body_of};
+ghost use Rattle.lambda_expr.specs.Refusals.{IsRefused, Judged, SpellsLambda};
 ghost use Rattle.stream_tokens.specs.Tokens.{AreTokensOf};
 ghost use Rattle.std.specs.Prelude.{◌≡◌, ◌≢◌, ◌⊎◌, ℕ, ℤ, List, Ok};
 ghost use Rattle.stream_tokens.specs.declared.token.Token.{Token};

@@ -3,17 +3,16 @@
 ghost use Rattle.lambda_expr.specs.Elaborating.{typed_of};
 ghost use Rattle.lambda_expr.specs.Lexemes.{names_in};
 ghost use Rattle.lambda_expr.specs.Typing.{constant_of, constant_typed};
-ghost use Rattle.lambda_expr.specs.Term as term;
-ghost use Rattle.lambda_expr.specs.Term.{long_of, truth_of};
+ghost use Rattle.lambda_values.specs.Term as term;
+ghost use Rattle.lambda_values.specs.Term.{long_of, truth_of};
 ghost use Rattle.lambda_expr.specs.Typing.{long, boolean};
-ghost use Rattle.lambda_expr.specs.Wrap.{wrap};
+ghost use Rattle.lambda_values.specs.Wrap.{wrap};
 ghost use Rattle.std.specs.Prelude.{◌≡◌, IfOk, pos};
 
 use super::elaborate::Operand;
-use super::expr::{BoolExpr, LongExpr};
 use super::lexeme::{Name, reference_name};
-use super::operator::{BinaryOperator, Comparison, Connective, UnaryOperator};
 use super::table::constant_of;
+use lambda_values::{BinaryOperator, BoolExpr, Comparison, Connective, LongExpr, UnaryOperator};
 use std::alloc::{AllocError, Global};
 use stream_tokens::{Bytes, CutText};
 

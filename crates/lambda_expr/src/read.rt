@@ -7,7 +7,8 @@ ghost use Rattle.lambda_expr.specs.Judging.{IsJudged, IsWritten};
 ghost use Rattle.lambda_expr.specs.Codes.{IsStop};
 ghost use Rattle.lambda_expr.specs.Elaborating.{typed_of};
 ghost use Rattle.lambda_expr.specs.Lexemes.{names_in};
-ghost use Rattle.lambda_expr.specs.Refusals.{IsRefused, SpellsLambda, body_of, expression_verdict, verdict};
+ghost use Rattle.lambda_values.specs.Lambda.{body_of};
+ghost use Rattle.lambda_expr.specs.Refusals.{IsRefused, SpellsLambda, expression_verdict, verdict};
 ghost use Rattle.lambda_expr.specs.Refusals.{wanted as specs_wanted};
 ghost use Rattle.std.specs.Prelude.{◌≡◌, ◌≢◌, [], Err, IfErr, IfOk, Ok};
 
@@ -16,11 +17,12 @@ use super::check::{MAX_DEPTH, summarize};
 use super::elaborate::{Operand, elaborate};
 use super::fault::ReadFault;
 use super::head::{parameters, parse_head};
-use super::lambda::{Body, Lambda, PairForm, Want};
 use super::lexeme::{Lexeme, lexemes};
 use super::parse::Stop;
 use super::step::Step;
 use super::stream::judge_stream;
+use super::want::Want;
+use lambda_values::{Body, Lambda, PairForm};
 use std::alloc::Global;
 use stream_tokens::{CutText, cut};
 

@@ -4,7 +4,8 @@ ghost use Rattle.lambda_expr.specs.Checks.{is_comma};
 ghost use Rattle.lambda_expr.specs.Signs.{is_infix, is_prefix, level, operation_of, sign_of};
 ghost use Rattle.std.specs.Prelude.{◌≡◌};
 
-use super::operator::{BinaryOperator, Comparison, Connective, Operation};
+use super::operation::Operation;
+use lambda_values::{BinaryOperator, Comparison, Connective};
 use stream_tokens::Symbol;
 
 /// A sign before an operand or between two. The comma separates the operands of a call.

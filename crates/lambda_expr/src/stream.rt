@@ -8,18 +8,15 @@ ghost use Rattle.lambda_expr.specs.Refusals.{lambda_of, stream_verdict};
 ghost use Rattle.lambda_expr.specs.SourceReading.{each_postfix, steps_of};
 ghost use Rattle.lambda_expr.specs.Sources.{Takes};
 ghost use Rattle.lambda_expr.specs.StreamChecks.{stream_of};
-ghost use Rattle.lambda_expr.specs.Streams.{exprs_of, inner_of};
+ghost use Rattle.lambda_values.specs.Streams.{exprs_of, inner_of};
 ghost use Rattle.std.specs.Prelude.{◌≡◌, ◌<◌, ◌≤◌, IfNone, IfOk, IfSome, List, Ok, length, option_map};
 
 use super::check::{MAX_DEPTH, Summary, summarize};
 use super::elaborate::{Operand, elaborate};
-use super::expr::LongExpr;
 use super::fault::ReadFault;
-use super::inner::InnerExpr;
-use super::lambda::{Body, Lambda};
-use super::operands::Operands;
 use super::source::Source;
 use super::step::Step;
+use lambda_values::{Body, InnerExpr, Lambda, LongExpr, Operands};
 use std::alloc::{AllocError, Global};
 use stream_tokens::CutText;
 

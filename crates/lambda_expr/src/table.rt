@@ -5,8 +5,9 @@ ghost use Rattle.lambda_expr.specs.Typing.{constant_of, function_of};
 ghost use Rattle.std.specs.Prelude.{◌≡◌};
 
 use super::lexeme::{Name, Owner};
-use super::operator::{BinaryOperator, Function, UnaryOperator};
+use super::operation::Function;
 use super::source::Source;
+use lambda_values::{BinaryOperator, UnaryOperator};
 
 /// What a name is after `Math .`, `Long .` or `LongStream .`.
 #[derive(Clone, Copy)]

@@ -4,8 +4,8 @@ use Rattle.std.specs.List.{fold}
 use Rattle.std.proofs.lemmas.Int.{ints, clamps}
 use Rattle.std.proofs.lemmas.List.Sums.{fold-append}
 use Rattle.std.proofs.lemmas.List.{take-append-drop}
-use Rattle.lambda_expr.specs.Operators.{is_long}
-use Rattle.lambda_expr.specs.declared.fault.FaultKind.TheVariants as kind
+use Rattle.lambda_values.specs.Operators.{is_long}
+use Rattle.lambda_values.specs.declared.fault.FaultKind.TheVariants as kind
 use Rattle.trace.specs.declared.item.Item.{Item}
 use Rattle.trace.specs.declared.item.Fault.{Fault}
 use Rattle.trace.specs.declared.item.End.{End}

@@ -1,7 +1,7 @@
 -- What settles an exact sum.
 use Rattle.std.proofs.Common.{◌≡◌, ℕ, ℤ, pos, true, false, Some, Result, Ok, Err, is_err, sym, refl, ap, subst, ◌∙◌}
-use Rattle.lambda_expr.specs.Operators.{is_long}
-use Rattle.lambda_expr.specs.declared.fault.FaultKind.TheVariants as kind
+use Rattle.lambda_values.specs.Operators.{is_long}
+use Rattle.lambda_values.specs.declared.fault.FaultKind.TheVariants as kind
 use Rattle.trace.specs.declared.item.Item.{Item}
 use Rattle.trace.specs.declared.item.Fault.{Fault}
 use Rattle.trace.specs.declared.item.End.{End}

@@ -1,7 +1,7 @@
 -- Meaning: sums that have to stay within 64 bits at each item.
 use Rattle.std.specs.Prelude.{ℕ, ℤ, pos, ◌+ℤ◌, if◌then◌else◌, List, [], ◌∷◌, Some, Result, Ok, Err}
-use Rattle.lambda_expr.specs.Operators.{is_long}
-use Rattle.lambda_expr.specs.declared.fault.FaultKind.TheVariants as kind
+use Rattle.lambda_values.specs.Operators.{is_long}
+use Rattle.lambda_values.specs.declared.fault.FaultKind.TheVariants as kind
 use Rattle.trace.specs.declared.item.Item.{Item}
 use Rattle.trace.specs.declared.item.Fault.{Fault}
 use Rattle.trace.specs.declared.item.End.{End}

@@ -6,7 +6,7 @@ ghost use Rattle.trace.specs.Trace.{Trace, trace, append, nothing};
 ghost use Rattle.reduce_ops.specs.ExactSums.{exact_sum, sum_on};
 ghost use Rattle.reduce_ops.specs.Reaches.{IsRunning};
 
-use lambda_expr::FaultKind;
+use lambda_values::FaultKind;
 use trace::{End, Fault, Item, SourceItems};
 
 /// The sum of the items so far, or the fault that ended it: at the first item after which it was outside 64 bits, or at the end of the

@@ -1,7 +1,7 @@
 -- Design: small files of jobs, in the terms of the definitions, whose reports are worked out.
 use Rattle.std.specs.Prelude.{ℤ, pos, negsuc, List, [], ◌∷◌, codes, None}
-use Rattle.lambda_expr.specs.Term.{Long, number, parameter, binary}
-use Rattle.lambda_expr.specs.declared.operator.BinaryOperator.TheVariants.{Divide, Subtract}
+use Rattle.lambda_values.specs.Term.{Long, number, parameter, binary}
+use Rattle.lambda_values.specs.declared.operator.BinaryOperator.TheVariants.{Divide, Subtract}
 use Rattle.trace.specs.Stages.{map}
 use Rattle.job_language.specs.Jobs.{range, values, item, sum, to_array, AbstractJob}
 

@@ -13,7 +13,7 @@ use crate::numbers::{write_number, write_numbers};
 use crate::separator::Separator;
 use itoa::Buffer;
 use job_plan::{Answer, Values};
-use lambda_expr::FaultKind;
+use lambda_values::FaultKind;
 use serde_json::{Map, Value, json};
 use std::alloc::Global;
 use stream_tokens::Bytes;

@@ -4,8 +4,8 @@ use Rattle.std.specs.Option.{option_or}
 use Rattle.std.proofs.Math.Seq.{take-append-add}
 use Rattle.std.proofs.lemmas.List.{take-append-le}
 use Rattle.std.proofs.lemmas.Bool.Decides.{nat_tests}
-use Rattle.lambda_expr.specs.Earlier.{Numbers}
-use Rattle.lambda_expr.specs.Term.{Truth}
+use Rattle.lambda_values.specs.Earlier.{Numbers}
+use Rattle.lambda_values.specs.Term.{Truth}
 use Rattle.trace.specs.declared.item.Item.{Item}
 use Rattle.trace.specs.declared.item.End.{End}
 use Rattle.trace.specs.declared.item.End.TheVariants as end

@@ -1,9 +1,9 @@
 -- Meaning: what the stages that look at a whole walk make of it.
 use Rattle.std.specs.Prelude.{ℕ, Bool, true, false, nat_lt, if◌then◌else◌, Option, Some, None, Result, Ok, Err, length, take, drop}
-use Rattle.lambda_expr.specs.Earlier.{Numbers}
-use Rattle.lambda_expr.specs.Term.{Truth, truth_of}
-use Rattle.lambda_expr.specs.Value.{truth_value}
-use Rattle.lambda_expr.specs.declared.fault.FaultKind.{FaultKind}
+use Rattle.lambda_values.specs.Earlier.{Numbers}
+use Rattle.lambda_values.specs.Term.{Truth, truth_of}
+use Rattle.lambda_values.specs.Value.{truth_value}
+use Rattle.lambda_values.specs.declared.fault.FaultKind.{FaultKind}
 use Rattle.trace.specs.declared.item.Item.{Item}
 use Rattle.trace.specs.declared.item.End.{End}
 use Rattle.trace.specs.declared.item.End.TheVariants as end

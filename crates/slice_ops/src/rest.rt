@@ -1,8 +1,8 @@
 // What slices do with a walk that comes in parts, one after the other.
 
 ghost use Rattle.std.specs.Prelude.{◌≡◌, ◌≤◌, ◌-◌, ℕ, [], true, length, take, drop};
-ghost use Rattle.lambda_expr.specs.Earlier.{Numbers};
-ghost use Rattle.lambda_expr.specs.Term.{truth_of};
+ghost use Rattle.lambda_values.specs.Earlier.{Numbers};
+ghost use Rattle.lambda_values.specs.Term.{truth_of};
 ghost use Rattle.trace.specs.Stops.{stop_at};
 ghost use Rattle.trace.specs.Trace.{Trace, append, nothing, trace};
 ghost use Rattle.trace.specs.declared.item.End.TheVariants as end;
@@ -12,7 +12,7 @@ ghost use Rattle.slice_ops.specs.Slices.{dropped, front_ends, slice_of, sliced, 
 
 use super::shorten::Front;
 use super::slice_part::Slice;
-use lambda_expr::{BoolExpr, Env};
+use lambda_values::{BoolExpr, Env};
 use trace::{End, EndTest, SourceItems};
 
 /// What a slice does with the items to come, after the ones that went through it.

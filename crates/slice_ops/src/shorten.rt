@@ -1,11 +1,11 @@
 // Chunks that such a stage shortens in place.
 
 ghost use Rattle.std.specs.Prelude.{◌≡◌, length, nat_lt, not, is_some};
-ghost use Rattle.lambda_expr.specs.Term.{truth_of};
+ghost use Rattle.lambda_values.specs.Term.{truth_of};
 ghost use Rattle.trace.specs.Stops.{stop_at};
 ghost use Rattle.slice_ops.specs.Slices.{limited, skipped, taken, dropped, front_ends};
 
-use lambda_expr::{BoolExpr, Env};
+use lambda_values::{BoolExpr, Env};
 use trace::{Chunk, End, EndTest, Fault, Item};
 
 /// Keeps the first `n` items and ends done, if there are at least `n`. The answer says whether there are.

@@ -1,8 +1,8 @@
 // What a slice keeps of the pieces of a stream, and how the pieces join in encounter order.
 
 ghost use Rattle.std.specs.Prelude.{◌≡◌, ◌<◌, ℕ, false, [], ◌∷◌, IfOk, IfErr, OnOk, OnErr, is_some, length};
-ghost use Rattle.lambda_expr.specs.Earlier.{Numbers};
-ghost use Rattle.lambda_expr.specs.Term.{truth_of};
+ghost use Rattle.lambda_values.specs.Earlier.{Numbers};
+ghost use Rattle.lambda_values.specs.Term.{truth_of};
 ghost use Rattle.trace.specs.Stops.{stop_at};
 ghost use Rattle.trace.specs.Trace.{Trace, trace, append};
 ghost use Rattle.trace.specs.declared.item.End.TheVariants as end;
@@ -10,7 +10,7 @@ ghost use Rattle.slice_ops.specs.Parts.{AreAdded, IsAdded, IsFront, IsJoined, St
 ghost use Rattle.slice_ops.specs.Slices.{AbstractSlice, front_ends, slice_of, sliced, taken};
 
 use super::shorten::{Front, drop_while, limit, skip, take_while};
-use lambda_expr::{BoolExpr, Env};
+use lambda_values::{BoolExpr, Env};
 use trace::{Chunk, End, EndTest, Item, NoMemory, SourceItems};
 
 /// A stage that looks at a whole walk.

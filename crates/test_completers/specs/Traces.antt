@@ -1,6 +1,6 @@
 -- Condition: walks over parts of a list of numbers, each up to the first negative one, which is a fault.
 use Rattle.std.specs.Prelude.{◌≡◌, ℕ, ℤ, pos, List, [], ◌∷◌, Some, Result, Ok, Err, int_lt, if◌then◌else◌, ⊤}
-use Rattle.lambda_expr.specs.declared.fault.FaultKind.TheVariants.{Overflow}
+use Rattle.lambda_values.specs.declared.fault.FaultKind.TheVariants.{Overflow}
 use Rattle.trace.specs.declared.item.Item.{Item}
 use Rattle.trace.specs.declared.item.End.TheVariants as end
 use Rattle.trace.specs.Cover.{placed}

@@ -14,7 +14,7 @@ use completer_tree::{
     Completer, CompleterTree, Continuation, Failure, Forked, Half, Handed, PartValue, Tree,
     TreeCounts, TreeSeat,
 };
-use lambda_expr::FaultKind;
+use lambda_values::FaultKind;
 use std::alloc::{AllocError, Global};
 use std::marker::{Brand, PhantomData};
 use std::test::Fail;

@@ -5,7 +5,7 @@ ghost use Rattle.report.specs.Named.{IsNamed, IsText};
 
 use crate::fixture::is_line;
 use job_plan::{Answer, Values};
-use lambda_expr::FaultKind;
+use lambda_values::FaultKind;
 use report::{CountedOut, json, text, text_by, write_report};
 use std::alloc::{AllocError, Global};
 use std::test::Fail;

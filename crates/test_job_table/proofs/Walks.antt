@@ -3,7 +3,7 @@ use Rattle.std.proofs.Common.{◌≡◌, ℕ, ℤ, suc, ◌≤◌, ◌<◌, Bool
 use Rattle.trace.specs.declared.item.Item.{Item}
 use Rattle.trace.specs.declared.item.End.{End}
 use Rattle.trace.specs.declared.item.End.TheVariants as end
-use Rattle.lambda_expr.specs.declared.fault.FaultKind.TheVariants as kind
+use Rattle.lambda_values.specs.declared.fault.FaultKind.TheVariants as kind
 use Rattle.trace.specs.Trace.{Trace, trace}
 use Rattle.early_stop.specs.Decisive.{Decides}
 use Rattle.test_job_table.specs.Lists.{items_from, walk_of}

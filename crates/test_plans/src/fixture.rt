@@ -3,7 +3,7 @@
 use columns::Columns;
 use job_language::read_jobs;
 use job_plan::{Answer, JobPlan, Plan, SplitTree, walk_tree};
-use lambda_expr::{Env, FaultKind};
+use lambda_values::{Env, FaultKind};
 use std::alloc::{AllocError, Global};
 use std::test::Fail;
 use trace::Fault;

@@ -3,7 +3,7 @@
 use crate::fixture::{plan_of, shown};
 use columns::{Columns, Counted, read_columns};
 use job_plan::walk;
-use lambda_expr::Env;
+use lambda_values::Env;
 use std::test::Fail;
 
 const FILE: &str = "\

@@ -4,7 +4,7 @@ use crate::fixture::{plan_of, shown};
 use batch_eval::Registers;
 use columns::Columns;
 use job_plan::{JobPlan, Outcome, Source, Walked, streamed};
-use lambda_expr::Env;
+use lambda_values::Env;
 use std::alloc::Global;
 use std::test::Fail;
 

@@ -1,10 +1,10 @@
 -- Meaning: what the stages that look at one item at a time make of a trace.
 use Rattle.std.specs.Prelude.{ℕ, suc, ℤ, Bool, true, false, List, [], ◌∷◌, Some, Result, Ok, Err}
-use Rattle.lambda_expr.specs.declared.fault.FaultKind.{FaultKind}
-use Rattle.lambda_expr.specs.Earlier.{Numbers}
-use Rattle.lambda_expr.specs.Streams.{Inner, inner_of, inner_value}
-use Rattle.lambda_expr.specs.Term.{Long, Truth, long_of, truth_of}
-use Rattle.lambda_expr.specs.Value.{long_value, truth_value}
+use Rattle.lambda_values.specs.declared.fault.FaultKind.{FaultKind}
+use Rattle.lambda_values.specs.Earlier.{Numbers}
+use Rattle.lambda_values.specs.Streams.{Inner, inner_of, inner_value}
+use Rattle.lambda_values.specs.Term.{Long, Truth, long_of, truth_of}
+use Rattle.lambda_values.specs.Value.{long_value, truth_value}
 use Rattle.trace.specs.declared.item.Item.{Item}
 use Rattle.trace.specs.declared.item.End.TheVariants as end
 use Rattle.trace.specs.declared.stage.Stage.{Stage}

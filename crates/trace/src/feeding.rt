@@ -2,7 +2,7 @@
 
 ghost use Rattle.std.specs.Prelude.{◌≡◌, ◌+◌, ◌<◌, ◌^◌, List, [], ◌∷◌, length, OnErr};
 ghost use Rattle.trace.specs.Trace.{trace};
-ghost use Rattle.lambda_expr.specs.Streams.{run_or_listed};
+ghost use Rattle.lambda_values.specs.Streams.{run_or_listed};
 ghost use Rattle.trace.specs.Stages.{at_place, pipe, stages_of};
 ghost use Rattle.trace.specs.Sinks.{IsFed, flow_after};
 ghost use Rattle.trace.specs.declared.item.Item.{Item};
@@ -13,7 +13,7 @@ use crate::item::{Fault, Item};
 use crate::sink::{Flow, LongSink};
 use crate::source::{InnerItems, SourceItems};
 use crate::stage::Stage;
-use lambda_expr::{Env, FaultKind, ListedValues};
+use lambda_values::{Env, FaultKind, ListedValues};
 
 /// What became of the items that were taken through the stages.
 #[derive(Clone, Copy, Debug, PartialEq, Eq)]

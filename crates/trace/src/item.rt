@@ -1,6 +1,6 @@
 //! Items of a stream, and how a walk over them ends.
 
-use lambda_expr::FaultKind;
+use lambda_values::FaultKind;
 
 /// A value on its way through the stages.
 #[derive(Clone, Copy, Debug, PartialEq, Eq)]

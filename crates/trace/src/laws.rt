@@ -1,6 +1,6 @@
 //! Laws of joined walks and of stages. Each is the contract of a function that does nothing.
 
-ghost use Rattle.lambda_expr.specs.Earlier.{Numbers};
+ghost use Rattle.lambda_values.specs.Earlier.{Numbers};
 ghost use Rattle.std.specs.Prelude.{◌≡◌, ℕ, List, [], ◌∷◌};
 ghost use Rattle.trace.specs.Trace.{Trace, trace, nothing, append, each};
 ghost use Rattle.trace.specs.Stages.{AbstractStage, pipe};

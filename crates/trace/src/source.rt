@@ -3,14 +3,14 @@
 ghost use Rattle.std.specs.Prelude.{◌≡◌, ◌+◌, ◌<◌, ◌≤◌, ◌^◌, ℕ, pos, ◌+ℤ◌, List, length, FitsSigned, IfNone, IfSome, Some, slice_get};
 ghost use Rattle.std.specs.Int.{w64};
 ghost use Rattle.trace.specs.Cover.{counted, cover, placed, range, too_long, values as listed};
-ghost use Rattle.lambda_expr.specs.Streams.{run_or_listed};
+ghost use Rattle.lambda_values.specs.Streams.{run_or_listed};
 ghost use Rattle.trace.specs.Stages.{at_place};
 ghost use Rattle.trace.specs.Trace.{trace};
 ghost use Rattle.trace.specs.declared.item.End.TheVariants as end;
 ghost use Rattle.trace.specs.declared.item.Item.{Item};
 
 use crate::item::Item;
-use lambda_expr::Run;
+use lambda_values::Run;
 
 /// The largest number of values that a source may have: 2^62.
 pub const MAX_SOURCE_SIZE: u64 = 1 << 62;

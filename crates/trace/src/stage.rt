@@ -1,6 +1,6 @@
 //! The stages of a pipeline that look at one item at a time.
 
-use lambda_expr::{BoolExpr, InnerExpr, LongExpr};
+use lambda_values::{BoolExpr, InnerExpr, LongExpr};
 
 /// A stage that looks at one item at a time.
 #[derive(Drop)]

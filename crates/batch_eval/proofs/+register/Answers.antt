@@ -1,7 +1,7 @@
 use Rattle.std.proofs.Common.{◌≡◌, ◌-◌, ◌∙◌, ◌<◌, ℕ, ℤ, Bool, Result, Ok, length, ap, sym, subst, eqb-true, rules, arith, w64, to_z, of_z}
-use Rattle.lambda_expr.specs.declared.fault.FaultKind.{FaultKind}
-use Rattle.lambda_expr.specs.Term.{truth_of}
-use Rattle.lambda_expr.specs.Value.{truth_value}
+use Rattle.lambda_values.specs.declared.fault.FaultKind.{FaultKind}
+use Rattle.lambda_values.specs.Term.{truth_of}
+use Rattle.lambda_values.specs.Value.{truth_value}
 use Rattle.batch_eval.specs.declared.register.Operand.{Operand}
 use Rattle.batch_eval.specs.Choices.{operand_value}
 use Rattle.batch_eval.specs.Lanes.{at}

@@ -1,7 +1,7 @@
 use Rattle.std.proofs.Common.{ℕ, ◌+◌, ◌*◌}
 use Rattle.std.specs.Prelude.{max}
-use Rattle.lambda_expr.specs.declared.expr.LongExpr.{size-LongExpr}
-use Rattle.lambda_expr.specs.declared.expr.BoolExpr.{size-BoolExpr}
+use Rattle.lambda_values.specs.declared.expr.LongExpr.{size-LongExpr}
+use Rattle.lambda_values.specs.declared.expr.BoolExpr.{size-BoolExpr}
 use Rattle.batch_eval.specs.declared.register.Operand.{Operand}
 use Rattle.batch_eval.specs.declared.register.Operand.TheVariants as operand
 use Rattle.batch_eval.proofs.+register.Given as goal

@@ -1,5 +1,5 @@
 use Rattle.std.proofs.Common.{◌≡◌, ℕ, ◌<◌, ◌≤◌, ℤ, true, false, length, slice_index, Result, Ok}
-use Rattle.lambda_expr.specs.declared.fault.FaultKind.{FaultKind}
+use Rattle.lambda_values.specs.declared.fault.FaultKind.{FaultKind}
 use Rattle.batch_eval.specs.Lanes.{at, Reaches}
 use Rattle.batch_eval.specs.Batches.{wanted}
 use Rattle.batch_eval.proofs.choose.merge.Given as goal

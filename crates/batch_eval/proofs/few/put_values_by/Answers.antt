@@ -1,5 +1,5 @@
 use Rattle.std.proofs.Common.{◌≡◌, ◌+◌, ◌∷◌, ℕ, ℤ, List, [], ap, refl, arith, rules, ◌∙◌, None, w64, to_z, of_z}
-use Rattle.lambda_expr.specs.Streams.{inner_of, run_or_listed}
+use Rattle.lambda_values.specs.Streams.{inner_of, run_or_listed}
 use Rattle.trace.specs.declared.item.Item.{Item}
 use Rattle.trace.specs.Stages.{at_place}
 use Rattle.batch_eval.specs.Lanes.{at}

@@ -1,5 +1,5 @@
 use Rattle.std.proofs.Common.{◌≡◌, ℕ, ◌+◌, ◌<◌, ◌≤◌, ◌++◌, None, Ok}
-use Rattle.lambda_expr.specs.Streams.{inner_of}
+use Rattle.lambda_values.specs.Streams.{inner_of}
 use Rattle.trace.specs.Stages.{at_place}
 use Rattle.batch_eval.specs.Lanes.{at}
 use Rattle.batch_eval.specs.Batches.{gathered, item_at, lanes, origin_at}

@@ -1,5 +1,5 @@
 use Rattle.std.proofs.Common.{◌≤◌, length, sym, subst, arith}
-use Rattle.lambda_expr.specs.Term.{truth_of}
+use Rattle.lambda_values.specs.Term.{truth_of}
 use Rattle.trace.specs.Trace.{Trace}
 use Rattle.trace.specs.Sinks.{IsFed}
 use Rattle.batch_eval.specs.Lanes.{at}

@@ -1,7 +1,7 @@
 use Rattle.std.proofs.Common.{◌≡◌, ◌∷◌, [], List, ap, sym, ◌∙◌, rules}
-use Rattle.lambda_expr.specs.declared.expr.LongExpr.{LongExpr}
-use Rattle.lambda_expr.specs.Streams.{Inner, exprs_of, inner_of, values}
-use Rattle.lambda_expr.specs.Term.{long_of}
+use Rattle.lambda_values.specs.declared.expr.LongExpr.{LongExpr}
+use Rattle.lambda_values.specs.Streams.{Inner, exprs_of, inner_of, values}
+use Rattle.lambda_values.specs.Term.{long_of}
 use Rattle.trace.specs.Trace.{each}
 use Rattle.trace.specs.Stages.{flat_map, of_item}
 use Rattle.batch_eval.proofs.OneValueLemmas.{empty_of, mapped_to_none, mapped_to_one}

@@ -1,6 +1,6 @@
 use Rattle.std.proofs.Common.{◌≡◌, ◌<◌, ℕ, Ok}
-use Rattle.lambda_expr.specs.Term.{truth_of}
-use Rattle.lambda_expr.specs.Value.{truth_value}
+use Rattle.lambda_values.specs.Term.{truth_of}
+use Rattle.lambda_values.specs.Value.{truth_value}
 use Rattle.batch_eval.specs.Lanes.{at}
 use Rattle.batch_eval.proofs.passing.count_one_by_one.Given as goal
 

@@ -1,7 +1,7 @@
 use Rattle.std.proofs.Common.{◌≡◌, ◌<◌, ◌^◌, ◌∙◌, ap, FitsSigned, of_z, pos, ◌*ℤ◌, rules, w64}
-use Rattle.lambda_expr.specs.Wrap.{wrap}
-use Rattle.lambda_expr.specs.Operators.{low_six_bits, rounded_down}
-use Rattle.lambda_expr.proofs.Shifts.{shift_left_wraps}
+use Rattle.lambda_values.specs.Wrap.{wrap}
+use Rattle.lambda_values.specs.Operators.{low_six_bits, rounded_down}
+use Rattle.lambda_values.proofs.Shifts.{shift_left_wraps}
 use Rattle.batch_eval.specs.Powers.{power}
 use Rattle.batch_eval.proofs.power.cleared.Goals as goal
 

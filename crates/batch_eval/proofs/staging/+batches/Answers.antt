@@ -8,7 +8,7 @@ use Rattle.trace.specs.declared.item.Fault.{Fault}
 use Rattle.trace.specs.Trace.{Trace, trace, each}
 use Rattle.trace.specs.Sinks.{IsFed}
 use Rattle.trace.specs.Stages.{at_place, flat_map, flattened, of_item}
-use Rattle.lambda_expr.specs.Streams.{inner_of, inner_value, run_or_listed}
+use Rattle.lambda_values.specs.Streams.{inner_of, inner_value, run_or_listed}
 use Rattle.batch_eval.specs.Pipelines.{piped}
 use Rattle.batch_eval.specs.Pours.{Holds}
 use Rattle.batch_eval.proofs.FewLemmas.{bounds_taken}

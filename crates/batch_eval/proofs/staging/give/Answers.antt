@@ -1,6 +1,6 @@
 use Rattle.std.proofs.Common.{List, [], Ok, Err}
 use Rattle.std.proofs.lemmas.Result.{err_from_is_err_and}
-use Rattle.lambda_expr.specs.Earlier.{Numbers}
+use Rattle.lambda_values.specs.Earlier.{Numbers}
 use Rattle.trace.specs.Stages.{AbstractStage}
 use Rattle.batch_eval.proofs.BatchWalkLemmas.{IsFed_end, IsFed_cut}
 use Rattle.batch_eval.proofs.staging.give.Goals as goal

@@ -1,6 +1,6 @@
 use Rattle.std.proofs.Common.{◌≡◌, None, sym, ap, subst, ◌∙◌}
-use Rattle.lambda_expr.specs.Refusals.{body_of}
-use Rattle.lambda_expr.specs.References.{names_of}
+use Rattle.lambda_values.specs.Lambda.{body_of}
+use Rattle.lambda_values.specs.References.{names_of}
 use Rattle.job_language.specs.Scopes.{scope_of}
 use Rattle.job_language.specs.Causes.{first_cause}
 use Rattle.job_language.specs.Arguments.{reference_causes, after_references}

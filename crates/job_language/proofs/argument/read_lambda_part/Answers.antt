@@ -1,5 +1,5 @@
 use Rattle.std.proofs.lemmas.Result.{err_from_is_err_and}
-use Rattle.lambda_expr.specs.Refusals.{body_of}
+use Rattle.lambda_values.specs.Lambda.{body_of}
 use Rattle.job_language.specs.Scopes.{scope_of}
 use Rattle.job_language.proofs.CollectedPartLemmas.{lambda_refused}
 use Rattle.job_language.proofs.ReferenceLemmas.{lambda_read}

@@ -1,5 +1,5 @@
 use Rattle.std.proofs.Common.{sym, subst}
-use Rattle.lambda_expr.specs.Term.{truth_of}
+use Rattle.lambda_values.specs.Term.{truth_of}
 use Rattle.slice_ops.specs.declared.slice_part.Slice.{Slice}
 use Rattle.slice_ops.specs.Parts.{IsFront}
 use Rattle.slice_ops.specs.Slices.{slice_of}

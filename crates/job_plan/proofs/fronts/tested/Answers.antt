@@ -1,5 +1,5 @@
 use Rattle.std.proofs.Common.{subst, sym}
-use Rattle.lambda_expr.specs.Term.{truth_of}
+use Rattle.lambda_values.specs.Term.{truth_of}
 use Rattle.slice_ops.specs.declared.rest.SliceRest.{SliceRest}
 use Rattle.slice_ops.specs.Rests.{IsTested, rest_of}
 use Rattle.job_plan.proofs.FrontLemmas.{front_is}

@@ -1,5 +1,5 @@
 use Rattle.std.proofs.Common.{◌≡◌, true, false, take, None, sym, subst}
-use Rattle.lambda_expr.specs.Term.{truth_of}
+use Rattle.lambda_values.specs.Term.{truth_of}
 use Rattle.find_ops.specs.declared.terminal.FindTerminal.{FindTerminal}
 use Rattle.find_ops.specs.Finds.{find_of, first_decision, any_match, all_match, none_match}
 use Rattle.job_plan.proofs.FrontLemmas.{all_undecided, any_undecided, front_undecided, none_undecided}

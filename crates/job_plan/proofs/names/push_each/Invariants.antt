@@ -1,6 +1,6 @@
 use Rattle.std.proofs.Common.{◌≡◌, ◌++◌, drop}
-use Rattle.lambda_expr.specs.References.{each_names}
-use Rattle.lambda_expr.specs.Streams.{exprs_of}
+use Rattle.lambda_values.specs.References.{each_names}
+use Rattle.lambda_values.specs.Streams.{exprs_of}
 use Rattle.job_plan.proofs.names.push_each.Given as goal
 
 -- the names so far, and those that are left

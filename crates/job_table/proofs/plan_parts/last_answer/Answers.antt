@@ -1,6 +1,6 @@
 use Rattle.std.proofs.Common.{◌∙◌, ◌≡◌, ◌<◌, ◌≤◌, List, Some, None, length, slice_get, ap, sym, subst, refl, arith}
 use Rattle.trace.specs.Trace.{Trace}
-use Rattle.lambda_expr.specs.Earlier.{Numbers}
+use Rattle.lambda_values.specs.Earlier.{Numbers}
 use Rattle.job_plan.specs.Parts.{StandsFor, segments_in}
 use Rattle.job_plan.specs.Plans.{AbstractSegment, outcome_of}
 use Rattle.job_table.specs.PlanSegments.{slices_first}

@@ -1,6 +1,6 @@
 use Rattle.std.proofs.Common.{◌∙◌, ◌≡◌, ◌+◌, ap, sym, subst, suc, arith}
 use Rattle.trace.specs.Trace.{Trace}
-use Rattle.lambda_expr.specs.Earlier.{Numbers}
+use Rattle.lambda_values.specs.Earlier.{Numbers}
 use Rattle.job_plan.specs.Parts.{StandsFor}
 use Rattle.job_plan.specs.Plans.{AbstractSegment, outcome_of}
 use Rattle.job_table.specs.PlanSegments.{given_walk, walk_at}

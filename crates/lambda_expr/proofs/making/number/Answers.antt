@@ -1,9 +1,9 @@
 use Rattle.std.proofs.Common.{◌≡◌, ◌∙◌, ◌<◌, ◌^◌, FitsSigned, ap, pos, rules, sym, w64}
 use Rattle.std.proofs.lemmas.Int.{to_z-of_z}
 use Rattle.std.specs.Int.{cast_signed}
-use Rattle.lambda_expr.specs.Term as term
+use Rattle.lambda_values.specs.Term as term
 use Rattle.lambda_expr.specs.Typing.{long}
-use Rattle.lambda_expr.proofs.Quotients.{wrap_small}
+use Rattle.lambda_values.proofs.Quotients.{wrap_small}
 use Rattle.lambda_expr.proofs.making.number.Goals as goal
 
 pub returns : goal.returns

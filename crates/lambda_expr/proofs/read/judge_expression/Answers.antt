@@ -2,14 +2,15 @@ use Rattle.std.proofs.Common.{◌≡◌, ◌∙◌, [], ap, arith, Bool, false, 
 use Rattle.lambda_expr.specs.Checks.{fit}
 use Rattle.lambda_expr.specs.declared.fault.ReadFault.{ReadFault}
 use Rattle.lambda_expr.specs.declared.fault.ReadFault.TheVariants as fault
-use Rattle.lambda_expr.specs.declared.lambda.Lambda.{Lambda}
-use Rattle.lambda_expr.specs.declared.lambda.PairForm.{PairForm}
-use Rattle.lambda_expr.specs.declared.lambda.Want.{Want}
+use Rattle.lambda_values.specs.declared.lambda.Lambda.{Lambda}
+use Rattle.lambda_values.specs.declared.lambda.PairForm.{PairForm}
+use Rattle.lambda_expr.specs.declared.want.Want.{Want}
 use Rattle.lambda_expr.specs.Elaborating.{typed_of}
 use Rattle.lambda_expr.specs.Heads.{parameters}
 use Rattle.lambda_expr.specs.Judging.{IsJudged}
 use Rattle.lambda_expr.specs.Lexemes.{names_in}
-use Rattle.lambda_expr.specs.Refusals.{AbstractLambda, body_of, wanted}
+use Rattle.lambda_values.specs.Lambda.{AbstractLambda, body_of}
+use Rattle.lambda_expr.specs.Refusals.{wanted}
 use Rattle.lambda_expr.specs.Summaries.{summary_steps, top_summary}
 use Rattle.lambda_expr.specs.Typing.{Typed}
 use Rattle.std.specs.Prelude.{Err, IfErr, IfOk, Ok, Result}

@@ -1,6 +1,6 @@
 use Rattle.std.proofs.Common.{arith, inl, refl, sym, ap, subst, ◌∙◌, ◌≡◌, ◌<◌, ◌≤◌, ◌==◌, true, [], ◌∷◌, ℕ, List, length}
 use Rattle.std.proofs.lemmas.Bool.Decides.{Decides-eqb}
-use Rattle.lambda_expr.specs.declared.lambda.Want.{Want}
+use Rattle.lambda_expr.specs.declared.want.Want.{Want}
 use Rattle.lambda_expr.specs.Codes.{IsStop}
 use Rattle.lambda_expr.specs.Heads.{ALambda}
 use Rattle.lambda_expr.specs.Refusals.{column, IsNoLambda}

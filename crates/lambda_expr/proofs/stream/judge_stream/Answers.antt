@@ -4,7 +4,7 @@ use Rattle.lambda_expr.specs.Lexemes.{names_in}
 use Rattle.lambda_expr.specs.Sources.{Takes}
 use Rattle.lambda_expr.specs.BodyReading.{step_numbers}
 use Rattle.lambda_expr.specs.StreamChecks.{deepest, numbers}
-use Rattle.lambda_expr.specs.Streams.{exprs_of}
+use Rattle.lambda_values.specs.Streams.{exprs_of}
 use Rattle.lambda_expr.proofs.StreamLemmas.{by_numbers, exprs_length, found_is, numbers_by, numbers_length, same_length, too_deep, too_large, unknown}
 use Rattle.lambda_expr.proofs.stream.judge_stream.Goals.{then-checks-ge-MAX_DEPTH-via-then-checks-ge-MAX_DEPTH, then-checks-ge-MAX_DEPTH-via-else-checks-ge-MAX_DEPTH+then-operands-gt-MAX}
 use Rattle.lambda_expr.proofs.stream.judge_stream.Goals as goal

@@ -1,7 +1,7 @@
 use Rattle.std.proofs.Common.{◌≡◌, [], ap, sym, ◌∙◌}
 use Rattle.lambda_expr.specs.Elaborating.{top_typed, typed_of, typed_steps}
 use Rattle.lambda_expr.specs.Lexemes.{names_in}
-use Rattle.lambda_expr.specs.Term.{long_of}
+use Rattle.lambda_values.specs.Term.{long_of}
 use Rattle.lambda_expr.specs.Typing.{long}
 use Rattle.lambda_expr.proofs.StreamLemmas.{numbers_on}
 use Rattle.lambda_expr.proofs.stream.numbers.Goals as goal

@@ -2,7 +2,7 @@ use Rattle.std.proofs.Common.{◌≡◌, drop}
 use Rattle.lambda_expr.specs.BodyReading.{after_numbers, step_numbers}
 use Rattle.lambda_expr.specs.Lexemes.{names_in}
 use Rattle.lambda_expr.specs.SourceReading.{steps_of}
-use Rattle.lambda_expr.specs.Streams.{exprs_of}
+use Rattle.lambda_values.specs.Streams.{exprs_of}
 use Rattle.lambda_expr.proofs.stream.numbers.Given as goal
 
 -- the numbers so far, and those of the operands that are left

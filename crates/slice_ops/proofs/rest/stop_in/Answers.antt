@@ -1,5 +1,5 @@
 use Rattle.std.proofs.Common.{◌≤◌, length, sym, ap, ◌∙◌, arith}
-use Rattle.lambda_expr.specs.Term.{truth_of}
+use Rattle.lambda_values.specs.Term.{truth_of}
 use Rattle.slice_ops.specs.Rests.{stop_after}
 use Rattle.slice_ops.specs.Slices.{front_ends}
 use Rattle.slice_ops.proofs.FrontLemmas.{front_within, whole_front, stopped_there}

@@ -1,5 +1,5 @@
 use Rattle.std.proofs.Common.{◌≤◌, length, sym, ◌∙◌, arith}
-use Rattle.lambda_expr.specs.Term.{truth_of}
+use Rattle.lambda_values.specs.Term.{truth_of}
 use Rattle.slice_ops.specs.Slices.{front_ends}
 use Rattle.slice_ops.proofs.FrontLemmas.{front_within, nothing_stops, whole_kept, front_kept, not_none}
 use Rattle.slice_ops.proofs.slice_part.add_front.Goals as goal

@@ -1,7 +1,7 @@
 use Rattle.std.proofs.Common.{◌≡◌, ℕ, ◌<◌, ℤ, List, None, length, get_or, refl, ap, ◌∙◌, rules}
 use Rattle.std.proofs.lemmas.List.{places, with_items_is}
 use Rattle.std.specs.Vec.{with_items}
-use Rattle.lambda_expr.specs.Term.{truth_of}
+use Rattle.lambda_values.specs.Term.{truth_of}
 use Rattle.trace.specs.declared.item.End.TheVariants as end
 use Rattle.trace.specs.Trace.{trace}
 use Rattle.batch_eval.specs.Lanes.{at}

@@ -1,6 +1,6 @@
 use Rattle.std.proofs.Common.{ap, ◌∙◌, rules}
 use Rattle.std.proofs.lemmas.List.{places, with_items_is}
-use Rattle.lambda_expr.specs.Term.{long_of}
+use Rattle.lambda_values.specs.Term.{long_of}
 use Rattle.batch_eval.proofs.Walks.{batch_mapped}
 use Rattle.batch_eval.proofs.batch.Batch.map.Goals as goal
 

@@ -1,7 +1,7 @@
 use Rattle.std.proofs.Common.{List, Some, length, refl, ap, rules}
 use Rattle.std.proofs.lemmas.List.{places, with_items_is}
 use Rattle.std.specs.Vec.{with_items}
-use Rattle.lambda_expr.specs.Term.{long_of}
+use Rattle.lambda_values.specs.Term.{long_of}
 use Rattle.trace.specs.Cover.{placed}
 use Rattle.trace.specs.declared.item.Item.{Item}
 use Rattle.trace.specs.declared.item.End.TheVariants as end

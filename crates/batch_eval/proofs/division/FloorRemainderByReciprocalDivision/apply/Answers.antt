@@ -1,7 +1,7 @@
 use Rattle.std.proofs.Common.{◌≡◌, ◌<◌, ◌^◌, ◌∙◌, FitsSigned, Ok, ap, of_z, rules, sym, w64}
-use Rattle.lambda_expr.specs.Operators.{rounded_down}
-use Rattle.lambda_expr.specs.Wrap.{wrap}
-use Rattle.lambda_expr.proofs.Quotients.{floor_rest}
+use Rattle.lambda_values.specs.Operators.{rounded_down}
+use Rattle.lambda_values.specs.Wrap.{wrap}
+use Rattle.lambda_values.proofs.Quotients.{floor_rest}
 use Rattle.batch_eval.proofs.ReciprocalLemmas.{divisor_counts}
 use Rattle.batch_eval.proofs.division.FloorRemainderByReciprocalDivision.apply.Goals as goal
 

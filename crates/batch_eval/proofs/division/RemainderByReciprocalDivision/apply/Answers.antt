@@ -1,6 +1,6 @@
 use Rattle.std.proofs.Common.{◌≡◌, ◌%◌, rules, unsigned_abs}
 use Rattle.std.specs.Prelude.{int_rem}
-use Rattle.lambda_expr.specs.Wrap.{wrap}
+use Rattle.lambda_values.specs.Wrap.{wrap}
 use Rattle.batch_eval.specs.Powers.{with_sign_of}
 use Rattle.batch_eval.proofs.ReciprocalLemmas.{divisor_counts, rest_is}
 use Rattle.batch_eval.proofs.division.RemainderByReciprocalDivision.apply.Goals as goal

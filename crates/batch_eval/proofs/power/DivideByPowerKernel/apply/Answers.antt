@@ -1,8 +1,8 @@
 use Rattle.std.proofs.Common.{◌≡◌, ◌/◌, ◌^◌, ◌∙◌, ap, ℕ, FitsSigned, Ok, rules, w64}
 use Rattle.std.specs.Prelude.{unsigned_abs}
 use Rattle.std.proofs.lemmas.Int.{to_z-of_z}
-use Rattle.lambda_expr.specs.Operators.{low_six_bits}
-use Rattle.lambda_expr.specs.Wrap.{wrap}
+use Rattle.lambda_values.specs.Operators.{low_six_bits}
+use Rattle.lambda_values.specs.Wrap.{wrap}
 use Rattle.batch_eval.specs.Powers.{power, with_sign_of}
 use Rattle.batch_eval.proofs.PowerLemmas.{quotient_by_power}
 use Rattle.batch_eval.proofs.power.DivideByPowerKernel.apply.Goals as goal

@@ -1,6 +1,6 @@
 use Rattle.std.proofs.Common.{◌≡◌, ◌∙◌, ap, FitsSigned, Ok, pos, rules, w64}
 use Rattle.std.proofs.lemmas.Int.{to_z-of_z}
-use Rattle.lambda_expr.specs.Operators.{rounded_down}
+use Rattle.lambda_values.specs.Operators.{rounded_down}
 use Rattle.batch_eval.specs.Powers.{power}
 use Rattle.batch_eval.proofs.PowerLemmas.{down_by_power}
 use Rattle.batch_eval.proofs.power.FloorDivideByPowerKernel.apply.Goals as goal

@@ -1,6 +1,6 @@
 use Rattle.std.proofs.Common.{◌≡◌, ◌<◌, ◌^◌, FitsSigned, of_z, pos, ◌*ℤ◌, rules, w64}
-use Rattle.lambda_expr.specs.Wrap.{wrap}
-use Rattle.lambda_expr.specs.Operators.{rounded_down}
+use Rattle.lambda_values.specs.Wrap.{wrap}
+use Rattle.lambda_values.specs.Operators.{rounded_down}
 use Rattle.batch_eval.specs.Powers.{power}
 use Rattle.batch_eval.proofs.PowerLemmas.{rest_down_by_power}
 use Rattle.batch_eval.proofs.power.FloorRemainderByPowerKernel.apply.Goals as goal

@@ -2,8 +2,8 @@ use Rattle.std.proofs.Common.{◌≡◌, ◌-◌, ◌%◌, ◌∙◌, ap, ℕ, F
 use Rattle.std.specs.Prelude.{bit_and, unsigned_abs}
 use Rattle.std.proofs.lemmas.Int.{to_z-of_z}
 use Rattle.std.proofs.lemmas.Nat.{and_mask}
-use Rattle.lambda_expr.specs.Operators.{low_six_bits}
-use Rattle.lambda_expr.specs.Wrap.{wrap}
+use Rattle.lambda_values.specs.Operators.{low_six_bits}
+use Rattle.lambda_values.specs.Wrap.{wrap}
 use Rattle.batch_eval.specs.Powers.{power, with_sign_of}
 use Rattle.batch_eval.proofs.PowerLemmas.{rest_by_power}
 use Rattle.batch_eval.proofs.power.RemainderByPowerKernel.apply.Goals as goal

@@ -1,6 +1,6 @@
 use Rattle.std.proofs.Common.{◌≡◌, subst, slice_get}
 use Rattle.std.specs.Prelude.{IfSome}
-use Rattle.lambda_expr.specs.Earlier.{Numbers}
+use Rattle.lambda_values.specs.Earlier.{Numbers}
 use Rattle.trace.specs.Trace.{nothing}
 use Rattle.job_plan.specs.Parts.{plans_in, StandsFor}
 use Rattle.job_plan.specs.Links.{walked_segments}

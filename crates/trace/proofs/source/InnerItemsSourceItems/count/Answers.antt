@@ -1,5 +1,5 @@
 use Rattle.std.proofs.Common.{length, sym, ap, ◌∙◌}
-use Rattle.lambda_expr.specs.Streams.{run_or_listed}
+use Rattle.lambda_values.specs.Streams.{run_or_listed}
 use Rattle.trace.proofs.Sources.{length-counted}
 use Rattle.trace.proofs.Ranges.{length-at_place}
 use Rattle.trace.proofs.source.InnerItemsSourceItems.count.Goals as goal

@@ -1,6 +1,6 @@
 use Rattle.std.proofs.Common.{◌≡◌, ◌+ℤ◌, ◌<◌, ℤ, pos, List, length, get_or, arith, rules, sym, ap, ◌∙◌, subst, FitsSigned, w64, to_z, of_z}
 use Rattle.std.proofs.lemmas.Int.{to_z-of_z}
-use Rattle.lambda_expr.specs.Streams.{run_or_listed}
+use Rattle.lambda_values.specs.Streams.{run_or_listed}
 use Rattle.trace.proofs.Sources.{counted_at, length-counted}
 use Rattle.trace.proofs.Ranges.{small, sum_is, sum_fits, length-at_place, at_place_get}
 use Rattle.trace.proofs.source.InnerItemsSourceItems.item_at.Goals as goal

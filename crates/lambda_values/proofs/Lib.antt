@@ -1,0 +1,6 @@
+pub mod DivisionLaws
+pub mod ExactLemmas
+pub mod Multiples
+pub mod Quotients
+pub mod References
+pub mod Shifts

@@ -1,0 +1,110 @@
+//! Expressions of a lambda, as they are evaluated for each item.
+
+ghost use Rattle.lambda_values.specs.Term.{long_of, truth_of};
+ghost use Rattle.lambda_values.specs.Value.{long_value, truth_value};
+ghost use Rattle.std.specs.Prelude.{◌≡◌};
+
+use super::env::Env;
+use super::fault::FaultKind;
+use super::operator::{BinaryOperator, Comparison, Connective, UnaryOperator};
+use stream_tokens::Bytes;
+
+/// An expression whose value is a number of 64 bits.
+#[cycle(ast)]
+#[derive(Drop)]
+pub enum LongExpr {
+    Number(i64),
+    /// A parameter by its number: 0, or 1 for the second one of a pair.
+    Parameter(usize),
+    /// The number of the earlier job with this name: `$name`.
+    Reference(Bytes),
+    Unary(UnaryOperator, Box<LongExpr>),
+    Binary(BinaryOperator, Box<LongExpr>, Box<LongExpr>),
+    /// `c ? p : q` (JLS 17, 15.25).
+    Choose(Box<BoolExpr>, Box<LongExpr>, Box<LongExpr>),
+}
+
+/// An expression whose value is a boolean.
+#[cycle(ast)]
+#[derive(Drop)]
+pub enum BoolExpr {
+    Literal(bool),
+    Compare(Comparison, Box<LongExpr>, Box<LongExpr>),
+    /// `!p` (JLS 17, 15.15.6).
+    Not(Box<BoolExpr>),
+    Connect(Connective, Box<BoolExpr>, Box<BoolExpr>),
+    /// `c ? p : q` (JLS 17, 15.25).
+    Choose(Box<BoolExpr>, Box<BoolExpr>, Box<BoolExpr>),
+}
+
+impl LongExpr {
+    /// The value at the item `x`, or the first fault from left to right (JLS 17, 15.7). `env` holds
+    /// the numbers of the earlier jobs that `$` names stand for. One call for each node that is
+    /// evaluated, and for a reference a comparison with each name up to its own; it takes no memory.
+    #[cycle(eval)]
+    pub fn eval(&self, x: i64, env: &Env) -> Result<i64, FaultKind>
+        ensures { result ≡ long_value (long_of self.now) x env.now }
+    {
+        match self {
+            LongExpr::Number(number) => Ok(*number),
+            LongExpr::Parameter(_) => Ok(x),
+            LongExpr::Reference(name) => Ok(env.number(name.as_slice()).unwrap_or(0)),
+            LongExpr::Unary(operator, operand) => {
+                let value = operand.eval(x, env)?;
+                operator.apply(value)
+            }
+            LongExpr::Binary(operator, left, right) => {
+                let left = left.eval(x, env)?;
+                let right = right.eval(x, env)?;
+                operator.apply(left, right)
+            }
+            LongExpr::Choose(condition, chosen, other) => {
+                if condition.eval(x, env)? {
+                    chosen.eval(x, env)
+                } else {
+                    other.eval(x, env)
+                }
+            }
+        }
+    }
+}
+
+impl BoolExpr {
+    /// The boolean at the item `x`, or the first fault from left to right (JLS 17, 15.7). `&&`, `||`
+    /// and `? :` evaluate only what they need. It takes no memory.
+    #[cycle(eval)]
+    pub fn eval(&self, x: i64, env: &Env) -> Result<bool, FaultKind>
+        ensures { result ≡ truth_value (truth_of self.now) x env.now }
+    {
+        match self {
+            BoolExpr::Literal(value) => Ok(*value),
+            BoolExpr::Compare(comparison, left, right) => {
+                let left = left.eval(x, env)?;
+                let right = right.eval(x, env)?;
+                Ok(comparison.apply(left, right))
+            }
+            BoolExpr::Not(operand) => Ok(!operand.eval(x, env)?),
+            BoolExpr::Connect(Connective::And, left, right) => {
+                if left.eval(x, env)? {
+                    right.eval(x, env)
+                } else {
+                    Ok(false)
+                }
+            }
+            BoolExpr::Connect(Connective::Or, left, right) => {
+                if left.eval(x, env)? {
+                    Ok(true)
+                } else {
+                    right.eval(x, env)
+                }
+            }
+            BoolExpr::Choose(condition, chosen, other) => {
+                if condition.eval(x, env)? {
+                    chosen.eval(x, env)
+                } else {
+                    other.eval(x, env)
+                }
+            }
+        }
+    }
+}

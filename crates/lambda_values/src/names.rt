@@ -1,0 +1,123 @@
+//! The names of the earlier jobs that a lambda refers to.
+
+ghost use Rattle.lambda_values.specs.Earlier.{Numbers};
+ghost use Rattle.lambda_values.specs.References.{Agree, each_names, inner_names, long_names, names_of, truth_names};
+ghost use Rattle.lambda_values.specs.Lambda.{body_of};
+ghost use Rattle.lambda_values.specs.Streams.{Inner, exprs_of, inner_of, inner_value};
+ghost use Rattle.lambda_values.specs.Term.{Long, Truth, long_of, truth_of};
+ghost use Rattle.lambda_values.specs.Value.{long_value, truth_value};
+ghost use Rattle.std.specs.Prelude.{◌≡◌, ◌++◌, [], ◌∷◌, IfOk, ℤ};
+
+use super::expr::{BoolExpr, LongExpr};
+use super::inner::InnerExpr;
+use super::lambda::{Body, Lambda};
+use std::alloc::{AllocError, Global};
+use stream_tokens::Bytes;
+
+// A name after the others.
+fn push_name(alloc: Global, name: &Bytes, names: &mut Vec<Bytes>) -> Result<(), AllocError>
+    ensures { IfOk result (λ _. names.new.items ≡ names.old.items ++ name.now ∷ []) }
+{
+    let copy = Vec::from_slice(alloc, name.as_slice())?;
+    names.push(Bytes::from(copy))?;
+    Ok(())
+}
+
+impl LongExpr {
+    #[cycle(names)]
+    fn push_names(&self, alloc: Global, names: &mut Vec<Bytes>) -> Result<(), AllocError>
+        ensures { IfOk result (λ _. names.new.items ≡ names.old.items ++ long_names (long_of self.now)) }
+    {
+        match self {
+            LongExpr::Number(_) | LongExpr::Parameter(_) => Ok(()),
+            LongExpr::Reference(name) => push_name(alloc, name, names),
+            LongExpr::Unary(_, operand) => operand.push_names(alloc, names),
+            LongExpr::Binary(_, left, right) => {
+                left.push_names(alloc, names)?;
+                right.push_names(alloc, names)
+            }
+            LongExpr::Choose(condition, first, second) => {
+                condition.push_names(alloc, names)?;
+                first.push_names(alloc, names)?;
+                second.push_names(alloc, names)
+            }
+        }
+    }
+}
+
+impl BoolExpr {
+    #[cycle(names)]
+    fn push_names(&self, alloc: Global, names: &mut Vec<Bytes>) -> Result<(), AllocError>
+        ensures { IfOk result (λ _. names.new.items ≡ names.old.items ++ truth_names (truth_of self.now)) }
+    {
+        match self {
+            BoolExpr::Literal(_) => Ok(()),
+            BoolExpr::Compare(_, left, right) => {
+                left.push_names(alloc, names)?;
+                right.push_names(alloc, names)
+            }
+            BoolExpr::Not(operand) => operand.push_names(alloc, names),
+            BoolExpr::Connect(_, left, right) => {
+                left.push_names(alloc, names)?;
+                right.push_names(alloc, names)
+            }
+            BoolExpr::Choose(condition, chosen, other) => {
+                condition.push_names(alloc, names)?;
+                chosen.push_names(alloc, names)?;
+                other.push_names(alloc, names)
+            }
+        }
+    }
+}
+
+// The names of expressions, one expression after the other.
+fn push_each(alloc: Global, exprs: &[LongExpr], names: &mut Vec<Bytes>) -> Result<(), AllocError>
+    ensures { IfOk result (λ _. names.new.items ≡ names.old.items ++ each_names (exprs_of exprs.now)) }
+{
+    for expr in exprs {
+        expr.push_names(alloc, names)?;
+    }
+    Ok(())
+}
+
+impl InnerExpr {
+    fn push_names(&self, alloc: Global, names: &mut Vec<Bytes>) -> Result<(), AllocError>
+        ensures { IfOk result (λ _. names.new.items ≡ names.old.items ++ inner_names (inner_of self.now)) }
+    {
+        match self {
+            InnerExpr::Range(from, to) | InnerExpr::RangeClosed(from, to) => {
+                from.push_names(alloc, names)?;
+                to.push_names(alloc, names)
+            }
+            InnerExpr::Of(operands) => push_each(alloc, operands.exprs(), names),
+        }
+    }
+}
+
+impl Lambda {
+    /// The names that follow the `$` of its references, in order of writing, each as often as it is
+    /// written; none for a lambda of two parameters, of which only the form is kept. The one error is
+    /// that an allocation failed.
+    pub fn names(&self, alloc: Global) -> Result<Vec<Bytes>, AllocError>
+        ensures { IfOk result (λ names. names.items ≡ names_of (body_of self.now.body)) }
+    {
+        let mut names = Vec::new(alloc);
+        match &self.body {
+            Body::Long(expr) => expr.push_names(alloc, &mut names)?,
+            Body::Bool(expr) => expr.push_names(alloc, &mut names)?,
+            Body::Stream(inner) => inner.push_names(alloc, &mut names)?,
+            Body::Pair(_) => {}
+        }
+        Ok(names)
+    }
+}
+
+/// What an expression gives depends on the environment by the names of its references alone.
+pub fn references_decide()
+    ensures number { (e : Long) (x : ℤ) (a b : Numbers) →
+        Agree (long_names e) a b → long_value e x a ≡ long_value e x b }
+    ensures boolean { (e : Truth) (x : ℤ) (a b : Numbers) →
+        Agree (truth_names e) a b → truth_value e x a ≡ truth_value e x b }
+    ensures stream { (g : Inner) (x : ℤ) (a b : Numbers) →
+        Agree (inner_names g) a b → inner_value g x a ≡ inner_value g x b }
+{}
