@@ -13,7 +13,7 @@ use crate::batch::Batch;
 use crate::listed::ListedItems;
 use crate::register::LANES;
 use crate::sink::{BatchSink, accept_each};
-use trace::{Fed, Flow, Item, MAX_SOURCE_SIZE, NoMemory, RangeItems, SourceItems};
+use trace::{Fed, Flow, Item, MAX_SOURCE_SIZE, NoMemory, PlacedValues, RangeItems, SourceItems};
 
 /// Items that batches are filled from.
 pub trait BatchSource: SourceItems {
