@@ -6,7 +6,7 @@
 //! the batch at its lane, so the next operator goes over the lanes before it only, and may meet the
 //! fault of an earlier lane, which then cuts further. What is left is what a walk item by item gives.
 //!
-//! Stands on `lambda_expr` and `trace`. What it promises to its users: `feed_batches`, clauses `fed`,
+//! Stands on `lambda_values` and `trace`. What it promises to its users: `feed_batches`, clauses `fed`,
 //! `flow` and `refused`, which are those of `feed_all` word for word.
 //! Begin with `feeding.rt`, `batch.rt` and `register.rt`, and `specs/Lanes.antt` (`Reaches`).
 //! Not promised: how fast it is (`bench/lanes` measures it), and that memory for registers is there.

@@ -1,6 +1,6 @@
 //! The stages that look at a whole walk: `limit`, `skip`, `takeWhile` and `dropWhile`, also over pieces.
 //!
-//! Stands on `trace`, for chunks, and on `lambda_expr`, for the tests. Used by whatever runs such a stage. What it
+//! Stands on `trace`, for chunks, and on `lambda_values`, for the tests. Used by whatever runs such a stage. What it
 //! promises to them: `SlicePart::join`, clause `ok`, gives the part of two pieces side by side, and
 //! `SlicePart::finish` what the stage makes of the whole, as `specs/Slices.antt` says. `SliceRest::cut`, clause `passes`,
 //! says which of the next items of a walk pass, and what is then left of the slice.

@@ -1,6 +1,6 @@
 //! Walks over items, how they join, and the stages that look at one item at a time.
 //!
-//! Stands on `lambda_expr`, which gives the value of a lambda at an item. Used by each crate that
+//! Stands on `lambda_values`, which gives the value of a lambda at an item. Used by each crate that
 //! walks a source or joins pieces of a walk. What it promises to them: `feed_all`, clause `fed`: a
 //! sink gets what `specs/Stages.antt` says that the stages make of the source; `Chunk::append`, clause
 //! `ok`: `append` of `specs/Trace.antt`, where the first fault ends the whole.
