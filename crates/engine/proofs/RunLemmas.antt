@@ -6,7 +6,7 @@ use Rattle.columns.specs.declared.fault.ColumnFault.{ColumnFault}
 use Rattle.columns.specs.declared.fault.ColumnFault.TheVariants as column
 use Rattle.columns.specs.Cells.{IsAnswerTo, cells_of}
 use Rattle.columns.specs.Table.{NamedColumn}
-use Rattle.job_plan.specs.declared.settings.Form.{Form}
+use Rattle.run_settings.specs.declared.settings.Form.{Form}
 use Rattle.engine.specs.declared.running.EngineFault.{EngineFault}
 use Rattle.engine.specs.declared.running.EngineFault.TheVariants.{Columns, Jobs, JobsRead, NoMemory, Write}
 use Rattle.engine.specs.Given.{IsFile, IsGiven, IsWhole}

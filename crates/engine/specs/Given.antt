@@ -2,7 +2,7 @@
 use Rattle.std.specs.Prelude.{◌≡◌, ℕ, ◌⊎◌, List, Option, Some, None, IfSome}
 use Rattle.std.specs.Borrow.{MutBor}
 use Rattle.std.proofs.Common.{inl, inr}
-use Rattle.job_plan.specs.declared.settings.Form.{Form}
+use Rattle.run_settings.specs.declared.settings.Form.{Form}
 use Rattle.counted_io.specs.FailureCounts.{HasRisen}
 use Rattle.engine.specs.Run.{Input}
 

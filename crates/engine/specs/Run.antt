@@ -14,8 +14,8 @@ use Rattle.columns.specs.declared.fault.ColumnFault.TheVariants as column
 use Rattle.columns.specs.Cells.{cells_of}
 use Rattle.columns.specs.Table.{NamedColumn}
 use Rattle.job_plan.specs.declared.answer.Answer.{Answer}
-use Rattle.job_plan.specs.declared.settings.Form.{Form}
-use Rattle.job_plan.specs.declared.settings.Form.TheVariants as form
+use Rattle.run_settings.specs.declared.settings.Form.{Form}
+use Rattle.run_settings.specs.declared.settings.Form.TheVariants as form
 use Rattle.job_language.specs.declared.fault.Cause.TheVariants as cause
 use Rattle.job_language.specs.declared.fault.JobFault.{JobFault}
 use Rattle.job_language.specs.Files.{SpellsJobs, IsRefused}

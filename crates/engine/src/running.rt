@@ -8,7 +8,7 @@ ghost use Rattle.job_language.specs.Jobs.{jobs_of, names_of};
 ghost use Rattle.job_plan.specs.FileAnswers.{meaning_of};
 ghost use Rattle.job_plan.specs.Parts.{plans_in};
 ghost use Rattle.job_plan.specs.Plans.{AbstractPlan};
-ghost use Rattle.job_plan.specs.SettingsParts.{form_of};
+ghost use Rattle.run_settings.specs.SettingsParts.{form_of};
 ghost use Rattle.report.specs.Named.{IsNamed, IsText};
 ghost use Rattle.std.specs.Io.KnownBytes.{Keeps};
 ghost use Rattle.std.specs.Prelude.{◌≡◌, ◌≢◌, ℕ, All, List, length, map, Option, Ok, IfErr, IfOk, OnOk};

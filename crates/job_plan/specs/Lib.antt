@@ -17,8 +17,6 @@ pub mod PlannedAnswers
 pub mod Plans
 pub mod Runs
 pub mod Scans
-pub mod Settings
-pub mod SettingsParts
 pub mod Spans
 pub mod Stretches
 pub mod Walks

@@ -56,7 +56,6 @@ mod run_values;
 mod scanned;
 mod scanned_pieces;
 mod segment;
-mod settings;
 mod sizes;
 mod slice_end;
 mod source;
@@ -82,8 +81,8 @@ pub use plan_laws::{
     walked_segments_give_the_answers,
 };
 pub use prefix_part::PrefixPart;
+pub use run_settings::{Form, Settings};
 pub use segment::{JobPlan, Named, Plan, Segment};
-pub use settings::{Form, Settings};
 pub use source::{Source, Walked};
 pub use sources::PlainSources;
 pub use streaming::{streamed, streamed_in_order};

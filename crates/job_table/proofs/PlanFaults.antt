@@ -30,7 +30,7 @@ use Rattle.job_plan.specs.Walks.{instead_of_fault, unless_fault}
 use Rattle.job_plan.proofs.Elements.{length_dropped}
 use Rattle.job_plan.proofs.SideBySide.{pieces_joined, whole_piece}
 use Rattle.job_table.specs.Caught.{FaultAmong, IsCaught}
-use Rattle.job_table.specs.Cuts.{IsInstead}
+use Rattle.job_runner.specs.Cuts.{IsInstead}
 use Rattle.job_table.specs.PlanSegments.{AbstractChain, PartStands, answer_of, answers_before, chain_at, gives_at, given_by, piece_between, plan_at, size_at, slices_first, upto, walk_at}
 use Rattle.job_table.proofs.PlanAnswers.{answer_at, answer_there, given_answer}
 use Rattle.job_table.proofs.PlanParts.{chain_answer, part_decides, size_within}

@@ -18,9 +18,9 @@ use Rattle.job_plan.proofs.LinkLemmas.{unlinked}
 use Rattle.job_table.specs.PlanSegments.{AbstractChain, PartStands, answer_of, answers_before, chain_at, plan_at, size_at, slices_first, walk_at}
 use Rattle.job_table.specs.declared.kept.SegmentSource.{SegmentSource}
 use Rattle.job_table.specs.declared.kept.SegmentSource.TheVariants.{Own, Kept}
-use Rattle.job_table.specs.declared.segments.Begun.{Begun}
-use Rattle.job_table.specs.declared.segments.Begun.TheVariants.{Known}
-use Rattle.job_table.specs.Begins.{IsBegun}
+use Rattle.job_runner.specs.declared.segments.Begun.{Begun}
+use Rattle.job_runner.specs.declared.segments.Begun.TheVariants.{Known}
+use Rattle.job_runner.specs.Begins.{IsBegun}
 use Rattle.job_table.specs.Sources.{IsKept}
 use Rattle.job_table.proofs.PlanParts.{chain_answer}
 use Rattle.job_table.proofs.PlannedAnswers.{unusable_answer, walked_answer}

@@ -9,7 +9,7 @@ use Rattle.job_plan.specs.FileAnswers.{unless_unusable}
 use Rattle.job_plan.specs.Parts.{plans_in}
 use Rattle.job_plan.specs.PlannedAnswers.{first_unusable_at, planned_after, planned_from, planned_meaning, put_into}
 use Rattle.job_plan.specs.Plans.{AbstractPlan, planned_answer}
-use Rattle.job_table.specs.Answers.{AreAnswers}
+use Rattle.job_runner.specs.Answers.{AreAnswers}
 use Rattle.job_table.specs.PlanSegments.{answer_of, answers_before, chain_at, plan_at}
 use Rattle.job_table.proofs.PlanAnswers.{plans_length}
 

@@ -1,15 +1,7 @@
--- Condition: the files of this crate's definitions; the first line of each says what it is. Begin with Cuts.
-pub mod Cuts
-pub mod CutLaws
-pub mod Tasks
-pub mod Waits
-pub mod Starts
-pub mod Begins
-pub mod Answers
+-- Condition: the files of this crate's definitions; the first line of each says what it is. Begin with PlanSegments.
 pub mod PlanSegments
 pub mod PlanLaws
 pub mod Caught
 pub mod CaughtLaws
 pub mod Sources
-pub mod Stops
 pub mod Takings

@@ -6,14 +6,12 @@ ghost use Rattle.job_table.specs.PlanSegments.{PartStands, answer_of, chain_at, 
 ghost use Rattle.job_table.specs.Sources.{IsKept};
 ghost use Rattle.job_table.specs.Takings.{IsTaken};
 
-use crate::NoMemory;
-use crate::earlier::EarlierAnswers;
 use crate::kept::{SegmentSource, Taken};
-use crate::piece::SegmentInput;
 use crate::plan_parts::{part_in_order, slices_first, streamed_part};
 use crate::planned::{PlanJobs, Planned};
 use batch_eval::Registers;
 use job_plan::{Answer, Part, Source, Walked};
+use job_runner::{EarlierAnswers, NoMemory, SegmentInput};
 use std::alloc::Global;
 
 impl<'a, 'c, P: Planned> PlanJobs<'a, 'c, P> {

@@ -7,15 +7,13 @@ ghost use Rattle.job_plan.specs.Parts.{plan_in, plans_in};
 ghost use Rattle.job_plan.specs.PlannedAnswers.{all_put_at, array_at, first_unusable_at, number_there, numbers_at, place_in, put_at, unusable_there};
 ghost use Rattle.job_plan.specs.declared.answer.Answer.{Answer as answers};
 ghost use Rattle.job_plan.specs.declared.answer.Answer.TheVariants as answer;
-ghost use Rattle.job_table.specs.Begins.{IsBegun};
+ghost use Rattle.job_runner.specs.Begins.{IsBegun};
 ghost use Rattle.job_table.specs.PlanSegments.{answer_of, answers_before, chain_at, plan_at, size_at};
 
-use crate::NoMemory;
-use crate::earlier::EarlierAnswers;
 use crate::planned::{PlanJobs, Planned};
-use crate::segments::Begun;
 use job_language::PlainSource;
 use job_plan::{Answer, JobPlan, Named, Source};
+use job_runner::{Begun, EarlierAnswers, NoMemory};
 use lambda_values::Env;
 use std::alloc::Global;
 use stream_tokens::Bytes;

@@ -10,14 +10,13 @@ ghost use Rattle.job_plan.specs.Walks.{instead_of_fault};
 ghost use Rattle.job_plan.specs.Windows.{later_segments};
 ghost use Rattle.job_table.specs.PlanSegments.{AbstractChain, PartStands, end_divides, gives_at, segment_divides, size_at, slices_first, upto, walk_at, walk_size};
 
-use crate::NoMemory;
-use crate::piece::Piece;
 use batch_eval::Registers;
 use early_stop::Stop;
 use job_plan::{
     Answer, ArrayPart, GivenWalk, JobPlan, Outcome, Part, Segment, SegmentEnd, Source, Walked,
     Window, leaf_in_order, leaf_stored, leaf_until, streamed, streamed_in_order, unwalked,
 };
+use job_runner::{NoMemory, Piece};
 use lambda_values::Env;
 use slice_ops::Slice;
 use std::alloc::Global;

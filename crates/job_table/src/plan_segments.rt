@@ -4,28 +4,24 @@ ghost use Rattle.job_plan.specs.declared.answer.Answer.{Answer as answers};
 ghost use Rattle.job_plan.specs.Parts.{fallback_in, plans_in};
 ghost use Rattle.job_table.specs.Caught.{FaultAmong, IsCaught};
 ghost use Rattle.job_table.specs.CaughtLaws.{among_more};
-ghost use Rattle.job_table.specs.Cuts.{IsPiece};
+ghost use Rattle.job_runner.specs.Cuts.{IsPiece};
 ghost use Rattle.early_stop.specs.Decisive.{Decides};
 ghost use Rattle.job_table.specs.PlanSegments.{PartStands, answer_of, chain_at, gives_at, segment_divides, size_at, slices_first, walk_at};
 ghost use Rattle.job_table.specs.Sources.{IsKept, one_kept};
 ghost use Rattle.job_table.specs.PlanLaws.{one_answer};
 ghost use Rattle.job_table.specs.Takings.{IsTaken, one_taken};
 
-use crate::NoMemory;
-use crate::cut::CutPiece;
-use crate::earlier::EarlierAnswers;
 use crate::kept::{SegmentSource, Taken};
-use crate::piece::{Piece, SegmentInput};
 use crate::plan_names::different;
 use crate::plan_parts::{
     catches, is_divided, job_answer, left_out, lent_piece, next_walk, slices_first, stored_piece,
     streamed_piece,
 };
 use crate::planned::{PlanJobs, Planned};
-use crate::segments::{Begun, JobSegments};
 use batch_eval::Registers;
 use early_stop::Stop;
 use job_plan::{Answer, Fallback, Outcome, Part, Source, Walked};
+use job_runner::{Begun, CutPiece, EarlierAnswers, JobSegments, NoMemory, Piece, SegmentInput};
 use std::alloc::Global;
 use trace::Fault;
 

@@ -6,9 +6,8 @@ ghost use Rattle.job_plan.specs.PlannedAnswers.{planned_meaning};
 ghost use Rattle.job_table.specs.PlanSegments.{plan_at};
 ghost use Rattle.job_table.specs.PlanLaws.{one_plan};
 
-use crate::NoMemory;
-use crate::run::run_all;
 use job_plan::{Answer, JobPlan, Plan, Settings};
+use job_runner::{NoMemory, run_all};
 use std::alloc::Global;
 use std::marker::{Brand, PhantomData};
 use std::sync::Wait;

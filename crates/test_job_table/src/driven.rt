@@ -1,8 +1,8 @@
 //! A run without a pool: tasks that are driven by hand.
 ghost use Rattle.std.specs.Prelude.{◌≡◌, ◌-◌, ℕ, ℤ, List, [], length, map, slice_index_or, IfErr};
 ghost use Rattle.completer_tree.specs.Trees.{table_id_of};
-ghost use Rattle.job_table.specs.Starts.{kept_at, node_at};
-ghost use Rattle.job_table.specs.Stops.{stop_id_of};
+ghost use Rattle.job_runner.specs.Starts.{kept_at, node_at};
+ghost use Rattle.job_runner.specs.Stops.{stop_id_of};
 
 use crate::lists::{JobNumbers, Lists};
 use job_plan::{Form, Plan, Settings};

@@ -1,7 +1,8 @@
-//! Tests of `job_table` and `early_stop`: what no clause says.
+//! Tests of `job_table`, `job_runner` and `early_stop`: what no clause says.
 //!
 //! No clause says that a worker starts, that pieces are walked by tasks, or that an answer comes from them.
-//! Stands on `job_table`; nothing stands on it. Begin with `lists.rt`, the jobs of these tests.
+//! Stands on `job_table`, which gives out the names of `job_runner`; nothing stands on it. Begin with `lists.rt`, the jobs of these
+//! tests.
 #![tactic(auto)]
 
 #[cfg(test)]

@@ -1,7 +1,7 @@
 //! Jobs that copy lists of numbers. They stand outside the tests, since definitions name them.
 ghost use Rattle.std.specs.Prelude.{◌≡◌, ◌%◌, ◌<◌, ◌≤◌, ℕ, ℤ, true, List, [], length, map, slice_index_or, IfOk, ⊤};
 ghost use Rattle.std.specs.Coded.{Unit-prop};
-ghost use Rattle.job_table.specs.Cuts.{IsPiece};
+ghost use Rattle.job_runner.specs.Cuts.{IsPiece};
 ghost use Rattle.test_job_table.specs.Lists.{EndsAtOnce, slice, numbers_in, walk_of, JobLast};
 ghost use Rattle.test_job_table.specs.ListLaws.{one_list};
 

@@ -1,6 +1,6 @@
 use Rattle.std.proofs.Common.{◌≡◌, refl, rules}
 use Rattle.columns.specs.declared.fault.ColumnFault.TheVariants as column
-use Rattle.job_plan.specs.SettingsParts.{form_of}
+use Rattle.run_settings.specs.SettingsParts.{form_of}
 use Rattle.engine.proofs.RunLemmas.{HasTable, some_table, no_table, columns_refused, early_fault, early_no_columns, early_no_write, report_for}
 use Rattle.engine.proofs.running.run.Goals as goal
 use Rattle.engine.proofs.running.run.Goals.{in-Some+in-Ok, in-None}

@@ -1,5 +1,0 @@
-use Rattle.std.proofs.Common.{rules}
-use Rattle.job_plan.proofs.settings.Settings.of.Goals as goal
-
-pub returns-then-within-clause-none : goal.returns-then-within-clause-none
-returns-then-within-clause-none c = search rules

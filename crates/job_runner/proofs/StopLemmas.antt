@@ -1,0 +1,64 @@
+-- Which word is that of a segment.
+use Rattle.std.proofs.Common.{◌≡◌, ℕ, zero, suc, ◌+◌, ◌-◌, ◌<◌, ◌≤◌, Bool, true, false, cond, nat_lt, le-ltb, lt-ltb, sym, refl, ap, ◌∙◌, subst, arith}
+use Rattle.trace.specs.Trace.{Trace}
+use Rattle.early_stop.specs.Decisive.{IsDecisive, Decides}
+use Rattle.job_runner.specs.Stops.{pair_from, pair_at, words_from, first_word}
+
+pick_first : (b : Bool) (p q : ℕ × ℕ) → b ≡ true → cond b p q ≡ p
+pick_first true p q h = refl
+pick_first false p q h = absurd (grind arith)
+
+pick_second : (b : Bool) (p q : ℕ × ℕ) → b ≡ false → cond b p q ≡ q
+pick_second true p q h = absurd (grind arith)
+pick_second false p q h = refl
+
+there : (last : ℕ → ℕ) (job j n k : ℕ) → k ≤ last (job + j) → pair_from last job (j + suc n) (words_from last job j + k) ≡ (job + j, k)
+there last job zero n k h =
+    let e : job + 0 ≡ job = omega arith in
+    let z : 0 + k ≡ k = omega arith in
+    let m : 0 + suc n ≡ suc n = omega arith in
+    let low : k ≤ last job = subst (λ j. k ≤ last j) e h in
+    (λ i. pair_from last job (m i) (z i)) ∙ pick_second (nat_lt (last job) k) (pair_from last (suc job) n (k - suc (last job))) (job, k) (le-ltb (last job) k low) ∙ (λ i. (sym e i, k))
+there last job (suc j) n k h =
+    let w : ℕ = words_from last (suc job) j in
+    let e : suc job + j ≡ job + suc j = omega arith in
+    let m : suc j + suc n ≡ suc (j + suc n) = omega arith in
+    let z : suc (last job) + w + k - suc (last job) ≡ w + k = omega arith in
+    let high : last job < suc (last job) + w + k = omega arith in
+    let low : k ≤ last (suc job + j) = subst (λ i. k ≤ last i) (sym e) h in
+    (λ i. pair_from last job (m i) (suc (last job) + w + k))
+    ∙ pick_first (nat_lt (last job) (suc (last job) + w + k)) (pair_from last (suc job) (j + suc n) (suc (last job) + w + k - suc (last job))) (job, suc (last job) + w + k) (lt-ltb (last job) (suc (last job) + w + k) high)
+    ∙ ap (pair_from last (suc job) (j + suc n)) z
+    ∙ there last (suc job) j n k low
+    ∙ (λ i. (e i, k))
+
+-- the word of a segment
+pub word_at : (last : ℕ → ℕ) (jobs job segment : ℕ) → job < jobs → segment ≤ last job → pair_at last jobs (first_word last job + segment) ≡ (job, segment)
+word_at last jobs job segment h k =
+    let e : jobs ≡ job + suc (jobs - suc job) = omega arith in
+    let z : 0 + job ≡ job = omega arith in
+    ap (λ n. pair_from last 0 n (first_word last job + segment)) e ∙ there last 0 job (jobs - suc job) segment (subst (λ j. segment ≤ last j) (sym z) k) ∙ (λ i. (z i, segment))
+
+words_more : (last : ℕ → ℕ) (job n : ℕ) → words_from last job (suc n) ≡ words_from last job n + suc (last (job + n))
+words_more last job zero = let e : job + 0 ≡ job = omega arith in let s : suc (last job) + 0 ≡ 0 + suc (last job) = omega arith in s ∙ ap (λ j. 0 + suc (last j)) (sym e)
+words_more last job (suc n) =
+    let r = words_more last (suc job) n in
+    let e : suc job + n ≡ job + suc n = omega arith in
+    let q : last (suc job + n) ≡ last (job + suc n) = ap last e in
+    omega arith
+
+-- the first word of the next job
+pub next_word : (last : ℕ → ℕ) (job : ℕ) → first_word last (suc job) ≡ first_word last job + suc (last job)
+next_word last job = words_more last 0 job ∙ (let z : 0 + job ≡ job = omega arith in ap (λ j. words_from last 0 job + suc (last j)) z)
+
+module _ {O : Type 0} (source : ℕ → ℕ → Trace) (outcome : ℕ → ℕ → Trace → O) where
+  -- a place of the word's segment is one of the segment that has the word
+  pub decisive_there : (p : ℕ × ℕ) (job segment c : ℕ) → p ≡ (job, segment) → IsDecisive (outcome p.0 p.1) (source p.0 p.1) c → IsDecisive (outcome job segment) (source job segment) c
+  decisive_there p job segment c e h = subst (λ (q : ℕ × ℕ). IsDecisive (outcome q.0 q.1) (source q.0 q.1) c) e h
+
+  pub decisive_here : (p : ℕ × ℕ) (job segment c : ℕ) → p ≡ (job, segment) → Decides (outcome job segment) (source job segment) c → IsDecisive (outcome p.0 p.1) (source p.0 p.1) c
+  decisive_here p job segment c e h = subst (λ (q : ℕ × ℕ). IsDecisive (outcome q.0 q.1) (source q.0 q.1) c) (sym e) (λ _. h)
+
+  -- a place by other names for job and segment
+  pub decides_for : (j j' k k' c : ℕ) → j ≡ j' → k ≡ k' → Decides (outcome j k) (source j k) c → Decides (outcome j' k') (source j' k') c
+  decides_for j j' k k' c ej ek h = subst (λ (i : ℕ). Decides (outcome i k') (source i k') c) ej (subst (λ (i : ℕ). Decides (outcome j i) (source j i) c) ek h)

@@ -1,0 +1,21 @@
+use Rattle.std.proofs.Common.{◌≡◌, ◌∙◌, length, rules}
+use Rattle.pending_count.specs.Seats.{view_of}
+use Rattle.job_runner.proofs.CreditLemmas.{credit_joined}
+use Rattle.job_runner.proofs.credit.JobWork+S+TablePart+S+TableKept+S+R.pay.Goals as goal
+
+pub invariant_of-result : goal.invariant_of-result
+invariant_of-result g c =
+    let b = c.args.begun in
+    let purse = c.in-Some.field-0 in
+    let j = c.join-seat.ensures in
+    let none : length (view_of purse.seat).places ≡ 0 = purse.unplaced in
+    record {
+      has = credit_joined _ (g.R.Running.keeps b.job) b.seat purse.seat c.split-rest.result.1 c.join-seat.result (j.seat.0 ∙ b.has.table) none c.split-rest.ensures.parts.1 j.both b.has;
+      known = b.known;
+    }
+
+pub returns-clause-paid : goal.returns-clause-paid
+returns-clause-paid g c = search rules
+
+pub returns-clause-left : goal.returns-clause-left
+returns-clause-left g c = search rules

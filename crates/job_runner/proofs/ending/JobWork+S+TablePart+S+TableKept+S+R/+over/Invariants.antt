@@ -1,0 +1,16 @@
+use Rattle.std.proofs.Common.{◌+◌, ◌*◌, ◌∷◌, ◌++◌, [], drop}
+use Rattle.job_runner.specs.Tasks.{HasKept}
+use Rattle.job_runner.specs.Waits.{nodes_in}
+use Rattle.job_runner.proofs.ending.JobWork+S+TablePart+S+TableKept+S+R.+over.Given as goal
+
+abbrev pub decreases-end_job : goal.decreases-end_job
+decreases-end_job g l = 3 * l.depth + 1
+
+abbrev pub decreases-hand_over : goal.decreases-hand_over
+decreases-hand_over g l = 3 * l.depth
+
+abbrev pub decreases-finish : goal.decreases-finish
+decreases-finish g l = 3 * l.depth + 2
+
+abbrev pub invariant-end_job-loop-at : goal.invariant-end_job-loop-at
+invariant-end_job-loop-at g l = HasKept g.R.Running.table g.R.Running.jobs g.R.Running.start g.R.Running.keeps (nodes_in (drop l.at l.waiting) ++ 0 ∷ []) l.seat

@@ -1,0 +1,6 @@
+use Rattle.std.proofs.Common.{◌≡◌, length}
+use Rattle.job_runner.specs.Answers.{AreAnswers}
+use Rattle.job_runner.proofs.run.read_answers.Given as goal
+
+abbrev pub invariant-loop-job : goal.invariant-loop-job
+invariant-loop-job g l = (length l.answers.items ≡ l.job) × AreAnswers g.S.JobSegments.is_answer 0 l.answers.items

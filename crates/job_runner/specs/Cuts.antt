@@ -1,0 +1,67 @@
+-- Condition: which positions of a source stand for a side of a cut, and which pieces a run has.
+use Rattle.std.specs.Prelude.{◌≡◌, ℕ, ◌<◌, ◌≤◌, Bool, Option, Some, None, Result, Ok, Err, ⊤}
+use Rattle.trace.specs.declared.item.Fault.{Fault}
+use Rattle.completer_tree.specs.declared.part.Failure.{Failure}
+use Rattle.completer_tree.specs.declared.part.Failure.TheVariants as failure
+use Rattle.pending_count.specs.declared.place.Side.{Side}
+use Rattle.pending_count.specs.declared.place.Side.TheVariants.{Left, Right, Whole}
+use Rattle.pending_count.specs.Pairs.{side_of}
+use Rattle.job_runner.specs.declared.cut.CutPiece.{CutPiece}
+use Rattle.job_runner.specs.declared.cut.Merged.{Merged}
+use Rattle.job_runner.specs.declared.cut.Merged.TheVariants.{Part, Caught}
+
+-- where the positions of a side begin and end
+abbrev pub begins : CutPiece → Side → ℕ
+begins c Left = c.from
+begins c Right = c.middle
+begins c Whole = c.from
+
+abbrev pub ends_at : CutPiece → Side → ℕ
+ends_at c Left = c.middle
+ends_at c Right = c.to
+ends_at c Whole = c.to
+
+-- the cut is of the positions of this side of the parent
+abbrev pub IsSideOf : CutPiece → CutPiece × Bool → Type 0
+IsSideOf cut p = (p.0.job ≡ cut.job) × (p.0.segment ≡ cut.segment) × (begins p.0 (side_of p.1) ≡ cut.from) × (ends_at p.0 (side_of p.1) ≡ cut.to)
+
+-- a segment of a job of the run, and positions of its source, from one up to, not with, another
+pub record IsPiece (jobs : ℕ) (last : ℕ → ℕ) (size : ℕ → ℕ → ℕ) (job segment from to : ℕ) : Type 0 where
+  pub known : job < jobs
+  pub chained : segment ≤ last job
+  pub ordered : from ≤ to
+  pub within : to ≤ size job segment
+
+-- of what comes of pieces: this holds if it is a part, and this if it is an answer
+abbrev pub IfMerged : {A B : Type 0} → (A → Type 0) → (B → Type 0) → Merged A B → Type 0
+IfMerged stands answers (Part p) = stands p
+IfMerged stands answers (Caught a) = answers a
+
+-- of what is handed in: this holds if it is a value, and this if it is a fault; a refused allocation says nothing
+abbrev pub IfHanded : {X : Type 0} → (X → Type 0) → (Fault → Type 0) → Result X Failure → Type 0
+IfHanded value faults (Ok x) = value x
+IfHanded value faults (Err (failure.Fault f)) = faults f
+IfHanded value faults (Err failure.NoMemory) = ⊤
+
+-- what is handed in at a side of a cut: the part of these positions, a fault among them that the job catches, or nothing
+abbrev pub HandedIn : {A B X : Type 0} → (ℕ → ℕ → ℕ → ℕ → A → Type 0) → (ℕ → ℕ → ℕ → ℕ → Fault → Type 0) → (X → Merged A B) → ℕ → ℕ → ℕ → ℕ → Result X Failure → Type 0
+HandedIn stands faults found job segment from to v = IfHanded (λ x. IfMerged (stands job segment from to) (λ a. ⊥) (found x)) (faults job segment from to) v
+
+-- what comes of all pieces between these positions: their part, the answer of the job, or nothing; no fault goes on
+abbrev pub ComesOf : {A B X : Type 0} → (ℕ → ℕ → ℕ → ℕ → A → Type 0) → (ℕ → B → Type 0) → (X → Merged A B) → ℕ → ℕ → ℕ → ℕ → Result X Failure → Type 0
+ComesOf stands answers found job segment from to v = IfHanded (λ x. IfMerged (stands job segment from to) (answers job) (found x)) (λ f. ⊥) v
+
+-- what is handed in at a side of a cut, or comes of both sides
+abbrev pub Fits : {A B X : Type 0} → (ℕ → ℕ → ℕ → ℕ → A → Type 0) → (ℕ → ℕ → ℕ → ℕ → Fault → Type 0) → (ℕ → B → Type 0) → (X → Merged A B) → CutPiece → Side → Result X Failure → Type 0
+Fits stands faults answers found cut Left v = HandedIn stands faults found cut.job cut.segment cut.from cut.middle v
+Fits stands faults answers found cut Right v = HandedIn stands faults found cut.job cut.segment cut.middle cut.to v
+Fits stands faults answers found cut Whole v = ComesOf stands answers found cut.job cut.segment cut.from cut.to v
+
+-- what comes of a whole segment: its part, the answer of the job, or nothing
+abbrev pub StandsWhole : {A B X : Type 0} → (ℕ → ℕ → ℕ → ℕ → A → Type 0) → (ℕ → B → Type 0) → (ℕ → ℕ → ℕ) → ℕ → ℕ → (X → Merged A B) → Result X Failure → Type 0
+StandsWhole stands answers size job segment found v = ComesOf stands answers found job segment 0 (size job segment) v
+
+-- a job with a fault that it catches has this answer; without one, it catches no fault
+abbrev pub IsInstead : {B : Type 0} → (ℕ → ℕ → ℕ → ℕ → Fault → Type 0) → (ℕ → ℕ → ℕ) → (ℕ → B → Type 0) → ℕ → Option B → Type 0
+IsInstead faults size answers job (Some a) = (segment : ℕ) (f : Fault) → faults job segment 0 (size job segment) f → answers job a
+IsInstead faults size answers job None = (segment : ℕ) (f : Fault) → faults job segment 0 (size job segment) f → ⊥

@@ -1,0 +1,197 @@
+//! Where a piece is cut in two, and how the parts of the two sides are joined.
+ghost use Rattle.std.specs.Prelude.{◌≡◌, ◌≢◌, ◌+◌, ◌-◌, ◌<◌, ◌≤◌, ℕ, Some, None, IfOk};
+ghost use Rattle.trace.specs.declared.item.Fault.{Fault};
+ghost use Rattle.pending_count.specs.Pairs.{side_of};
+ghost use Rattle.pending_count.specs.declared.place.Side.TheVariants.{Whole};
+ghost use Rattle.job_runner.specs.Cuts.{begins, ends_at, Fits, IsInstead, IsPiece, IsSideOf, StandsWhole};
+ghost use Rattle.job_runner.specs.CutLaws.{one_instead, stands_moved, stands_whole};
+
+use crate::piece::Piece;
+use crate::segments::JobSegments;
+use completer_tree::{Completer, Continuation, Failure, Handed, PartValue, TreeCounts, TreeSeat};
+use pending_count::{Place, Side};
+use std::marker::PhantomData;
+
+/// A piece of a segment of a job that is cut in two: the left side is the positions before `middle`.
+#[derive(Clone, Copy)]
+pub struct CutPiece {
+    pub job: usize,
+    pub segment: usize,
+    pub from: u64,
+    pub middle: u64,
+    pub to: u64,
+}
+
+impl CutPiece {
+    /// A cut in the middle. If the two sides can't be equally long, the right one is one longer.
+    pub(crate) fn halves(piece: Piece) -> CutPiece
+        requires { piece.from + 1 < piece.to }
+        ensures of { (result.job ≡ piece.job) × (result.segment ≡ piece.segment) × (result.from ≡ piece.from) × (result.to ≡ piece.to) }
+        ensures within { (piece.from < result.middle) × (result.middle < piece.to) }
+        ensures middle { (result.middle - piece.from ≤ piece.to - result.middle) × (piece.to - result.middle ≤ result.middle - piece.from + 1) }
+    {
+        let Piece {
+            job,
+            segment,
+            from,
+            to,
+        } = piece;
+        CutPiece {
+            job,
+            segment,
+            from,
+            middle: from + (to - from) / 2,
+            to,
+        }
+    }
+}
+
+/// Whether a place is on the left side of a cut.
+pub(crate) fn is_left(place: &Place<CutPiece>) -> bool
+    requires { place.now.side ≢ Whole }
+    ensures { place.now.side ≡ side_of result }
+{
+    place.side == Side::Left
+}
+
+/// One side of a cut.
+pub(crate) fn side_at(place: &Place<CutPiece>) -> Piece
+    requires { place.now.side ≢ Whole }
+    ensures of { (result.job ≡ place.now.tag.job) × (result.segment ≡ place.now.tag.segment) }
+    ensures positions { (result.from ≡ begins place.now.tag place.now.side) × (result.to ≡ ends_at place.now.tag place.now.side) }
+{
+    let cut = place.tag;
+    let (from, to) = if is_left(place) {
+        (cut.from, cut.middle)
+    } else {
+        (cut.middle, cut.to)
+    };
+    Piece {
+        job: cut.job,
+        segment: cut.segment,
+        from,
+        to,
+    }
+}
+
+/// What comes of pieces that were merged.
+#[derive(Drop)]
+pub enum Merged<P, I> {
+    /// Their part.
+    Part(P),
+    /// At the top of a tree whose pieces have a fault: what the job gives in its place.
+    Caught(I),
+}
+
+/// A part as completion trees see it.
+#[derive(Drop)]
+pub struct SegmentPart<S: JobSegments> {
+    pub(crate) found: Merged<S::Part, S::Instead>,
+    pub(crate) of: PhantomData<S>,
+}
+
+impl<S: JobSegments> SegmentPart<S> {
+    /// A part that is handed in.
+    pub(crate) fn of_part(part: S::Part) -> SegmentPart<S>
+        ensures { result.found ≡ Merged.Part part }
+    {
+        SegmentPart {
+            found: Merged::Part(part),
+            of: PhantomData,
+        }
+    }
+}
+
+impl<S: JobSegments> PartValue for SegmentPart<S> {
+    type Tag = CutPiece;
+
+    ghost fits = { λ cut side v. Fits S.stands_for S.faults_with S.is_instead (λ x. x.found) cut side v };
+
+    ghost result = { λ cut v. StandsWhole S.stands_for S.is_instead S.size_of cut.job cut.segment (λ x. x.found) v };
+}
+
+/// Merges the parts of the two sides of a cut. A fault on a side goes on to the parent; at the top what the job gives in its place is
+/// the tree's result.
+#[derive(Drop)]
+pub struct Join<S: JobSegments> {
+    pub(crate) cut: CutPiece,
+    pub(crate) parent: Option<(CutPiece, bool)>,
+    /// At the top of a tree, what the job gives in place of a fault, if anything.
+    pub(crate) instead: Option<S::Instead>,
+    pub(crate) of: PhantomData<S>,
+    ghost piece: { IsPiece S.job_count S.last_of S.size_of cut.job cut.segment cut.from cut.to },
+    ghost within: { (cut.from < cut.middle) × (cut.middle < cut.to) },
+    ghost side: { (p : _) → parent ≡ Some p → IsSideOf cut p },
+    ghost top: { parent ≡ None → (cut.from ≡ 0) × (cut.to ≡ S.size_of cut.job cut.segment) },
+    ghost caught: { parent ≡ None → IsInstead S.faults_with S.size_of S.is_instead cut.job instead } by { one_instead S.faults_with S.size_of S.is_instead S.one_instead cut.job instead (parent ≡ None) },
+}
+
+impl<S: JobSegments> Continuation<SegmentPart<S>> for Join<S> {
+    ghost tag_of = { λ c. c.cut };
+
+    ghost goes_to = { λ c. c.parent };
+
+    ghost leads = { λ c p e v h. stands_moved S.stands_for S.is_instead S.size_of (λ x. x.found) v (c.side p e).0 (c.side p e).1 h };
+
+    ghost ends = { λ c e v h. stands_whole S.stands_for S.is_instead S.size_of (λ x. x.found) v c.cut.job c.cut.segment (c.top e).0 (c.top e).1 h };
+
+    fn tag(&self) -> CutPiece {
+        self.cut
+    }
+
+    fn goes_to(&self) -> Option<(CutPiece, bool)> {
+        self.parent
+    }
+
+    fn on_completion(self, left: SegmentPart<S>, right: SegmentPart<S>) -> Handed<SegmentPart<S>> {
+        let SegmentPart { found: left, of: _ } = left;
+        let SegmentPart {
+            found: right,
+            of: _,
+        } = right;
+        let Merged::Part(left) = left else {
+            unreachable!()
+        };
+        let Merged::Part(right) = right else {
+            unreachable!()
+        };
+        match S::merge(self.cut, left, right) {
+            Ok(part) => Ok(SegmentPart::of_part(part)),
+            Err(_refused) => Err(Failure::NoMemory),
+        }
+    }
+
+    fn on_exceptional_completion(self, failure: Failure) -> Handed<SegmentPart<S>> {
+        let Failure::Fault(_) = failure else {
+            return Err(failure);
+        };
+        let Join {
+            cut: _,
+            parent,
+            instead,
+            of,
+        } = self;
+        if parent.is_some() {
+            return Err(failure);
+        }
+        let Some(instead) = instead else {
+            unreachable!()
+        };
+        Ok(SegmentPart {
+            found: Merged::Caught(instead),
+            of,
+        })
+    }
+}
+
+/// The counts of a run.
+pub type TableCounts<S> = TreeCounts<SegmentPart<S>, Join<S>>;
+
+/// A seat of them.
+pub type TableSeat<S> = TreeSeat<SegmentPart<S>, Join<S>>;
+
+/// What a pair of them keeps.
+pub type TableKept<S> = Completer<SegmentPart<S>, Join<S>>;
+
+/// What is handed in at a place.
+pub type TablePart<S> = Handed<SegmentPart<S>>;

@@ -1,0 +1,56 @@
+//! The answers of earlier jobs.
+ghost use Rattle.std.specs.Prelude.{ℕ, IfSome, [], ◌≡◌};
+ghost use Rattle.job_runner.specs.Answers.{AreAnswers, AreAnswers-prop};
+
+use crate::places::{JobPlaces, kept_answer};
+use crate::segments::JobSegments;
+
+/// Answers of jobs, as far as they are there.
+pub trait EarlierAnswers<A> {
+    // It is the answer of this job.
+    ghost is_answer: { ℕ → A → Type 0 };
+
+    /// The answer of a job, if it is there.
+    fn answer(&self, job: usize) -> Option<&A>
+        ensures { IfSome result (λ answer. is_answer job answer.now) };
+}
+
+/// The answers of earlier jobs that are there: those that tasks left in places, or those that a reader has.
+#[derive(Drop)]
+pub struct Earlier<'a, S: JobSegments> {
+    places: &'a [JobPlaces<S>],
+    answers: &'a [S::Answer],
+    ghost are: { AreAnswers S.is_answer 0 answers.now } by { AreAnswers-prop S.is_answer S.one_answer 0 answers.now },
+}
+
+impl<'a, S: JobSegments> Earlier<'a, S> {
+    /// Those in these places.
+    pub(crate) fn in_places(places: &'a [JobPlaces<S>]) -> Earlier<'a, S> {
+        Earlier {
+            places,
+            answers: &[],
+        }
+    }
+
+    /// These ones, of the first jobs.
+    pub(crate) fn listed(answers: &'a [S::Answer]) -> Earlier<'a, S>
+        requires { AreAnswers S.is_answer 0 answers.now }
+    {
+        Earlier {
+            places: &[],
+            answers,
+        }
+    }
+}
+
+impl<S: JobSegments> EarlierAnswers<S::Answer> for Earlier<'_, S> {
+    ghost is_answer = { S.is_answer };
+
+    #[tactic(auto, using(crate::proofs::AnswerLemmas::answer_got))]
+    fn answer(&self, job: usize) -> Option<&S::Answer> {
+        match self.answers.get(job) {
+            Some(answer) => Some(answer),
+            None => kept_answer(self.places, job),
+        }
+    }
+}

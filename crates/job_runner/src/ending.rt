@@ -1,0 +1,285 @@
+//! JobSegments that were walked whole: the next one begins, or the job ends, and those that wait for it begin.
+ghost use Rattle.std.specs.Prelude.{◌≡◌, ◌<◌, ◌+◌, ◌++◌, ◌∷◌, [], List, ℕ, drop, length, IfSome, IfOk};
+ghost use Rattle.job_runner.specs.Cuts.{StandsWhole};
+ghost use Rattle.job_runner.specs.Tasks.{HasKept};
+ghost use Rattle.job_runner.specs.Waits.{nodes_in};
+
+use crate::NoMemory;
+use crate::busy::TableBusy;
+use crate::cut::{Merged, SegmentPart, TableKept, TablePart, TableSeat};
+use crate::earlier::Earlier;
+use crate::parts::size_of;
+use crate::piece::SegmentInput;
+use crate::places::{
+    drop_source, hold_source, keep_answer, keep_given, keep_source, kept_given, source_in,
+};
+use crate::segments::{Begun, JobSegments};
+use crate::start::Waiting;
+use crate::task::{JobSeat, Running, TableJobSeat, TableTask, TableWhole, Task, Whole};
+use crate::work::{JobWork, TableWork};
+use worker_pool::{Gate, Spawn};
+
+/// The answer of a job, of the part of its whole last segment.
+fn last_answer<S: JobSegments, R: Running>(
+    work: &TableWork<S, R>,
+    job: usize,
+    segment: usize,
+    part: S::Part,
+    given: &S::Given,
+    scratch: &mut S::Scratch,
+) -> Result<S::Answer, NoMemory>
+    requires known { job < S.job_count }
+    requires last { segment ≡ S.last_of job }
+    requires given { S.is_given job given.now }
+    requires part { S.stands_for job segment 0 (S.size_of job segment) part }
+    ensures { IfOk result (λ answer. S.is_answer job answer) }
+{
+    let earlier = Earlier::in_places(&work.places);
+    if segment == 0 {
+        let input = SegmentInput {
+            source: &work.jobs.first_source(job),
+            given,
+            earlier: &earlier,
+        };
+        return work.jobs.answer(work.alloc, job, part, input, scratch);
+    }
+    let Some(held) = hold_source(&work.places, job, segment) else {
+        return Err(NoMemory);
+    };
+    let Some(source) = source_in(&held, job, segment) else {
+        return Err(NoMemory);
+    };
+    let input = SegmentInput {
+        source,
+        given,
+        earlier: &earlier,
+    };
+    work.jobs.answer(work.alloc, job, part, input, scratch)
+}
+
+impl<'a, S: JobSegments, R: Running> JobWork<'a, S, TablePart<S>, TableKept<S>, R> {
+    /// Leaves what a job takes of earlier answers in its place, or its answer, if there is nothing to walk.
+    fn prepare<G: Gate>(&self, gate: &G, job: usize)
+        requires { job < R.jobs }
+    {
+        match self
+            .jobs
+            .given(self.alloc, job, &Earlier::in_places(&self.places))
+        {
+            Ok(Begun::Walk(given)) => keep_given(&self.places, job, given),
+            Ok(Begun::Known(answer)) => keep_answer(&self.places, gate, job, answer),
+            Err(_refused) => {}
+        }
+    }
+
+    /// Begins a job, and walks what others don't take. `Some` if the job is over.
+    fn run_job<G: Gate, P: Spawn<TableTask<S, R>>>(
+        &self,
+        gate: &G,
+        begun: TableJobSeat<S, R>,
+        spawn: &mut P,
+        busy: &mut TableBusy<'_, S, R>,
+    ) -> Option<TableJobSeat<S, R>> {
+        self.prepare(gate, begun.job);
+        let Some(size) = size_of(self, begun.job, 0) else {
+            return Some(begun);
+        };
+        let whole = self.begin(gate, begun, 0, size, spawn, busy);
+        self.go_on(gate, whole, spawn, busy)
+    }
+
+    /// Frees what the segment went over, leaves what it gives in its place, and begins the next segment. `Err` if the job is over.
+    fn end_segment<G: Gate, P: Spawn<TableTask<S, R>>>(
+        &self,
+        gate: &G,
+        whole: TableWhole<S, R>,
+        spawn: &mut P,
+        busy: &mut TableBusy<'_, S, R>,
+    ) -> Result<Option<TableWhole<S, R>>, TableJobSeat<S, R>>
+        requires { StandsWhole S.stands_for S.is_instead S.size_of whole.job.job whole.segment (λ x. x.found) whole.part }
+        ensures { IfOk result (λ later. IfSome later (λ whole. StandsWhole S.stands_for S.is_instead S.size_of whole.job.job whole.segment (λ x. x.found) whole.part)) }
+    {
+        let Whole {
+            job: begun,
+            segment,
+            part,
+        } = whole;
+        let job = begun.job;
+        let Ok(SegmentPart { found, of: _ }) = part else {
+            return Err(begun);
+        };
+        let part = match found {
+            Merged::Part(part) => part,
+            Merged::Caught(instead) => {
+                let answer = self.jobs.answer_instead(job, instead);
+                keep_answer(&self.places, gate, job, answer);
+                drop_source(&self.places, job, segment);
+                return Err(begun);
+            }
+        };
+        let Some(given) = kept_given(&self.places, job) else {
+            return Err(begun);
+        };
+        if segment < self.jobs.last_segment(job) {
+            drop_source(&self.places, job, segment);
+            if let Ok(source) = self.jobs.next_source(self.alloc, job, segment, part, given) {
+                keep_source(&self.places, job, segment + 1, source);
+            }
+            let Some(size) = size_of(self, job, segment + 1) else {
+                return Err(begun);
+            };
+            return Ok(self.begin(gate, begun, segment + 1, size, spawn, busy));
+        }
+        if let Ok(answer) = last_answer(self, job, segment, part, given, &mut busy.scratch) {
+            keep_answer(&self.places, gate, job, answer);
+        }
+        drop_source(&self.places, job, segment);
+        Err(begun)
+    }
+
+    /// Ends one segment after the other, while this worker has the last part of one. Each is a later one of the same job. `Some` if the
+    /// job is over.
+    fn go_on<G: Gate, P: Spawn<TableTask<S, R>>>(
+        &self,
+        gate: &G,
+        first: Option<TableWhole<S, R>>,
+        spawn: &mut P,
+        busy: &mut TableBusy<'_, S, R>,
+    ) -> Option<TableJobSeat<S, R>>
+        requires { IfSome first (λ whole. StandsWhole S.stands_for S.is_instead S.size_of whole.job.job whole.segment (λ x. x.found) whole.part) }
+    {
+        let mut left = first;
+        for _ in 0..u64::MAX {
+            match self.end_segment(gate, left.take()?, spawn, busy) {
+                Ok(later) => left = later,
+                Err(over) => return Some(over),
+            }
+        }
+        None
+    }
+}
+
+impl<'a, S: JobSegments, R: Running> JobWork<'a, S, TablePart<S>, TableKept<S>, R> {
+    /// Arrives at the start node of a job that waits, with its part of the credit. `Some` if that job may begin.
+    fn free_one(
+        &self,
+        seat: TableSeat<S>,
+        waiting: Waiting,
+        parts: u64,
+    ) -> (TableSeat<S>, Option<TableJobSeat<S, R>>)
+        requires has { HasKept R.table R.jobs R.start R.keeps (waiting.node ∷ []) seat }
+        requires parts { 0 < parts }
+        ensures { (left : List ℕ) → HasKept R.table R.jobs R.start R.keeps (waiting.node ∷ left) seat → HasKept R.table R.jobs R.start R.keeps left result.0 }
+    {
+        let share = seat.credit() / parts;
+        if waiting.job >= self.starts.len() || self.start(waiting.job).node != waiting.node {
+            return (seat, None);
+        }
+        let (seat, part) = self.counts.split(seat, waiting.node, 1, share);
+        (seat, self.arrive_at(part, waiting.job))
+    }
+
+    /// The same for the one at this position of those that wait.
+    fn free_next(
+        &self,
+        seat: TableSeat<S>,
+        waiting: &[Waiting],
+        at: usize,
+    ) -> (TableSeat<S>, Option<TableJobSeat<S, R>>)
+        requires at { at < length waiting.now }
+        requires has { HasKept R.table R.jobs R.start R.keeps (nodes_in (drop at waiting.now) ++ 0 ∷ []) seat }
+        ensures { HasKept R.table R.jobs R.start R.keeps (nodes_in (drop (at + 1) waiting.now) ++ 0 ∷ []) result.0 }
+    {
+        let Some(next) = waiting.get(at) else {
+            return (seat, None);
+        };
+        self.free_one(seat, *next, (waiting.len() - at) as u64)
+    }
+
+    /// Arrives for a job that is over at the start nodes of the jobs that wait for it, and settles it. Of those that may begin now one
+    /// comes back, and the others go to the pool.
+    #[cycle(over)]
+    #[tactic(auto, using(crate::proofs::SeatLemmas::begin_waiting, crate::proofs::SeatLemmas::ends_kept))]
+    fn end_job<G: Gate, P: Spawn<TableTask<S, R>>>(
+        &self,
+        gate: &G,
+        over: TableJobSeat<S, R>,
+        spawn: &mut P,
+        busy: &mut TableBusy<'_, S, R>,
+        depth: usize,
+    ) -> Option<TableJobSeat<S, R>> {
+        let JobSeat { seat, job, of: _ } = over;
+        let waiting = self.waiting_for(job);
+        let mut seat = seat;
+        let mut next = None;
+        for at in 0..waiting.len() {
+            let (rest, freed) = self.free_next(seat, waiting, at);
+            seat = rest;
+            if let Some(freed) = freed {
+                if let Some(other) = next.replace(freed) {
+                    self.hand_over(gate, other, spawn, busy, depth);
+                }
+            }
+        }
+        let _ = self.counts.settle(seat);
+        next
+    }
+
+    /// Gives a job that may begin to the pool. If the pool has no room it is run here; `depth` is how many more jobs may be.
+    #[cycle(over)]
+    fn hand_over<G: Gate, P: Spawn<TableTask<S, R>>>(
+        &self,
+        gate: &G,
+        begun: TableJobSeat<S, R>,
+        spawn: &mut P,
+        busy: &mut TableBusy<'_, S, R>,
+        depth: usize,
+    ) {
+        if let Err(Task::Begin(begun)) = spawn.push(Task::Begin(begun)) {
+            if let Some(depth) = depth.checked_sub(1) {
+                let over = self.run_job(gate, begun, spawn, busy);
+                self.finish(gate, over, spawn, busy, depth);
+            }
+        }
+    }
+
+    /// Ends a job that is over, and runs the jobs that may begin then.
+    #[cycle(over)]
+    fn finish<G: Gate, P: Spawn<TableTask<S, R>>>(
+        &self,
+        gate: &G,
+        over: Option<TableJobSeat<S, R>>,
+        spawn: &mut P,
+        busy: &mut TableBusy<'_, S, R>,
+        depth: usize,
+    ) {
+        let mut left = over;
+        for _ in 0..u64::MAX {
+            let Some(over) = left.take() else {
+                break;
+            };
+            let Some(next) = self.end_job(gate, over, spawn, busy, depth) else {
+                break;
+            };
+            left = self.run_job(gate, next, spawn, busy);
+        }
+    }
+
+    /// Runs a task, and what comes after it on this worker.
+    pub(crate) fn take<G: Gate, P: Spawn<TableTask<S, R>>>(
+        &self,
+        gate: &G,
+        task: TableTask<S, R>,
+        spawn: &mut P,
+        busy: &mut TableBusy<'_, S, R>,
+    ) {
+        let over = match task {
+            Task::Begin(begun) => self.run_job(gate, begun, spawn, busy),
+            Task::Walk(side) => {
+                let whole = self.walk(gate, side, spawn, busy);
+                self.go_on(gate, whole, spawn, busy)
+            }
+        };
+        self.finish(gate, over, spawn, busy, self.starts.len());
+    }
+}

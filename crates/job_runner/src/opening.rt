@@ -1,0 +1,189 @@
+//! The openings of the jobs, and the seats of the workers.
+ghost use Rattle.std.specs.Prelude.{◌≡◌, ◌<◌, ◌≤◌, ◌-◌, ℕ, length, IfOk, IfSome};
+ghost use Rattle.completer_tree.specs.Trees.{table_id_of};
+ghost use Rattle.early_stop.specs.Seats.{table_of as stop_table_of};
+ghost use Rattle.job_runner.specs.Stops.{stop_id_of};
+ghost use Rattle.job_runner.specs.Tasks.{CanArrive};
+
+use crate::NoMemory;
+use crate::credit::split_spare;
+use crate::cut::{TableCounts, TableKept, TablePart, TableSeat};
+use crate::segments::JobSegments;
+use crate::stopping::RunStops;
+use crate::task::{
+    Idle, JobSeat, Purse, Running, TableIdle, TableJobSeat, TablePurse, TableSpare, TableTask, Task,
+};
+use crate::work::{JobWork, TableWork};
+use completer_tree::Tree;
+use completion_core::END;
+use early_stop::CutSeat;
+use std::alloc::Global;
+use std::marker::PhantomData;
+
+impl<'a, S: JobSegments, R: Running> JobWork<'a, S, TablePart<S>, TableKept<S>, R> {
+    /// Arrives at the start node of a job, along the path of that node alone: the next one on the way is arrived at once the job has
+    /// left its answer. If it is the last arrival, the job may begin.
+    pub(crate) fn arrive_at(&self, seat: TableSeat<S>, job: usize) -> Option<TableJobSeat<S, R>>
+        requires job { job < R.jobs }
+        requires can { CanArrive R.table R.jobs R.start R.keeps job seat }
+    {
+        let path = [self.start(job).node];
+        let tree = Tree::new(&self.counts, &[]);
+        let (seat, finished) = tree.propagate_completion(seat, &path);
+        if finished == 0 {
+            return None;
+        }
+        let begun = JobSeat {
+            seat,
+            job,
+            of: PhantomData,
+        };
+        Some(begun)
+    }
+
+    /// Opens the last job that isn't opened. `Some` if the job names no other one, so that it may begin.
+    fn open_one(&self, purse: TablePurse<S, R>) -> (TablePurse<S, R>, Option<TableJobSeat<S, R>>)
+        requires some_left { 0 < purse.jobs }
+        ensures { result.0.jobs ≡ purse.jobs - 1 }
+    {
+        let Purse { seat, jobs, of } = purse;
+        let share = seat.credit() / jobs as u64;
+        let job = jobs - 1;
+        let (seat, part) = self.counts.split(seat, self.start(job).node, 1, share);
+        let rest = Purse {
+            seat,
+            jobs: job,
+            of,
+        };
+        (rest, self.arrive_at(part, job))
+    }
+
+    /// Tasks for the jobs that name no other one, the last job first, and an `Idle` with an equal part of the credit for each worker.
+    pub(crate) fn open_all(
+        &self,
+        purse: TablePurse<S, R>,
+        spare: TableSpare<S, R>,
+        stop_seat: CutSeat,
+        workers: u64,
+    ) -> Result<(Vec<TableTask<S, R>>, Vec<TableIdle<S, R>>), NoMemory>
+        requires stops { stop_table_of stop_seat ≡ R.stops }
+        ensures tasks { IfOk result (λ made. length made.0.items ≤ purse.jobs) }
+        ensures idles { IfOk result (λ made. length made.1.items ≡ workers) }
+    {
+        let mut tasks = Vec::new(self.alloc);
+        let unopened = purse.jobs;
+        let mut left = Some(purse);
+        for _opened in 0..unopened {
+            let Some(purse) = left.take() else {
+                break;
+            };
+            if purse.jobs == 0 {
+                left = Some(purse);
+                break;
+            }
+            let (rest, begun) = self.open_one(purse);
+            left = Some(rest);
+            if let Some(begun) = begun {
+                tasks.push(Task::Begin(begun))?;
+            }
+        }
+        let Some(purse) = left else { unreachable!() };
+        let first = empty(self.alloc, self.jobs, purse, spare, stop_seat);
+        let idles = idle_seats(
+            self.alloc,
+            self.jobs,
+            &self.counts,
+            &self.stops,
+            first,
+            workers,
+        )?;
+        Ok((tasks, idles))
+    }
+}
+
+/// What is left of a purse whose jobs are opened, and the credit of all workers.
+fn empty<S: JobSegments, R: Running>(
+    alloc: Global,
+    jobs: &S,
+    purse: TablePurse<S, R>,
+    spare: TableSpare<S, R>,
+    stop_seat: CutSeat,
+) -> TableIdle<S, R>
+    requires stops { stop_table_of stop_seat ≡ R.stops }
+{
+    let Purse { seat, jobs: _, of } = purse;
+    Idle {
+        seat,
+        spare: Some(spare),
+        stop_seat,
+        scratch: jobs.scratch(alloc),
+        of,
+    }
+}
+
+/// This many `Idle`s, split off the first one, each with an equal part of its credit.
+fn idle_seats<S: JobSegments, R: Running>(
+    alloc: Global,
+    jobs: &S,
+    counts: &TableCounts<S>,
+    stops: &RunStops<S>,
+    first: TableIdle<S, R>,
+    workers: u64,
+) -> Result<Vec<TableIdle<S, R>>, NoMemory>
+    requires table { table_id_of counts.now ≡ R.table }
+    requires stops { stop_id_of stops.now ≡ R.stops }
+    ensures { IfOk result (λ idles. length idles.items ≡ workers) }
+{
+    let mut idles = Vec::new(alloc);
+    let mut left = Some(first);
+    for made in 0..workers {
+        let Some(from) = left.take() else {
+            break;
+        };
+        let (rest, part) = idle_one(alloc, jobs, counts, stops, from, workers - made);
+        left = Some(rest);
+        idles.push(part)?;
+    }
+    Ok(idles)
+}
+
+/// One `Idle` with one of that many equal parts of the credit, and the one that it was split off from.
+fn idle_one<S: JobSegments, R: Running>(
+    alloc: Global,
+    jobs: &S,
+    counts: &TableCounts<S>,
+    stops: &RunStops<S>,
+    from: TableIdle<S, R>,
+    parts: u64,
+) -> (TableIdle<S, R>, TableIdle<S, R>)
+    requires parts { 0 < parts }
+    requires table { table_id_of counts.now ≡ R.table }
+    requires stops { stop_id_of stops.now ≡ R.stops }
+{
+    let Idle {
+        seat,
+        spare,
+        stop_seat,
+        scratch,
+        of,
+    } = from;
+    let (seat, part) = counts.split(seat, END, 0, 0);
+    let (spare, spare_part) = split_spare(counts, spare, parts);
+    let (stop_seat, stop_part) = stops.split(stop_seat);
+    (
+        Idle {
+            seat,
+            spare,
+            stop_seat,
+            scratch,
+            of,
+        },
+        Idle {
+            seat: part,
+            spare: spare_part,
+            stop_seat: stop_part,
+            scratch: jobs.scratch(alloc),
+            of: PhantomData,
+        },
+    )
+}

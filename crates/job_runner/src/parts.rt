@@ -1,0 +1,110 @@
+//! The part of a piece: walked, or left out.
+ghost use Rattle.std.specs.Prelude.{◌≡◌, ◌<◌, ◌≤◌, ℕ, IfSome, IfOk};
+ghost use Rattle.early_stop.specs.Decisive.{Decides};
+ghost use Rattle.job_runner.specs.Cuts.{IsPiece};
+
+use crate::NoMemory;
+use crate::busy::TableBusy;
+use crate::earlier::Earlier;
+use crate::piece::{Piece, SegmentInput};
+use crate::places::{hold_source, kept_given, source_in};
+use crate::segments::JobSegments;
+use crate::task::Running;
+use crate::work::TableWork;
+use worker_pool::Gate;
+
+/// How many positions the source of a segment has, if it is there, and what the job takes of earlier answers.
+pub(crate) fn size_of<S: JobSegments, R: Running>(
+    work: &TableWork<S, R>,
+    job: usize,
+    segment: usize,
+) -> Option<u64>
+    requires known { (job < S.job_count) × (segment ≤ S.last_of job) }
+    ensures { IfSome result (λ size. size ≡ S.size_of job segment) }
+{
+    let given = kept_given(&work.places, job)?;
+    if segment == 0 {
+        return Some(work.jobs.size(job, 0, &work.jobs.first_source(job), given));
+    }
+    let held = hold_source(&work.places, job, segment)?;
+    let source = source_in(&held, job, segment)?;
+    Some(work.jobs.size(job, segment, source, given))
+}
+
+/// Walks a piece with what the job takes of earlier answers.
+fn walked<S: JobSegments, R: Running>(
+    work: &TableWork<S, R>,
+    piece: Piece,
+    busy: &mut TableBusy<'_, S, R>,
+) -> Result<S::Part, NoMemory>
+    requires watched { (busy.old.watch.job ≡ piece.job) × (busy.old.watch.segment ≡ piece.segment) }
+    requires piece { IsPiece S.job_count S.last_of S.size_of piece.job piece.segment piece.from piece.to }
+    ensures { IfOk result (λ part. S.stands_for piece.job piece.segment piece.from piece.to part) }
+{
+    let Some(given) = kept_given(&work.places, piece.job) else {
+        return Err(NoMemory);
+    };
+    let earlier = Earlier::in_places(&work.places);
+    let scratch = &mut busy.scratch;
+    let watch = &mut busy.watch;
+    if piece.segment == 0 {
+        let first = Piece {
+            segment: 0,
+            ..piece
+        };
+        let input = SegmentInput {
+            source: &work.jobs.first_source(piece.job),
+            given,
+            earlier: &earlier,
+        };
+        return work.jobs.leaf(work.alloc, first, input, scratch, watch);
+    }
+    let Some(held) = hold_source(&work.places, piece.job, piece.segment) else {
+        return Err(NoMemory);
+    };
+    let Some(source) = source_in(&held, piece.job, piece.segment) else {
+        return Err(NoMemory);
+    };
+    let input = SegmentInput {
+        source,
+        given,
+        earlier: &earlier,
+    };
+    work.jobs.leaf(work.alloc, piece, input, scratch, watch)
+}
+
+/// The part of a piece that isn't walked, since a place at or before its first position decides.
+fn left_out<S: JobSegments, R: Running>(
+    work: &TableWork<S, R>,
+    piece: Piece,
+) -> Result<S::Part, NoMemory>
+    requires piece { IsPiece S.job_count S.last_of S.size_of piece.job piece.segment piece.from piece.to }
+    requires decided { (c : ℕ) × (c ≤ piece.from) × Decides (S.gives piece.job piece.segment) (S.goes_over piece.job piece.segment) c }
+    ensures { IfOk result (λ part. S.stands_for piece.job piece.segment piece.from piece.to part) }
+{
+    match kept_given(&work.places, piece.job) {
+        Some(given) => Ok(work.jobs.left_out(work.alloc, piece, given)),
+        None => Err(NoMemory),
+    }
+}
+
+/// Enters the gate and walks a piece, unless a place at or before its first position decides what the segment gives: then the gate isn't
+/// entered. If the segment's source isn't there, or what the job takes of earlier answers, it is as if an allocation had failed: the
+/// part is missing.
+pub(crate) fn part_of<S: JobSegments, R: Running, G: Gate>(
+    work: &TableWork<S, R>,
+    gate: &G,
+    piece: Piece,
+    busy: &mut TableBusy<'_, S, R>,
+) -> Result<S::Part, NoMemory>
+    requires piece { IsPiece S.job_count S.last_of S.size_of piece.job piece.segment piece.from piece.to }
+    ensures { IfOk result (λ part. S.stands_for piece.job piece.segment piece.from piece.to part) }
+{
+    busy.watch.aim(piece.job, piece.segment);
+    let seen = busy.watch.seen();
+    if seen <= piece.from && seen != u64::MAX {
+        return left_out(work, piece);
+    }
+    gate.at_leaf(piece.job, piece.from, piece.to);
+    walked(work, piece, busy)
+}

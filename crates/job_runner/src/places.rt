@@ -1,0 +1,270 @@
+//! The places in which tasks leave sources and answers for others.
+ghost use Rattle.std.specs.Prelude.{◌≡◌, ◌+◌, ◌-◌, ◌^◌, ◌<◌, ◌≤◌, ℕ, length, IfOk, IfSome};
+ghost use Rattle.job_runner.specs.Stops.{first_word, pair_at};
+
+use crate::NoMemory;
+use crate::segments::JobSegments;
+use std::alloc::Global;
+use std::marker::PhantomData;
+use std::sync::{OnceLock, RwLock, RwLockReadGuard};
+use worker_pool::Gate;
+
+/// What a segment goes over, with the numbers of its job and of the segment.
+#[derive(Drop)]
+pub struct KeptSource<S: JobSegments> {
+    pub(crate) job: usize,
+    pub(crate) segment: usize,
+    pub(crate) source: S::Source,
+    pub(crate) of: PhantomData<S>,
+    ghost is: { S.is_source job segment source } by { S.one_source job segment source },
+}
+
+/// The place of a segment's source, while it is read.
+pub(crate) type HeldSource<'w, S> = RwLockReadGuard<'w, Option<KeptSource<S>>>;
+
+/// What a job takes of the answers that it names, with the number of the job.
+#[derive(Drop)]
+pub struct KeptGiven<S: JobSegments> {
+    pub(crate) job: usize,
+    pub(crate) given: S::Given,
+    pub(crate) of: PhantomData<S>,
+    ghost is: { S.is_given job given } by { S.one_given job given },
+}
+
+/// A job's answer, with the number of the job.
+#[derive(Drop)]
+pub struct KeptAnswer<S: JobSegments> {
+    pub(crate) job: usize,
+    pub(crate) answer: S::Answer,
+    pub(crate) of: PhantomData<S>,
+    ghost is: { S.is_answer job answer } by { S.one_answer job answer },
+}
+
+/// The places of one job: for what it takes of earlier answers, for the source of each segment but the first, and for the answer.
+/// `first` is the number of its first segment among all segments of the run. A source lies in its place until its segment has ended.
+#[derive(Drop)]
+pub struct JobPlaces<S: JobSegments> {
+    pub(crate) job: usize,
+    pub(crate) first: u64,
+    pub(crate) given: OnceLock<KeptGiven<S>>,
+    pub(crate) sources: Vec<RwLock<Option<KeptSource<S>>>>,
+    pub(crate) answer: OnceLock<KeptAnswer<S>>,
+    ghost first_is: { first < 2 ^ 64 - 1 → first ≡ first_word S.last_of job },
+}
+
+/// The empty places of a job whose last segment has this number.
+fn places_of_job<S: JobSegments>(
+    alloc: Global,
+    job: usize,
+    last: usize,
+    first: u64,
+) -> Result<JobPlaces<S>, NoMemory>
+    requires { first < 2 ^ 64 - 1 → first ≡ first_word S.last_of job }
+    ensures { IfOk result (λ places. length places.sources.items ≡ last) }
+{
+    let mut sources = Vec::new(alloc);
+    for _segment in 0..last {
+        sources.push(RwLock::new(None))?;
+    }
+    Ok(JobPlaces {
+        job,
+        first,
+        given: OnceLock::new(),
+        sources,
+        answer: OnceLock::new(),
+    })
+}
+
+/// The number of the first segment of the next job, if it is small enough; else the greatest u64.
+fn first_of_next<S: JobSegments>(job: usize, last: usize, first: u64) -> u64
+    requires last { last ≡ S.last_of job }
+    requires first { first < 2 ^ 64 - 1 → first ≡ first_word S.last_of job }
+    ensures { result < 2 ^ 64 - 1 → result ≡ first_word S.last_of (job + 1) }
+{
+    first.saturating_add(last as u64).saturating_add(1)
+}
+
+/// The number of a segment among all segments of the run, if it is known; else the greatest u32.
+pub(crate) fn word_of<S: JobSegments>(places: &[JobPlaces<S>], job: usize, segment: usize) -> u32
+    requires job { job < S.job_count }
+    requires segment { segment ≤ S.last_of job }
+    ensures { result < 2 ^ 32 - 1 → pair_at S.last_of S.job_count result ≡ (job, segment) }
+{
+    match places.get(job) {
+        Some(of_job) if of_job.job == job => word_after(of_job.first, segment),
+        _ => u32::MAX,
+    }
+}
+
+/// This number of words after the first one, if there may be such a word; else the greatest u32.
+fn word_after(first: u64, segment: usize) -> u32
+    ensures { result < 2 ^ 32 - 1 → (result ≡ first + segment) × (first < 2 ^ 64 - 1) }
+{
+    let word = first.saturating_add(segment as u64);
+    if word < u64::from(u32::MAX) {
+        word as u32
+    } else {
+        u32::MAX
+    }
+}
+
+/// The empty places of all jobs.
+pub(crate) fn empty_places<S: JobSegments>(
+    alloc: Global,
+    jobs: &S,
+) -> Result<Vec<JobPlaces<S>>, NoMemory>
+    ensures { IfOk result (λ places. length places.items ≡ S.job_count) }
+{
+    let mut places = Vec::new(alloc);
+    let mut first = 0;
+    for job in 0..jobs.jobs() {
+        let last = jobs.last_segment(job);
+        places.push(places_of_job(alloc, job, last, first)?)?;
+        first = first_of_next::<S>(job, last, first);
+    }
+    Ok(places)
+}
+
+/// The place for the source of a segment. The first segment has none.
+fn source_place<S: JobSegments>(
+    places: &[JobPlaces<S>],
+    job: usize,
+    segment: usize,
+) -> Option<&RwLock<Option<KeptSource<S>>>> {
+    let before = segment.checked_sub(1)?;
+    places.get(job)?.sources.get(before)
+}
+
+/// Leaves the source of a segment in its place. If it has none, or a reader holds the place, the source is dropped.
+pub(crate) fn keep_source<S: JobSegments>(
+    places: &[JobPlaces<S>],
+    job: usize,
+    segment: usize,
+    source: S::Source,
+)
+    requires { S.is_source job segment source }
+{
+    let Some(place) = source_place(places, job, segment) else {
+        return;
+    };
+    if let Some(mut held) = place.try_write() {
+        *held = Some(KeptSource {
+            job,
+            segment,
+            source,
+            of: PhantomData,
+        });
+    }
+}
+
+/// Empties the place of a segment that has ended, and frees what lay there. If a reader holds the place, the source stays until the run
+/// ends.
+pub(crate) fn drop_source<S: JobSegments>(places: &[JobPlaces<S>], job: usize, segment: usize) {
+    let Some(place) = source_place(places, job, segment) else {
+        return;
+    };
+    if let Some(mut held) = place.try_write() {
+        *held = None;
+    }
+}
+
+/// Holds the place of a segment, so that nobody empties it. It doesn't wait.
+pub(crate) fn hold_source<S: JobSegments>(
+    places: &[JobPlaces<S>],
+    job: usize,
+    segment: usize,
+) -> Option<HeldSource<'_, S>> {
+    source_place(places, job, segment)?.try_read()
+}
+
+/// The source of a segment, if it lies in the place that is held.
+pub(crate) fn source_in<S: JobSegments>(
+    held: &Option<KeptSource<S>>,
+    job: usize,
+    segment: usize,
+) -> Option<&S::Source>
+    ensures { IfSome result (λ source. S.is_source job segment source.now) }
+{
+    let kept = held.as_ref()?;
+    if kept.job == job && kept.segment == segment {
+        Some(&kept.source)
+    } else {
+        None
+    }
+}
+
+/// Leaves what a job takes of earlier answers in its place.
+pub(crate) fn keep_given<S: JobSegments>(places: &[JobPlaces<S>], job: usize, given: S::Given)
+    requires { S.is_given job given }
+{
+    if let Some(of_job) = places.get(job) {
+        let _ = of_job.given.try_set(KeptGiven {
+            job,
+            given,
+            of: PhantomData,
+        });
+    }
+}
+
+/// What a job takes of earlier answers, if it was left in its place.
+pub(crate) fn kept_given<S: JobSegments>(places: &[JobPlaces<S>], job: usize) -> Option<&S::Given>
+    ensures { IfSome result (λ given. S.is_given job given.now) }
+{
+    let kept = places.get(job)?.given.get()?;
+    if kept.job == job {
+        Some(&kept.given)
+    } else {
+        None
+    }
+}
+
+/// Leaves the answer of a job in its place, and calls the gate.
+pub(crate) fn keep_answer<S: JobSegments, G: Gate>(
+    places: &[JobPlaces<S>],
+    gate: &G,
+    job: usize,
+    answer: S::Answer,
+)
+    requires { S.is_answer job answer }
+{
+    if let Some(of_job) = places.get(job) {
+        let _ = of_job.answer.try_set(KeptAnswer {
+            job,
+            answer,
+            of: PhantomData,
+        });
+    }
+    gate.at_answer(job);
+}
+
+/// The answer of a job, if it was left in its place.
+pub(crate) fn kept_answer<S: JobSegments>(places: &[JobPlaces<S>], job: usize) -> Option<&S::Answer>
+    ensures { IfSome result (λ answer. S.is_answer job answer.now) }
+{
+    let kept = places.get(job)?.answer.get()?;
+    if kept.job == job {
+        Some(&kept.answer)
+    } else {
+        None
+    }
+}
+
+/// Takes the answer of a job out of its places, if it was left there.
+pub(crate) fn answer_in<S: JobSegments>(places: JobPlaces<S>, job: usize) -> Option<S::Answer>
+    ensures { IfSome result (λ answer. S.is_answer job answer) }
+{
+    let JobPlaces {
+        job: _,
+        first: _,
+        given: _,
+        sources: _,
+        answer,
+    } = places;
+    let kept = answer.into_inner()?;
+    let KeptAnswer {
+        job: kept_job,
+        answer,
+        of: _,
+    } = kept;
+    if kept_job == job { Some(answer) } else { None }
+}

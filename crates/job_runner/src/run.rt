@@ -1,0 +1,154 @@
+//! Running all jobs.
+ghost use Rattle.std.specs.Prelude.{◌≡◌, ◌-◌, ◌<◌, ◌≤◌, ℕ, IfOk, length};
+ghost use Rattle.completer_tree.specs.Trees.{table_id_of};
+ghost use Rattle.job_runner.specs.Answers.{AreAnswers};
+ghost use Rattle.job_runner.specs.Starts.{kept_at, node_at};
+ghost use Rattle.job_runner.specs.Stops.{stop_id_of};
+
+use crate::NoMemory;
+use crate::alone::answer_alone;
+use crate::earlier::Earlier;
+use crate::places::{JobPlaces, answer_in, empty_places};
+use crate::segments::JobSegments;
+use crate::task::{Running, TableIdle, TableTask};
+use crate::work::{JobWork, TableOpened, TableWork};
+use run_settings::Settings;
+use std::alloc::Global;
+use std::marker::Brand;
+use std::sync::Wait;
+use std::thread::Threads;
+use worker_pool::{Gate, run_pool};
+
+/// The answer that lies in the job's place. If there is none, it is worked out, from those of the jobs before it.
+fn read_answer<S: JobSegments, G: Gate>(
+    alloc: Global,
+    gate: &G,
+    jobs: &S,
+    job: usize,
+    places: Option<JobPlaces<S>>,
+    earlier: &Earlier<'_, S>,
+) -> Result<S::Answer, NoMemory>
+    requires job { job < S.job_count }
+    ensures { IfOk result (λ answer. S.is_answer job answer) }
+{
+    if let Some(places) = places {
+        if let Some(answer) = answer_in(places, job) {
+            return Ok(answer);
+        }
+    }
+    answer_alone(alloc, gate, jobs, job, earlier)
+}
+
+/// The answers of all jobs, in their order.
+#[tactic(auto, using(crate::proofs::AnswerLemmas::more_answers))]
+fn read_answers<S: JobSegments, G: Gate>(
+    alloc: Global,
+    gate: &G,
+    jobs: &S,
+    places: Vec<JobPlaces<S>>,
+) -> Result<Vec<S::Answer>, NoMemory>
+    ensures count { IfOk result (λ answers. length answers.items ≡ S.job_count) }
+    ensures each { IfOk result (λ answers. AreAnswers S.is_answer 0 answers.items) }
+{
+    let mut answers = Vec::new(alloc);
+    let mut places = places.into_iter();
+    for job in 0..jobs.jobs() {
+        let earlier = Earlier::listed(&answers);
+        let answer = read_answer(alloc, gate, jobs, job, places.next(), &earlier)?;
+        answers.push(answer)?;
+    }
+    Ok(answers)
+}
+
+/// Has workers run the tasks, if there are workers.
+fn run_tasks<
+    S: JobSegments + Send + Sync,
+    R: Running + Send + Sync,
+    H: Threads + Wait + Sync,
+    G: Gate + Sync,
+>(
+    rt: &H,
+    alloc: Global,
+    gate: &G,
+    work: &TableWork<'_, S, R>,
+    tasks: Vec<TableTask<S, R>>,
+    idles: Vec<TableIdle<S, R>>,
+)
+where
+    S::Part: Send,
+    S::Source: Send + Sync,
+    S::Answer: Send + Sync,
+    S::Given: Send + Sync,
+    S::Instead: Send,
+    S::Scratch: Send,
+{
+    if !idles.is_empty() {
+        run_pool(rt, alloc, gate, work, tasks, idles);
+    }
+}
+
+/// The places of jobs that were run.
+fn places_of<S: JobSegments, R: Running>(work: TableWork<'_, S, R>) -> Vec<JobPlaces<S>> {
+    let JobWork { places, .. } = work;
+    places
+}
+
+/// Runs the jobs over one table of counts, and gives back their places.
+fn run_on<
+    S: JobSegments + Send + Sync,
+    R: Running + Send + Sync,
+    H: Threads + Wait + Sync,
+    G: Gate + Sync,
+>(
+    rt: &H,
+    alloc: Global,
+    gate: &G,
+    jobs: &S,
+    settings: Settings,
+    opened: TableOpened<S>,
+) -> Result<Vec<JobPlaces<S>>, NoMemory>
+where
+    S::Part: Send,
+    S::Source: Send + Sync,
+    S::Answer: Send + Sync,
+    S::Given: Send + Sync,
+    S::Instead: Send,
+    S::Scratch: Send,
+    requires count { length opened.starts.items ≡ S.job_count }
+    requires started { (j : ℕ) → (R.start j ≡ node_at opened.starts.items (R.jobs - 1 - j)) × (R.keeps j ≡ kept_at opened.starts.items (R.jobs - 1 - j)) }
+    requires table { table_id_of opened.counts ≡ R.table }
+    requires stops { stop_id_of opened.stops ≡ R.stops }
+    requires planned { (R.jobs ≡ S.job_count) × ((j : ℕ) → R.last j ≡ S.last_of j) × ((j k : ℕ) → R.size j k ≡ S.size_of j k) }
+{
+    let (work, tasks, idles) = TableWork::<S, R>::new(alloc, jobs, settings, opened)?;
+    run_tasks(rt, alloc, gate, &work, tasks, idles);
+    Ok(places_of(work))
+}
+
+/// The answers of all jobs, in their order, worked out by as many workers as the settings say.
+///
+/// Each piece that is walked enters the gate first. An answer that no task left is worked out here, in the jobs' order, which enters the
+/// gate once, for all of the job's source. `NoMemory` says that a job couldn't be worked out here either.
+pub fn run_all<S: JobSegments + Send + Sync, H: Threads + Wait + Sync, G: Gate + Sync>(
+    rt: &H,
+    alloc: Global,
+    jobs: &S,
+    settings: Settings,
+    gate: &G,
+) -> Result<Vec<S::Answer>, NoMemory>
+where
+    S::Part: Send,
+    S::Source: Send + Sync,
+    S::Answer: Send + Sync,
+    S::Given: Send + Sync,
+    S::Instead: Send,
+    S::Scratch: Send,
+    ensures count { IfOk result (λ answers. length answers.items ≡ S.job_count) }
+    ensures each { IfOk result (λ answers. AreAnswers S.is_answer 0 answers.items) }
+{
+    let places = match TableOpened::<S>::new(alloc, jobs, settings)? {
+        Some(opened) => run_on::<S, Brand, H, G>(rt, alloc, gate, jobs, settings, opened)?,
+        None => Vec::new(alloc),
+    };
+    read_answers(alloc, gate, jobs, places)
+}

@@ -1,0 +1,23 @@
+//! The start nodes of the jobs.
+ghost use Rattle.std.specs.Prelude.{◌≡◌, ◌++◌, ◌∷◌, []};
+ghost use Rattle.job_runner.specs.Waits.{nodes_in};
+
+use pending_count::Node;
+
+/// A job that waits for another one, and its start node.
+#[derive(Clone, Copy)]
+pub struct Waiting {
+    pub(crate) job: usize,
+    pub(crate) node: Node,
+}
+
+/// The start node of a job. It owes an arrival for each job that its job names, and one more.
+#[derive(Drop)]
+pub struct Start {
+    pub(crate) node: Node,
+    /// What it keeps: an arrival at the start node of each job that waits for its job, and one at END.
+    pub(crate) onward: Vec<Node>,
+    /// The jobs that wait for its job, in the same order.
+    pub(crate) waiting: Vec<Waiting>,
+    ghost same: { onward.items ≡ nodes_in waiting.items ++ 0 ∷ [] },
+}

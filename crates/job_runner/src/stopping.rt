@@ -1,0 +1,30 @@
+//! The words of early stop of a run.
+ghost use Rattle.job_runner.specs.Stops.{pair_at};
+
+use crate::segments::JobSegments;
+use early_stop::Cut as StopWords;
+use std::marker::PhantomData;
+
+/// The segments of all jobs of a run, one after the other.
+#[derive(Drop)]
+pub struct RunSegments<S> {
+    pub(crate) count: u32,
+    pub(crate) of: PhantomData<S>,
+}
+
+impl<S: JobSegments> early_stop::Segments for RunSegments<S> {
+    type Outcome = S::Outcome;
+
+    ghost count = { λ z. z.count };
+
+    ghost source = { λ _ i. S.goes_over (pair_at S.last_of S.job_count i).0 (pair_at S.last_of S.job_count i).1 };
+
+    ghost outcome = { λ _ i. S.gives (pair_at S.last_of S.job_count i).0 (pair_at S.last_of S.job_count i).1 };
+
+    fn segments(&self) -> u32 {
+        self.count
+    }
+}
+
+/// The words of a run, one for each segment.
+pub type RunStops<S> = StopWords<RunSegments<S>>;

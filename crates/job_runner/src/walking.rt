@@ -1,0 +1,234 @@
+//! Pieces: cut in two while they are long, and walked.
+ghost use Rattle.std.specs.Prelude.{◌≡◌, ◌<◌, ◌≤◌, ℕ, Some, IfOk, IfSome};
+ghost use Rattle.trace.specs.declared.item.Fault.{Fault};
+ghost use Rattle.completer_tree.specs.Trees.{CanHand};
+ghost use Rattle.pending_count.specs.Seats.{view_of};
+ghost use Rattle.job_runner.specs.Cuts.{HandedIn, IfMerged, IsPiece, StandsWhole, begins, ends_at};
+ghost use Rattle.job_runner.specs.Tasks.{KnowsStarts, KnowsTop};
+
+use crate::NoMemory;
+use crate::busy::TableBusy;
+use crate::cut::{CutPiece, Join, SegmentPart, TableKept, TablePart, is_left, side_at};
+use crate::parts::part_of;
+use crate::piece::Piece;
+use crate::places::kept_given;
+use crate::segments::JobSegments;
+use crate::task::{
+    JobSeat, Running, SideTask, TableJobSeat, TableSideTask, TableTask, TableWhole, Task, Whole,
+};
+use crate::watch::Watch;
+use crate::work::{JobWork, TableWork};
+use completer_tree::{Failure, Forked, Half, Tree};
+use std::marker::PhantomData;
+use trace::Fault;
+use worker_pool::{Gate, Spawn};
+
+/// The fault that ends a piece, if the job gives an answer in its place.
+fn fault_of<S: JobSegments, R: Running>(
+    work: &TableWork<S, R>,
+    piece: Piece,
+    part: &S::Part,
+) -> Result<Option<Fault>, NoMemory>
+    requires piece { IsPiece S.job_count S.last_of S.size_of piece.job piece.segment piece.from piece.to }
+    requires part { S.stands_for piece.job piece.segment piece.from piece.to part.now }
+    ensures among { IfOk result (λ found. IfSome found (λ fault. S.faults_with piece.job piece.segment piece.from piece.to fault)) }
+    ensures caught { IfOk result (λ found. (fault : Fault) → S.is_caught piece.job piece.segment part.now fault → found ≡ Some fault) }
+{
+    match kept_given(&work.places, piece.job) {
+        Some(given) => Ok(work.jobs.fault(piece, given, part)),
+        None => Err(NoMemory),
+    }
+}
+
+/// What is handed in for a piece: its part, or the fault that ends it, if the job gives an answer in its place.
+fn handed<S: JobSegments, R: Running>(
+    work: &TableWork<S, R>,
+    piece: Piece,
+    walked: Result<S::Part, NoMemory>,
+) -> TablePart<S>
+    requires piece { IsPiece S.job_count S.last_of S.size_of piece.job piece.segment piece.from piece.to }
+    requires part { IfOk walked (λ part. S.stands_for piece.job piece.segment piece.from piece.to part) }
+    ensures handed { HandedIn S.stands_for S.faults_with (λ x. x.found) piece.job piece.segment piece.from piece.to result }
+    ensures caught { IfOk result (λ x. IfMerged (λ part. (fault : Fault) → S.is_caught piece.job piece.segment part fault → ⊥) (λ answer. ⊥) x.found) }
+{
+    let Ok(part) = walked else {
+        return Err(Failure::NoMemory);
+    };
+    match fault_of(work, piece, &part) {
+        Ok(Some(fault)) => Err(Failure::Fault(fault)),
+        Ok(None) => Ok(SegmentPart::of_part(part)),
+        Err(_refused) => Err(Failure::NoMemory),
+    }
+}
+
+/// Walks one side of a cut as one piece, and hands its part in.
+#[tactic(auto, using(crate::proofs::SameRun::as_planned))]
+fn leaf<S: JobSegments, R: Running, G: Gate>(
+    work: &TableWork<S, R>,
+    gate: &G,
+    half: Half<TablePart<S>, TableKept<S>>,
+    busy: &mut TableBusy<'_, S, R>,
+) -> Option<TableWhole<S, R>>
+    requires can { CanHand R.table half.place half.seat }
+    requires top { KnowsTop (R.keeps half.place.tag.job) half.place.root (view_of half.seat) }
+    requires knows { KnowsStarts R.jobs R.start R.keeps (view_of half.seat) }
+    requires piece { IsPiece R.jobs R.last R.size half.place.tag.job half.place.tag.segment (begins half.place.tag half.place.side) (ends_at half.place.tag half.place.side) }
+    ensures { IfSome result (λ whole. StandsWhole S.stands_for S.is_instead S.size_of whole.job.job whole.segment (λ x. x.found) whole.part) }
+{
+    let Half { seat, place } = half;
+    let cut = place.tag;
+    let piece = side_at(&place);
+    let walked = part_of(work, gate, piece, busy);
+    let value = handed(work, piece, walked);
+    let tree = Tree::new(&work.counts, &[]);
+    let watch = &mut busy.watch;
+    watch.aim(cut.job, cut.segment);
+    let (seat, found) = tree.try_complete_with(seat, Some(place), value, watch);
+    let part = found?;
+    let begun = JobSeat {
+        seat,
+        job: cut.job,
+        of: PhantomData,
+    };
+    Some(Whole {
+        job: begun,
+        segment: cut.segment,
+        part,
+    })
+}
+
+/// Whether a place at or before the first position of a piece is known to decide what the segment gives.
+fn is_left_out<S: JobSegments, R: Running>(watch: &mut Watch<'_, S, R>, piece: Piece) -> bool
+    requires known { (piece.job < S.job_count) × (piece.segment ≤ S.last_of piece.job) }
+{
+    watch.aim(piece.job, piece.segment);
+    watch.seen() <= piece.from
+}
+
+impl<'a, S: JobSegments, R: Running> JobWork<'a, S, TablePart<S>, TableKept<S>, R> {
+    /// Walks one side of a cut. While it has more positions than the threshold and a node can be claimed, it is cut in two, and the right
+    /// side goes to the pool. `Some` is the whole segment, if this was its last part.
+    #[cycle(walk)]
+    #[tactic(auto, using(crate::proofs::SameRun::as_planned))]
+    pub(crate) fn walk<G: Gate, P: Spawn<TableTask<S, R>>>(
+        &self,
+        gate: &G,
+        side: TableSideTask<S, R>,
+        spawn: &mut P,
+        busy: &mut TableBusy<'_, S, R>,
+    ) -> Option<TableWhole<S, R>>
+        ensures { IfSome result (λ whole. StandsWhole S.stands_for S.is_instead S.size_of whole.job.job whole.segment (λ x. x.found) whole.part) }
+    {
+        let SideTask { half, of: _ } = side;
+        let piece = side_at(&half.place);
+        if piece.to - piece.from <= self.threshold || is_left_out(&mut busy.watch, piece) {
+            return leaf(self, gate, half, busy);
+        }
+        let Half { seat, place } = half;
+        let run = Join {
+            cut: CutPiece::halves(piece),
+            parent: Some((place.tag, is_left(&place))),
+            instead: None,
+            of: PhantomData,
+        };
+        let tree = Tree::new(&self.counts, &[]);
+        match tree.fork(seat, Some(place), run) {
+            Forked::Whole(seat, _run) => leaf(self, gate, Half { seat, place }, busy),
+            Forked::Split(left, right) => {
+                let own = SideTask {
+                    half: left,
+                    of: PhantomData,
+                };
+                let other = SideTask {
+                    half: right,
+                    of: PhantomData,
+                };
+                let pushed = spawn.push(Task::Walk(other));
+                let first = self.walk(gate, own, spawn, busy);
+                let Err(Task::Walk(other)) = pushed else {
+                    return first;
+                };
+                let second = self.walk(gate, other, spawn, busy);
+                if first.is_some() { first } else { second }
+            }
+        }
+    }
+}
+
+/// Walks a segment as one piece.
+#[tactic(auto, using(crate::proofs::SameRun::as_planned))]
+fn walk_whole<S: JobSegments, R: Running, G: Gate>(
+    work: &TableWork<S, R>,
+    gate: &G,
+    job: TableJobSeat<S, R>,
+    segment: usize,
+    size: u64,
+    busy: &mut TableBusy<'_, S, R>,
+) -> TableWhole<S, R>
+    requires known { segment ≤ R.last job.job }
+    requires size { size ≡ R.size job.job segment }
+    ensures { StandsWhole S.stands_for S.is_instead S.size_of result.job.job result.segment (λ x. x.found) result.part }
+{
+    let all = Piece::all(job.job, segment, size);
+    let walked = part_of(work, gate, all, busy);
+    let part = match walked {
+        Ok(part) => Ok(SegmentPart::of_part(part)),
+        Err(_refused) => Err(Failure::NoMemory),
+    };
+    Whole { job, segment, part }
+}
+
+impl<'a, S: JobSegments, R: Running> JobWork<'a, S, TablePart<S>, TableKept<S>, R> {
+    /// Begins the tree of a segment, for which this worker pays. `Some` is the whole segment, if no part of it is left to others.
+    #[tactic(auto, using(crate::proofs::SeatLemmas::can_keep, crate::proofs::SameRun::as_planned))]
+    pub(crate) fn begin<G: Gate, P: Spawn<TableTask<S, R>>>(
+        &self,
+        gate: &G,
+        begun: TableJobSeat<S, R>,
+        segment: usize,
+        size: u64,
+        spawn: &mut P,
+        busy: &mut TableBusy<'_, S, R>,
+    ) -> Option<TableWhole<S, R>>
+        requires known { segment ≤ R.last begun.job }
+        requires size { size ≡ R.size begun.job segment }
+        ensures { IfSome result (λ whole. StandsWhole S.stands_for S.is_instead S.size_of whole.job.job whole.segment (λ x. x.found) whole.part) }
+    {
+        let job = begun.job;
+        if size <= self.threshold || !self.jobs.is_divided(job, segment) {
+            return Some(walk_whole(self, gate, begun, segment, size, busy));
+        }
+        let JobSeat { seat, job: _, of } = self.pay(begun, &mut busy.spare);
+        let all = Piece::all(job, segment, size);
+        let run = Join {
+            cut: CutPiece::halves(all),
+            parent: None,
+            instead: self.jobs.instead(job),
+            of: PhantomData,
+        };
+        let tree = Tree::new(&self.counts, &self.start(job).onward);
+        match tree.fork(seat, None, run) {
+            Forked::Whole(seat, _run) => {
+                let whole = JobSeat { seat, job, of };
+                Some(walk_whole(self, gate, whole, segment, size, busy))
+            }
+            Forked::Split(left, right) => {
+                let own = SideTask {
+                    half: left,
+                    of: PhantomData,
+                };
+                let other = SideTask {
+                    half: right,
+                    of: PhantomData,
+                };
+                let pushed = spawn.push(Task::Walk(other));
+                let first = self.walk(gate, own, spawn, busy);
+                let Err(Task::Walk(other)) = pushed else {
+                    return first;
+                };
+                let second = self.walk(gate, other, spawn, busy);
+                if first.is_some() { first } else { second }
+            }
+        }
+    }
+}

@@ -1,0 +1,294 @@
+//! The jobs of a run as work for a pool.
+ghost use Rattle.std.specs.Prelude.{◌≡◌, ◌-◌, ◌<◌, ◌≤◌, ◌++◌, ◌∷◌, ℕ, Some, [], length, IfSome, IfOk};
+ghost use Rattle.run_settings.specs.SettingsParts.{workers_of};
+ghost use Rattle.pending_count.specs.Seats.{actor_of, view_of, IsSeatOf};
+ghost use Rattle.completer_tree.specs.Trees.{table_id_of};
+ghost use Rattle.early_stop.specs.Seats.{IsSeatOf as IsStopSeatOf, table_of as stop_table_of, segments_of, count_of};
+ghost use Rattle.job_runner.specs.Stops.{stop_id_of};
+ghost use Rattle.job_runner.specs.Starts.{HasStarts, kept_at, node_at};
+ghost use Rattle.job_runner.specs.Waits.{nodes_in};
+
+use crate::NoMemory;
+use crate::arming::arm_all;
+use crate::busy::Busy;
+use crate::cut::{CutPiece, TableCounts, TableKept, TablePart};
+use crate::nodes::{most_positions, node_count, segment_count};
+use crate::places::{JobPlaces, empty_places, kept_answer};
+use crate::segments::JobSegments;
+use crate::start::{Start, Waiting};
+use crate::stopping::{RunSegments, RunStops};
+use crate::task::{Idle, Running, TableIdle, TablePurse, TableSpare, TableTask, Task};
+use crate::watch::Watch;
+use completion_core::END;
+use early_stop::CutSeat;
+use pending_count::{Counts, Fits, Seat};
+use run_settings::Settings;
+use std::alloc::Global;
+use std::marker::PhantomData;
+use std::sync::Wait;
+use worker_pool::{Gate, Spawn, Work};
+
+/// All jobs of a run, over one table of counts.
+#[derive(Drop)]
+pub struct JobWork<'a, S: JobSegments, V, K: Fits<V, Tag = CutPiece>, R: Running> {
+    pub(crate) alloc: Global,
+    pub(crate) counts: Counts<V, K>,
+    pub(crate) jobs: &'a S,
+    pub(crate) threshold: u64,
+    /// What a worker pays for each tree that it begins.
+    pub(crate) share: u64,
+    pub(crate) places: Vec<JobPlaces<S>>,
+    /// The start nodes of the jobs, the last job's first.
+    pub(crate) starts: Vec<Start>,
+    pub(crate) stops: RunStops<S>,
+    pub(crate) of: PhantomData<R>,
+    ghost table: { table_id_of counts ≡ R.table },
+    ghost planned: { (R.jobs ≡ S.job_count) × ((j : ℕ) → R.last j ≡ S.last_of j) × ((j k : ℕ) → R.size j k ≡ S.size_of j k) },
+    ghost count: { length starts.items ≡ R.jobs },
+    ghost started: { (j : ℕ) → (R.start j ≡ node_at starts.items (R.jobs - 1 - j)) × (R.keeps j ≡ kept_at starts.items (R.jobs - 1 - j)) },
+    ghost splits: { 0 < threshold },
+    ghost stopping: { stop_id_of stops ≡ R.stops },
+    ghost counted: { count_of stops ≡ (segments_of stops).count },
+}
+
+pub type TableWork<'a, S, R> = JobWork<'a, S, TablePart<S>, TableKept<S>, R>;
+
+/// The counts of a run that hasn't begun, the start nodes of its jobs, and the seat that has an arrival at each of them.
+#[derive(Drop)]
+pub struct Opened<S: JobSegments, V, K: Fits<V, Tag = CutPiece>> {
+    pub(crate) counts: Counts<V, K>,
+    pub(crate) seat: Seat<V, K>,
+    pub(crate) starts: Vec<Start>,
+    pub(crate) stops: RunStops<S>,
+    pub(crate) stop_seat: CutSeat,
+    ghost seated: { IsSeatOf counts seat },
+    ghost started: { HasStarts 0 starts.items [] (view_of seat) },
+    ghost stop_seated: { IsStopSeatOf stops stop_seat },
+    ghost counted: { count_of stops ≡ (segments_of stops).count },
+}
+
+pub type TableOpened<S> = Opened<S, TablePart<S>, TableKept<S>>;
+
+impl<S: JobSegments> Opened<S, TablePart<S>, TableKept<S>> {
+    /// Makes the counts of a run, and no more nodes than its jobs can use. `None` if there can't be a node for each job.
+    pub fn new(
+        alloc: Global,
+        jobs: &S,
+        settings: Settings,
+    ) -> Result<Option<TableOpened<S>>, NoMemory>
+        ensures { IfOk result (λ o. IfSome o (λ opened. length opened.starts.items ≡ S.job_count)) }
+    {
+        let nodes = node_count(jobs, settings);
+        let (stops, stop_seat) = stop_words(alloc, jobs)?;
+        let (counts, seat) = TableCounts::<S>::new(alloc, nodes, jobs.jobs() as u64)?;
+        let Some((seat, starts)) = arm_all(alloc, jobs, &counts, seat)? else {
+            return Ok(None);
+        };
+        Ok(Some(Opened {
+            counts,
+            seat,
+            starts,
+            stops,
+            stop_seat,
+        }))
+    }
+}
+
+/// The words of early stop of a run, one for each segment.
+fn stop_words<S: JobSegments>(alloc: Global, jobs: &S) -> Result<(RunStops<S>, CutSeat), NoMemory>
+    ensures { IfOk result (λ made. IsStopSeatOf made.0 made.1 × (count_of made.0 ≡ (segments_of made.0).count)) }
+{
+    let segments = RunSegments::<S> {
+        count: segment_count(jobs).min(u64::from(u32::MAX)) as u32,
+        of: PhantomData,
+    };
+    RunStops::<S>::new(alloc, &segments)
+}
+
+impl<'a, S: JobSegments, R: Running> JobWork<'a, S, TablePart<S>, TableKept<S>, R> {
+    /// The work of a run, with what a pool takes for it: a task for each job that names no other one, and an `Idle` for each worker.
+    pub fn new(
+        alloc: Global,
+        jobs: &'a S,
+        settings: Settings,
+        opened: TableOpened<S>,
+    ) -> Result<
+        (
+            TableWork<'a, S, R>,
+            Vec<TableTask<S, R>>,
+            Vec<TableIdle<S, R>>,
+        ),
+        NoMemory,
+    >
+        requires count { length opened.starts.items ≡ S.job_count }
+        requires started { (j : ℕ) → (R.start j ≡ node_at opened.starts.items (R.jobs - 1 - j)) × (R.keeps j ≡ kept_at opened.starts.items (R.jobs - 1 - j)) }
+        requires table { table_id_of opened.counts ≡ R.table }
+        requires stops { stop_id_of opened.stops ≡ R.stops }
+        requires planned { (R.jobs ≡ S.job_count) × ((j : ℕ) → R.last j ≡ S.last_of j) × ((j k : ℕ) → R.size j k ≡ S.size_of j k) }
+        ensures tasks { IfOk result (λ made. length made.1.items ≤ S.job_count) }
+        ensures idles { IfOk result (λ made. length made.2.items ≡ workers_of settings) }
+    {
+        let Opened {
+            counts,
+            seat,
+            starts,
+            stops,
+            stop_seat,
+        } = opened;
+        let half = seat.credit() / 2;
+        let (seat, other) = counts.split(seat, END, 0, half);
+        let work = TableWork::<S, R> {
+            alloc,
+            counts,
+            jobs,
+            threshold: most_positions(jobs, settings),
+            share: half / settings.workers() / segment_count(jobs).max(1),
+            places: empty_places(alloc, jobs)?,
+            starts,
+            stops,
+            of: PhantomData,
+        };
+        let purse = TablePurse::<S, R> {
+            seat,
+            jobs: jobs.jobs(),
+            of: PhantomData,
+        };
+        let spare = TableSpare::<S, R> {
+            seat: other,
+            of: PhantomData,
+        };
+        let (tasks, idles) = work.open_all(purse, spare, stop_seat, settings.workers())?;
+        Ok((work, tasks, idles))
+    }
+
+    /// The start node of a job.
+    pub(crate) fn start(&self, job: usize) -> &Start
+        requires { job < R.jobs }
+        ensures { (result.now.node ≡ R.start job) × (result.now.onward.items ≡ R.keeps job) }
+    {
+        &self.starts[self.starts.len() - 1 - job]
+    }
+
+    /// The jobs that wait for a job.
+    pub(crate) fn waiting_for(&self, job: usize) -> &[Waiting]
+        requires { job < R.jobs }
+        ensures { R.keeps job ≡ nodes_in result.now ++ 0 ∷ [] }
+    {
+        &self.start(job).waiting
+    }
+
+    /// What a worker asks the words of early stop with, about the first segment of a job.
+    fn watch(&self, job: usize, seat: CutSeat) -> Watch<'_, S, R>
+        requires job { job < R.jobs }
+        requires seat { stop_table_of seat ≡ R.stops }
+    {
+        Watch {
+            jobs: self.jobs,
+            places: &self.places,
+            stops: &self.stops,
+            seat,
+            job,
+            segment: 0,
+            word: u32::MAX,
+            of: PhantomData,
+        }
+    }
+
+    /// The answer of a job, if a task left it.
+    pub fn found(&self, job: usize) -> Option<&S::Answer>
+        ensures { IfSome result (λ answer. S.is_answer job answer.now) }
+    {
+        kept_answer(&self.places, job)
+    }
+}
+
+/// The job of a task.
+fn task_job<S: JobSegments, R: Running>(task: &TableTask<S, R>) -> usize
+    ensures { result < R.jobs }
+{
+    match task {
+        Task::Begin(begun) => begun.job,
+        Task::Walk(side) => side.half.place.tag.job,
+    }
+}
+
+impl<'a, S: JobSegments + Send + Sync, R: Running + Send + Sync> Work
+    for JobWork<'a, S, TablePart<S>, TableKept<S>, R>
+where
+    S::Part: Send,
+    S::Source: Send + Sync,
+    S::Answer: Send + Sync,
+    S::Given: Send + Sync,
+    S::Instead: Send,
+    S::Scratch: Send,
+{
+    type Task = TableTask<S, R>;
+
+    type Idle = TableIdle<S, R>;
+
+    ghost is_over = { λ _ idle. (view_of idle.seat).seen ≡ Some 0 };
+
+    ghost owner_of = { λ idle. actor_of idle.seat };
+
+    fn left<H: Wait>(&self, _rt: &H, idle: TableIdle<S, R>) -> (TableIdle<S, R>, u64) {
+        let Idle {
+            seat,
+            spare,
+            stop_seat,
+            scratch,
+            of,
+        } = idle;
+        let (seat, left) = self.counts.left(seat);
+        (
+            Idle {
+                seat,
+                spare,
+                stop_seat,
+                scratch,
+                of,
+            },
+            left,
+        )
+    }
+
+    fn run<H: Wait, G: Gate, P: Spawn<TableTask<S, R>>>(
+        &self,
+        _rt: &H,
+        _worker: usize,
+        gate: &G,
+        idle: TableIdle<S, R>,
+        task: TableTask<S, R>,
+        spawn: &mut P,
+    ) -> TableIdle<S, R> {
+        let Idle {
+            seat,
+            spare,
+            stop_seat,
+            scratch,
+            of,
+        } = idle;
+        let watch = self.watch(task_job(&task), stop_seat);
+        let mut busy = Busy {
+            scratch,
+            watch,
+            spare,
+        };
+        self.take(gate, task, spawn, &mut busy);
+        let Busy {
+            scratch,
+            watch,
+            spare,
+        } = busy;
+        let Watch {
+            seat: stop_seat,
+            ..
+        } = watch;
+        Idle {
+            seat,
+            spare,
+            stop_seat,
+            scratch,
+            of,
+        }
+    }
+}

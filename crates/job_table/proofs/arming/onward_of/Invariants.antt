@@ -1,6 +1,0 @@
-use Rattle.std.proofs.Common.{◌≡◌, take}
-use Rattle.job_table.specs.Waits.{nodes_in}
-use Rattle.job_table.proofs.arming.onward_of.Given as goal
-
-abbrev pub invariant-loop-other : goal.invariant-loop-other
-invariant-loop-other l = l.onward.items ≡ nodes_in (take l.other-index l.waiting)

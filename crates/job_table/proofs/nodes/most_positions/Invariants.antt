@@ -1,6 +1,0 @@
-use Rattle.std.proofs.Common.{◌<◌, ◌≤◌}
-use Rattle.job_plan.specs.SettingsParts.{threshold_of}
-use Rattle.job_table.proofs.nodes.most_positions.Given as goal
-
-abbrev pub invariant-loop-doubled : goal.invariant-loop-doubled
-invariant-loop-doubled g l = (0 < l.longest) × (threshold_of l.settings ≤ l.longest)

@@ -1,6 +1,0 @@
-use Rattle.std.proofs.Common.{◌≡◌, length}
-use Rattle.job_table.specs.Answers.{AreAnswers}
-use Rattle.job_table.proofs.run.read_answers.Given as goal
-
-abbrev pub invariant-loop-job : goal.invariant-loop-job
-invariant-loop-job g l = (length l.answers.items ≡ l.job) × AreAnswers g.S.JobSegments.is_answer 0 l.answers.items

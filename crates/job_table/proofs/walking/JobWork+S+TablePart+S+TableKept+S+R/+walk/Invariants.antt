@@ -1,6 +1,0 @@
-use Rattle.std.proofs.Common.{◌-◌}
-use Rattle.job_table.specs.Cuts.{begins, ends_at}
-use Rattle.job_table.proofs.walking.JobWork+S+TablePart+S+TableKept+S+R.+walk.Given as goal
-
-abbrev pub decreases-walk : goal.decreases-walk
-decreases-walk g l = ends_at l.side.half.place.tag l.side.half.place.side - begins l.side.half.place.tag l.side.half.place.side

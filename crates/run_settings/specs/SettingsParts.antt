@@ -1,0 +1,17 @@
+-- Condition: the parts of the settings of a run.
+use Rattle.std.specs.Prelude.{ℕ}
+use Rattle.run_settings.specs.declared.settings.Form.{Form}
+use Rattle.run_settings.specs.declared.settings.Settings.{Settings}
+
+abbrev pub workers_of : Settings → ℕ
+workers_of s = s.workers
+
+abbrev pub threshold_of : Settings → ℕ
+threshold_of s = s.threshold
+
+abbrev pub nodes_of : Settings → ℕ
+nodes_of s = s.nodes
+
+-- the form of the report
+abbrev pub form_of : Settings → Form
+form_of s = s.form
