@@ -1,5 +1,5 @@
 -- Items whose places count up.
-use Rattle.std.proofs.Common.{◌≡◌, ℕ, ◌+◌, ◌<◌, ◌≤◌, ◌^◌, ℤ, pos, List, [], ◌++◌, length, map, take, get_or, Some, refl, sym, ap, subst, ◌∙◌, arith, add-zero, suc, ◌∷◌, drop, Option, IfSome, None}
+use Rattle.std.proofs.Common.{◌≡◌, ℕ, ◌+◌, ◌<◌, ◌≤◌, ◌^◌, ℤ, pos, List, [], ◌++◌, length, map, take, Some, refl, sym, ap, subst, ◌∙◌, arith, add-zero, suc, ◌∷◌, drop, Option, IfSome, None}
 use Rattle.std.proofs.lemmas.List.{get_or-set_same, get_or-set_other, get_or-take, get_or-drop, length-take, length-drop, take_all}
 use Rattle.std.proofs.lemmas.Option.{slice_get_within, get_or_from_slice_get, slice_get-get_or}
 use Rattle.std.specs.List.{slice_get}
