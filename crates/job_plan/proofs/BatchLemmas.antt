@@ -61,7 +61,7 @@ one_more_folded f counts start xs i a v r within so_far here is =
     is ∙ ap (λ (b : ℤ). f b v) so_far ∙ ap (f (fold (λ b w. f b (each_one counts w)) start (take i xs))) here ∙ sym more
 
 -- to fold from what stands left is to put it before the fold
-after_left : (f : ℤ → ℤ → ℤ) → IsAssociative f → (counts : Bool) (a b : ℤ) (vs : List ℤ) → fold (λ c w. f c (each_one counts w)) (f a b) vs ≡ f a (fold (λ c w. f c (each_one counts w)) b vs)
+pub after_left : (f : ℤ → ℤ → ℤ) → IsAssociative f → (counts : Bool) (a b : ℤ) (vs : List ℤ) → fold (λ c w. f c (each_one counts w)) (f a b) vs ≡ f a (fold (λ c w. f c (each_one counts w)) b vs)
 after_left f grouped counts a b [] = refl
 after_left f grouped counts a b (v ∷ vs) = ap (λ (d : ℤ). fold (λ c w. f c (each_one counts w)) d vs) (grouped a b (each_one counts v)) ∙ after_left f grouped counts a (f b (each_one counts v)) vs
 

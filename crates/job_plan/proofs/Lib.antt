@@ -1,4 +1,5 @@
 -- The lemmas of this crate; the first line of each file says what they are about.
+pub mod BackwardFolds
 pub mod BatchLemmas
 pub mod CountLemmas
 pub mod Elements

@@ -7,12 +7,12 @@ ghost use Rattle.trace.specs.declared.item.End.TheVariants as end;
 ghost use Rattle.reduce_ops.specs.Operators.{value_of};
 ghost use Rattle.reduce_ops.specs.Parts.{StandsFor as FoldStands};
 ghost use Rattle.prefix_scan.specs.Prefixes.{is_within};
-ghost use Rattle.prefix_scan.specs.Scans.{fold_at, joined_value};
+ghost use Rattle.prefix_scan.specs.Scans.{fold_at};
 ghost use Rattle.job_plan.specs.Runs.{Fits, run_values};
 ghost use Rattle.job_plan.specs.Scans.{IsFolded, items_of};
 
 use crate::folded_piece::{FoldedPiece, MOST_ITEMS};
-use crate::folding::folded;
+use crate::folding::{folded, joined};
 use crate::piece_items::PieceItems;
 use crate::run_values::RunValues;
 use batch_eval::Registers;
@@ -124,15 +124,4 @@ fn fold_run_at(
     let mut buffer = [0i64; MOST_ITEMS];
     values.copy_to(&mut buffer, registers);
     scan_values(op, range, start, &mut buffer[..values.count()])
-}
-
-/// Two folds side by side, each of which may be of no item.
-fn joined(op: Op, left: Option<i64>, right: Option<i64>) -> Option<i64>
-    ensures { result ≡ joined_value (value_of op) left right }
-{
-    match (left, right) {
-        (left, None) => left,
-        (None, right) => right,
-        (Some(left), Some(right)) => Some(op.apply(left, right)),
-    }
 }

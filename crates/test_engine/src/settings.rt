@@ -90,6 +90,24 @@ s = range(0, 3000).map(x -> 6 / (2999 - x)).skip(5).max().onFault(4) => s = Opti
 e = of(9223372036854775807, 1, -5).reduce(0, Math::addExact).onFault(0) => e = 0
 w = range(0, 3000).map(x -> x + $r + $s + $e).sum() => w = 4534500";
 
+/// Folds of three batches, likewise: products that become 0 at a first, a middle or the last value or not at all, and maps with
+/// a factor of 0 at such places. The answers are those of Java 17.
+const FOLDS: &str = "\
+o1 = range(0, 3000).map(x -> x % 1024 == 0 ? 0 : x | 1).reduce(1, product) => o1 = 0
+o2 = range(0, 3000).map(x -> x == 1500 ? 0 : x | 1).reduce(1, product) => o2 = 0
+o3 = range(0, 3000).map(x -> x == 2999 ? 0 : x | 1).reduce(product) => o3 = OptionalLong[0]
+o4 = range(0, 3000).map(x -> x | 1).reduce(1, product) => o4 = 1803150871074423153
+o5 = range(0, 3000).filter(x -> x % 5 == 3).reduce(product) => o5 = OptionalLong[0]
+o6 = range(0, 3000).filter(x -> x % 2 == 1 && x % 1024 < 800).reduce(1, product) => o6 = -3068320872902874015
+o7 = range(0, 3000).filter(x -> x % 2 == 1 || x == 1500).reduce(product) => o7 = OptionalLong[848815929676625020]
+y1 = range(0, 3000).map(x -> (x << 32 | 4294967296) + x).reduce(affine) => y1 = OptionalLong[-1525663156168680604]
+y2 = range(0, 3000).map(x -> x == 0 ? 5 : (x << 32 | 4294967296) + x).reduce(4294967296, affine) => y2 = 4023181977
+y3 = range(0, 3000).map(x -> x == 1500 ? x : (x << 32 | 4294967296) + x).reduce(affine) => y3 = OptionalLong[1632322878]
+y4 = range(0, 3000).map(x -> x == 2999 ? x : (x << 32 | 4294967296) + x).reduce(4294967296, affine) => y4 = 2999
+y5 = range(0, 3000).map(x -> (x << 32 | 4294967296) + x).filter(x -> x % 3 != 1).reduce(affine) => y5 = OptionalLong[-103664492089218256]
+y6 = range(0, 3000).map(x -> (x << 32) + x).filter(x -> (x & 1023) < 600).reduce(4294967296, affine) => y6 = 1333165779
+y7 = range(0, 3000).map(x -> x == 1500 ? x : (x << 32 | 4294967296) + x).filter(x -> x % 3 != 1).reduce(affine) => y7 = OptionalLong[1093124164]";
+
 /// A job on several lines, which end in CR LF.
 const LINES: &[u8] =
     b"# squares\r\ns = LongStream.rangeClosed(1, 4)\r\n  .map((x) -> x * x)\r\n  .sum();\r\n";
@@ -148,6 +166,11 @@ fn settings_change_no_byte_of_a_report(rt: HostRuntime) -> Result<(), Fail> {
                 );
             }
         }
+    }
+    for threshold in [1, 1_000] {
+        let settings = Settings::of(2, threshold, 4_096, Form::Text).ok_or(AllocError)?;
+        let change = first_change(&rt, COLUMNS, "", FOLDS, &settings)?;
+        assert!(rt; change.is_none(), "{threshold}: {change:?}");
     }
     Ok(())
 }
