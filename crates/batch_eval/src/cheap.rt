@@ -14,62 +14,62 @@ const FEW_OPERATORS: u32 = 8;
 /// Whether an operand has a few operators, none of which is expensive or may have a fault.
 pub(crate) fn is_cheap(operand: Operand<'_>) -> bool {
     match operand {
-        Operand::Long(expr) => after_long(expr, FEW_OPERATORS).is_some(),
-        Operand::Bool(test) => after_test(test, FEW_OPERATORS).is_some(),
+        Operand::Long(expr) => after_long(expr, FEW_OPERATORS + 1) > 0,
+        Operand::Bool(test) => after_test(test, FEW_OPERATORS + 1) > 0,
         Operand::Flag(_) => true,
     }
 }
 
-/// How many of these operators an expression leaves, if it is cheap.
+/// How many of these operators an expression leaves; 0 if it is not cheap, or if there are too few.
 #[cycle(cheap)]
-fn after_long(expr: &LongExpr, operators: u32) -> Option<u32> {
+fn after_long(expr: &LongExpr, operators: u32) -> u32 {
+    if operators == 0 {
+        return 0;
+    }
     match expr {
-        LongExpr::Number(_) | LongExpr::Parameter(_) | LongExpr::Reference(_) => Some(operators),
+        LongExpr::Number(_) | LongExpr::Parameter(_) | LongExpr::Reference(_) => operators,
         LongExpr::Unary(operator, operand) => match operator.faults() {
-            Faults::Never => after_long(operand, operators.checked_sub(1)?),
-            Faults::ByZero | Faults::Overflow => None,
+            Faults::Never => after_long(operand, operators - 1),
+            Faults::ByZero | Faults::Overflow => 0,
         },
         LongExpr::Binary(operator, a, b) => {
-            let left = after_long(a, operators.checked_sub(cost(*operator, b)?)?)?;
-            after_long(b, left)
+            let left = operators.saturating_sub(cost(*operator, b));
+            after_long(b, after_long(a, left))
         }
         LongExpr::Choose(condition, a, b) => {
-            let left = after_test(condition, operators.checked_sub(1)?)?;
-            after_long(b, after_long(a, left)?)
+            let left = after_test(condition, operators - 1);
+            after_long(b, after_long(a, left))
         }
     }
 }
 
 /// The same of a test.
 #[cycle(cheap)]
-fn after_test(test: &BoolExpr, operators: u32) -> Option<u32> {
+fn after_test(test: &BoolExpr, operators: u32) -> u32 {
+    if operators == 0 {
+        return 0;
+    }
     match test {
-        BoolExpr::Literal(_) => Some(operators),
-        BoolExpr::Compare(_, a, b) => {
-            let left = after_long(a, operators.checked_sub(1)?)?;
-            after_long(b, left)
-        }
-        BoolExpr::Not(operand) => after_test(operand, operators.checked_sub(1)?),
-        BoolExpr::Connect(_, a, b) => {
-            let left = after_test(a, operators.checked_sub(1)?)?;
-            after_test(b, left)
-        }
+        BoolExpr::Literal(_) => operators,
+        BoolExpr::Compare(_, a, b) => after_long(b, after_long(a, operators - 1)),
+        BoolExpr::Not(operand) => after_test(operand, operators - 1),
+        BoolExpr::Connect(_, a, b) => after_test(b, after_test(a, operators - 1)),
         BoolExpr::Choose(condition, a, b) => {
-            let left = after_test(condition, operators.checked_sub(1)?)?;
-            after_test(b, after_test(a, left)?)
+            let left = after_test(condition, operators - 1);
+            after_test(b, after_test(a, left))
         }
     }
 }
 
-/// How many additions an operator with this right operand costs, if it is cheap.
-fn cost(operator: BinaryOperator, right: &LongExpr) -> Option<u32> {
+/// How many additions an operator with this right operand costs; more than there may be if it is not cheap.
+fn cost(operator: BinaryOperator, right: &LongExpr) -> u32 {
     match operator.faults() {
-        Faults::Never => Some(operator.additions()),
+        Faults::Never => operator.additions(),
         Faults::ByZero => match constant_in(right) {
-            Some(number) if exponent_of(number).is_some() => Some(3),
-            Some(number) if reciprocal_of(number).is_some() => Some(4),
-            _ => None,
+            Some(number) if exponent_of(number).is_some() => 3,
+            Some(number) if reciprocal_of(number).is_some() => 4,
+            _ => u32::MAX,
         },
-        Faults::Overflow => None,
+        Faults::Overflow => u32::MAX,
     }
 }

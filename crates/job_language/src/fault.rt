@@ -45,30 +45,39 @@ pub enum Cause {
     NotScalar,
 }
 
+impl Cause {
+    /// What a message says of the cause, before the column of a syntax fault.
+    fn text(&self) -> &'static str {
+        match self {
+            Cause::Syntax => "syntax",
+            Cause::SameName => "same name",
+            Cause::UnknownColumn => "unknown column",
+            Cause::UnknownJob => "unknown job",
+            Cause::NotANumber => "not a number",
+            Cause::NotAnArray => "not an array",
+            Cause::NegativeCount => "negative count",
+            Cause::NotIdentity => "not identity",
+            Cause::NoIdentity => "no identity",
+            Cause::OperatorNotListed => "operator not listed",
+            Cause::BadRange => "bad range",
+            Cause::TooLong => "too long",
+            Cause::NotScalar => "not scalar",
+            Cause::Expr(ReadFault::Syntax { .. }) => "expression syntax",
+            Cause::Expr(ReadFault::WrongType) => "wrong type",
+            Cause::Expr(ReadFault::UnknownName) => "unknown name",
+            Cause::Expr(ReadFault::TooDeep) => "too deep",
+            Cause::Expr(ReadFault::LiteralTooLarge) => "literal too large",
+            Cause::Expr(ReadFault::NoMemory) | Cause::NoMemory => "out of memory",
+        }
+    }
+}
+
 impl Display for Cause {
     fn fmt<W: Write>(&self, f: &mut Formatter<W>) -> fmt::Result {
+        f.write_str(self.text())?;
         match self {
-            Cause::Syntax => write!(f, "syntax"),
-            Cause::SameName => write!(f, "same name"),
-            Cause::UnknownColumn => write!(f, "unknown column"),
-            Cause::UnknownJob => write!(f, "unknown job"),
-            Cause::NotANumber => write!(f, "not a number"),
-            Cause::NotAnArray => write!(f, "not an array"),
-            Cause::NegativeCount => write!(f, "negative count"),
-            Cause::NotIdentity => write!(f, "not identity"),
-            Cause::NoIdentity => write!(f, "no identity"),
-            Cause::OperatorNotListed => write!(f, "operator not listed"),
-            Cause::BadRange => write!(f, "bad range"),
-            Cause::TooLong => write!(f, "too long"),
-            Cause::NotScalar => write!(f, "not scalar"),
-            Cause::Expr(ReadFault::Syntax { column }) => {
-                write!(f, "expression syntax at column {column}")
-            }
-            Cause::Expr(ReadFault::WrongType) => write!(f, "wrong type"),
-            Cause::Expr(ReadFault::UnknownName) => write!(f, "unknown name"),
-            Cause::Expr(ReadFault::TooDeep) => write!(f, "too deep"),
-            Cause::Expr(ReadFault::LiteralTooLarge) => write!(f, "literal too large"),
-            Cause::Expr(ReadFault::NoMemory) | Cause::NoMemory => write!(f, "out of memory"),
+            Cause::Expr(ReadFault::Syntax { column }) => write!(f, " at column {column}"),
+            _ => Ok(()),
         }
     }
 }

@@ -143,6 +143,27 @@ fn read_next_call<'c>(
     below_terminal(&job.terminal, part)
 }
 
+/// Reads these calls in order of writing, and puts what they build after the parts of this job.
+fn add_parts<'c>(
+    job: &mut Job<'c>,
+    alloc: Global,
+    scope: Scope<'_, 'c>,
+    text: &CutText,
+    words: &[Word],
+    calls: &[WrittenCall],
+) -> Result<(), Cause>
+    requires words { words_in words.now ≡ words_of text.now.bytes text.now.tokens }
+    requires stand { StandIn (words_in words.now) calls.now }
+    ensures { Answers (λ _. job_of job.new) (AreRead (scope_of scope.entry) text.now (job_of job.old)
+        (all_placed (words_in words.now) calls.now)) result }
+{
+    for call in calls {
+        let part = read_next_call(job, alloc, scope, text, words, call)?;
+        add(job, part)?;
+    }
+    Ok(())
+}
+
 /// Reads the calls of the job with this name in order of writing.
 pub fn read_parts<'c>(
     alloc: Global,
@@ -158,9 +179,6 @@ pub fn read_parts<'c>(
         (all_placed (words_in words.now) calls.now)) result }
 {
     let mut job = named(alloc, name)?;
-    for call in calls {
-        let part = read_next_call(&job, alloc, scope, text, words, call)?;
-        add(&mut job, part)?;
-    }
+    add_parts(&mut job, alloc, scope, text, words, calls)?;
     Ok(job)
 }

@@ -18,13 +18,17 @@ pub struct Arguments<'a> {
 /// Reads the words of a command line, the program's name first. A request for help is an `Err` too,
 /// with an `exit_code` of 0.
 pub fn read_arguments<'a>(alloc: Global, words: &'a [&'a str]) -> Result<Arguments<'a>, Error> {
-    let command = with_settings(alloc, command_of(alloc)?)?;
-    let matches = command.try_get_matches_from(words)?;
-    Ok(Arguments {
+    let matches = command_of(alloc)?.try_get_matches_from(words)?;
+    Ok(arguments_of(&matches))
+}
+
+/// The arguments that were matched.
+fn arguments_of<'a>(matches: &ArgMatches<'a>) -> Arguments<'a> {
+    Arguments {
         jobs: matches.get_str("JOBS").unwrap_or(""),
         columns: matches.get_str("columns"),
-        settings: settings_of(&matches),
-    })
+        settings: settings_of(matches),
+    }
 }
 
 /// What the help says below the options.
@@ -39,56 +43,76 @@ Exit status:
   3  out of memory
   4  a file can't be opened, read or written"#;
 
-/// The command with its files.
-fn command_of<'a>(alloc: Global) -> Result<Command<'a>, AllocError> {
-    let jobs = Arg::new(alloc, "JOBS")
-        .help("The file of jobs to run")
-        .required(true)
-        .action(ArgAction::Set);
-    let columns = Arg::new(alloc, "columns")
-        .long("columns")
-        .value_name("FILE")
-        .help("A CSV file of integer columns, which jobs name")
-        .action(ArgAction::Set);
+/// The program with what its help says, without files and options.
+fn program<'a>(alloc: Global) -> Command<'a> {
     Command::new(alloc, "streamrun")
         .about("Runs pipelines over 64-bit integers and writes a report with one answer per job")
         .after_help(EXAMPLE_AND_STATUSES)
-        .arg(jobs)?
-        .arg(columns)
 }
 
-/// The command with an option for each setting. The name of a value is its limits, so that each refusal that names an
-/// option says them; a negative number is a value too, which is refused as one.
-fn with_settings<'a>(alloc: Global, command: Command<'a>) -> Result<Command<'a>, AllocError> {
-    let workers = Arg::new(alloc, "workers")
-        .long("workers")
-        .value_name("1 to 64")
-        .allow_negative_numbers(true)
-        .help("Threads")
-        .default_value("4")
+fn jobs_file<'a>(alloc: Global) -> Arg<'a> {
+    Arg::new(alloc, "JOBS")
+        .help("The file of jobs to run")
+        .required(true)
         .action(ArgAction::Set)
-        .value_parser(value_parser!(u64).range(1..=64));
-    let threshold = Arg::new(alloc, "threshold")
-        .long("threshold")
-        .value_name("1 to 1048576")
-        .allow_negative_numbers(true)
-        .help("Items of a piece")
-        .default_value("1024")
+}
+
+fn columns_file<'a>(alloc: Global) -> Arg<'a> {
+    Arg::new(alloc, "columns")
+        .long("columns")
+        .value_name("FILE")
+        .help("A CSV file of integer columns, which jobs name")
         .action(ArgAction::Set)
-        .value_parser(value_parser!(u64).range(1..=1_048_576));
-    let nodes = Arg::new(alloc, "nodes")
-        .long("nodes")
-        .value_name("0 to 1048576")
+}
+
+/// An option for a number, with the one that stands for it if it is left out. The name of its value is its
+/// limits, so that each refusal that names an option says them; a negative number is a value too, which is refused as one.
+fn number<'a>(
+    alloc: Global,
+    name: &'a str,
+    limits: &'a str,
+    default: &'a str,
+    help: &'a str,
+) -> Arg<'a> {
+    Arg::new(alloc, name)
+        .long(name)
+        .value_name(limits)
         .allow_negative_numbers(true)
-        .help("Nodes for splits")
-        .default_value("4096")
+        .help(help)
+        .default_value(default)
         .action(ArgAction::Set)
-        .value_parser(value_parser!(u64).range(0..=1_048_576));
-    let json = Arg::new(alloc, "json")
+}
+
+fn json<'a>(alloc: Global) -> Arg<'a> {
+    Arg::new(alloc, "json")
         .long("json")
         .help("Write the report as JSON")
-        .action(ArgAction::SetTrue);
-    command.arg(workers)?.arg(threshold)?.arg(nodes)?.arg(json)
+        .action(ArgAction::SetTrue)
+}
+
+/// The command with its files, and with an option for each setting.
+fn command_of<'a>(alloc: Global) -> Result<Command<'a>, AllocError> {
+    let command = program(alloc)
+        .arg(jobs_file(alloc))?
+        .arg(columns_file(alloc))?;
+    with_settings(alloc, command)
+}
+
+/// The command with an option for each setting.
+fn with_settings<'a>(alloc: Global, command: Command<'a>) -> Result<Command<'a>, AllocError> {
+    let workers = number(alloc, "workers", "1 to 64", "4", "Threads");
+    let command = command.arg(workers.value_parser(value_parser!(u64).range(1..=64)))?;
+    let threshold = number(
+        alloc,
+        "threshold",
+        "1 to 1048576",
+        "1024",
+        "Items of a piece",
+    );
+    let command = command.arg(threshold.value_parser(value_parser!(u64).range(1..=1_048_576)))?;
+    let nodes = number(alloc, "nodes", "0 to 1048576", "4096", "Nodes for splits");
+    let command = command.arg(nodes.value_parser(value_parser!(u64).range(0..=1_048_576)))?;
+    command.arg(json(alloc))
 }
 
 /// The settings that were matched.

@@ -7,7 +7,7 @@ use Rattle.job_language.specs.Jobs.{job_of}
 use Rattle.job_language.specs.Parts.{part_in}
 use Rattle.job_language.proofs.JobCauseLemmas.{item_stands}
 use Rattle.job_language.proofs.CallTurnLemmas.{length_stages, few_after, turn_here, turn_more, none_left}
-use Rattle.job_language.proofs.parts.read_parts.Goals as goal
+use Rattle.job_language.proofs.parts.add_parts.Goals as goal
 
 pub read_next_call-requires-clause-stands : goal.read_next_call-requires-clause-stands
 read_next_call-requires-clause-stands c = item_stands (words_in c.args.words.now) c.args.calls.now c.loop-call.call-index c.call-item.result c.loop-call-test.true c.call-item.is c.requires.stand
@@ -18,7 +18,7 @@ returns-in_err-part c =
     let t = c.args.text.now in
     let ws = words_in c.args.words.now in
     let x = c.call-item.result in
-    let p = err_from_is_err_and c.from_residual-in_err-part.result c.from_residual-in_err-part.ensures.1 in
+    let p = err_from_is_err_and c.from_residual.result c.from_residual.ensures.1 in
     rw (p.1, p.2) (λ other. c.loop-call.invariant (Err c.in_err-part.field-0.0)
     (turn_here s t (job_of c.loop-call.job) ws c.args.calls.now c.loop-call.call-index x c.in_err-part.field-0.0 c.loop-call-test.true c.call-item.is (c.in_err-part.ensures other)))
 

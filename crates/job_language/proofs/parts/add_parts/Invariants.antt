@@ -4,12 +4,12 @@ use Rattle.job_language.specs.Jobs.{AbstractJob, job_of}
 use Rattle.job_language.specs.Splitting.{words_in}
 use Rattle.job_language.specs.Shapes.{all_placed}
 use Rattle.job_language.specs.Scopes.{scope_of}
-use Rattle.job_language.specs.Verdicts.{job_named, AreRead}
-use Rattle.job_language.proofs.parts.read_parts.Given as goal
+use Rattle.job_language.specs.Verdicts.{AreRead}
+use Rattle.job_language.proofs.parts.add_parts.Given as goal
 
 -- what the calls that are left are read as, all calls are
 abbrev pub invariant-loop-call : goal.invariant-loop-call
 invariant-loop-call l =
     (r : Result AbstractJob Cause)
     → AreRead (scope_of l.scope) l.text (job_of l.job) (all_placed (words_in l.words) (drop l.call-index l.calls)) r
-    → AreRead (scope_of l.scope) l.text (job_named l.name) (all_placed (words_in l.words) l.calls) r
+    → AreRead (scope_of l.scope) l.text (job_of l.initial.job) (all_placed (words_in l.words) l.calls) r
