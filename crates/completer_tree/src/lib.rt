@@ -4,7 +4,7 @@
 //! place; the last of the two runs a continuation, and hands its answer in at the parent. Whoever completes the top gets the
 //! result of the tree, and nobody else does. `CountedCompleter` of Java SE 17 has the same calls.
 //!
-//! Stands on `pending_count` for the counts and on `trace` for `Fault`. Used by `job_table`, which runs jobs by trees: it cites
+//! Stands on `pending_count` for the counts and on `trace` for `Fault`. Used by `job_runner`, which runs jobs by trees: it cites
 //! `Tree::fork`, clauses `split` and `tops`, and `Tree::try_complete`, clauses `found` and `kept`.
 //! Begin with `continuation.rt` and `specs/Places.antt`, then `specs/Trees.antt`, `tree.rt` and `climbing.rt`;
 //! docs/completers.md has a worked picture. Proved callers and tests are in the crate `test_completers`.

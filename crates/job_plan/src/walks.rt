@@ -31,7 +31,7 @@ pub enum SplitTree {
 ///
 /// A piece after one that settles the answer isn't walked.
 ///
-/// For other programs: the workers of `job_table` walk the pieces of `streamrun`.
+/// For other programs: the workers of `job_runner` walk the pieces of `streamrun`.
 pub fn walk_tree(
     alloc: Global,
     job: &JobPlan,
