@@ -51,7 +51,7 @@ pub enum SegmentEnd {
 
 /// What is asked of an end of any kind, apart from its parts.
 #[derive(Clone, Copy)]
-pub(crate) struct EndTraits<'e> {
+pub(crate) struct EndRow<'e> {
     /// The stage that looks at a whole walk, if such a stage is the end.
     slice: Option<&'e Slice>,
     /// Whether it makes a walk of a walk, over which the next segment goes.
@@ -86,48 +86,48 @@ impl SegmentEnd {
         ensures some { IfSome result (λ slice. slice_in (end_in self.now) ≡ Some (slice_of slice.now)) }
         ensures none { IfNone result (slice_in (end_in self.now) ≡ None) }
     {
-        self.traits().slice
+        self.row().slice
     }
 
     /// Whether it makes a walk of a walk, over which the next segment goes. Others give the answer of the job.
     pub fn gives_walk(&self) -> bool
         ensures { result ≡ gives_walk (end_in self.now) }
     {
-        self.traits().gives_walk
+        self.row().gives_walk
     }
 
     /// What is asked of it, apart from its parts: one row for each kind.
-    pub(crate) fn traits(&self) -> EndTraits<'_>
+    pub(crate) fn row(&self) -> EndRow<'_>
         ensures some { IfSome result.slice (λ slice. slice_in (end_in self.now) ≡ Some (slice_of slice.now)) }
         ensures none { IfNone result.slice (slice_in (end_in self.now) ≡ None) }
         ensures walk { result.gives_walk ≡ gives_walk (end_in self.now) }
     {
         match self {
-            SegmentEnd::Slice(slice) => EndTraits {
+            SegmentEnd::Slice(slice) => EndRow {
                 slice: Some(slice),
                 gives_walk: true,
                 test: test_of_slice(slice),
                 takes_flags: false,
             },
-            SegmentEnd::Fold(fold) => EndTraits {
+            SegmentEnd::Fold(fold) => EndRow {
                 slice: None,
                 gives_walk: false,
                 test: None,
                 takes_flags: fold.op.identity().is_some(),
             },
-            SegmentEnd::Find(find) => EndTraits {
+            SegmentEnd::Find(find) => EndRow {
                 slice: None,
                 gives_walk: false,
                 test: test_of_find(find),
                 takes_flags: matches!(find, FindTerminal::First),
             },
-            SegmentEnd::Prefix(_) => EndTraits {
+            SegmentEnd::Prefix(_) => EndRow {
                 slice: None,
                 gives_walk: true,
                 test: None,
                 takes_flags: false,
             },
-            SegmentEnd::Array | SegmentEnd::ExactSum => EndTraits {
+            SegmentEnd::Array | SegmentEnd::ExactSum => EndRow {
                 slice: None,
                 gives_walk: false,
                 test: None,

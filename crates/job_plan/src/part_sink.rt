@@ -97,7 +97,7 @@ impl<K: Ending> BatchSink for PartSink<'_, '_, K> {
     }
 
     fn takes_flags(&self) -> bool {
-        self.segment.end.traits().takes_flags
+        self.segment.end.row().takes_flags
     }
 
     fn accept_flagged(&mut self, lanes: FlaggedLanes<'_>) -> Result<Fed, NoMemory> {
@@ -108,7 +108,7 @@ impl<K: Ending> BatchSink for PartSink<'_, '_, K> {
     }
 
     fn test(&self) -> Option<&BoolExpr> {
-        self.segment.end.traits().test
+        self.segment.end.row().test
     }
 }
 
