@@ -33,7 +33,7 @@ sign_or w None = w
 abbrev pub symbol_lexeme : Symbol → Lexeme
 symbol_lexeme s = sign_or (punctuation s) (sign_of s)
 
--- which of the names of a text this one is, if these are the first two: 0, 1, or 2 for any other
+-- which of the names of a text this one is, if these are the first two that were met: 0, 1, or 2 for any other
 abbrev pub order_of : List ℕ → List ℕ → List ℕ → ℕ
 order_of first second w = if is_named w first then 0 else (if is_named w second then 1 else 2)
 
@@ -61,10 +61,6 @@ lexeme_of first second at (referred w) = lexeme.Reference at
 lexeme_of first second at (sign s) = symbol_lexeme s
 lexeme_of first second at bad = lexeme.Other
 
-abbrev pub lexemes_from : List ℕ → List ℕ → ℕ → List Word → List Lexeme
-lexemes_from first second at [] = []
-lexemes_from first second at (w ∷ ws) = lexeme_of first second at w ∷ lexemes_from first second (suc at) ws
-
 -- a word that no parameter is named by
 abbrev pub is_reserved : List ℕ → Bool
 is_reserved w =
@@ -75,19 +71,31 @@ is_reserved w =
 abbrev pub is_taken : List ℕ → List ℕ → Bool
 is_taken taken w = is_reserved w || is_named w taken
 
--- the first name that a parameter may have, apart from one that is taken; no name is empty
-abbrev pub first_name : List ℕ → List Word → List ℕ
-first_name taken [] = []
-first_name taken (named w ∷ ws) = if is_taken taken w then first_name taken ws else w
-first_name taken (w ∷ ws) = first_name taken ws
+-- helper: the name that a word is, if a parameter may have it and it isn't the one that is taken; else no bytes: no name is empty
+abbrev pub free_name : List ℕ → Word → List ℕ
+free_name taken (named w) = if is_taken taken w then [] else w
+free_name taken (numeral w) = []
+free_name taken (quoted w) = []
+free_name taken (referred w) = []
+free_name taken (sign s) = []
+free_name taken bad = []
 
--- the lexemes of words, the first two different names among them known
-abbrev pub lexemes_in : List Word → List Lexeme
-lexemes_in ws = let first = first_name [] ws in lexemes_from first (first_name first ws) 0 ws
+-- the first name that a parameter may have, apart from one that is taken, among words and one more: it stays once it is known
+abbrev pub first_name : List ℕ → List ℕ → Word → List ℕ
+first_name taken [] w = free_name taken w
+first_name taken (b ∷ known) w = b ∷ known
 
--- the lexemes of a text
+-- the lexemes of the words from a place on, if these are the first two different names before it
+abbrev pub lexemes_from : List ℕ → List ℕ → ℕ → List Word → List Lexeme
+lexemes_from first second at [] = []
+lexemes_from first second at (w ∷ ws) =
+    let here = first_name [] first w in
+    let other = first_name here second w in
+    lexeme_of here other at w ∷ lexemes_from here other (suc at) ws
+
+-- the lexemes of a text: its names are known by the order in which the first two of them come
 abbrev pub lexemes_of : List ℕ → List Token → List Lexeme
-lexemes_of text tokens = lexemes_in (words_of text tokens)
+lexemes_of text tokens = lexemes_from [] [] 0 (words_of text tokens)
 
 -- the name that a reference stands for, without its `$`
 abbrev pub reference_name : Word → List ℕ

@@ -1,8 +1,8 @@
 //! What the tokens of a text are to the grammar of lambdas.
 
-ghost use Rattle.lambda_expr.specs.Lexemes.{first_name, is_reserved, is_taken, lexeme_of, lexemes_of, name_of, names_in, number_lexeme, order_of, punctuation, symbol_lexeme};
-ghost use Rattle.lambda_expr.specs.Words.{named, word_for, words_of};
-ghost use Rattle.std.specs.Prelude.{◌≡◌, ◌<◌, ◌≤◌, ◌^◌, ℕ, IfNone, IfOk, IfSome, List, drop, false, length, true};
+ghost use Rattle.lambda_expr.specs.Lexemes.{first_name, free_name, is_reserved, is_taken, lexeme_of, lexemes_of, name_of, names_in, number_lexeme, order_of, punctuation, symbol_lexeme};
+ghost use Rattle.lambda_expr.specs.Words.{word_for};
+ghost use Rattle.std.specs.Prelude.{◌≡◌, IfOk, drop};
 
 use super::number::{may_stand, numeral_value};
 use super::sign::Sign;
@@ -159,44 +159,39 @@ fn is_taken(taken: &[u8], name: &[u8]) -> bool
     is_reserved(name) || name == taken
 }
 
-// The name of a token, if a parameter may have it and it is not the one that is taken.
-fn free_name<'a>(taken: &[u8], kind: TokenKind, bytes: &'a [u8]) -> Option<&'a [u8]>
-    ensures none { IfNone result ((v : List ℕ) → word_for kind bytes.now ≡ named v → is_taken taken.now v ≡ true) }
-    ensures some { IfSome result (λ name. (word_for kind bytes.now ≡ named name.now) × (is_taken taken.now name.now ≡ false)) }
+// The name that a token is, if a parameter may have it and it is not the one that is taken, or no bytes.
+fn free_name<'a>(taken: &[u8], kind: TokenKind, bytes: &'a [u8]) -> &'a [u8]
+    ensures { result.now ≡ free_name taken.now (word_for kind bytes.now) }
 {
-    match kind {
-        TokenKind::Name => {
-            if is_taken(taken, bytes) {
-                None
-            } else {
-                Some(bytes)
-            }
-        }
-        _ => None,
+    if matches!(kind, TokenKind::Name) && !is_taken(taken, bytes) {
+        bytes
+    } else {
+        b"".as_slice()
     }
 }
 
-// The first name of a text that a parameter may have, apart from one that is taken, or no bytes.
-fn first_name<'a>(taken: &[u8], text: &CutText<'a>) -> &'a [u8]
-    ensures { result.now ≡ first_name taken.now (words_of text.now.bytes text.now.tokens) }
+// The first name that a parameter may have, apart from one that is taken, after one more token: what is known, if it has bytes.
+fn first_name<'a>(taken: &[u8], known: &'a [u8], kind: TokenKind, bytes: &'a [u8]) -> &'a [u8]
+    ensures { result.now ≡ first_name taken.now known.now (word_for kind bytes.now) }
 {
-    for at in 0..text.len() {
-        if let Some(name) = free_name(taken, text.kind(at), text.word(at)) {
-            return name;
-        }
+    match known {
+        [] => free_name(taken, kind, bytes),
+        [_, ..] => known,
     }
-    b"".as_slice()
 }
 
-/// The lexemes of a text.
+/// The lexemes of a text, in one pass over its tokens.
 pub(crate) fn lexemes(alloc: Global, text: &CutText) -> Result<Vec<Lexeme>, AllocError>
     ensures { IfOk result (λ lexemes. lexemes.items ≡ lexemes_of text.now.bytes text.now.tokens) }
 {
-    let first = first_name(b"".as_slice(), text);
-    let second = first_name(first, text);
+    let mut first = b"".as_slice();
+    let mut second = b"".as_slice();
     let mut lexemes = Vec::new(alloc);
     for at in 0..text.len() {
-        lexemes.push(lexeme_of(first, second, at, text.kind(at), text.word(at)))?;
+        let (kind, bytes) = (text.kind(at), text.word(at));
+        first = first_name(b"".as_slice(), first, kind, bytes);
+        second = first_name(first, second, kind, bytes);
+        lexemes.push(lexeme_of(first, second, at, kind, bytes))?;
     }
     Ok(lexemes)
 }
