@@ -16,6 +16,8 @@ mod paths;
 #[cfg(test)]
 mod random_tree;
 #[cfg(test)]
+mod runs;
+#[cfg(test)]
 mod steps;
 #[cfg(test)]
 mod traces;

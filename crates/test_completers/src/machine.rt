@@ -90,10 +90,8 @@ fn actions(alloc: Global, script: &str) -> Option<Vec<Action>> {
     Some(actions)
 }
 
-// Whether the script is legal on a new graph of three nodes, gives these replies, and runs these nodes.
-fn gives(alloc: Global, ends: u64, row: &[&str; 3]) -> Option<bool> {
-    let [script, replies, runs] = row;
-    let actions = actions(alloc, script)?;
+// Whether the actions give these replies, one after the other, on a new graph of three nodes.
+fn gives_replies(alloc: Global, ends: u64, actions: &[Action], replies: &str) -> Option<bool> {
     if replies.split(';').count() != actions.len() {
         return Some(false);
     }
@@ -103,12 +101,26 @@ fn gives(alloc: Global, ends: u64, row: &[&str; 3]) -> Option<bool> {
             return Some(false);
         }
     }
-    let (_graph, ran) = play(alloc, 3, ends, &actions).ok()?;
-    let mut wanted = Vec::new(alloc);
-    for word in runs.split_whitespace() {
-        wanted.push(small(Some(word))?).ok()?;
+    Some(true)
+}
+
+// Whether these are the nodes.
+fn are_nodes(found: &[Node], nodes: &str) -> bool {
+    let mut words = nodes.split_whitespace();
+    for node in found {
+        if small(words.next()) != Some(*node) {
+            return false;
+        }
     }
-    Some(ran.as_slice() == wanted.as_slice())
+    words.next().is_none()
+}
+
+// Whether the script is legal on a new graph of three nodes, gives these replies, and runs these nodes.
+fn gives(alloc: Global, ends: u64, row: &[&str; 3]) -> Option<bool> {
+    let [script, replies, runs] = row;
+    let actions = actions(alloc, script)?;
+    let (_graph, ran) = play(alloc, 3, ends, &actions).ok()?;
+    Some(gives_replies(alloc, ends, &actions, replies)? && are_nodes(&ran, runs))
 }
 
 // Whether the action of the script at the index is refused so, on a new graph of two nodes and one end.

@@ -1,8 +1,8 @@
 //! Trees that are run, on one thread and on several.
 ghost use Rattle.std.specs.Prelude.{None};
 
+use crate::runs::{claimed, walk_numbers};
 use crate::steps::by_steps;
-use crate::walks::{claimed, walk_numbers};
 use completer_tree::{Continuation, Failure, Forked, Handed, PartValue, Tree, TreeCounts};
 use std::alloc::{AllocError, Global};
 use std::sync::Arc;

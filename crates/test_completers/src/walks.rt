@@ -209,8 +209,8 @@ fn walk<P: Planned + Send + Sync, R: Threads + Sync>(
     }
 }
 
-// Opens a tree over all numbers.
-fn walk_whole<P: Planned + Send + Sync, R: Threads + Sync>(
+/// Opens a tree over all numbers, and walks it.
+pub(crate) fn walk_whole<P: Planned + Send + Sync, R: Threads + Sync>(
     rt: &R,
     alloc: Global,
     counts: &TreeCounts<Items<P>, Append<P>>,
@@ -246,62 +246,4 @@ fn walk_whole<P: Planned + Send + Sync, R: Threads + Sync>(
             if one.is_some() { one } else { other }
         }
     }
-}
-
-fn walk_as<P: Planned + Send + Sync, R: Threads + Sync>(
-    rt: &R,
-    alloc: Global,
-    numbers: &[i64],
-    nodes: u32,
-    levels: u32,
-) -> Option<Handed<Vec<i64>>>
-    requires source { numbers.now ≡ P.source }
-    ensures { IfSome result (λ v. Walked (λ x. x.items) P.source 0 (length P.source) v) }
-{
-    let Ok((counts, seat)) = TreeCounts::<Items<P>, Append<P>>::new(alloc, nodes, 0) else {
-        return Some(Err(Failure::NoMemory));
-    };
-    match walk_whole::<P, R>(rt, alloc, &counts, seat, numbers, levels)? {
-        Ok(found) => Some(Ok(found.items)),
-        Err(failure) => Some(Err(failure)),
-    }
-}
-
-// How many nodes the walk of all numbers claimed: one less than the next one has.
-fn claimed_as<P: Planned + Send + Sync, R: Threads + Sync>(
-    rt: &R,
-    alloc: Global,
-    numbers: &[i64],
-    nodes: u32,
-) -> Option<u32>
-    requires source { numbers.now ≡ P.source }
-{
-    let (counts, seat) = TreeCounts::<Items<P>, Append<P>>::new(alloc, nodes, 0).ok()?;
-    let (seat, aside) = counts.split(seat, 0, 0, 1);
-    let _found = walk_whole::<P, R>(rt, alloc, &counts, seat, numbers, 1)?;
-    let (_aside, next) = counts.claim(aside);
-    Some(next? - 1)
-}
-
-/// How many nodes the walk of all numbers claims, of at most `nodes`; none if these are all.
-pub(crate) fn claimed<R: Threads + Sync>(
-    rt: &R,
-    alloc: Global,
-    numbers: &[i64],
-    nodes: u32,
-) -> Option<u32> {
-    claimed_as::<Brand, R>(rt, alloc, numbers, nodes)
-}
-
-/// What the walk of all numbers gives, over a tree of at most `nodes` nodes, whose sides are walked on up to 2^`levels` threads.
-pub(crate) fn walk_numbers<R: Threads + Sync>(
-    rt: &R,
-    alloc: Global,
-    numbers: &[i64],
-    nodes: u32,
-    levels: u32,
-) -> Option<Handed<Vec<i64>>>
-    ensures { IfSome result (λ v. Walked (λ x. x.items) numbers.now 0 (length numbers.now) v) }
-{
-    walk_as::<Brand, R>(rt, alloc, numbers, nodes, levels)
 }

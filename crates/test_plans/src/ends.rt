@@ -3,7 +3,7 @@
 use crate::fixture::{cut_at, gives, plan_of};
 use columns::Columns;
 use job_plan::SplitTree;
-use std::alloc::Global;
+use std::alloc::{AllocError, Global};
 use std::test::Fail;
 
 /// Values that count up by 1: the job's source, the first value, and how many there are. Batches of the first begin with
@@ -26,14 +26,11 @@ fn position_of(value: i64, first: i64, count: i64) -> Option<i64> {
     (0 <= position && position < count).then_some(position)
 }
 
-/// The first of these jobs that doesn't give its answer: in one piece, and in two.
-fn first_false(
-    alloc: Global,
-    source: &str,
-    ends: &[(String, String)],
-) -> Result<Option<String>, Fail> {
+/// The first of these jobs that doesn't give its answer: in one piece, and in two. An end is a line `END => ANSWER`.
+fn first_false(alloc: Global, source: &str, ends: &str) -> Result<Option<String>, Fail> {
     let columns = Columns::none();
-    for (end, want) in ends {
+    for line in ends.lines() {
+        let (end, want) = line.split_once(" => ").unwrap_or((line, ""));
         let text = format!(in alloc; "q = {source}.{end}")?;
         let plan = plan_of(alloc, &text, &columns)?;
         for job in &plan.jobs {
@@ -46,54 +43,54 @@ fn first_false(
     Ok(None)
 }
 
-/// Ends whose test decides at one value and faults at another, and their answers: what the earlier item gives.
+/// Ends whose test decides at one value and faults at another, with these answers: of `anyMatch`, of the other matches, and the counts
+/// of what `takeWhile` and `dropWhile` keep.
+fn lines_of(
+    alloc: Global,
+    deciding: i64,
+    faulting: i64,
+    wants: [&str; 4],
+) -> Result<String, AllocError> {
+    let [found, other, before, after] = wants;
+    format!(in alloc;
+        "\
+anyMatch(x -> x == {deciding} || 1 / (x - ({faulting})) == 7) => {found}
+noneMatch(x -> x == {deciding} || 1 / (x - ({faulting})) == 7) => {other}
+allMatch(x -> x != {deciding} && 1 / (x - ({faulting})) != 7) => {other}
+takeWhile(x -> x != {deciding} && 1 / (x - ({faulting})) != 7).count() => {before}
+dropWhile(x -> x != {deciding} && 1 / (x - ({faulting})) != 7).count() => {after}"
+    )
+}
+
+/// The position of the value at which a test faults, if none at which it decides comes before.
+fn fault_before(stop: Option<i64>, fault: Option<i64>) -> Option<i64> {
+    match (stop, fault) {
+        (Some(stop), Some(fault)) if stop < fault => None,
+        (_, fault) => fault,
+    }
+}
+
+/// Such ends, and their answers: what the earlier item gives.
 fn ends_of(
     alloc: Global,
     first: i64,
     count: i64,
     deciding: i64,
     faulting: i64,
-) -> Result<Vec<(String, String)>, Fail> {
+) -> Result<String, AllocError> {
     let stop = position_of(deciding, first, count);
-    let fault = position_of(faulting, first, count);
-    let faults = match (stop, fault) {
-        (_, None) => false,
-        (None, Some(_)) => true,
-        (Some(stop), Some(fault)) => fault < stop,
-    };
-    let some = format!(in alloc; "(x -> x == {deciding} || 1 / (x - ({faulting})) == 7)")?;
-    let each = format!(in alloc; "(x -> x != {deciding} && 1 / (x - ({faulting})) != 7)")?;
-    let found = stop.is_some();
-    let before = stop.unwrap_or(count);
-    let after = count.wrapping_sub(before);
-    let mut ends = Vec::new(alloc);
-    ends.push((
-        format!(in alloc; "anyMatch{some}")?,
-        format!(in alloc; "{found}")?,
-    ))?;
-    ends.push((
-        format!(in alloc; "noneMatch{some}")?,
-        format!(in alloc; "{}", !found)?,
-    ))?;
-    ends.push((
-        format!(in alloc; "allMatch{each}")?,
-        format!(in alloc; "{}", !found)?,
-    ))?;
-    ends.push((
-        format!(in alloc; "takeWhile{each}.count()")?,
-        format!(in alloc; "{before}")?,
-    ))?;
-    ends.push((
-        format!(in alloc; "dropWhile{each}.count()")?,
-        format!(in alloc; "{after}")?,
-    ))?;
-    if faults {
-        let place = fault.unwrap_or(0);
-        for (_, want) in &mut ends {
-            *want = format!(in alloc; "fault divide-by-zero stage 1 item {place}")?;
-        }
+    if let Some(place) = fault_before(stop, position_of(faulting, first, count)) {
+        let fault = format!(in alloc; "fault divide-by-zero stage 1 item {place}")?;
+        return lines_of(alloc, deciding, faulting, [fault.as_str(); 4]);
     }
-    Ok(ends)
+    let (found, other) = match stop {
+        Some(_) => ("true", "false"),
+        None => ("false", "true"),
+    };
+    let before = stop.unwrap_or(count);
+    let after = format!(in alloc; "{}", count.wrapping_sub(before))?;
+    let before = format!(in alloc; "{before}")?;
+    lines_of(alloc, deciding, faulting, [found, other, &before, &after])
 }
 
 #[test]

@@ -1,4 +1,4 @@
-use Rattle.test_completers.proofs.walks.claimed.Given as goal
+use Rattle.test_completers.proofs.runs.claimed.Given as goal
 
 abbrev pub ghosts-claimed_as : goal.ghosts-claimed_as
 ghosts-claimed_as g a = record { source = a.numbers.now }
