@@ -13,14 +13,14 @@ use Rattle.columns.specs.declared.fault.ColumnFault.{ColumnFault}
 use Rattle.columns.specs.declared.fault.ColumnFault.TheVariants as column
 use Rattle.columns.specs.Cells.{cells_of}
 use Rattle.columns.specs.Table.{NamedColumn}
-use Rattle.job_plan.specs.declared.answer.Answer.{Answer}
+use Rattle.job_meaning.specs.declared.answer.Answer.{Answer}
 use Rattle.run_settings.specs.declared.settings.Form.{Form}
 use Rattle.run_settings.specs.declared.settings.Form.TheVariants as form
 use Rattle.job_language.specs.declared.fault.Cause.TheVariants as cause
 use Rattle.job_language.specs.declared.fault.JobFault.{JobFault}
 use Rattle.job_language.specs.Files.{SpellsJobs, IsRefused}
 use Rattle.job_language.specs.Jobs.{AbstractJob, names_of}
-use Rattle.job_plan.specs.FileAnswers.{meaning_of}
+use Rattle.job_meaning.specs.FileAnswers.{meaning_of}
 use Rattle.report.specs.Json.{report_json}
 use Rattle.report.specs.Text.{report_text}
 use Rattle.engine.specs.declared.running.EngineFault.{EngineFault}

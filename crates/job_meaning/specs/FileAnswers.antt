@@ -2,10 +2,10 @@
 use Rattle.std.specs.Prelude.{ℕ, suc, ℤ, if◌then◌else◌, List, [], ◌∷◌, ◌++◌, Option, Some, None}
 use Rattle.lambda_values.specs.Earlier.{Numbers}
 use Rattle.job_language.specs.Jobs.{AbstractPlainSource, range, range_closed, values, result, AbstractJob}
-use Rattle.job_plan.specs.declared.answer.Answer.{Answer}
-use Rattle.job_plan.specs.declared.answer.Answer.TheVariants as answer
-use Rattle.job_plan.specs.Names.{names_in_job, same_name}
-use Rattle.job_plan.specs.Walks.{answer_of_job, array_of, is_usable, number_of}
+use Rattle.job_meaning.specs.declared.answer.Answer.{Answer}
+use Rattle.job_meaning.specs.declared.answer.Answer.TheVariants as answer
+use Rattle.job_meaning.specs.Names.{names_in_job, same_name}
+use Rattle.job_meaning.specs.Walks.{answer_of_job, array_of, is_usable, number_of}
 
 -- the answer of a job, under the job's name
 pub record NamedAnswer : Type 0 where

@@ -1,7 +1,7 @@
 //! What a job gives.
 
 ghost use Rattle.std.specs.Prelude.{◌≡◌, [], IfNone, IfOk, IfSome};
-ghost use Rattle.job_plan.specs.Walks.{array_of, is_usable, number_of};
+ghost use Rattle.job_meaning.specs.Walks.{array_of, is_usable, number_of};
 
 use crate::values::Values;
 use std::alloc::Global;

@@ -2,7 +2,6 @@
 
 ghost use Rattle.std.specs.Prelude.{◌≡◌, flat_map, IfOk, IfSome};
 
-use crate::given::items_in;
 use std::alloc::Global;
 use std::marker::Model;
 use trace::NoMemory;
@@ -92,12 +91,21 @@ impl Values {
     }
 }
 
+/// How many values there are in pieces, or the greatest `usize` if there are more.
+fn count_in(pieces: &[Vec<i64>]) -> usize {
+    let mut count = 0usize;
+    for piece in pieces {
+        count = count.saturating_add(piece.len());
+    }
+    count
+}
+
 /// The values of pieces, copied.
 fn copied(alloc: Global, pieces: &[Vec<i64>]) -> Result<Vec<i64>, NoMemory>
     ensures { IfOk result (λ values. values.items ≡ flat_map (λ piece. piece.items) pieces.now) }
 {
     let mut values = Vec::new(alloc);
-    values.reserve(items_in(pieces) as usize)?;
+    values.reserve(count_in(pieces))?;
     for piece in pieces {
         values.extend_from_slice(piece)?;
     }

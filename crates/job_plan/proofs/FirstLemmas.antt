@@ -15,14 +15,14 @@ use Rattle.slice_ops.specs.Slices.{limit, skip, take_while, drop_while, limited,
 use Rattle.find_ops.specs.Finds.{find_of}
 use Rattle.find_ops.specs.declared.terminal.FindTerminal.TheVariants as terminal
 use Rattle.job_language.specs.Jobs.{AbstractPlainSource}
-use Rattle.job_plan.specs.declared.answer.Answer.TheVariants as answer
+use Rattle.job_meaning.specs.declared.answer.Answer.TheVariants as answer
 use Rattle.job_plan.specs.declared.outcome.Outcome.{Outcome}
 use Rattle.job_plan.specs.declared.outcome.Outcome.TheVariants as outcome
 use Rattle.job_plan.specs.declared.segment.Segment.{Segment}
 use Rattle.job_plan.specs.Firsts.{IsClean, SameOfClean, all_calm, finding_first, is_calm, last_finds}
 use Rattle.job_plan.specs.Parts.{segment_in, segments_in}
 use Rattle.job_plan.specs.Plans.{AbstractEnd, slicing, folding, finding, AbstractSegment, ended, last_stage, on_outcome, segments_answer, walk_of}
-use Rattle.job_plan.specs.Walks.{source_walk, values_of}
+use Rattle.job_meaning.specs.Walks.{source_walk, values_of}
 use Rattle.job_plan.specs.Windows.{selects}
 use Rattle.job_plan.proofs.Elements.{drop_of_none}
 use Rattle.job_plan.proofs.MoveLemmas.{both, segments_more, test_there, value_there}

@@ -5,7 +5,7 @@ use Rattle.trace.specs.declared.item.End.TheVariants as end
 use Rattle.trace.specs.Trace.{trace}
 use Rattle.trace.proofs.Sources.{length-placed}
 use Rattle.job_language.specs.Jobs.{AbstractPlainSource}
-use Rattle.job_plan.specs.Walks.{source_walk, values_of}
+use Rattle.job_meaning.specs.Walks.{source_walk, values_of}
 
 -- if there aren't too many values, one item for each
 pub items_of_few : (ss : List AbstractPlainSource) (b : Bool) → b ≡ nat_lt (2 ^ 62) (length (values_of ss)) → b ≡ false → length (source_walk ss).items ≡ length (values_of ss)

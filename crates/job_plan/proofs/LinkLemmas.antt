@@ -8,7 +8,7 @@ use Rattle.job_plan.specs.declared.segment.Segment.{Segment}
 use Rattle.job_plan.specs.Links.{AbstractLink, link_walk, linked, link_by, link_in, each_link_in, first_links, after_by, after_links, ends_in_slice, goes_through, Fits, AllFit, walked_segments, walked_source}
 use Rattle.job_plan.specs.Parts.{segment_in, segments_in}
 use Rattle.job_plan.specs.Plans.{AbstractEnd, slicing, AbstractPlan, AbstractSegment, planned_answer, ended, last_stage, on_outcome, slice_in, walk_of, segments_answer}
-use Rattle.job_plan.specs.Walks.{instead_of_fault, source_walk}
+use Rattle.job_meaning.specs.Walks.{instead_of_fault, source_walk}
 use Rattle.job_plan.specs.Windows.{later_segments, selected_source}
 use Rattle.job_plan.proofs.WindowLemmas.{later_answer}
 

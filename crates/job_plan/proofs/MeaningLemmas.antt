@@ -5,13 +5,13 @@ use Rattle.std.specs.Cmp.Lexicographic.{same_text}
 use Rattle.std.proofs.lemmas.Cmp.{nat_list_eq_equiv}
 use Rattle.lambda_values.specs.Earlier.{Numbers}
 use Rattle.job_language.specs.Jobs.{AbstractPlainSource, range, range_closed, values, result, AbstractJob}
-use Rattle.job_plan.specs.declared.answer.Answer.{Answer}
+use Rattle.job_meaning.specs.declared.answer.Answer.{Answer}
 use Rattle.job_plan.specs.declared.segment.Named.{Named}
-use Rattle.job_plan.specs.FileAnswers.{NamedAnswer, answer_after, answers_after, meaning_of, all_put_in, array_found, first_unusable, found, found_later, number_found, numbers_named, or_else, unless_unusable, unusable_at}
-use Rattle.job_plan.specs.Names.{all_source_names, names_in_job, one_later, place_of, same_name}
+use Rattle.job_meaning.specs.FileAnswers.{NamedAnswer, answer_after, answers_after, meaning_of, all_put_in, array_found, first_unusable, found, found_later, number_found, numbers_named, or_else, unless_unusable, unusable_at}
+use Rattle.job_meaning.specs.Names.{all_source_names, names_in_job, one_later, place_of, same_name}
 use Rattle.job_plan.specs.PlannedAnswers.{all_put_at, array_at, array_in, first_unusable_at, number_there, numbers_at, place_in, planned_after, planned_from, planned_meaning, unusable_there}
 use Rattle.job_plan.specs.Plans.{all_placed, placed, plan_of, plans_after, plans_of, planned_answer}
-use Rattle.job_plan.specs.Walks.{fallback_of, instead_of_fault}
+use Rattle.job_meaning.specs.Walks.{fallback_of, instead_of_fault}
 use Rattle.job_plan.proofs.SegmentLemmas.{planned_job}
 
 abbrev names_in : List NamedAnswer → List (List ℕ)

@@ -21,19 +21,19 @@ use Rattle.trace.specs.declared.stage.Stage.TheVariants as stage
 use Rattle.trace.specs.Stages.{AbstractStage, map, filter, flat_map, image, pipe, stage_of, stages_of, through}
 use Rattle.trace.specs.Trace.{Trace, trace, nothing, append}
 use Rattle.slice_ops.specs.Slices.{limit, skip, take_while, drop_while, limited, skipped}
-use Rattle.job_plan.specs.declared.answer.Answer.{Answer}
+use Rattle.job_meaning.specs.declared.answer.Answer.{Answer}
 use Rattle.job_plan.specs.declared.outcome.Outcome.{Outcome}
 use Rattle.job_plan.specs.declared.outcome.Outcome.TheVariants as outcome
 use Rattle.job_plan.specs.declared.segment.Held.{Held}
 use Rattle.job_plan.specs.declared.segment.JobPlan.{JobPlan}
 use Rattle.job_plan.specs.declared.segment.Segment.{Segment}
-use Rattle.job_plan.specs.FileAnswers.{unless_unusable}
+use Rattle.job_meaning.specs.FileAnswers.{unless_unusable}
 use Rattle.job_plan.specs.Faultless.{is_divisor, is_never, is_never_by, is_total, is_total_by, never_faults, test_never_faults}
 use Rattle.job_plan.specs.Moves.{AllSamePlans, IsSamePlan, SameAnswers, all_keep, comes_first, held_in, waiting_in}
 use Rattle.job_plan.specs.Parts.{end_in, plan_in, plans_in, segment_in, segments_in}
 use Rattle.job_plan.specs.PlannedAnswers.{all_put_at, first_unusable_at, numbers_at, planned_after, planned_from, planned_meaning}
 use Rattle.job_plan.specs.Plans.{AbstractEnd, slicing, AbstractSegment, AbstractPlan, ended, on_outcome, outcome_of, segments_answer}
-use Rattle.job_plan.specs.Walks.{instead_of_fault, source_walk}
+use Rattle.job_meaning.specs.Walks.{instead_of_fault, source_walk}
 use Rattle.job_plan.proofs.Elements.{drop_none, take_none}
 
 pub both : (a b : Bool) → (a && b) ≡ true → (a ≡ true) × (b ≡ true)

@@ -7,7 +7,7 @@ use Rattle.reduce_ops.specs.Operators.{value_of}
 use Rattle.slice_ops.specs.Slices.{sliced}
 use Rattle.prefix_scan.specs.Prefixes.{prefixed}
 use Rattle.job_language.specs.Jobs.{AbstractPlainSource, AbstractJobStage, item, slice, prefix, AbstractTerminal, AbstractJob}
-use Rattle.job_plan.specs.Walks.{after_stages, answer_of, answer_of_job, fallback_of, instead_of_fault, source_walk}
+use Rattle.job_meaning.specs.Walks.{after_stages, answer_of, answer_of_job, fallback_of, instead_of_fault, source_walk}
 use Rattle.job_plan.specs.Plans.{plan_of, planned_answer, segments_answer, segments_from}
 use Rattle.job_plan.proofs.PartLemmas.{terminal_ends}
 

@@ -14,7 +14,7 @@ use Rattle.job_language.specs.Jobs.{AbstractPlainSource}
 use Rattle.job_plan.specs.Pieces.{elements}
 use Rattle.job_plan.specs.Plans.{AbstractEnd, slicing, AbstractSegment, segments_answer}
 use Rattle.job_plan.specs.Spans.{earlier, moved, span}
-use Rattle.job_plan.specs.Walks.{source_walk, values_of}
+use Rattle.job_meaning.specs.Walks.{source_walk, values_of}
 use Rattle.job_plan.specs.Windows.{end_selected, end_selects, later_segments, selected_walk, selects, windowed}
 use Rattle.job_plan.proofs.Elements.{clamped, drop_none, drop_taken, drop_twice, elements_none, length_dropped, take_none, take_of_none, take_whole}
 

@@ -3,13 +3,11 @@ pub mod Arrays
 pub mod Batches
 pub mod Faultless
 pub mod Firsts
-pub mod FileAnswers
 pub mod FoldFaults
 pub mod Kept
 pub mod Links
 pub mod Maps
 pub mod Moves
-pub mod Names
 pub mod Parts
 pub mod Passages
 pub mod Pieces
@@ -19,5 +17,4 @@ pub mod Runs
 pub mod Scans
 pub mod Spans
 pub mod Stretches
-pub mod Walks
 pub mod Windows

@@ -10,7 +10,7 @@ use Rattle.job_plan.specs.declared.segment.Held.{Held}
 use Rattle.job_plan.specs.Faultless.{never_faults}
 use Rattle.job_plan.specs.Parts.{segments_in}
 use Rattle.job_plan.specs.Plans.{AbstractEnd, slicing, AbstractSegment, AbstractPlan, segments_answer, slice_in}
-use Rattle.job_plan.specs.Walks.{source_walk}
+use Rattle.job_meaning.specs.Walks.{source_walk}
 
 -- whether stages are all maps; if asked for, maps that can't have a fault
 abbrev pub stage_keeps : Bool → AbstractStage → Bool

@@ -22,8 +22,8 @@ use Rattle.job_plan.specs.Scans.{scan}
 use Rattle.job_plan.specs.declared.fold_part.FoldPart.{FoldPart}
 use Rattle.job_plan.specs.declared.part.Part.{Part}
 use Rattle.job_plan.specs.declared.part.Part.TheVariants as part
-use Rattle.job_plan.specs.declared.answer.Answer.{Answer}
-use Rattle.job_plan.specs.declared.answer.Answer.TheVariants as answer
+use Rattle.job_meaning.specs.declared.answer.Answer.{Answer}
+use Rattle.job_meaning.specs.declared.answer.Answer.TheVariants as answer
 use Rattle.job_plan.specs.declared.fallback.Fallback.{Fallback}
 use Rattle.job_plan.specs.declared.fallback.Fallback.TheVariants as fallback
 use Rattle.job_plan.specs.declared.ends.SegmentEnd.{SegmentEnd}
@@ -33,7 +33,7 @@ use Rattle.job_plan.specs.declared.segment.JobPlan.{JobPlan}
 use Rattle.job_plan.specs.declared.source.Source.{Source}
 use Rattle.job_plan.specs.declared.source.Source.TheVariants as source
 use Rattle.job_plan.specs.Plans.{AbstractEnd, slicing, folding, finding, collecting, exactly, scanning, AbstractSegment, AbstractPlan, counted_as, walk_of, last_stage}
-use Rattle.job_plan.specs.Walks.{source_walk}
+use Rattle.job_meaning.specs.Walks.{source_walk}
 use Rattle.job_plan.specs.Windows.{windowed}
 
 -- the end of a segment of the program

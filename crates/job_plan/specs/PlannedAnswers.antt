@@ -2,12 +2,12 @@
 use Rattle.std.specs.Prelude.{ℕ, ℤ, if◌then◌else◌, List, [], ◌∷◌, ◌++◌, Option, Some, None, slice_get}
 use Rattle.lambda_values.specs.Earlier.{Numbers}
 use Rattle.job_language.specs.Jobs.{AbstractPlainSource, range, range_closed, values, result}
-use Rattle.job_plan.specs.declared.answer.Answer.{Answer}
+use Rattle.job_meaning.specs.declared.answer.Answer.{Answer}
 use Rattle.job_plan.specs.declared.segment.Named.{Named}
-use Rattle.job_plan.specs.FileAnswers.{numbered, or_else, unless_unusable, unless_usable}
-use Rattle.job_plan.specs.Names.{same_name}
+use Rattle.job_meaning.specs.FileAnswers.{numbered, or_else, unless_unusable, unless_usable}
+use Rattle.job_meaning.specs.Names.{same_name}
 use Rattle.job_plan.specs.Plans.{AbstractPlan, planned_answer}
-use Rattle.job_plan.specs.Walks.{array_of, number_of}
+use Rattle.job_meaning.specs.Walks.{array_of, number_of}
 
 -- helper: the place of a job, if its answer is there and can't be used
 abbrev pub unusable_there : ℕ → Option Answer → Option ℕ

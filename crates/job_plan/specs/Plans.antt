@@ -13,13 +13,13 @@ use Rattle.slice_ops.specs.Slices.{AbstractSlice, sliced}
 use Rattle.prefix_scan.specs.Prefixes.{Range, prefixed}
 use Rattle.find_ops.specs.Finds.{Find, find_answer}
 use Rattle.job_language.specs.Jobs.{AbstractPlainSource, AbstractJobStage, item, slice, prefix, AbstractTerminal, sum, count, min, max, to_array, reduce, reduce_from, find, exact_sum, AbstractJob}
-use Rattle.job_plan.specs.declared.answer.Answer.{Answer}
-use Rattle.job_plan.specs.declared.answer.Answer.TheVariants as answer
+use Rattle.job_meaning.specs.declared.answer.Answer.{Answer}
+use Rattle.job_meaning.specs.declared.answer.Answer.TheVariants as answer
 use Rattle.job_plan.specs.declared.outcome.Outcome.{Outcome}
 use Rattle.job_plan.specs.declared.outcome.Outcome.TheVariants as outcome
 use Rattle.job_plan.specs.declared.segment.Named.{Named}
-use Rattle.job_plan.specs.Names.{names_in_job, place_of}
-use Rattle.job_plan.specs.Walks.{exact_answer, fallback_of, found_answer, instead_of_fault, source_walk, unless_fault}
+use Rattle.job_meaning.specs.Names.{names_in_job, place_of}
+use Rattle.job_meaning.specs.Walks.{exact_answer, fallback_of, found_answer, instead_of_fault, source_walk, unless_fault}
 
 -- the end of a segment: a stage that looks at a whole walk, a fold (its operator, its start, and whether it counts), a
 -- find or a match, the values, an exact sum, or a prefix (its operator and its range)

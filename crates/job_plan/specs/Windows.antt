@@ -5,7 +5,7 @@ use Rattle.trace.specs.Trace.{Trace, trace}
 use Rattle.slice_ops.specs.Slices.{AbstractSlice, limit, skip, take_while, drop_while, limited, skipped}
 use Rattle.job_plan.specs.Pieces.{elements}
 use Rattle.job_plan.specs.Plans.{AbstractEnd, AbstractSegment, AbstractPlan, slice_in}
-use Rattle.job_plan.specs.Walks.{source_walk}
+use Rattle.job_meaning.specs.Walks.{source_walk}
 
 -- whether a stage selects positions, and leaves the end of the walk over a job's sources as it is: `skip`, and `limit` of at
 -- least one item. `limit(0)` takes the fault of sources that are too long away

@@ -3,12 +3,11 @@
 ghost use Rattle.std.specs.Prelude.{◌≡◌, ◌<◌, ◌++◌, [], length, flat_map, OnOk, OnErr, IfErr};
 ghost use Rattle.trace.specs.declared.item.End.TheVariants as end;
 ghost use Rattle.job_plan.specs.Arrays.{array, array_append};
-ghost use Rattle.job_plan.specs.Walks.{unless_fault};
+ghost use Rattle.job_meaning.specs.Walks.{unless_fault};
 ghost use Rattle.job_plan.specs.declared.part.Part.TheVariants as part;
 
-use crate::answer::Answer;
 use crate::end_part::{EndPart, LastStage, is_fault};
-use crate::values::Values;
+use job_meaning::{Answer, Values};
 use std::alloc::Global;
 use std::marker::Model;
 use trace::{End, NoMemory, SourceItems};

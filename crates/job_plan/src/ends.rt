@@ -5,7 +5,7 @@ ghost use Rattle.slice_ops.specs.Slices.{slice_of};
 ghost use Rattle.job_language.specs.Jobs.{terminal_of};
 ghost use Rattle.job_plan.specs.Parts.{end_in, fallback_in};
 ghost use Rattle.job_plan.specs.Plans.{end_of, gives_walk, slice_in};
-ghost use Rattle.job_plan.specs.Walks.{number_as};
+ghost use Rattle.job_meaning.specs.Walks.{number_as};
 
 use crate::fallback::Fallback;
 use find_ops::FindTerminal;

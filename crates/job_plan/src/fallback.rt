@@ -3,12 +3,12 @@
 ghost use Rattle.std.specs.Prelude.{◌≡◌, option_map};
 ghost use Rattle.job_language.specs.Jobs.{terminal_of};
 ghost use Rattle.job_plan.specs.Parts.{fallback_in, plan_in};
-ghost use Rattle.job_plan.specs.Walks.{instead_of_fault, number_as};
+ghost use Rattle.job_meaning.specs.Walks.{instead_of_fault, number_as};
 
-use crate::answer::Answer;
 use crate::ends::number_as;
 use crate::segment::JobPlan;
 use job_language::Terminal;
+use job_meaning::Answer;
 
 /// What a job gives in place of a fault, in the form of what its terminal gives.
 #[derive(Clone, Copy)]

@@ -7,13 +7,13 @@ ghost use Rattle.trace.specs.declared.item.Item.{Item as item};
 ghost use Rattle.reduce_ops.specs.declared.op.Op.{Op};
 ghost use Rattle.job_plan.specs.Parts.{IsFold};
 ghost use Rattle.job_plan.specs.Plans.{counted_as, folded};
-ghost use Rattle.job_plan.specs.Walks.{unless_fault};
+ghost use Rattle.job_meaning.specs.Walks.{unless_fault};
 ghost use Rattle.job_plan.specs.declared.part.Part.TheVariants as part;
 
-use crate::answer::Answer;
 use crate::end_part::{EndPart, LastStage, is_fault};
 use crate::ends::Fold;
 use crate::folding::{folded, folded_flagged};
+use job_meaning::Answer;
 use reduce_ops::Partial;
 use trace::{End, Item, NoMemory, SourceItems};
 

@@ -11,7 +11,7 @@ ghost use Rattle.job_plan.specs.Maps.{imaged};
 ghost use Rattle.job_plan.specs.Parts.{StandsFor, end_in, end_keeps_items, segment_in, walk_in};
 ghost use Rattle.job_plan.specs.Pieces.{elements, piece_of};
 ghost use Rattle.job_plan.specs.Scans.{scan_append};
-ghost use Rattle.job_plan.specs.Walks.{plain_values, source_walk, values_of};
+ghost use Rattle.job_meaning.specs.Walks.{plain_values, source_walk, values_of};
 ghost use Rattle.job_plan.specs.Windows.{windowed};
 
 use crate::cheap_maps::Maps;

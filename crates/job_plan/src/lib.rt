@@ -1,16 +1,15 @@
-//! What the jobs of a file mean: the answer of each.
+//! Jobs cut into segments, and the parts of their walks.
 //!
-//! Stands on `job_language`, for jobs, on `trace` and `batch_eval`, for walks, and on `reduce_ops`, `slice_ops` and
-//! `find_ops`, which make of a walk what stages and terminals ask. Used by `report`, which writes answers, and by whatever
-//! runs jobs.
-//! Begin with `meaning_of` of `specs/FileAnswers.antt`, then `specs/Walks.antt` and `specs/Plans.antt`. A job is cut
-//! into segments, and the earlier jobs that it names are found (`Plan::of`); `leaf` takes a piece of a segment's source to a `Part`, two parts side by side merge, and
-//! `Part::finish` gives the next source or the answer. `walk_tree` does all of this on one thread; `plan_laws.rt` says
-//! that it is the answer by stages, and that the jobs of a plan have the answers of their file.
+//! Stands on `job_meaning`, which says what the answer of a job is, on `job_language`, for jobs, on `trace` and `batch_eval`, for
+//! walks, and on `reduce_ops`, `slice_ops`, `find_ops` and `prefix_scan`, which make of a walk what stages and terminals ask. Used
+//! by whatever runs jobs.
+//! Begin with `specs/Plans.antt`. A job is cut into segments, and the earlier jobs that it names are found (`Plan::of`); `leaf` takes
+//! a piece of a segment's source to a `Part`, two parts side by side merge, and `Part::finish` gives the next source or the answer.
+//! `walk_tree` does all of this on one thread; `plan_laws.rt` says that it is the answer by stages, and that the jobs of a plan
+//! have the answers of their file.
 //! Not promised: that pieces are walked at the same time, or that a piece is walked no further than needed.
 #![tactic(auto)]
 
-mod answer;
 mod array_part;
 mod buffer;
 mod cheap_maps;
@@ -63,16 +62,15 @@ mod sources;
 mod spans;
 mod streaming;
 mod stretches;
-mod values;
 mod walks;
 mod windows;
 
-pub use answer::Answer;
 pub use array_part::ArrayPart;
 pub use ends::{Fold, Prefix, SegmentEnd};
 pub use fallback::Fallback;
 pub use fold_part::FoldPart;
 pub use given::GivenWalk;
+pub use job_meaning::{Answer, Values};
 pub use leaves::{leaf, leaf_in_order, leaf_stored, leaf_until, leaf_with, unwalked};
 pub use outcome::Outcome;
 pub use part::Part;
@@ -86,6 +84,5 @@ pub use segment::{JobPlan, Named, Plan, Segment};
 pub use source::{Source, Walked};
 pub use sources::PlainSources;
 pub use streaming::{streamed, streamed_in_order};
-pub use values::Values;
 pub use walks::{SplitTree, walk, walk_tree};
 pub use windows::Window;

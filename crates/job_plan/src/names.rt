@@ -8,7 +8,7 @@ ghost use Rattle.trace.specs.Stages.{stage_of};
 ghost use Rattle.slice_ops.specs.Slices.{slice_of};
 ghost use Rattle.find_ops.specs.Finds.{find_of};
 ghost use Rattle.job_language.specs.Jobs.{job_of, job_stage_of, job_stages_of, sources_of, terminal_of};
-ghost use Rattle.job_plan.specs.Names.{all_source_names, all_stage_names, find_names, job_stage_names, names_in_job, place_of, slice_names, stage_names, terminal_names};
+ghost use Rattle.job_meaning.specs.Names.{all_source_names, all_stage_names, find_names, job_stage_names, names_in_job, place_of, slice_names, stage_names, terminal_names};
 ghost use Rattle.job_plan.specs.Parts.{plan_names};
 ghost use Rattle.job_plan.specs.Plans.{all_placed};
 

@@ -1,11 +1,11 @@
 //! What a segment gives.
 
 ghost use Rattle.std.specs.Prelude.{◌≡◌};
-ghost use Rattle.job_plan.specs.Walks.{exact_answer, found_answer};
+ghost use Rattle.job_meaning.specs.Walks.{exact_answer, found_answer};
 
-use crate::answer::Answer;
 use crate::given::GivenWalk;
 use find_ops::Found;
+use job_meaning::Answer;
 use trace::Fault;
 
 /// What a segment makes of its source.

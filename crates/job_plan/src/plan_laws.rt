@@ -4,13 +4,13 @@ ghost use Rattle.std.specs.Prelude.{◌≡◌, ℕ, ◌≤◌, List, Option, Som
 ghost use Rattle.lambda_values.specs.Earlier.{Numbers};
 ghost use Rattle.trace.specs.Trace.{Trace, append};
 ghost use Rattle.job_language.specs.Jobs.{AbstractJob};
-ghost use Rattle.job_plan.specs.FileAnswers.{meaning_of};
+ghost use Rattle.job_meaning.specs.FileAnswers.{meaning_of};
 ghost use Rattle.job_plan.specs.Links.{walked_segments, walked_source};
 ghost use Rattle.job_plan.specs.Pieces.{piece_of};
 ghost use Rattle.job_plan.specs.PlannedAnswers.{planned_meaning};
 ghost use Rattle.job_plan.specs.Plans.{AbstractPlan, AbstractSegment, plan_of, plans_of, planned_answer, segments_answer};
 ghost use Rattle.job_plan.specs.Spans.{IsNotAfter};
-ghost use Rattle.job_plan.specs.Walks.{answer_of_job, instead_of_fault};
+ghost use Rattle.job_meaning.specs.Walks.{answer_of_job, instead_of_fault};
 ghost use Rattle.job_plan.specs.Windows.{later_segments, selected_walk};
 
 /// The segments of a job, in turn, give the answer of its walk by stages.

@@ -12,7 +12,7 @@ ghost use Rattle.job_language.specs.Jobs.{source_of, sources_of};
 ghost use Rattle.job_plan.specs.Parts.{plan_in, walk_in};
 ghost use Rattle.job_plan.specs.Pieces.{elements, piece_of};
 ghost use Rattle.job_plan.specs.Spans.{after, span};
-ghost use Rattle.job_plan.specs.Walks.{plain_values, source_walk, values_of};
+ghost use Rattle.job_meaning.specs.Walks.{plain_values, source_walk, values_of};
 ghost use Rattle.job_plan.specs.Windows.{selected_source, selected_walk};
 
 use crate::given::GivenWalk;

@@ -3,7 +3,7 @@
 ghost use Rattle.std.specs.Prelude.{◌≡◌, ◌-◌, ◌<◌, ◌^◌, min, length, nat_lt, pos, ◌+ℤ◌, None};
 ghost use Rattle.trace.specs.Cover.{distance};
 ghost use Rattle.job_language.specs.Jobs.{source_of, sources_of};
-ghost use Rattle.job_plan.specs.Walks.{plain_values, values_of};
+ghost use Rattle.job_meaning.specs.Walks.{plain_values, values_of};
 
 use crate::windows::Window;
 use job_language::PlainSource;

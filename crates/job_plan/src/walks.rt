@@ -6,7 +6,6 @@ ghost use Rattle.job_plan.specs.Parts.{StandsFor, plan_in, plans_in, segment_in,
 ghost use Rattle.job_plan.specs.Pieces.{piece_of};
 ghost use Rattle.job_plan.specs.Plans.{outcome_of, planned_answer, segments_answer};
 
-use crate::answer::Answer;
 use crate::leaves::{leaf_in_order, leaf_with};
 use crate::outcome::Outcome;
 use crate::part::Part;
@@ -14,6 +13,7 @@ use crate::segment::{JobPlan, Segment};
 use crate::source::{Source, Walked};
 use crate::windows::Window;
 use batch_eval::Registers;
+use job_meaning::Answer;
 use lambda_values::Env;
 use std::alloc::Global;
 use trace::NoMemory;

@@ -9,7 +9,7 @@ ghost use Rattle.job_language.specs.Jobs.{AbstractPlainSource};
 ghost use Rattle.job_plan.specs.Parts.{end_in, plan_in, segment_in, segments_in};
 ghost use Rattle.job_plan.specs.Pieces.{elements};
 ghost use Rattle.job_plan.specs.Spans.{after, earlier, moved};
-ghost use Rattle.job_plan.specs.Walks.{source_walk};
+ghost use Rattle.job_meaning.specs.Walks.{source_walk};
 ghost use Rattle.job_plan.specs.Windows.{end_selected, end_selects, later_segments, selected_walk, selects, slice_selected, slice_selects, windowed};
 
 use crate::ends::SegmentEnd;

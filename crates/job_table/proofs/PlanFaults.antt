@@ -12,8 +12,8 @@ use Rattle.early_stop.specs.Decisive.{Decides}
 use Rattle.early_stop.specs.Leaving.{IsEnough}
 use Rattle.early_stop.proofs.Leaving.{enough_gives, enough_joined, enough_walked}
 use Rattle.early_stop.proofs.Settling.{later_decides}
-use Rattle.job_plan.specs.declared.answer.Answer.{Answer}
-use Rattle.job_plan.specs.declared.answer.Answer.TheVariants as answer
+use Rattle.job_meaning.specs.declared.answer.Answer.{Answer}
+use Rattle.job_meaning.specs.declared.answer.Answer.TheVariants as answer
 use Rattle.job_plan.specs.declared.outcome.Outcome.{Outcome}
 use Rattle.job_plan.specs.declared.outcome.Outcome.TheVariants as outcome
 use Rattle.job_plan.specs.declared.fallback.Fallback.{Fallback}
@@ -26,7 +26,7 @@ use Rattle.job_plan.specs.Links.{walked_segments}
 use Rattle.job_plan.specs.Pieces.{piece_of}
 use Rattle.job_plan.specs.PlannedAnswers.{first_unusable_at, put_into}
 use Rattle.job_plan.specs.Plans.{AbstractEnd, slicing, folding, finding, collecting, exactly, scanning, AbstractPlan, AbstractSegment, counted_as, ended, folded, last_stage, outcome_of, walk_of, segments_answer}
-use Rattle.job_plan.specs.Walks.{instead_of_fault, unless_fault}
+use Rattle.job_meaning.specs.Walks.{instead_of_fault, unless_fault}
 use Rattle.job_plan.proofs.Elements.{length_dropped}
 use Rattle.job_plan.proofs.SideBySide.{pieces_joined, whole_piece}
 use Rattle.job_table.specs.Caught.{FaultAmong, IsCaught}

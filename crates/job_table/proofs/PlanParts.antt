@@ -2,7 +2,7 @@
 use Rattle.std.proofs.Common.{◌≡◌, ℕ, zero, suc, ◌+◌, ◌-◌, ◌<◌, ◌≤◌, drop, length, pos, Bool, true, false, Option, Some, None, IfSome, Result, Ok, Err, IfOk, slice_get, if◌then◌else◌, ◌==◌, ap, sym, subst, ◌∙◌, refl, arith, eq-eqb, ne_eqb}
 use Rattle.trace.specs.Trace.{Trace, append, nothing}
 use Rattle.lambda_values.specs.Earlier.{Numbers}
-use Rattle.job_plan.specs.declared.answer.Answer.TheVariants as answer
+use Rattle.job_meaning.specs.declared.answer.Answer.TheVariants as answer
 use Rattle.job_plan.specs.declared.outcome.Outcome.{Outcome}
 use Rattle.job_plan.specs.declared.part.Part.{Part}
 use Rattle.std.proofs.lemmas.List.{length-take}
@@ -15,7 +15,7 @@ use Rattle.job_plan.proofs.EnoughLemmas.{whole_enough}
 use Rattle.job_plan.proofs.PartLemmas.{other_ends, settled_decides}
 use Rattle.job_plan.specs.Pieces.{piece_of}
 use Rattle.job_plan.specs.Plans.{AbstractSegment, AbstractPlan, last_stage, outcome_of, walk_of, planned_answer, segments_answer}
-use Rattle.job_plan.specs.Walks.{instead_of_fault}
+use Rattle.job_meaning.specs.Walks.{instead_of_fault}
 use Rattle.job_plan.specs.Spans.{IsNotAfter}
 use Rattle.job_plan.proofs.SideBySide.{pieces_joined, whole_piece}
 use Rattle.job_plan.proofs.LinkLemmas.{walked_answer}

@@ -5,13 +5,13 @@ use Rattle.lambda_values.specs.Earlier.{Numbers}
 use Rattle.job_language.specs.declared.job.PlainSource.{PlainSource}
 use Rattle.job_language.specs.Jobs.{AbstractPlainSource, source_of, sources_of}
 use Rattle.trace.specs.Trace.{Trace}
-use Rattle.job_plan.specs.declared.answer.Answer.{Answer}
-use Rattle.job_plan.specs.declared.answer.Answer.TheVariants as answer
+use Rattle.job_meaning.specs.declared.answer.Answer.{Answer}
+use Rattle.job_meaning.specs.declared.answer.Answer.TheVariants as answer
 use Rattle.job_plan.specs.declared.part.Part.{Part}
 use Rattle.job_plan.specs.declared.segment.Named.{Named}
 use Rattle.job_plan.specs.PlannedAnswers.{all_put_at, first_unusable_at, put_at, put_into}
 use Rattle.job_plan.specs.Plans.{AbstractPlan, segments_answer}
-use Rattle.job_plan.specs.Walks.{instead_of_fault, source_walk}
+use Rattle.job_meaning.specs.Walks.{instead_of_fault, source_walk}
 use Rattle.job_plan.specs.Links.{first_links, linked, plan_streams, walked_segments}
 use Rattle.job_plan.specs.Windows.{later_segments, selected_source, selected_walk}
 use Rattle.job_plan.proofs.LinkLemmas.{unlinked}

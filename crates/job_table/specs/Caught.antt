@@ -1,7 +1,7 @@
 -- Condition: faults of pieces that the jobs of a plan catch.
 use Rattle.std.specs.Prelude.{◌≡◌, ◌<◌, ◌≤◌, ℕ, List, length, Option, Some, None, slice_get}
 use Rattle.trace.specs.declared.item.Fault.{Fault}
-use Rattle.job_plan.specs.declared.answer.Answer.{Answer}
+use Rattle.job_meaning.specs.declared.answer.Answer.{Answer}
 use Rattle.job_plan.specs.declared.part.Part.{Part}
 use Rattle.job_plan.specs.FoldFaults.{fold_fault}
 use Rattle.job_plan.specs.PlannedAnswers.{first_unusable_at}

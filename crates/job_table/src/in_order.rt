@@ -1,6 +1,6 @@
 //! The last segment of a job of a plan, walked in order.
 ghost use Rattle.std.specs.Prelude.{◌≡◌, ◌<◌, ℕ, false, length, IfOk};
-ghost use Rattle.job_plan.specs.declared.answer.Answer.{Answer as answers};
+ghost use Rattle.job_meaning.specs.declared.answer.Answer.{Answer as answers};
 ghost use Rattle.job_plan.specs.Parts.{may_search, plans_in};
 ghost use Rattle.job_table.specs.PlanSegments.{PartStands, answer_of, chain_at, size_at, slices_first};
 ghost use Rattle.job_table.specs.Sources.{IsKept};
@@ -10,7 +10,8 @@ use crate::kept::{SegmentSource, Taken};
 use crate::plan_parts::{part_in_order, slices_first, streamed_part};
 use crate::planned::{PlanJobs, Planned};
 use batch_eval::Registers;
-use job_plan::{Answer, Part, Source, Walked};
+use job_meaning::Answer;
+use job_plan::{Part, Source, Walked};
 use job_runner::{EarlierAnswers, NoMemory, SegmentInput};
 use std::alloc::Global;
 

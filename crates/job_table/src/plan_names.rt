@@ -2,17 +2,18 @@
 ghost use Rattle.std.specs.Prelude.{◌≡◌, ◌<◌, ◌++◌, ℕ, true, length, map, slice_get, Some, None, IfOk, if◌then◌else◌};
 ghost use Rattle.std.specs.Option.{option_map};
 ghost use Rattle.job_language.specs.Jobs.{source_of, sources_of, values};
-ghost use Rattle.job_plan.specs.Walks.{array_of};
+ghost use Rattle.job_meaning.specs.Walks.{array_of};
 ghost use Rattle.job_plan.specs.Parts.{plan_in, plans_in};
 ghost use Rattle.job_plan.specs.PlannedAnswers.{all_put_at, array_at, first_unusable_at, number_there, numbers_at, place_in, put_at, unusable_there};
-ghost use Rattle.job_plan.specs.declared.answer.Answer.{Answer as answers};
-ghost use Rattle.job_plan.specs.declared.answer.Answer.TheVariants as answer;
+ghost use Rattle.job_meaning.specs.declared.answer.Answer.{Answer as answers};
+ghost use Rattle.job_meaning.specs.declared.answer.Answer.TheVariants as answer;
 ghost use Rattle.job_runner.specs.Begins.{IsBegun};
 ghost use Rattle.job_table.specs.PlanSegments.{answer_of, answers_before, chain_at, plan_at, size_at};
 
 use crate::planned::{PlanJobs, Planned};
 use job_language::PlainSource;
-use job_plan::{Answer, JobPlan, Named, Source};
+use job_meaning::Answer;
+use job_plan::{JobPlan, Named, Source};
 use job_runner::{Begun, EarlierAnswers, NoMemory};
 use lambda_values::Env;
 use std::alloc::Global;

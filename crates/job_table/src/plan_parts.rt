@@ -6,7 +6,7 @@ ghost use Rattle.job_plan.specs.Parts.{StandsFor, end_in, may_search, plan_in, s
 ghost use Rattle.job_plan.specs.Plans.{segments_answer};
 ghost use Rattle.job_plan.specs.Spans.{IsNotAfter};
 ghost use Rattle.job_plan.specs.Links.{first_links, linked, walked_segments};
-ghost use Rattle.job_plan.specs.Walks.{instead_of_fault};
+ghost use Rattle.job_meaning.specs.Walks.{instead_of_fault};
 ghost use Rattle.job_plan.specs.Windows.{later_segments};
 ghost use Rattle.job_table.specs.PlanSegments.{AbstractChain, PartStands, end_divides, gives_at, segment_divides, size_at, slices_first, upto, walk_at, walk_size};
 

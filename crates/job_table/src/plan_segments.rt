@@ -1,6 +1,6 @@
 //! The jobs of a plan as segments of a run.
 ghost use Rattle.std.specs.Prelude.{◌≡◌, ◌<◌, ◌≤◌, ◌+◌, ℕ, length, slice_get, IfOk};
-ghost use Rattle.job_plan.specs.declared.answer.Answer.{Answer as answers};
+ghost use Rattle.job_meaning.specs.declared.answer.Answer.{Answer as answers};
 ghost use Rattle.job_plan.specs.Parts.{fallback_in, plans_in};
 ghost use Rattle.job_table.specs.Caught.{FaultAmong, IsCaught};
 ghost use Rattle.job_table.specs.CaughtLaws.{among_more};
@@ -20,7 +20,8 @@ use crate::plan_parts::{
 use crate::planned::{PlanJobs, Planned};
 use batch_eval::Registers;
 use early_stop::Stop;
-use job_plan::{Answer, Fallback, Outcome, Part, Source, Walked};
+use job_meaning::Answer;
+use job_plan::{Fallback, Outcome, Part, Source, Walked};
 use job_runner::{Begun, CutPiece, EarlierAnswers, JobSegments, NoMemory, Piece, SegmentInput};
 use std::alloc::Global;
 use trace::Fault;

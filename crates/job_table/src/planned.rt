@@ -6,8 +6,10 @@ ghost use Rattle.job_plan.specs.PlannedAnswers.{planned_meaning};
 ghost use Rattle.job_table.specs.PlanSegments.{plan_at};
 ghost use Rattle.job_table.specs.PlanLaws.{one_plan};
 
-use job_plan::{Answer, JobPlan, Plan, Settings};
+use job_meaning::Answer;
+use job_plan::{JobPlan, Plan};
 use job_runner::{NoMemory, run_all};
+use run_settings::Settings;
 use std::alloc::Global;
 use std::marker::{Brand, PhantomData};
 use std::sync::Wait;

@@ -7,8 +7,8 @@ use Rattle.serde_json.specs.Data.{Data, null, string}
 use Rattle.serde_json.specs.Find.{of_integer}
 use Rattle.serde_json.specs.View.{items_of}
 use Rattle.serde_json.specs.Written.{compact_text, items_text, number_text}
-use Rattle.job_plan.specs.declared.answer.Answer.{Answer}
-use Rattle.job_plan.specs.declared.answer.Answer.TheVariants as answer
+use Rattle.job_meaning.specs.declared.answer.Answer.{Answer}
+use Rattle.job_meaning.specs.declared.answer.Answer.TheVariants as answer
 use Rattle.report.specs.declared.separator.Separator.TheVariants.{Comma, CommaAndBlank}
 use Rattle.report.specs.AnswerForms.{array_text, further, integer_json, job_json, optional_json}
 use Rattle.report.specs.Numbers.{array_object, parted}

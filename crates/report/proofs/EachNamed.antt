@@ -12,12 +12,12 @@ use Rattle.find_ops.specs.Finds.{find_answer}
 use Rattle.find_ops.specs.declared.find_part.Found.{Found}
 use Rattle.find_ops.specs.declared.find_part.Found.TheVariants as found
 use Rattle.job_language.specs.Jobs.{AbstractTerminal, sum, find, exact_sum, AbstractJob, names_of}
-use Rattle.job_plan.specs.declared.answer.Answer.{Answer}
-use Rattle.job_plan.specs.declared.answer.Answer.TheVariants.{Unusable}
-use Rattle.job_plan.specs.declared.answer.Answer.TheVariants as answer
-use Rattle.job_plan.specs.Walks.{answer_of, exact_answer, found_answer, instead_of_fault, is_usable, number_as, unless_fault}
-use Rattle.job_plan.specs.FileAnswers.{NamedAnswer, answer_after, answers_after, first_unusable, found, found_later, meaning_of, numbers_named, or_else, unless_unusable, unusable_at}
-use Rattle.job_plan.specs.Names.{names_in_job, same_name}
+use Rattle.job_meaning.specs.declared.answer.Answer.{Answer}
+use Rattle.job_meaning.specs.declared.answer.Answer.TheVariants.{Unusable}
+use Rattle.job_meaning.specs.declared.answer.Answer.TheVariants as answer
+use Rattle.job_meaning.specs.Walks.{answer_of, exact_answer, found_answer, instead_of_fault, is_usable, number_as, unless_fault}
+use Rattle.job_meaning.specs.FileAnswers.{NamedAnswer, answer_after, answers_after, first_unusable, found, found_later, meaning_of, numbers_named, or_else, unless_unusable, unusable_at}
+use Rattle.job_meaning.specs.Names.{names_in_job, same_name}
 use Rattle.report.specs.Named.{IsNamed}
 
 usable_or_fault : (e : End) (a : Answer) → ((i : ℕ) → a ≡ Unusable i → ⊥) → (i : ℕ) → unless_fault e a ≡ Unusable i → ⊥

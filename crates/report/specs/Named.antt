@@ -1,7 +1,7 @@
 -- Condition: which answers a report can print.
 use Rattle.std.specs.Prelude.{◌≡◌, ℕ, ◌<◌, List, length, IsUtf8}
-use Rattle.job_plan.specs.declared.answer.Answer.{Answer}
-use Rattle.job_plan.specs.declared.answer.Answer.TheVariants.{Unusable}
+use Rattle.job_meaning.specs.declared.answer.Answer.{Answer}
+use Rattle.job_meaning.specs.declared.answer.Answer.TheVariants.{Unusable}
 
 -- if an answer names a job, that job is one of those that have these names
 abbrev pub IsNamed : List (List ℕ) → Answer → Type 0

@@ -1,6 +1,6 @@
 -- Meaning: the bytes of a report.
 use Rattle.std.specs.Prelude.{ℕ, List, [], ◌∷◌, ◌++◌, codes}
-use Rattle.job_plan.specs.declared.answer.Answer.{Answer}
+use Rattle.job_meaning.specs.declared.answer.Answer.{Answer}
 use Rattle.report.specs.AnswerForms.{answer_text}
 
 -- the line of a job: its name, its answer, a line feed

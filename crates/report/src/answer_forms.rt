@@ -12,7 +12,7 @@ use crate::NoMemory;
 use crate::numbers::{write_number, write_numbers};
 use crate::separator::Separator;
 use itoa::Buffer;
-use job_plan::{Answer, Values};
+use job_meaning::{Answer, Values};
 use lambda_values::FaultKind;
 use serde_json::{Map, Value, json};
 use std::alloc::Global;

@@ -7,7 +7,7 @@ ghost use Rattle.report.specs.Named.{IsNamed, IsText};
 
 use crate::NoMemory;
 use crate::answer_forms::{text_of, write_object};
-use job_plan::Answer;
+use job_meaning::Answer;
 use std::alloc::Global;
 use stream_tokens::Bytes;
 

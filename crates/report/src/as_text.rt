@@ -5,7 +5,7 @@ ghost use Rattle.report.specs.Text.{line_of, report_text};
 
 use crate::NoMemory;
 use crate::answer_forms::write_answer;
-use job_plan::Answer;
+use job_meaning::Answer;
 use std::alloc::Global;
 use stream_tokens::Bytes;
 

@@ -9,7 +9,7 @@ use crate::by_threads::others_by;
 use crate::numbers::{split_first, write_number, write_others};
 use crate::pieces::Report;
 use crate::separator::Separator;
-use job_plan::Values;
+use job_meaning::Values;
 use std::alloc::Global;
 use std::mem;
 use std::thread::Threads;

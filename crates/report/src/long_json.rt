@@ -13,7 +13,7 @@ use crate::as_json::{write_comma_if, write_item};
 use crate::draft::Draft;
 use crate::pieces::Report;
 use crate::separator::Separator;
-use job_plan::{Answer, Values};
+use job_meaning::{Answer, Values};
 use std::alloc::Global;
 use std::thread::Threads;
 use stream_tokens::Bytes;

@@ -10,7 +10,7 @@ ghost use Rattle.report.specs.Numbers.{parted, separator_bytes};
 use crate::NoMemory;
 use crate::separator::Separator;
 use itoa::{Buffer, write_digits};
-use job_plan::Values;
+use job_meaning::Values;
 
 /// How many numbers are written at a time.
 const AT_A_TIME: usize = 64;

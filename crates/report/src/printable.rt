@@ -1,7 +1,7 @@
 //! The precondition of `text` holds for the answers of every job file.
 ghost use Rattle.std.specs.Prelude.{◌≡◌, List, All, length};
 ghost use Rattle.job_language.specs.Jobs.{AbstractJob, names_of};
-ghost use Rattle.job_plan.specs.FileAnswers.{meaning_of};
+ghost use Rattle.job_meaning.specs.FileAnswers.{meaning_of};
 ghost use Rattle.report.specs.Named.{IsNamed};
 
 /// The answers of a file's jobs have a report: there are as many answers as names, and each job that an

@@ -1,7 +1,7 @@
 //! Reports of small files by the definitions: from the source of a job to the bytes.
 ghost use Rattle.std.specs.Prelude.{◌≡◌, ◌++◌, codes};
 ghost use Rattle.job_language.specs.Jobs.{names_of};
-ghost use Rattle.job_plan.specs.FileAnswers.{meaning_of};
+ghost use Rattle.job_meaning.specs.FileAnswers.{meaning_of};
 ghost use Rattle.report.specs.Text.{report_text};
 ghost use Rattle.report.specs.Worked.{meets_a_zero, meets_no_zero, meets_two_zeros, passes_the_greatest};
 

@@ -1,7 +1,7 @@
 //! The command line.
 
 use clap::{Arg, ArgAction, ArgMatches, Command, Error, value_parser};
-use job_plan::{Form, Settings};
+use run_settings::{Form, Settings};
 use std::alloc::{AllocError, Global};
 
 /// What the command line asks for.

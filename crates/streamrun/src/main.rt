@@ -17,9 +17,9 @@ use clap::error::ErrorKind as ArgumentErrorKind;
 use columns::Counted;
 use command_line::{Arguments, read_arguments};
 use engine::{EngineFault, run, tell};
-use job_plan::Settings;
 use progress::Progress;
 use report::CountedOut;
+use run_settings::Settings;
 use std::alloc::AllocError;
 use std::fs::File;
 use std::io::{ErrorKind, Write};
@@ -35,54 +35,76 @@ const REFUSED: u8 = 2;
 const NOT_OPENED: u8 = 4;
 
 fn main(rt: HostRuntime) -> ExitCode {
-    ExitCode::from(match status_of(&rt, &rt) {
-        Ok(status) => status,
+    ExitCode::from(match read_command_line(&rt) {
+        Ok(Asked::Run(given)) => watched_run(&rt, &rt, given),
+        Ok(Asked::End(status)) => status,
         Err(_) => tell(&EngineFault::NoMemory, &mut rt.stderr()),
     })
 }
 
-/// Reads the words of the command line, and answers the exit status. The jobs run on the second handle.
-fn status_of<H: Threads + Wait + Sync>(rt: &HostRuntime, threads: &H) -> Result<u8, AllocError> {
+/// What a run is given: open files, and its settings.
+#[derive(Drop)]
+struct Given {
+    columns: Option<Counted<File>>,
+    jobs: Counted<File>,
+    settings: Settings,
+}
+
+/// What a command line asks for.
+#[derive(Drop)]
+enum Asked {
+    Run(Given),
+    /// Nothing more: all was said, and this is the exit status.
+    End(u8),
+}
+
+/// Reads the words of the command line, and opens the files that they name.
+fn read_command_line(rt: &HostRuntime) -> Result<Asked, AllocError> {
     let given: Vec<String> = match env::args(rt) {
         Ok(given) => given.collect(rt.alloc())?,
         Err(error) if error.kind() == ErrorKind::OutOfMemory => return Err(AllocError),
         Err(_) => {
             let _ = writeln!(rt.stderr(), "streamrun: an argument is no text");
-            return Ok(REFUSED);
+            return Ok(Asked::End(REFUSED));
         }
     };
+    read_words(rt, &given)
+}
+
+/// The same of the words themselves.
+fn read_words(rt: &HostRuntime, given: &[String]) -> Result<Asked, AllocError> {
     let words: Vec<&str> = given.iter().map(|word| word.as_str()).collect(rt.alloc())?;
-    match read_arguments(rt.alloc(), words.as_slice()) {
-        Ok(arguments) => status_of_arguments(rt, threads, &arguments),
+    match read_arguments(rt.alloc(), &words) {
+        Ok(arguments) => opened_by(rt, &arguments),
         Err(error) if error.kind() == ArgumentErrorKind::OutOfMemory => Err(AllocError),
         Err(refused) => {
             let _ = refused.print(rt);
-            Ok(if refused.exit_code() == 0 { 0 } else { REFUSED })
+            let status = if refused.exit_code() == 0 { 0 } else { REFUSED };
+            Ok(Asked::End(status))
         }
     }
 }
 
-/// Does what the command line asks for, and answers the exit status. Both files are opened before one is
-/// read, the columns first.
-fn status_of_arguments<H: Threads + Wait + Sync>(
-    rt: &HostRuntime,
-    threads: &H,
-    arguments: &Arguments<'_>,
-) -> Result<u8, AllocError> {
+/// Opens the files of a command line. Both are open before one is read, the columns first.
+fn opened_by(rt: &HostRuntime, arguments: &Arguments<'_>) -> Result<Asked, AllocError> {
     let Some(settings) = arguments.settings else {
         let _ = writeln!(rt.stderr(), "streamrun: a setting is outside its limits");
-        return Ok(REFUSED);
+        return Ok(Asked::End(REFUSED));
     };
     let columns = match arguments.columns {
         Some(path) => match opened(rt, path, "columns")? {
             Some(file) => Some(counted(file)),
-            None => return Ok(NOT_OPENED),
+            None => return Ok(Asked::End(NOT_OPENED)),
         },
         None => None,
     };
     match opened(rt, arguments.jobs, "jobs")? {
-        Some(jobs) => Ok(watched_report(rt, threads, columns, jobs, &settings)),
-        None => Ok(NOT_OPENED),
+        Some(jobs) => Ok(Asked::Run(Given {
+            columns,
+            jobs: counted(jobs),
+            settings,
+        })),
+        None => Ok(Asked::End(NOT_OPENED)),
     }
 }
 
@@ -104,52 +126,40 @@ fn counted(file: File) -> Counted<File> {
     Counted::with_likely_size(file, usize::try_from(size).unwrap_or(0))
 }
 
-/// Runs the jobs of an open file, and answers the exit status. If standard error is a terminal, a line there says how far a long run is,
-/// on a thread of its own; without that thread there is no line.
-fn watched_report<H: Threads + Wait + Sync>(
-    rt: &HostRuntime,
-    threads: &H,
-    columns: Option<Counted<File>>,
-    jobs: File,
-    settings: &Settings,
-) -> u8 {
+/// Runs the jobs of an open file over the columns of another one, and answers the exit status. If standard error is a terminal, a line
+/// there says how far a long run is, on a thread of its own; without that thread there is no line.
+///
+/// It takes the runtime twice, for files and for threads: what may wait is proved for any handle that can start threads, and only
+/// `main` may name the one that it has. Whatever calls such a function is proved anew for the handle, with all below it, which takes
+/// minutes: so `main` calls this one directly.
+fn watched_run<H: Threads + Wait + Sync>(rt: &HostRuntime, threads: &H, given: Given) -> u8 {
     let progress = Progress::new(rt, threads);
-    if !progress.is_counted() {
-        return report_of_files(rt, threads, columns, jobs, settings, &progress);
-    }
     let progress = &progress;
     thread::scope(thread::scope_env(), threads, move |scope| -> u8 {
-        let _ = scope.spawn(move || progress.keep_shown());
-        report_of_files(rt, threads, columns, jobs, settings, progress)
+        if progress.is_counted() {
+            let _ = scope.spawn(move || progress.keep_shown());
+        }
+        let Given {
+            mut columns,
+            mut jobs,
+            settings,
+        } = given;
+        let mut writer = CountedOut::new(rt.stdout());
+        let answer = run(
+            threads,
+            rt.alloc(),
+            columns.as_mut(),
+            &mut jobs,
+            &mut writer,
+            &settings,
+            progress,
+        );
+        progress.end();
+        match answer {
+            Ok(()) => 0,
+            Err(fault) => tell(&fault, &mut rt.stderr()),
+        }
     })
-}
-
-/// Runs the jobs of an open file over the columns of another one, and answers the exit status.
-fn report_of_files<H: Threads + Wait + Sync>(
-    rt: &HostRuntime,
-    threads: &H,
-    columns: Option<Counted<File>>,
-    jobs: File,
-    settings: &Settings,
-    progress: &Progress<'_, H>,
-) -> u8 {
-    let mut columns = columns;
-    let mut jobs = counted(jobs);
-    let mut writer = CountedOut::new(rt.stdout());
-    let answer = run(
-        threads,
-        rt.alloc(),
-        columns.as_mut(),
-        &mut jobs,
-        &mut writer,
-        settings,
-        progress,
-    );
-    progress.end();
-    match answer {
-        Ok(()) => 0,
-        Err(fault) => tell(&fault, &mut rt.stderr()),
-    }
 }
 
 #[cfg(test)]

@@ -1,7 +1,7 @@
 //! The command line: a missing argument or one too many is a mistake, a request for help is none.
 
 use crate::command_line::read_arguments;
-use job_plan::Form;
+use run_settings::Form;
 
 #[test]
 fn one_job_file_is_asked_for(rt: HostRuntime) {

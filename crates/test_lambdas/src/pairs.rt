@@ -79,21 +79,26 @@ fn value_with_references(alloc: Global, text: &str) -> Option<Result<i64, FaultK
     }
 }
 
-/// Whether these are the names of the references, with blanks between them.
-fn has_names(alloc: Global, text: &str, want: Want, names: &str) -> bool {
-    let Ok(lambda) = read_lambda(alloc, text.as_bytes(), want) else {
-        return false;
-    };
-    let Ok(found) = lambda.names(alloc) else {
-        return false;
-    };
+/// The names of the references in a lambda.
+fn names_in(alloc: Global, text: &str, want: Want) -> Option<Vec<Bytes>> {
+    let lambda = read_lambda(alloc, text.as_bytes(), want).ok()?;
+    lambda.names(alloc).ok()
+}
+
+/// Whether these are the names, with blanks between them.
+fn are_names(found: &[Bytes], names: &str) -> bool {
     let mut written = names.split_whitespace();
-    for name in &found {
+    for name in found {
         if written.next().map(str::as_bytes) != Some(name.as_slice()) {
             return false;
         }
     }
     written.next().is_none()
+}
+
+/// Whether these are the names of the references, with blanks between them.
+fn has_names(alloc: Global, text: &str, want: Want, names: &str) -> bool {
+    names_in(alloc, text, want).is_some_and(|found| are_names(&found, names))
 }
 
 /// The refusal of the argument of a call, as a lambda.

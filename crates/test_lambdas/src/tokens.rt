@@ -136,11 +136,17 @@ fn jobs_of(alloc: Global, bytes: &[u8]) -> Result<Vec<u8>, TextFault> {
         all.extend_from_slice(format!(in alloc; "{version}|")?.as_bytes())?;
     }
     for job in texts {
-        all.extend_from_slice(format!(in alloc; "{}:", job.line)?.as_bytes())?;
-        all.extend_from_slice(job.text.as_slice())?;
-        all.push(b'|')?;
+        add_job(alloc, &mut all, job.line, job.text.as_slice())?;
     }
     Ok(all)
+}
+
+/// Adds the line and the text of a job.
+fn add_job(alloc: Global, all: &mut Vec<u8>, line: u64, text: &[u8]) -> Result<(), TextFault> {
+    all.extend_from_slice(format!(in alloc; "{line}:")?.as_bytes())?;
+    all.extend_from_slice(text)?;
+    all.push(b'|')?;
+    Ok(())
 }
 
 /// Whether these are the jobs of a file.

@@ -77,16 +77,42 @@ fn is_chunk(chunk: &Chunk, origins: &[u64], values: &[i64], end: End) -> bool {
     expected.next().is_none() && chunk.end() == end
 }
 
+/// Whether a walk of values through all stages gives these values at these places, and ends so.
+fn gives(
+    alloc: Global,
+    stages: &[Stage],
+    values: &[i64],
+    origins: &[u64],
+    images: &[i64],
+    end: End,
+) -> Result<bool, NoMemory>
+    requires { 1 + length stages.now < 2 ^ 32 }
+{
+    let chunk = walked(alloc, stages, values)?;
+    Ok(is_chunk(&chunk, origins, images, end))
+}
+
+/// The same of a walk through `filter(x -> 10 / x > 3)`.
+fn filter_gives(
+    alloc: Global,
+    values: &[i64],
+    origins: &[u64],
+    images: &[i64],
+    end: End,
+) -> Result<bool, NoMemory> {
+    let stages = [stage(alloc, "x -> 10 / x > 3", Want::Bool)?];
+    gives(alloc, &stages, values, origins, images, end)
+}
+
 #[test]
 fn a_walk_ends_at_the_first_fault_in_encounter_order(rt: HostRuntime) -> Result<(), Fail> {
     let alloc = rt.alloc();
     let places = [0, 1, 2, 3, 4, 5, 6];
     let stages = [stage(alloc, "x -> 10 / (x - 7)", Want::Long)?];
-    let chunk = walked(alloc, &stages, &[0, 1, 2, 3, 4, 5, 6, 7, 8, 9])?;
-    let values = [-1, -1, -2, -2, -3, -5, -10];
-    assert!(rt; is_chunk(&chunk, &places, &values, division_by_zero(1, 7)));
-    let chunk = walked(alloc, &stages, &[-1, 0])?;
-    assert!(rt; is_chunk(&chunk, &places, &[-1, -1], End::Done));
+    let values = [0, 1, 2, 3, 4, 5, 6, 7, 8, 9];
+    let images = [-1, -1, -2, -2, -3, -5, -10];
+    assert!(rt; gives(alloc, &stages, &values, &places, &images, division_by_zero(1, 7))?);
+    assert!(rt; gives(alloc, &stages, &[-1, 0], &[0, 1], &[-1, -1], End::Done)?);
     Ok(())
 }
 
@@ -97,13 +123,9 @@ fn an_item_passes_all_stages_before_the_next_one(rt: HostRuntime) -> Result<(), 
         stage(alloc, "x -> 1 / x", Want::Long)?,
         stage(alloc, "x -> 1 / (x - 1)", Want::Long)?,
     ];
-    let chunk = walked(alloc, &stages, &[1, 0])?;
-    assert!(rt; is_chunk(&chunk, &[], &[], division_by_zero(2, 0)));
-    let stages = [stage(alloc, "x -> 10 / x > 3", Want::Bool)?];
-    let chunk = walked(alloc, &stages, &[5, 2, 0, 1])?;
-    assert!(rt; is_chunk(&chunk, &[1], &[2], division_by_zero(1, 2)));
-    let chunk = walked(alloc, &stages, &[5, 2, 4, 1])?;
-    assert!(rt; is_chunk(&chunk, &[1, 3], &[2, 1], End::Done));
+    assert!(rt; gives(alloc, &stages, &[1, 0], &[], &[], division_by_zero(2, 0))?);
+    assert!(rt; filter_gives(alloc, &[5, 2, 0, 1], &[1], &[2], division_by_zero(1, 2))?);
+    assert!(rt; filter_gives(alloc, &[5, 2, 4, 1], &[1, 3], &[2, 1], End::Done)?);
     Ok(())
 }
 
@@ -171,17 +193,15 @@ fn inner_values_have_the_place_of_the_outer_item(rt: HostRuntime) -> Result<(), 
         range_up_to_the_item(0),
         stage(alloc, "x -> 6 / (2 - x)", Want::Long)?,
     ];
-    let chunk = walked(alloc, &stages, &[1, -5, 2])?;
-    assert!(rt; is_chunk(&chunk, &[0, 2, 2], &[3, 3, 6], End::Done));
-    let chunk = walked(alloc, &stages, &[1, 3, 9])?;
-    assert!(rt; is_chunk(&chunk, &[0, 1, 1], &[3, 3, 6], division_by_zero(2, 1)));
+    assert!(rt; gives(alloc, &stages, &[1, -5, 2], &[0, 2, 2], &[3, 3, 6], End::Done)?);
+    let fault = division_by_zero(2, 1);
+    assert!(rt; gives(alloc, &stages, &[1, 3, 9], &[0, 1, 1], &[3, 3, 6], fault)?);
     let too_long = End::Fault(Fault {
         kind: FaultKind::SourceTooLong,
         stage: 1,
         origin: Some(1),
     });
-    let chunk = walked(alloc, &stages, &[0, i64::MAX])?;
-    assert!(rt; is_chunk(&chunk, &[], &[], too_long));
+    assert!(rt; gives(alloc, &stages, &[0, i64::MAX], &[], &[], too_long)?);
     Ok(())
 }
 

@@ -2,9 +2,9 @@ use Rattle.std.proofs.Common.{◌≡◌, ℕ, List, length, map, IfOk, ap, sym, 
 use Rattle.std.specs.Prelude.{All}
 use Rattle.engine.specs.Run.{report_in}
 use Rattle.job_language.specs.Jobs.{jobs_of, names_of}
-use Rattle.job_plan.specs.declared.answer.Answer.{Answer}
+use Rattle.job_meaning.specs.declared.answer.Answer.{Answer}
 use Rattle.run_settings.specs.SettingsParts.{form_of}
-use Rattle.job_plan.specs.FileAnswers.{meaning_of}
+use Rattle.job_meaning.specs.FileAnswers.{meaning_of}
 use Rattle.job_plan.specs.PlannedAnswers.{planned_meaning}
 use Rattle.job_plan.specs.Plans.{AbstractPlan}
 use Rattle.job_plan.proofs.MeaningLemmas.{planned}

@@ -4,7 +4,7 @@ use Rattle.trace.specs.Stages.{stages_of}
 use Rattle.job_language.specs.Jobs.{source_of, sources_of}
 use Rattle.job_plan.specs.Maps.{imaged}
 use Rattle.job_plan.specs.Pieces.{elements}
-use Rattle.job_plan.specs.Walks.{plain_values, values_of}
+use Rattle.job_meaning.specs.Walks.{plain_values, values_of}
 use Rattle.job_plan.proofs.Elements.{placed_positions}
 use Rattle.job_plan.proofs.LentLemmas.{scanned_both}
 use Rattle.job_plan.proofs.MapLemmas.{imaged_both}

@@ -9,7 +9,7 @@ use Rattle.trace.proofs.Sources.{length-counted}
 use Rattle.job_language.specs.Jobs.{source_of}
 use Rattle.job_plan.specs.Maps.{imaged}
 use Rattle.job_plan.specs.Scans.{scan_append}
-use Rattle.job_plan.specs.Walks.{plain_values}
+use Rattle.job_meaning.specs.Walks.{plain_values}
 use Rattle.job_plan.proofs.Elements.{counted_piece, less_one_fits}
 use Rattle.job_plan.proofs.lent_part.push_one.Goals as goal
 

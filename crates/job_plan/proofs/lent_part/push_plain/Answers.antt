@@ -10,7 +10,7 @@ use Rattle.job_language.specs.Jobs.{sources_of}
 use Rattle.job_plan.specs.Pieces.{elements}
 use Rattle.job_plan.specs.Maps.{imaged}
 use Rattle.job_plan.specs.Scans.{scan_append}
-use Rattle.job_plan.specs.Walks.{values_of}
+use Rattle.job_meaning.specs.Walks.{values_of}
 use Rattle.job_plan.proofs.lent_part.push_plain.Goals as goal
 
 pub returns : goal.returns

@@ -1,6 +1,6 @@
 use Rattle.std.proofs.Common.{◌≡◌, ◌++◌, drop}
 use Rattle.job_language.specs.Jobs.{sources_of}
-use Rattle.job_plan.specs.Names.{all_source_names}
+use Rattle.job_meaning.specs.Names.{all_source_names}
 use Rattle.job_plan.proofs.names.push_sources.Given as goal
 
 -- the names so far, and those that are left

@@ -1,6 +1,6 @@
 use Rattle.std.proofs.Common.{◌≡◌, ◌++◌, drop}
 use Rattle.job_language.specs.Jobs.{job_stages_of}
-use Rattle.job_plan.specs.Names.{all_stage_names}
+use Rattle.job_meaning.specs.Names.{all_stage_names}
 use Rattle.job_plan.proofs.names.push_stages.Given as goal
 
 -- the names so far, and those that are left

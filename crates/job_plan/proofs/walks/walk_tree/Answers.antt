@@ -1,7 +1,7 @@
 use Rattle.std.proofs.Common.{ap, ◌∙◌}
 use Rattle.job_plan.specs.Parts.{plan_in}
 use Rattle.job_plan.specs.Plans.{segments_answer}
-use Rattle.job_plan.specs.Walks.{instead_of_fault, source_walk}
+use Rattle.job_meaning.specs.Walks.{instead_of_fault, source_walk}
 use Rattle.job_plan.proofs.WindowLemmas.{later_answer}
 use Rattle.job_plan.proofs.walks.walk_tree.Goals as goal
 

@@ -1,6 +1,6 @@
 use Rattle.std.proofs.Common.{ap, ◌∙◌}
 use Rattle.job_plan.specs.Parts.{plan_in}
-use Rattle.job_plan.specs.Walks.{instead_of_fault}
+use Rattle.job_meaning.specs.Walks.{instead_of_fault}
 use Rattle.job_table.proofs.plan_parts.job_answer.Goals as goal
 
 pub returns-in-Some-clause-some : goal.returns-in-Some-clause-some

@@ -1,5 +1,5 @@
 use Rattle.std.proofs.Common.{Vec, Global}
-use Rattle.job_plan.specs.declared.answer.Answer.{Answer}
+use Rattle.job_meaning.specs.declared.answer.Answer.{Answer}
 use Rattle.job_table.proofs.PlannedAnswers.{planned_jobs}
 use denote.Exit.{no}
 use denote.Param.{param}

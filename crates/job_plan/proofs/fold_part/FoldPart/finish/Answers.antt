@@ -3,8 +3,8 @@ use Rattle.std.proofs.lemmas.Int.{to_z-of_z}
 use Rattle.reduce_ops.specs.Folds.{fold_from, fold_items, reduced, reduced_from}
 use Rattle.reduce_ops.specs.Operators.{value_of}
 use Rattle.job_plan.specs.Plans.{counted_as, folded}
-use Rattle.job_plan.specs.Walks.{unless_fault}
-use Rattle.job_plan.specs.declared.answer.Answer.TheVariants as answer
+use Rattle.job_meaning.specs.Walks.{unless_fault}
+use Rattle.job_meaning.specs.declared.answer.Answer.TheVariants as answer
 use Rattle.job_plan.proofs.PartLemmas.{as_counted, number_of, number_fault, optional_of, optional_fault}
 use Rattle.job_plan.proofs.fold_part.FoldPart.finish.Goals as goal
 

@@ -1,5 +1,5 @@
 use Rattle.std.proofs.Common.{refl, ◌∙◌}
-use Rattle.job_plan.specs.Walks.{source_walk}
+use Rattle.job_meaning.specs.Walks.{source_walk}
 use Rattle.job_plan.proofs.FirstLemmas.{source_clean}
 use Rattle.job_plan.proofs.segment.JobPlan.with_slices_first.Goals as goal
 

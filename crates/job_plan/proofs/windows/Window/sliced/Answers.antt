@@ -1,6 +1,6 @@
 use Rattle.std.proofs.Common.{sym, ap, ◌∙◌}
 use Rattle.slice_ops.specs.Slices.{slice_of}
-use Rattle.job_plan.specs.Walks.{source_walk}
+use Rattle.job_meaning.specs.Walks.{source_walk}
 use Rattle.job_plan.specs.Windows.{slice_selected, slice_selects, windowed}
 use Rattle.job_plan.proofs.WindowLemmas.{limits, skips}
 use Rattle.job_plan.proofs.windows.Window.sliced.Goals as goal

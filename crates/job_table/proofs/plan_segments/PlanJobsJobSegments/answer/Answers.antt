@@ -1,5 +1,5 @@
 use Rattle.std.proofs.Common.{length, ◌<◌, ◌≡◌, ◌∙◌, true, false, sym, subst, IfOk, Ok, Result, arith}
-use Rattle.job_plan.specs.declared.answer.Answer.{Answer}
+use Rattle.job_meaning.specs.declared.answer.Answer.{Answer}
 use Rattle.job_plan.specs.Parts.{plan_in, plans_in}
 use Rattle.job_table.specs.PlanSegments.{answer_of}
 use Rattle.job_table.proofs.PlanAnswers.{plans_length}

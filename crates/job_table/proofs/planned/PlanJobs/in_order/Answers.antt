@@ -5,7 +5,7 @@ use Rattle.job_table.specs.PlanSegments.{PartStands, answers_before, chain_at, s
 use Rattle.job_plan.specs.Links.{first_links, linked, plan_streams}
 use Rattle.job_plan.specs.PlannedAnswers.{all_put_at}
 use Rattle.job_plan.specs.Plans.{AbstractPlan}
-use Rattle.job_plan.specs.Walks.{source_walk}
+use Rattle.job_meaning.specs.Walks.{source_walk}
 use Rattle.job_plan.specs.Windows.{later_segments, selected_walk}
 use Rattle.job_table.proofs.PlanParts.{streamed_size, whole_job}
 use Rattle.job_table.proofs.PlanSources.{kept_walk, own_first, put_streamed, put_walk, same_segments, same_streams}

@@ -1,0 +1,4 @@
+-- Condition: the files of this crate's definitions; the first line of each says what it is.
+pub mod FileAnswers
+pub mod Names
+pub mod Walks
