@@ -83,14 +83,12 @@ fn ends_of(
         let fault = format!(in alloc; "fault divide-by-zero stage 1 item {place}")?;
         return lines_of(alloc, deciding, faulting, [fault.as_str(); 4]);
     }
-    let (found, other) = match stop {
-        Some(_) => ("true", "false"),
-        None => ("false", "true"),
-    };
+    let found = format!(in alloc; "{}", stop.is_some())?;
+    let other = format!(in alloc; "{}", stop.is_none())?;
     let before = stop.unwrap_or(count);
     let after = format!(in alloc; "{}", count.wrapping_sub(before))?;
     let before = format!(in alloc; "{before}")?;
-    lines_of(alloc, deciding, faulting, [found, other, &before, &after])
+    lines_of(alloc, deciding, faulting, [&found, &other, &before, &after])
 }
 
 #[test]

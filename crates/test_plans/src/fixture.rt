@@ -2,7 +2,7 @@
 
 use columns::Columns;
 use job_language::read_jobs;
-use job_plan::{Answer, JobPlan, Plan, SplitTree, walk_tree};
+use job_plan::{Answer, JobPlan, Plan, SplitTree, Values, walk_tree};
 use lambda_values::{Env, FaultKind};
 use std::alloc::{AllocError, Global};
 use std::test::Fail;
@@ -52,7 +52,7 @@ pub(crate) fn cut_at(alloc: Global, items: u64) -> Result<SplitTree, AllocError>
 }
 
 /// A fault as the report prints it.
-fn shown_fault(alloc: Global, fault: &Fault) -> Result<String, Fail> {
+fn shown_fault(alloc: Global, fault: &Fault) -> Result<String, AllocError> {
     let kind = match fault.kind {
         FaultKind::DivideByZero => "divide-by-zero",
         FaultKind::Overflow => "overflow",
@@ -60,21 +60,27 @@ fn shown_fault(alloc: Global, fault: &Fault) -> Result<String, Fail> {
         FaultKind::SourceTooLong => "source-too-long",
     };
     match fault.origin {
-        Some(origin) => Ok(format!(in alloc; "fault {kind} stage {} item {origin}", fault.stage)?),
-        None => Ok(format!(in alloc; "fault {kind} stage {} item -", fault.stage)?),
+        Some(origin) => format!(in alloc; "fault {kind} stage {} item {origin}", fault.stage),
+        None => format!(in alloc; "fault {kind} stage {} item -", fault.stage),
     }
 }
 
+/// An array as the report prints it.
+fn shown_values(alloc: Global, values: &Values) -> Result<String, AllocError> {
+    let values = values.to_vec(alloc)?;
+    format!(in alloc; "{:?}", values.as_slice())
+}
+
 /// An answer as the report prints it.
-pub(crate) fn shown(alloc: Global, answer: &Answer) -> Result<String, Fail> {
+pub(crate) fn shown(alloc: Global, answer: &Answer) -> Result<String, AllocError> {
     match answer {
-        Answer::Number(number) => Ok(format!(in alloc; "{number}")?),
-        Answer::Truth(truth) => Ok(format!(in alloc; "{truth}")?),
-        Answer::Optional(Some(number)) => Ok(format!(in alloc; "OptionalLong[{number}]")?),
-        Answer::Optional(None) => Ok(format!(in alloc; "OptionalLong.empty")?),
-        Answer::Array(values) => Ok(format!(in alloc; "{:?}", values.to_vec(alloc)?.as_slice())?),
+        Answer::Number(number) => format!(in alloc; "{number}"),
+        Answer::Truth(truth) => format!(in alloc; "{truth}"),
+        Answer::Optional(Some(number)) => format!(in alloc; "OptionalLong[{number}]"),
+        Answer::Optional(None) => format!(in alloc; "OptionalLong.empty"),
+        Answer::Array(values) => shown_values(alloc, values),
         Answer::Fault(fault) => shown_fault(alloc, fault),
-        Answer::Unusable(job) => Ok(format!(in alloc; "unusable {job}")?),
+        Answer::Unusable(job) => format!(in alloc; "unusable {job}"),
     }
 }
 

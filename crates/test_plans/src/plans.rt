@@ -2,8 +2,9 @@
 
 use crate::fixture::{plan_of, shown};
 use columns::{Columns, Counted, read_columns};
-use job_plan::walk;
+use job_plan::{JobPlan, Named, walk};
 use lambda_values::Env;
+use std::alloc::{AllocError, Global};
 use std::test::Fail;
 
 const FILE: &str = "\
@@ -25,6 +26,12 @@ const ANSWERS: [(&str, &str); 7] = [
     ("y", "fault divide-by-zero stage 2 item 1"),
 ];
 
+/// Whether the walk of a job gives this answer.
+fn walked_gives(alloc: Global, job: &JobPlan, want: &str) -> Result<bool, AllocError> {
+    let answer = walk(alloc, job, &Env::empty(alloc))?;
+    Ok(shown(alloc, &answer)?.as_str() == want)
+}
+
 #[test]
 fn a_plan_has_each_job_of_a_file_in_order(rt: HostRuntime) -> Result<(), Fail> {
     let alloc = rt.alloc();
@@ -36,14 +43,11 @@ fn a_plan_has_each_job_of_a_file_in_order(rt: HostRuntime) -> Result<(), Fail> {
         return Err(Fail::from("no table"));
     };
     let plan = plan_of(alloc, FILE, &columns)?;
-    let mut jobs = plan.jobs.iter();
-    for (name, want) in ANSWERS {
-        let job = jobs.next().ok_or("no job")?;
+    assert!(rt; plan.jobs.len() == ANSWERS.len());
+    for (job, (name, want)) in plan.jobs.iter().zip(ANSWERS) {
         assert!(rt; job.name.as_slice() == name.as_bytes(), "{name}");
-        let answer = walk(alloc, job, &Env::empty(alloc))?;
-        assert!(rt; shown(alloc, &answer)?.as_str() == want, "{name}");
+        assert!(rt; walked_gives(alloc, job, want)?, "{name}");
     }
-    assert!(rt; jobs.next().is_none());
     Ok(())
 }
 
@@ -94,6 +98,18 @@ of(1).noneMatch(x -> x < $a) => a 0
 of(1).flatMap(x -> range(0, $a)).sum() => a 0
 of(1).flatMap(x -> of(x, $a, x)).findFirst() => a 0";
 
+/// The names with their places, a blank before each.
+fn shown_names(alloc: Global, names: &[Named]) -> Result<Vec<u8>, AllocError> {
+    let mut shown = Vec::new(alloc);
+    for named in names {
+        shown.push(b' ')?;
+        shown.extend_from_slice(named.name.as_slice())?;
+        let place = format!(in alloc; " {}", named.job)?;
+        shown.extend_from_slice(place.as_bytes())?;
+    }
+    Ok(shown)
+}
+
 #[test]
 fn a_job_keeps_the_jobs_that_it_names_in_order_of_writing(rt: HostRuntime) -> Result<(), Fail> {
     let alloc = rt.alloc();
@@ -103,14 +119,10 @@ fn a_job_keeps_the_jobs_that_it_names_in_order_of_writing(rt: HostRuntime) -> Re
         let text = format!(in alloc; "a = of(1).sum()\nb = of(1).toArray()\nq = {job}")?;
         let plan = plan_of(alloc, text.as_str(), &columns)?;
         let last = plan.jobs.last().ok_or("no job")?;
-        let mut shown = Vec::new(alloc);
-        for named in &last.named {
-            shown.push(b' ')?;
-            shown.extend_from_slice(named.name.as_slice())?;
-            let place = format!(in alloc; " {}", named.job)?;
-            shown.extend_from_slice(place.as_bytes())?;
-        }
-        assert!(rt; shown.as_slice() == want.as_bytes(), "{row}");
+        assert!(rt;
+            shown_names(alloc, &last.named)?.as_slice() == want.as_bytes(),
+            "{row}"
+        );
     }
     Ok(())
 }
