@@ -5,6 +5,8 @@ ghost use Rattle.job_runner.specs.Starts.{kept_at, node_at};
 ghost use Rattle.job_runner.specs.Stops.{stop_id_of};
 
 use crate::lists::{JobNumbers, Lists};
+use columns::Columns;
+use job_language::read_jobs;
 use job_plan::{Form, Plan, Settings};
 use job_table::{JobSegments, NoMemory, PlanJobs, Running, TableOpened, TableWork};
 use std::alloc::Global;
@@ -16,6 +18,18 @@ use worker_pool::{Gate, Spawn, Work};
 /// These settings, or `NoMemory` if they are none.
 pub(crate) fn settings(workers: u64, threshold: u64, nodes: u64) -> Result<Settings, NoMemory> {
     Settings::of(workers, threshold, nodes, Form::Text).ok_or(NoMemory)
+}
+
+/// The jobs of a file in segments. It fails if the file is refused.
+pub(crate) fn plan_of<'c>(
+    alloc: Global,
+    file: &[u8],
+    columns: &'c Columns,
+) -> Result<Plan<'c>, NoMemory> {
+    match read_jobs(alloc, file, columns) {
+        Ok(jobs) => Plan::of(alloc, jobs),
+        Err(_) => Err(NoMemory),
+    }
 }
 
 /// Hands each task back but the first few, which it drops and says that it took.
@@ -42,6 +56,27 @@ impl Gate for Open {
     fn at_leaf(&self, _job: usize, _from: u64, _to: u64) {}
 }
 
+/// Runs tasks here, one after the other, with the first of what workers keep, and a `Spawn` that drops the first `drops`.
+fn run_here<W: Work, H: Wait>(
+    rt: &H,
+    work: &W,
+    tasks: Vec<W::Task>,
+    idles: Vec<W::Idle>,
+    drops: u64,
+)
+where
+    W::Task: Drop,
+{
+    let mut spawn = Dropping { drops };
+    let mut left = idles.into_iter().next();
+    for task in tasks {
+        let Some(idle) = left.take() else {
+            break;
+        };
+        left = Some(work.run(rt, 0, &Open, idle, task, &mut spawn));
+    }
+}
+
 /// How many answers are found after all tasks were run here, with a `Spawn` that drops the first `drops`.
 pub(crate) fn answers_found<S: JobSegments + Send + Sync, R: Running + Send + Sync, H: Wait>(
     rt: &H,
@@ -65,15 +100,7 @@ where
     requires planned { (R.jobs ≡ S.job_count) × ((j : ℕ) → R.last j ≡ S.last_of j) × ((j k : ℕ) → R.size j k ≡ S.size_of j k) }
 {
     let (work, tasks, idles) = TableWork::<S, R>::new(alloc, jobs, settings, opened)?;
-    let mut spawn = Dropping { drops };
-    let mut idles = idles.into_iter();
-    let mut left = idles.next();
-    for task in tasks {
-        let Some(idle) = left.take() else {
-            break;
-        };
-        left = Some(work.run(rt, 0, &Open, idle, task, &mut spawn));
-    }
+    run_here(rt, &work, tasks, idles, drops);
     let mut count = 0usize;
     for job in 0..jobs.jobs() {
         if work.found(job).is_some() {

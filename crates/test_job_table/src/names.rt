@@ -1,10 +1,9 @@
 //! Jobs that name others: by tasks that are driven by hand, and in long chains.
-use crate::driven::plan_found;
+use crate::driven::{plan_found, plan_of, settings};
 use crate::gates::Counted;
 use columns::Columns;
-use job_language::read_jobs;
-use job_plan::{Answer, Form, Plan, Settings};
-use job_table::run_jobs;
+use job_plan::{Answer, Settings};
+use job_table::{RunFault, run_jobs};
 use std::alloc::{AllocError, Global};
 use std::sync::Wait;
 use std::sync::atomic::Ordering::SeqCst;
@@ -27,11 +26,9 @@ h = range(0, 3000).map(x -> x + $g).sum()";
 fn each_job_begins_when_the_jobs_that_it_names_have_ended(rt: HostRuntime) -> Result<(), Fail> {
     let alloc = rt.alloc();
     let columns = Columns::none();
-    let jobs = read_jobs(alloc, JOBS.as_bytes(), &columns).map_err(|_fault| AllocError)?;
-    let plan = Plan::of(alloc, jobs)?;
+    let plan = plan_of(alloc, JOBS.as_bytes(), &columns)?;
     for (threshold, nodes) in [(1, 0), (1, 3), (7, 4_096), (1_000, 100)] {
-        let settings = Settings::of(1, threshold, nodes, Form::Text).ok_or(AllocError)?;
-        let found = plan_found(&rt, alloc, &plan, settings, 0)?;
+        let found = plan_found(&rt, alloc, &plan, settings(1, threshold, nodes)?, 0)?;
         assert!(rt; found == 8, "{threshold} {nodes}: {found}");
     }
     Ok(())
@@ -56,22 +53,23 @@ fn leaves_of_chain<H: Threads + Wait + Sync>(
     rt: &H,
     alloc: Global,
     settings: &Settings,
-) -> Result<Option<u64>, Fail> {
+) -> Result<Option<u64>, AllocError> {
     let columns = Columns::none();
     let text = chain(alloc)?;
-    let jobs = read_jobs(alloc, text.as_bytes(), &columns).map_err(|_fault| AllocError)?;
-    let plan = Plan::of(alloc, jobs)?;
+    let plan = plan_of(alloc, text.as_bytes(), &columns)?;
     let gate = Counted::new();
-    let answers = run_jobs(rt, alloc, &plan, settings, &gate).map_err(|_fault| AllocError)?;
-    let same = answers
-        .iter()
-        .filter(|answer| matches!(answer, Answer::Number(64)))
-        .count();
-    if same == 256 {
-        Ok(Some(gate.leaves.load(SeqCst)))
-    } else {
-        Ok(None)
+    match run_jobs(rt, alloc, &plan, settings, &gate) {
+        Ok(answers) => Ok(are_64(&answers).then_some(gate.leaves.load(SeqCst))),
+        Err(RunFault::NoMemory) => Err(AllocError),
     }
+}
+
+/// Whether these are 256 answers, each the number 64.
+fn are_64(answers: &[Answer]) -> bool {
+    answers.len() == 256
+        && answers
+            .iter()
+            .all(|answer| matches!(answer, Answer::Number(64)))
 }
 
 // No clause says that there is credit, or a node, for the last job of a chain.
@@ -86,8 +84,7 @@ fn each_job_of_a_long_chain_is_cut_as_the_first_one_is(rt: HostRuntime) -> Resul
         (4, 1, 1_048_576, 256 * 64),
         (2, 1, 255, 255 * 2 + 1),
     ] {
-        let settings = Settings::of(workers, threshold, nodes, Form::Text).ok_or(AllocError)?;
-        let leaves = leaves_of_chain(&rt, rt.alloc(), &settings)?;
+        let leaves = leaves_of_chain(&rt, rt.alloc(), &settings(workers, threshold, nodes)?)?;
         assert!(rt;
             leaves == Some(wanted),
             "{workers} {threshold} {nodes}: {leaves:?}"

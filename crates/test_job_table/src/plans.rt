@@ -1,10 +1,9 @@
 //! Jobs of job files on workers: the answers of Java, and the leaves that they were walked in.
-use crate::driven::{Open, plan_found, settings};
+use crate::driven::{self, Open, plan_found, settings};
 use crate::gates::{Counted, Holding, InTurn, TURNS};
 use columns::Columns;
-use job_language::read_jobs;
-use job_plan::{Answer, Plan, Settings};
-use job_table::run_jobs;
+use job_plan::{Answer, Plan, Settings, Values};
+use job_table::{RunFault, run_jobs};
 use std::alloc::{AllocError, Global};
 use std::sync::Wait;
 use std::sync::atomic::Ordering::SeqCst;
@@ -37,6 +36,12 @@ of_array = range(0, 3000).map(x -> 1 / (x - 2999)).toArray() => fault of stage 1
 caught = range(0, 3000).map(x -> 6 / (2000 - x)).max().onFault(-1) => OptionalLong[-1]
 unended = range(0, 4611686018427387904).filter(x -> x == 70000).findFirst() => OptionalLong[70000]";
 
+/// The values of an array as Java prints them.
+fn shown_values(alloc: Global, values: &Values) -> Result<String, AllocError> {
+    let values = values.to_vec(alloc)?;
+    format!(in alloc; "{:?}", values.as_slice())
+}
+
 /// An answer as Java prints it, and a fault with its stage and its item.
 fn shown(alloc: Global, answer: &Answer) -> Result<String, AllocError> {
     match answer {
@@ -44,7 +49,7 @@ fn shown(alloc: Global, answer: &Answer) -> Result<String, AllocError> {
         Answer::Truth(truth) => format!(in alloc; "{truth}"),
         Answer::Optional(None) => format!(in alloc; "OptionalLong.empty"),
         Answer::Optional(Some(number)) => format!(in alloc; "OptionalLong[{number}]"),
-        Answer::Array(values) => format!(in alloc; "{:?}", values.to_vec(alloc)?.as_slice()),
+        Answer::Array(values) => shown_values(alloc, values),
         Answer::Fault(fault) => format!(in alloc;
             "fault of stage {} at {}",
             fault.stage,
@@ -69,8 +74,7 @@ fn file_of(alloc: Global, table: &str) -> Result<Vec<u8>, AllocError> {
 /// The plan of the jobs of a table.
 fn plan_of<'c>(alloc: Global, columns: &'c Columns, table: &str) -> Result<Plan<'c>, AllocError> {
     let file = file_of(alloc, table)?;
-    let jobs = read_jobs(alloc, &file, columns).map_err(|_fault| AllocError)?;
-    Plan::of(alloc, jobs)?.with_slices_first(alloc)
+    driven::plan_of(alloc, &file, columns)?.with_slices_first(alloc)
 }
 
 /// The answers of the jobs of a table, whose leaves enter this gate.
@@ -80,11 +84,13 @@ fn run<H: Threads + Wait + Sync, G: Gate + Sync>(
     table: &str,
     settings: Settings,
     gate: &G,
-) -> Result<Vec<Answer>, Fail> {
+) -> Result<Vec<Answer>, AllocError> {
     let columns = Columns::none();
     let plan = plan_of(alloc, &columns, table)?;
-    let answers = run_jobs(rt, alloc, &plan, &settings, gate).map_err(|_fault| AllocError)?;
-    Ok(answers)
+    match run_jobs(rt, alloc, &plan, &settings, gate) {
+        Ok(answers) => Ok(answers),
+        Err(RunFault::NoMemory) => Err(AllocError),
+    }
 }
 
 /// The first row of the table whose job has another answer, or the number of its rows.
@@ -207,23 +213,30 @@ fn answers_are_the_same_if_one_leaf_after_the_other_is_held(rt: HostRuntime) -> 
     Ok(())
 }
 
+/// How many answers of a table are found on this many nodes after a run that drops the first `drops` tasks.
+fn found_of<H: Wait>(
+    rt: &H,
+    alloc: Global,
+    table: &str,
+    nodes: u64,
+    drops: u64,
+) -> Result<usize, AllocError> {
+    let columns = Columns::none();
+    let plan = plan_of(alloc, &columns, table)?;
+    plan_found(rt, alloc, &plan, settings(1, 1, nodes)?, drops)
+}
+
 #[test]
 fn answers_of_a_plan_are_found_exactly_when_no_task_is_dropped(
     rt: HostRuntime,
 ) -> Result<(), Fail> {
-    let alloc = rt.alloc();
-    let columns = Columns::none();
-    let plan = plan_of(alloc, &columns, JOBS)?;
     for nodes in [0, 1, 2, 3, 4096] {
-        let settings = settings(1, 1, nodes)?;
-        let found = plan_found(&rt, alloc, &plan, settings, 0)?;
+        let found = found_of(&rt, rt.alloc(), JOBS, nodes, 0)?;
         assert!(rt; found == 22, "{found} with {nodes} nodes");
     }
-    let settings = settings(1, 1, 4096)?;
-    let found = plan_found(&rt, alloc, &plan, settings, 1)?;
+    let found = found_of(&rt, rt.alloc(), JOBS, 4096, 1)?;
     assert!(rt; found == 21, "{found} of 22");
-    let plan = plan_of(alloc, &columns, "s = of(1, 2).sum()")?;
-    let found = plan_found(&rt, alloc, &plan, settings, 1)?;
+    let found = found_of(&rt, rt.alloc(), "s = of(1, 2).sum()", 4096, 1)?;
     assert!(rt; found == 0, "{found} of 1");
     Ok(())
 }
