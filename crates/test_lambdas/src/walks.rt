@@ -111,7 +111,16 @@ fn a_walk_ends_at_the_first_fault_in_encounter_order(rt: HostRuntime) -> Result<
     let stages = [stage(alloc, "x -> 10 / (x - 7)", Want::Long)?];
     let values = [0, 1, 2, 3, 4, 5, 6, 7, 8, 9];
     let images = [-1, -1, -2, -2, -3, -5, -10];
-    assert!(rt; gives(alloc, &stages, &values, &places, &images, division_by_zero(1, 7))?);
+    assert!(rt;
+        gives(
+            alloc,
+            &stages,
+            &values,
+            &places,
+            &images,
+            division_by_zero(1, 7)
+        )?
+    );
     assert!(rt; gives(alloc, &stages, &[-1, 0], &[0, 1], &[-1, -1], End::Done)?);
     Ok(())
 }
@@ -193,7 +202,16 @@ fn inner_values_have_the_place_of_the_outer_item(rt: HostRuntime) -> Result<(), 
         range_up_to_the_item(0),
         stage(alloc, "x -> 6 / (2 - x)", Want::Long)?,
     ];
-    assert!(rt; gives(alloc, &stages, &[1, -5, 2], &[0, 2, 2], &[3, 3, 6], End::Done)?);
+    assert!(rt;
+        gives(
+            alloc,
+            &stages,
+            &[1, -5, 2],
+            &[0, 2, 2],
+            &[3, 3, 6],
+            End::Done
+        )?
+    );
     let fault = division_by_zero(2, 1);
     assert!(rt; gives(alloc, &stages, &[1, 3, 9], &[0, 1, 1], &[3, 3, 6], fault)?);
     let too_long = End::Fault(Fault {
