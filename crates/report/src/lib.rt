@@ -1,6 +1,6 @@
 //! The report of the answers, as text and as JSON.
 //!
-//! Stands on `job_plan`, whose answers it prints, on `stream_tokens` for the bytes of a name, on
+//! Stands on `job_meaning`, whose answers it prints, on `stream_tokens` for the bytes of a name, on
 //! `counted_io`, whose writers it gives out, on `itoa` for digits and on `serde_json`. Used by `engine`.
 //! What it promises to it: `text` and `text_by` give exactly the bytes that `specs/Text.antt` defines, `json` and
 //! `json_by` those of `specs/Json.antt`, and `write_report` writes them all, or says how many of the first ones went out.
