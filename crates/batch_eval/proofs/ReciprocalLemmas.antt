@@ -3,10 +3,10 @@ use Rattle.std.proofs.Common.{◌≡◌, ℕ, zero, suc, ◌+◌, ◌-◌, ◌*�
 use Rattle.std.specs.Prelude.{false, bit_or, int_rem, unsigned_abs}
 use Rattle.std.specs.Ordering.{int_eq}
 use Rattle.std.proofs.lemmas.Grind.{common_steps}
-use Rattle.std.proofs.Math.Nat.{div-div-eq-div-mul, div-lt_iff_lt-mul, div-mul-le_self, le-div_iff_mul-le, lt-div-mul-add, lt_of_mul-lt-mul_right, mod-le, mul-le-mul_left, mul-le-mul_right}
+use Rattle.std.proofs.Math.Nat.{add-mul-mod_self_right, div-div-eq-div-mul, div-lt_iff_lt-mul, div-mul-le_self, dvd-mul_right, le-div_iff_mul-le, lt-div-mul-add, lt_of_mul-lt-mul_right, mod-eq_of_lt, mod-le, mod-lt, mod-mod_of_dvd, mul-add-div_right, mul-le-mul, mul-le-mul_left, mul-le-mul_right}
 use Rattle.std.proofs.lemmas.Int.{int_wrap_fits, to_z-of_z}
 use Rattle.std.proofs.lemmas.Bool.{cases_lt}
-use Rattle.std.proofs.lemmas.Nat.{le_or_l, le_or_r, pow_pos}
+use Rattle.std.proofs.lemmas.Nat.{div-add-mod', le_or_l, le_or_r, pow_pos}
 use Rattle.std.proofs.Math.Pow.{pow_mono}
 use mathlib.Core.Logic.{⊎_elim}
 use Rattle.lambda_values.specs.Wrap.{wrap}
@@ -79,6 +79,28 @@ divides_bits bits y m s f twice fits size above low high bound is =
       shift = bound;
       divisor = omega (arith, above, size, same);
     }
+
+-- the upper part of a product, over a base b, by the halves of its factors
+pub halves_above : (b high low h l across : ℕ) → 0 < b → across ≡ high * l + low * l / b → high * h + across / b + (low * h + across % b) / b ≡ (high * b + low) * (h * b + l) / (b * b)
+halves_above b high low h l across some is =
+    let x = high * l + low * h in
+    let whole : (high * b + low) * (h * b + l) ≡ (high * h * b + x) * b + low * l = omega arith in
+    let above : ((high * h * b + x) * b + low * l) / b ≡ high * h * b + x + low * l / b = mul-add-div_right some (high * h * b + x) (low * l) in
+    let crossed : across / b * b + across % b ≡ across = div-add-mod' across b in
+    let again : high * h * b + x + low * l / b ≡ (high * h + across / b) * b + (low * h + across % b) = omega (arith, is, crossed) in
+    sym (ap (λ n. n / (b * b)) whole ∙ sym (div-div-eq-div-mul ((high * h * b + x) * b + low * l) b b) ∙ ap (λ n. n / b) (above ∙ again) ∙ mul-add-div_right some (high * h + across / b) (low * h + across % b))
+
+-- what is left of n after q times d, if that is less than d, by the rests of n and q for a base of at least d
+pub short_rest_is : (b n q d : ℕ) → 0 < b → d ≤ b → q * d ≤ n → n < q * d + d → (n % b + (b * b - q % b * d)) % (b * b) % b ≡ n - q * d
+short_rest_is b n q d some short least most =
+    let taken = q % b * d in
+    let x = n % b + (b * b - taken) in
+    let low : q % b < b = mod-lt q some in
+    let fits : taken ≤ b * b = mul-le-mul (omega (arith, low)) short in
+    let n_whole : n / b * b + n % b ≡ n = div-add-mod' n b in
+    let q_whole : q * d ≡ q / b * d * b + taken = ap (λ k. k * d) (sym (div-add-mod' q b)) ∙ omega arith in
+    let same : x + n / b * b ≡ n - q * d + (q / b * d + b) * b = omega (arith, n_whole, q_whole, least, fits) in
+    mod-mod_of_dvd b x (dvd-mul_right b b) ∙ sym (add-mul-mod_self_right x (n / b) b) ∙ ap (λ k. k % b) same ∙ add-mul-mod_self_right (n - q * d) (q / b * d + b) b ∙ mod-eq_of_lt (omega (arith, least, most, short))
 
 -- a power of two below 2^31 has an exponent below 31
 pub exponent_short : (s m : ℕ) → 2 ^ s ≤ m - 1 → m ≤ 2 ^ 31 → 1 < m → s < 31

@@ -1,5 +1,5 @@
 -- Condition: division by multiplication.
-use Rattle.std.specs.Prelude.{◌≡◌, ℕ, ◌<◌, ◌≤◌, ◌*◌, ◌-◌, ◌/◌, ◌^◌, ℤ, pos, negsuc, FitsSigned, List, unsigned_abs}
+use Rattle.std.specs.Prelude.{◌≡◌, ℕ, ◌<◌, ◌≤◌, ◌+◌, ◌*◌, ◌-◌, ◌/◌, ◌^◌, ℤ, pos, negsuc, FitsSigned, List, unsigned_abs}
 use Rattle.std.specs.Int.{w64}
 use Rattle.batch_eval.specs.Lanes.{at}
 use Rattle.batch_eval.specs.declared.reached.Left.{Left}
@@ -15,7 +15,7 @@ pub record Divides (bits : ℕ) (y : ℤ) (m s : ℕ) : Type 0 where
 
 -- it divides the magnitudes of all integers of 64 bits
 abbrev pub IsReciprocal : Reciprocal → Type 0
-IsReciprocal r = Divides 64 r.divisor r.factor r.shift
+IsReciprocal r = Divides 64 r.divisor (r.high * 2 ^ 32 + r.low) r.shift
 
 -- it divides the magnitudes of all integers of 32 bits
 abbrev pub IsShortReciprocal : ShortReciprocal → Type 0

@@ -5,10 +5,10 @@ ghost use Rattle.lambda_values.specs.Operators.{binary_value, rounded_down};
 ghost use Rattle.lambda_values.specs.Wrap.{wrap};
 ghost use Rattle.lambda_values.specs.declared.fault.FaultKind.{FaultKind};
 ghost use Rattle.lambda_values.specs.declared.operator.BinaryOperator.TheVariants as binary_operator;
-ghost use Rattle.std.specs.Prelude.{ℤ, ◌≡◌, ◌<◌, ◌≤◌, ◌%◌, ◌^◌, Ok, Result, neg_ℤ, unsigned_abs};
+ghost use Rattle.std.specs.Prelude.{ℤ, ◌≡◌, ◌<◌, ◌≤◌, ◌+◌, ◌*◌, ◌-◌, ◌%◌, ◌^◌, Ok, Result, neg_ℤ, unsigned_abs};
 
 use crate::power::signed_as;
-use crate::reciprocal::Divisor;
+use crate::reciprocal::{Divisor, HALF};
 
 /// How far a number is from 0, or from -1 if it is below 0.
 pub(crate) fn distance(x: i64) -> u64
@@ -53,6 +53,16 @@ fn at_opposite_distance(x: i64, n: u64) -> i64
     if x > 0 { !above } else { above }
 }
 
+/// What is left of a magnitude after a multiple of a short divisor is taken away, if it is less than the divisor: by its lower
+/// half alone, so that no product has more than 64 bits.
+fn short_rest(n: u64, quotient: u64, divisor: u32) -> u64
+    requires least { quotient * divisor ≤ n }
+    requires most { n < quotient * divisor + divisor }
+    ensures { result ≡ n - quotient * divisor }
+{
+    (n % HALF).wrapping_sub(quotient % HALF * u64::from(divisor)) % HALF
+}
+
 /// What is left of a magnitude.
 fn rest<R: Divisor>(n: u64, by: R) -> u64
     requires divides { R.divides by }
@@ -60,7 +70,13 @@ fn rest<R: Divisor>(n: u64, by: R) -> u64
     ensures value { result ≡ n % unsigned_abs (R.number by) }
     ensures above { 1 < unsigned_abs (R.number by) }
 {
-    n - by.quotient(n) * by.number().unsigned_abs()
+    let divisor = by.number().unsigned_abs();
+    let quotient = by.quotient(n);
+    if divisor < HALF {
+        short_rest(n, quotient, divisor as u32)
+    } else {
+        n - quotient * divisor
+    }
 }
 
 /// `x` over a divisor, rounded down.

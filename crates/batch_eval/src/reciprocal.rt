@@ -1,7 +1,10 @@
 //! Reciprocals of divisors, by which magnitudes are divided by a multiplication in place of the processor's division.
 
 ghost use Rattle.batch_eval.specs.Reciprocals.{IsReciprocal, IsShortReciprocal};
-ghost use Rattle.std.specs.Prelude.{◌≡◌, ◌<◌, ◌≤◌, ◌/◌, ◌^◌, ◌⊎◌, ℕ, ℤ, MatchOption, unsigned_abs};
+ghost use Rattle.std.specs.Prelude.{◌≡◌, ◌<◌, ◌≤◌, ◌+◌, ◌*◌, ◌/◌, ◌^◌, ◌⊎◌, ℕ, ℤ, MatchOption, unsigned_abs};
+
+/// A number of 64 bits is its upper half times this, and its lower half.
+pub(crate) const HALF: u64 = 1 << 32;
 
 /// The greatest magnitude that has a short reciprocal, and the greatest one that is divided by it.
 const MOST_SHORT: u64 = 1 << 31;
@@ -31,11 +34,13 @@ pub(crate) trait Divisor: Copy {
         ensures bound { result < 2 ^ 63 };
 }
 
-/// A divisor, what a magnitude is multiplied by, and how far the upper 64 bits of the product are shifted.
+/// A divisor, what a magnitude is multiplied by, and how far the upper 64 bits of the product are shifted. The factor is given
+/// by its halves, so that no product has more than 64 bits, and a loop can make several at a time.
 #[derive(Clone, Copy)]
 pub(crate) struct Reciprocal {
     divisor: i64,
-    factor: u64,
+    low: u32,
+    high: u32,
     shift: u32,
 }
 
@@ -71,9 +76,23 @@ fn reciprocal_from(y: i64, magnitude: u64) -> Reciprocal
     let factor = (below / u128::from(magnitude) + 1) as u64;
     Reciprocal {
         divisor: y,
-        factor,
+        low: (factor % HALF) as u32,
+        high: (factor / HALF) as u32,
         shift,
     }
+}
+
+/// The upper 64 bits of the product of a magnitude and a factor that is given by its halves.
+fn product_above(n: u64, low: u32, high: u32) -> u64
+    requires n { n ≤ 2 ^ 63 }
+    ensures { result ≡ n * (high * 2 ^ 32 + low) / 2 ^ 64 }
+{
+    let (low, high) = (u64::from(low), u64::from(high));
+    let n_low = n % HALF;
+    let n_high = n / HALF;
+    let across = n_high * low + n_low * low / HALF;
+    let middle = n_low * high + across % HALF;
+    n_high * high + across / HALF + middle / HALF
 }
 
 /// The reciprocal for magnitudes up to 2^31 of a number other than -1, 0 and 1 whose own is no more than that.
@@ -117,8 +136,7 @@ impl Divisor for Reciprocal {
     }
 
     fn quotient(self, n: u64) -> u64 {
-        let product = u128::from(n) * u128::from(self.factor);
-        (product >> 64) as u64 >> self.shift
+        product_above(n, self.low, self.high) >> self.shift
     }
 }
 
