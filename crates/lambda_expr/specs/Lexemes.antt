@@ -33,12 +33,17 @@ sign_or w None = w
 abbrev pub symbol_lexeme : Symbol → Lexeme
 symbol_lexeme s = sign_or (punctuation s) (sign_of s)
 
--- which of the names of a text this one is, if these are the first two that were met: 0, 1, or 2 for any other
-abbrev pub order_of : List ℕ → List ℕ → List ℕ → ℕ
-order_of first second w = if is_named w first then 0 else (if is_named w second then 1 else 2)
+-- helper: whether a name is this one, if there is one
+abbrev pub is_that : Option (List ℕ) → List ℕ → Bool
+is_that None w = false
+is_that (Some name) w = is_named w name
+
+-- which of the names of a text this one is, if these are the first two: 0, 1, or 2 for any other
+abbrev pub order_of : Option (List ℕ) → Option (List ℕ) → List ℕ → ℕ
+order_of first second w = if is_that first w then 0 else (if is_that second w then 1 else 2)
 
 -- a name of a text, if these are the first two that a parameter may have
-abbrev pub name_of : List ℕ → List ℕ → List ℕ → Name
+abbrev pub name_of : Option (List ℕ) → Option (List ℕ) → List ℕ → Name
 name_of first second w =
     if is_named w (codes "Math") then Owner Math
     else (if is_named w (codes "Long") then Owner Long
@@ -53,7 +58,7 @@ abbrev pub number_lexeme : List ℕ → Lexeme
 number_lexeme w = if is_numeral w then lexeme.Number (min (numeral_value w) (2 ^ 64 - 1)) else lexeme.Other
 
 -- the lexeme of the word at a place; a reference is known by its place
-abbrev pub lexeme_of : List ℕ → List ℕ → ℕ → Word → Lexeme
+abbrev pub lexeme_of : Option (List ℕ) → Option (List ℕ) → ℕ → Word → Lexeme
 lexeme_of first second at (named w) = lexeme.Name (name_of first second w)
 lexeme_of first second at (numeral w) = number_lexeme w
 lexeme_of first second at (quoted w) = lexeme.Other
@@ -67,35 +72,33 @@ is_reserved w =
     is_named w (codes "Math") || is_named w (codes "Long") || is_named w (codes "LongStream")
     || is_named w (codes "long") || is_named w (codes "true") || is_named w (codes "false")
 
--- no parameter has this name, or it is the one that is taken
-abbrev pub is_taken : List ℕ → List ℕ → Bool
-is_taken taken w = is_reserved w || is_named w taken
+-- no parameter has this name, or it is the one that is taken, if there is one
+abbrev pub is_taken : Option (List ℕ) → List ℕ → Bool
+is_taken None w = is_reserved w
+is_taken (Some taken) w = is_reserved w || is_named w taken
 
--- helper: the name that a word is, if a parameter may have it and it isn't the one that is taken; else no bytes: no name is empty
-abbrev pub free_name : List ℕ → Word → List ℕ
-free_name taken (named w) = if is_taken taken w then [] else w
-free_name taken (numeral w) = []
-free_name taken (quoted w) = []
-free_name taken (referred w) = []
-free_name taken (sign s) = []
-free_name taken bad = []
+-- the first name among words that a parameter may have, apart from one that is taken, if there is any
+abbrev pub first_name : Option (List ℕ) → List Word → Option (List ℕ)
+first_name taken [] = None
+first_name taken (named w ∷ ws) = if is_taken taken w then first_name taken ws else Some w
+first_name taken (numeral w ∷ ws) = first_name taken ws
+first_name taken (quoted w ∷ ws) = first_name taken ws
+first_name taken (referred w ∷ ws) = first_name taken ws
+first_name taken (sign s ∷ ws) = first_name taken ws
+first_name taken (bad ∷ ws) = first_name taken ws
 
--- the first name that a parameter may have, apart from one that is taken, among words and one more: it stays once it is known
-abbrev pub first_name : List ℕ → List ℕ → Word → List ℕ
-first_name taken [] w = free_name taken w
-first_name taken (b ∷ known) w = b ∷ known
-
--- the lexemes of the words from a place on, if these are the first two different names before it
-abbrev pub lexemes_from : List ℕ → List ℕ → ℕ → List Word → List Lexeme
+-- the lexemes of the words from a place on, if these are the first two names that a parameter may have
+abbrev pub lexemes_from : Option (List ℕ) → Option (List ℕ) → ℕ → List Word → List Lexeme
 lexemes_from first second at [] = []
-lexemes_from first second at (w ∷ ws) =
-    let here = first_name [] first w in
-    let other = first_name here second w in
-    lexeme_of here other at w ∷ lexemes_from here other (suc at) ws
+lexemes_from first second at (w ∷ ws) = lexeme_of first second at w ∷ lexemes_from first second (suc at) ws
 
--- the lexemes of a text: its names are known by the order in which the first two of them come
+-- the lexemes of words, by the first two different names among them that a parameter may have
+abbrev pub lexemes_in : List Word → List Lexeme
+lexemes_in ws = let first = first_name None ws in lexemes_from first (first_name first ws) 0 ws
+
+-- the lexemes of a text
 abbrev pub lexemes_of : List ℕ → List Token → List Lexeme
-lexemes_of text tokens = lexemes_from [] [] 0 (words_of text tokens)
+lexemes_of text tokens = lexemes_in (words_of text tokens)
 
 -- the name that a reference stands for, without its `$`
 abbrev pub reference_name : Word → List ℕ

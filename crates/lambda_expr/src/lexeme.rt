@@ -1,8 +1,8 @@
 //! What the tokens of a text are to the grammar of lambdas.
 
-ghost use Rattle.lambda_expr.specs.Lexemes.{first_name, free_name, is_reserved, is_taken, lexeme_of, lexemes_of, name_of, names_in, number_lexeme, order_of, punctuation, symbol_lexeme};
-ghost use Rattle.lambda_expr.specs.Words.{word_for};
-ghost use Rattle.std.specs.Prelude.{◌≡◌, IfOk, drop};
+ghost use Rattle.lambda_expr.specs.Lexemes.{first_name, is_reserved, is_taken, lexeme_of, lexemes_of, name_of, names_in, number_lexeme, order_of, punctuation, symbol_lexeme};
+ghost use Rattle.lambda_expr.specs.Words.{Word, word_for};
+ghost use Rattle.std.specs.Prelude.{◌≡◌, IfOk, List, [], ◌∷◌, ◌++◌, drop, option_copied};
 
 use super::number::{may_stand, numeral_value};
 use super::sign::Sign;
@@ -57,12 +57,12 @@ pub(crate) enum Lexeme {
 }
 
 // Which of the names of a text this one is, if these are the first two: 0, 1, or 2 for any other.
-fn order_of(first: &[u8], second: &[u8], name: &[u8]) -> usize
-    ensures { result ≡ order_of first.now second.now name.now }
+fn order_of(first: Option<&[u8]>, second: Option<&[u8]>, name: &[u8]) -> usize
+    ensures { result ≡ order_of (option_copied first.entry) (option_copied second.entry) name.now }
 {
-    if name == first {
+    if Some(name) == first {
         0
-    } else if name == second {
+    } else if Some(name) == second {
         1
     } else {
         2
@@ -70,8 +70,8 @@ fn order_of(first: &[u8], second: &[u8], name: &[u8]) -> usize
 }
 
 // A name of a text, if these are the first two that a parameter may have.
-fn name_of(first: &[u8], second: &[u8], name: &[u8]) -> Name
-    ensures { result ≡ name_of first.now second.now name.now }
+fn name_of(first: Option<&[u8]>, second: Option<&[u8]>, name: &[u8]) -> Name
+    ensures { result ≡ name_of (option_copied first.entry) (option_copied second.entry) name.now }
 {
     if name == b"Math".as_slice() {
         Name::Owner(Owner::Math)
@@ -127,9 +127,15 @@ fn number_lexeme(number: &[u8]) -> Lexeme
     }
 }
 
-// The lexeme of a token.
-fn lexeme_of(first: &[u8], second: &[u8], at: usize, kind: TokenKind, bytes: &[u8]) -> Lexeme
-    ensures { result ≡ lexeme_of first.now second.now at (word_for kind bytes.now) }
+// The lexeme of a token, if these are the first two names that a parameter may have.
+fn lexeme_of(
+    first: Option<&[u8]>,
+    second: Option<&[u8]>,
+    at: usize,
+    kind: TokenKind,
+    bytes: &[u8],
+) -> Lexeme
+    ensures { result ≡ lexeme_of (option_copied first.entry) (option_copied second.entry) at (word_for kind bytes.now) }
 {
     match kind {
         TokenKind::Name => Lexeme::Name(name_of(first, second, bytes)),
@@ -153,43 +159,52 @@ fn is_reserved(name: &[u8]) -> bool
 }
 
 // Whether no parameter has this name, or it is the one that is taken.
-fn is_taken(taken: &[u8], name: &[u8]) -> bool
-    ensures { result ≡ is_taken taken.now name.now }
+fn is_taken(taken: Option<&[u8]>, name: &[u8]) -> bool
+    ensures { result ≡ is_taken (option_copied taken.entry) name.now }
 {
-    is_reserved(name) || name == taken
+    is_reserved(name) || Some(name) == taken
 }
 
-// The name that a token is, if a parameter may have it and it is not the one that is taken, or no bytes.
-fn free_name<'a>(taken: &[u8], kind: TokenKind, bytes: &'a [u8]) -> &'a [u8]
-    ensures { result.now ≡ free_name taken.now (word_for kind bytes.now) }
+// The name that a token is, if a parameter may have it and it is not the one that is taken. It is asked only until two names
+// are known; inlined it slows every other token of the pass.
+#[inline(never)]
+fn free_name<'a>(taken: Option<&[u8]>, kind: TokenKind, bytes: &'a [u8]) -> Option<&'a [u8]>
+    ensures { option_copied result ≡ first_name (option_copied taken.entry) (word_for kind bytes.now ∷ []) }
 {
     if matches!(kind, TokenKind::Name) && !is_taken(taken, bytes) {
-        bytes
+        Some(bytes)
     } else {
-        b"".as_slice()
+        None
     }
 }
 
-// The first name that a parameter may have, apart from one that is taken, after one more token: what is known, if it has bytes.
-fn first_name<'a>(taken: &[u8], known: &'a [u8], kind: TokenKind, bytes: &'a [u8]) -> &'a [u8]
-    ensures { result.now ≡ first_name taken.now known.now (word_for kind bytes.now) }
+// The first name that a parameter may have, apart from one that is taken, with one more token: what is known before, if anything is.
+fn first_name<'a>(
+    taken: Option<&[u8]>,
+    known: Option<&'a [u8]>,
+    kind: TokenKind,
+    bytes: &'a [u8],
+) -> Option<&'a [u8]>
+    ensures { (ws : List Word) → option_copied known.entry ≡ first_name (option_copied taken.entry) ws
+        → option_copied result ≡ first_name (option_copied taken.entry) (ws ++ word_for kind bytes.now ∷ []) }
 {
     match known {
-        [] => free_name(taken, kind, bytes),
-        [_, ..] => known,
+        Some(_) => known,
+        None => free_name(taken, kind, bytes),
     }
 }
 
-/// The lexemes of a text, in one pass over its tokens.
+/// The lexemes of a text, in one pass over its tokens. Each name is compared with the first two of the text up to it: a name
+/// that a parameter may have is one of these, or both are known by then.
 pub(crate) fn lexemes(alloc: Global, text: &CutText) -> Result<Vec<Lexeme>, AllocError>
     ensures { IfOk result (λ lexemes. lexemes.items ≡ lexemes_of text.now.bytes text.now.tokens) }
 {
-    let mut first = b"".as_slice();
-    let mut second = b"".as_slice();
+    let mut first = None;
+    let mut second = None;
     let mut lexemes = Vec::new(alloc);
     for at in 0..text.len() {
         let (kind, bytes) = (text.kind(at), text.word(at));
-        first = first_name(b"".as_slice(), first, kind, bytes);
+        first = first_name(None, first, kind, bytes);
         second = first_name(first, second, kind, bytes);
         lexemes.push(lexeme_of(first, second, at, kind, bytes))?;
     }
