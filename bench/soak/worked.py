@@ -4,6 +4,7 @@ import glob
 import os
 
 TOP = os.path.join(os.path.dirname(os.path.abspath(__file__)), '..', '..')
+REFUSED_TEXTS = os.path.join(TOP, 'bench', 'soak', 'refused.txt')
 COLUMNS = b'a,b\n3,10\n0,20\n-5,30\n'
 DIVISION = 'fault divide-by-zero stage {} item {}'.format
 
@@ -90,6 +91,7 @@ ANSWERS = [
 
 # (a job file, its report)
 REPORTS = [
+    ('true = of(1).anyMatch(range -> range > 0)\nlong = of(1).allMatch(x -> x > 1)\n', 'true = true\nlong = false\n'),
     ('', ''),
     ('\ufeff# squares\r\ns = LongStream.rangeClosed(1, 4)\r\n  .map((x) -> x * x)\r\n  .sum();\r\n', 's = 30\n'),
     ('t = column("a").sum()\nu = column("b").map(x -> x / $t).toArray()\n', 't = -2\nu = [-5, -10, -15]\n'),
@@ -228,6 +230,24 @@ REFUSED_FILES = [
     ('version 2\nt = of(1).sum().onFault(0).onFault(0)\n', '2: syntax'),
     ('version 2\nt = of(1).onFault(0)\n', '2: syntax'),
     ('version 2\nt = of(1).sum().onFault()\n', '2: syntax'),
+    # A part past its limit is too long before any other cause, and so is one job more than 256; an earlier fault comes first.
+    ('n' * 65 + ' = of(9223372036854775808).sum()', '1: too long'),
+    ('s = of(9223372036854775808' + ',1' * 1024 + ').sum()', '1: too long'),
+    ('s = of()' + '.map(x->x)' * 32 + '.map(x->y).sum()', '1: too long'),
+    ('s = of()' + '.map(x->x)' * 32 + '.prefix(3, 2, sum).sum()', '1: too long'),
+    ('s = of()' + '.map(x->x)' * 31 + '.limit(-1).skip(-1).sum()', '1: negative count'),
+    ('s = of()' + '.map(x->x)' * 32 + '.reduce(9223372036854775808, sum)', '1: literal too large'),
+    ('s = concat(of(9223372036854775808)' + ',empty()' * 8 + ').sum()', '1: too long'),
+    ('s = concat(column("z")' + ', of()' * 7 + ').sum()', '1: unknown column'),
+    ('s = concat(column("z"), LongStream.concat(of(), of())' + ', of()' * 6 + ').sum()', '1: too long'),
+    ('s = of().sum()\ns = concat(of()' + ', of()' * 8 + ').sum()', '2: same name'),
+    ('s = of().sum(0)' + ' ' * 65522, '1: too long'),
+    (''.join(f'j{it} = of().sum()\n' for it in range(256)) + 'more (\n', '257: too long'),
+    (''.join(f'j{it} = of().sum()\n' for it in range(255)) + 'j0 = of().sum()\nmore (\n', '256: same name'),
+    # Operands of an inner stream.
+    ('s = of(1).flatMap(x -> of(x' + ', y' * 64 + ')).sum()', '1: too deep'),
+    ('s = of(1).flatMap(x -> of(x' + ', 9223372036854775808' * 64 + ')).sum()', '1: literal too large'),
+    ('s = of(1).flatMap(x -> of(x, ' + '+ ' * 63 + 'y)).sum()', '1: too deep'),
 ]
 
 # (a column file, what stands on standard error)
@@ -235,7 +255,8 @@ REFUSED_COLUMNS = [
     (b'', 'no header'), (b'\xef\xbb\xbf', 'no header'), (b'\r\n\n', 'no header'),
     (b'a,b\n3\n', 'wrong length of row 1'), (b'a\n3.0\n', 'bad number in row 1 column 1'), (b'a,a\n', 'same name'),
     (b'a,b\n1,2\n3,- 5\n', 'bad number in row 2 column 2'), (b'a\n \n', 'bad number in row 1 column 1'),
-    (b'a\n9223372036854775808\n', 'bad number in row 1 column 1'),
+    (b'a\n9223372036854775808\n', 'bad number in row 1 column 1'), (b'a,b,a\n', 'same name'), (b',' * 256, 'more than 256 columns'),
+    (b'a,b\n1,2\n3,4,5\nx,y\n', 'wrong length of row 2'), (b'a,b\n1,2\n3,-\n', 'bad number in row 2 column 2'),
     (b'a,b\n1,x\n1\n', 'bad number in row 1 column 2'), (b'a\n"1\n"\n', 'bad number in row 1 column 1'),
     (','.join(f'c{it}' for it in range(257)).encode(), 'more than 256 columns'),
 ]
@@ -253,6 +274,25 @@ def read(path):
         return file.read()
 
 
+def refused_texts():
+    """(a job file, a column file or None, the line and the cause) of each row of refused.txt"""
+    front, columns = '', None
+    for row in read(REFUSED_TEXTS).decode().splitlines():
+        word, _, text = row.partition(' => ')
+        # In a text `\\n` and others stand for what they stand for in Python.
+        if row.startswith('front:'):
+            front, columns = unescaped(row[len('front: '):]), None
+        elif row.startswith('columns: '):
+            columns = unescaped(row[len('columns: '):]).encode()
+        elif text and not row.startswith('#'):
+            line, _, cause = word.partition(' ') if word[0].isdigit() else (front.count('\n') + 1, '', word)
+            yield front + unescaped(text), columns, f'{line}: {cause}'
+
+
+def unescaped(text):
+    return text.encode('ascii').decode('unicode_escape')
+
+
 def cases():
     """(a job file, a column file or None, 'text' or 'json', and the wanted standard output, standard error and status)"""
     for job, answer in ANSWERS:
@@ -265,8 +305,11 @@ def cases():
         yield f'j = {job}', None, 'text', ('', f'streamrun: jobs: line 1: {cause}\n', 1)
     for jobs, cause in REFUSED_FILES:
         yield jobs, None, 'text', ('', f'streamrun: jobs: line {cause}\n', 1)
+    for jobs, columns, cause in refused_texts():
+        yield jobs, columns, 'text', ('', f'streamrun: jobs: line {cause}\n', 1)
     for columns, cause in REFUSED_COLUMNS:
-        yield '', columns, 'text', ('', f'streamrun: columns: {cause}\n', 1)
+        # The job file is not read at all.
+        yield 'junk', columns, 'text', ('', f'streamrun: columns: {cause}\n', 1)
     for columns, source, values in CELLS:
         yield f'j = {source}.toArray()', columns, 'text', (f'j = {values}\n', '', 0)
 

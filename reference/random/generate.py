@@ -2,7 +2,6 @@
 """Writes random jobs over random columns with the reports that a model gives them.
 
     reference/random/generate.py report    writes examples/random.csv, .jobs, .report and .json
-    reference/random/generate.py table     prints the rows JOB => LINE OF THE REPORT
     reference/random/generate.py java      runs the jobs as Java and compares; `java` is taken from the PATH
 
 The jobs depend on the seed alone. The model is written from the rules of streams: an item passes all stages before the
@@ -358,9 +357,7 @@ def main():
     dice = random.Random(SEED)
     columns = {name: [expressions.number(dice) for _ in range(40)] for name in ("a", "b", "c")}
     jobs = random_jobs(dice, columns)
-    if sys.argv[1:] == ["table"]:
-        print("\n".join(f"{text} => {name} = {gives}" for name, text, _java, gives in jobs))
-    elif sys.argv[1:] == ["java"]:
+    if sys.argv[1:] == ["java"]:
         return 1 if java_differs(columns, jobs) else 0
     elif sys.argv[1:] == ["report"]:
         rows = [",".join(columns)] + [",".join(map(str, row)) for row in zip(*columns.values())]

@@ -10,17 +10,11 @@ pub mod cut;
 #[cfg(test)]
 mod machine;
 #[cfg(test)]
-mod pairs;
-#[cfg(test)]
 mod paths;
 #[cfg(test)]
 mod random_tree;
 #[cfg(test)]
 mod runs;
-#[cfg(test)]
-mod steps;
-#[cfg(test)]
-mod traces;
 #[cfg(test)]
 mod trees;
 #[cfg(test)]

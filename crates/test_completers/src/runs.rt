@@ -27,32 +27,6 @@ fn walk_as<P: Planned + Send + Sync, R: Threads + Sync>(
     }
 }
 
-// How many nodes the walk of all numbers claimed: one less than the next one has.
-fn claimed_as<P: Planned + Send + Sync, R: Threads + Sync>(
-    rt: &R,
-    alloc: Global,
-    numbers: &[i64],
-    nodes: u32,
-) -> Option<u32>
-    requires source { numbers.now ≡ P.source }
-{
-    let (counts, seat) = TreeCounts::<Items<P>, Append<P>>::new(alloc, nodes, 0).ok()?;
-    let (seat, aside) = counts.split(seat, 0, 0, 1);
-    let _found = walk_whole::<P, R>(rt, alloc, &counts, seat, numbers, 1)?;
-    let (_aside, next) = counts.claim(aside);
-    Some(next? - 1)
-}
-
-/// How many nodes the walk of all numbers claims, of at most `nodes`; none if these are all.
-pub(crate) fn claimed<R: Threads + Sync>(
-    rt: &R,
-    alloc: Global,
-    numbers: &[i64],
-    nodes: u32,
-) -> Option<u32> {
-    claimed_as::<Brand, R>(rt, alloc, numbers, nodes)
-}
-
 /// What the walk of all numbers gives, over a tree of at most `nodes` nodes, whose sides are walked on up to 2^`levels` threads.
 pub(crate) fn walk_numbers<R: Threads + Sync>(
     rt: &R,

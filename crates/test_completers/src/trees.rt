@@ -1,9 +1,10 @@
 //! Trees that are run, on one thread and on several.
 ghost use Rattle.std.specs.Prelude.{None};
 
-use crate::runs::{claimed, walk_numbers};
-use crate::steps::by_steps;
-use completer_tree::{Continuation, Failure, Forked, Handed, PartValue, Tree, TreeCounts};
+use crate::runs::walk_numbers;
+use completer_tree::{
+    Continuation, Failure, First as Step, Forked, Handed, Next, PartValue, Tree, TreeCounts,
+};
 use std::alloc::{AllocError, Global};
 use std::sync::Arc;
 use std::test::Fail;
@@ -107,72 +108,80 @@ fn the_leftmost_fault_is_the_result(rt: HostRuntime) -> Result<(), Fail> {
     Ok(())
 }
 
-#[test]
-fn forks_claim_nodes_while_some_are_left(rt: HostRuntime) -> Result<(), Fail> {
-    let numbers = numbers(rt.alloc(), 13, &[])?;
-    for (nodes, want) in [(100, Some(12)), (13, Some(12)), (12, None), (0, None)] {
-        assert!(rt;
-            claimed(&rt, rt.alloc(), &numbers, nodes) == want,
-            "{nodes} nodes"
-        );
-    }
-    Ok(())
-}
-
-#[test]
-fn a_tree_of_one_node_completes_step_by_step(rt: HostRuntime) -> Result<(), Fail> {
-    let whole = numbers(rt.alloc(), 5, &[])?;
-    let faulty = numbers(rt.alloc(), 5, &[4, 1])?;
-    for left_first in [true, false] {
-        let found = by_steps(rt.alloc(), &whole, left_first).expect(&rt, "one node is left");
-        assert!(rt;
-            found.0 == 0
-                && found
-                    .1
-                    .is_ok_and(|items| items.as_slice() == whole.as_slice())
-        );
-        let found = by_steps(rt.alloc(), &faulty, left_first).expect(&rt, "one node is left");
-        let Err(Failure::Fault(fault)) = found.1 else {
-            return Err(Fail::from(AllocError));
-        };
-        assert!(rt; fault.origin == Some(1));
-    }
-    Ok(())
-}
+const TOP: First = First {
+    spot: Spot { number: 1 },
+};
 
 #[test]
 fn values_of_a_dropped_tree_are_dropped_once(rt: HostRuntime) -> Result<(), Fail> {
     let value = Arc::new(rt.alloc(), 7u8)?;
-    for completes in [false, true] {
-        let (counts, seat) = TreeCounts::<Shared, First>::new(rt.alloc(), 1, 0)?;
-        let tree = Tree::new(&counts, &[]);
-        let Forked::Split(left, right) = tree.fork(
-            seat,
-            None,
-            First {
-                spot: Spot { number: 1 },
-            },
-        ) else {
-            return Err(Fail::from(AllocError));
-        };
-        let own = Shared {
-            value: Arc::try_clone(&value)?,
-        };
-        let (_seat, none) = tree.try_complete(left.seat, Some(left.place), Ok(own));
-        assert!(rt; none.is_none() && Arc::strong_count(&value) == 2);
-        if completes {
-            let (_seat, found) = tree.complete_exceptionally(
-                right.seat,
-                Some(right.place),
-                Failure::NoMemory,
-            );
-            assert!(rt;
-                found.is_some_and(|handed| handed.is_err()) && Arc::strong_count(&value) == 1
-            );
-        }
-        drop(tree);
-        drop(counts);
-        assert!(rt; Arc::strong_count(&value) == 1, "completes: {completes}");
-    }
+    let (counts, seat) = TreeCounts::<Shared, First>::new(rt.alloc(), 1, 0)?;
+    let tree = Tree::new(&counts, &[]);
+    let Forked::Split(left, right) = tree.fork(seat, None, TOP) else {
+        return Err(Fail::from(AllocError));
+    };
+    let own = Shared {
+        value: Arc::try_clone(&value)?,
+    };
+    let (_seat, none) = tree.try_complete(left.seat, Some(left.place), Ok(own));
+    assert!(rt; none.is_none() && Arc::strong_count(&value) == 2);
+    drop(right);
+    drop(counts);
+    assert!(rt; Arc::strong_count(&value) == 1);
+    Ok(())
+}
+
+// A failure beside a value that was handed in: whether it is the result, and let the value go.
+fn fails_beside(alloc: Global, value: &Arc<u8>) -> Option<bool> {
+    let (counts, seat) = TreeCounts::<Shared, First>::new(alloc, 1, 0).ok()?;
+    let tree = Tree::new(&counts, &[]);
+    let Forked::Split(left, right) = tree.fork(seat, None, TOP) else {
+        return None;
+    };
+    let own = Shared {
+        value: Arc::try_clone(value).ok()?,
+    };
+    let (_seat, _none) = tree.try_complete(left.seat, Some(left.place), Ok(own));
+    let (_seat, found) = tree.complete_exceptionally(
+        right.seat,
+        Some(right.place),
+        Failure::NoMemory,
+    );
+    let is_failure = found.is_some_and(|handed| handed.is_err());
+    Some(is_failure && Arc::strong_count(value) == 1)
+}
+
+#[test]
+fn a_failure_lets_the_other_side_s_value_go(rt: HostRuntime) -> Result<(), Fail> {
+    let value = Arc::new(rt.alloc(), 7u8)?;
+    assert!(rt; fails_beside(rt.alloc(), &value) == Some(true));
+    Ok(())
+}
+
+// Hands 8 in on the right and then 7 on the left: the pending count after the first step, and what the last one finds.
+fn right_side_first(alloc: Global, seven: Shared, eight: Shared) -> Option<(u64, u8)> {
+    let (counts, seat) = TreeCounts::<Shared, First>::new(alloc, 1, 0).ok()?;
+    let tree = Tree::new(&counts, &[]);
+    let Forked::Split(left, right) = tree.fork(seat, None, TOP) else {
+        return None;
+    };
+    let Step::Pending(_seat, pending) = tree.first_complete(right.seat, right.place, Ok(eight))
+    else {
+        return None;
+    };
+    let Step::Last(seat, finisher) = tree.first_complete(left.seat, left.place, Ok(seven)) else {
+        return None;
+    };
+    let Next::Whole(_seat, found) = tree.next_complete(seat, finisher) else {
+        return None;
+    };
+    Some((pending, *found.ok()?.value))
+}
+
+#[test]
+fn the_left_value_stands_on_the_left_whichever_came_last(rt: HostRuntime) -> Result<(), Fail> {
+    let [seven, eight] = [Arc::new(rt.alloc(), 7u8)?, Arc::new(rt.alloc(), 8u8)?];
+    let found = right_side_first(rt.alloc(), Shared { value: seven }, Shared { value: eight });
+    assert!(rt; found == Some((0, 7)));
     Ok(())
 }

@@ -1,25 +1,30 @@
-//! Tests of the public calls of `engine` and `report`, as another program makes them.
+//! Tests of the public calls of `engine` and of what it stands on, from `job_plan` on, as another program makes them.
 //!
-//! They hold what no contract says: reports worked out by hand and by Java 17, the text of each fault, and readers
-//! and writers that give or take little, or fail.
-//! Begin with `fixture.rt`, which runs job files over bytes in memory. Nothing stands on this crate.
+//! They hold what neither a clause nor a run of the program shows: that pieces are walked by tasks and left out where nothing matters,
+//! that answers come from tasks, readers and writers that give or take little or fail, and calls that the program doesn't make.
+//! Answers of jobs, refusals and settings are tested over the program, by `examples/`, `bench/soak` and `scripts/command_line`.
+//!
+//! Begin with `runs.rt`, which runs a job file over bytes in memory, and `lists.rt`, jobs of one's own. A function that may wait is proved
+//! anew, with all below it, for each call by a test: so each test makes one such call, in a loop over its table.
+//! Nothing stands on this crate.
 #![tactic(auto)]
 
 #[cfg(test)]
-mod answers;
+mod driven;
 #[cfg(test)]
-mod fixture;
+mod gates;
 #[cfg(test)]
-mod random_jobs;
+mod leaves;
 #[cfg(test)]
-mod references;
+mod list_runs;
+pub mod lists;
 #[cfg(test)]
-mod refusals;
+mod plans;
 #[cfg(test)]
 mod reports;
 #[cfg(test)]
-mod settings;
+mod runs;
 #[cfg(test)]
-mod streams;
+mod shown;
 #[cfg(test)]
 mod writers;
