@@ -3,8 +3,7 @@ import glob
 import os
 import re
 
-from page_facts import crates_of
-from page_text import DEFINITION, TICKED, read
+from page_text import read
 
 BUILDERS = ['crates/job_language/src/row.rt']
 LAST_ARM = re.compile(r'^ *_ => (.*?),?$')
@@ -56,35 +55,3 @@ def public_heads(text, exported):
         is_method = bool(head['indent'])
         if is_method and of_exported and (block == 'trait' or head['public']) or not is_method and name in exported:
             yield name, rest
-
-
-def is_listed(top, crate, word):
-    """Whether the definitions of a crate have a word that is no helper: one whose comment doesn't begin with `helper:`."""
-    for path in glob.glob(os.path.join(top, 'crates', crate, 'specs', '**', '*.antt'), recursive=True):
-        lines = read(path).splitlines()
-        for number, line in enumerate(lines):
-            head = DEFINITION.match(line.strip())
-            if head and head[1] == word:
-                while number > 0 and lines[number - 1].strip().startswith('--'):
-                    number -= 1
-                return not lines[number].strip().startswith('-- helper:')
-    return False
-
-
-def unlisted(top):
-    """Words of definitions that the contracts of public calls name and docs/definitions.md doesn't, unless they are helpers."""
-    ticked = ' '.join(TICKED.findall(read(os.path.join(top, 'docs', 'definitions.md'))))
-    named = set(re.findall(r"[\w']+", ticked))
-    crates = crates_of(top)
-    for crate in crates:
-        exported, found = exported_by(top, crate), {}
-        for path in sorted(glob.glob(os.path.join(top, 'crates', crate, 'src', '**', '*.rt'), recursive=True)):
-            text = read(path)
-            brought = words_brought(text, crates)
-            for name, head in public_heads(text, exported):
-                for short in set(re.findall(r"[A-Za-z_][\w']*", head)) & set(brought):
-                    file, word = brought[short]
-                    if word not in named and is_listed(top, file.split('.')[0], word):
-                        found[file, word] = name
-        for (file, word), name in sorted(found.items()):
-            yield f'{crate}: a clause of {name} names {word} of {file}, which is not in docs/definitions.md and no helper'

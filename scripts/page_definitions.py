@@ -1,19 +1,20 @@
-"""What scripts/pages checks of the files of definitions: what they import, what their first lines say, and which cases they
-leave to a last row."""
+"""What scripts/pages checks of the files of definitions: what they import, what their first lines say, whether the page of
+definitions has them, and which cases they leave to a last row."""
 import glob
 import os
 import re
 
-from page_text import DEFINITION, read
+from page_text import DEFINITION, TICKED, read
 
 # Values that mean a refusal: what a last row forgets is then refused, and never given a value. `untyped` has no type and is refused
 # as an operand; `lexeme.Other` is in no expression; `Whole Other` is no listed operator.
 REFUSALS = ['None', 'false', '⊥', 'Err', 'untyped', 'lexeme.Other', 'Whole Other']
 REFUSED = re.compile('|'.join(re.escape(it) + r'(?![\w.])' for it in REFUSALS))
-# The functions whose contracts are the headline.
-HEADLINE = [('engine', 'run'), ('engine', 'tell'), ('job_table', 'run_jobs'), ('job_language', 'read_jobs'),
-            ('columns', 'read_columns'), ('columns', 'read_columns_by'), ('report', 'text'), ('report', 'json')]
-GHOST = re.compile(r'^ghost use Rattle\.([\w.]+)\.\{(.*?)\};', re.M)
+# The file that says what a run writes: Meaning is what it rests on.
+CLOSURE = ['engine.specs.Run']
+# Files that call themselves Meaning, though Run.antt rests on none of them; each is to begin with -- Design:.
+NOT_YET_DESIGNS = {'early_stop.specs.Decisive', 'early_stop.specs.Leaving', 'engine.specs.Statuses', 'job_plan.specs.Pieces',
+                   'job_plan.specs.PlannedAnswers', 'job_plan.specs.Plans', 'job_plan.specs.Windows'}
 IMPORT = re.compile(r'^(?:pub )?use Rattle\.([\w.+]+?)(?:\.\{|\.\*|$| )', re.M)
 CONSTRUCTOR = re.compile(r'^  ([a-z]\w*) :', re.M)
 
@@ -39,29 +40,42 @@ def reached_from(specs, begin):
     return reached
 
 
-def headline_files(top, specs):
-    """The files of definitions that the contracts of the headline cite."""
-    for crate, function in HEADLINE:
-        for path in glob.glob(os.path.join(top, 'crates', crate, 'src', '*.rt')):
-            text = read(path)
-            for head in re.findall(rf'^pub fn {function}\b(.*?)^\{{$', text, re.M | re.S):
-                words = set(re.findall(r'\w+', head))
-                yield from (file for file, names in GHOST.findall(text) if file in specs and words & set(re.findall(r'\w+', names)))
-
-
 def meanings(top):
-    """Files whose first line says another word than what rests on them: the headline rests on Meaning files, and these on
-    nothing else; what it doesn't rest on is a Design, or a Condition."""
+    """Files whose first line says another word than what rests on them: Meaning is exactly what Run.antt imports, directly or
+    through others."""
     specs = specs_of(top)
-    reached = reached_from(specs, headline_files(top, specs))
-    imported = reached_from(specs, [name for name, spec in specs.items() if spec[1].startswith('-- Meaning:')])
+    reached = reached_from(specs, CLOSURE)
     for name, (path, first, _) in sorted(specs.items()):
+        is_meaning = first.startswith('-- Meaning:')
         if not first.startswith(('-- Meaning: ', '-- Condition: ', '-- Design: ')):
             yield f'{path}: its first line says none of Meaning, Condition and Design'
-        elif first.startswith('-- Meaning:') and name not in reached:
-            yield f'{path}: the headline imports it nowhere, so its first line begins -- Design:'
-        elif not first.startswith('-- Meaning:') and (name in imported or name in reached and first.startswith('-- Design:')):
-            yield f'{path}: a Meaning file imports it, and it is none'
+        elif is_meaning and name not in reached | NOT_YET_DESIGNS:
+            yield f'{path}: Run.antt imports it nowhere, so its first line begins with -- Design:'
+        elif name in reached and not is_meaning:
+            yield f'{path}: Run.antt rests on it, so its first line begins with -- Meaning:'
+        elif name in NOT_YET_DESIGNS and not is_meaning:
+            yield f'{path}: it is no exception any more; take it out of NOT_YET_DESIGNS'
+
+
+def definitions(top):
+    """Files on which Run.antt rests that docs/definitions.md doesn't link, and public definitions there that it doesn't name."""
+    page = read(os.path.join(top, 'docs', 'definitions.md'))
+    named = set(re.findall(r"[A-Za-z_0-9']+", ' '.join(TICKED.findall(page))))
+    specs = specs_of(top)
+    for name in sorted(reached_from(specs, CLOSURE)):
+        path = specs[name][0]
+        if f'](../{path})' not in page:
+            yield f'{path}: docs/definitions.md has no link to it'
+        lines = read(os.path.join(top, path)).splitlines()
+        for number, line in enumerate(lines):
+            head = DEFINITION.match(line)
+            if not head or head.group(1) in named:
+                continue
+            above = number - 1
+            while above > 0 and lines[above - 1].startswith('--'):
+                above -= 1
+            if not lines[above].startswith('-- helper:'):
+                yield f'{path}: {head.group(1)} is not in docs/definitions.md and no helper'
 
 
 def constructors_of(top):

@@ -1,4 +1,4 @@
-"""What scripts/pages checks of the pages' text: listings, code, clauses, definitions, words, identifiers, links, sizes."""
+"""What scripts/pages checks of the pages' text: listings, code, clauses, words, identifiers, links, sizes."""
 import glob
 import os
 import re
@@ -101,25 +101,6 @@ def clauses(top):
 def stands_in(functions, word):
     """Whether a word is the name of a type, a trait, a variant or a module of a crate."""
     return any(re.search(r'\b%s\b' % word, text) for text in functions[''])
-
-
-def definitions(top):
-    """Public definitions of Meaning files that definitions.md does not name."""
-    ticked = ' '.join(TICKED.findall(read(os.path.join(top, 'docs', 'definitions.md'))))
-    named = set(re.findall(r"[A-Za-z_0-9']+", ticked))
-    for path in sorted(glob.glob(os.path.join(top, 'crates', '*', 'specs', '**', '*.antt'), recursive=True)):
-        lines = read(path).splitlines()
-        if not lines or not lines[0].startswith(('-- Meaning:', '-- Design:')):
-            continue
-        for number, line in enumerate(lines):
-            head = DEFINITION.match(line)
-            if not head or head.group(1) in named:
-                continue
-            above = number - 1
-            while above > 0 and lines[above - 1].startswith('--'):
-                above -= 1
-            if not lines[above].startswith('-- helper:'):
-                yield f'{os.path.relpath(path, top)}: {head.group(1)} is not in docs/definitions.md and no helper'
 
 
 def forbidden(top):

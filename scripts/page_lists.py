@@ -1,0 +1,94 @@
+"""The lists on pages that are made from the sources: `scripts/pages --write` writes them, the check `lists` compares.
+
+Each list stands between a comment that names it and `<!-- end -->`.
+"""
+import glob
+import os
+import re
+
+from page_clauses import exported_by, public_heads, words_brought
+from page_definitions import CLOSURE, reached_from, specs_of
+from page_facts import crates_of
+from page_text import read
+
+
+def sentence_of(lines):
+    """The first sentence of a comment, as a cell of a table."""
+    return re.split(r'\.(?:\s|$)', ' '.join(lines).strip())[0].replace('|', '\\|')
+
+
+def page_of_crate(top, crate):
+    """The first sentence of the `//!` page at the head of a crate."""
+    paths = [os.path.join(top, 'crates', crate, 'src', name) for name in ('lib.rt', 'main.rt')]
+    text = read(next(path for path in paths if os.path.isfile(path)))
+    lines = re.match(r'(?://!.*\n)+', text)[0].splitlines()
+    paragraph = [line[3:].strip() for line in lines]
+    return sentence_of(paragraph[:paragraph.index('')] if '' in paragraph else paragraph)
+
+
+def crates(top):
+    """A row for each crate: what it is, and what it stands on; what one of these stands on isn't named again."""
+    yield '| crate | is | stands on |'
+    yield '|---|---|---|'
+    below = {name: [other for other in others if os.path.isdir(os.path.join(top, 'crates', other))]
+             for name, others in crates_of(top, with_tests=True).items()}
+    all_below = {}
+    for name, others in below.items():
+        all_below[name] = set(others).union(*(all_below[other] for other in others))
+        own = [other for other in others if not any(other in all_below[nearer] for nearer in others)]
+        yield f'| `{name}` | {page_of_crate(top, name)} | ' + ', '.join(f'`{other}`' for other in own) + ' |'
+
+
+def named_in_contracts(top):
+    """The files of definitions that contracts of public calls name."""
+    names = crates_of(top)
+    for crate in names:
+        exported = exported_by(top, crate)
+        for path in glob.glob(os.path.join(top, 'crates', crate, 'src', '**', '*.rt'), recursive=True):
+            text = read(path)
+            brought = words_brought(text, names)
+            for _, head in public_heads(text, exported):
+                yield from (brought[word][0] for word in set(re.findall(r"[A-Za-z_][\w']*", head)) & set(brought))
+
+
+def files(top):
+    """A row for each file of definitions that contracts of public calls name, or that is a Design, beside those of the headline."""
+    specs = specs_of(top)
+    listed = set(named_in_contracts(top)) | {name for name, spec in specs.items() if not spec[1].startswith('-- Condition:')}
+    listed -= reached_from(specs, CLOSURE)
+    yield '| file | says |'
+    yield '|---|---|'
+    order = list(crates_of(top))
+    for name in sorted(listed & set(specs), key=lambda name: (order.index(name.split('.')[0]), name)):
+        path, first, _ = specs[name]
+        crate, _, file = name.split('.', 2)
+        yield f'| [{crate}/{file}](../{path}) | {sentence_of([first.partition(": ")[2]])} |'
+
+
+# The page of each list, what the comment before it says, and what makes it.
+LISTS = [('docs/crates.md', 'crates', crates), ('docs/definitions.md', 'files', files)]
+
+
+def pages_with_lists(top):
+    """The path and the text of each page with its lists, as the sources say them now."""
+    for path, name, rows in LISTS:
+        page = read(os.path.join(top, path))
+        begin, end = f'<!-- {name}: made by scripts/pages --write -->\n', '<!-- end -->\n'
+        before, found, rest = page.partition(begin)
+        if not found or end not in rest:
+            raise SystemExit(f'{path}: no comment {begin.strip()} with its {end.strip()}')
+        after = rest.partition(end)[2]
+        yield path, before + begin + '\n'.join(rows(top)) + '\n' + end + after
+
+
+def lists(top):
+    """Pages whose lists are not what the sources say."""
+    for path, page in pages_with_lists(top):
+        if page != read(os.path.join(top, path)):
+            yield f'{path}: a list is not the present one; run scripts/pages --write'
+
+
+def write_lists(top):
+    for path, page in pages_with_lists(top):
+        with open(os.path.join(top, path), 'w', encoding='utf-8') as file:
+            file.write(page)
