@@ -5,7 +5,7 @@ import re
 
 from page_layout import too_long
 
-MOST_WORDS_OF_THE_README = 1100
+MOST_WORDS_OF_THE_README = 1000
 TICKED = re.compile(r'`([^`]+)`')
 CITED = re.compile(r'^[a-z_0-9]+(?:::[A-Za-z_0-9]+)+$')
 NAME = re.compile(r'^[a-z_0-9]+$')
