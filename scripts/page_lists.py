@@ -9,6 +9,7 @@ import re
 from page_clauses import exported_by, public_heads, words_brought
 from page_definitions import CLOSURE, reached_from, specs_of
 from page_facts import crates_of
+from page_layout import wrapped
 from page_text import read
 
 
@@ -52,17 +53,17 @@ def named_in_contracts(top):
 
 
 def files(top):
-    """A row for each file of definitions that contracts of public calls name, or that is a Design, beside those of the headline."""
+    """An item for each crate: its files of definitions that contracts of public calls name, or that are Designs, beside those of
+    the headline."""
     specs = specs_of(top)
     listed = set(named_in_contracts(top)) | {name for name, spec in specs.items() if not spec[1].startswith('-- Condition:')}
     listed -= reached_from(specs, CLOSURE)
-    yield '| file | says |'
-    yield '|---|---|'
-    order = list(crates_of(top))
-    for name in sorted(listed & set(specs), key=lambda name: (order.index(name.split('.')[0]), name)):
-        path, first, _ = specs[name]
-        crate, _, file = name.split('.', 2)
-        yield f'| [{crate}/{file}](../{path}) | {sentence_of([first.partition(": ")[2]])} |'
+    for crate in crates_of(top):
+        of_crate = [name for name in sorted(listed & set(specs)) if name.split('.')[0] == crate]
+        said = [f'[{name.split(".", 2)[2]}](../{path}): {sentence_of([first.partition(": ")[2]])}'
+                for name in of_crate for path, first, _ in [specs[name]]]
+        if said:
+            yield from wrapped([f'- `{crate}`. ' + '; '.join(said) + '.'])
 
 
 # The page of each list, what the comment before it says, and what makes it.
