@@ -12,13 +12,9 @@
      FAULTS_SHORT=1      reads and writes move one byte
      FAULTS_INTERRUPT=1  every other read and write is interrupted by a signal before it moves a byte
      FAULTS_HOLD=K       the thread that makes the K-th allocation is held for 5 milliseconds
-     FAULTS_SHAKE=SEED   threads are held at allocations for some microseconds, or give way, at random
-
-   A program of scripts/quick_build has an allocator of its own, which checks each access, so malloc can't be replaced there:
-   the two functions through which its code allocates are overwritten when it starts. */
+     FAULTS_SHAKE=SEED   threads are held at allocations for some microseconds, or give way, at random */
 #define _GNU_SOURCE
 #include <dlfcn.h>
-#include <elf.h>
 #include <errno.h>
 #include <fcntl.h>
 #include <pthread.h>
@@ -28,9 +24,7 @@
 #include <stdint.h>
 #include <stdlib.h>
 #include <string.h>
-#include <sys/auxv.h>
 #include <sys/mman.h>
-#include <sys/stat.h>
 #include <sys/syscall.h>
 #include <sys/uio.h>
 #include <time.h>
@@ -51,7 +45,7 @@ static _Atomic unsigned turns;
 extern void *__libc_malloc(size_t), *__libc_calloc(size_t, size_t), *__libc_realloc(void *, size_t);
 extern void *__libc_memalign(size_t, size_t);
 
-static void read_settings(void)
+__attribute__((constructor)) static void read_settings(void)
 {
     for (int kind = 0; kind < FAILED; kind++) {
         const char *text = getenv(names[kind]);
@@ -186,70 +180,3 @@ OPENS(open, (const char *path, int flags, ...), AT_FDCWD)
 OPENS(open64, (const char *path, int flags, ...), AT_FDCWD)
 OPENS(openat, (int folder, const char *path, int flags, ...), folder)
 OPENS(openat64, (int folder, const char *path, int flags, ...), folder)
-
-/* The rest is for programs of scripts/quick_build. */
-
-struct answer {
-    uint64_t is_there;
-    void *at;
-};
-
-static void *(*checked_malloc)(size_t), *(*checked_realloc)(void *, size_t);
-
-static struct answer alloc_in_turn(size_t size, size_t align)
-{
-    void *at = fails(ALLOC) ? 0 : checked_malloc(size ? size : align);
-    return (struct answer){at != 0, at ? at : (void *) align};
-}
-
-static struct answer realloc_in_turn(void *old, size_t kept, size_t size, size_t align)
-{
-    (void) kept;
-    void *at = fails(ALLOC) ? 0 : checked_realloc(old, size ? size : align);
-    return (struct answer){at != 0, at ? at : (void *) align};
-}
-
-/* Overwrites the beginning of a function by a jump: jmp [rip], and the eight bytes of the address. */
-static void redirect(char *function, void *target)
-{
-    char *page = (char *) ((uintptr_t) function & ~(uintptr_t) 4095);
-    if (!function || mprotect(page, 8192, PROT_READ | PROT_WRITE | PROT_EXEC)) _exit(99);
-    memcpy(function, "\xff\x25\0\0\0\0", 6);
-    memcpy(function + 6, &target, 8);
-    mprotect(page, 8192, PROT_READ | PROT_EXEC);
-}
-
-/* The global function of a name in the program's table of symbols, or null. */
-static void *symbol_of(const char *file, const char *base, const char *name)
-{
-    const Elf64_Shdr *sections = (const void *) (file + ((const Elf64_Ehdr *) file)->e_shoff);
-    for (int at = 0; at < ((const Elf64_Ehdr *) file)->e_shnum; at++) {
-        if (sections[at].sh_type != SHT_SYMTAB) continue;
-        const Elf64_Sym *symbol = (const void *) (file + sections[at].sh_offset), *end = symbol + sections[at].sh_size / sizeof *symbol;
-        const char *texts = file + sections[sections[at].sh_link].sh_offset;
-        for (; symbol < end; symbol++)
-            if (ELF64_ST_BIND(symbol->st_info) != STB_LOCAL && !strcmp(texts + symbol->st_name, name))
-                return (char *) base + symbol->st_value;
-    }
-    return 0;
-}
-
-__attribute__((constructor)) static void begin(void)
-{
-    struct stat about;
-    read_settings();
-    int fd = (int) syscall(SYS_openat, AT_FDCWD, "/proc/self/exe", O_RDONLY);
-    if (fd < 0 || fstat(fd, &about)) _exit(99);
-    const char *file = mmap(0, (size_t) about.st_size, PROT_READ, MAP_PRIVATE, fd, 0);
-    syscall(SYS_close, fd);
-    if (file == MAP_FAILED) _exit(99);
-    /* The headers of the program stand at the same distance from its beginning in the file and in memory. */
-    const char *base = (const char *) getauxval(AT_PHDR) - ((const Elf64_Ehdr *) file)->e_phoff;
-    if (symbol_of(file, base, "__asan_init")) {
-        *(void **) &checked_malloc = symbol_of(file, base, "malloc");
-        *(void **) &checked_realloc = symbol_of(file, base, "realloc");
-        redirect(symbol_of(file, base, "rattle_alloc"), (void *) alloc_in_turn);
-        redirect(symbol_of(file, base, "rattle_realloc"), (void *) realloc_in_turn);
-    }
-    munmap((void *) file, (size_t) about.st_size);
-}
