@@ -94,6 +94,9 @@ fn plain_cell(text: &[u8], at: usize) -> Option<PlainCell>
             return cell;
         }
     }
+    if at < text.len() && text[at] == b'"' {
+        return quoted_cell(text, at);
+    }
     other_cell(text, at)
 }
 
@@ -211,7 +214,7 @@ fn more_digits(text: &[u8], at: usize, from: usize, so_far: u64) -> (u64, usize)
     (value, text.len())
 }
 
-/// A cell with a plus sign, blanks, many digits or quotes.
+/// A cell with a plus sign, blanks or many digits.
 #[cold]
 #[inline(never)]
 fn other_cell(text: &[u8], at: usize) -> Option<PlainCell>
@@ -219,16 +222,31 @@ fn other_cell(text: &[u8], at: usize) -> Option<PlainCell>
     ensures read { IfSome result (λ cell. IsCellThere (drop at text.now) cell.value cell.is_last (drop cell.next text.now)) }
     ensures on { IfSome result (λ cell. (at < cell.next) × (cell.next ≤ length text.now)) }
 {
-    if at < text.len() && text[at] == b'"' {
-        return quoted_cell(text, at);
-    }
     let end = field_end(text, at);
     let value = read_cell(&text[at..end])?;
     cell_before(text, value, end)
 }
 
-/// A cell whole in quotes, of which the first is at `at`.
+/// A cell whole in quotes, the first at `at`.
+#[inline(always)]
 fn quoted_cell(text: &[u8], at: usize) -> Option<PlainCell>
+    requires within { at < length text.now }
+    requires quote { get_or text.now at 0 ≡ 34 }
+    ensures read { IfSome result (λ cell. IsCellThere (drop at text.now) cell.value cell.is_last (drop cell.next text.now)) }
+    ensures on { IfSome result (λ cell. (at < cell.next) × (cell.next ≤ length text.now)) }
+{
+    if let Some((value, end)) = short_number(text, at + 1) {
+        if end < text.len() && text[end] == b'"' {
+            return cell_before(text, value, end + 1);
+        }
+    }
+    other_quoted_cell(text, at)
+}
+
+/// A cell in quotes with a plus sign, blanks or many digits.
+#[cold]
+#[inline(never)]
+fn other_quoted_cell(text: &[u8], at: usize) -> Option<PlainCell>
     requires within { at < length text.now }
     requires quote { get_or text.now at 0 ≡ 34 }
     ensures read { IfSome result (λ cell. IsCellThere (drop at text.now) cell.value cell.is_last (drop cell.next text.now)) }
