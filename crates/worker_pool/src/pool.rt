@@ -2,20 +2,21 @@
 ghost use Rattle.std.specs.Prelude.{◌≡◌, ◌<◌, vec_len, slice_get, IfSome};
 
 use crate::gate::Gate;
+use crate::pause::Bell;
 use crate::queues::{Queues, TaskFinder, queues_of};
 use crate::work::Work;
 use crate::worker::{Worker, begin, work_on};
 use deques::Inbox;
 use std::alloc::Global;
 use std::sync::Wait;
-use std::sync::atomic::AtomicU64;
 use std::thread;
 use std::thread::Threads;
 use std::vec::IntoIter;
 
-/// Where the workers find tasks: the caller, and the others in turn.
+/// Where the workers find tasks: the caller, and the others in turn; and what wakes them.
 #[derive(Drop)]
-struct Finders<F> {
+struct Finders<'a, F> {
+    bell: &'a Bell,
     mine: F,
     others: IntoIter<F>,
 }
@@ -32,7 +33,7 @@ fn run_workers<
     work: &W,
     first: Vec<W::Task>,
     idle: Vec<W::Idle>,
-    finders: Finders<F>,
+    finders: Finders<'_, F>,
 ) -> W::Idle
 where
     W::Task: Drop,
@@ -40,8 +41,6 @@ where
     ensures over { W.is_over work.now result }
     ensures mine { IfSome (slice_get idle.items 0) (λ i. W.owner_of result ≡ W.owner_of i) }
 {
-    let ended = AtomicU64::new(0);
-    let ended = &ended;
     thread::scope(
         thread::scope_env(),
         rt,
@@ -49,7 +48,11 @@ where
             requires { 0 < vec_len idle }
             ensures { W.is_over work.entry.now result × IfSome (slice_get idle.items 0) (λ i. W.owner_of result ≡ W.owner_of i) }
         {
-            let Finders { mut mine, others } = finders;
+            let Finders {
+                bell,
+                mut mine,
+                others,
+            } = finders;
             let mut idle = idle.into_iter();
             let Some(my_idle) = idle.next() else {
                 unreachable!()
@@ -61,7 +64,7 @@ where
                     finder,
                 };
                 let _ = scope.spawn(move || {
-                    work_on(rt, gate, work, ended, worker);
+                    work_on(rt, gate, work, bell, worker);
                 });
             }
             let me = Worker {
@@ -69,7 +72,7 @@ where
                 idle: begin(rt, gate, work, my_idle, first, &mut mine),
                 finder: mine,
             };
-            work_on(rt, gate, work, ended, me)
+            work_on(rt, gate, work, bell, me)
         },
     )
 }
@@ -91,8 +94,13 @@ where
     ensures mine { IfSome (slice_get idle.items 0) (λ i. W.owner_of result ≡ W.owner_of i) }
 {
     let inbox = Inbox::new(alloc).ok().map(|made| made.0);
-    let mut all = queues_of(alloc, idle.len(), inbox.as_ref()).into_iter();
-    let mine = all.next().unwrap_or(Queues::none(alloc));
-    let finders = Finders { mine, others: all };
+    let bell = Bell::new();
+    let mut all = queues_of(alloc, idle.len(), inbox.as_ref(), &bell).into_iter();
+    let mine = all.next().unwrap_or(Queues::none(alloc, &bell));
+    let finders = Finders {
+        bell: &bell,
+        mine,
+        others: all,
+    };
     run_workers(rt, gate, work, first, idle, finders)
 }

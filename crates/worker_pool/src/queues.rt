@@ -3,6 +3,7 @@ ghost use Rattle.std.specs.Prelude.{◌≡◌, IfErr, IfNone, IfOk};
 ghost use Rattle.worker_pool.specs.Queues.{IsPushed, IsPut, SameCalls};
 
 use crate::door::Door;
+use crate::pause::Bell;
 use crate::work::Spawn;
 use deques::{Inbox, Owner, Thief};
 use std::alloc::Global;
@@ -24,15 +25,17 @@ pub struct Queues<'a, T> {
     own: Option<Owner<T>>,
     others: Vec<Thief<T>>,
     door: Option<Door<'a, T>>,
+    bell: &'a Bell,
 }
 
 impl<'a, T: Drop> Queues<'a, T> {
     /// No queues: nothing is found in them, and every task comes back.
-    pub fn none(alloc: Global) -> Queues<'a, T> {
+    pub fn none(alloc: Global, bell: &'a Bell) -> Queues<'a, T> {
         Queues {
             own: None,
             others: Vec::new(alloc),
             door: None,
+            bell,
         }
     }
 
@@ -70,8 +73,13 @@ impl<'a, T: Drop> Spawn<T> for Queues<'a, T> {
         ensures refused { IfErr result (λ back. back ≡ task) }
         ensures pushed { IfOk result (λ _. IsPushed self.old self.new task) }
     {
+        let bell = self.bell;
         match &mut self.own {
-            Some(own) => own.push(task),
+            Some(own) => {
+                let pushed = own.push(task);
+                bell.ring();
+                pushed
+            }
             None => Err(task),
         }
     }
@@ -100,6 +108,7 @@ impl<'a, T: Drop> TaskFinder<T> for Queues<'a, T> {
         };
         let (door, put) = door.put(rt, task);
         self.door = Some(door);
+        self.bell.ring();
         put
     }
 }
@@ -139,6 +148,7 @@ fn shared_queues<'a, T: Drop>(
     owners: &[Owner<T>],
     workers: usize,
     inbox: Option<&'a Inbox<T>>,
+    bell: &'a Bell,
 ) -> Vec<Queues<'a, T>> {
     let mut all = Vec::new(alloc);
     for worker in 0..workers {
@@ -146,6 +156,7 @@ fn shared_queues<'a, T: Drop>(
             own: None,
             others: thieves(alloc, owners, worker),
             door: inbox.map(Door::of),
+            bell,
         };
         if all.push(queues).is_err() {
             break;
@@ -155,13 +166,14 @@ fn shared_queues<'a, T: Drop>(
 }
 
 /// The queues of as many workers as there is memory for.
-pub fn queues_of<T: Drop>(
+pub fn queues_of<'a, T: Drop>(
     alloc: Global,
     workers: usize,
-    inbox: Option<&Inbox<T>>,
-) -> Vec<Queues<T>> {
+    inbox: Option<&'a Inbox<T>>,
+    bell: &'a Bell,
+) -> Vec<Queues<'a, T>> {
     let owners = owners(alloc, workers);
-    let mut all = shared_queues(alloc, owners.as_slice(), workers, inbox);
+    let mut all = shared_queues(alloc, owners.as_slice(), workers, inbox, bell);
     for (queues, owner) in all.iter_mut().zip(owners) {
         queues.own = Some(owner);
     }

@@ -2,11 +2,10 @@
 ghost use Rattle.std.specs.Prelude.{◌≡◌};
 
 use crate::gate::Gate;
-use crate::pause::Pause;
+use crate::pause::{Bell, Pause};
 use crate::queues::TaskFinder;
 use crate::work::Work;
 use std::sync::Wait;
-use std::sync::atomic::AtomicU64;
 
 /// A worker: its number, what it keeps between tasks, and where it finds them.
 #[derive(Drop)]
@@ -16,12 +15,12 @@ pub struct Worker<I, F> {
     pub finder: F,
 }
 
-/// Runs the tasks that it finds, until nothing is left. `ended` is 0 until a worker of the pool ends.
+/// Runs the tasks that it finds, until nothing is left.
 pub fn work_on<R: Wait, W: Work, G: Gate, F: TaskFinder<W::Task> + Drop>(
     rt: &R,
     gate: &G,
     work: &W,
-    ended: &AtomicU64,
+    bell: &Bell,
     worker: Worker<W::Idle, F>,
 ) -> W::Idle
     ensures over { W.is_over work.now result }
@@ -32,7 +31,7 @@ pub fn work_on<R: Wait, W: Work, G: Gate, F: TaskFinder<W::Task> + Drop>(
         mut idle,
         mut finder,
     } = worker;
-    let mut pause = Pause::new(ended);
+    let mut pause = Pause::new(bell);
     for _ in rt.forever() {
         if let Some(task) = finder.find(rt) {
             idle = work.run(rt, number, gate, idle, task, &mut finder);
@@ -40,7 +39,8 @@ pub fn work_on<R: Wait, W: Work, G: Gate, F: TaskFinder<W::Task> + Drop>(
         } else {
             let (asked, left) = work.left(rt, idle);
             if left == 0 {
-                pause.end();
+                pause.reset();
+                bell.ring_all();
                 return asked;
             }
             idle = asked;
