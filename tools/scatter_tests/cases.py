@@ -235,7 +235,7 @@ def page(test, folder):
     blocks = blocks_of(read(os.path.join(TOP, 'docs', 'beyond-one-machine.md')).decode())
     outside = ['dask', *([] if shutil.which('parallel') else ['parallel'])]
     here = [block for block in blocks if not any(word in block[0] for word in outside)]
-    test.expect('the page', len(here) >= 5 and sum(bool(block[1]) for block in here) == 2, here)
+    test.expect('the page', len(here) >= 5 and any(block[1] for block in here), here)
     for commands, written in here:
         environment = {**os.environ, 'PATH': os.path.join(folder, 'bin') + ':' + os.environ['PATH']}
         done = subprocess.run(['sh', '-e', '-c', commands], cwd=folder, env=environment, capture_output=True, check=False)
