@@ -12,9 +12,9 @@ use mathlib.Core.Logic.{⊎_elim}
 use Rattle.lambda_values.specs.Wrap.{wrap}
 use Rattle.batch_eval.specs.Lanes.{at}
 use Rattle.batch_eval.specs.Powers.{with_sign_of}
-use Rattle.batch_eval.specs.Reciprocals.{Divides, IsWithin, LeftIsWithin, distance}
-use Rattle.batch_eval.specs.declared.reached.Left.{Left}
-use Rattle.batch_eval.specs.declared.reached.Left.TheVariants as left
+use Rattle.batch_eval.specs.Reciprocals.{Divides, IsWithin, HeldIsWithin, distance}
+use Rattle.batch_eval.specs.declared.operands.Held.{Held}
+use Rattle.batch_eval.specs.declared.operands.Held.TheVariants as held
 
 -- a power of two over d, rounded up
 abbrev pub factor_of : ℕ → ℕ → ℕ
@@ -120,10 +120,9 @@ within_64 (pos a) fits = omega (arith, fits.sfits)
 within_64 (negsuc a) fits = omega (arith, fits.sfits)
 
 -- no magnitude of 64 bits is beyond 2^63
-pub left_within_64 : (l : Left) (out xs : List ℤ) (live : ℕ) → LeftIsWithin (2 ^ 63) l out xs live
-left_within_64 left.Out out xs live = λ k _. within_64 _
-left_within_64 left.Item out xs live = λ k _. within_64 _
-left_within_64 (left.Number z) out xs live = within_64 z
+pub held_within_64 : (h : Held) (out : List ℤ) (live : ℕ) → HeldIsWithin (2 ^ 63) h out live
+held_within_64 held.Out out live = λ k _. within_64 _
+held_within_64 (held.Register xs) out live = λ k _. within_64 _
 
 -- what is near 0, or near -1 if it is below 0, has a small magnitude
 pub near_within : (x : ℤ) (n : ℕ) → distance x < n → IsWithin n x

@@ -1,16 +1,20 @@
 -- Condition: what registers of numbers hold, lane by lane, and how far a step over lanes came.
-use Rattle.std.specs.Prelude.{◌≡◌, ℕ, ◌<◌, ◌≤◌, ℤ, pos, Bool, true, false, not, List, length, slice_index_or, Option, Some, None, Result, Ok, Err}
+use Rattle.std.specs.Int.{w64, cast_unsigned}
+use Rattle.std.specs.Prelude.{◌≡◌, ℕ, ◌<◌, ◌≤◌, ◌^◌, ◌%◌, ℤ, pos, Bool, true, false, not, List, length, slice_index_or, Option, Some, None, Result, Ok, Err}
 use Rattle.std.specs.Ordering.{int_eq}
 use Rattle.lambda_values.specs.declared.fault.FaultKind.{FaultKind}
+use Rattle.lambda_values.specs.declared.operator.BinaryOperator.TheVariants as binary_operator
 use Rattle.lambda_values.specs.declared.operator.Comparison.{Comparison}
 use Rattle.lambda_values.specs.Operators.{on, binary_value, comparison_value}
 use Rattle.batch_eval.specs.declared.dispatch.Infix.{Infix}
 use Rattle.batch_eval.specs.declared.dispatch.Infix.TheVariants as op
-use Rattle.batch_eval.specs.declared.operands.Right.{Right}
-use Rattle.batch_eval.specs.declared.operands.Right.TheVariants as right
+use Rattle.batch_eval.specs.declared.operands.Beside.{Beside}
+use Rattle.batch_eval.specs.declared.operands.Beside.TheVariants as beside
+use Rattle.batch_eval.specs.declared.operands.Held.{Held}
+use Rattle.batch_eval.specs.declared.operands.Held.TheVariants as held
+use Rattle.batch_eval.specs.declared.operands.Step.{Step}
+use Rattle.batch_eval.specs.declared.operands.Step.TheVariants as step
 use Rattle.batch_eval.specs.declared.reached.Reached.{Reached}
-use Rattle.batch_eval.specs.declared.reached.Left.{Left}
-use Rattle.batch_eval.specs.declared.reached.Left.TheVariants as left
 
 -- the number at a lane of a register
 abbrev pub at : List ℤ → ℕ → ℤ
@@ -44,21 +48,49 @@ abbrev pub infix_value : Infix → ℤ → ℤ → Result ℤ FaultKind
 infix_value (op.Compute o) x y = binary_value o x y
 infix_value (op.Compare c) x y = compared c x y
 
--- the left operand at a lane
-abbrev pub left_at : Left → List ℤ → List ℤ → ℕ → ℤ
-left_at left.Out out xs k = at out k
-left_at left.Item out xs k = at xs k
-left_at (left.Number z) out xs k = z
+-- the value of an operator that has no fault
+abbrev pub or_zero : Result ℤ FaultKind → ℤ
+or_zero (Ok z) = z
+or_zero (Err e) = pos 0
 
--- the right operand at a lane
-abbrev pub right_at : Right → ℕ → ℤ
-right_at (right.Register ys) k = at ys.now k
-right_at (right.Number z) k = z
+-- the lower 32 bits of a number
+abbrev pub lower_half : ℤ → ℤ
+lower_half y = pos (cast_unsigned w64 y % 2 ^ 32)
+
+-- what a step makes of a number
+abbrev pub step_value : Step → ℤ → ℤ
+step_value step.Stay v = v
+step_value (step.Add z) v = or_zero (binary_value binary_operator.Add v z)
+step_value (step.Subtract z) v = or_zero (binary_value binary_operator.Subtract v z)
+step_value (step.MultiplyByHalf z) v = or_zero (binary_value binary_operator.Multiply v (lower_half z))
+step_value (step.ShiftLeft z) v = or_zero (binary_value binary_operator.ShiftLeft v z)
+step_value (step.ShiftRight z) v = or_zero (binary_value binary_operator.ShiftRight v z)
+step_value (step.ShiftRightUnsigned z) v = or_zero (binary_value binary_operator.ShiftRightUnsigned v z)
+step_value (step.And z) v = or_zero (binary_value binary_operator.And v z)
+step_value (step.Xor z) v = or_zero (binary_value binary_operator.Xor v z)
+step_value (step.Or z) v = or_zero (binary_value binary_operator.Or v z)
+
+-- the operand that is held, at a lane
+abbrev pub held_at : Held → List ℤ → ℕ → ℤ
+held_at held.Out out k = at out k
+held_at (held.Register xs) out k = at xs.now k
 
 -- it has at least this many lanes
-abbrev pub HasLanes : Right → ℕ → Type 0
-HasLanes (right.Register ys) n = n ≤ length ys.now
-HasLanes (right.Number z) n = Unit {0}
+abbrev pub HasHeld : Held → ℕ → Type 0
+HasHeld held.Out n = Unit {0}
+HasHeld (held.Register xs) n = n ≤ length xs.now
+
+-- an operator between the operand that is held and the other one, at a lane
+abbrev pub beside_value : (ℤ → ℤ → Result ℤ FaultKind) → Beside → ℤ → ℕ → Result ℤ FaultKind
+beside_value f (beside.Register ys s) v k = f v (step_value s (at ys.now k))
+beside_value f (beside.Number s y) v k = f (step_value s v) y
+beside_value f (beside.NumberFirst x) v k = f x v
+
+-- the other one has at least this many lanes
+abbrev pub HasBeside : Beside → ℕ → Type 0
+HasBeside (beside.Register ys s) n = n ≤ length ys.now
+HasBeside (beside.Number s y) n = Unit {0}
+HasBeside (beside.NumberFirst x) n = Unit {0}
 
 -- n lanes were done up to this one: all of them, or the one that has this fault
 abbrev pub StopsAt : (ℕ → Result ℤ FaultKind) → ℕ → ℕ → Option FaultKind → Type 0

@@ -2,8 +2,8 @@
 use Rattle.std.specs.Prelude.{◌≡◌, ℕ, ◌<◌, ◌≤◌, ◌+◌, ◌*◌, ◌-◌, ◌/◌, ◌^◌, ℤ, pos, negsuc, FitsSigned, List, unsigned_abs}
 use Rattle.std.specs.Int.{w64}
 use Rattle.batch_eval.specs.Lanes.{at}
-use Rattle.batch_eval.specs.declared.reached.Left.{Left}
-use Rattle.batch_eval.specs.declared.reached.Left.TheVariants as left
+use Rattle.batch_eval.specs.declared.operands.Held.{Held}
+use Rattle.batch_eval.specs.declared.operands.Held.TheVariants as held
 use Rattle.batch_eval.specs.declared.reciprocal.Reciprocal.{Reciprocal}
 use Rattle.batch_eval.specs.declared.reciprocal.ShortReciprocal.{ShortReciprocal}
 
@@ -29,11 +29,10 @@ IsWithin most x = FitsSigned w64 x → unsigned_abs x ≤ most
 abbrev pub AreWithin : ℕ → List ℤ → ℕ → Type 0
 AreWithin most xs live = (k : ℕ) → k < live → IsWithin most (at xs k)
 
--- those of a left operand are
-abbrev pub LeftIsWithin : ℕ → Left → List ℤ → List ℤ → ℕ → Type 0
-LeftIsWithin most left.Out out xs live = AreWithin most out live
-LeftIsWithin most left.Item out xs live = AreWithin most xs live
-LeftIsWithin most (left.Number z) out xs live = IsWithin most z
+-- those of an operand that is held are
+abbrev pub HeldIsWithin : ℕ → Held → List ℤ → ℕ → Type 0
+HeldIsWithin most held.Out out live = AreWithin most out live
+HeldIsWithin most (held.Register xs) out live = AreWithin most xs.now live
 
 -- how far an integer is from 0, or from -1 if it is below 0
 abbrev pub distance : ℤ → ℕ

@@ -1,5 +1,6 @@
 -- Condition: expressions that room of some length is enough for; a register takes 1,024 of it.
 use Rattle.std.specs.Prelude.{ℕ, ◌-◌, ◌≤◌, List, [], ◌∷◌}
+use Rattle.lambda_values.specs.declared.expr.LongExpr.{LongExpr, size-LongExpr}
 use Rattle.lambda_values.specs.Term.{Long, number, parameter, reference, unary, binary, choose, long_of, Truth, literal, compare, opposite, connect, choose_truth, truth_of}
 use Rattle.trace.specs.Stages.{AbstractStage, map, filter, flat_map}
 use Rattle.batch_eval.specs.declared.register.Operand.{Operand}
@@ -47,3 +48,7 @@ FitsStage (flat_map i) room = Unit {0}
 abbrev pub FitsStages : List AbstractStage → ℕ → Type 0
 FitsStages [] room = Unit {0}
 FitsStages (g ∷ gs) room = FitsStage g room × FitsStages gs room
+
+-- how large an expression is; its parts are smaller
+abbrev pub size : LongExpr → ℕ
+size e = size-LongExpr e

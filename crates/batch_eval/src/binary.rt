@@ -1,50 +1,49 @@
 //! The operators on two numbers: the type of each, and its loop.
 
-ghost use Rattle.batch_eval.specs.Lanes.{HasLanes, Reaches, at, left_at, right_at};
+ghost use Rattle.batch_eval.specs.Lanes.{HasBeside, HasHeld, Reaches, at, beside_value, held_at};
 ghost use Rattle.lambda_values.specs.Operators.{binary_value};
 ghost use Rattle.lambda_values.specs.declared.operator.BinaryOperator.TheVariants as binary_operator;
 ghost use Rattle.std.specs.Prelude.{◌≡◌, ◌≤◌, length};
 
 use crate::kernel::Kernel;
-use crate::operands::{Right, by_kernel};
-use crate::reached::{Left, Reached};
+use crate::operands::{Beside, Held, by_kernel};
+use crate::reached::Reached;
 use lambda_values::{BinaryOperator, FaultKind};
 
 /// An operator between two operands.
 pub(crate) fn by_operator(
     operator: BinaryOperator,
-    left: Left,
-    xs: &[i64],
-    right: Right<'_>,
+    held: Held<'_>,
+    beside: Beside<'_>,
     live: usize,
     out: &mut [i64],
 ) -> Reached
-    requires xs { live ≤ length xs.now }
-    requires right { HasLanes right live }
+    requires held { HasHeld held live }
+    requires beside { HasBeside beside live }
     requires out { live ≤ length out.old }
-    ensures { Reaches (λ k. binary_value operator (left_at left out.old xs.now k) (right_at right.entry k)) (at out.new) live result }
+    ensures { Reaches (λ k. beside_value (binary_value operator) beside.entry (held_at held.entry out.old k) k) (at out.new) live result }
 {
     match operator {
-        BinaryOperator::Add => by_kernel::<Add>(left, xs, right, live, out),
-        BinaryOperator::Subtract => by_kernel::<Subtract>(left, xs, right, live, out),
-        BinaryOperator::Multiply => by_kernel::<Multiply>(left, xs, right, live, out),
-        BinaryOperator::Divide => by_kernel::<Divide>(left, xs, right, live, out),
-        BinaryOperator::Remainder => by_kernel::<Remainder>(left, xs, right, live, out),
-        BinaryOperator::ShiftLeft => by_kernel::<ShiftLeft>(left, xs, right, live, out),
-        BinaryOperator::ShiftRight => by_kernel::<ShiftRight>(left, xs, right, live, out),
+        BinaryOperator::Add => by_kernel::<Add>(held, beside, live, out),
+        BinaryOperator::Subtract => by_kernel::<Subtract>(held, beside, live, out),
+        BinaryOperator::Multiply => by_kernel::<Multiply>(held, beside, live, out),
+        BinaryOperator::Divide => by_kernel::<Divide>(held, beside, live, out),
+        BinaryOperator::Remainder => by_kernel::<Remainder>(held, beside, live, out),
+        BinaryOperator::ShiftLeft => by_kernel::<ShiftLeft>(held, beside, live, out),
+        BinaryOperator::ShiftRight => by_kernel::<ShiftRight>(held, beside, live, out),
         BinaryOperator::ShiftRightUnsigned => by_kernel::<ShiftRightUnsigned>(
-            left, xs, right, live, out,
+            held, beside, live, out,
         ),
-        BinaryOperator::And => by_kernel::<And>(left, xs, right, live, out),
-        BinaryOperator::Xor => by_kernel::<Xor>(left, xs, right, live, out),
-        BinaryOperator::Or => by_kernel::<Or>(left, xs, right, live, out),
-        BinaryOperator::Min => by_kernel::<Min>(left, xs, right, live, out),
-        BinaryOperator::Max => by_kernel::<Max>(left, xs, right, live, out),
-        BinaryOperator::FloorDivide => by_kernel::<FloorDivide>(left, xs, right, live, out),
-        BinaryOperator::FloorRemainder => by_kernel::<FloorRemainder>(left, xs, right, live, out),
-        BinaryOperator::AddExact => by_kernel::<AddExact>(left, xs, right, live, out),
-        BinaryOperator::SubtractExact => by_kernel::<SubtractExact>(left, xs, right, live, out),
-        BinaryOperator::MultiplyExact => by_kernel::<MultiplyExact>(left, xs, right, live, out),
+        BinaryOperator::And => by_kernel::<And>(held, beside, live, out),
+        BinaryOperator::Xor => by_kernel::<Xor>(held, beside, live, out),
+        BinaryOperator::Or => by_kernel::<Or>(held, beside, live, out),
+        BinaryOperator::Min => by_kernel::<Min>(held, beside, live, out),
+        BinaryOperator::Max => by_kernel::<Max>(held, beside, live, out),
+        BinaryOperator::FloorDivide => by_kernel::<FloorDivide>(held, beside, live, out),
+        BinaryOperator::FloorRemainder => by_kernel::<FloorRemainder>(held, beside, live, out),
+        BinaryOperator::AddExact => by_kernel::<AddExact>(held, beside, live, out),
+        BinaryOperator::SubtractExact => by_kernel::<SubtractExact>(held, beside, live, out),
+        BinaryOperator::MultiplyExact => by_kernel::<MultiplyExact>(held, beside, live, out),
     }
 }
 

@@ -1,36 +1,35 @@
 //! The comparisons of two numbers: the type of each, and its loop.
 
-ghost use Rattle.batch_eval.specs.Lanes.{HasLanes, Reaches, at, compared, left_at, right_at};
+ghost use Rattle.batch_eval.specs.Lanes.{HasBeside, HasHeld, Reaches, at, beside_value, compared, held_at};
 ghost use Rattle.lambda_values.specs.declared.operator.Comparison.TheVariants as comparison;
 ghost use Rattle.std.specs.Prelude.{◌≡◌, ◌≤◌, length};
 
 use crate::flag::flag;
 use crate::kernel::Kernel;
-use crate::operands::{Right, by_kernel};
-use crate::reached::{Left, Reached};
+use crate::operands::{Beside, Held, by_kernel};
+use crate::reached::Reached;
 use lambda_values::{Comparison, FaultKind};
 
 /// A comparison of two operands, as flags.
 pub(crate) fn by_comparison(
     comparison: Comparison,
-    left: Left,
-    xs: &[i64],
-    right: Right<'_>,
+    held: Held<'_>,
+    beside: Beside<'_>,
     live: usize,
     out: &mut [i64],
 ) -> Reached
-    requires xs { live ≤ length xs.now }
-    requires right { HasLanes right live }
+    requires held { HasHeld held live }
+    requires beside { HasBeside beside live }
     requires out { live ≤ length out.old }
-    ensures { Reaches (λ k. compared comparison (left_at left out.old xs.now k) (right_at right.entry k)) (at out.new) live result }
+    ensures { Reaches (λ k. beside_value (compared comparison) beside.entry (held_at held.entry out.old k) k) (at out.new) live result }
 {
     match comparison {
-        Comparison::Equal => by_kernel::<Equal>(left, xs, right, live, out),
-        Comparison::NotEqual => by_kernel::<NotEqual>(left, xs, right, live, out),
-        Comparison::Less => by_kernel::<Less>(left, xs, right, live, out),
-        Comparison::LessOrEqual => by_kernel::<LessOrEqual>(left, xs, right, live, out),
-        Comparison::Greater => by_kernel::<Greater>(left, xs, right, live, out),
-        Comparison::GreaterOrEqual => by_kernel::<GreaterOrEqual>(left, xs, right, live, out),
+        Comparison::Equal => by_kernel::<Equal>(held, beside, live, out),
+        Comparison::NotEqual => by_kernel::<NotEqual>(held, beside, live, out),
+        Comparison::Less => by_kernel::<Less>(held, beside, live, out),
+        Comparison::LessOrEqual => by_kernel::<LessOrEqual>(held, beside, live, out),
+        Comparison::Greater => by_kernel::<Greater>(held, beside, live, out),
+        Comparison::GreaterOrEqual => by_kernel::<GreaterOrEqual>(held, beside, live, out),
     }
 }
 

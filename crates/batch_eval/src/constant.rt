@@ -6,7 +6,7 @@ ghost use Rattle.lambda_values.specs.Term.{long_of};
 ghost use Rattle.lambda_values.specs.Value.{long_value};
 ghost use Rattle.std.specs.Prelude.{◌≡◌, ℤ, IfSome, Ok};
 
-use lambda_values::{LongExpr, UnaryOperator};
+use lambda_values::{Env, LongExpr, UnaryOperator};
 
 /// The number of an operator on a number, if it has no fault.
 fn applied(operator: UnaryOperator, operand: &LongExpr) -> Option<i64>
@@ -29,5 +29,15 @@ pub(crate) fn constant_in(expr: &LongExpr) -> Option<i64>
         LongExpr::Number(number) => Some(*number),
         LongExpr::Unary(operator, operand) => applied(*operator, operand),
         _ => None,
+    }
+}
+
+/// The number of an expression that is one, or that the name of an earlier job stands for.
+pub(crate) fn number_in(expr: &LongExpr, env: &Env) -> Option<i64>
+    ensures { IfSome result (λ z. (x : ℤ) → long_value (long_of expr.now) x env.now ≡ Ok z) }
+{
+    match expr {
+        LongExpr::Reference(name) => Some(env.number(name.as_slice()).unwrap_or(0)),
+        _ => constant_in(expr),
     }
 }

@@ -1,9 +1,9 @@
 //! An operator over lanes: which of its loops is run. An operator has a loop for any operands, in `binary.rt`; here are the
 //! shorter ways if the right operand is a number.
 
-ghost use Rattle.batch_eval.specs.Lanes.{Reaches, at, infix_value, left_at};
+ghost use Rattle.batch_eval.specs.Lanes.{HasBeside, HasHeld, Reaches, at, beside_value, held_at, infix_value, step_value};
 ghost use Rattle.batch_eval.specs.Powers.{power};
-ghost use Rattle.batch_eval.specs.Reciprocals.{LeftIsWithin};
+ghost use Rattle.batch_eval.specs.Reciprocals.{HeldIsWithin};
 ghost use Rattle.lambda_values.specs.Operators.{binary_value};
 ghost use Rattle.std.specs.Prelude.{◌≡◌, ◌≤◌, ◌≤ℤ◌, ℤ, length, pos};
 
@@ -16,17 +16,19 @@ use crate::division::{
     DivideByReciprocal, Division, FloorDivideByReciprocal, FloorRemainderByReciprocal,
     RemainderByReciprocal,
 };
-use crate::exact::{differences_within, left_within, sums_within};
+use crate::exact::{differences_within, held_within, sums_within};
 use crate::kernel::Kernel;
-use crate::loops::{divide_in, divide_to, fill};
-use crate::operands::{Right, by_left_number};
+use crate::lanes::{Own, Register};
+use crate::loops::divide;
+use crate::multiply::{MultiplyByHalf, is_half};
+use crate::operands::{Beside, Held, Step, by_kernel, by_number};
 use crate::power::{
     DivideByPower, FloorDivideByPower, FloorRemainderByPower, RemainderByPower, exponent_of,
 };
-use crate::reached::{Left, Reached};
+use crate::reached::Reached;
 use crate::reciprocal::{Divisor, Reciprocal, ShortReciprocal, reciprocal_of, short_reciprocal_of};
-use crate::short::left_is_short;
-use lambda_values::{BinaryOperator, Comparison};
+use crate::short::held_is_short;
+use lambda_values::{BinaryOperator, Comparison, Faults};
 
 /// What stands between two operands.
 #[derive(Clone, Copy)]
@@ -35,71 +37,70 @@ pub(crate) enum Infix {
     Compare(Comparison),
 }
 
-/// An operator between a left operand and a register.
-pub(crate) fn by_register(
-    op: Infix,
-    left: Left,
-    xs: &[i64],
-    ys: &[i64],
-    live: usize,
-    out: &mut [i64],
-) -> Reached
-    requires xs { live ≤ length xs.now }
-    requires ys { live ≤ length ys.now }
-    requires out { live ≤ length out.old }
-    ensures { Reaches (λ k. infix_value op (left_at left out.old xs.now k) (at ys.now k)) (at out.new) live result }
-{
+/// Whether the operator by a number may have a shorter way than a loop with a step in it. Either answer is right.
+pub(crate) fn has_shorter_way(op: Infix) -> bool {
     match op {
-        Infix::Compute(operator) => by_operator(operator, left, xs, Right::Register(ys), live, out),
-        Infix::Compare(comparison) => by_comparison(
-            comparison,
-            left,
-            xs,
-            Right::Register(ys),
-            live,
-            out,
-        ),
+        Infix::Compute(operator) => operator.faults() != Faults::Never,
+        Infix::Compare(_) => false,
     }
 }
 
-/// An operator between a left operand and a number.
-pub(crate) fn by_number(
+/// An operator between an operand that is held and another one.
+pub(crate) fn by_infix(
     op: Infix,
-    left: Left,
-    xs: &[i64],
+    held: Held<'_>,
+    beside: Beside<'_>,
+    live: usize,
+    out: &mut [i64],
+) -> Reached
+    requires held { HasHeld held live }
+    requires beside { HasBeside beside live }
+    requires out { live ≤ length out.old }
+    ensures { Reaches (λ k. beside_value (infix_value op) beside.entry (held_at held.entry out.old k) k) (at out.new) live result }
+{
+    match op {
+        Infix::Compute(operator) => match beside {
+            Beside::Number(Step::Stay, y) => by_number_computed(operator, held, y, live, out),
+            Beside::Number(step, y) => by_step_and_number(operator, held, step, y, live, out),
+            _ => by_operator(operator, held, beside, live, out),
+        },
+        Infix::Compare(comparison) => by_comparison(comparison, held, beside, live, out),
+    }
+}
+
+/// An operator between an operand after a step and a number.
+fn by_step_and_number(
+    operator: BinaryOperator,
+    held: Held<'_>,
+    step: Step,
     y: i64,
     live: usize,
     out: &mut [i64],
 ) -> Reached
-    requires xs { live ≤ length xs.now }
+    requires held { HasHeld held live }
     requires out { live ≤ length out.old }
-    ensures { Reaches (λ k. infix_value op (left_at left out.old xs.now k) y) (at out.new) live result }
+    ensures { Reaches (λ k. binary_value operator (step_value step (held_at held.entry out.old k)) y) (at out.new) live result }
 {
-    match op {
-        Infix::Compute(operator) => by_number_computed(operator, left, xs, y, live, out),
-        Infix::Compare(comparison) => by_comparison(
-            comparison,
-            left,
-            xs,
-            Right::Number(y),
-            live,
-            out,
-        ),
+    let beside = Beside::Number(step, y);
+    match operator {
+        BinaryOperator::Multiply if is_half(y) => {
+            by_kernel::<MultiplyByHalf>(held, beside, live, out)
+        }
+        _ => by_operator(operator, held, beside, live, out),
     }
 }
 
 /// Division by a power of two needs no division of the processor.
 fn by_number_computed(
     operator: BinaryOperator,
-    left: Left,
-    xs: &[i64],
+    held: Held<'_>,
     y: i64,
     live: usize,
     out: &mut [i64],
 ) -> Reached
-    requires xs { live ≤ length xs.now }
+    requires held { HasHeld held live }
     requires out { live ≤ length out.old }
-    ensures { Reaches (λ k. binary_value operator (left_at left out.old xs.now k) y) (at out.new) live result }
+    ensures { Reaches (λ k. binary_value operator (held_at held.entry out.old k) y) (at out.new) live result }
 {
     match exponent_of(y) {
         Some(exponent) => {
@@ -107,9 +108,9 @@ fn by_number_computed(
                 number: y,
                 exponent,
             };
-            by_power(operator, left, xs, by, live, out)
+            by_power(operator, held, by, live, out)
         }
-        None => by_any_number(operator, left, xs, y, live, out),
+        None => by_any_number(operator, held, y, live, out),
     }
 }
 
@@ -120,139 +121,125 @@ struct Power {
     exponent: i64,
 }
 
-/// An operator between a left operand and a power of two.
+/// An operator between an operand that is held and a power of two.
 fn by_power(
     operator: BinaryOperator,
-    left: Left,
-    xs: &[i64],
+    held: Held<'_>,
     by: Power,
     live: usize,
     out: &mut [i64],
 ) -> Reached
     requires power { by.number ≡ pos (power by.exponent) }
-    requires xs { live ≤ length xs.now }
+    requires held { HasHeld held live }
     requires out { live ≤ length out.old }
-    ensures { Reaches (λ k. binary_value operator (left_at left out.old xs.now k) by.number) (at out.new) live result }
+    ensures { Reaches (λ k. binary_value operator (held_at held.entry out.old k) by.number) (at out.new) live result }
 {
     match operator {
-        BinaryOperator::Divide => by_left_number::<DivideByPower>(left, xs, by.exponent, live, out),
-        BinaryOperator::Remainder => {
-            by_left_number::<RemainderByPower>(left, xs, by.exponent, live, out)
-        }
+        BinaryOperator::Divide => by_number::<DivideByPower>(held, by.exponent, live, out),
+        BinaryOperator::Remainder => { by_number::<RemainderByPower>(held, by.exponent, live, out) }
         BinaryOperator::FloorDivide => {
-            by_left_number::<FloorDivideByPower>(left, xs, by.exponent, live, out)
+            by_number::<FloorDivideByPower>(held, by.exponent, live, out)
         }
         BinaryOperator::FloorRemainder => {
-            by_left_number::<FloorRemainderByPower>(left, xs, by.exponent, live, out)
+            by_number::<FloorRemainderByPower>(held, by.exponent, live, out)
         }
-        _ => by_any_number(operator, left, xs, by.number, live, out),
+        _ => by_any_number(operator, held, by.number, live, out),
     }
 }
 
 fn by_any_number(
     operator: BinaryOperator,
-    left: Left,
-    xs: &[i64],
+    held: Held<'_>,
     y: i64,
     live: usize,
     out: &mut [i64],
 ) -> Reached
-    requires xs { live ≤ length xs.now }
+    requires held { HasHeld held live }
     requires out { live ≤ length out.old }
-    ensures { Reaches (λ k. binary_value operator (left_at left out.old xs.now k) y) (at out.new) live result }
+    ensures { Reaches (λ k. binary_value operator (held_at held.entry out.old k) y) (at out.new) live result }
 {
     match operator {
-        BinaryOperator::Divide => by_divisor::<DivideByReciprocal, Divide>(left, xs, y, live, out),
+        BinaryOperator::Divide => by_divisor::<DivideByReciprocal, Divide>(held, y, live, out),
         BinaryOperator::Remainder => by_divisor::<RemainderByReciprocal, Remainder>(
-            left, xs, y, live, out,
+            held, y, live, out,
         ),
         BinaryOperator::FloorDivide => by_divisor::<FloorDivideByReciprocal, FloorDivide>(
-            left, xs, y, live, out,
+            held, y, live, out,
         ),
         BinaryOperator::FloorRemainder => by_divisor::<FloorRemainderByReciprocal, FloorRemainder>(
-            left, xs, y, live, out,
+            held, y, live, out,
         ),
         BinaryOperator::AddExact => {
-            by_exact_number::<AddExact, Add>(sums_within(y), left, xs, y, live, out)
+            by_exact_number::<AddExact, Add>(sums_within(y), held, y, live, out)
         }
         BinaryOperator::SubtractExact => {
-            by_exact_number::<SubtractExact, Subtract>(
-                differences_within(y),
-                left,
-                xs,
-                y,
-                live,
-                out,
-            )
+            by_exact_number::<SubtractExact, Subtract>(differences_within(y), held, y, live, out)
         }
-        _ => by_operator(operator, left, xs, Right::Number(y), live, out),
+        BinaryOperator::Multiply if is_half(y) => by_number::<MultiplyByHalf>(held, y, live, out),
+        _ => by_operator(operator, held, Beside::Number(Step::Stay, y), live, out),
     }
 }
 
-/// An exact operator and a number: the wrapping operator, where no left operand is out of these bounds.
+/// An exact operator and a number: the wrapping operator, where no operand is out of these bounds.
 pub(crate) fn by_exact_number<K: Kernel, W: Kernel>(
     bounds: (i64, i64),
-    left: Left,
-    xs: &[i64],
+    held: Held<'_>,
     y: i64,
     live: usize,
     out: &mut [i64],
 ) -> Reached
     requires wraps { (x : ℤ) → bounds.0 ≤ℤ x → x ≤ℤ bounds.1 → W.value x y ≡ K.value x y }
-    requires xs { live ≤ length xs.now }
+    requires held { HasHeld held live }
     requires out { live ≤ length out.old }
-    ensures { Reaches (λ k. K.value (left_at left out.old xs.now k) y) (at out.new) live result }
+    ensures { Reaches (λ k. K.value (held_at held.entry out.old k) y) (at out.new) live result }
 {
-    if left_within(left, xs, out, bounds, live) {
-        by_left_number::<W>(left, xs, y, live, out)
+    if held_within(held, out, bounds, live) {
+        by_number::<W>(held, y, live, out)
     } else {
-        by_left_number::<K>(left, xs, y, live, out)
+        by_number::<K>(held, y, live, out)
     }
 }
 
-/// A left operand, and a divisor with a reciprocal.
-fn by_left_reciprocal<D: Division, R: Divisor>(
-    left: Left,
-    xs: &[i64],
+/// An operand that is held, and a divisor with a reciprocal.
+fn by_held_reciprocal<D: Division, R: Divisor>(
+    held: Held<'_>,
     by: R,
     live: usize,
     out: &mut [i64],
 ) -> Reached
     requires by { R.divides by }
-    requires xs { live ≤ length xs.now }
+    requires held { HasHeld held live }
     requires out { live ≤ length out.old }
-    requires within { LeftIsWithin R.most left out.old xs.now live }
-    ensures { Reaches (λ k. D.value (left_at left out.old xs.now k) (R.number by)) (at out.new) live result }
+    requires within { HeldIsWithin R.most held out.old live }
+    ensures { Reaches (λ k. D.value (held_at held.entry out.old k) (R.number by)) (at out.new) live result }
 {
-    match left {
-        Left::Out => divide_in::<D, R>(by, live, out),
-        Left::Item => divide_to::<D, R>(xs, by, live, out),
-        Left::Number(x) => fill(D::apply(x, by), live, out),
+    match held {
+        Held::Out => divide::<D, R, Own>(Own, by, live, out),
+        Held::Register(xs) => divide::<D, R, Register<'_>>(Register(xs), by, live, out),
     }
 }
 
 /// A division by a number: by its short reciprocal if it has one and all operands need no more than 32 bits, else by its reciprocal
 /// if it has one, else as the processor divides.
-#[tactic(auto, using(crate::proofs::ReciprocalLemmas::left_within_64))]
+#[tactic(auto, using(crate::proofs::ReciprocalLemmas::held_within_64))]
 fn by_divisor<D: Division, K: Kernel>(
-    left: Left,
-    xs: &[i64],
+    held: Held<'_>,
     y: i64,
     live: usize,
     out: &mut [i64],
 ) -> Reached
     requires divides { (x : ℤ) → D.value x y ≡ K.value x y }
-    requires xs { live ≤ length xs.now }
+    requires held { HasHeld held live }
     requires out { live ≤ length out.old }
-    ensures { Reaches (λ k. K.value (left_at left out.old xs.now k) y) (at out.new) live result }
+    ensures { Reaches (λ k. K.value (held_at held.entry out.old k) y) (at out.new) live result }
 {
     if let Some(by) = short_reciprocal_of(y) {
-        if left_is_short(left, xs, out, live) {
-            return by_left_reciprocal::<D, ShortReciprocal>(left, xs, by, live, out);
+        if held_is_short(held, out, live) {
+            return by_held_reciprocal::<D, ShortReciprocal>(held, by, live, out);
         }
     }
     match reciprocal_of(y) {
-        Some(by) => by_left_reciprocal::<D, Reciprocal>(left, xs, by, live, out),
-        None => by_left_number::<K>(left, xs, y, live, out),
+        Some(by) => by_held_reciprocal::<D, Reciprocal>(held, by, live, out),
+        None => by_number::<K>(held, y, live, out),
     }
 }

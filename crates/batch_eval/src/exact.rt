@@ -1,10 +1,10 @@
 //! Where exact operators by a number can't overflow.
 
-ghost use Rattle.batch_eval.specs.Lanes.{at, left_at};
+ghost use Rattle.batch_eval.specs.Lanes.{HasHeld, at, held_at};
 ghost use Rattle.std.specs.Int.{w64};
 ghost use Rattle.std.specs.Prelude.{◌≤◌, ◌<◌, ℕ, ℤ, ◌+ℤ◌, ◌-ℤ◌, ◌≤ℤ◌, FitsSigned, IsTrue, length};
 
-use crate::reached::Left;
+use crate::operands::Held;
 
 /// The least and the greatest `x` for which `x + y` needs no more than 64 bits.
 pub(crate) fn sums_within(y: i64) -> (i64, i64)
@@ -41,21 +41,14 @@ fn lanes_within(xs: &[i64], bounds: (i64, i64), live: usize) -> bool
     within
 }
 
-/// The same of a left operand.
-pub(crate) fn left_within(
-    left: Left,
-    xs: &[i64],
-    out: &[i64],
-    bounds: (i64, i64),
-    live: usize,
-) -> bool
-    requires xs { live ≤ length xs.now }
+/// Whether the lanes of an operand that is held are within the bounds.
+pub(crate) fn held_within(held: Held<'_>, out: &[i64], bounds: (i64, i64), live: usize) -> bool
+    requires held { HasHeld held live }
     requires out { live ≤ length out.now }
-    ensures { IsTrue result → (k : ℕ) → k < live → (bounds.0 ≤ℤ left_at left out.now xs.now k) × (left_at left out.now xs.now k ≤ℤ bounds.1) }
+    ensures { IsTrue result → (k : ℕ) → k < live → (bounds.0 ≤ℤ held_at held.entry out.now k) × (held_at held.entry out.now k ≤ℤ bounds.1) }
 {
-    match left {
-        Left::Out => lanes_within(out, bounds, live),
-        Left::Item => lanes_within(xs, bounds, live),
-        Left::Number(x) => bounds.0 <= x && x <= bounds.1,
+    match held {
+        Held::Out => lanes_within(out, bounds, live),
+        Held::Register(xs) => lanes_within(xs, bounds, live),
     }
 }

@@ -2,7 +2,7 @@
 
 ghost use Rattle.batch_eval.specs.Lanes.{opposed};
 ghost use Rattle.lambda_values.specs.declared.fault.FaultKind.{FaultKind};
-ghost use Rattle.std.specs.Prelude.{◌≡◌, ℤ, Result};
+ghost use Rattle.std.specs.Prelude.{◌≡◌, ℤ, Ok, Result};
 
 use crate::flag::{flag, is_set};
 use lambda_values::FaultKind;
@@ -37,5 +37,16 @@ impl Kernel for Opposite {
 
     fn apply(x: i64, _y: i64) -> Result<i64, FaultKind> {
         Ok(flag(!is_set(x)))
+    }
+}
+
+/// The first operand as it is; the second one isn't looked at.
+pub(crate) struct First;
+
+impl Kernel for First {
+    ghost value = { λ x _. Ok x };
+
+    fn apply(x: i64, _y: i64) -> Result<i64, FaultKind> {
+        Ok(x)
     }
 }

@@ -12,15 +12,6 @@ pub(crate) struct Reached {
     pub(crate) fault: Option<FaultKind>,
 }
 
-/// Where a left operand is: in the register that the result goes to, in that of the items, or
-/// nowhere, as it is one number.
-#[derive(Clone, Copy)]
-pub(crate) enum Left {
-    Out,
-    Item,
-    Number(i64),
-}
-
 /// All lanes.
 pub(crate) fn all(live: usize) -> Reached
     ensures { result ≡ record { live = live; fault = None } }

@@ -1,19 +1,21 @@
 //! The values of an expression at the lanes of a batch: one loop per operator of the expression.
 
-ghost use Rattle.batch_eval.specs.Lanes.{Reaches, at, flagged, infix_value, left_at};
+ghost use Rattle.batch_eval.specs.Lanes.{HasHeld, Reaches, at, flagged, held_at, infix_value};
 ghost use Rattle.batch_eval.specs.Rooms.{Fits, FitsBoth, FitsOperand, FitsTest};
 ghost use Rattle.batch_eval.specs.Choices.{at_each, between, operand_value};
+ghost use Rattle.lambda_values.specs.Operators.{on};
 ghost use Rattle.lambda_values.specs.Term.{long_of, truth_of};
 ghost use Rattle.lambda_values.specs.Value.{long_value, truth_value};
 ghost use Rattle.std.specs.Prelude.{◌<◌, ◌≤◌, length};
 
 use crate::choice::eval_chosen;
-use crate::constant::constant_in;
-use crate::dispatch::{Infix, by_number, by_register};
+use crate::constant::number_in;
+use crate::dispatch::{Infix, by_infix, has_shorter_way};
 use crate::flag::flag;
 use crate::kernel::Opposite;
-use crate::loops::{copy, each_in, fill};
-use crate::reached::{Left, Reached, all};
+use crate::operands::{Beside, Held, by_number, copy, fill};
+use crate::reached::{Reached, all};
+use crate::step::{last_step, no_step};
 use crate::unary::by_unary;
 use lambda_values::{BoolExpr, Connective, Env, LongExpr};
 
@@ -58,8 +60,8 @@ pub(crate) fn eval_long(
             fill(number, inputs.live, out)
         }
         LongExpr::Unary(operator, operand) => {
-            let (left, first) = eval_left(operand, inputs, out, room);
-            by_unary(*operator, left, inputs.xs, first.live, out).after(first)
+            let (held, first) = eval_held(operand, inputs, out, room);
+            by_unary(*operator, held, first.live, out).after(first)
         }
         LongExpr::Binary(operator, a, b) => {
             eval_between(Infix::Compute(*operator), a, b, inputs, out, room)
@@ -97,7 +99,7 @@ pub(crate) fn eval_bool(
         }
         BoolExpr::Not(operand) => {
             let first = eval_bool(operand, inputs, out, room);
-            each_in::<Opposite>(0, first.live, out).after(first)
+            by_number::<Opposite>(Held::Out, 0, first.live, out).after(first)
         }
         BoolExpr::Connect(Connective::And, a, b) => {
             let b = Operand::Bool(b);
@@ -155,53 +157,75 @@ fn eval_between(
     requires room { FitsBoth (long_of a.now) (long_of b.now) (length room.old) }
     ensures { Reaches (at_each inputs.entry (λ x env. between (infix_value op) (long_value (long_of a.now) x env) (long_value (long_of b.now) x env))) (at out.new) inputs.entry.live result }
 {
-    let (left, first) = eval_left(a, inputs, out, room);
-    if let Some(y) = constant_in(b) {
-        return by_number(op, left, inputs.xs, y, first.live, out).after(first);
+    if let Some(y) = number_in(b, inputs.env) {
+        return eval_before_number(op, a, y, inputs, out, room);
     }
-    match b {
-        LongExpr::Parameter(_) => by_register(
-            op, left, inputs.xs, inputs.xs, first.live, out,
-        ).after(first),
-        LongExpr::Reference(name) => {
-            let y = inputs.env.number(name.as_slice()).unwrap_or(0);
-            by_number(op, left, inputs.xs, y, first.live, out).after(first)
-        }
-        _ => {
-            let (ys, rest) = room.split_at_mut(LANES);
-            let valid = Inputs {
-                env: inputs.env,
-                xs: inputs.xs,
-                live: first.live,
-            };
-            let second = eval_long(b, valid, ys, rest);
-            let third = by_register(op, left, inputs.xs, ys, second.live, out);
-            third.after(second).after(first)
-        }
+    if let Some(x) = number_in(a, inputs.env) {
+        let (_, rest) = room.split_at_mut(LANES);
+        let (held, first) = eval_held(b, inputs, out, rest);
+        return by_infix(op, held, Beside::NumberFirst(x), first.live, out).after(first);
     }
+    let (held, first) = eval_held(a, inputs, out, room);
+    let last = last_step(b, inputs.env);
+    if let LongExpr::Parameter(_) = last.of {
+        let beside = Beside::Register(inputs.xs, last.step);
+        return by_infix(op, held, beside, first.live, out).after(first);
+    }
+    let valid = Inputs {
+        env: inputs.env,
+        xs: inputs.xs,
+        live: first.live,
+    };
+    let (ys, rest) = room.split_at_mut(LANES);
+    let second = eval_long(last.of, valid, ys, rest);
+    let beside = Beside::Register(ys, last.step);
+    let third = by_infix(op, held, beside, second.live, out);
+    third.after(second).after(first)
 }
 
-/// A left operand, which needs no register if it is the item or a number.
+/// An operand and a number on its right, and an operator between them.
 #[cycle(register)]
-fn eval_left(
-    expr: &LongExpr,
+fn eval_before_number(
+    op: Infix,
+    a: &LongExpr,
+    y: i64,
     inputs: Inputs<'_>,
     out: &mut [i64],
     room: &mut [i64],
-) -> (Left, Reached)
+) -> Reached
+    requires lanes { inputs.live ≤ 1024 }
+    requires xs { inputs.live ≤ length inputs.xs.now }
+    requires out { inputs.live ≤ length out.old }
+    requires room { Fits (long_of a.now) (length room.old) }
+    ensures { Reaches (at_each inputs.entry (λ x env. on (long_value (long_of a.now) x env) (λ v. infix_value op v y))) (at out.new) inputs.entry.live result }
+{
+    let last = if has_shorter_way(op) {
+        no_step(a)
+    } else {
+        last_step(a, inputs.env)
+    };
+    let (held, first) = eval_held(last.of, inputs, out, room);
+    let beside = Beside::Number(last.step, y);
+    by_infix(op, held, beside, first.live, out).after(first)
+}
+
+/// An operand in a register, which needs none of its own if it is the item.
+#[cycle(register)]
+fn eval_held<'a>(
+    expr: &LongExpr,
+    inputs: Inputs<'a>,
+    out: &mut [i64],
+    room: &mut [i64],
+) -> (Held<'a>, Reached)
     requires lanes { inputs.live ≤ 1024 }
     requires xs { inputs.live ≤ length inputs.xs.now }
     requires out { inputs.live ≤ length out.old }
     requires room { Fits (long_of expr.now) (length room.old) }
-    ensures { Reaches (at_each inputs.entry (long_value (long_of expr.now))) (left_at result.0 out.new inputs.entry.xs.now) inputs.entry.live result.1 }
+    ensures held { HasHeld result.0 inputs.entry.live }
+    ensures reached { Reaches (at_each inputs.entry (long_value (long_of expr.now))) (held_at result.0 out.new) inputs.entry.live result.1 }
 {
     match expr {
-        LongExpr::Number(number) => (Left::Number(*number), all(inputs.live)),
-        LongExpr::Parameter(_) => (Left::Item, all(inputs.live)),
-        LongExpr::Reference(name) => {
-            let number = inputs.env.number(name.as_slice()).unwrap_or(0);
-            (Left::Number(number), all(inputs.live))
-        }
-        _ => (Left::Out, eval_long(expr, inputs, out, room)),
+        LongExpr::Parameter(_) => (Held::Register(inputs.xs), all(inputs.live)),
+        _ => (Held::Out, eval_long(expr, inputs, out, room)),
     }
 }

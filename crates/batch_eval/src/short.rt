@@ -1,10 +1,11 @@
 //! Whether operands need no more than 32 bits.
 
-ghost use Rattle.batch_eval.specs.Reciprocals.{AreWithin, LeftIsWithin};
+ghost use Rattle.batch_eval.specs.Lanes.{HasHeld};
+ghost use Rattle.batch_eval.specs.Reciprocals.{AreWithin, HeldIsWithin};
 ghost use Rattle.std.specs.Prelude.{◌≡◌, ◌≤◌, ◌^◌, IsTrue, length};
 
 use crate::division::distance;
-use crate::reached::Left;
+use crate::operands::Held;
 
 /// All integers of 32 bits are less than this far from 0, or from -1 if they are below 0.
 const BEYOND_SHORT: u64 = 1 << 31;
@@ -21,15 +22,14 @@ fn lanes_are_short(xs: &[i64], live: usize) -> bool
     bits < BEYOND_SHORT
 }
 
-/// The same of a left operand.
-pub(crate) fn left_is_short(left: Left, xs: &[i64], out: &[i64], live: usize) -> bool
-    requires xs { live ≤ length xs.now }
+/// Whether no value of an operand that is held needs more than 32 bits.
+pub(crate) fn held_is_short(held: Held<'_>, out: &[i64], live: usize) -> bool
+    requires held { HasHeld held live }
     requires out { live ≤ length out.now }
-    ensures { IsTrue result → LeftIsWithin (2 ^ 31) left out.now xs.now live }
+    ensures { IsTrue result → HeldIsWithin (2 ^ 31) held.entry out.now live }
 {
-    match left {
-        Left::Out => lanes_are_short(out, live),
-        Left::Item => lanes_are_short(xs, live),
-        Left::Number(x) => distance(x) < BEYOND_SHORT,
+    match held {
+        Held::Out => lanes_are_short(out, live),
+        Held::Register(xs) => lanes_are_short(xs, live),
     }
 }

@@ -1,34 +1,33 @@
 //! The operators on one number: the type of each, and its loop.
 
-ghost use Rattle.batch_eval.specs.Lanes.{Reaches, at, first_only, left_at};
+ghost use Rattle.batch_eval.specs.Lanes.{HasHeld, Reaches, at, first_only, held_at};
 ghost use Rattle.lambda_values.specs.Operators.{unary_value};
 ghost use Rattle.lambda_values.specs.declared.operator.UnaryOperator.TheVariants as unary_operator;
 ghost use Rattle.std.specs.Prelude.{◌≡◌, ◌≤◌, length};
 
 use crate::dispatch::by_exact_number;
 use crate::kernel::Kernel;
-use crate::operands::by_left_number;
-use crate::reached::{Left, Reached};
+use crate::operands::{Held, by_number};
+use crate::reached::Reached;
 use lambda_values::{FaultKind, UnaryOperator};
 
-/// An operator on a left operand.
+/// An operator on an operand that is held.
 pub(crate) fn by_unary(
     operator: UnaryOperator,
-    left: Left,
-    xs: &[i64],
+    held: Held<'_>,
     live: usize,
     out: &mut [i64],
 ) -> Reached
-    requires xs { live ≤ length xs.now }
+    requires held { HasHeld held live }
     requires out { live ≤ length out.old }
-    ensures { Reaches (λ k. unary_value operator (left_at left out.old xs.now k)) (at out.new) live result }
+    ensures { Reaches (λ k. unary_value operator (held_at held.entry out.old k)) (at out.new) live result }
 {
     match operator {
-        UnaryOperator::Negate => by_left_number::<Negate>(left, xs, 0, live, out),
-        UnaryOperator::Complement => by_left_number::<Complement>(left, xs, 0, live, out),
-        UnaryOperator::Absolute => by_left_number::<Absolute>(left, xs, 0, live, out),
+        UnaryOperator::Negate => by_number::<Negate>(held, 0, live, out),
+        UnaryOperator::Complement => by_number::<Complement>(held, 0, live, out),
+        UnaryOperator::Absolute => by_number::<Absolute>(held, 0, live, out),
         UnaryOperator::NegateExact => {
-            by_exact_number::<NegateExact, Negate>((-i64::MAX, i64::MAX), left, xs, 0, live, out)
+            by_exact_number::<NegateExact, Negate>((-i64::MAX, i64::MAX), held, 0, live, out)
         }
     }
 }

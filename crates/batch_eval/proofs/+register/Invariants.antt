@@ -18,14 +18,17 @@ decreases-register::eval_long l = 4 * size-LongExpr l.expr.now
 abbrev pub decreases-register::eval_bool : goal.decreases-register::eval_bool
 decreases-register::eval_bool l = 4 * size-BoolExpr l.test.now
 
-abbrev pub decreases-register::eval_left : goal.decreases-register::eval_left
-decreases-register::eval_left l = 4 * size-LongExpr l.expr.now + 1
+abbrev pub decreases-register::eval_held : goal.decreases-register::eval_held
+decreases-register::eval_held l = 4 * size-LongExpr l.expr.now + 1
+
+abbrev pub decreases-register::eval_before_number : goal.decreases-register::eval_before_number
+decreases-register::eval_before_number l = 4 * size-LongExpr l.a.now + 2
 
 abbrev pub decreases-register::eval_operand : goal.decreases-register::eval_operand
 decreases-register::eval_operand l = 4 * size l.operand + 1
 
 abbrev pub decreases-register::eval_between : goal.decreases-register::eval_between
-decreases-register::eval_between l = 4 * max (size-LongExpr l.a.now) (size-LongExpr l.b.now) + 2
+decreases-register::eval_between l = 4 * max (size-LongExpr l.a.now) (size-LongExpr l.b.now) + 3
 
 abbrev pub decreases-choice::eval_chosen : goal.decreases-choice::eval_chosen
 decreases-choice::eval_chosen l = 4 * max (size-BoolExpr l.condition.now) (max (size l.a) (size l.b)) + 3

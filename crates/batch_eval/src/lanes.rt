@@ -1,0 +1,84 @@
+//! What loops over lanes read. Each is a type, so that one function is all loops.
+
+ghost use Rattle.batch_eval.specs.Lanes.{at, or_zero};
+ghost use Rattle.std.specs.Prelude.{◌≡◌, ◌<◌, ◌^◌, ℕ, ℤ, length};
+
+use crate::kernel::Kernel;
+use std::marker::PhantomData;
+
+/// A number at each lane.
+pub(crate) trait Lanes: Copy {
+    // How many lanes there are at least.
+    ghost count: { Self → ℕ };
+
+    // The number at a lane where the register of the results has this one.
+    ghost number: { Self → ℤ → ℕ → ℤ };
+
+    /// The number at a lane where the register of the results has this one.
+    fn get(self, lane: usize, old: i64) -> i64
+        requires { lane < count self }
+        ensures { result ≡ number self old lane };
+}
+
+/// What the register of the results has.
+#[derive(Clone, Copy)]
+pub(crate) struct Own;
+
+impl Lanes for Own {
+    ghost count = { λ _. 2 ^ 64 };
+
+    ghost number = { λ _ old _. old };
+
+    fn get(self, _lane: usize, old: i64) -> i64 {
+        old
+    }
+}
+
+/// What another register has.
+#[derive(Clone, Copy)]
+pub(crate) struct Register<'a>(pub(crate) &'a [i64]);
+
+impl Lanes for Register<'_> {
+    ghost count = { λ register. length register.0.now };
+
+    ghost number = { λ register _ lane. at register.0.now lane };
+
+    fn get(self, lane: usize, _old: i64) -> i64 {
+        self.0[lane]
+    }
+}
+
+/// One number at all lanes.
+#[derive(Clone, Copy)]
+pub(crate) struct Number(pub(crate) i64);
+
+impl Lanes for Number {
+    ghost count = { λ _. 2 ^ 64 };
+
+    ghost number = { λ number _ _. number.0 };
+
+    fn get(self, _lane: usize, _old: i64) -> i64 {
+        self.0
+    }
+}
+
+/// Other lanes after an operator by a number, which has no fault.
+#[derive_where(Clone, Copy; A)]
+pub(crate) struct Stepped<K, A> {
+    pub(crate) of: A,
+    pub(crate) by: i64,
+    pub(crate) kernel: PhantomData<K>,
+}
+
+impl<K: Kernel, A: Lanes> Lanes for Stepped<K, A> {
+    ghost count = { λ stepped. A.count stepped.of };
+
+    ghost number = { λ stepped old lane. or_zero (K.value (A.number stepped.of old lane) stepped.by) };
+
+    fn get(self, lane: usize, old: i64) -> i64 {
+        match K::apply(self.of.get(lane, old), self.by) {
+            Ok(value) => value,
+            Err(_) => 0,
+        }
+    }
+}
