@@ -49,6 +49,17 @@ def too_long(text):
             yield number
 
 
+def torn(text):
+    """The numbers of the lines that go on with a paragraph and begin with a number and a point: Markdown may take one for an item."""
+    fenced, above = False, ''
+    for number, line in enumerate(text.splitlines(), 1):
+        if line.lstrip().startswith('```'):
+            fenced = not fenced
+        elif not fenced and re.match(r'(?!1\.)\d+\. ', line) and is_text(above) and not re.match(r'\s|\d+\. ', above):
+            yield number
+        above = line
+
+
 def page_wrapped(text):
     """The page with its long paragraphs laid out anew."""
     out, block, fenced = [], [], False

@@ -3,9 +3,9 @@ import glob
 import os
 import re
 
-from page_layout import too_long
+from page_layout import too_long, torn as torn_lines
 
-MOST_WORDS_OF_THE_README = 1000
+MOST_WORDS_OF_THE_README, MOST_WORDS_OF_A_PAGE = 1000, 6500
 TICKED = re.compile(r'`([^`]+)`')
 CITED = re.compile(r'^[a-z_0-9]+(?:::[A-Za-z_0-9]+)+$')
 NAME = re.compile(r'^[a-z_0-9]+$')
@@ -204,9 +204,19 @@ def links(top):
 
 
 def length(top):
-    words_of_readme = len(read(os.path.join(top, 'README.md')).split())
-    if words_of_readme > MOST_WORDS_OF_THE_README:
-        yield f'README.md has {words_of_readme} words, at most {MOST_WORDS_OF_THE_README}'
+    """Pages with too many words."""
+    for page in pages_of(top) + [os.path.join(top, name) for name in ('CONTRIBUTING.md', 'CHANGELOG.md')]:
+        name, count = os.path.basename(page), len(read(page).split())
+        most = MOST_WORDS_OF_THE_README if name == 'README.md' else MOST_WORDS_OF_A_PAGE
+        if count > most:
+            yield f'{name} has {count} words, at most {most}'
+
+
+def torn(top):
+    """Lines of paragraphs that begin as an item of a list would."""
+    for page in pages_of(top) + [os.path.join(top, name) for name in ('CONTRIBUTING.md', 'CHANGELOG.md')]:
+        for number in torn_lines(read(page)):
+            yield f'{os.path.basename(page)}:{number}: a paragraph goes on with a number and a point; put other words there'
 
 
 def width(top):
