@@ -5,6 +5,7 @@ Each list stands between a comment that names it and `<!-- end -->`.
 import glob
 import os
 import re
+import subprocess
 
 from page_clauses import exported_by, public_heads, words_brought
 from page_definitions import CLOSURE, reached_from, specs_of
@@ -90,6 +91,8 @@ def lists(top):
 
 
 def write_lists(top):
+    """Writes these lists, and those of docs/adding.md, which scripts/adding makes."""
     for path, page in pages_with_lists(top):
         with open(os.path.join(top, path), 'w', encoding='utf-8') as file:
             file.write(page)
+    subprocess.run([os.path.join(top, 'scripts', 'adding'), top], check=True)
