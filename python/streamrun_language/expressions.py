@@ -9,6 +9,9 @@ from typing import Iterator, List, Mapping, Optional, Sequence
 
 from .values import BINARY, CALLS, CONSTANTS, MAX, UNARY, Form
 
+# What stands before the name of a parameter in Python, where it might be a reserved word.
+VARIABLE = 'of_'
+
 
 @dataclass
 class Node:
@@ -51,7 +54,7 @@ class Name(Node):
     text: str
 
     def python(self, texts, numbers):
-        return 'x'
+        return VARIABLE + self.text
 
 
 @dataclass
@@ -219,7 +222,7 @@ def ill_typed(node: Node) -> Optional[Node]:
 
 
 def python_of(node: Node, numbers: Mapping[str, int]) -> str:
-    """An expression over x as Python writes it."""
+    """An expression as Python writes it."""
     return node.python([python_of(part, numbers) for part in node.parts()], numbers)
 
 

@@ -1,7 +1,7 @@
 """Lambdas: which expression a text spells, or why it is refused.
 
     read_lambda(argument, want)      a Lambda, or Refused
-    Lambda.function(numbers)         a function of one integer, which may raise Fault
+    Lambda.function(numbers)         a function of its parameters, which may raise Fault
 """
 from __future__ import annotations
 
@@ -9,7 +9,7 @@ import sys
 from contextlib import contextmanager
 from dataclasses import dataclass
 from enum import Enum
-from typing import Callable, Iterator, List, Mapping, Sequence
+from typing import Any, Callable, Iterator, List, Mapping, Sequence
 
 from . import expressions as e
 from .refusals import Cause, Refused, Wanted
@@ -205,9 +205,10 @@ class Lambda:
         """The jobs that it names, in order of writing."""
         return [node for node in e.nodes_of(self.body) if isinstance(node, e.Reference)]
 
-    def function(self, numbers: Mapping[str, int]) -> Callable[[int], object]:
-        """Its value at an integer x; numbers has the value of each job that it names."""
-        return eval(f'lambda x: {e.python_of(self.body, numbers)}', dict(FUNCTIONS))
+    def function(self, numbers: Mapping[str, int]) -> Callable[..., Any]:
+        """Its value at an integer for each parameter; numbers has the value of each job that it names."""
+        parameters = ', '.join(e.VARIABLE + name for name in self.parameters)
+        return eval(f'lambda {parameters}: {e.python_of(self.body, numbers)}', dict(FUNCTIONS))
 
 
 def demand_small(body: e.Node) -> None:
@@ -237,7 +238,7 @@ def demand_typed(body: e.Node, want: Want) -> None:
         node = e.ill_typed(body)
         raise Refused(Cause.WRONG_TYPE, node.at, about=node)
     if given != ('long' if want is Want.PAIR else want.value):
-        raise Refused(Cause.WRONG_TYPE, body.at, about=want)
+        raise Refused(Cause.WRONG_TYPE, min(node.at for node in e.nodes_of(body)), about=want)
 
 
 def read_lambda(argument: Argument, want: Want) -> Lambda:

@@ -1,7 +1,7 @@
 """Why a job file or a table is refused: the causes, in the words of the program, and the place of each."""
 from __future__ import annotations
 
-from enum import Enum
+from enum import Enum, unique
 from typing import TYPE_CHECKING, Any, Optional
 
 if TYPE_CHECKING:
@@ -31,6 +31,7 @@ class Cause(Enum):
     NOT_SCALAR = 'not scalar'
 
 
+@unique
 class Wanted(Enum):
     """What the grammar wants at the token at which a text can't go on. The values are words for a reader."""
 
@@ -42,7 +43,7 @@ class Wanted(Enum):
     OPEN = '`(` after the name of an operation'
     NUMBER = 'a number'
     STRING = 'the name of a column, in double quotes'
-    ARRAY_NAME = 'the name of a job'
+    ARRAY_NAME = 'the name of a job above that gives an array'
     NEXT_NUMBER = '`,` and a further number, or `)`'
     NEXT_PART = '`,` and a further source, or `)`'
     COMMA = '`,`'

@@ -1,13 +1,13 @@
 """Tables: the columns of a CSV file, or why it is refused, and where in the file.
 
     read_columns(data)                  the cells of each column by its name, or RefusedTable
-    place_of(data, row, column)         where a cell stands
+    place_of(data, refused)             where it is refused
 """
 from __future__ import annotations
 
 import re
 from dataclasses import dataclass
-from typing import Dict, Iterator, List, Optional, Tuple
+from typing import Dict, Iterator, List, NamedTuple, Optional, Tuple
 
 from .lines import MARK
 from .refusals import RefusedTable, TableCause
@@ -34,24 +34,28 @@ def field_at(text: str, at: int) -> Tuple[str, int]:
     return quoted + found.group(), found.end()
 
 
-Field = Tuple[int, str]
+class Field(NamedTuple):
+    """A field and where it stands in the file."""
+
+    text: str
+    end: int
+    start: int
 
 
 def fields_of(text: str) -> Iterator[List[Field]]:
-    """The records of a text, each field with the place at which it begins: fields are parted by commas, a field in double
-    quotes may hold anything and a doubled quote for one; LF, CR LF or CR ends a record, and an empty line is none."""
-    at, record = 0, []
+    """The records of a text: fields are parted by commas, a field in double quotes may hold anything and a doubled quote
+    for one; LF, CR LF or CR ends a record, and an empty line is none."""
+    at = 0
     while at < len(text):
         if text[at] in '\r\n':
             at += 1
             continue
-        start, (field, end) = at, field_at(text, at)
-        record = [(start, field)]
-        while end < len(text) and text[end] == ',':
-            start, (field, end) = end + 1, field_at(text, end + 1)
-            record.append((start, field))
+        record = [Field(*field_at(text, at), at)]
+        while text[record[-1].end:record[-1].end + 1] == ',':
+            at = record[-1].end + 1
+            record.append(Field(*field_at(text, at), at))
         yield record
-        at = end
+        at = record[-1].end
 
 
 def records_of(text: str) -> Iterator[List[str]]:
@@ -60,7 +64,7 @@ def records_of(text: str) -> Iterator[List[str]]:
         yield from (line.split(',') for line in re.split('[\r\n]+', text) if line)
         return
     for record in fields_of(text):
-        yield [field for _, field in record]
+        yield [field.text for field in record]
 
 
 def integer_of(text: str) -> Optional[int]:
@@ -107,27 +111,28 @@ def read_columns(data: bytes) -> Dict[str, List[int]]:
 
 @dataclass
 class Place:
-    """Where a cell stands: the names of the header, the fields of its record, the line of the file and the column in
+    """Where a table is refused: the names of the header, the cells of the record, the line of the file and the column in
     bytes, both from 1, and the text of the line."""
 
     header: List[str]
-    fields: List[str]
+    cells: List[str]
     line: int
     column: int
     text: str
 
 
-def place_of(data: bytes, row: int, column: int) -> Place:
-    """Where a cell stands; row 0 is the header, and column 0 the first one. A file without records has no fields, and
-    its place is the first line."""
-    text, header, fields, at = text_of(data), [], [], 0
-    for number, record in enumerate(fields_of(text)):
-        fields = [field for _, field in record]
-        header = header or fields
-        if number == row:
-            at = record[max(column, 1) - 1][0]
+def place_of(data: bytes, refused: RefusedTable) -> Place:
+    """Where a table is refused: at its cell, at the first cell too many, or at the end of a row that is too short. A file
+    without records is refused at its start."""
+    text, header, record, at = text_of(data), [], [], 0
+    for row, record in enumerate(fields_of(text)):
+        header = header or record
+        if row == refused.row:
+            column = refused.column or len(header) + 1
+            at = record[column - 1].start if column <= len(record) else record[-1].end
             break
     start = max(text.rfind('\n', 0, at), text.rfind('\r', 0, at)) + 1
     end = LINE_END.search(text, at)
     line = sum(1 for _ in LINE_END.finditer(text, 0, start)) + 1
-    return Place(header, fields, line, at - start + 1, text[start:end.start() if end else len(text)])
+    return Place([it.text for it in header], [it.text for it in record], line, at - start + 1,
+                 text[start:end.start() if end else len(text)])
