@@ -12,24 +12,26 @@ import unicodedata
 from dataclasses import dataclass
 from typing import Any, Dict, List, Optional, Tuple
 
-from .job_hints import ENDS, PARTS, STRUCTURE, grammar_hint
+from .job_hints import ENDS, PARTS, STRUCTURE
 from .jobs import Job, read_each
 from .lambda_hints import EXPRESSIONS, HEADS, STREAM_RULES
-from .lines import BLANKS, lines_of, read_lines
+from .lines import BLANKS, Lines, lines_of, read_lines
 from .meaning_hints import LISTED, NAMES, OTHERS, TYPES
 from .refusals import Cause, RefusedFile, RefusedTable
-from .site import Site, first_hint
-from .table_hints import TableSite, shown as text_of_table, table_hint
+from .site import Rule, Site
+from .table_hints import TableSite, table_hint
 from .tables import place_of, read_columns
 from .word_hints import BYTES, NUMBERS, WORD_RULES
 
 # The rules of each cause, the first that applies giving the hint.
 RULES = {
-    Cause.SYNTAX: [*BYTES, *NUMBERS, *STRUCTURE, *PARTS, *ENDS, *WORD_RULES],
-    Cause.EXPRESSION_SYNTAX: [*BYTES, *NUMBERS, *WORD_RULES, *HEADS, *STREAM_RULES, *EXPRESSIONS],
+    Cause.SYNTAX: [*BYTES, *NUMBERS, *STRUCTURE, *PARTS, *ENDS],
+    Cause.EXPRESSION_SYNTAX: [*NUMBERS, *WORD_RULES, *HEADS, *STREAM_RULES, *EXPRESSIONS],
     Cause.UNKNOWN_NAME: NAMES, Cause.WRONG_TYPE: TYPES, Cause.OPERATOR_NOT_LISTED: LISTED,
     **{cause: [rule] for cause, rule in OTHERS.items()},
 }
+# Where no rule of a cause applies.
+ANY = Rule('what is wanted', lambda site: True, lambda site: f'Here {site.wanted.value} is wanted.')
 MARGIN, MOST_SHOWN, BEFORE = '    ', 92, 60
 
 
@@ -65,7 +67,7 @@ class Explanation:
 
     def __str__(self):
         """The explanation for a reader."""
-        cell = f', row {self.cell.row} of "{self.cell.name}"' if self.cell and self.cell.row else ''
+        cell = f', row {self.cell.row} of "{self.cell.name}"' if self.cell else ''
         place = f'{self.file}, line {self.line}, column {self.column}{cell}:'
         return '\n'.join([place, *with_caret(self.text, self.column), self.hint])
 
@@ -93,9 +95,9 @@ def line_below(data: bytes, number: int) -> bytes:
     return next((line for line in lines if line and not line.startswith((b'#', b'//'))), b'')
 
 
-def hint_of(site: Site) -> str:
-    """A sentence that says what to write."""
-    return first_hint(RULES[site.refused.cause], site) or grammar_hint(site)
+def rule_of(site: Site) -> Rule:
+    """The first rule that applies."""
+    return next((rule for rule in RULES[site.refused.cause] if rule.applies(site)), ANY)
 
 
 def explain_job_file(data: bytes, columns: Optional[Dict[str, Any]], file: str) -> Optional[Explanation]:
@@ -114,11 +116,11 @@ def explain_job(data: bytes, refused: RefusedFile, earlier: Dict[str, Job], colu
     job, cause = refused.job, refused.refused
     line, column = job.position(cause.at)
     names = None if columns is None else list(columns)
-    site = Site(job, cause, read_lines_or_none(data), earlier, names, line_below(data, job.starts[-1][1]))
-    return Explanation(file, line, column, str(refused), hint_of(site), lines_of(data)[line - 1])
+    site = Site(job, cause, lines_or_none(data), earlier, names, line_below(data, job.starts[-1][1]))
+    return Explanation(file, line, column, str(refused), rule_of(site).hint(site), lines_of(data)[line - 1])
 
 
-def read_lines_or_none(data: bytes):
+def lines_or_none(data: bytes) -> Lines:
     """The lines of a file; if the first one continues no job, those of an empty file."""
     try:
         return read_lines(data)
@@ -133,7 +135,7 @@ def explain_table(data: bytes, file: str) -> Tuple[Optional[Dict[str, List[int]]
     except RefusedTable as refused:
         place = place_of(data, refused)
         site = TableSite(data, refused, place)
-        cell = Cell(refused.row, text_of_table(site.name), text_of_table(site.cell)) if refused.column else None
+        cell = Cell(refused.row, site.name, site.cell) if refused.row and refused.column else None
         return None, Explanation(file, place.line, place.column, str(refused), table_hint(site), place.text.encode('latin-1'), cell)
 
 

@@ -209,7 +209,7 @@ ENDS = [
     Rule('operation', lambda s: s.wanted is Wanted.OPERATION and s.kind() is Kind.NAME, operation_hint),
     Rule('two jobs', lambda s: s.kind() is Kind.NAME and s.word(1) == '=', 'Each job begins on a line of its own.'),
     Rule('after the terminal', after_terminal, later_hint),
-    Rule('no partner', lambda s: s.word() == ')', 'This ) has no ( before it: delete it.'),
+    Rule('no partner', lambda s: s.word() == ')' and s.open_at() is None, 'This ) has no ( before it: delete it.'),
     Rule('reckoning after the terminal', lambda s: s.wanted is Wanted.END and s.word() in OPERATORS, lambda s:
          f'A job ends with its terminal: reckon in a job below, such as after = of(0).map(x -> ${s.name()} {s.rest_of_job()}).sum().'),
     Rule('reckoning with a source', lambda s: s.wanted is Wanted.POINT and s.word() in OPERATORS, lambda s:
@@ -217,12 +217,8 @@ ENDS = [
     Rule('no terminal', lambda s: s.wanted is Wanted.POINT and (s.is_at_end() or s.word() == ';'), lambda s:
          'A job ends with a terminal: write .sum(), .count() or .toArray() at the end.' if not is_continued(s) else
          'A job ends with a terminal, such as .sum(), and only a line that begins with a point goes on with a job.'),
-    Rule('no point', lambda s: s.wanted is Wanted.POINT and s.kind() is Kind.NAME, lambda s: f'A point stands before an operation: .{s.word()}'),
+    Rule('no point', lambda s: s.wanted is Wanted.POINT and s.kind() is Kind.NAME, lambda s:
+         f'A point stands before an operation: write .{s.word()}(..).'),
     Rule('after the semicolon', lambda s: s.wanted is Wanted.END and ';' in (s.word(), s.word(-1)), 'Nothing stands after the `;` of a job.'),
     Rule('after the job', lambda s: s.wanted is Wanted.END, 'The job ends before this: put what follows on a line of its own.'),
 ]
-
-
-def grammar_hint(site: Site) -> str:
-    """What the grammar wants."""
-    return f'Here {site.wanted.value} is wanted.'

@@ -127,6 +127,8 @@ EXPRESSIONS = [
     Rule('unequal', lambda s: s.word(-1) + s.word() == '<>', 'Unequal is written !=.'),
     Rule('equality', lambda s: s.word() == '=' or s.word(-1) == '=', 'Equality is written ==.'),
     Rule('power', lambda s: s.word() == '*' and s.word(-1) == '*', 'There is no power: write x * x.'),
+    Rule('floor division', lambda s: s.word() == '/' and s.word(-1) == '/', lambda s:
+         f'A quotient is x / {s.word(1)}, and Math.floorDiv(x, {s.word(1)}) is the one that is rounded down.'),
     Rule('cast', is_cast, 'There are no casts: all numbers are 64-bit integers, so leave it out.'),
     Rule('method of a value', lambda s: s.word() == '.' and s.wanted is not Wanted.MEMBER, method_hint),
     Rule('method without class', lambda s: s.word() == '(' and s.kind(-1) is Kind.NAME and s.wanted is not Wanted.OPEN, call_hint),

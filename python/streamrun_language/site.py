@@ -104,16 +104,9 @@ class Rule(NamedTuple):
     applies: Callable[[Site], object]
     sentence: Sentence
 
-    def hint(self, site: Site) -> Optional[str]:
-        """The sentence, if the rule applies."""
-        if not self.applies(site):
-            return None
+    def hint(self, site: Site) -> str:
+        """The sentence at a place."""
         return self.sentence if isinstance(self.sentence, str) else self.sentence(site)
-
-
-def first_hint(rules: Iterable[Rule], site: Site) -> Optional[str]:
-    """The hint of the first rule that applies, or None."""
-    return next((hint for hint in (rule.hint(site) for rule in rules) if hint), None)
 
 
 def nearest(word: str, known: Sequence[str]) -> Optional[str]:

@@ -1,4 +1,4 @@
-"""Hints on tables that are refused."""
+"""Hints on tables that are refused. Commands stand in backquotes, with FILE for the table."""
 from __future__ import annotations
 
 import re
@@ -8,14 +8,15 @@ from typing import Callable, NamedTuple, Union
 from .refusals import RefusedTable, TableCause
 from .tables import Place
 
-MAGIC = {b'\x1f\x8b': ('gzip', 'zcat'), b'BZh': ('bzip2', 'bzcat'), b'\xfd7zXZ': ('xz', 'xzcat'), b'\x28\xb5\x2f\xfd': ('zstd', 'zstdcat')}
+UNPACKED_BY = {b'\x1f\x8b': 'zcat', b'BZh': 'bzcat', b'\xfd7zXZ': 'xzcat', b'\x28\xb5\x2f\xfd': 'zstdcat'}
 SEPARATORS = {';': 'semicolon', '\t': 'tab', '|': 'pipe'}
 MISSING = ('na', 'n/a', 'nan', 'null', 'none', 'nil', '-', '.', '?', '#n/a', '\\n')
+DAY = 86400
 
 
 @dataclass
 class TableSite:
-    """The place at which a table is refused."""
+    """The place at which a table is refused: its cell and the name of its column, as a reader sees them."""
 
     data: bytes
     refused: RefusedTable
@@ -24,12 +25,8 @@ class TableSite:
     def __post_init__(self):
         at = max(self.refused.column, 1) - 1
         cells, header = self.place.cells, self.place.header
-        self.cell = cells[at] if at < len(cells) else ''
-        self.name = header[at] if at < len(header) else ''
-
-    def cuts(self) -> str:
-        """A command that cuts the column away."""
-        return f"mlr --csv cut -x -f '{shown(self.name)}'"
+        self.cell = shown(cells[at]) if at < len(cells) else ''
+        self.name = shown(header[at]) if at < len(header) else ''
 
     def separator(self) -> str:
         """The sign that parts the cells, if it isn't the comma."""
@@ -39,6 +36,11 @@ class TableSite:
     def is_bad_number(self, pattern: str) -> bool:
         """Whether a cell of this form is no number."""
         return self.refused.cause is TableCause.BAD_NUMBER and re.fullmatch(pattern, self.cell.strip(), re.S | re.I) is not None
+
+    def put(self, value: str) -> str:
+        """The command that writes a value into the column; X stands in it for the cell."""
+        field = '${%s}' % self.name
+        return f"`mlr --csv put '{field} = {value.replace('X', field)}' FILE`"
 
 
 class TableRule(NamedTuple):
@@ -50,13 +52,13 @@ class TableRule(NamedTuple):
 
 
 def shown(text: str) -> str:
-    """A text of a table, a character for each byte, as a reader sees it."""
+    """A text of a table, which has a character for each byte, as a reader sees it."""
     return text.encode('latin-1').decode('utf-8', 'replace')
 
 
-def packed(site: TableSite) -> str:
+def unpacked_by(site: TableSite) -> str:
     """The program that unpacks the file, if it is compressed."""
-    return next((tool for magic, (_, tool) in MAGIC.items() if site.data.startswith(magic)), '')
+    return next((tool for magic, tool in UNPACKED_BY.items() if site.data.startswith(magic)), '')
 
 
 def is_utf_16(site: TableSite) -> bool:
@@ -72,75 +74,77 @@ def length_hint(site: TableSite) -> str:
         return counts + 'delete the comma at the end of the line.'
     if found > wanted:
         return counts + 'a comma inside a cell wants double quotes around the cell, and one inside a number has to go.'
-    return counts + 'add what is missing, or begin the line with no other text than the cells.'
+    return counts + 'write the cells that are missing.'
 
 
-def text_hint(site: TableSite) -> str:
-    """What to do about a text."""
-    return f"A cell is a 64-bit integer and no text: cut the column away, {site.cuts()}, or put codes in place of its texts."
+def day_format(site: TableSite) -> str:
+    """The form of a date, as strptime wants it."""
+    if re.match(r'\d{4}-', site.cell.strip()):
+        return '%Y-%m-%dT%H:%M:%SZ' if 'T' in site.cell else '%Y-%m-%d'
+    return '%d.%m.%Y' if '.' in site.cell else '%m/%d/%Y'
 
 
 FILES = [
-    TableRule('compressed', packed, lambda s: f'The file is compressed: name <({packed(s)} FILE) in its place.'),
+    TableRule('compressed', unpacked_by, lambda s: f'The file is compressed: name <({unpacked_by(s)} FILE) in its place.'),
     TableRule('workbook', lambda s: s.data.startswith((b'PK\x03\x04', b'\xd0\xcf\x11\xe0')),
               'This is a workbook or an archive: save the sheet as CSV.'),
-    TableRule('parquet', lambda s: s.data.startswith(b'PAR1'), 'This is a Parquet file: save the columns as CSV.'),
-    TableRule('UTF-16', is_utf_16, 'The file is UTF-16: convert it by iconv -f UTF-16 -t UTF-8.'),
+    TableRule('parquet', lambda s: s.data.startswith(b'PAR1'), 'This is a Parquet file: save its columns as CSV.'),
+    TableRule('UTF-16', is_utf_16, 'The file is UTF-16: convert it by `iconv -f UTF-16 -t UTF-8 FILE`.'),
     TableRule('JSON', lambda s: s.data.lstrip()[:1] in (b'{', b'['), 'This is JSON: convert it by mlr --ijson --ocsv cat.'),
     TableRule('separator', lambda s: s.separator(), lambda s:
-              f"Commas part the cells, and here it is the {SEPARATORS[s.separator()]}: mlr --icsv --ifs {SEPARATORS[s.separator()]} --ocsv cat."),
+              f'Cells are parted by commas, and here by the sign {SEPARATORS[s.separator()]}: '
+              f'`mlr --icsv --ifs {SEPARATORS[s.separator()]} --ocsv cat FILE`.'),
     TableRule('no header', lambda s: s.refused.cause is TableCause.NO_HEADER,
               'The file is empty: its first line has the names of the columns, with commas between them.'),
-    TableRule('too many columns', lambda s: s.refused.cause is TableCause.TOO_MANY,
-              'Keep the columns that jobs name: mlr --csv cut -f a,b.'),
+    TableRule('too many columns', lambda s: s.refused.cause is TableCause.TOO_MANY, lambda s:
+              f"Keep the columns that jobs name, such as `mlr --csv cut -f '{shown(s.place.header[0])}' FILE`."),
     TableRule('names that are numbers', lambda s: s.refused.cause is TableCause.SAME_NAME and re.fullmatch(r'\s*-?[\d.]+\s*', s.cell),
               'The first line has the names of the columns: put a line of names before the numbers.'),
     TableRule('same name', lambda s: s.refused.cause is TableCause.SAME_NAME,
-              lambda s: f'Two columns are called "{shown(s.name)}": rename one of them in the first line.'),
+              lambda s: f'Two columns are called "{s.name}": rename one of them in the first line.'),
 ]
 
 ROWS = [
-    TableRule('comment line', lambda s: s.place.text.startswith(('#', '//')), 'A table has no comments: delete them by grep -v "^#".'),
-    TableRule('open quote', lambda s: '\n' in s.cell or '\r' in s.cell or (s.refused.cause is TableCause.WRONG_LENGTH and
-                                                                        any('\n' in it for it in s.place.cells)),
+    TableRule('comment line', lambda s: s.place.text.startswith(('#', '//')), 'A table has no comments: delete them by `grep -v "^#" FILE`.'),
+    TableRule('open quote', lambda s: any('\n' in it or '\r' in it for it in s.place.cells),
               'A double quote begins a cell that goes on over lines: close it, or delete it.'),
     TableRule('length', lambda s: s.refused.cause is TableCause.WRONG_LENGTH, length_hint),
 ]
 
 CELLS = [
-    TableRule('empty cell', lambda s: s.is_bad_number(''), 'A cell has a number: mlr --csv fill-empty -v 0 writes 0 into the empty ones.'),
+    TableRule('empty cell', lambda s: s.is_bad_number(''), 'Each cell has a number: `mlr --csv fill-empty -v 0 FILE` writes 0 into the empty ones.'),
     TableRule('missing value', lambda s: s.cell.strip().lower() in MISSING, lambda s:
-              f"A cell has a number: mlr --csv put 'if ($[[[{s.refused.column}]]] == \"{s.cell.strip()}\") "
-              f"{{$[[[{s.refused.column}]]] = 0}}' writes 0 for it."),
-    TableRule('no-break space', lambda s: '\xa0' in s.cell, 'The cell has a no-break space: delete it, by sed "s/\\xc2\\xa0//g".'),
-    TableRule('decimals', lambda s: s.is_bad_number(r'[+-]?\d*\.\d+|[+-]?\d+\.'), lambda s:
-              "A cell is an integer: keep hundredths, mlr --csv put '${%s} = int(round(${%s} * 100))'." % (shown(s.name), shown(s.name))),
+              f'Each cell has a number, so write 0 or another one: {s.put(f"X == {chr(34)}{s.cell.strip()}{chr(34)} ? 0 : X")}.'),
+    TableRule('no-break space', lambda s: '\u00a0' in s.cell, 'The cell has a no-break space: delete them by `sed "s/\\xc2\\xa0//g" FILE`.'),
+    TableRule('decimals', lambda s: s.is_bad_number(r'[+-]?\d*\.\d+|[+-]?\d+\.'),
+              lambda s: f'A cell is an integer: keep hundredths, {s.put("int(round(X * 100))")}.'),
+    TableRule('date', lambda s: s.is_bad_number(r'\d{4}-\d\d-\d\d.*|\d+/\d+/\d{4}|\d?\d\.\d?\d\.\d{4}'), lambda s:
+              f'Dates become numbers of days: {s.put(f"strptime(X, {chr(34)}{day_format(s)}{chr(34)}) // {DAY}")}.'),
+    TableRule('time', lambda s: s.is_bad_number(r'\d+:\d\d:\d\d'), lambda s: f'Times become seconds: {s.put("hms2sec(X)")}.'),
     TableRule('thousands', lambda s: s.is_bad_number(r"[+-]?\d{1,3}([,.'_ \u2019]\d{3})+"), lambda s:
-              "A number has digits alone: delete the thousands separators, mlr --csv put '${%s} = gsub(${%s}, \"[^-0-9]\", \"\")'." %
-              (shown(s.name), shown(s.name))),
+              'A number has digits alone: delete the thousands separators, {}.'.format(s.put('gsub(string(X), "[^-0-9]", "")'))),
     TableRule('decimal comma', lambda s: s.is_bad_number(r'[+-]?\d+,\d+'), lambda s:
-              "A cell is an integer: write the comma as a point and keep hundredths, mlr --csv put "
-              "'${%s} = int(round(float(sub(${%s}, \",\", \".\")) * 100))'." % (shown(s.name), shown(s.name))),
-    TableRule('exponent', lambda s: s.is_bad_number(r'[+-]?\d+(\.\d+)?e[+-]?\d+'), lambda s:
-              "A number has digits alone, without an exponent: mlr --csv put '${%s} = fmtnum(int(${%s}), \"%%d\")'." % (shown(s.name), shown(s.name))),
-    TableRule('hexadecimal', lambda s: s.is_bad_number('[+-]?0x[0-9a-f]+'), lambda s:
-              "Numbers are decimal: mlr --csv put '${%s} = fmtnum(${%s}, \"%%d\")'." % (shown(s.name), shown(s.name))),
-    TableRule('too large', lambda s: s.is_bad_number(r'[+-]?\d+'),
-              'A number has 64 bits, from -9223372036854775808 to 9223372036854775807: keep it in a larger unit, or cut the column away.'),
-    TableRule('date', lambda s: s.is_bad_number(r'\d{4}-\d\d-\d\d.*'), lambda s:
-              "Dates become numbers of days: mlr --csv put '${%s} = strptime(${%s}, \"%%Y-%%m-%%d\") // 86400'." % (shown(s.name), shown(s.name))),
-    TableRule('time', lambda s: s.is_bad_number(r'\d+:\d\d(:\d\d)?.*|\d+[./]\d+[./]\d+.*'), lambda s:
-              "Dates and times become numbers: mlr --csv put '${%s} = strptime(${%s}, FORMAT)', or sec2gmt's opposite, hms2sec." % (shown(s.name), shown(s.name))),
+              'A cell is an integer: write the comma as a point and keep hundredths, {}.'.format(
+                  s.put('int(round(float(sub(string(X), ",", ".")) * 100))'))),
+    TableRule('exponent', lambda s: s.is_bad_number(r'[+-]?\d+(\.\d+)?e[+-]?\d+'),
+              lambda s: f'A number has digits alone, without an exponent: {s.put("fmtnum(int(X), {0}%d{0})".format(chr(34)))}.'),
+    TableRule('hexadecimal', lambda s: s.is_bad_number('[+-]?0x[0-9a-f]+'),
+              lambda s: f'Numbers are decimal: {s.put("fmtnum(X, {0}%d{0})".format(chr(34)))}.'),
+    TableRule('too large', lambda s: s.is_bad_number(r'[+-]?\d+'), lambda s:
+              'A number has 64 bits, from -9223372036854775808 to 9223372036854775807: keep it in a larger unit, or cut the column '
+              f"away by `mlr --csv cut -x -f '{s.name}' FILE`."),
     TableRule('boolean', lambda s: s.is_bad_number('true|false|yes|no'), lambda s:
-              "Booleans become 1 and 0: mlr --csv put '${%s} = ${%s} == \"%s\" ? 1 : 0'." % (shown(s.name), shown(s.name), s.cell.strip())),
-    TableRule('unit', lambda s: s.is_bad_number(r'[^\d\s+-]{0,3}\s*[+-]?\d+([.,]\d+)?\s*[^\d\s]{0,3}'), lambda s:
-              "A number stands without a unit: mlr --csv put '${%s} = gsub(${%s}, \"[^-0-9]\", \"\")'." % (shown(s.name), shown(s.name))),
-    TableRule('single quotes', lambda s: s.is_bad_number("'.*'"), "A cell stands in double quotes, or in none: delete the single ones, by tr -d \"'\"."),
-    TableRule('text', lambda s: True, text_hint),
+              f'Booleans become 1 and 0: {s.put(f"X == {chr(34)}{s.cell.strip()}{chr(34)} ? 1 : 0")}.'),
+    TableRule('single quotes', lambda s: s.is_bad_number("'.*'"), "A cell stands in double quotes, or in none: delete the single ones, `tr -d \"'\" < FILE`."),
+    TableRule('unit', lambda s: s.is_bad_number(r'[^\d\s+-]{0,3}\s*[+-]?\d+\s*[^\d\s]{0,3}'), lambda s:
+              'A number stands without a unit: {}.'.format(s.put('gsub(string(X), "[^-0-9]", "")'))),
+    TableRule('text', lambda s: True, lambda s: 'A cell is a 64-bit integer and no text: put codes in place of the texts, or cut the column '
+              f"away by `mlr --csv cut -x -f '{s.name}' FILE`."),
 ]
+TABLE_RULES = [*FILES, *ROWS, *CELLS]
 
 
 def table_hint(site: TableSite) -> str:
     """The hint of the first rule that applies."""
-    rule = next(it for it in [*FILES, *ROWS, *CELLS] if it.applies(site))
+    rule = next(it for it in TABLE_RULES if it.applies(site))
     return rule.sentence if isinstance(rule.sentence, str) else rule.sentence(site)
