@@ -3,7 +3,7 @@
     explain_jobs(jobs, columns)     an Explanation, or None if both are accepted
 
     str(explanation)                the place with a caret, and a hint
-    explanation.json()              the same as an object for editors
+    explanation.json()              an object for editors
 """
 from __future__ import annotations
 
@@ -28,7 +28,7 @@ RULES = {
     Cause.SYNTAX: [*BYTES, *NUMBERS, *STRUCTURE, *PARTS, *ENDS],
     Cause.EXPRESSION_SYNTAX: [*NUMBERS, *WORD_RULES, *HEADS, *STREAM_RULES, *EXPRESSIONS],
     Cause.UNKNOWN_NAME: NAMES, Cause.WRONG_TYPE: TYPES, Cause.OPERATOR_NOT_LISTED: LISTED,
-    **{cause: [rule] for cause, rule in OTHERS.items()},
+    **OTHERS,
 }
 # Where no rule of a cause applies.
 ANY = Rule('what is wanted', lambda site: True, lambda site: f'Here {site.wanted.value} is wanted.')
@@ -77,6 +77,11 @@ def width_of(char: str) -> int:
     return 0 if unicodedata.combining(char) else 2 if unicodedata.east_asian_width(char) in 'WF' else 1
 
 
+def visible_form(char: str) -> str:
+    """A character as a terminal shows it in one place."""
+    return char if char.isprintable() else ' ' if char == '\t' else '\N{REPLACEMENT CHARACTER}'
+
+
 def with_caret(text: bytes, column: int) -> List[str]:
     """A line, or the part of a long one, and below it a caret under a column."""
     before = text[:column - 1].decode('utf-8', 'replace')
@@ -85,7 +90,7 @@ def with_caret(text: bytes, column: int) -> List[str]:
     before = left + before[-BEFORE:] if left else before
     right = '..' if len(after) > MOST_SHOWN - len(before) else ''
     after = after[:MOST_SHOWN - len(before)] + right
-    visible = ''.join(char if char.isprintable() else ' ' if char == '\t' else '\N{REPLACEMENT CHARACTER}' for char in before + after)
+    visible = ''.join(map(visible_form, before + after))
     return [MARGIN + visible, MARGIN + ' ' * sum(map(width_of, visible[:len(before)])) + '^']
 
 
@@ -121,7 +126,7 @@ def explain_job(data: bytes, refused: RefusedFile, earlier: Dict[str, Job], colu
 
 
 def lines_or_none(data: bytes) -> Lines:
-    """The lines of a file; if the first one continues no job, those of an empty file."""
+    """The lines of a file, or of an empty file if the first one continues no job."""
     try:
         return read_lines(data)
     except RefusedFile:
@@ -136,7 +141,8 @@ def explain_table(data: bytes, file: str) -> Tuple[Optional[Dict[str, List[int]]
         place = place_of(data, refused)
         site = TableSite(data, refused, place)
         cell = Cell(refused.row, site.name, site.cell) if refused.row and refused.column else None
-        return None, Explanation(file, place.line, place.column, str(refused), table_hint(site), place.text.encode('latin-1'), cell)
+        text = place.text.encode('latin-1')
+        return None, Explanation(file, place.line, place.column, str(refused), table_hint(site), text, cell)
 
 
 def explain_jobs(jobs: bytes, columns: Optional[bytes] = None, jobs_file: str = 'JOBS',

@@ -1,6 +1,6 @@
 """Expressions of lambdas, as the grammar gives them: their operands, their types, and their text in Python.
 
-`at` is the place of a node in the job's text: that of its operator, or of its first token.
+`at` is the place of a node in the job's text: its operator, or its first token.
 """
 from __future__ import annotations
 

@@ -58,7 +58,7 @@ class Operation:
 
 @dataclass
 class Job:
-    """A job that is accepted. `on_fault` is the integer in place of a fault, or None."""
+    """A job that is accepted. `on_fault` is the integer that replaces a fault, or None."""
 
     name: str
     sources: List[Union[Range, Values, Column, Result]]

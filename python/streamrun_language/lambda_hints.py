@@ -61,7 +61,7 @@ def head_hint(site: Site) -> str:
     """What to write for a lambda that doesn't begin with a parameter and an arrow."""
     words = [token.text for token in site.tokens[site.index - 1:site.index + 3]]
     if '::' in words:
-        return f'A method stands by its name in reduce and prefix alone: write x -> {site.argument().replace("::", ".")}(x).'
+        return f'Methods stand by their names in reduce and prefix: write x -> {site.argument().replace("::", ".")}(x).'
     if site.word() in ('=', ':') and site.word(1) in ('>', '') or site.word() == '=':
         return 'The arrow of a lambda is written ->: x -> x * 2.'
     if site.word(-1) == 'lambda' or site.word() == ':':
@@ -101,8 +101,9 @@ def pair_hint(site: Site) -> str:
 
 HEADS = [
     Rule('operator', lambda s: s.wanted is Wanted.PAIR, pair_hint),
-    Rule('two parameters', lambda s: s.wanted is Wanted.PARAMETER and s.inside() in ('reduce', 'prefix', '(', ',') and s.word() != ')'
-         and s.word(-1) in (',', 'long') and s.kind() is Kind.NAME, 'An operator has two different parameters, with long before both or none.'),
+    Rule('two parameters', lambda s: s.wanted is Wanted.PARAMETER and s.inside() in ('reduce', 'prefix', '(', ',')
+             and s.word() != ')' and s.word(-1) in (',', 'long') and s.kind() is Kind.NAME,
+         'An operator has two different parameters, with long before both or none.'),
     Rule('types of parameters', lambda s: s.wanted is Wanted.COMMA and s.word(-2) == '(' and s.kind() is Kind.NAME,
          'All numbers are long: write (a, b) -> or (long a, long b) ->.'),
     Rule('parameter', has_parentheses, parameter_hint),
@@ -111,13 +112,15 @@ HEADS = [
 
 STREAM_RULES = [
     Rule('stages of an inner stream', lambda s: s.wanted is Wanted.STREAM_END and s.word() == '.',
-         'An inner stream has no stages: put them after the flatMap, where an item is an inner value, or reckon its operands before.'),
+         'An inner stream has no stages: put them after the flatMap, where an item is an inner value, or calculate '
+         'its operands before.'),
     Rule('after an inner stream', lambda s: s.wanted is Wanted.STREAM_END,
-         'Nothing stands after an inner stream: filter items before the flatMap, and reckon with them after it.'),
+         'Nothing stands after an inner stream: filter items before the flatMap, and calculate after it.'),
     Rule('concat in a lambda', lambda s: s.wanted is Wanted.STREAM and s.word() in ('concat', 'column', 'result'),
          lambda s: f'An inner stream is no {s.word()}: of(x, x + 1) lists values, and range(0, x) counts.'),
     Rule('inner stream', lambda s: s.wanted is Wanted.STREAM,
-         'flatMap takes an inner stream, such as of(x, -x) or range(0, x): for one number of each item there is map.'),
+         'flatMap takes an inner stream, such as of(x, -x) or range(0, x): for one number of each item there is '
+         'map.'),
 ]
 
 EXPRESSIONS = [
@@ -127,26 +130,37 @@ EXPRESSIONS = [
     Rule('unequal', lambda s: s.word(-1) + s.word() == '<>', 'Unequal is written !=.'),
     Rule('equality', lambda s: s.word() == '=' or s.word(-1) == '=', 'Equality is written ==.'),
     Rule('power', lambda s: s.word() == '*' and s.word(-1) == '*', 'There is no power: write x * x.'),
-    Rule('floor division', lambda s: s.word() == '/' and s.word(-1) == '/', lambda s:
-         f'A quotient is x / {s.word(1)}, and Math.floorDiv(x, {s.word(1)}) is the one that is rounded down.'),
+    Rule('floor division', lambda s: s.word() == '/' and s.word(-1) == '/',
+         lambda s: f'A quotient is x / {s.word(1)}, and Math.floorDiv(x, {s.word(1)}) is the one that is rounded '
+                   'down.'),
     Rule('cast', is_cast, 'There are no casts: all numbers are 64-bit integers, so leave it out.'),
     Rule('method of a value', lambda s: s.word() == '.' and s.wanted is not Wanted.MEMBER, method_hint),
-    Rule('method without class', lambda s: s.word() == '(' and s.kind(-1) is Kind.NAME and s.wanted is not Wanted.OPEN, call_hint),
-    Rule('method as a value', lambda s: s.wanted is Wanted.METHOD_OPEN, lambda s: 'There are no fractions, so no {}.'.format(
-        s.word(-1)) if s.word(-1) in ('PI', 'E') else f'A method has operands: write Math.{s.word(-1)}(x).'),
-    Rule('class', lambda s: s.wanted is Wanted.MEMBER, 'A class stands with a method or a constant: Math.abs(x), Long.MAX_VALUE.'),
+    Rule('method without class', lambda s: s.word() == '(' and s.kind(-1) is Kind.NAME
+             and s.wanted is not Wanted.OPEN,
+         call_hint),
+    Rule('method as a value', lambda s: s.wanted is Wanted.METHOD_OPEN,
+         lambda s: 'There are no fractions, so no {}.'.format(s.word(-1)) if s.word(-1) in ('PI', 'E') else
+                   f'A method has operands: write Math.{s.word(-1)}(x).'),
+    Rule('class', lambda s: s.wanted is Wanted.MEMBER,
+         'A class stands with a method or a constant: Math.abs(x), Long.MAX_VALUE.'),
     Rule('text in a lambda', lambda s: s.kind() is Kind.STRING,
          'Lambdas know integers and booleans: make a column of codes of a text before, and compare with the code.'),
-    Rule('reserved word', lambda s: s.word() in RESERVED, lambda s: f'`{s.word()}` has another meaning: name the parameter otherwise, such as x.'),
-    Rule('lambda in a lambda', lambda s: s.word() == '->', 'A lambda has one arrow, and no lambda stands inside another.'),
+    Rule('reserved word', lambda s: s.word() in RESERVED,
+         lambda s: f'`{s.word()}` has another meaning: name the parameter otherwise, such as x.'),
+    Rule('lambda in a lambda', lambda s: s.word() == '->',
+         'A lambda has one arrow, and no lambda stands inside another.'),
     Rule('colon', lambda s: s.wanted is Wanted.COLON, 'A choice has both values: CONDITION ? A : B.'),
-    Rule('operands of a method', lambda s: s.wanted is Wanted.OPERAND and s.word() == ')' and s.kind(-2) is Kind.NAME and
-         s.word(-1) == '(', lambda s: f'A method has operands: write {s.word(-2)}(x).'),
-    Rule('missing operand', lambda s: s.wanted is Wanted.OPERAND and s.word() == ')' and s.word(-1) in {*OPERATES, '->', ','},
-         lambda s: f'Something is missing after {s.word(-1)}: a number, the parameter or an expression in parentheses.'),
+    Rule('operands of a method', lambda s: s.wanted is Wanted.OPERAND and s.word() == ')' and s.kind(-2) is Kind.NAME
+             and s.word(-1) == '(',
+         lambda s: f'A method has operands: write {s.word(-2)}(x).'),
+    Rule('missing operand', lambda s: s.wanted is Wanted.OPERAND and s.word() == ')' and s.word(-1) in {*OPERATES,
+             '->', ','},
+         lambda s: f'Something is missing after {s.word(-1)}: a number, the parameter or an expression in '
+                   'parentheses.'),
     Rule('second operator', lambda s: s.wanted is Wanted.OPERAND and s.word() in OPERATES,
          lambda s: f'Something is missing between {s.word(-1)} and {s.word()}: a number or the parameter.'),
-    Rule('comma in parentheses', lambda s: s.word() == ',', 'A comma stands between operands of a method alone: Math.max(x, 0).'),
+    Rule('comma in parentheses', lambda s: s.word() == ',',
+         'A comma stands between operands of a method alone: Math.max(x, 0).'),
     Rule('missing operator', lambda s: s.wanted in (Wanted.OPERATOR_OR_END, Wanted.OPERATOR_OR_CLOSE),
          lambda s: f'An operator is missing before {s.word()}, such as + or *.'),
 ]

@@ -26,8 +26,8 @@ class JobText:
         self.text += b' ' + line
 
     def position(self, at: int) -> Tuple[int, int]:
-        """The line and the column, from 1 and in bytes, of a place of the text; that of a joining space is the end of
-        the line before it."""
+        """The line and the column of a place of the text, from 1 and in bytes. A joining space stands at the end of the
+        line before it."""
         start, number = [it for it in self.starts if it[0] <= at][-1]
         return number, at - start + 1
 

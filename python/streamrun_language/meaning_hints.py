@@ -9,13 +9,13 @@ from .jobs import MOST_BYTES, MOST_JOBS, MOST_NAME, MOST_SOURCES, MOST_STAGES, M
 from .lambdas import MOST_INNER_VALUES, Lambda, Want
 from .operators import EXACT, METHODS, OPERATORS
 from .refusals import Cause
-from .site import Rule, Site, listed, nearest
-from .tokens import Kind
-from .values import BINARY, CALLS, CONSTANTS, MAX, MIN, Fault
+from .site import Rule, Sentence, Site, listed, nearest
+from .values import CALLS, CONSTANTS, MAX, MIN, Fault
 
 RELATIONS = ('<', '<=', '>', '>=', '==', '!=')
 SAMPLES = (MIN, -7, -1, 0, 1, 5, 12, 2 ** 40, MAX)
-OPERATIONS_OF_CONDITIONS = {'&': '&&', '|': '||'}
+OF_CONDITIONS = {'&': '&&', '|': '||'}
+FOLDING = ('+', '*', '&', '|', '^')
 
 
 def text_at(site: Site, node: e.Node) -> str:
@@ -41,12 +41,12 @@ def name_hint(site: Site) -> str:
     if name.lower() in ('true', 'false'):
         return f'Booleans are written true and false: {name.lower()}.'
     if name in (site.columns or ()):
-        return f'A lambda has the items of its own source: make one column of it and {name} before, by mlr put or another tool.'
+        return f'A lambda has the items of its own source: make one column of it and {name} before, such as by mlr put.'
     if name.upper() in ('MAX_VALUE', 'MIN_VALUE', 'INT_MAX', 'LONG_MAX'):
         return 'The constants are Long.MAX_VALUE and Long.MIN_VALUE.'
     if name.lower() in ('null', 'none', 'nil', 'nan'):
         return 'Every value is an integer: leave items out by a filter.'
-    return f'The lambda knows its parameter alone: write {parameter} for {name}, or ${name} for the number of a job above.'
+    return f'A lambda knows its parameter: write {parameter} for {name}, or ${name} for the number of a job above.'
 
 
 def call_hint(site: Site) -> str:
@@ -107,26 +107,32 @@ def equality_hint(site: Site) -> str:
 
 TYPES = [
     Rule('bits of conditions', lambda s: is_binary(s, '&', '|') and 'boolean' in types(s),
-         lambda s: f'Between conditions write {OPERATIONS_OF_CONDITIONS[s.about.name]}.'),
+         lambda s: f'Between conditions write {OF_CONDITIONS[s.about.name]}.'),
     Rule('either of conditions', lambda s: is_binary(s, '^') and 'boolean' in types(s),
          'Between conditions write c ? !d : d, which is true if just one of them is.'),
     Rule('compared conditions', lambda s: is_binary(s, '==', '!=') and 'boolean' in types(s), equality_hint),
     Rule('chain', lambda s: is_binary(s, *RELATIONS) and types(s)[0] == 'boolean',
          'A comparison has two sides: write 1 < x && x < 9 for 1 < x < 9.'),
-    Rule('side that is no condition', lambda s: is_binary(s, '&&', '||') and 'long' in types(s), lambda s:
-         f'Each side of {s.about.name} is a condition: write x == 1 || x == 2 for x == 1 || 2.'),
-    Rule('numbers of conditions', lambda s: isinstance(s.about, e.Applied) and not is_binary(s, '&&', '||') and 'boolean' in types(s),
+    Rule('side that is no condition', lambda s: is_binary(s, '&&', '||') and 'long' in types(s),
+         lambda s: f'Each side of {s.about.name} is a condition: write x == 1 || x == 2 for x == 1 || 2.'),
+    Rule('numbers of conditions', lambda s: isinstance(s.about, e.Applied) and not is_binary(s, '&&', '||') and
+             'boolean' in types(s),
          'A condition is no number: write (c ? 1 : 0).'),
     Rule('not of a number', lambda s: isinstance(s.about, e.Unary) and s.about.name == '!',
          '! stands before a condition: write !(x > 3) with parentheses, and x == 0 for a number.'),
     Rule('condition of a choice', lambda s: isinstance(s.about, e.Choice) and types(s)[0] == 'long',
          'A choice begins with a condition: write x != 0 ? A : B.'),
-    Rule('values of a choice', lambda s: isinstance(s.about, e.Choice), 'Both values of a choice are numbers, or both are conditions.'),
-    Rule('number of operands', lambda s: isinstance(s.about, e.Call), lambda s:
-         f'{s.about.name} takes {CALLS[s.about.name].count} operand(s): {s.about.name}({", ".join("xy"[:CALLS[s.about.name].count])}).'),
-    Rule('values of an inner stream', lambda s: isinstance(s.about, e.Stream), 'The values of an inner stream are numbers: write (c ? 1 : 0).'),
-    Rule('condition wanted', lambda s: s.about is Want.BOOLEAN, 'A condition is wanted, such as x -> x % 2 == 0 or x -> x != 0.'),
-    Rule('number wanted', lambda s: s.about is Want.LONG, 'map wants a number: write .filter(..) to keep items, or c ? 1 : 0.'),
+    Rule('values of a choice', lambda s: isinstance(s.about, e.Choice),
+         'Both values of a choice are numbers, or both are conditions.'),
+    Rule('number of operands', lambda s: isinstance(s.about, e.Call),
+         lambda s: f'{s.about.name} takes {CALLS[s.about.name].count} operand(s): '
+                   f'{s.about.name}({", ".join("xy"[:CALLS[s.about.name].count])}).'),
+    Rule('values of an inner stream', lambda s: isinstance(s.about, e.Stream),
+         'The values of an inner stream are numbers: write (c ? 1 : 0).'),
+    Rule('condition wanted', lambda s: s.about is Want.BOOLEAN,
+         'A condition is wanted, such as x -> x % 2 == 0 or x -> x != 0.'),
+    Rule('number wanted', lambda s: s.about is Want.LONG,
+         'map wants a number: write .filter(..) to keep items, or c ? 1 : 0.'),
     Rule('operator of numbers', lambda s: s.about is Want.PAIR, 'An operator gives a number: (a, b) -> a + b.'),
 ]
 
@@ -153,12 +159,12 @@ def lambda_hint(site: Site) -> str:
     name, (first, second) = like_listed(read), read.parameters
     body = e.without_groups(read.body)
     if name:
-        return f'The value is that of `{name}`, which has its own spelling: write {name}.'
+        return f'This is `{name}` in another spelling: write {name}.'
     if isinstance(body, e.Binary) and body.name == '-':
         return f'A difference depends on the order of its parts: .map(x -> -x) turns the signs, and sum adds.'
-    if isinstance(body, e.Binary) and body.name in ('+', '*', '&', '|', '^') and body.operands[0] == e.Name(body.operands[0].at, first):
-        return f'Reckon with each item in .map({second} -> ..) before, and write {first} {body.name} {second} here.'
-    return f'The operators are {listed(OPERATORS)}: reckon with single items in a map before.'
+    if isinstance(body, e.Binary) and body.name in FOLDING and getattr(body.operands[0], 'text', '') == first:
+        return f'Calculate with each item in .map({second} -> ..) before, and write {first} {body.name} {second} here.'
+    return f'The operators are {listed(OPERATORS)}: calculate with single items in a map before.'
 
 
 def word_hint(site: Site) -> str:
@@ -174,7 +180,8 @@ def word_hint(site: Site) -> str:
 
 
 LISTED = [
-    Rule('exact sum', lambda s: s.about is EXACT, 'Math::addExact stands in reduce(0, Math::addExact) alone: write the 0, or sum.'),
+    Rule('exact sum', lambda s: s.about is EXACT,
+         'Math::addExact stands in reduce(0, Math::addExact) alone: write the 0, or sum.'),
     Rule('unlisted lambda', lambda s: isinstance(s.about, Lambda), lambda_hint),
     Rule('unlisted name', lambda s: s.about is None, word_hint),
 ]
@@ -231,22 +238,29 @@ def identity_hint(site: Site) -> str:
             f'take concat(of({number}), SOURCE) for the source.')
 
 
-OTHERS: Dict[Cause, Rule] = {
-    Cause.SAME_NAME: Rule('same name', lambda s: True, lambda s: f'Line {line_of_job(s, s.about)} has a job of that name: rename one of them.'),
-    Cause.UNKNOWN_COLUMN: Rule('unknown column', lambda s: True, column_hint),
-    Cause.UNKNOWN_JOB: Rule('unknown job', lambda s: True, job_hint),
-    Cause.NOT_A_NUMBER: Rule('not a number', lambda s: True, lambda s: (
-        f'That job gives an array, which is a source: result({s.about.name}).' if s.about.terminal.name == 'toArray' else
-        'That job gives a boolean: end it with .filter(..).count() for a number.')),
-    Cause.NOT_AN_ARRAY: Rule('not an array', lambda s: True, lambda s:
-                             f'result takes a job that ends in toArray(): the number of this one is ${s.about} in a lambda.'),
-    Cause.LITERAL_TOO_LARGE: Rule('too large', lambda s: True, f'Numbers go from {MIN} to {MAX}: keep the values in a larger unit.'),
-    Cause.NEGATIVE_COUNT: Rule('negative count', lambda s: True, lambda s: f'{s.about.name} takes 0 or more: delete the minus.'),
-    Cause.BAD_RANGE: Rule('bad range', lambda s: True, lambda s: 'The positions of prefix are from and to, 0 or more, and to is not '
-                          f'below from: prefix({max(0, min(s.about))}, {max(0, *s.about)}, ..).'),
-    Cause.TOO_DEEP: Rule('too deep', lambda s: True, depth_hint),
-    Cause.TOO_LONG: Rule('too long', lambda s: True, length_hint),
-    Cause.NOT_IDENTITY: Rule('not identity', lambda s: True, identity_hint),
-    Cause.NO_IDENTITY: Rule('no identity', lambda s: True, lambda s: f'{s.about.name} has no identity: leave the number out, reduce({s.about.name}).'),
-    Cause.NOT_SCALAR: Rule('not scalar', lambda s: True, lambda s: f'.{s.about.name}(..) gives no number: leave onFault out.'),
+def scalar_hint(site: Site) -> str:
+    """What to write for a job that gives no number."""
+    if site.about.terminal.name == 'toArray':
+        return f'That job gives an array, which is a source: result({site.about.name}).'
+    return 'That job gives a boolean: end it with .filter(..).count() for a number.'
+
+
+def range_hint(site: Site) -> str:
+    """What to write for positions that are no range."""
+    start, end = max(0, min(site.about)), max(0, *site.about)
+    return f'The positions of prefix are from and to, 0 or more, and to is not below from: prefix({start}, {end}, ..).'
+
+
+# The sentence of each cause that has one alone.
+SENTENCES: Dict[Cause, Sentence] = {
+    Cause.SAME_NAME: lambda s: f'Line {line_of_job(s, s.about)} has a job of that name: rename one of them.',
+    Cause.UNKNOWN_COLUMN: column_hint, Cause.UNKNOWN_JOB: job_hint, Cause.NOT_A_NUMBER: scalar_hint,
+    Cause.NOT_AN_ARRAY: lambda s:
+        f'result takes a job that ends in toArray(): the number of this one is ${s.about} in a lambda.',
+    Cause.LITERAL_TOO_LARGE: f'Numbers go from {MIN} to {MAX}: keep the values in a larger unit.',
+    Cause.NEGATIVE_COUNT: lambda s: f'{s.about.name} takes 0 or more: delete the minus.',
+    Cause.BAD_RANGE: range_hint, Cause.TOO_DEEP: depth_hint, Cause.TOO_LONG: length_hint, Cause.NOT_IDENTITY: identity_hint,
+    Cause.NO_IDENTITY: lambda s: f'{s.about.name} has no identity: leave the number out, reduce({s.about.name}).',
+    Cause.NOT_SCALAR: lambda s: f'.{s.about.name}(..) gives no number: leave onFault out.',
 }
+OTHERS = {cause: [Rule(cause.value, lambda s: True, sentence)] for cause, sentence in SENTENCES.items()}

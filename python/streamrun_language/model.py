@@ -1,6 +1,6 @@
 """What streamrun has to write: answers of jobs, and reports.
 
-    outcome(jobs, columns, form)     the bytes of standard output, those of standard error, and the status
+    outcome(jobs, columns, form)     the bytes of standard output and of standard error, and the status
 
 Nothing of it is taken from the program: it is slow, has no pieces, batches or threads, and so can't share a mistake with
 them.
@@ -109,7 +109,7 @@ def answer_over(job: Job, source: Selection, numbers: Dict[str, int]) -> Answer:
 
 
 def answer_after(job: Job, columns: Dict[str, List[int]], answers: Dict[str, Answer]) -> Answer:
-    """The answer of a job after those of the jobs above it."""
+    """The answer of a job; answers: of the jobs above it."""
     named = {name: answers[name] for name in job.names()}
     missing = [name for name, answer in named.items() if answer.is_missing()]
     if missing:

@@ -117,6 +117,6 @@ def nearest(word: str, known: Sequence[str]) -> Optional[str]:
 
 
 def listed(names: Iterable[str], most: int = 12) -> str:
-    """Names in a row, with points in place of those beyond so many."""
+    """Names in a row, with points at the end if there are more."""
     names = list(names)
     return ', '.join(names[:most]) + (', ..' if len(names) > most else '')

@@ -44,7 +44,8 @@ class Numeral:
 
 @dataclass
 class Source:
-    """A source: the bytes from start to end. `word` is the name of a column, or of a job; `parts` those of a `concat`."""
+    """A source: the bytes from start to end. `word` is the name of a column or of a job; `parts` are the sources of a
+    `concat`."""
 
     name: str
     start: int

@@ -11,7 +11,9 @@ from .tables import Place
 UNPACKED_BY = {b'\x1f\x8b': 'zcat', b'BZh': 'bzcat', b'\xfd7zXZ': 'xzcat', b'\x28\xb5\x2f\xfd': 'zstdcat'}
 SEPARATORS = {';': 'semicolon', '\t': 'tab', '|': 'pipe'}
 MISSING = ('na', 'n/a', 'nan', 'null', 'none', 'nil', '-', '.', '?', '#n/a', '\\n')
-DAY = 86400
+# Values of a column in the language of mlr put, X being the cell.
+DIGITS, DECIMAL = 'gsub(string(X), "[^-0-9]", "")', 'fmtnum(int(X), "%d")'
+HUNDREDTHS, DAY = 'int(round(float(sub(string(X), ",", ".")) * 100))', 86400
 
 
 @dataclass
@@ -35,7 +37,8 @@ class TableSite:
 
     def is_bad_number(self, pattern: str) -> bool:
         """Whether a cell of this form is no number."""
-        return self.refused.cause is TableCause.BAD_NUMBER and re.fullmatch(pattern, self.cell.strip(), re.S | re.I) is not None
+        matched = re.fullmatch(pattern, self.cell.strip(), re.S | re.I)
+        return self.refused.cause is TableCause.BAD_NUMBER and matched is not None
 
     def put(self, value: str) -> str:
         """The command that writes a value into the column; X stands in it for the cell."""
@@ -85,61 +88,71 @@ def day_format(site: TableSite) -> str:
 
 
 FILES = [
-    TableRule('compressed', unpacked_by, lambda s: f'The file is compressed: name <({unpacked_by(s)} FILE) in its place.'),
+    TableRule('compressed', unpacked_by,
+              lambda s: f'The file is compressed: name <({unpacked_by(s)} FILE) in its place.'),
     TableRule('workbook', lambda s: s.data.startswith((b'PK\x03\x04', b'\xd0\xcf\x11\xe0')),
               'This is a workbook or an archive: save the sheet as CSV.'),
     TableRule('parquet', lambda s: s.data.startswith(b'PAR1'), 'This is a Parquet file: save its columns as CSV.'),
     TableRule('UTF-16', is_utf_16, 'The file is UTF-16: convert it by `iconv -f UTF-16 -t UTF-8 FILE`.'),
-    TableRule('JSON', lambda s: s.data.lstrip()[:1] in (b'{', b'['), 'This is JSON: convert it by mlr --ijson --ocsv cat.'),
-    TableRule('separator', lambda s: s.separator(), lambda s:
-              f'Cells are parted by commas, and here by the sign {SEPARATORS[s.separator()]}: '
-              f'`mlr --icsv --ifs {SEPARATORS[s.separator()]} --ocsv cat FILE`.'),
+    TableRule('JSON', lambda s: s.data.lstrip()[:1] in (b'{', b'['),
+              'This is JSON: convert it by mlr --ijson --ocsv cat.'),
+    TableRule('separator', lambda s: s.separator(),
+              lambda s: f'Cells are parted by commas, and here by the sign {SEPARATORS[s.separator()]}: '
+                        f'`mlr --icsv --ifs {SEPARATORS[s.separator()]} --ocsv cat FILE`.'),
     TableRule('no header', lambda s: s.refused.cause is TableCause.NO_HEADER,
               'The file is empty: its first line has the names of the columns, with commas between them.'),
-    TableRule('too many columns', lambda s: s.refused.cause is TableCause.TOO_MANY, lambda s:
-              f"Keep the columns that jobs name, such as `mlr --csv cut -f '{shown(s.place.header[0])}' FILE`."),
-    TableRule('names that are numbers', lambda s: s.refused.cause is TableCause.SAME_NAME and re.fullmatch(r'\s*-?[\d.]+\s*', s.cell),
+    TableRule('too many columns', lambda s: s.refused.cause is TableCause.TOO_MANY,
+              lambda s: f"Keep the columns that jobs name, such as `mlr --csv cut -f '{shown(s.place.header[0])}' "
+                        "FILE`."),
+    TableRule('names that are numbers', lambda s: s.refused.cause is TableCause.SAME_NAME
+                  and re.fullmatch(r'\s*-?[\d.]+\s*', s.cell),
               'The first line has the names of the columns: put a line of names before the numbers.'),
     TableRule('same name', lambda s: s.refused.cause is TableCause.SAME_NAME,
               lambda s: f'Two columns are called "{s.name}": rename one of them in the first line.'),
 ]
 
 ROWS = [
-    TableRule('comment line', lambda s: s.place.text.startswith(('#', '//')), 'A table has no comments: delete them by `grep -v "^#" FILE`.'),
+    TableRule('comment line', lambda s: s.place.text.startswith(('#', '//')),
+              'A table has no comments: delete them by `grep -v "^#" FILE`.'),
     TableRule('open quote', lambda s: any('\n' in it or '\r' in it for it in s.place.cells),
               'A double quote begins a cell that goes on over lines: close it, or delete it.'),
     TableRule('length', lambda s: s.refused.cause is TableCause.WRONG_LENGTH, length_hint),
 ]
 
 CELLS = [
-    TableRule('empty cell', lambda s: s.is_bad_number(''), 'Each cell has a number: `mlr --csv fill-empty -v 0 FILE` writes 0 into the empty ones.'),
-    TableRule('missing value', lambda s: s.cell.strip().lower() in MISSING, lambda s:
-              f'Each cell has a number, so write 0 or another one: {s.put(f"X == {chr(34)}{s.cell.strip()}{chr(34)} ? 0 : X")}.'),
-    TableRule('no-break space', lambda s: '\u00a0' in s.cell, 'The cell has a no-break space: delete them by `sed "s/\\xc2\\xa0//g" FILE`.'),
+    TableRule('empty cell', lambda s: s.is_bad_number(''),
+              'Each cell has a number: `mlr --csv fill-empty -v 0 FILE` writes 0 into the empty ones.'),
+    TableRule('missing value', lambda s: s.cell.strip().lower() in MISSING,
+              lambda s: 'Each cell has a number, so write 0 or another one: {}.'.format(
+                  s.put(f'X == "{s.cell.strip()}" ? 0 : X'))),
+    TableRule('no-break space', lambda s: '\u00a0' in s.cell,
+              'The cell has a no-break space: delete them by `sed "s/\\xc2\\xa0//g" FILE`.'),
     TableRule('decimals', lambda s: s.is_bad_number(r'[+-]?\d*\.\d+|[+-]?\d+\.'),
               lambda s: f'A cell is an integer: keep hundredths, {s.put("int(round(X * 100))")}.'),
-    TableRule('date', lambda s: s.is_bad_number(r'\d{4}-\d\d-\d\d.*|\d+/\d+/\d{4}|\d?\d\.\d?\d\.\d{4}'), lambda s:
-              f'Dates become numbers of days: {s.put(f"strptime(X, {chr(34)}{day_format(s)}{chr(34)}) // {DAY}")}.'),
-    TableRule('time', lambda s: s.is_bad_number(r'\d+:\d\d:\d\d'), lambda s: f'Times become seconds: {s.put("hms2sec(X)")}.'),
-    TableRule('thousands', lambda s: s.is_bad_number(r"[+-]?\d{1,3}([,.'_ \u2019]\d{3})+"), lambda s:
-              'A number has digits alone: delete the thousands separators, {}.'.format(s.put('gsub(string(X), "[^-0-9]", "")'))),
-    TableRule('decimal comma', lambda s: s.is_bad_number(r'[+-]?\d+,\d+'), lambda s:
-              'A cell is an integer: write the comma as a point and keep hundredths, {}.'.format(
-                  s.put('int(round(float(sub(string(X), ",", ".")) * 100))'))),
+    TableRule('date', lambda s: s.is_bad_number(r'\d{4}-\d\d-\d\d.*|\d+/\d+/\d{4}|\d?\d\.\d?\d\.\d{4}'),
+              lambda s: f"""Dates become numbers of days: {s.put(f'strptime(X, "{day_format(s)}") // {DAY}')}."""),
+    TableRule('time', lambda s: s.is_bad_number(r'\d+:\d\d:\d\d'),
+              lambda s: f'Times become seconds: {s.put("hms2sec(X)")}.'),
+    TableRule('thousands', lambda s: s.is_bad_number(r"[+-]?\d{1,3}([,.'_ \u2019]\d{3})+"),
+              lambda s: f'A number has digits alone: delete the thousands separators, {s.put(DIGITS)}.'),
+    TableRule('decimal comma', lambda s: s.is_bad_number(r'[+-]?\d+,\d+'),
+              lambda s: f'A cell is an integer: write the comma as a point and keep hundredths, {s.put(HUNDREDTHS)}.'),
     TableRule('exponent', lambda s: s.is_bad_number(r'[+-]?\d+(\.\d+)?e[+-]?\d+'),
-              lambda s: f'A number has digits alone, without an exponent: {s.put("fmtnum(int(X), {0}%d{0})".format(chr(34)))}.'),
+              lambda s: f'A number has digits alone, without an exponent: {s.put(DECIMAL)}.'),
     TableRule('hexadecimal', lambda s: s.is_bad_number('[+-]?0x[0-9a-f]+'),
-              lambda s: f'Numbers are decimal: {s.put("fmtnum(X, {0}%d{0})".format(chr(34)))}.'),
-    TableRule('too large', lambda s: s.is_bad_number(r'[+-]?\d+'), lambda s:
-              'A number has 64 bits, from -9223372036854775808 to 9223372036854775807: keep it in a larger unit, or cut the column '
-              f"away by `mlr --csv cut -x -f '{s.name}' FILE`."),
-    TableRule('boolean', lambda s: s.is_bad_number('true|false|yes|no'), lambda s:
-              f'Booleans become 1 and 0: {s.put(f"X == {chr(34)}{s.cell.strip()}{chr(34)} ? 1 : 0")}.'),
-    TableRule('single quotes', lambda s: s.is_bad_number("'.*'"), "A cell stands in double quotes, or in none: delete the single ones, `tr -d \"'\" < FILE`."),
-    TableRule('unit', lambda s: s.is_bad_number(r'[^\d\s+-]{0,3}\s*[+-]?\d+\s*[^\d\s]{0,3}'), lambda s:
-              'A number stands without a unit: {}.'.format(s.put('gsub(string(X), "[^-0-9]", "")'))),
-    TableRule('text', lambda s: True, lambda s: 'A cell is a 64-bit integer and no text: put codes in place of the texts, or cut the column '
-              f"away by `mlr --csv cut -x -f '{s.name}' FILE`."),
+              lambda s: f'Numbers are decimal: {s.put(DECIMAL)}.'),
+    TableRule('too large', lambda s: s.is_bad_number(r'[+-]?\d+'),
+              lambda s: 'A number has 64 bits, from -9223372036854775808 to 9223372036854775807: keep it in a larger '
+                        f"unit, or cut the column away by `mlr --csv cut -x -f '{s.name}' FILE`."),
+    TableRule('boolean', lambda s: s.is_bad_number('true|false|yes|no'),
+              lambda s: f"""Booleans become 1 and 0: {s.put(f'X == "{s.cell.strip()}" ? 1 : 0')}."""),
+    TableRule('single quotes', lambda s: s.is_bad_number("'.*'"),
+              "A cell stands in double quotes, or in none: delete the single ones, `tr -d \"'\" < FILE`."),
+    TableRule('unit', lambda s: s.is_bad_number(r'[^\d\s+-]{0,3}\s*[+-]?\d+\s*[^\d\s]{0,3}'),
+              lambda s: f'A number has no unit: {s.put(DIGITS)}.'),
+    TableRule('text', lambda s: True,
+              lambda s: 'A cell is a 64-bit integer and no text: replace the texts by codes, or cut the column '
+                        f"away by `mlr --csv cut -x -f '{s.name}' FILE`."),
 ]
 TABLE_RULES = [*FILES, *ROWS, *CELLS]
 

@@ -61,11 +61,12 @@ def unsigned_shift(a: int, count: int) -> int:
 
 
 # What the text of a lambda in Python may call.
-FUNCTIONS = {it.__name__: it for it in (wrap, divide, remainder, floor_divide, floor_mod, exact, inner_range, unsigned_shift)}
+FUNCTIONS = {it.__name__: it for it in
+             (wrap, divide, remainder, floor_divide, floor_mod, exact, inner_range, unsigned_shift)}
 
 
 class Form(NamedTuple):
-    """An operator or a method: the type of its operands, that of its value, and the value as Python writes it."""
+    """An operator or a method: the types of its operands and of its value, and the value as Python writes it."""
 
     takes: str
     gives: str

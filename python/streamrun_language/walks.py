@@ -123,7 +123,7 @@ def prefix_items(items: Items, stage: int, numbers: List[int], operator: Callabl
 
 
 def parts_of(job: Job, columns: Dict[str, List[int]], arrays: Dict[str, List[int]]) -> Iterator[Sequence[int]]:
-    """The values of a job's sources; arrays: those of the jobs above that this one names."""
+    """The values of a job's sources; arrays: of the jobs above that this one names."""
     for source in job.sources:
         if isinstance(source, Range):
             yield range(source.start, source.end)
@@ -134,7 +134,7 @@ def parts_of(job: Job, columns: Dict[str, List[int]], arrays: Dict[str, List[int
 
 
 def walk(job: Job, source: Selection, numbers: Dict[str, int]) -> Items:
-    """The items that come out of the last stage; numbers: those of the jobs above that this one names."""
+    """The items that come out of the last stage; numbers: of the jobs above that this one names."""
     items = None
     for stage, operation in enumerate(job.stages, 1):
         name, given = operation.name, operation.numbers

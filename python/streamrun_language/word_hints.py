@@ -7,8 +7,8 @@ from fractions import Fraction
 from .site import Rule, Site
 from .tokens import Kind, has_zeros
 
-QUOTES = tuple(it.encode() for it in '\u2018\u2019\u201a\u201c\u201d\u201e\u00ab\u00bb') + (b'\x91', b'\x92', b'\x93', b'\x94')
-SPACES = tuple(it.encode() for it in '\u00a0\u2000\u2001\u2002\u2003\u2004\u2005\u2006\u2007\u2008\u2009\u200a\u200b\u202f\u3000')
+QUOTES = (*(it.encode() for it in '\u2018\u2019\u201a\u201c\u201d\u201e\u00ab\u00bb'), b'\x91', b'\x92', b'\x93', b'\x94')
+SPACES = tuple(chr(it).encode() for it in (0xa0, *range(0x2000, 0x200c), 0x202f, 0x3000))
 SIGNS = {'\u00d7': '*', '\u00b7': '*', '\u00f7': '/', '\u2212': '-', '\u2013': '-', '\u2014': '-', '\u2264': '<=',
          '\u2265': '>=', '\u2260': '!=', '\u2192': '->', '\u21d2': '->', '\u2227': '&&', '\u2228': '||', '\u00ac': '!'}
 WORDS = {'and': '&&', 'or': '||', 'not': '!', 'mod': '%', 'div': '/', 'is': '==', 'eq': '==', 'ne': '!=', 'xor': '^'}
@@ -39,7 +39,7 @@ def decimal(site: Site) -> str:
 
 
 def fraction_hint(site: Site) -> str:
-    """What to write in place of a decimal fraction."""
+    """What to write for a decimal fraction."""
     value = Fraction(decimal(site))
     return (f'Numbers are integers: {decimal(site)} is {value.numerator} / {value.denominator}, so multiply by '
             f'{value.numerator} and then divide by {value.denominator}, or keep the values in a smaller unit, such as cents.')
@@ -50,8 +50,9 @@ BYTES = [
          'The file is UTF-16: save it as UTF-8, or convert it by iconv -f UTF-16 -t UTF-8.'),
     Rule('compressed', lambda s: s.job.text.startswith(b'\x1f\x8b'),
          'The file is compressed by gzip: unpack it, or name <(zcat FILE) in its place.'),
-    Rule('single quotes', lambda s: s.rest.startswith(b"'"), lambda s:
-         'A text stands in double quotes: "{}".'.format(s.rest[1:].split(b"'")[0].decode('utf-8', 'replace'))),
+    Rule('single quotes', lambda s: s.rest.startswith(b"'"),
+         lambda s: 'A text stands in double quotes: "{}".'.format(s.rest[1:].split(b"'")[0].decode('utf-8',
+                   'replace'))),
     Rule('typographic quotes', lambda s: s.rest.startswith(QUOTES),
          'This is a typographic quote: write the plain double quote of the keyboard, ".'),
     Rule('open quote', lambda s: s.rest.startswith(b'"') and s.kind() is Kind.BAD,
@@ -61,17 +62,20 @@ BYTES = [
     Rule('comment after a job', lambda s: s.rest.startswith((b'#', b'//')),
          'A comment has a line of its own, which begins with # or //.'),
     Rule('second mark', lambda s: s.rest.startswith(b'\xef\xbb\xbf'), 'Delete the byte order mark that stands here.'),
-    Rule('no-break space', lambda s: s.rest.startswith(SPACES), 'This is not the plain space: delete it and type a space.'),
+    Rule('no-break space', lambda s: s.rest.startswith(SPACES),
+         'This is not the plain space: delete it and type a space.'),
     Rule('sign', sign_at, lambda s: f'`{sign_at(s)}` is no sign of the language: write {SIGNS[sign_at(s)]}.'),
     Rule('braces', lambda s: s.word() in ('{', '}'),
          'A lambda is one expression, without braces and return: x -> x * 2.'),
     Rule('brackets', lambda s: s.word() in ('[', ']'), 'There are no brackets: of(1, 2, 3) lists values.'),
-    Rule('backslash', lambda s: s.word() == '\\', 'A job goes on in a line that begins with a point, without a backslash.'),
+    Rule('backslash', lambda s: s.word() == '\\',
+         'A job goes on in a line that begins with a point, without a backslash.'),
     Rule('lone dollar', lambda s: s.word() == '$', '`$` stands directly before the name of a job: $total.'),
     Rule('carriage return', lambda s: s.word() == '\r', 'Lines end with LF or CR LF: write a line feed here.'),
     Rule('other letters', lambda s: s.kind() is Kind.BAD and s.rest[0] > 127,
          'Names have the letters A to Z and a to z, digits and _.'),
-    Rule('increment', lambda s: s.word() in ('++', '--'), lambda s: f'There is no {s.word()}: write x {s.word()[0]} 1.'),
+    Rule('increment', lambda s: s.word() in ('++', '--'),
+         lambda s: f'There is no {s.word()}: write x {s.word()[0]} 1.'),
     Rule('leading zero', lambda s: s.token() and has_zeros(s.token()),
          lambda s: f'A number doesn\'t begin with 0: write {int(s.word().rstrip("Ll"))}.'),
     Rule('bad byte', lambda s: s.kind() is Kind.BAD, lambda s: f'No job has a place for `{s.word()}`: delete it.'),

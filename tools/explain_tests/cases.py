@@ -15,6 +15,7 @@ TOP = os.path.join(os.path.dirname(os.path.realpath(__file__)), '..', '..')
 TOOL = os.path.join(TOP, 'tools', 'explain')
 MARK = mistakes.MARK.encode()
 BYTE_ORDER_MARK = b'\xef\xbb\xbf'
+MEANT = 'There is no .zum(): did you mean .sum?'
 KEYS = ['file', 'line', 'column', 'cause', 'hint', 'text']
 # A command of a hint that makes an accepted table of one that is refused, and the program that it wants.
 CURE = re.compile(r'`((mlr|iconv|sed|grep|tr) [^`]*)`')
@@ -67,7 +68,7 @@ def wrong_mistakes(rows=None):
 
 
 def wrong_tables():
-    """The same of tables."""
+    """What is wrong with the explanations of tables that are written by hand."""
     for text, cell, words in tables.ROWS:
         data, line, column = unmarked(text)
         found = explain.explain_jobs(b'', data)
@@ -80,7 +81,7 @@ def wrong_tables():
 
 
 def wrong_files():
-    """The same of files that are no text."""
+    """What is wrong with the explanations of files that are no text."""
     for data, words, is_table in [*((*it, False) for it in mistakes.FILES), *((*it, True) for it in tables.FILES)]:
         found = explain.explain_jobs(b'', data) if is_table else explain.explain_jobs(data)
         if not found or not all(word in found.hint for word in words):
@@ -102,11 +103,11 @@ def wrong_cures():
 
 
 def wrong_refusals(cases):
-    """Refusals and acceptances that differ from those that were worked out by hand: (jobs, columns, form, (out, err, status))."""
+    """Refusals that differ from what was worked out by hand, the cases being (jobs, columns, form, (out, err, status))."""
     for jobs, columns, _, (_, err, status) in cases:
         found = explain.explain_jobs(jobs.encode(), columns)
         if (f'streamrun: {found.cause}\n' if found else '') != err or bool(found) != bool(status):
-            yield f'{jobs[:100]!r}: {found and found.cause} in place of {err}'
+            yield f'{jobs[:100]!r}: {found and found.cause}, wanted {err}'
 
 
 def wrong_place(data, columns):
@@ -134,9 +135,10 @@ def wrong_commands():
             with open(path, 'w', encoding='utf-8') as file:
                 file.write(text)
             return path
-        good, bad, table = write('good.jobs', 'a = of(1).sum()\n'), write('bad.jobs', 'a = of(1)\n .zum()\n'), write('t.csv', 'a\nx\n')
-        shown = f'streamrun: jobs: line 1: syntax\n\n{bad}, line 2, column 3:\n     .zum()\n      ^\nThere is no .zum(): did you mean .sum?\n'
-        cell = (f'streamrun: columns: bad number in row 1 column 1\n\n{table}, line 2, column 1, row 1 of "a":\n    x\n    ^\n')
+        good, bad = write('good.jobs', 'a = of(1).sum()\n'), write('bad.jobs', 'a = of(1)\n .zum()\n')
+        table = write('t.csv', 'a\nx\n')
+        shown = f'streamrun: jobs: line 1: syntax\n\n{bad}, line 2, column 3:\n     .zum()\n      ^\n{MEANT}\n'
+        cell = f'streamrun: columns: bad number in row 1 column 1\n\n{table}, line 2, column 1, row 1 of "a":\n    x\n    ^\n'
         for arguments, wanted in [
                 ([good], ('accepted\n', '', 0)), ([good, '--json'], ('{}\n', '', 0)), ([bad], (shown, '', 1)),
                 (['nowhere'], ('', 'streamrun: cannot open jobs\n', 4)), ([folder], ('', 'streamrun: jobs: read failed\n', 4)),
@@ -147,7 +149,7 @@ def wrong_commands():
         if not run(bad, '--columns', table)[0].startswith(cell) or run()[2] != 2:
             yield f'{run(bad, "--columns", table)}'
         first, second = (json.loads(run(*it, '--json')[0]) for it in ([bad], [bad, '--columns', table]))
-        if list(first) != KEYS or list(first.values())[:4] != [bad, 2, 3, 'jobs: line 1: syntax'] or first['text'] != ' .zum()':
+        if list(first) != KEYS or list(first.values()) != [bad, 2, 3, 'jobs: line 1: syntax', MEANT, ' .zum()']:
             yield f'{first}'
         if list(second) != [*KEYS, 'row', 'name', 'cell'] or list(second.values())[6:] != [1, 'a', 'x']:
             yield f'{second}'
@@ -160,13 +162,14 @@ def wrong_editors(bad):
         pattern = json.load(file)['pattern']
     matched = re.search(pattern['regexp'], run(bad, '--json')[0])
     got = matched and tuple(matched[pattern[it]] for it in ('file', 'line', 'column', 'message'))
-    if got != (bad, '2', '3', 'There is no .zum(): did you mean .sum?'):
+    if got != (bad, '2', '3', MEANT):
         yield f'problem matcher: {got}'
     if shutil.which('vim'):
-        command = ['vim', '-Nu', 'NONE', '-es', '-c', f'set runtimepath+={os.path.join(TOP, "editors", "vim")}', '-c', 'compiler streamrun', '-c', 'silent make', '-c', 'redir! > ' + bad + '.list', '-c', 'clist',
-                   '-c', 'redir END', '-c', 'qall!', bad]
-        subprocess.run(command, capture_output=True, check=False)
+        steps = [f'set runtimepath+={os.path.join(TOP, "editors", "vim")}', 'compiler streamrun', 'silent make',
+                 f'redir! > {bad}.list', 'clist', 'redir END', 'qall!']
+        words = [word for step in steps for word in ('-c', step)]
+        subprocess.run(['vim', '-Nu', 'NONE', '-es', *words, bad], capture_output=True, check=False)
         with open(bad + '.list', encoding='utf-8') as file:
             listed = file.read()
-        if '2 col 3' not in listed or 'There is no .zum(): did you mean .sum?' not in listed:
+        if '2 col 3' not in listed or MEANT not in listed:
             yield f'vim: {listed!r}'

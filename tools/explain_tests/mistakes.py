@@ -70,7 +70,7 @@ BEGINS = [
     ('x\u00a6\n= range(0, 10).sum()', ['line of the name', 'begins with a point']),
     ('\u00a6; x = of(1).sum()', ['NAME = SOURCE']),
     ('a = of(5).sum()\nb = \u00a6$a * 2', ['b = of(0).map(x -> $a * 2).sum()']),
-    ('a = of(5).sum()\nb = of(7).sum()\npermille = \u00a6$a * 1000 / $b', ['permille = of(0).map(x -> $a * 1000 / $b).sum()']),
+    ('a = of(5).sum()\nb = of(7).sum()\nc = \u00a6$a * 1000 / $b', ['c = of(0).map(x -> $a * 1000 / $b).sum()']),
     ('a = of(5).sum()\nb = \u00a61000 * $a', ['b = of(0).map(x -> 1000 * $a).sum()']),
     ('x = \u00a6"qty".sum()', ['column("qty")']),
     ('x = \u00a6qty.sum()', ['column("qty")']),
@@ -212,7 +212,7 @@ LAMBDAS = [
     ('x = of(1).map(x -> \u00a6:: 2).sum()', ['Here a number']),
     ('x = of(1).map(x -> x \u00a62).sum()', ['operator is missing before 2']),
     # The second lambda of a job on four lines.
-    ('# three lambdas\nx = range(0, 9)\n  .map(x -> x * 2)\n  .filter(x -> x \u00a6mod 3 == 0)\n  .map(x -> x + 1).sum()', ['%']),
+    ('# 3\nx = range(0, 9)\n  .map(x -> x * 2)\n  .filter(x -> x \u00a6mod 3 == 0)\n  .map(x -> x + 1).sum()', ['%']),
 ]
 
 # Names, types and operators.

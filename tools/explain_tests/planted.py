@@ -8,7 +8,8 @@ from streamrun_language import explain, lines, site, table_hints, tables
 
 from . import cases
 
-true_caret, true_position, true_place, true_rule = explain.with_caret, lines.JobText.position, tables.place_of, explain.rule_of
+true_caret, true_position, true_place = explain.with_caret, lines.JobText.position, tables.place_of
+true_rule, true_columns = explain.rule_of, explain.read_columns
 
 
 def one_to_the_left(text, column):
@@ -43,7 +44,7 @@ MISTAKES = [
     ('lines that end with LF alone', tables, 'LINE_END', tables.re.compile('\n')),
     ('no line below', explain, 'line_below', lambda data, number: b''),
     ('no word that is near', site.difflib, 'get_close_matches', lambda *_: []),
-    ('a table without columns', explain, 'read_columns', lambda data, true=explain.read_columns: dict.fromkeys(list(true(data))[:1], [])),
+    ('a table of one column', explain, 'read_columns', lambda data: dict(list(true_columns(data).items())[:1])),
 ]
 
 
