@@ -19,7 +19,7 @@ from .lines import BLANKS, Lines, lines_of, read_lines
 from .meaning_hints import LISTED, NAMES, OTHERS, TYPES
 from .refusals import Cause, RefusedFile, RefusedTable
 from .site import Rule, Site
-from .table_hints import TableSite, table_hint
+from .table_hints import TableSite, on_one_line, table_hint
 from .tables import place_of, read_columns
 from .word_hints import BYTES, NUMBERS, WORD_RULES
 
@@ -67,7 +67,7 @@ class Explanation:
 
     def __str__(self):
         """The explanation for a reader."""
-        cell = f', row {self.cell.row} of "{self.cell.name}"' if self.cell else ''
+        cell = f', row {self.cell.row} of "{on_one_line(self.cell.name)}"' if self.cell else ''
         place = f'{self.file}, line {self.line}, column {self.column}{cell}:'
         return '\n'.join([place, *with_caret(self.text, self.column), self.hint])
 

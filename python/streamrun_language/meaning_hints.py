@@ -221,7 +221,8 @@ def length_hint(site: Site) -> str:
             'name': f'A name has at most {MOST_NAME} bytes: shorten it.',
             'of': f'of has at most {MOST_VALUES} values: put them into a table, and name it by --columns.',
             'concat': f'concat has at most {MOST_SOURCES} sources: join them in two jobs with toArray().',
-            'stages': f'A job has at most {MOST_STAGES} stages: go on in a job below, with toArray() and result(NAME).'}[site.about]
+            'stages': f'A job has at most {MOST_STAGES} stages: end it with toArray(), and go on with result(NAME).',
+            }[site.about]
 
 
 def depth_hint(site: Site) -> str:

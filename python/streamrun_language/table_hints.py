@@ -10,6 +10,7 @@ from .tables import Place
 
 UNPACKED_BY = {b'\x1f\x8b': 'zcat', b'BZh': 'bzcat', b'\xfd7zXZ': 'xzcat', b'\x28\xb5\x2f\xfd': 'zstdcat'}
 SEPARATORS = {';': 'semicolon', '\t': 'tab', '|': 'pipe'}
+MOST_OF_A_NAME = 60
 MISSING = ('na', 'n/a', 'nan', 'null', 'none', 'nil', '-', '.', '?', '#n/a', '\\n')
 # Values of a column in the language of mlr put, X being the cell.
 DIGITS, DECIMAL = 'gsub(string(X), "[^-0-9]", "")', 'fmtnum(int(X), "%d")'
@@ -29,6 +30,11 @@ class TableSite:
         cells, header = self.place.cells, self.place.header
         self.cell = shown(cells[at]) if at < len(cells) else ''
         self.name = shown(header[at]) if at < len(header) else ''
+        self.shown_name = on_one_line(self.name)
+
+    def first_name(self) -> str:
+        """The name of the first column."""
+        return on_one_line(shown(self.place.header[0]))
 
     def separator(self) -> str:
         """The sign that parts the cells, if it isn't the comma."""
@@ -42,7 +48,7 @@ class TableSite:
 
     def put(self, value: str) -> str:
         """The command that writes a value into the column; X stands in it for the cell."""
-        field = '${%s}' % self.name
+        field = '${%s}' % self.shown_name
         return f"`mlr --csv put '{field} = {value.replace('X', field)}' FILE`"
 
 
@@ -57,6 +63,12 @@ class TableRule(NamedTuple):
 def shown(text: str) -> str:
     """A text of a table, which has a character for each byte, as a reader sees it."""
     return text.encode('latin-1').decode('utf-8', 'replace')
+
+
+def on_one_line(text: str) -> str:
+    """A text without line ends, cut after some characters."""
+    line = ' '.join(text.splitlines())
+    return line if len(line) <= MOST_OF_A_NAME else line[:MOST_OF_A_NAME] + '..'
 
 
 def unpacked_by(site: TableSite) -> str:
@@ -102,13 +114,12 @@ FILES = [
     TableRule('no header', lambda s: s.refused.cause is TableCause.NO_HEADER,
               'The file is empty: its first line has the names of the columns, with commas between them.'),
     TableRule('too many columns', lambda s: s.refused.cause is TableCause.TOO_MANY,
-              lambda s: f"Keep the columns that jobs name, such as `mlr --csv cut -f '{shown(s.place.header[0])}' "
-                        "FILE`."),
+              lambda s: f"Keep the columns that jobs name, such as `mlr --csv cut -f '{s.first_name()}' FILE`."),
     TableRule('names that are numbers', lambda s: s.refused.cause is TableCause.SAME_NAME
                   and re.fullmatch(r'\s*-?[\d.]+\s*', s.cell),
               'The first line has the names of the columns: put a line of names before the numbers.'),
     TableRule('same name', lambda s: s.refused.cause is TableCause.SAME_NAME,
-              lambda s: f'Two columns are called "{s.name}": rename one of them in the first line.'),
+              lambda s: f'Two columns are called "{s.shown_name}": rename one of them in the first line.'),
 ]
 
 ROWS = [
@@ -143,7 +154,7 @@ CELLS = [
               lambda s: f'Numbers are decimal: {s.put(DECIMAL)}.'),
     TableRule('too large', lambda s: s.is_bad_number(r'[+-]?\d+'),
               lambda s: 'A number has 64 bits, from -9223372036854775808 to 9223372036854775807: keep it in a larger '
-                        f"unit, or cut the column away by `mlr --csv cut -x -f '{s.name}' FILE`."),
+                        f"unit, or cut the column away by `mlr --csv cut -x -f '{s.shown_name}' FILE`."),
     TableRule('boolean', lambda s: s.is_bad_number('true|false|yes|no'),
               lambda s: f"""Booleans become 1 and 0: {s.put(f'X == "{s.cell.strip()}" ? 1 : 0')}."""),
     TableRule('single quotes', lambda s: s.is_bad_number("'.*'"),
@@ -152,7 +163,7 @@ CELLS = [
               lambda s: f'A number has no unit: {s.put(DIGITS)}.'),
     TableRule('text', lambda s: True,
               lambda s: 'A cell is a 64-bit integer and no text: replace the texts by codes, or cut the column '
-                        f"away by `mlr --csv cut -x -f '{s.name}' FILE`."),
+                        f"away by `mlr --csv cut -x -f '{s.shown_name}' FILE`."),
 ]
 TABLE_RULES = [*FILES, *ROWS, *CELLS]
 

@@ -89,11 +89,12 @@ def wrong_files():
 
 
 def wrong_cures():
-    """Tables that are refused after the command of their hint, too. Miller takes LF and CR LF alone for ends of lines."""
+    """Tables that are refused after the command of their hint, too. Miller ends no lines by CR, and a command has no name of
+    two lines."""
     samples = [unmarked(text)[0] for text, _, _ in tables.ROWS] + [data for data, _ in tables.FILES]
     for data in samples:
         found = CURE.search(explain.explain_jobs(b'', data).hint)
-        if found and shutil.which(found[2]) and b'\r' not in data:
+        if found and shutil.which(found[2]) and b'\r' not in data and not data.startswith(b'"'):
             with tempfile.NamedTemporaryFile() as file:
                 file.write(data)
                 file.flush()

@@ -52,6 +52,7 @@ ROWS = [
     ('id,qty\r1,2\r3,\u00a6x\r', (2, 'qty', 'x'), ["cut -x -f 'qty'"]),
     ('id,qty\r\n\r\n1,2\r\n"3",\u00a6x\r\n', (2, 'qty', 'x'), ["cut -x -f 'qty'"]),
     ('"i\nd",qty\n1,2\n3,\u00a6x\n', (2, 'qty', 'x'), ["cut -x -f 'qty'"]),
+    ('"i\nd",qty\n\u00a6x,2\n', (1, 'i\nd', 'x'), ["cut -x -f 'i d'"]),
 ]
 # Files that are no text: the place is not looked at.
 FILES = [
