@@ -147,7 +147,7 @@ def words(top):
 def words_of_sources(top):
     """For each source of a crate, each script and each example the words in it, and in its path."""
     found = {}
-    for pattern in ('crates/*/*/**/*.*', 'scripts/*', 'tools/**/*', 'examples/**/*', 'reference/**/*', 'bench/soak/*', '.ci/*', '*.txt'):
+    for pattern in ('crates/*/*/**/*.*', 'scripts/*', 'tools/**/*', 'examples/**/*', 'reference/**/*', 'bench/soak/*', 'python/**/*', '.ci/*', '*.txt'):
         for path in glob.glob(os.path.join(top, pattern), recursive=True):
             name = os.path.relpath(path, top)
             # scripts/planted has the words that must not be found.

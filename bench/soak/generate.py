@@ -6,11 +6,14 @@ The same arguments give the same files. kinds are keys of KINDS; most is about h
 doesn't end early. Lengths, numbers and places are mostly those at which something changes: the ends of batches, pieces and
 sources, the least and greatest integers, the numbers around a power of two.
 """
+import os
 import random
+import sys
 
-from jobs import OPERATORS
-from lambdas import MAX, MIN
-from random_lambdas import NUMBERS, LambdaWriter
+sys.path.insert(0, os.path.join(os.path.dirname(os.path.realpath(__file__)), '..', '..', 'python'))
+from streamrun_language.operators import OPERATORS  # noqa: E402
+from streamrun_language.values import MAX, MIN  # noqa: E402
+from random_lambdas import NUMBERS, LambdaWriter  # noqa: E402
 
 LENGTHS = sorted({*range(10), 31, 33, 62, 100, 3000, 10000, 100000,
                   *(near + by for near in (64, 128, 256, 512, 1000, 1024, 2000, 2048, 3072, 4096, 8192, 2 ** 16, 2 ** 20, 2 ** 21)

@@ -1,6 +1,10 @@
-"""Limits under which a run of the soak may stand: little memory, few processes, a small stack, few files, pipes that close."""
+"""Limits under which a run of the soak may stand: little memory, few processes, a small stack, few files, pipes that close;
+and the time that the model may take."""
 import os
 import resource
+import signal
+
+from streamrun_language.model import outcome
 
 NOBODY = 65534
 KB, MB = 2 ** 10, 2 ** 20
@@ -41,6 +45,26 @@ def files(_):
 # Whether a run may end with 'out of memory' stands beside each.
 LIMITS = {'memory': (memory, True), 'processes': (processes, False), 'stack': (stack, False), 'files': (files, False),
           'pipes': (None, False), 'none': (None, False)}
+
+
+class TimeUp(Exception):
+    """The model took too long."""
+
+
+def time_up(*_):
+    raise TimeUp
+
+
+def outcome_in_time(seconds, *arguments):
+    """The model's outcome, or None if it takes longer."""
+    signal.signal(signal.SIGALRM, time_up)
+    signal.setitimer(signal.ITIMER_REAL, seconds)
+    try:
+        return outcome(*arguments)
+    except TimeUp:
+        return None
+    finally:
+        signal.setitimer(signal.ITIMER_REAL, 0)
 
 
 def can_be_run_by_others(program, folder):

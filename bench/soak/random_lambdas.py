@@ -1,5 +1,5 @@
 """Random expressions over x: of integers and of booleans, of every operator, call and constant."""
-from lambdas import BINDS, MAX, MIN
+from streamrun_language.values import BINDS, MAX, MIN
 
 NUMBERS = [0, 1, -1, 2, -2, 3, 5, 7, -7, 8, 10, 16, 31, 32, 33, 62, 63, 64, 65, 100, 127, 255, 1000, 1023, 1024, 2 ** 31 - 1,
            2 ** 31, 2 ** 32 - 1, 2 ** 32, 2 ** 32 + 1, 3037000500, 2 ** 62, -2 ** 62, MAX, MIN, MAX - 1, MIN + 1]

@@ -1,4 +1,4 @@
-"""Expressions of lambdas: how they are spelled in a job file and in Java, what they give, and random ones.
+"""Expressions of lambdas: how they are spelled in a job file and in Java, and random ones.
 
 An expression is a tuple: ('item',), ('number', n), ('constant', NAME), ('truth', b), ('unary', OP, e), ('binary', OP, l, r),
 ('call', NAME, e ..) or ('choice', c, p, q).
@@ -10,76 +10,6 @@ LEVELS = {"||": 2, "&&": 3, "|": 4, "^": 5, "&": 6, "==": 7, "!=": 7, "<": 8, "<
 ONE_CALLS = ["Math.abs", "Math.negateExact"]
 TWO_CALLS = ["Math.min", "Math.max", "Long.min", "Long.max", "Long.sum", "Math.floorDiv", "Math.floorMod",
              "Math.addExact", "Math.subtractExact", "Math.multiplyExact"]
-
-
-class Fault(Exception):
-    """A value that isn't there: its kind, and the stage and the place of the item once they are known."""
-
-    def __init__(self, kind, stage=None, place=None):
-        super().__init__(kind)
-        self.kind, self.stage, self.place = kind, stage, place
-
-
-def wrapped(number):
-    """The number in 64 bits, with a sign."""
-    return (number + 2 ** 63) % 2 ** 64 - 2 ** 63
-
-
-def exact(number):
-    if not MIN <= number <= MAX:
-        raise Fault("overflow")
-    return number
-
-
-def divided(left, right):
-    """The quotient rounded toward zero."""
-    if right == 0:
-        raise Fault("divide-by-zero")
-    quotient = abs(left) // abs(right)
-    return wrapped(quotient if (left < 0) == (right < 0) else -quotient)
-
-
-def floored(left, right):
-    if right == 0:
-        raise Fault("divide-by-zero")
-    return wrapped(left // right)
-
-
-OPERATORS = {
-    "|": lambda a, b: a | b, "^": lambda a, b: a ^ b, "&": lambda a, b: a & b,
-    "==": lambda a, b: a == b, "!=": lambda a, b: a != b,
-    "<": lambda a, b: a < b, "<=": lambda a, b: a <= b, ">": lambda a, b: a > b, ">=": lambda a, b: a >= b,
-    "<<": lambda a, b: wrapped(a << (b & 63)), ">>": lambda a, b: a >> (b & 63),
-    ">>>": lambda a, b: wrapped((a % 2 ** 64) >> (b & 63)),
-    "+": lambda a, b: wrapped(a + b), "-": lambda a, b: wrapped(a - b), "*": lambda a, b: wrapped(a * b),
-    "/": divided, "%": lambda a, b: wrapped(a - divided(a, b) * b),
-    "Math.abs": lambda a: wrapped(abs(a)), "Math.negateExact": lambda a: exact(-a),
-    "Math.min": min, "Math.max": max, "Long.min": min, "Long.max": max, "Long.sum": lambda a, b: wrapped(a + b),
-    "Math.floorDiv": floored, "Math.floorMod": lambda a, b: wrapped(a - floored(a, b) * b),
-    "Math.addExact": lambda a, b: exact(a + b), "Math.subtractExact": lambda a, b: exact(a - b),
-    "Math.multiplyExact": lambda a, b: exact(a * b),
-}
-
-
-def value(e, item):
-    """What an expression gives for an item. Operands are evaluated from the left, and no more of them than needed."""
-    kind = e[0]
-    if kind == "item":
-        return item
-    if kind in ("number", "truth"):
-        return e[1]
-    if kind == "constant":
-        return MAX if e[1] == "Long.MAX_VALUE" else MIN
-    if kind == "unary":
-        operand = value(e[2], item)
-        return {"-": lambda: wrapped(-operand), "+": lambda: operand, "~": lambda: ~operand, "!": lambda: not operand}[e[1]]()
-    if kind == "choice":
-        return value(e[2] if value(e[1], item) else e[3], item)
-    if kind == "binary" and e[1] == "&&":
-        return value(e[2], item) and value(e[3], item)
-    if kind == "binary" and e[1] == "||":
-        return value(e[2], item) or value(e[3], item)
-    return OPERATORS[e[1]](*[value(operand, item) for operand in e[2:]])
 
 
 def level(e):

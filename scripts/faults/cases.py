@@ -5,7 +5,7 @@ import os
 import sys
 
 TOP = os.path.join(os.path.dirname(os.path.realpath(__file__)), '..', '..')
-sys.path.insert(0, os.path.join(TOP, 'bench', 'soak'))
+sys.path[:0] = [os.path.join(TOP, 'bench', 'soak'), os.path.join(TOP, 'python')]
 import worked  # noqa: E402
 
 # `columns` is None for no column file; `options` are the words that the report asks for.

@@ -3,6 +3,8 @@
 Each rule is a law of the crates, which docs/beyond-one-machine.md names. The walk of the whole is that of the first part,
 then that of the second, and so on, up to the first one that decides or ends in a fault.
 """
+from streamrun_language.operators import OPERATORS
+
 from .reports import Answer, length_of
 
 DECIDING = {'anyMatch': True, 'allMatch': False, 'noneMatch': False}
@@ -10,22 +12,6 @@ DECIDING = {'anyMatch': True, 'allMatch': False, 'noneMatch': False}
 
 class Disagreement(Exception):
     """Reports that can't be those of one job file over the parts of one table."""
-
-
-def wrap(number):
-    """The integer of 64 bits that differs by a multiple of 2^64."""
-    return (number + 2 ** 63) % 2 ** 64 - 2 ** 63
-
-
-def affine(f, g):
-    """Two maps, one after the other: a value of 64 bits is the map from y to a * y + b modulo 2^32."""
-    (a, b), (c, d) = divmod(f % 2 ** 64, 2 ** 32), divmod(g % 2 ** 64, 2 ** 32)
-    return wrap(a * c % 2 ** 32 * 2 ** 32 + (b * c + d) % 2 ** 32)
-
-
-OPERATORS = {'sum': lambda f, g: wrap(f + g), 'product': lambda f, g: wrap(f * g), 'min': min, 'max': max,
-             'and': lambda f, g: f & g, 'or': lambda f, g: f | g, 'xor': lambda f, g: f ^ g, 'affine': affine,
-             'first': lambda f, g: f, 'last': lambda f, g: g}
 
 
 def moved(answer, before):
@@ -66,7 +52,7 @@ def folded(job, values):
         return None
     total = found[0]
     for value in found[1:]:
-        total = OPERATORS[job.operator](total, value)
+        total = OPERATORS[job.operator].function(total, value)
     return total
 
 
@@ -89,5 +75,5 @@ def items_before(job, reports, rows):
     """How many items of its source lie before each part: rows of a column, or values of an array that is cut."""
     if job.sources[0].name == 'column':
         return starts(rows)
-    arrays = [report[job.sources[0].tokens[0].text] for report in reports]
+    arrays = [report[job.sources[0].of] for report in reports]
     return starts(length_of(array.value) if array.kind == 'array' else 0 for array in arrays)

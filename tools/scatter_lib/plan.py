@@ -9,7 +9,8 @@ job of an array that these name runs again, in each part.
 """
 from collections import namedtuple
 
-from .jobs import EXACT
+from streamrun_language.operators import EXACT
+
 from .merging import Disagreement, items_before, merged, same_in_all
 from .reports import Answer
 
@@ -39,14 +40,14 @@ def refusal_of(job, cut_sources, planned):
     if not cut_sources:
         return None
     beside = shown(cut_sources[0].text)
-    if job.concat:
+    if job.is_concat:
         others = [source for source in job.sources if source not in cut_sources]
         what = f' with {shown(others[0].text)}' if others else ''
         return f'concat{what} beside {beside}'
     for stage in job.stages:
         if stage.name not in STAGES_OF_ITEMS:
             return f'{shown(stage.text)} beside {beside}'
-    if job.operator == EXACT:
+    if job.operator == EXACT.name:
         return f'{shown(job.terminal.text)} beside {beside}'
     if job.fallback:
         return f'{shown(job.fallback.text)} beside {beside}'
@@ -55,7 +56,7 @@ def refusal_of(job, cut_sources, planned):
 
 def planned_job(job, planned):
     def is_cut(source):
-        return source.name == 'column' or source.name == 'result' and planned[source.tokens[0].text].is_cut
+        return source.name == 'column' or source.name == 'result' and planned[source.of].is_cut
     cut_sources = [source for source in job.sources if is_cut(source)]
     number = max([1, *(planned[name].round + (form == 'number' and planned[name].is_cut) for name, form in job.names.items())])
     return Planned(job, bool(cut_sources), number, refusal_of(job, cut_sources, planned))

@@ -2,6 +2,8 @@
 worth nothing."""
 from unittest import mock
 
+from streamrun_language import operators
+
 from scatter_lib import merging, plan, running, tables
 
 from . import by_parts
@@ -42,7 +44,7 @@ def at_bytes(cuts):
 MISTAKES = [
     ('parts merged out of order', plan.Plan, 'merge', in_another_order(plan.Plan.merge)),
     ('an item that isn\'t moved', merging, 'moved', lambda answer, before: answer),
-    ('a sum that isn\'t wrapped', merging, 'wrap', lambda number: number),
+    ('a sum that isn\'t wrapped', operators, 'wrap', lambda number: number),
     ('items moved by the values that went in, and not by the array\'s', plan, 'items_before',
      lambda job, found, rows: merging.starts(rows)),
     ('a match that no part decides', merging, 'decides', lambda job, answer: job.kind == 'optional' and true_decides(job, answer)),

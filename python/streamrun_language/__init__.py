@@ -1,0 +1,9 @@
+"""The job language of streamrun in Python: a plain reading of docs/job-language.md.
+
+    tokens, expressions, values, lambdas     lambdas: their grammar, types and values
+    operators                                operators of reduce and prefix
+    lines, syntax, jobs                      job files: lines, the grammar of jobs, the order of refusals
+    tables                                   column files
+    walks, model                             what jobs answer, and reports
+    refusals                                 causes and places of refusals
+"""

@@ -1,0 +1,156 @@
+"""Where and why a job file or a table is refused, for a reader and for editors.
+
+    explain_jobs(jobs, columns)     an Explanation, or None if both are accepted
+
+    str(explanation)                the place with a caret, and a hint
+    explanation.json()              an object for editors
+"""
+from __future__ import annotations
+
+import json
+import unicodedata
+from dataclasses import dataclass
+from typing import Any, Dict, List, Optional, Tuple
+
+from .job_hints import ENDS, PARTS, STRUCTURE
+from .jobs import Job, read_each
+from .lambda_hints import EXPRESSIONS, HEADS, STREAM_RULES
+from .lines import BLANKS, Lines, lines_of, read_lines
+from .meaning_hints import LISTED, NAMES, OTHERS, TYPES
+from .refusals import Cause, RefusedFile, RefusedTable
+from .site import Rule, Site
+from .table_hints import TableSite, on_one_line, table_hint
+from .tables import place_of, read_columns
+from .word_hints import BYTES, NUMBERS, WORD_RULES
+
+# The rules of each cause, the first that applies giving the hint.
+RULES = {
+    Cause.SYNTAX: [*BYTES, *NUMBERS, *STRUCTURE, *PARTS, *ENDS],
+    Cause.EXPRESSION_SYNTAX: [*NUMBERS, *WORD_RULES, *HEADS, *STREAM_RULES, *EXPRESSIONS],
+    Cause.UNKNOWN_NAME: NAMES, Cause.WRONG_TYPE: TYPES, Cause.OPERATOR_NOT_LISTED: LISTED,
+    **OTHERS,
+}
+# Where no rule of a cause applies.
+ANY = Rule('what is wanted', lambda site: True, lambda site: f'Here {site.wanted.value} is wanted.')
+MARGIN, MOST_SHOWN, BEFORE = '    ', 92, 60
+
+
+@dataclass
+class Cell:
+    """The cell at which a table is refused; rows count from 1, without the header."""
+
+    row: int
+    name: str
+    cell: str
+
+
+@dataclass
+class Explanation:
+    """A refusal. cause: the program's line, without `streamrun: `; line, column: the place in the file, from 1, the column
+    in bytes; text: the line of the file."""
+
+    file: str
+    line: int
+    column: int
+    cause: str
+    hint: str
+    text: bytes
+    cell: Optional[Cell] = None
+
+    def json(self) -> str:
+        """The explanation as an object on one line."""
+        found: Dict[str, Any] = {'file': self.file, 'line': self.line, 'column': self.column, 'cause': self.cause,
+                                 'hint': self.hint, 'text': self.text.decode('utf-8', 'replace')}
+        if self.cell:
+            found.update(vars(self.cell))
+        return json.dumps(found, ensure_ascii=False)
+
+    def __str__(self):
+        """The explanation for a reader."""
+        cell = f', row {self.cell.row} of "{on_one_line(self.cell.name)}"' if self.cell else ''
+        place = f'{self.file}, line {self.line}, column {self.column}{cell}:'
+        return '\n'.join([place, *with_caret(self.text, self.column), self.hint])
+
+
+def width_of(char: str) -> int:
+    """How many columns of a terminal a character takes."""
+    return 0 if unicodedata.combining(char) else 2 if unicodedata.east_asian_width(char) in 'WF' else 1
+
+
+def visible_form(char: str) -> str:
+    """A character as a terminal shows it in one place."""
+    return char if char.isprintable() else ' ' if char == '\t' else '\N{REPLACEMENT CHARACTER}'
+
+
+def with_caret(text: bytes, column: int) -> List[str]:
+    """A line, or the part of a long one, and below it a caret under a column."""
+    before = text[:column - 1].decode('utf-8', 'replace')
+    after = text[column - 1:].decode('utf-8', 'replace')
+    left = '' if len(before) <= BEFORE else '..'
+    before = left + before[-BEFORE:] if left else before
+    right = '..' if len(after) > MOST_SHOWN - len(before) else ''
+    after = after[:MOST_SHOWN - len(before)] + right
+    visible = ''.join(map(visible_form, before + after))
+    return [MARGIN + visible, MARGIN + ' ' * sum(map(width_of, visible[:len(before)])) + '^']
+
+
+def line_below(data: bytes, number: int) -> bytes:
+    """The first line after one of this number that isn't skipped, without blanks before it."""
+    lines = (line.lstrip(BLANKS) for line in lines_of(data)[number:])
+    return next((line for line in lines if line and not line.startswith((b'#', b'//'))), b'')
+
+
+def rule_of(site: Site) -> Rule:
+    """The first rule that applies."""
+    return next((rule for rule in RULES[site.refused.cause] if rule.applies(site)), ANY)
+
+
+def explain_job_file(data: bytes, columns: Optional[Dict[str, Any]], file: str) -> Optional[Explanation]:
+    """Why a job file is refused; columns: the names of the table, or None without one."""
+    earlier: Dict[str, Job] = {}
+    try:
+        for job in read_each(data, columns or {}):
+            earlier[job.name] = job
+        return None
+    except RefusedFile as refused:
+        return explain_job(data, refused, earlier, columns, file)
+
+
+def explain_job(data: bytes, refused: RefusedFile, earlier: Dict[str, Job], columns, file: str) -> Explanation:
+    """Why a job is refused, after those above it."""
+    job, cause = refused.job, refused.refused
+    line, column = job.position(cause.at)
+    names = None if columns is None else list(columns)
+    site = Site(job, cause, lines_or_none(data), earlier, names, line_below(data, job.starts[-1][1]))
+    return Explanation(file, line, column, str(refused), rule_of(site).hint(site), lines_of(data)[line - 1])
+
+
+def lines_or_none(data: bytes) -> Lines:
+    """The lines of a file, or of an empty file if the first one continues no job."""
+    try:
+        return read_lines(data)
+    except RefusedFile:
+        return read_lines(b'')
+
+
+def explain_table(data: bytes, file: str) -> Tuple[Optional[Dict[str, List[int]]], Optional[Explanation]]:
+    """The cells of a table, or why it is refused."""
+    try:
+        return read_columns(data), None
+    except RefusedTable as refused:
+        place = place_of(data, refused)
+        site = TableSite(data, refused, place)
+        cell = Cell(refused.row, site.name, site.cell) if refused.row and refused.column else None
+        text = place.text.encode('latin-1')
+        return None, Explanation(file, place.line, place.column, str(refused), table_hint(site), text, cell)
+
+
+def explain_jobs(jobs: bytes, columns: Optional[bytes] = None, jobs_file: str = 'JOBS',
+                 columns_file: str = 'FILE') -> Optional[Explanation]:
+    """Why the program refuses these bytes, the table first, or None if it accepts them; the files are named so."""
+    cells = None
+    if columns is not None:
+        cells, refused = explain_table(columns, columns_file)
+        if refused:
+            return refused
+    return explain_job_file(jobs, cells, jobs_file)
