@@ -3,8 +3,8 @@ import re
 
 COLUMNS = 100
 # What a line of text mustn't begin with, since it would begin something else than text there.
-MARKS = re.compile(r'^(?:[-+*|>]|#+|\d+[.)])$|^(?:\||```)')
-ITEM = re.compile(r'^(\s*)([-*+]|\d+\.) +')
+MARKS = re.compile(r'^(?:[-+*|>]|#+|\d{1,9}[.)])$|^(?:\||```)')
+ITEM = re.compile(r'^(\s*)([-*+]|\d{1,9}\.) +')
 
 
 def words_of(text):
