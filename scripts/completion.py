@@ -96,7 +96,7 @@ def main():
         for line, wanted in LINES + [(f'streamrun {shortest(option, options)}', f'streamrun {option} ') for option in options]:
             shown = bash.completed(line)
             if shown != wanted:
-                print(f'bash completes {line!r} to {shown!r} in place of {wanted!r}')
+                print(f'bash completes {line!r} to {shown!r} and not to {wanted!r}')
                 failed += 1
         bash.end()
     return 1 if failed or not options else 0

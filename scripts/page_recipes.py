@@ -89,7 +89,7 @@ HEADERS = {'sales': ['day', 'article', 'price', 'quantity'], 'sensor': ['second'
 
 
 def write_tables(folder, name, numbers):
-    """The tables of a recipe, in place of those of the gallery."""
+    """The tables of a recipe, over those of the gallery."""
     special = COLUMNS[name](numbers)
     for table, header in HEADERS.items():
         columns = [special.get(column) or list(range(1, ROWS + 1)) for column in header]

@@ -45,7 +45,7 @@ def run(jobs, columns=None, **options):
 
 
 def plain(answer):
-    """An answer with a list in place of an array."""
+    """An answer, an array as a list."""
     return answer.tolist() if hasattr(answer, 'tolist') else answer
 
 
