@@ -21,7 +21,8 @@ except ImportError:
     pyte = None
 
 WIPE = '\r\x1b[K'
-READING = re.compile(r'(?:\r\x1b\[Kstreamrun: \d+ s, reading)+\r\x1b\[K')
+# After the files are read, a line of the one short job may come too.
+READING = re.compile(r'(?:\r\x1b\[Kstreamrun: \d+ s, reading)+(?:\r\x1b\[Kstreamrun: \d+ s, [01]/1 jobs(?:, \d+\.\d %)?)*\r\x1b\[K')
 WALKING = re.compile(r'(?:\r\x1b\[Kstreamrun: \d+ s, (?:reading|\d/3 jobs, \d+\.\d %))+\r\x1b\[K')
 # What a line must fit into, and what it may look like after the longest time that a test could wait for.
 MOST_COLUMNS, WIDTHS = 39, (40, 60, 80)
