@@ -5,10 +5,12 @@ while a quote is open), and after each the lines that it prints. A command runs 
 repository has, with the program on PATH as `streamrun`. It has to end with status 0 and to print just these lines,
 standard error among them. Commands of one page share the folder, so a later one may read what an earlier one wrote.
 Answers in the text are run too, all those of a page as one file over examples/accounts.csv: `JOB` is `ANSWER`, or is a
-number, and `NAME = JOB` gives `NAME = ANSWER`.
+number, and `NAME = JOB` gives `NAME = ANSWER`. The recipes are run over random tables too (page_recipes.py).
 
-A command that names a tool of TOOLS that isn't installed, or a script that runs Java, is skipped, and counted.
+A command that names a tool of TOOLS that isn't installed, a script that runs Java, or a program of Python that imports what
+isn't installed, is skipped, and counted. python3 is one that has pandas, if there is one.
 """
+import functools
 import os
 import re
 import shutil
@@ -16,7 +18,7 @@ import subprocess
 import tempfile
 
 CONSOLE = re.compile(r'^```console\n(.*?)^```$', re.M | re.S)
-TOOLS = ('awk', 'fish', 'gnuplot', 'java', 'jq', 'man', 'mawk', 'python3', 'sqlite3', 'vim', 'zsh')
+TOOLS = ('awk', 'bash', 'datamash', 'fish', 'gnuplot', 'java', 'jq', 'make', 'man', 'mawk', 'mlr', 'python3', 'sqlite3', 'vim', 'zcat', 'zsh')
 SECONDS = 60
 
 
@@ -77,12 +79,31 @@ def wrong_answers(text, top, program):
     return wrong, len(said) - len(wrong)
 
 
-def missing_tools(command):
-    """The tools that a command names and that aren't installed."""
+def missing_tools(command, top='.'):
+    """The tools that a command names, and the modules that its program of Python imports, that aren't installed."""
     named = set(re.findall(r'\b(%s)\b' % '|'.join(TOOLS), command))
     if 'reference/streams/run' in command:
         named.add('java')
-    return sorted(tool for tool in named if not shutil.which(tool))
+    if '<(' in command:
+        named.add('bash')
+    modules = set()
+    for program in re.findall(r'python3 (\S+\.py)\b', command):
+        with open(os.path.join(top, program), encoding='utf-8') as file:
+            modules.update(re.findall(r'^(?:import|from) (\w+)', file.read(), re.M))
+    missing = {tool for tool in named if not shutil.which(tool)}
+    return sorted(missing | {module for module in modules - {'streamrun'} if not imports(page_python(), module)})
+
+
+@functools.lru_cache(maxsize=None)
+def imports(python, module):
+    """Whether a Python has a module."""
+    return subprocess.run([python, '-c', f'import {module}'], stdout=subprocess.DEVNULL, stderr=subprocess.DEVNULL, check=False).returncode == 0
+
+
+def page_python():
+    """The Python that commands of pages run: one that has pandas, if there is one."""
+    found = [python for python in (shutil.which('python3'), '/usr/bin/python3') if python and os.path.exists(python)]
+    return next((python for python in found if imports(python, 'pandas')), found[0])
 
 
 def folder_for(top, work, program):
@@ -94,14 +115,29 @@ def folder_for(top, work, program):
         if not name.startswith('.git'):
             os.symlink(os.path.join(top, name), os.path.join(folder, name))
     os.symlink(program, os.path.join(programs, 'streamrun'))
-    return folder, {**os.environ, 'PATH': programs + os.pathsep + os.environ['PATH'], 'LC_ALL': 'C.UTF-8'}
+    python = os.path.join(programs, 'python3')
+    with open(python, 'w', encoding='utf-8') as file:
+        file.write(f'#!/bin/sh\nexec {page_python()} -B "$@"\n')
+    os.chmod(python, 0o755)
+    return folder, {**os.environ, 'PATH': programs + os.pathsep + os.environ['PATH'], 'PYTHONPATH': os.path.join(top, 'python'),
+                    'LC_ALL': 'C.UTF-8'}
+
+
+def ran(command, folder, environment):
+    """A command that has ended: by bash if it wants that, else by the shell of scripts."""
+    shell = 'bash' if '<(' in command else 'sh'
+    return subprocess.run([shell, '-c', command], cwd=folder, env=environment, stdin=subprocess.DEVNULL,
+                          stdout=subprocess.PIPE, stderr=subprocess.STDOUT, timeout=SECONDS, check=False)
+
+
+def printed_by(command, folder, environment):
+    return ran(command, folder, environment).stdout.decode(errors='replace')
 
 
 def wrong_with(command, printed, folder, environment):
     """What is wrong with a command, or nothing."""
     try:
-        run = subprocess.run(['sh', '-c', command], cwd=folder, env=environment, stdin=subprocess.DEVNULL,
-                             stdout=subprocess.PIPE, stderr=subprocess.STDOUT, timeout=SECONDS, check=False)
+        run = ran(command, folder, environment)
     except subprocess.TimeoutExpired:
         return f'not done after {SECONDS} seconds'
     lines = run.stdout.decode(errors='replace').splitlines()
@@ -115,7 +151,7 @@ def wrong_with(command, printed, folder, environment):
 
 
 def run_pages(top, pages, program):
-    """Runs the commands of the pages, prints a line for each fault, and answers the status."""
+    """Runs the commands of the pages, prints a line for each fault, and answers how many passed and failed."""
     passed = failed = 0
     skipped = {}
     for page in pages:
@@ -127,7 +163,7 @@ def run_pages(top, pages, program):
                 print(f'commands: {os.path.relpath(page, top)}:{number}: {wrong}')
             folder, environment = folder_for(top, work, program)
             for number, command, printed in commands_of(text):
-                missing = missing_tools(command)
+                missing = missing_tools(command, top)
                 wrong = None if missing else wrong_with(command, printed, folder, environment)
                 for tool in missing:
                     skipped[tool] = skipped.get(tool, 0) + 1
@@ -137,5 +173,4 @@ def run_pages(top, pages, program):
                     print(f'commands: {os.path.relpath(page, top)}:{number}: {command.splitlines()[0]}: {wrong}')
     for tool, count in sorted(skipped.items()):
         print(f'commands: {count} skipped, since {tool} is not installed')
-    print(f'page commands: {passed} passed, {failed} failed')
-    return 0 if passed and not failed else 1
+    return passed, failed

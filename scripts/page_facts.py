@@ -151,6 +151,22 @@ def shell(top):
     yield from lines_of_script(top, 'scripts/shell_files', '--check', top)
 
 
+def manual(top):
+    """A page of the language for man that was made of other texts, or was changed."""
+    yield from lines_of_script(top, 'scripts/manual', '--check', top)
+
+
+def helps(top):
+    """Scripts that don't say by --help what they do. Without an answer install and test would begin to build, so they aren't run."""
+    for path in sorted(glob.glob(os.path.join(top, 'scripts', '*'))):
+        name = os.path.basename(path)
+        if os.path.isfile(path) and os.access(path, os.X_OK) and name not in ('install', 'test'):
+            run = subprocess.run([path, '--help'], stdout=subprocess.PIPE, stderr=subprocess.DEVNULL, stdin=subprocess.DEVNULL, text=True,
+                                 timeout=60, check=False)
+            if run.returncode or f'scripts/{name}' not in run.stdout:
+                yield f'scripts/{name} --help: status {run.returncode}, and no text that says how it is called'
+
+
 def editors(top):
     """Tokens of examples/ that an editor gives another colour than the grammar says."""
     for line in lines_of_script(top, 'scripts/editors', top):

@@ -3,7 +3,7 @@ import re
 
 COLUMNS = 100
 # What a line of text mustn't begin with, since it would begin something else than text there.
-MARKS = re.compile(r'^(?:[-+*|>]|#+|\d+[.)])$|^(?:\||```)')
+MARKS = re.compile(r'^(?:[-+*|>]|#+|\d{1,9}[.)])$|^(?:\||```)')
 # The number of an item has nine digits at most; a longer one is text.
 ITEM = re.compile(r'^(\s*)([-*+]|\d{1,9}\.) +')
 

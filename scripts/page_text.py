@@ -12,7 +12,8 @@ NAME = re.compile(r'^[a-z_0-9]+$')
 WORD = re.compile(r"[A-Za-z_][A-Za-z_0-9']*")
 # Words in backquotes that no source has: methods and an error of Rust's std, tools and what they print, and a name that is
 # only an example.
-OUTSIDE = {'read_to_end', 'write_all', 'WriteZero', 'perf', 'clock', 'row_2', 'jq', 'gnuplot', 'sqlite3', 'Inf', 'inf'}
+OUTSIDE = {'read_to_end', 'write_all', 'WriteZero', 'perf', 'clock', 'row_2', 'jq', 'gnuplot', 'sqlite3', 'Inf', 'inf',
+           'mawk', 'miller', 'is_not_empty', 'itsv', 'pipefail', 'select_dtypes', "integer'"}
 DEFINITION = re.compile(r'^(?:abbrev pub|pub data|pub record|def pub|pub abbrev) ([^\s:({]+)')
 
 
@@ -29,7 +30,7 @@ def listings(top):
     """Listings that are no example."""
     examples = {read(path) for path in examples_of(top)}
     for page in pages_of(top):
-        for block in re.findall(r'^```text\n(.*?)^```$', read(page), re.M | re.S):
+        for block in re.findall(r'^```(?:text|python)\n(.*?)^```$', read(page), re.M | re.S):
             if block not in examples and block.replace('\n', '\r\n') not in examples:
                 yield f'{os.path.basename(page)}: a listing that is no file of examples/: {block.splitlines()[0]!r}'
 
@@ -167,17 +168,18 @@ def without_blocks(text):
 
 
 def identifiers(top):
-    """Words in backquotes of docs/ that stand in no source."""
+    """Words in backquotes of docs/ that stand in no source, and in no command of their page."""
     sources = words_of_sources(top)
     known = set().union(OUTSIDE, *sources.values())
     for path in glob.glob(os.path.join(top, 'bench', '*', '*')):
         known.update(WORD.findall(os.path.relpath(path, top)))
     for page in pages_of(top):
+        in_commands = {word for block in re.findall(r'^```console\n(.*?)^```$', read(page), re.M | re.S) for word in WORD.findall(block)}
         for number, line in enumerate(without_blocks(read(page)).splitlines(), 1):
             for ticked in TICKED.findall(line):
                 if ticked.startswith('rattle-kit'):
                     continue
-                unknown = [word for word in WORD.findall(ticked) if word not in known and not word.isupper()]
+                unknown = [word for word in WORD.findall(ticked) if word not in known | in_commands and not word.isupper()]
                 pairs = re.findall(r'\b([A-Za-z_]\w*)::(?=([A-Za-z_]\w*))', ticked)
                 unknown += [f'{first}::{last}' for first, last in pairs if not is_known(first, last, sources)]
                 for word in dict.fromkeys(unknown):

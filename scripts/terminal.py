@@ -2,7 +2,9 @@
 
     python3 scripts/terminal.py PROGRAM      called by scripts/command_line
 
-Each line that it prints is one fault. The status is 0 only if there is none.
+What the terminal gets is also given to terminals of 40, 60 and 80 columns that pyte imitates, where it has to stay on one
+line; without pyte (python3-pyte) a line says that this was left out. Each other line that it prints is one fault. The
+status is 0 only if there is none.
 """
 import os
 import pty
@@ -13,9 +15,19 @@ import tempfile
 import threading
 import time
 
+try:
+    import pyte
+except ImportError:
+    pyte = None
+
 WIPE = '\r\x1b[K'
-READING = re.compile(r'(?:\r\x1b\[Kstreamrun: \d+ s, reading)+\r\x1b\[K')
-WALKING = re.compile(r'(?:\r\x1b\[Kstreamrun: \d+ s, (?:reading|\d of 3 jobs have answers, \d+ % of the items entered))+\r\x1b\[K')
+# After the files are read, a line of the one short job may come too.
+READING = re.compile(r'(?:\r\x1b\[Kstreamrun: \d+ s, reading)+(?:\r\x1b\[Kstreamrun: \d+ s, [01]/1 jobs(?:, \d+\.\d %)?)*\r\x1b\[K')
+WALKING = re.compile(r'(?:\r\x1b\[Kstreamrun: \d+ s, (?:reading|\d/3 jobs, \d+\.\d %))+\r\x1b\[K')
+# What a line must fit into, and what it may look like after the longest time that a test could wait for.
+MOST_COLUMNS, WIDTHS = 39, (40, 60, 80)
+LONGEST = '\r\x1b[Kstreamrun: 999 s, 256/256 jobs, 99.9 %'
+TOO_LONG = '\r\x1b[Kstreamrun: 3 s, 2 of 7 jobs have answers, 45 % of the items entered'
 # Jobs of a file that comes late: the run waits for it for more than a second.
 LATE = 's = range(0, 10).sum()\n'
 REPORT = 's = 45\n'
@@ -60,7 +72,7 @@ def late(folder, text):
 
 def while_reading(program, folder):
     status, written, shown = run(program, late(folder, LATE))
-    return status == 0 and written == REPORT and READING.fullmatch(shown)
+    return status == 0 and written == REPORT and READING.fullmatch(shown) and fits(shown)
 
 
 def on_one_terminal(program, folder):
@@ -99,19 +111,44 @@ def of_a_long_walk(program, folder):
         seconds = time.monotonic() - begin
         if (status, written) != (0, f'a = {count // 2}\nb = 0\nc = OptionalLong[5]\n') or shown and not WALKING.fullmatch(shown):
             return False
-        shares = [int(share) for share in re.findall(r'(\d+) %', shown)]
-        answers = [int(count) for count in re.findall(r'(\d) of 3', shown)]
-        if shares != sorted(shares) or answers != sorted(answers) or shares and shares[-1] > 100:
+        shares = [float(share) for share in re.findall(r'([\d.]+) %', shown)]
+        answers = [int(count) for count in re.findall(r'(\d)/3', shown)]
+        if shares != sorted(shares) or answers != sorted(answers) or shares and shares[-1] >= 100:
             return False
         if answers and answers[-1] >= 2:
-            return True
+            return fits(shown)
         if seconds > 10:
             break
     return False
 
 
+def fits(shown):
+    """Whether each line that is shown has few characters enough, and stays on the first line of terminals of all widths."""
+    if any(len(line) > MOST_COLUMNS for line in shown.split(WIPE)):
+        return False
+    return pyte is None or all(stays_on_one_line(shown, columns) for columns in WIDTHS)
+
+
+def stays_on_one_line(shown, columns):
+    screen = pyte.Screen(columns, 6)
+    stream = pyte.Stream(screen)
+    for part in re.split(r'(?=\r)', shown):
+        stream.feed(part)
+        if screen.cursor.y > 0 or any(line.strip() for line in screen.display[1:]):
+            return False
+    return True
+
+
+def of_any_width(_program, _folder):
+    """The longest line fits, and one that is too long is seen: once by its characters, and by pyte where it is narrow."""
+    seen = pyte is None or [stays_on_one_line(TOO_LONG * 2, columns) for columns in WIDTHS] == [False, False, True]
+    return fits(LONGEST * 3 + WIPE) and not fits(TOO_LONG) and seen
+
+
 def main():
-    runs = [while_reading, on_one_terminal, before_a_refusal, without_a_terminal, of_a_short_run, of_a_long_walk]
+    if pyte is None:
+        print('how far a run is: NOT SEEN in narrow terminals, since pyte is not installed (python3-pyte)')
+    runs = [of_any_width, while_reading, on_one_terminal, before_a_refusal, without_a_terminal, of_a_short_run, of_a_long_walk]
     failed = 0
     with tempfile.TemporaryDirectory() as folder:
         for made in runs:

@@ -2,6 +2,7 @@
 give them, and those of examples/."""
 import glob
 import os
+import re
 
 TOP = os.path.join(os.path.dirname(os.path.abspath(__file__)), '..', '..')
 REFUSED_TEXTS = os.path.join(TOP, 'bench', 'soak', 'refused.txt')
@@ -293,13 +294,20 @@ def unescaped(text):
     return text.encode('ascii').decode('unicode_escape')
 
 
+def of_both_versions(files):
+    """These files, each with what it has to give, and each that is of version 1 once more as one of version 2: it gives the same."""
+    for jobs, wanted in files:
+        yield jobs, wanted
+        if not re.match(r'\ufeff?(?:[ \t]*(?:#.*)?\r?\n)*[ \t]*version[ \t]+2[ \t]*\r?(?:\n|$)', jobs):
+            mark, text = ('\ufeff', jobs[1:]) if jobs.startswith('\ufeff') else ('', jobs)
+            yield f'{mark}version 2\n{text}', wanted
+
+
 def cases():
     """(a job file, a column file or None, 'text' or 'json', and the wanted standard output, standard error and status)"""
-    for job, answer in ANSWERS:
-        yield f'j = {job}\n', COLUMNS, 'text', (f'j = {answer}\n', '', 0)
-    for jobs, text in REPORTS:
+    for jobs, text in of_both_versions([(f'j = {job}\n', f'j = {answer}\n') for job, answer in ANSWERS] + REPORTS):
         yield jobs, COLUMNS, 'text', (text, '', 0)
-    for jobs, text in JSON:
+    for jobs, text in of_both_versions(JSON):
         yield jobs, None, 'json', (text, '', 0)
     for job, cause in REFUSED:
         yield f'j = {job}', None, 'text', ('', f'streamrun: jobs: line 1: {cause}\n', 1)

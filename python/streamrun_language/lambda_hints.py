@@ -49,9 +49,10 @@ def call_hint(site: Site) -> str:
     name = site.word(-1)
     if name in STREAMS:
         return f'`{name}` is an inner stream, which stands in flatMap: .flatMap(x -> {name}(..)).'
-    if name in OPERATIONS or name in ('column', 'result', 'concat'):
-        if not method_of(name):
-            return f'No operation stands in a lambda: write .{name}(..) as a stage or a terminal of the job.'
+    if name in ('column', 'result', 'concat'):
+        return 'A lambda has the items of its own source alone: make one column of two before, such as by mlr put.'
+    if name in OPERATIONS and not method_of(name):
+        return f'No operation stands in a lambda: write .{name}(..) as a stage or a terminal of the job.'
     method = method_of(name)
     known = f'write {method}(..)' if method in CALLS else 'methods are those of Math and Long, such as Math.abs(x)'
     return f'A method has its class: {known}.'
@@ -152,7 +153,7 @@ EXPRESSIONS = [
     Rule('colon', lambda s: s.wanted is Wanted.COLON, 'A choice has both values: CONDITION ? A : B.'),
     Rule('operands of a method', lambda s: s.wanted is Wanted.OPERAND and s.word() == ')' and s.kind(-2) is Kind.NAME
              and s.word(-1) == '(',
-         lambda s: f'A method has operands: write {s.word(-2)}(x).'),
+         lambda s: f'A method has operands: write {s.word(-4)}.{s.word(-2)}(x).'),
     Rule('missing operand', lambda s: s.wanted is Wanted.OPERAND and s.word() == ')' and s.word(-1) in {*OPERATES,
              '->', ','},
          lambda s: f'Something is missing after {s.word(-1)}: a number, the parameter or an expression in '

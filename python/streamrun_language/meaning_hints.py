@@ -1,7 +1,7 @@
 """Hints on jobs that are in the grammar, and whose names, types, numbers or operators are refused."""
 from __future__ import annotations
 
-from typing import Dict, List, Optional
+from typing import Callable, Dict, List, Optional, Union
 
 from . import expressions as e
 from . import java_words
@@ -10,7 +10,7 @@ from .lambdas import MOST_INNER_VALUES, Lambda, Want
 from .operators import EXACT, METHODS, OPERATORS
 from .refusals import Cause
 from .site import Rule, Sentence, Site, listed, nearest
-from .values import CALLS, CONSTANTS, MAX, MIN, Fault
+from .values import CALLS, CONSTANTS, MAX, MIN, Fault, exact
 
 RELATIONS = ('<', '<=', '>', '>=', '==', '!=')
 SAMPLES = (MIN, -7, -1, 0, 1, 5, 12, 2 ** 40, MAX)
@@ -139,16 +139,23 @@ TYPES = [
 
 # Operators
 
+def value_at(function: Callable[[int, int], int], f: int, g: int) -> Union[int, str]:
+    """The value of a function of two integers, or the kind of its fault."""
+    try:
+        return function(f, g)
+    except Fault as fault:
+        return fault.args[0]
+
+
 def like_listed(read: Lambda) -> str:
-    """The listed operator with the same values at all samples, or nothing."""
+    """The operator that has the same values at all samples, or nothing. A lambda with numbers may differ elsewhere."""
+    if any(isinstance(node, (e.Number, e.Constant)) for node in e.nodes_of(read.body)):
+        return ''
     function = read.function({})
-    for name, operator in {**OPERATORS, EXACT.name: None}.items():
-        try:
-            if operator and all(function(f, g) == operator.function(f, g) for f in SAMPLES for g in SAMPLES):
-                return name
-        except Fault:
-            return EXACT.name if 'Math.addExact' in [getattr(it, 'name', '') for it in e.nodes_of(read.body)] else ''
-    return ''
+    listed_functions = {**{name: it.function for name, it in OPERATORS.items()}, EXACT.name: lambda f, g: exact(f + g)}
+    pairs = [(f, g) for f in SAMPLES for g in SAMPLES]
+    return next((name for name, other in listed_functions.items()
+                 if all(value_at(function, *pair) == value_at(other, *pair) for pair in pairs)), '')
 
 
 def lambda_hint(site: Site) -> str:

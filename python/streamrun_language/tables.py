@@ -5,6 +5,7 @@
 """
 from __future__ import annotations
 
+import itertools
 import re
 from dataclasses import dataclass
 from typing import Dict, Iterator, List, NamedTuple, Optional, Tuple
@@ -16,7 +17,9 @@ from .values import MAX, MIN
 MOST_COLUMNS = 256
 QUOTED, PLAIN = re.compile(r'((?:[^"]|"")*)"?'), re.compile(r'[^,\r\n]*')
 CELL = re.compile(r'[ \t]*[+-]?[0-9]+[ \t]*')
-LINE_END = re.compile(r'\r\n|\r|\n')
+LINE, LINE_END = re.compile(r'[^\r\n]+'), re.compile(r'\r\n|\r|\n')
+# Fewer decimal digits than these are an integer of 64 bits.
+SHORT = 19
 
 
 def text_of(data: bytes) -> str:
@@ -42,10 +45,9 @@ class Field(NamedTuple):
     start: int
 
 
-def fields_of(text: str) -> Iterator[List[Field]]:
-    """The records of a text: fields are parted by commas, a field in double quotes may hold anything and a doubled quote
-    for one; LF, CR LF or CR ends a record, and an empty line is none."""
-    at = 0
+def fields_of(text: str, at: int = 0) -> Iterator[List[Field]]:
+    """The records of a text from a place on: fields are parted by commas, a field in double quotes may hold anything and
+    a doubled quote for one; LF, CR LF or CR ends a record, and an empty line is none."""
     while at < len(text):
         if text[at] in '\r\n':
             at += 1
@@ -61,16 +63,22 @@ def fields_of(text: str) -> Iterator[List[Field]]:
 def records_of(text: str) -> Iterator[List[str]]:
     """The fields of each record. Without a quote every line is a record."""
     if '"' not in text:
-        yield from (line.split(',') for line in re.split('[\r\n]+', text) if line)
+        yield from (line.split(',') for line in LINE.findall(text))
         return
     for record in fields_of(text):
         yield [field.text for field in record]
 
 
+def record_at(text: str, row: int) -> List[Field]:
+    """The record of a row, row 0 being the header; no fields if there is none."""
+    if '"' in text:
+        return next(itertools.islice(fields_of(text), row, None), [])
+    line = next(itertools.islice(LINE.finditer(text), row, None), None)
+    return next(fields_of(text, line.start())) if line else []
+
+
 def integer_of(text: str) -> Optional[int]:
     """The integer of a cell, or None if it has none of 64 bits."""
-    if text.isdecimal() and len(text) < 19:
-        return int(text)
     if not CELL.fullmatch(text):
         return None
     digits = text.strip(' \t').lstrip('+-').lstrip('0')
@@ -102,7 +110,7 @@ def read_columns(data: bytes) -> Dict[str, List[int]]:
         if len(record) != len(header):
             raise RefusedTable(TableCause.WRONG_LENGTH, row)
         for number, (cells, text) in enumerate(zip(columns, record), 1):
-            value = integer_of(text)
+            value = int(text) if text.isdecimal() and len(text) < SHORT else integer_of(text)
             if value is None:
                 raise RefusedTable(TableCause.BAD_NUMBER, row, number)
             cells.append(value)
@@ -124,13 +132,11 @@ class Place:
 def place_of(data: bytes, refused: RefusedTable) -> Place:
     """Where a table is refused: at its cell, at the first cell too many, or at the end of a row that is too short. A file
     without records is refused at its start."""
-    text, header, record, at = text_of(data), [], [], 0
-    for row, record in enumerate(fields_of(text)):
-        header = header or record
-        if row == refused.row:
-            column = refused.column or len(header) + 1
-            at = record[column - 1].start if column <= len(record) else record[-1].end
-            break
+    text, at = text_of(data), 0
+    header, record = record_at(text, 0), record_at(text, refused.row)
+    column = refused.column or len(header) + 1
+    if record:
+        at = record[column - 1].start if column <= len(record) else record[-1].end
     start = max(text.rfind('\n', 0, at), text.rfind('\r', 0, at)) + 1
     end = LINE_END.search(text, at)
     line = sum(1 for _ in LINE_END.finditer(text, 0, start)) + 1

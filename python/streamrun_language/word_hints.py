@@ -4,6 +4,7 @@ from __future__ import annotations
 import re
 from fractions import Fraction
 
+from .refusals import Cause
 from .site import Rule, Site
 from .tokens import Kind, has_zeros
 
@@ -41,8 +42,10 @@ def decimal(site: Site) -> str:
 def fraction_hint(site: Site) -> str:
     """What to write for a decimal fraction."""
     value = Fraction(decimal(site))
-    return (f'Numbers are integers: {decimal(site)} is {value.numerator} / {value.denominator}, so multiply by '
-            f'{value.numerator} and then divide by {value.denominator}, or keep the values in a smaller unit, such as cents.')
+    times = f'multiply by {value.numerator} and ' if value.numerator > 1 else ''
+    factor = f'{decimal(site)} is {value.numerator} / {value.denominator}, so {times}divide by {value.denominator}, or '
+    in_lambda = factor if site.refused.cause is Cause.EXPRESSION_SYNTAX else ''
+    return f'Numbers are integers: {in_lambda}keep the values in a smaller unit, such as cents.'
 
 
 BYTES = [

@@ -47,19 +47,14 @@ def examples(ends=('report', 'json', 'fault')):
             yield example(name, end)
 
 
-# A `skip` inside an inner stream of 2^62 values, which is walked in vain: this job doesn't end yet.
-ENDLESS = 'of(0, 1).flatMap(x -> range(0, 4611686018427387904 + x)).skip(1).findFirst()'
-
-
 def all_answers():
-    """Every answer of worked.py that is no refusal: the jobs of one line each together in one file, the others as they are."""
-    answers = [it for it in worked.ANSWERS if it[0] != ENDLESS]
-    jobs = ''.join(f'w{at} = {job}\n' for at, (job, _) in enumerate(answers))
-    out = ''.join(f'w{at} = {answer}\n' for at, (_, answer) in enumerate(answers))
-    yield Case('worked answers', jobs.encode(), worked.COLUMNS, [], out.encode(), b'', 0)
-    for at, (text, report) in enumerate(worked.REPORTS):
-        yield Case(f'worked report {at}', text.encode(), worked.COLUMNS, [], report.encode(), b'', 0)
-    for at, (text, report) in enumerate(worked.JSON):
+    """Every answer of worked.py that is no refusal, each file of version 1 once more as one of version 2: the jobs of one line each
+    together in one file, the others as they are."""
+    jobs = ''.join(f'w{at} = {job}\n' for at, (job, _) in enumerate(worked.ANSWERS))
+    out = ''.join(f'w{at} = {answer}\n' for at, (_, answer) in enumerate(worked.ANSWERS))
+    for at, (text, report) in enumerate(worked.of_both_versions([(jobs, out), *worked.REPORTS])):
+        yield Case(f'worked answers {at}', text.encode(), worked.COLUMNS, [], report.encode(), b'', 0)
+    for at, (text, report) in enumerate(worked.of_both_versions(worked.JSON)):
         yield Case(f'worked JSON {at}', text.encode(), None, ['--json'], report.encode(), b'', 0)
 
 

@@ -31,10 +31,14 @@ fn arguments_of<'a>(matches: &ArgMatches<'a>) -> Arguments<'a> {
     }
 }
 
+/// What the help says first: the version, as the file VERSION has it, and what the program does.
+const VERSION_AND_PURPOSE: &str =
+    "streamrun 0.1.0: runs pipelines over 64-bit integers, with one answer per job";
+
 /// What the help says below the options.
 const EXAMPLE_AND_STATUSES: &str =
-    r#"Example, with units = column("quantity").sum() in the file sales.jobs:
-  streamrun --columns sales.csv sales.jobs
+    r#"Workers, threshold and nodes never change the report. This one is a = 5050:
+  echo 'a = range(1, 101).sum()' | streamrun /dev/stdin
 
 Exit status:
   0  the report was written; faults of jobs are answers
@@ -46,13 +50,13 @@ Exit status:
 /// The program with what its help says, without files and options.
 fn program<'a>(alloc: Global) -> Command<'a> {
     Command::new(alloc, "streamrun")
-        .about("Runs pipelines over 64-bit integers and writes a report with one answer per job")
+        .about(VERSION_AND_PURPOSE)
         .after_help(EXAMPLE_AND_STATUSES)
 }
 
 fn jobs_file<'a>(alloc: Global) -> Arg<'a> {
     Arg::new(alloc, "JOBS")
-        .help("The file of jobs to run")
+        .help("The file of jobs to run; /dev/stdin is a name like any other")
         .required(true)
         .action(ArgAction::Set)
 }
@@ -100,17 +104,29 @@ fn command_of<'a>(alloc: Global) -> Result<Command<'a>, AllocError> {
 
 /// The command with an option for each setting.
 fn with_settings<'a>(alloc: Global, command: Command<'a>) -> Result<Command<'a>, AllocError> {
-    let workers = number(alloc, "workers", "1 to 64", "4", "Threads");
+    let workers = number(
+        alloc,
+        "workers",
+        "1 to 64",
+        "4",
+        "How many threads run the jobs",
+    );
     let command = command.arg(workers.value_parser(value_parser!(u64).range(1..=64)))?;
     let threshold = number(
         alloc,
         "threshold",
         "1 to 1048576",
         "1024",
-        "Items of a piece",
+        "Keep this many items together",
     );
     let command = command.arg(threshold.value_parser(value_parser!(u64).range(1..=1_048_576)))?;
-    let nodes = number(alloc, "nodes", "0 to 1048576", "4096", "Nodes for splits");
+    let nodes = number(
+        alloc,
+        "nodes",
+        "0 to 1048576",
+        "4096",
+        "Split items at most this often",
+    );
     let command = command.arg(nodes.value_parser(value_parser!(u64).range(0..=1_048_576)))?;
     command.arg(json(alloc))
 }

@@ -1,4 +1,5 @@
-//! How far a long run is: one line on standard error, if that is a terminal.
+//! How far a long run is: one line on standard error, if that is a terminal. It has at most 39 characters: a line that is
+//! longer than the terminal is wide can't be wiped, and the width can't be asked for.
 
 use engine::RunGate;
 use std::io::{IsTerminal, Write};
@@ -35,6 +36,29 @@ struct Line {
 struct Reached {
     items: u64,
     entered: u64,
+}
+
+impl Reached {
+    /// How many thousandths of the items were entered; at most 999, since the run goes on as long as a line is shown.
+    fn thousandths(&self) -> u64 {
+        let share = if self.items < 1_000_000 {
+            self.entered.saturating_mul(1000) / self.items.max(1)
+        } else {
+            self.entered / (self.items / 1000).max(1)
+        };
+        share.min(999)
+    }
+}
+
+/// How long a run has taken, with its unit, in at most six characters.
+fn elapsed(seconds: u64) -> (u64, &'static str) {
+    if seconds < 1000 {
+        (seconds, "s")
+    } else if seconds < 6000 {
+        (seconds / 60, "min")
+    } else {
+        ((seconds / 3600).min(9999), "h")
+    }
 }
 
 /// The gate of a run, which counts what the run enters.
@@ -99,22 +123,25 @@ impl<'a, H> Progress<'a, H> {
 
     /// Writes the line.
     fn show(&self, seconds: u64) {
+        let (time, unit) = elapsed(seconds);
         let known = self.known.load(SeqCst);
         let answered = self.answered.load(SeqCst);
-        let Reached { items, entered } = self.reached();
+        let reached = self.reached();
         let mut stderr = self.host.stderr();
         let _ = if known == 0 {
-            write!(stderr, "\r\x1b[Kstreamrun: {seconds} s, reading")
-        } else if items == 0 {
+            write!(stderr, "\r\x1b[Kstreamrun: {time} {unit}, reading")
+        } else if reached.items == 0 {
             write!(
                 stderr,
-                "\r\x1b[Kstreamrun: {seconds} s, {answered} of {known} jobs have answers"
+                "\r\x1b[Kstreamrun: {time} {unit}, {answered}/{known} jobs"
             )
         } else {
-            let share = (entered / (items / 100).max(1)).min(100);
+            let share = reached.thousandths();
             write!(
                 stderr,
-                "\r\x1b[Kstreamrun: {seconds} s, {answered} of {known} jobs have answers, {share} % of the items entered"
+                "\r\x1b[Kstreamrun: {time} {unit}, {answered}/{known} jobs, {}.{} %",
+                share / 10,
+                share % 10
             )
         };
     }

@@ -132,7 +132,14 @@ fn refuses(alloc: Global, script: &str, reason: Illegal, index: usize) -> Option
     }
 }
 
-// All but the last two rows were printed by Java 17's own `CountedCompleter` for the same trees, by
+#[test]
+fn nodes_stand_in_ascending_order(rt: HostRuntime) -> Result<(), Fail> {
+    let nodes = Nodes::new([2, 0, 2, 1].to_vec(rt.alloc())?);
+    assert!(rt; nodes.into_vec().as_slice() == [0, 1, 2, 2].as_slice());
+    Ok(())
+}
+
+// All but the last four rows were printed by Java 17's own `CountedCompleter` for the same trees, by
 // `java reference/completers/CompleterCalls.java`.
 #[test]
 fn scripts_give_their_replies_as_javas_calls_do(rt: HostRuntime) -> Result<(), Fail> {
@@ -162,6 +169,16 @@ fn scripts_give_their_replies_as_javas_calls_do(rt: HostRuntime) -> Result<(), F
             "3 2 1",
         ],
         [
+            "claim 0; arm 0 1 1; give 0 1 1 1; arrive 0 1; arrive 1 1; run 1 1",
+            "node 1; done; done; pending 0; last; done",
+            "1",
+        ],
+        [
+            "claim 0; arm 0 1 0 0; claim 0; arm 0 2 1 1; arrive 0 2; arrive 0 2; run 0 2; arrive 0 1; run 0 1; settle 0",
+            "node 1; done; node 2; done; pending 0; last; done; last; done; done",
+            "2 1",
+        ],
+        [
             "claim 0; claim 1; claim 2; claim 1",
             "node 1; node 2; node 3; none",
             "",
@@ -183,13 +200,15 @@ fn the_first_reason_that_applies_is_given(rt: HostRuntime) -> Result<(), Fail> {
     // Neither END nor a node that wasn't drawn can be armed, added to, arrived at or run; END's arrivals can be given. What isn't held
     // comes before an onward node that isn't smaller; a node stands in the list once for each arrival there. Made arrivals count too.
     let scripts =
-        "arm 0 0 0|claim 0; arm 0 2 0|add 0 0 1|arrive 0 0|run 0 0|give 0 1 0 1; give 0 1 1 0|claim 0; arm 1 1 0 9|claim 0; arm 0 1 0; arm 0 1 0 9|claim 0; arm 0 1 0 0 0|claim 0; arm 0 1 0 1 0|claim 0; arm 0 1 0; arrive 1 1|claim 0; arm 0 1 0; add 1 1 18446744073709551615|claim 0; arm 0 1 0; give 0 0 1 2|settle 0; settle 0|claim 0; arm 0 1 0; run 0 1|claim 0; arm 0 1 0; arrive 0 1; run 1 1|claim 0; arm 0 1 0; arrive 0 1; run 0 1; run 0 1|claim 0; claim 0; arm 0 2 0; arm 0 1 0 2|claim 0; arm 0 1 0; add 0 1 4611686018427387904|claim 0; arm 0 1 0; add 0 1 4611686018427387903; arrive 0 1; add 0 1 1";
+        "arm 0 0 0|claim 0; arm 0 2 0|add 0 0 1|arrive 0 0|run 0 0|give 0 1 0 1; give 0 1 1 0|claim 0; arm 1 1 0 9|claim 0; arm 0 1 0; arm 0 1 0 9|claim 0; arm 0 1 0 0 0|claim 0; arm 0 1 0 1 0|claim 0; arm 0 1 0; arrive 1 1|claim 0; arm 0 1 0; add 1 1 18446744073709551615|claim 0; arm 0 1 0; give 0 0 1 2|settle 0; settle 0|claim 0; arm 0 1 1; give 0 1 1 1; arrive 0 1; arrive 1 1; run 1 1; arrive 0 1|\
+claim 0; arm 0 1 0 0; claim 0; arm 0 2 1 1; arrive 0 2; arrive 0 2; run 0 2; arrive 0 1; run 0 1; settle 0; settle 0|\
+claim 0; arm 0 1 0 0; claim 0; arm 0 2 1 1; arrive 0 2; run 0 2|claim 0; arm 0 1 0; run 0 1|claim 0; arm 0 1 0; arrive 0 1; run 1 1|claim 0; arm 0 1 0; arrive 0 1; run 0 1; run 0 1|claim 0; claim 0; arm 0 2 0; arm 0 1 0 2|claim 0; arm 0 1 0; add 0 1 4611686018427387904|claim 0; arm 0 1 0; add 0 1 4611686018427387903; arrive 0 1; add 0 1 1";
     let reasons = [
         (Illegal::NoSuchNode, 6),
         (Illegal::NotClaimedHere, 1),
         (Illegal::AlreadyArmed, 1),
-        (Illegal::NotHeld, 6),
-        (Illegal::NotFinisher, 3),
+        (Illegal::NotHeld, 8),
+        (Illegal::NotFinisher, 4),
         (Illegal::OnwardNotEarlier, 1),
         (Illegal::TooMany, 2),
     ];

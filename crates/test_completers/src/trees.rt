@@ -5,6 +5,7 @@ use crate::runs::walk_numbers;
 use completer_tree::{
     Continuation, Failure, First as Step, Forked, Handed, Next, PartValue, Tree, TreeCounts,
 };
+use pending_count::Node;
 use std::alloc::{AllocError, Global};
 use std::sync::Arc;
 use std::test::Fail;
@@ -158,13 +159,14 @@ fn a_failure_lets_the_other_side_s_value_go(rt: HostRuntime) -> Result<(), Fail>
     Ok(())
 }
 
-// Hands 8 in on the right and then 7 on the left: the pending count after the first step, and what the last one finds.
-fn right_side_first(alloc: Global, seven: Shared, eight: Shared) -> Option<(u64, u8)> {
+// Hands 8 in on the right and then 7 on the left: the top of the tree, the pending count after the first step, and what the last one finds.
+fn right_side_first(alloc: Global, seven: Shared, eight: Shared) -> Option<(Node, u64, u8)> {
     let (counts, seat) = TreeCounts::<Shared, First>::new(alloc, 1, 0).ok()?;
     let tree = Tree::new(&counts, &[]);
     let Forked::Split(left, right) = tree.fork(seat, None, TOP) else {
         return None;
     };
+    let root = left.place.root();
     let Step::Pending(_seat, pending) = tree.first_complete(right.seat, right.place, Ok(eight))
     else {
         return None;
@@ -175,13 +177,13 @@ fn right_side_first(alloc: Global, seven: Shared, eight: Shared) -> Option<(u64,
     let Next::Whole(_seat, found) = tree.next_complete(seat, finisher) else {
         return None;
     };
-    Some((pending, *found.ok()?.value))
+    Some((root, pending, *found.ok()?.value))
 }
 
 #[test]
 fn the_left_value_stands_on_the_left_whichever_came_last(rt: HostRuntime) -> Result<(), Fail> {
     let [seven, eight] = [Arc::new(rt.alloc(), 7u8)?, Arc::new(rt.alloc(), 8u8)?];
     let found = right_side_first(rt.alloc(), Shared { value: seven }, Shared { value: eight });
-    assert!(rt; found == Some((0, 7)));
+    assert!(rt; found == Some((1, 0, 7)));
     Ok(())
 }

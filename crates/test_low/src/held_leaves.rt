@@ -12,7 +12,7 @@ use worker_pool::{Gate, Spawn, Work, run_pool};
 
 const TURNS: u64 = 100_000_000;
 
-/// Holds leaf 1 until leaf 2 is entered, and keeps how many turns that took.
+/// Holds leaf 1 until leaf 2 is entered, and keeps how many turns that took: the greatest number if leaf 1 wasn't entered.
 #[derive(Drop)]
 struct Holding {
     entered: AtomicBool,
@@ -83,7 +83,7 @@ fn turns_of<R: Threads + Wait + Sync>(
 ) -> Result<u64, AllocError> {
     let gate = Holding {
         entered: AtomicBool::new(false),
-        turns: AtomicU64::new(0),
+        turns: AtomicU64::new(u64::MAX),
     };
     let work = Entries {
         left: AtomicU64::new(2),
@@ -93,7 +93,7 @@ fn turns_of<R: Threads + Wait + Sync>(
     first.push(Entry(2))?;
     let idle = idle_workers(alloc, workers)?;
     if idle.is_empty() {
-        return Ok(0);
+        return Ok(u64::MAX);
     }
     run_pool(rt, alloc, &gate, &work, first, idle);
     Ok(gate.turns.load(SeqCst))
@@ -102,7 +102,7 @@ fn turns_of<R: Threads + Wait + Sync>(
 #[test]
 fn two_workers_have_two_leaves_open_at_once(rt: HostRuntime) -> Result<(), Fail> {
     let turns = turns_of(&rt, rt.alloc(), 2)?;
-    assert!(rt; 0 < turns && turns < TURNS, "by two workers");
+    assert!(rt; turns < TURNS, "by two workers");
     assert!(rt; turns_of(&rt, rt.alloc(), 1)? == TURNS, "by one worker");
     Ok(())
 }

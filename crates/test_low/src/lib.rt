@@ -6,7 +6,8 @@
 //! Here is what only a caller sees: sinks and readers of one's own, memory that is not copied, sources that split, tasks
 //! that are dropped, run once or held.
 //!
-//! `lambdas.rt` is for `lambda_expr`, `walks.rt` for `trace`, `batches.rt` with `random.rt`, and `full_sinks.rt`, for
+//! `calls.rt` has a call of each kind that the program doesn't make, of `stream_tokens` up to `prefix_scan`, and `words.rt` those of
+//! `early_stop`. `lambdas.rt` is for `lambda_expr`, `walks.rt` for `trace`, `batches.rt` with `random.rt`, and `full_sinks.rt`, for
 //! `batch_eval`, `values.rt` for `job_meaning`, `splits.rt` for `spliterator`,
 //! `pieces.rt` and `readers.rt` for `columns`, `handles.rt` for `deques`; `sums.rt`, a small `Work` of one's own,
 //! `held_leaves.rt` and `small_works.rt` for `worker_pool`.
@@ -16,6 +17,8 @@
 
 #[cfg(test)]
 mod batches;
+#[cfg(test)]
+mod calls;
 #[cfg(test)]
 mod full_sinks;
 #[cfg(test)]
@@ -40,3 +43,5 @@ mod sums;
 mod values;
 #[cfg(test)]
 mod walks;
+#[cfg(test)]
+mod words;

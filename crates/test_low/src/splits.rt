@@ -32,22 +32,52 @@ fn placed(alloc: Global, values: &[i64]) -> Result<Vec<Item>, NoMemory> {
         .collect(alloc)
 }
 
-/// How many items the next three prefixes have; 0 where there is none.
-fn sizes_handed_out(split: &mut ConcatSplit) -> [u64; 3] {
-    [split.try_split(), split.try_split(), split.try_split()].map(|prefix| prefix.map_or(
-        0,
-        |prefix| prefix.exact_size(),
-    ))
+/// The items that are left, in order.
+fn items_of<S: LongSpliterator + Drop>(alloc: Global, mut split: S) -> Result<Vec<Item>, NoMemory> {
+    let mut items = Vec::new(alloc);
+    while let Some(item) = split.try_advance() {
+        items.push(item)?;
+    }
+    Ok(items)
+}
+
+/// Whether the items that are left have these values, the first one at this place.
+fn has<S: LongSpliterator + Drop>(
+    alloc: Global,
+    split: S,
+    origin: u64,
+    values: &[i64],
+) -> Result<bool, NoMemory> {
+    let items = items_of(alloc, split)?;
+    let is_placed = items.first().is_some_and(|first| first.origin == origin);
+    Ok(
+        is_placed
+            && items
+                .iter()
+                .map(|item| item.value)
+                .eq(values.iter().copied()),
+    )
 }
 
 #[test]
-fn a_concatenation_hands_out_its_parts_and_then_splits_the_last(rt: HostRuntime) {
+fn a_range_splits_in_the_middle_and_a_concatenation_between_its_parts(
+    rt: HostRuntime,
+) -> Result<(), Fail> {
+    let alloc = rt.alloc();
+    let mut rest = RangeSplit::range(0, 5).ok_or("too long")?;
+    let half = rest.try_split().ok_or("no split")?;
+    assert!(rt; has(alloc, half, 0, &[0, 1])? && has(alloc, rest, 2, &[2, 3, 4])?);
     let nothing = PlainSplit::Array(ArraySplit::new(&[]));
-    let three = PlainSplit::Array(ArraySplit::new(&[1, 5, 6]));
-    let two = PlainSplit::Array(ArraySplit::new(&[2, 3]));
-    let parts = [nothing, three, nothing, two];
-    let sizes = ConcatSplit::of(&parts).map(|mut split| sizes_handed_out(&mut split));
-    assert!(rt; sizes == Some([3, 1, 0]));
+    let one = PlainSplit::Array(ArraySplit::new(&[1]));
+    let range = PlainSplit::Range(RangeSplit::range(2, 4).ok_or("too long")?);
+    let parts = [nothing, one, nothing, range];
+    let mut rest = ConcatSplit::of(&parts).ok_or("too long")?;
+    let first = rest.try_split().ok_or("no split")?;
+    let second = rest.try_split().ok_or("no second split")?;
+    assert!(rt; rest.try_split().is_none());
+    assert!(rt; has(alloc, first, 0, &[1])? && has(alloc, second, 1, &[2])?);
+    assert!(rt; has(alloc, rest, 2, &[3])?);
+    Ok(())
 }
 
 /// Whether the pieces of a source, after as many splits as there are, have these values at the places 0, 1, 2, ..

@@ -1,0 +1,89 @@
+"""Starts the program."""
+from __future__ import annotations
+
+import importlib
+import os
+import subprocess
+import tempfile
+from typing import Any
+
+from .errors import ProgramNotFound, StreamrunError, error_of
+from .report import Report
+from .tables import csv_of
+
+STANDARD_INPUT = '/dev/stdin'
+
+
+def run(jobs: str | os.PathLike[str], columns: Any = None, *, workers: int | None = None, program: str | os.PathLike[str] | None = None) -> Report:
+    """Runs jobs over a table, and gives the report.
+
+    jobs      the text of a job file; or the path of one, if it is a Path, or a text without '=' and line ends
+    columns   the path of a column file, a dict of lists or numpy arrays, or a data frame of pandas; its columns are integers
+    workers   how many threads run the jobs; the report is the same for any number
+    program   the program, if it isn't the `streamrun` on PATH
+
+    A run that fails is a StreamrunError with the program's line; a table that isn't of integers is a TableError.
+    """
+    text = None if is_path(jobs) else os.fspath(jobs)
+    table = None if columns is None or isinstance(columns, (str, os.PathLike)) else csv_of(columns)
+    with tempfile.TemporaryDirectory(prefix='streamrun-') as folder:
+        path = os.fspath(jobs)
+        if text is not None:
+            path = os.path.join(folder, 'given.jobs')
+            with open(path, 'w', encoding='utf-8', newline='') as file:
+                file.write(text)
+        words = [os.fspath(program or 'streamrun'), '--json']
+        if columns is not None:
+            words.append(f'--columns={STANDARD_INPUT if table is not None else os.fspath(columns)}')
+        if workers is not None:
+            words.append(f'--workers={workers}')
+        ended = started([*words, '--', path], table)
+        if ended.returncode == 0:
+            return Report(ended.stdout)
+        raise failure_of(ended, path, table, columns)
+
+
+def is_path(jobs: str | os.PathLike[str]) -> bool:
+    """Whether this is the path of a job file and no text of jobs, which has '=' or is empty."""
+    return not isinstance(jobs, str) or '=' not in jobs and '\n' not in jobs and jobs.strip() != ''
+
+
+def started(words: list[str], table: bytes | None) -> subprocess.CompletedProcess[bytes]:
+    """A run that has ended. The program reads the table from standard input."""
+    given: dict[str, Any] = {'stdin': subprocess.DEVNULL} if table is None else {'input': table}
+    try:
+        return subprocess.run(words, stdout=subprocess.PIPE, stderr=subprocess.PIPE, check=False, **given)
+    except FileNotFoundError as missing:
+        raise ProgramNotFound(f'no program {words[0]!r}: give its path as program, or put it on PATH', 127) from missing
+
+
+def failure_of(ended: subprocess.CompletedProcess[bytes], path: str, table: bytes | None, columns: Any) -> StreamrunError:
+    """The error of a run that failed, with what is known of the place in a refused file."""
+    line = ended.stderr.decode(errors='replace').rstrip('\n')
+    explanation = None
+    if ended.returncode == 1:
+        cells = table
+        if cells is None and columns is not None:
+            cells = bytes_of(os.fspath(columns))
+        explanation = explanation_of(bytes_of(path), cells)
+    return error_of(line, ended.returncode, explanation)
+
+
+def bytes_of(path: str) -> bytes | None:
+    try:
+        with open(path, 'rb') as file:
+            return file.read()
+    except OSError:
+        return None
+
+
+def explanation_of(text: bytes | None, columns: bytes | None) -> str | None:
+    """What `tools/explain` prints of a refused file, if its package is installed."""
+    if text is None:
+        return None
+    try:
+        explain = importlib.import_module('streamrun_language.explain')
+    except ImportError:
+        return None
+    found = explain.explain_jobs(text, columns)
+    return None if found is None else str(found)

@@ -1,0 +1,235 @@
+"""Tests of the package streamrun: scripts/python runs them, with the program in the environment as STREAMRUN.
+
+With WITHOUT=numpy,pandas these modules can't be imported, as where they aren't installed.
+"""
+import os
+import pathlib
+import stat
+import sys
+import tempfile
+import types
+import unittest
+import xml.etree.ElementTree
+
+for module in filter(None, os.environ.get('WITHOUT', '').split(',')):
+    sys.modules[module] = None  # type: ignore[assignment]
+
+import streamrun  # noqa: E402
+from streamrun import Fault, Unusable  # noqa: E402
+
+try:
+    import numpy
+except ImportError:
+    numpy = None  # type: ignore[assignment]
+try:
+    import pandas
+except ImportError:
+    pandas = None  # type: ignore[assignment]
+
+PROGRAM = os.environ['STREAMRUN']
+MIN, MAX = -2 ** 63, 2 ** 63 - 1
+EACH_ANSWER = """\
+number = of(3, 4).sum()
+truth = of(3, 4).anyMatch(x -> x > 3)
+array = of(3, 4, -5).toArray()
+optional = of(3, 4).max()
+none = of(3, 4).filter(x -> x > 9).max()
+fault = of(1, 0).map(x -> 1 / x).sum()
+long = range(Long.MIN_VALUE, Long.MAX_VALUE).sum()
+after = of(1).map(x -> x + $none).sum()
+"""
+
+
+def run(jobs, columns=None, **options):
+    return streamrun.run(jobs, columns, program=PROGRAM, **options)
+
+
+def plain(answer):
+    """An answer, an array as a list."""
+    return answer.tolist() if hasattr(answer, 'tolist') else answer
+
+
+class Answers(unittest.TestCase):
+    def test_each_kind_of_answer_has_its_type(self):
+        report = run(EACH_ANSWER)
+        expected = {'number': 7, 'truth': True, 'array': [3, 4, -5], 'optional': 4, 'none': None,
+                    'fault': Fault('divide-by-zero', 1, 1), 'long': Fault('source-too-long', 0, None), 'after': Unusable('none')}
+        self.assertEqual({name: plain(answer) for name, answer in report.items()}, expected)
+        self.assertEqual(list(report), list(expected))
+        self.assertIs(type(report['number']), int)
+        self.assertIs(type(report['truth']), bool)
+        self.assertEqual((report['fault'].kind, report['fault'].stage, report['fault'].item), ('divide-by-zero', 1, 1))
+        with self.assertRaises(KeyError):
+            report['nowhere']
+
+    def test_numbers_are_exact_up_to_the_ends(self):
+        report = run(f'a = of({MIN}, {MAX}, 9007199254740993).toArray()\nb = of({MAX}).sum()')
+        self.assertEqual((plain(report['a']), report['b']), ([MIN, MAX, 9007199254740993], MAX))
+
+    def test_a_report_is_a_line_per_job(self):
+        self.assertEqual(repr(run('a = of(1, 2).sum()\nb = range(0, 20).toArray()\nc = empty().max()')),
+                         'a = 3\nb = [0, 1, 2, 3, 4, 5, 6, 7, ..] (20 values)\nc = None')
+
+    def test_a_report_is_the_same_with_any_number_of_workers(self):
+        self.assertEqual(run(EACH_ANSWER, workers=1), run(EACH_ANSWER, workers=64))
+        self.assertNotEqual(run('a = of(1).sum()'), run('a = of(2).sum()'))
+
+    def test_no_jobs_have_no_answers(self):
+        self.assertEqual((len(run('')), len(run('# a comment\n'))), (0, 0))
+
+    def test_a_report_is_a_table_with_a_line_for_each_array(self):
+        html = run('a = of(5, -2, 9).toArray()\nb = of(1).sum()\nc = range(0, 1000).toArray()\nd = of().toArray()')._repr_html_()
+        table = xml.etree.ElementTree.fromstring(html)
+        self.assertEqual([row.find('th').text for row in table.iter('tr')], ['a', 'b', 'c', 'd'])
+        lines = [line.get('points').split() for line in table.iter('polyline')]
+        # 5 is 4 below the greatest of a span of 11, 22 pixels high: 1 + 22 * 4 / 11.
+        self.assertEqual(lines[0], ['1.0,9.0', '80.0,23.0', '159.0,1.0'])
+        self.assertEqual((len(lines), len(lines[1])), (2, 160))
+        self.assertEqual((lines[1][0], lines[1][-1]), ('1.0,23.0', '159.0,1.0'))
+
+
+class Tables(unittest.TestCase):
+    SUM = 's = column("a").sum()'
+
+    def test_a_dict_of_lists_is_a_table(self):
+        report = run('s = column("a, b").sum()\nt = column("").toArray()', {'a, b': [1, 2, MAX - 3], '': (5, 0, -1)})
+        self.assertEqual((report['s'], plain(report['t'])), (MAX, [5, 0, -1]))
+
+    def test_a_column_may_be_alone_or_empty_and_have_any_name(self):
+        self.assertEqual(run('n = column("").count()', {'': [7, 8]})['n'], 2)
+        self.assertEqual(run('n = column("a").count()', {'a': []})['n'], 0)
+        self.assertEqual(run('n = column("3").max()', {3: [7, 8]})['n'], 8)
+
+    def test_a_path_is_a_column_file(self):
+        with tempfile.TemporaryDirectory() as folder:
+            path = pathlib.Path(folder, 'day=3.csv')
+            path.write_text('a\n4\n5\n', encoding='utf-8')
+            jobs = pathlib.Path(folder, '--json')
+            jobs.write_text(self.SUM, encoding='utf-8')
+            before = os.getcwd()
+            os.chdir(folder)
+            try:
+                reports = [run(self.SUM, path), run(self.SUM, 'day=3.csv'), run(jobs, path), run('--json', path)]
+            finally:
+                os.chdir(before)
+            self.assertEqual([report['s'] for report in reports], [9] * 4)
+
+    def test_what_is_no_integer_is_refused_by_the_name_of_its_column(self):
+        for column in (['x'], [1.0], [True], [None], [MAX + 1], [MIN - 1], ['1'], 'ab', 3):
+            with self.assertRaises(streamrun.TableError) as refused:
+                run(self.SUM, {'good': [1], 'bad one': column})
+            self.assertEqual(refused.exception.columns, ('bad one',), column)
+            self.assertIn("'bad one'", str(refused.exception))
+
+    def test_a_table_has_columns_of_one_length_and_of_different_names(self):
+        for table in ({}, {'a': [1], 'b': [1, 2]}, {'1': [1], 1: [2]}, [1, 2]):
+            with self.assertRaises(streamrun.TableError):
+                run(self.SUM, table)
+
+    @unittest.skipIf(numpy is None, 'numpy is not installed')
+    def test_arrays_of_numpy_go_in_and_come_out(self):
+        for kind in ('int8', 'int64', 'uint16', 'uint64'):
+            report = run('d = column("a").map(x -> 2 * x).toArray()', {'a': numpy.array([1, 2, 3], dtype=kind)})
+            self.assertIsInstance(report['d'], numpy.ndarray)
+            self.assertEqual((report['d'].dtype, report['d'].tolist()), (numpy.dtype('int64'), [2, 4, 6]))
+        self.assertEqual(run('e = of().toArray()')['e'].dtype, numpy.dtype('int64'))
+        for array in (numpy.array([1.5]), numpy.array([True]), numpy.array([2 ** 63], dtype='uint64'), numpy.array(['2020-01-01'], dtype='datetime64[D]'),
+                      numpy.array([[1, 2]])):
+            with self.assertRaises(streamrun.TableError):
+                run(self.SUM, {'a': array})
+
+    @unittest.skipIf(pandas is None, 'pandas is not installed')
+    def test_a_data_frame_is_a_table(self):
+        frame = pandas.DataFrame({'a': [3, -1, 4], 'b': pandas.array([1, 2, 3], dtype='Int64')})
+        totals = run('t = column("a").prefix(Long::sum).toArray()\nu = column("b").sum()', frame)
+        self.assertEqual((plain(totals['t']), totals['u']), (frame['a'].cumsum().tolist(), 6))
+        frame['city'] = ['x', 'y', 'z']
+        frame['price'] = [1.5, 2.0, 3.0]
+        frame['some'] = pandas.array([1, None, 3], dtype='Int64')
+        with self.assertRaises(streamrun.TableError) as refused:
+            run(self.SUM, frame)
+        self.assertEqual(refused.exception.columns, ('city', 'price', 'some'))
+        self.assertEqual(run(self.SUM, frame[['a']])['s'], 6)
+        with self.assertRaises(streamrun.TableError):
+            run(self.SUM, pandas.concat([frame[['a']], frame[['a']]], axis=1))
+
+
+class Failures(unittest.TestCase):
+    def failure(self, kind, *arguments, **options):
+        with self.assertRaises(kind) as failed:
+            streamrun.run(*arguments, **{'program': PROGRAM, **options})
+        return failed.exception
+
+    def test_a_refused_job_file_has_the_line_and_the_status(self):
+        refused = self.failure(streamrun.JobsRefused, 'a = of(1).sum()\nb = of(1).average()')
+        self.assertEqual((refused.line, refused.status), ('streamrun: jobs: line 2: syntax', 1))
+        self.assertTrue(str(refused).startswith('streamrun: jobs: line 2: syntax'))
+
+    def test_a_refused_column_file_has_them_too(self):
+        with tempfile.NamedTemporaryFile('w', suffix='.csv') as file:
+            file.write('a,b\n1,2\n3,x\n')
+            file.flush()
+            refused = self.failure(streamrun.ColumnsRefused, 'a = column("a").sum()', file.name)
+        self.assertEqual((refused.line, refused.status), ('streamrun: columns: bad number in row 2 column 2', 1))
+
+    def test_a_refusal_carries_what_explain_says_of_the_bytes(self):
+        package, explain, seen = types.ModuleType('streamrun_language'), types.ModuleType('streamrun_language.explain'), []
+
+        class Explanation:
+            def __str__(self):
+                return 'line 1, column 11\n  here'
+
+        def explain_jobs(text, columns):
+            seen.append((text, columns))
+            return Explanation()
+        explain.explain_jobs = explain_jobs
+        kept = {name: sys.modules.get(name) for name in ('streamrun_language', 'streamrun_language.explain')}
+        sys.modules.update({'streamrun_language': package, 'streamrun_language.explain': explain})
+        try:
+            refused = self.failure(streamrun.JobsRefused, 'b = of(1).average()', {'a': [1]})
+        finally:
+            for name, module in kept.items():
+                if module is None:
+                    del sys.modules[name]
+                else:
+                    sys.modules[name] = module
+        self.assertEqual(seen, [(b'b = of(1).average()', b'a\n1\n')])
+        self.assertEqual(str(refused), 'streamrun: jobs: line 1: syntax\nline 1, column 11\n  here')
+
+    def test_a_refusal_goes_without_explain(self):
+        kept = {name: sys.modules.get(name) for name in ('streamrun_language', 'streamrun_language.explain')}
+        sys.modules['streamrun_language.explain'] = None
+        try:
+            refused = self.failure(streamrun.JobsRefused, 'b = of(1).average()')
+        finally:
+            del sys.modules['streamrun_language.explain']
+            sys.modules.update({name: module for name, module in kept.items() if module is not None})
+        self.assertIsNone(refused.explanation)
+        self.assertEqual(str(refused), refused.line)
+
+    def test_files_and_options_that_fail_have_errors_of_their_own(self):
+        self.assertEqual(self.failure(streamrun.FileFailed, 'nowhere.jobs').line, 'streamrun: cannot open jobs')
+        self.assertEqual(self.failure(streamrun.FileFailed, 'a = of(1).sum()', 'nowhere.csv').status, 4)
+        self.assertEqual(self.failure(streamrun.CommandLineRefused, 'a = of(1).sum()', workers=65).status, 2)
+        missing = self.failure(streamrun.ProgramNotFound, 'a = of(1).sum()', program='/nowhere/streamrun')
+        self.assertIn('/nowhere/streamrun', str(missing))
+
+    def test_other_ends_of_the_program_are_failures(self):
+        with tempfile.TemporaryDirectory() as folder:
+            for text, kind, status, line in (
+                    ('echo "streamrun: out of memory" >&2; exit 3', streamrun.OutOfMemory, 3, 'streamrun: out of memory'),
+                    ('kill -TERM $$', streamrun.StreamrunError, -15, 'streamrun: ended with status -15')):
+                program = pathlib.Path(folder, 'program')
+                program.write_text(f'#!/bin/sh\n{text}\n', encoding='utf-8')
+                program.chmod(program.stat().st_mode | stat.S_IXUSR)
+                failed = self.failure(kind, 'a = of(1).sum()', {'a': list(range(100000))}, program=program)
+                self.assertEqual((failed.status, failed.line), (status, line))
+
+    def test_each_failure_is_a_streamrun_error(self):
+        for kind in (streamrun.JobsRefused, streamrun.ColumnsRefused, streamrun.CommandLineRefused, streamrun.OutOfMemory,
+                     streamrun.FileFailed, streamrun.ProgramNotFound):
+            self.assertTrue(issubclass(kind, streamrun.StreamrunError))
+
+
+if __name__ == '__main__':
+    unittest.main()
