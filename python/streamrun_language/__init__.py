@@ -6,4 +6,7 @@
     tables                                   column files
     walks, model                             what jobs answer, and reports
     refusals                                 causes and places of refusals
+    explain, site                            where and why a file is refused, with a caret and a hint
+    word_hints, job_hints, lambda_hints,     the hints, and what to write for words of Java and of other tools
+    meaning_hints, table_hints, java_words
 """
