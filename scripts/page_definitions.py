@@ -40,6 +40,17 @@ def reached_from(specs, begin):
     return reached
 
 
+def comments(top):
+    """Files of definitions that a comment of a source names, and that aren't there."""
+    for path in sorted(glob.glob(os.path.join(top, 'crates', '*', '*', '**', '*.*'), recursive=True)):
+        if not path.endswith(('.rt', '.antt')) or f'{os.sep}out{os.sep}' in path:
+            continue
+        for crate, names in re.findall(r'\b(\w+)/specs/([A-Z]\w*(?:, [A-Z]\w*)*)', read(path)):
+            for name in names.split(', '):
+                if not os.path.exists(os.path.join(top, 'crates', crate, 'specs', f'{name}.antt')):
+                    yield f'{os.path.relpath(path, top)}: {crate}/specs/{name}.antt is not there'
+
+
 def meanings(top):
     """Files whose first line says another word than what rests on them: Meaning is exactly what Run.antt imports, directly or
     through others."""

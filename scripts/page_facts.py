@@ -141,6 +141,11 @@ def lines_of_script(top, *command):
     return run.stdout.splitlines() or ([f'status {run.returncode}'] if run.returncode else [])
 
 
+def worked(top):
+    """The source with the worked answers, if it isn't what they are."""
+    yield from lines_of_script(top, 'bench/soak/worked_jobs', '--check', top)
+
+
 def adding(top):
     """Lists of files of docs/adding.md that aren't the present ones."""
     yield from lines_of_script(top, 'scripts/adding', '--check', top)

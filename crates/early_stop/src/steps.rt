@@ -41,6 +41,8 @@ impl<S: Segments> Cut<S> {
     }
 
     /// Lowers the segment's word to the place, if it isn't lower already. One `fetch_min`.
+    ///
+    /// For other programs: `streamrun` calls `lower_with`.
     pub fn lower(&self, seat: CutSeat, segment: u32, place: u64) -> CutSeat
         requires table { IsSeatOf self.now seat }
         requires segment { (segment < count_of self.now) × (count_of self.now ≡ S.count (segments_of self.now)) }
@@ -80,6 +82,8 @@ impl<S: Segments> Cut<S> {
 
     /// The segment's word: a place that decides what the segment gives, and is no greater than what the seat knows; the greatest u64 if no
     /// place is known. One load.
+    ///
+    /// For other programs: `streamrun` calls `seen_with`.
     pub fn seen(&self, seat: CutSeat, segment: u32) -> (CutSeat, u64)
         requires table { IsSeatOf self.now seat }
         requires segment { (segment < count_of self.now) × (count_of self.now ≡ S.count (segments_of self.now)) }

@@ -2,7 +2,7 @@
 --   bytes of the column file → columns         columns/specs/Cells, Table, Refusals
 --   bytes of the job file → texts of jobs      stream_tokens/specs/JobTexts, Tokens
 --   texts of jobs         → jobs               job_language/specs/Files, Verdicts, Grammar, Table; their lambdas: lambda_expr/specs/Grammar, Refusals
---   jobs                  → answers            job_plan/specs/FileAnswers, Walks; their walks: trace/specs/Cover, Stages, Trace, Stops; what stages and terminals make of
+--   jobs                  → answers            job_meaning/specs/FileAnswers, Names, Walks; their walks: trace/specs/Cover, Stages, Trace, Stops; what stages and terminals make of
 --                                              them: slice_ops/specs/Slices, prefix_scan/specs/Prefixes, find_ops/specs/Finds, reduce_ops/specs/Folds, Operators, ExactSums;
 --                                              values of lambdas: lambda_values/specs/Value, Operators, Streams
 --   answers               → bytes of the report     report/specs/Text, Json; an answer in both forms: report/specs/AnswerForms

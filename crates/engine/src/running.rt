@@ -57,7 +57,7 @@ const PIECE: usize = 4 * 1024 * 1024;
 /// builds the report whole and writes it.
 ///
 /// The columns are read and the jobs run on threads, no more than the settings say. A piece of at most the threshold is never cut; a
-/// longer one is, while nodes last, unless its segment is walked in one piece, as one that `limit` or `takeWhile` ends. The gate is
+/// longer one is, while nodes last, unless the walk goes through a slice that doesn't select positions of the source. The gate is
 /// called before each piece, and one that does nothing will do. None of this changes the report.
 /// The cells of the columns, the job file and the report are each held in memory once. While the cells are read, the bytes
 /// of a column file of at most 4 MiB for each thread are held whole, of a longer one twice that many, or all that are

@@ -43,6 +43,8 @@ impl FindPart {
     }
 
     /// The part of a piece. The terminal is the stage with this number.
+    ///
+    /// For other programs: `streamrun` looks at items as they come, by `look_after`.
     pub fn of(terminal: &FindTerminal, stage: u32, chunk: &Chunk, env: &Env) -> FindPart
         ensures stands { StandsFor (find_of terminal.now) stage env.now result chunk.now }
     {

@@ -1,4 +1,4 @@
-//! JobSegments that were walked whole: the next one begins, or the job ends, and those that wait for it begin.
+//! What happens when a segment is complete: the next one begins, or the job ends and those that wait for it begin.
 ghost use Rattle.std.specs.Prelude.{◌≡◌, ◌<◌, ◌+◌, ◌++◌, ◌∷◌, [], List, ℕ, drop, length, IfSome, IfOk};
 ghost use Rattle.job_runner.specs.Cuts.{StandsWhole};
 ghost use Rattle.job_runner.specs.Tasks.{HasKept};

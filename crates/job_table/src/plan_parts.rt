@@ -22,7 +22,7 @@ use slice_ops::Slice;
 use std::alloc::Global;
 use trace::{Chunk, End};
 
-/// How many of the first segments end in a slice: the number of the segment that gives the answer.
+/// How many of the first segments end in a slice or a prefix: the number of the segment that gives the answer.
 pub(crate) fn slices_first(segments: &[Segment]) -> usize
     ensures value { result ≡ slices_first (segments_in segments.now) }
     ensures few { result ≤ length segments.now }
@@ -48,7 +48,7 @@ fn end_divides(end: &SegmentEnd) -> bool
     }
 }
 
-/// Whether a segment of a job is walked in pieces. JobSegments are numbered from the first of its `walked_segments`.
+/// Whether a segment of a job is walked in pieces. Segments are numbered from the first of its `walked_segments`.
 pub(crate) fn is_divided(plan: &JobPlan, segment: usize) -> bool
     ensures { result ≡ segment_divides (slice_get (walked_segments (plan_in plan.now)) segment) }
 {

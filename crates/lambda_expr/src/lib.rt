@@ -2,11 +2,12 @@
 //!
 //! It stands on `stream_tokens`, which cuts a text into tokens, and on `lambda_values`, which has the
 //! expressions and their values; what `lambda_values` offers has its names here too. Its users:
-//! - the readers of job files read lambdas and numbers by `read_lambda`, `read_lambda_of` (a part of a
-//!   text that is cut already) and `read_number`, clauses `ok` and `refused`: a text gives the lambda
-//!   that it spells, or the first refusal that applies, a syntax fault with its column.
-//!   `each_text_has_an_answer`, `one_answer` and `one_number` say that there is one answer and no
-//!   other.
+//! - `job_language` reads lambdas by `read_lambda_of`, clauses `ok` and `refused`: a part of a text that
+//!   is cut already gives the lambda that it spells, or the first refusal that applies, a syntax fault
+//!   with its column. It reads numbers by `Numeral`.
+//! - other programs read whole texts by `read_lambda` and `read_number`.
+//!
+//! `each_text_has_an_answer`, `one_answer` and `one_number` say that there is one answer and no other.
 //!
 //! Begin with `specs/Grammar.antt` and `specs/Refusals.antt`, then `read.rt` and `parse.rt`.
 //!

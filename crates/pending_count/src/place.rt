@@ -23,7 +23,7 @@ pub struct Place<T> {
 }
 
 impl<T> Place<T> {
-    /// The top node of the tree (Java: `CountedCompleter.getRoot`).
+    /// The top node of the tree (Java: `CountedCompleter.getRoot`). For other programs: no climb of `streamrun` asks for it.
     pub fn root(&self) -> Node
         ensures { result ≡ self.now.root }
     {

@@ -54,6 +54,8 @@ fn fold_pieces(op: Op, range: Option<(u64, u64)>, pieces: &[Vec<Item>]) -> Optio
 }
 
 /// The block of two pieces side by side, of one operator. A fault of the left one ends both. It takes no memory.
+///
+/// For other programs: `streamrun` folds values that lie side by side, by the loops below `up`.
 pub fn merge(left: Partial, right: Partial) -> Partial
     requires { right.op ≡ left.op }
     ensures op { result.op ≡ left.op }

@@ -6,11 +6,24 @@ use worker_pool::Gate;
 
 const TURNS: u64 = 100_000_000;
 
-/// Counts the leaves, and keeps the length of the longest. If it holds, the leaf at position 0 waits until another leaf is entered,
-/// and `turns` says how long that took: `TURNS` if none was entered meanwhile.
+/// How many turns a leaf is held that no other one lets go.
+const HELD_TURNS: u64 = 1000;
+
+/// Which leaf a gate holds.
+#[derive(Clone, Copy)]
+pub(crate) enum Holds {
+    Nothing,
+    /// That at position 0, until another leaf is entered.
+    First,
+    /// That of this number, in the order in which leaves are entered, for 1,000 turns.
+    Number(u64),
+}
+
+/// Counts the leaves, keeps the length of the longest, and may hold one: `turns` says how long, `TURNS` if no leaf was held, or none
+/// let it go.
 #[derive(Drop)]
 pub(crate) struct Watching {
-    holds: bool,
+    holds: Holds,
     entered: AtomicBool,
     pub(crate) leaves: AtomicU64,
     pub(crate) longest: AtomicU64,
@@ -19,7 +32,7 @@ pub(crate) struct Watching {
 
 impl Watching {
     /// A gate that no leaf has entered.
-    pub(crate) fn new(holds: bool) -> Watching {
+    pub(crate) fn new(holds: Holds) -> Watching {
         Watching {
             holds,
             entered: AtomicBool::new(false),
@@ -30,37 +43,35 @@ impl Watching {
     }
 
     /// Waits until another leaf is entered, or for as many turns as there may be.
-    fn hold(&self) {
-        for turn in 0..TURNS {
+    fn hold(&self, turns: u64) {
+        for turn in 0..turns {
             if self.entered.load(SeqCst) {
                 self.turns.store(turn, SeqCst);
                 return;
             }
             // On a busy machine the other thread needs the processor.
-            if turn % 4096 == 0 {
+            if turns == HELD_TURNS || turn % 4096 == 0 {
                 std::thread::yield_now();
             }
         }
-        self.turns.store(TURNS, SeqCst);
+        self.turns.store(turns, SeqCst);
     }
 
-    /// Whether a leaf was held and let go by another one, if it holds at all.
+    /// Whether the leaf that it holds was entered, held and let go; so it is if it holds none.
     pub(crate) fn let_go(&self) -> bool {
-        !self.holds || self.turns.load(SeqCst) < TURNS
+        matches!(self.holds, Holds::Nothing) || self.turns.load(SeqCst) < TURNS
     }
 }
 
 impl Gate for Watching {
     fn at_leaf(&self, _job: usize, from: u64, to: u64) {
-        self.leaves.fetch_add(1, SeqCst);
+        let number = self.leaves.fetch_add(1, SeqCst);
         self.longest.fetch_max(to.saturating_sub(from), SeqCst);
-        if !self.holds {
-            return;
-        }
-        if from == 0 {
-            self.hold();
-        } else {
-            self.entered.store(true, SeqCst);
+        match self.holds {
+            Holds::First if from == 0 => self.hold(TURNS),
+            Holds::First => self.entered.store(true, SeqCst),
+            Holds::Number(held) if held == number => self.hold(HELD_TURNS),
+            Holds::Number(_) | Holds::Nothing => {}
         }
     }
 }

@@ -1,7 +1,8 @@
 //! Tests of the public calls of `engine` and of what it stands on, from `job_plan` on, as another program makes them.
 //!
 //! They hold what neither a clause nor a run of the program shows: that pieces are walked by tasks and left out where nothing matters,
-//! that answers come from tasks, readers and writers that give or take little or fail, and calls that the program doesn't make.
+//! that no leaf that is held changes an answer, that answers come from tasks, readers and writers that give or take little or fail, and
+//! calls that the program doesn't make. `worked.rt` is written from the worked answers of `bench/soak`.
 //! Answers of jobs, refusals and settings are tested over the program, by `examples/`, `bench/soak` and `scripts/command_line`.
 //!
 //! Begin with `runs.rt`, which runs a job file over bytes in memory, and `lists.rt`, jobs of one's own. A function that may wait is proved
@@ -21,10 +22,14 @@ pub mod lists;
 #[cfg(test)]
 mod plans;
 #[cfg(test)]
+mod refusals;
+#[cfg(test)]
 mod reports;
 #[cfg(test)]
 mod runs;
 #[cfg(test)]
 mod shown;
+#[cfg(test)]
+mod worked;
 #[cfg(test)]
 mod writers;

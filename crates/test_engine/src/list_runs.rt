@@ -1,6 +1,6 @@
 //! Runs of jobs that are no streams, with different settings.
 use crate::driven::settings;
-use crate::gates::Watching;
+use crate::gates::{Holds, Watching};
 use crate::lists::copies;
 use job_plan::Settings;
 use std::alloc::Global;
@@ -30,7 +30,7 @@ fn leaves<H: Threads + Wait + Sync>(
     settings: Settings,
 ) -> Result<Option<u64>, Fail> {
     let lists = lists(alloc)?;
-    let gate = Watching::new(false);
+    let gate = Watching::new(Holds::Nothing);
     match copies(rt, alloc, lists.as_slice(), refusals, settings, &gate) {
         Ok(answers) if answers.as_slice() == lists.as_slice() => Ok(Some(gate.leaves.load(SeqCst))),
         _ => Ok(None),

@@ -2,7 +2,9 @@
 
 use crate::shown::{plan_of, shown};
 use columns::Columns;
-use job_plan::{JobPlan, SplitTree, walk, walk_tree};
+use job_plan::{
+    Answer, JobPlan, Outcome, Part, Source, SplitTree, Walked, Window, leaf, walk, walk_tree,
+};
 use lambda_values::Env;
 use std::alloc::{AllocError, Global};
 use std::test::Fail;
@@ -60,7 +62,7 @@ range(0, 9).limit(1).limit(0).skip(1).sum() => 0, 3 from 2
 range(0, 9).skip(1).takeWhile(x -> true).skip(1).sum() => 35, 3 from 2
 range(0, 9).dropWhile(x -> true).skip(1).sum() => 0, 3 from 1
 of(5, 3, 8).skip(1).map(x -> 24 / x).toArray() => [8, 3], 1 from 2
-of(3, 0).prefix(sum).map(x -> 6 / (x - 3)).findFirst() => fault of stage 2 at 0, 2 from 1";
+of(3, 0).prefix(sum).map(x -> 6 / (x - 3)).findFirst() => fault divide-by-zero stage 2 item 0, 2 from 1";
 
 /// Whether the jobs of a text are walked so, whatever the first piece.
 fn is_walked(alloc: Global, text: &str, answer: &str, segments: &str) -> Result<bool, Fail> {
@@ -87,6 +89,65 @@ fn slices_before_every_other_stage_are_not_walked(rt: HostRuntime) -> Result<(),
         let (answer, segments) = wanted.rsplit_once(", ").unwrap_or((wanted, ""));
         let text = format!(in alloc; "q = {job}")?;
         assert!(rt; is_walked(alloc, text.as_str(), answer, segments)?, "{row}");
+    }
+    Ok(())
+}
+
+/// The answer of a job of one segment, from the parts of the items before a position and from it on.
+fn in_two_leaves(alloc: Global, job: &JobPlan, middle: u64) -> Result<Option<Answer>, AllocError> {
+    let env = Env::empty(alloc);
+    let Some(segment) = job.segments.first() else {
+        return Ok(None);
+    };
+    let walked = Walked {
+        source: Source::of_job(job),
+        env: &env,
+    };
+    let before = Window {
+        from: 0,
+        to: Some(middle),
+    };
+    let after = Window {
+        from: middle,
+        to: None,
+    };
+    let left = leaf(alloc, segment, walked, before)?;
+    let right = leaf(alloc, segment, walked, after)?;
+    answer_of(alloc, left, right, &env)
+}
+
+/// What two parts side by side give.
+fn answer_of<'p>(
+    alloc: Global,
+    left: Part<'p>,
+    right: Part<'p>,
+    env: &Env,
+) -> Result<Option<Answer>, AllocError> {
+    match left.merge(right) {
+        Ok(part) => match part.finish(alloc, env)? {
+            Some(Outcome::Answer(answer)) => Ok(Some(answer)),
+            _ => Ok(None),
+        },
+        Err(_) => Err(AllocError),
+    }
+}
+
+#[test]
+fn two_leaves_side_by_side_give_the_answer(rt: HostRuntime) -> Result<(), Fail> {
+    let alloc = rt.alloc();
+    let columns = Columns::none();
+    let plan = plan_of(
+        alloc,
+        b"q = of(6, 3, 2).map(x -> 12 / x).toArray()",
+        &columns,
+    )?;
+    for job in &plan.jobs {
+        for middle in [0, 1, 2, 3] {
+            let Some(answer) = in_two_leaves(alloc, job, middle)? else {
+                return Err(Fail::from(AllocError));
+            };
+            assert!(rt; shown(alloc, &answer)?.as_str() == "[2, 4, 6]", "{middle}");
+        }
     }
     Ok(())
 }

@@ -1,9 +1,19 @@
 //! Answers as text, and jobs in segments.
 
-use columns::Columns;
+use columns::{Columns, Counted, read_columns};
 use job_language::read_jobs;
 use job_plan::{Answer, Plan, Values};
+use lambda_values::FaultKind;
 use std::alloc::{AllocError, Global};
+use trace::Fault;
+
+/// The columns of a file. It fails if the file is refused.
+pub(crate) fn columns_of(alloc: Global, file: &str) -> Result<Columns, AllocError> {
+    match read_columns(alloc, &mut Counted::new(file.as_bytes())) {
+        Ok(columns) => Ok(columns),
+        Err(_) => Err(AllocError),
+    }
+}
 
 /// The jobs of a file in segments. It fails if the file is refused.
 pub(crate) fn plan_of<'c>(
@@ -23,7 +33,21 @@ fn shown_values(alloc: Global, values: &Values) -> Result<String, AllocError> {
     format!(in alloc; "{:?}", values.as_slice())
 }
 
-/// An answer as Java prints it, and a fault with its stage and its item.
+/// A fault as a report has it.
+fn shown_fault(alloc: Global, fault: &Fault) -> Result<String, AllocError> {
+    let kind = match fault.kind {
+        FaultKind::DivideByZero => "divide-by-zero",
+        FaultKind::Overflow => "overflow",
+        FaultKind::OutOfArray => "out-of-array",
+        FaultKind::SourceTooLong => "source-too-long",
+    };
+    match fault.origin {
+        Some(item) => format!(in alloc; "fault {kind} stage {} item {item}", fault.stage),
+        None => format!(in alloc; "fault {kind} stage {} item -", fault.stage),
+    }
+}
+
+/// An answer as a report has it, but that one which is unusable has the number of the other job.
 pub(crate) fn shown(alloc: Global, answer: &Answer) -> Result<String, AllocError> {
     match answer {
         Answer::Number(number) => format!(in alloc; "{number}"),
@@ -31,11 +55,7 @@ pub(crate) fn shown(alloc: Global, answer: &Answer) -> Result<String, AllocError
         Answer::Optional(None) => format!(in alloc; "OptionalLong.empty"),
         Answer::Optional(Some(number)) => format!(in alloc; "OptionalLong[{number}]"),
         Answer::Array(values) => shown_values(alloc, values),
-        Answer::Fault(fault) => format!(in alloc;
-            "fault of stage {} at {}",
-            fault.stage,
-            fault.origin.unwrap_or(0)
-        ),
+        Answer::Fault(fault) => shown_fault(alloc, fault),
         Answer::Unusable(job) => format!(in alloc; "unusable {job}"),
     }
 }

@@ -1,0 +1,176 @@
+"""What scripts/pages checks of calls, tests and wrong bodies: that each public call is made, and that what promises.md says is
+shown by tests, or refused, is."""
+import glob
+import importlib.machinery
+import importlib.util
+import os
+import re
+
+from page_text import TICKED, read
+
+SCRIPTS = os.path.dirname(os.path.abspath(__file__))
+COMMENT = re.compile(r'//.*$')
+
+
+def budget():
+    """scripts/gate_budget, which knows the functions of a source."""
+    loader = importlib.machinery.SourceFileLoader('gate_budget', os.path.join(SCRIPTS, 'gate_budget'))
+    module = importlib.util.module_from_spec(importlib.util.spec_from_loader('gate_budget', loader))
+    loader.exec_module(module)
+    return module
+
+
+BUDGET = budget()
+
+
+def block_of(lines, place):
+    """The head of the impl block or trait in which a line stands, on one line."""
+    first = next((at for at in range(place, -1, -1) if re.match(r'(?:pub )?(?:impl|trait)\b', lines[at])), place)
+    last = next(at for at in range(first, place + 1) if '{' in lines[at] or at == place)
+    return ' '.join(line.split('{')[0].strip() for line in lines[first:last + 1]).strip()
+
+
+def type_of(block):
+    """The type of an impl block, by the block's head; none of another item."""
+    while re.search(r'<[^<>]*>', block):
+        block = re.sub(r'<[^<>]*>', '', block)
+    named = re.fullmatch(r'impl (?:.* for )?&?(?:\w+::)*(\w+)(?: where.*)?', block.strip())
+    return named[1] if named else ''
+
+
+class Function:
+    """A function of a source: where it stands, whether others may call it, and the code of its body."""
+
+    def __init__(self, crate, lines, text, found):
+        self.name, first, body, last = found
+        self.crate, self.text = crate, text
+        block = block_of(lines, first) if lines[first].startswith(' ') else ''
+        self.type, self.is_of_trait = type_of(block), block.startswith(('trait', 'pub trait')) or ' for ' in block
+        self.is_public = lines[first].strip().startswith('pub fn')
+        self.is_test = first > 0 and lines[first - 1].strip() == '#[test]'
+        head = ' '.join(lines[first:max(body, first) + 1])
+        self.takes_self = bool(re.search(r'\(\s*(?:mut |&mut |&)?self\b', head))
+        # A law says something in its contract, and does nothing.
+        self.is_law = lines[last].strip() == '{}'
+        self.code = '\n'.join(COMMENT.sub('', line) for line in lines[body + 1:last])
+        self.words = set(re.findall(r'\w+', self.code))
+
+    def shown(self):
+        return f'{self.crate}::' + (f'{self.type}::' if self.type else '') + self.name
+
+    def is_called_by(self, caller, types, is_alone):
+        """Whether a function's code names it. `types` are its type and other names of it, and `is_alone` says that no other type has
+        a method of this name; a method of two types is that of the type that the caller's file names."""
+        if self.is_of_trait:
+            return bool(re.search(rf'[.:]{self.name}\b', caller.code))
+        paths = re.findall(rf'(\.)?(?:\b(\w+)(?:::<[^;()]*>)?::)?\b{self.name}\b(?!: )', caller.code)
+        if not self.type:
+            return any(not dot and not path[:1].isupper() for dot, path in paths)
+        if any(path in types or path == 'Self' and caller.type == self.type for _, path in paths):
+            return True
+        is_named = is_alone or caller.type == self.type or any(re.search(rf'\b{it}\b', caller.text) for it in types)
+        return self.takes_self and is_named and bool(re.search(rf'\.{self.name}(?:::<[^;()]*>)?\(', caller.code))
+
+
+def functions_of(top):
+    """Every function of the crates, and for each type the other names that it is given."""
+    functions, names = [], {}
+    for path in sorted(glob.glob(os.path.join(top, 'crates', '*', 'src', '**', '*.rt'), recursive=True)):
+        crate = os.path.relpath(path, os.path.join(top, 'crates')).split(os.sep)[0]
+        lines = BUDGET.lines_of(path)
+        text = '\n'.join(COMMENT.sub('', line) for line in lines)
+        functions += [Function(crate, lines, text, found) for found in BUDGET.functions_of(lines)]
+        for name, kind in re.findall(r'\btype (\w+)[^=;]*= *(?:\w+::)*(\w+)', text):
+            names.setdefault(kind, {kind}).add(name)
+        for kind, name in re.findall(r'\b([A-Z]\w+) as ([A-Z]\w+)', text):
+            names.setdefault(kind, {kind}).add(name)
+    for _ in range(3):
+        for kind in names:
+            names[kind] = names[kind].union(*(names.get(it, {it}) for it in names[kind]))
+    return functions, names
+
+
+def below_of(top):
+    """For each crate all that it stands on."""
+    rows = [line.split('#')[0].partition(':') for line in read(os.path.join(top, 'crates.txt')).splitlines()]
+    found = {}
+    for name, below in [(row[0].split()[0], row[2].split()) for row in rows if row[1]]:
+        found[name] = {name}.union(*(found.get(it, {it}) for it in below))
+    return found
+
+
+def called(top):
+    """Public calls of the libraries that neither the program nor a test makes, directly or through others, as far as names say."""
+    functions, names = functions_of(top)
+    below, of_name = below_of(top), {}
+    for it in functions:
+        of_name.setdefault(it.name, []).append(it)
+    reached = {it for it in functions if it.is_test or (it.crate, it.name) == ('streamrun', 'main')}
+    waiting = list(reached)
+    while waiting:
+        caller = waiting.pop()
+        for name in caller.words & of_name.keys():
+            is_alone = len({it.type for it in of_name[name] if it.takes_self}) < 2
+            for it in of_name[name]:
+                if it in reached or not (it.is_of_trait or it.crate in below[caller.crate]):
+                    continue
+                if it.is_called_by(caller, names.get(it.type, {it.type}), is_alone):
+                    reached.add(it)
+                    waiting.append(it)
+    for it in functions:
+        if it.is_public and it not in reached and not it.is_law:
+            yield f'neither the program nor a test calls {it.shown()}'
+
+
+def section(top, title):
+    """The part of promises.md below a heading."""
+    return read(os.path.join(top, 'docs', 'promises.md')).split(f'\n## {title}\n')[1].split('\n## ')[0]
+
+
+def rows_of(part):
+    """The first two cells of each row of a table, without its head."""
+    rows = [[cell.strip() for cell in line.strip('|').split(' | ')] for line in part.splitlines() if line.startswith('| ')]
+    return [row[:2] for row in rows[1:]]
+
+
+def tests_of(top):
+    """`CRATE::NAME` of each test in Rattle."""
+    return {f'{it.crate}::{it.name}' for it in functions_of(top)[0] if it.is_test}
+
+
+def lacking(top, word, tests, commands):
+    """Why what shows a promise, in backquotes, isn't there; none if it is. A command has to be one of the test command's."""
+    if re.fullmatch(r'test_\w+::\w+', word):
+        return None if word in tests else 'is no test'
+    if not os.path.exists(os.path.join(top, word.split()[0])):
+        return 'is not there'
+    return None if all(it in commands for it in word.split()) else '.ci/run does not run it'
+
+
+def shown(top):
+    """Rows of the table of what tests show that name no test, or one that isn't there or isn't run."""
+    tests, commands = tests_of(top), read(os.path.join(top, '.ci', 'run')).split()
+    for promise, cell in rows_of(section(top, 'Shown by tests')):
+        words = TICKED.findall(cell)
+        if not words:
+            yield f'promises.md: no test shows {promise}'
+        for word in words:
+            why = lacking(top, word, tests, commands)
+            if why:
+                yield f'promises.md: {word} {why}'
+
+
+def refused(top):
+    """Rows of the table of wrong bodies that name no edit and no test, or one that isn't there."""
+    tests, commands = tests_of(top), read(os.path.join(top, '.ci', 'run')).split()
+    for body, cell in rows_of(section(top, 'Wrong bodies that are refused')):
+        words = TICKED.findall(cell)
+        if not words:
+            yield f'promises.md: nothing refuses: {body}'
+        for word in words:
+            crate, _, edit = word.partition('/')
+            if any(os.path.exists(os.path.join(top, 'crates', crate, folder, f'{edit}.edit')) for folder in BUDGET.FOLDERS_OF_EDITS):
+                continue
+            why = lacking(top, word, tests, commands)
+            if why:
+                yield f'promises.md: {word} {why}'
