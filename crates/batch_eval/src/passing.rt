@@ -5,6 +5,7 @@ ghost use Rattle.lambda_values.specs.Term.{truth_of};
 ghost use Rattle.lambda_values.specs.Value.{truth_value};
 ghost use Rattle.std.specs.Prelude.{◌≡◌, ◌≢◌, ◌<◌, ◌≤◌, ℕ, Ok, length};
 
+use crate::choose::all_flags;
 use crate::flag::is_set;
 use crate::register::{Inputs, LANES, eval_bool};
 use crate::room::test_fits;
@@ -53,13 +54,17 @@ fn count_one_by_one(test: &BoolExpr, wanted: bool, env: &Env, values: &[i64]) ->
     values.len()
 }
 
-/// How many of the first `live` flags come before the first one that is not as it is wanted.
+/// How many of the first `live` flags come before the first one that is not as it is wanted. Mostly all are, which a loop without
+/// a branch finds out.
 fn count_flags(flags: &[i64], wanted: bool, live: usize) -> usize
     requires { live ≤ length flags.now }
     ensures within { result ≤ live }
     ensures passed { (k : ℕ) → k < result → is_set_flag (at flags.now k) ≡ wanted }
     ensures stop { result < live → is_set_flag (at flags.now result) ≢ wanted }
 {
+    if all_flags(flags, wanted, live) {
+        return live;
+    }
     for lane in 0..live {
         if is_set(flags[lane]) != wanted {
             return lane;
