@@ -90,9 +90,8 @@ pub(crate) fn eval_bounds(
     let inputs = Inputs { env, xs, live };
     let first = eval_long(from, inputs, froms, room);
     let valid = Inputs {
-        env,
-        xs,
         live: first.live,
+        ..inputs
     };
     eval_long(to, valid, tos, room).live
 }

@@ -9,8 +9,9 @@ ghost use Rattle.lambda_values.specs.Value.{truth_value};
 ghost use Rattle.std.specs.Prelude.{◌≡◌, ◌<◌, ◌≤◌, ℕ, ℤ, IfSome, IsTrue, Ok, length};
 
 use crate::cheap::is_cheap;
-use crate::choose::{Side, all_flags, gather, merge, select, set_ones, set_others};
+use crate::choose::{Side, all_flags, gather, merge, select};
 use crate::flag::flag;
+use crate::lanes::{Number, Own, Register};
 use crate::reached::{Reached, all};
 use crate::register::{Inputs, LANES, Operand, eval_bool, eval_operand};
 use lambda_values::{BoolExpr, LongExpr};
@@ -46,9 +47,8 @@ pub(crate) fn eval_chosen(
     let (flags, rest) = room.split_at_mut(LANES);
     let tested = eval_bool(condition, inputs, flags, rest);
     let valid = Inputs {
-        env: inputs.env,
-        xs: inputs.xs,
         live: tested.live,
+        ..inputs
     };
     if eval_both(flags, a, b, valid, out, rest) {
         return all(tested.live).after(tested);
@@ -77,7 +77,7 @@ fn eval_parted(
     let (items, rest) = room.split_at_mut(LANES);
     let (ones, rest) = rest.split_at_mut(LANES);
     let (others, rest) = rest.split_at_mut(LANES);
-    let Inputs { env, xs, live } = inputs;
+    let Inputs { xs, live, .. } = inputs;
     if all_flags(flags, true, live) {
         return eval_operand(a, inputs, out, rest);
     }
@@ -86,16 +86,16 @@ fn eval_parted(
     }
     let count = gather(flags, true, live, xs, items);
     let chosen = Inputs {
-        env,
         xs: items,
         live: count,
+        ..inputs
     };
     let first = eval_operand(a, chosen, ones, rest);
     let count = gather(flags, false, live, xs, items);
     let other = Inputs {
-        env,
         xs: items,
         live: count,
+        ..inputs
     };
     let second = eval_operand(b, other, others, rest);
     let ones = Side {
@@ -133,15 +133,15 @@ fn eval_both(
     let (ones, rest) = room.split_at_mut(3 * LANES);
     if let Some(number) = number_of(b) {
         let first = eval_operand(a, inputs, out, rest);
-        set_others(flags, number, inputs.live, out);
+        select::<Own, Number>(flags, Own, Number(number), inputs.live, out);
         return first.live == inputs.live;
     }
     let second = eval_operand(b, inputs, out, rest);
     if let Some(number) = number_of(a) {
-        set_ones(flags, number, inputs.live, out);
+        select::<Number, Own>(flags, Number(number), Own, inputs.live, out);
         return second.live == inputs.live;
     }
     let first = eval_operand(a, inputs, ones, rest);
-    select(flags, ones, inputs.live, out);
+    select::<Register<'_>, Own>(flags, Register(ones), Own, inputs.live, out);
     first.live == inputs.live && second.live == inputs.live
 }

@@ -6,6 +6,7 @@ ghost use Rattle.lambda_values.specs.declared.fault.FaultKind.{FaultKind};
 ghost use Rattle.std.specs.Prelude.{◌≡◌, ℕ, ℤ, ◌<◌, ◌≤◌, IsTrue, Result, false, length, slice_index, true, if◌then◌else◌};
 
 use crate::flag::is_set;
+use crate::lanes::Lanes;
 use crate::reached::{Reached, all};
 
 /// Whether a flag is as it is wanted.
@@ -97,36 +98,18 @@ pub(crate) fn merge(
     all(live)
 }
 
-/// The lanes of a register whose flag is set, into another register.
-pub(crate) fn select(flags: &[i64], ones: &[i64], live: usize, out: &mut [i64])
+/// One operand into the lanes whose flag is set, and another one into the others.
+pub(crate) fn select<A: Lanes, B: Lanes>(flags: &[i64], a: A, b: B, live: usize, out: &mut [i64])
     requires flags { live ≤ length flags.now }
-    requires ones { live ≤ length ones.now }
+    requires a { live ≤ A.count a }
+    requires b { live ≤ B.count b }
     requires out { live ≤ length out.old }
-    ensures { (k : ℕ) → k < live → at out.new k ≡ (if is_set_flag (at flags.now k) then at ones.now k else at out.old k) }
+    ensures { (k : ℕ) → k < live → at out.new k ≡ (if is_set_flag (at flags.now k) then A.number a (at out.old k) k else B.number b (at out.old k) k) }
 {
     for i in 0..live {
-        out[i] = if is_set(flags[i]) { ones[i] } else { out[i] };
-    }
-}
-
-/// One number into the lanes whose flag is set.
-pub(crate) fn set_ones(flags: &[i64], number: i64, live: usize, out: &mut [i64])
-    requires flags { live ≤ length flags.now }
-    requires out { live ≤ length out.old }
-    ensures { (k : ℕ) → k < live → at out.new k ≡ (if is_set_flag (at flags.now k) then number else at out.old k) }
-{
-    for i in 0..live {
-        out[i] = if is_set(flags[i]) { number } else { out[i] };
-    }
-}
-
-/// One number into the lanes whose flag isn't set.
-pub(crate) fn set_others(flags: &[i64], number: i64, live: usize, out: &mut [i64])
-    requires flags { live ≤ length flags.now }
-    requires out { live ≤ length out.old }
-    ensures { (k : ℕ) → k < live → at out.new k ≡ (if is_set_flag (at flags.now k) then at out.old k else number) }
-{
-    for i in 0..live {
-        out[i] = if is_set(flags[i]) { out[i] } else { number };
+        let old = out[i];
+        let one = a.get(i, old);
+        let other = b.get(i, old);
+        out[i] = if is_set(flags[i]) { one } else { other };
     }
 }

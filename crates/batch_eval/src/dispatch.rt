@@ -60,7 +60,10 @@ pub(crate) fn by_infix(
 {
     match op {
         Infix::Compute(operator) => match beside {
-            Beside::Number(Step::Stay, y) => by_number_computed(operator, held, y, live, out),
+            Beside::Number(Step::Stay, y) => match exponent_of(y) {
+                Some(exponent) => by_power(operator, held, y, exponent, live, out),
+                None => by_any_number(operator, held, y, live, out),
+            },
             Beside::Number(step, y) => by_step_and_number(operator, held, step, y, live, out),
             _ => by_operator(operator, held, beside, live, out),
         },
@@ -90,60 +93,31 @@ fn by_step_and_number(
     }
 }
 
-/// Division by a power of two needs no division of the processor.
-fn by_number_computed(
+/// An operator between an operand that is held and a power of two, which has this exponent: a division by it needs none of the
+/// processor.
+fn by_power(
     operator: BinaryOperator,
     held: Held<'_>,
     y: i64,
+    exponent: i64,
     live: usize,
     out: &mut [i64],
 ) -> Reached
+    requires power { y ≡ pos (power exponent) }
     requires held { HasHeld held live }
     requires out { live ≤ length out.old }
     ensures { Reaches (λ k. binary_value operator (held_at held.entry out.old k) y) (at out.new) live result }
 {
-    match exponent_of(y) {
-        Some(exponent) => {
-            let by = Power {
-                number: y,
-                exponent,
-            };
-            by_power(operator, held, by, live, out)
-        }
-        None => by_any_number(operator, held, y, live, out),
-    }
-}
-
-/// A power of two, and its exponent.
-#[derive(Clone, Copy)]
-struct Power {
-    number: i64,
-    exponent: i64,
-}
-
-/// An operator between an operand that is held and a power of two.
-fn by_power(
-    operator: BinaryOperator,
-    held: Held<'_>,
-    by: Power,
-    live: usize,
-    out: &mut [i64],
-) -> Reached
-    requires power { by.number ≡ pos (power by.exponent) }
-    requires held { HasHeld held live }
-    requires out { live ≤ length out.old }
-    ensures { Reaches (λ k. binary_value operator (held_at held.entry out.old k) by.number) (at out.new) live result }
-{
     match operator {
-        BinaryOperator::Divide => by_number::<DivideByPower>(held, by.exponent, live, out),
-        BinaryOperator::Remainder => { by_number::<RemainderByPower>(held, by.exponent, live, out) }
+        BinaryOperator::Divide => by_number::<DivideByPower>(held, exponent, live, out),
+        BinaryOperator::Remainder => { by_number::<RemainderByPower>(held, exponent, live, out) }
         BinaryOperator::FloorDivide => {
-            by_number::<FloorDivideByPower>(held, by.exponent, live, out)
+            by_number::<FloorDivideByPower>(held, exponent, live, out)
         }
         BinaryOperator::FloorRemainder => {
-            by_number::<FloorRemainderByPower>(held, by.exponent, live, out)
+            by_number::<FloorRemainderByPower>(held, exponent, live, out)
         }
-        _ => by_any_number(operator, held, by.number, live, out),
+        _ => by_any_number(operator, held, y, live, out),
     }
 }
 
@@ -175,8 +149,7 @@ fn by_any_number(
         BinaryOperator::SubtractExact => {
             by_exact_number::<SubtractExact, Subtract>(differences_within(y), held, y, live, out)
         }
-        BinaryOperator::Multiply if is_half(y) => by_number::<MultiplyByHalf>(held, y, live, out),
-        _ => by_operator(operator, held, Beside::Number(Step::Stay, y), live, out),
+        _ => by_step_and_number(operator, held, Step::Stay, y, live, out),
     }
 }
 

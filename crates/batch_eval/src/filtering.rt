@@ -14,6 +14,7 @@ ghost use Rattle.trace.specs.declared.item.Item.{Item};
 use crate::batch::{Batch, stopped};
 use crate::flagged::{LiveLanes, give_passing};
 use crate::keep::{keep_from, keep_lanes, keep_listed};
+use crate::lanes::Register;
 use crate::listed::ListedItems;
 use crate::pipeline::Pipeline;
 use crate::register::{Inputs, eval_bool};
@@ -65,11 +66,11 @@ impl Batch {
         };
         let reached = eval_bool(test, inputs, &mut self.spare, room);
         self.end = stopped(End::Done, line.first, start, &self.origins, reached);
-        self.live = keep_from(
+        self.live = keep_from::<Register<'_>>(
             &self.spare,
             reached.live,
             run.origin,
-            run.values,
+            Register(run.values),
             &mut self.values,
             &mut self.origins,
         );

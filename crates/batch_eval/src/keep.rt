@@ -5,6 +5,7 @@ ghost use Rattle.batch_eval.specs.Lanes.{at};
 ghost use Rattle.std.specs.Prelude.{◌≡◌, ℕ, ◌+◌, ◌<◌, ◌≤◌, ◌^◌, length, slice_index};
 
 use crate::flag::is_set;
+use crate::lanes::{Lanes, Own};
 
 /// Moves the items of the lanes whose flag is set to the front, and answers how many they are. Their places are listed.
 pub(crate) fn keep_lanes(
@@ -24,7 +25,7 @@ pub(crate) fn keep_lanes(
     ensures origins { (j : ℕ) → j < result → slice_index origins.new j ≡ origin_at start origins.old (slice_index (passing flags.now live) j) }
 {
     match start {
-        Some(start) => keep_counted(flags, live, start, values, origins),
+        Some(start) => keep_from::<Own>(flags, live, start, Own, values, origins),
         None => keep(flags, live, values, origins),
     }
 }
@@ -50,57 +51,30 @@ fn keep(flags: &[i64], live: usize, values: &mut [i64], origins: &mut [u64]) -> 
     kept
 }
 
-/// The same of lanes whose places count up from `start`: their places are listed.
-fn keep_counted(
-    flags: &[i64],
-    live: usize,
-    start: u64,
-    values: &mut [i64],
-    origins: &mut [u64],
-) -> usize
-    requires flags { live ≤ length flags.now }
-    requires values { live ≤ length values.old }
-    requires origins { live ≤ length origins.old }
-    requires counts { start + live < 2 ^ 64 }
-    ensures count { result ≡ length (passing flags.now live) }
-    ensures within { result ≤ live }
-    ensures values { (j : ℕ) → j < result → at values.new j ≡ at values.old (slice_index (passing flags.now live) j) }
-    ensures origins { (j : ℕ) → j < result → slice_index origins.new j ≡ start + slice_index (passing flags.now live) j }
-{
-    let mut kept = 0;
-    for i in 0..live {
-        values[kept] = values[i];
-        origins[kept] = start + i as u64;
-        if is_set(flags[i]) {
-            kept += 1;
-        }
-    }
-    kept
-}
-
-/// The items of the lanes whose flag is set, of values that lie elsewhere, at places that count up from `first`: puts
-/// them to the front of registers, with their places listed, and answers how many they are.
-pub(crate) fn keep_from(
+/// The items of the lanes whose flag is set, at places that count up from `first`: puts them to the front of registers, with
+/// their places listed, and answers how many they are.
+pub(crate) fn keep_from<A: Lanes>(
     flags: &[i64],
     live: usize,
     first: u64,
-    xs: &[i64],
+    xs: A,
     values: &mut [i64],
     origins: &mut [u64],
 ) -> usize
     requires flags { live ≤ length flags.now }
-    requires xs { live ≤ length xs.now }
+    requires xs { live ≤ A.count xs }
     requires values { live ≤ length values.old }
     requires origins { live ≤ length origins.old }
     requires counts { first + live < 2 ^ 64 }
     ensures count { result ≡ length (passing flags.now live) }
     ensures within { result ≤ live }
-    ensures values { (j : ℕ) → j < result → at values.new j ≡ at xs.now (slice_index (passing flags.now live) j) }
+    ensures values { (j : ℕ) → j < result → at values.new j ≡ A.number xs (at values.old (slice_index (passing flags.now live) j)) (slice_index (passing flags.now live) j) }
     ensures origins { (j : ℕ) → j < result → slice_index origins.new j ≡ first + slice_index (passing flags.now live) j }
 {
     let mut kept = 0;
     for i in 0..live {
-        values[kept] = xs[i];
+        let old = values[i];
+        values[kept] = xs.get(i, old);
         origins[kept] = first + i as u64;
         if is_set(flags[i]) {
             kept += 1;

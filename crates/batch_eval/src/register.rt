@@ -172,9 +172,8 @@ fn eval_between(
         return by_infix(op, held, beside, first.live, out).after(first);
     }
     let valid = Inputs {
-        env: inputs.env,
-        xs: inputs.xs,
         live: first.live,
+        ..inputs
     };
     let (ys, rest) = room.split_at_mut(LANES);
     let second = eval_long(last.of, valid, ys, rest);

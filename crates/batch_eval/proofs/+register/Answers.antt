@@ -31,7 +31,7 @@ choice::eval_both-returns-in-Some m c = λ is k below.
     let env = c.args.inputs.env.now in
     let x = at c.args.inputs.xs.now k in
     let same : to_z w64 (of_z w64 c.in-Some.number) ≡ c.in-Some.number = search rules in
-    by_flag_ones (at c.args.flags.now k) (at c.eval_operand-first.new.out k) (to_z w64 (of_z w64 c.in-Some.number)) (at c.set_others.new.out k) (operand_value c.args.a x env) (operand_value c.args.b x env) (c.set_others.ensures k below) (c.eval_operand-first.ensures.values k within) (c.in-Some.ensures x env ∙ ap Ok (sym same))
+    by_flag_ones (at c.args.flags.now k) (at c.eval_operand-first.new.out k) (to_z w64 (of_z w64 c.in-Some.number)) (at c.select.new.out k) (operand_value c.args.a x env) (operand_value c.args.b x env) (c.select.ensures k below) (c.eval_operand-first.ensures.values k within) (c.in-Some.ensures x env ∙ ap Ok (sym same))
 
 pub choice::eval_both-returns-in-Some-number_of : goal.choice::eval_both-returns-in-Some-number_of
 choice::eval_both-returns-in-Some-number_of m c = λ is k below.
@@ -39,7 +39,7 @@ choice::eval_both-returns-in-Some-number_of m c = λ is k below.
     let env = c.args.inputs.env.now in
     let x = at c.args.inputs.xs.now k in
     let same : to_z w64 (of_z w64 c.in-Some-number_of.number) ≡ c.in-Some-number_of.number = search rules in
-    by_flag_ones (at c.args.flags.now k) (to_z w64 (of_z w64 c.in-Some-number_of.number)) (at c.eval_operand-second.new.out k) (at c.set_ones.new.out k) (operand_value c.args.a x env) (operand_value c.args.b x env) (c.set_ones.ensures k below) (c.in-Some-number_of.ensures x env ∙ ap Ok (sym same)) (c.eval_operand-second.ensures.values k within)
+    by_flag_ones (at c.args.flags.now k) (to_z w64 (of_z w64 c.in-Some-number_of.number)) (at c.eval_operand-second.new.out k) (at c.select-in-Some-number_of.new.out k) (operand_value c.args.a x env) (operand_value c.args.b x env) (c.select-in-Some-number_of.ensures k below) (c.in-Some-number_of.ensures x env ∙ ap Ok (sym same)) (c.eval_operand-second.ensures.values k within)
 
 pub choice::eval_both-returns-then-first-inputs : goal.choice::eval_both-returns-then-first-inputs
 choice::eval_both-returns-then-first-inputs m c = λ is k below.
@@ -47,7 +47,7 @@ choice::eval_both-returns-then-first-inputs m c = λ is k below.
     let env = c.args.inputs.env.now in
     let x = at c.args.inputs.xs.now k in
     let all = c.if-first-inputs.true in
-    by_flag_ones (at c.args.flags.now k) (at c.eval_operand-first-2.new.out k) (at c.eval_operand-second.new.out k) (at c.select.new.out k) (operand_value c.args.a x env) (operand_value c.args.b x env) (c.select.ensures k below) (c.eval_operand-first-2.ensures.values k (omega (arith, all))) (c.eval_operand-second.ensures.values k within)
+    by_flag_ones (at c.args.flags.now k) (at c.eval_operand-first-2.new.out k) (at c.eval_operand-second.new.out k) (at c.select-2.new.out k) (operand_value c.args.a x env) (operand_value c.args.b x env) (c.select-2.ensures k below) (c.eval_operand-first-2.ensures.values k (omega (arith, all))) (c.eval_operand-second.ensures.values k within)
 
 pub choice::eval_parted-returns : goal.choice::eval_parted-returns
 choice::eval_parted-returns m c =

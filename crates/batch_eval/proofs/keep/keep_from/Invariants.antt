@@ -4,10 +4,11 @@ use Rattle.batch_eval.specs.Batches.{passing}
 use Rattle.batch_eval.proofs.keep.keep_from.Given as goal
 
 abbrev pub invariant-loop-i : goal.invariant-loop-i
-invariant-loop-i l =
+invariant-loop-i g l =
     record {
       count : l.kept ≡ length (passing l.flags l.i);
       within : l.kept ≤ l.i;
-      values : (j : ℕ) → j < l.kept → at l.values j ≡ at l.xs (slice_index (passing l.flags l.i) j);
+      values : (j : ℕ) → j < l.kept → at l.values j ≡ g.A.Lanes.number l.xs (at l.fn.values (slice_index (passing l.flags l.i) j)) (slice_index (passing l.flags l.i) j);
       origins : (j : ℕ) → j < l.kept → slice_index l.origins j ≡ l.first + slice_index (passing l.flags l.i) j;
+      rest : (k : ℕ) → l.i ≤ k → at l.values k ≡ at l.fn.values k;
     }
