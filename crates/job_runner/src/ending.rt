@@ -1,5 +1,5 @@
 //! What happens when a segment is complete: the next one begins, or the job ends and those that wait for it begin.
-ghost use Rattle.std.specs.Prelude.{◌≡◌, ◌<◌, ◌+◌, ◌++◌, ◌∷◌, [], List, ℕ, drop, length, IfSome, IfOk};
+ghost use Rattle.std.specs.Prelude.{◌≡◌, ◌<◌, ◌≤◌, ◌+◌, ◌++◌, ◌∷◌, [], List, ℕ, drop, length, IfSome, IfOk};
 ghost use Rattle.job_runner.specs.Cuts.{StandsWhole};
 ghost use Rattle.job_runner.specs.Tasks.{HasKept};
 ghost use Rattle.job_runner.specs.Waits.{nodes_in};
@@ -8,10 +8,9 @@ use crate::NoMemory;
 use crate::busy::TableBusy;
 use crate::cut::{Merged, SegmentPart, TableKept, TablePart, TableSeat};
 use crate::earlier::Earlier;
-use crate::parts::size_of;
 use crate::piece::SegmentInput;
 use crate::places::{
-    drop_source, hold_source, keep_answer, keep_given, keep_source, kept_given, source_in,
+    drop_source, hold_source, keep_answer, keep_given, keep_source, kept_given, size_of, source_in,
 };
 use crate::segments::{Begun, JobSegments};
 use crate::start::Waiting;
@@ -81,60 +80,68 @@ impl<'a, S: JobSegments, R: Running> JobWork<'a, S, TablePart<S>, TableKept<S>, 
         busy: &mut TableBusy<'_, S, R>,
     ) -> Option<TableJobSeat<S, R>> {
         self.prepare(gate, begun.job);
-        let Some(size) = size_of(self, begun.job, 0) else {
+        let Some(size) = size_of(self.jobs, &self.places, begun.job, 0) else {
             return Some(begun);
         };
         let whole = self.begin(gate, begun, 0, size, spawn, busy);
         self.go_on(gate, whole, spawn, busy)
     }
 
-    /// Frees what the segment went over, leaves what it gives in its place, and begins the next segment. `Err` if the job is over.
-    fn end_segment<G: Gate, P: Spawn<TableTask<S, R>>>(
+    /// Leaves what the part of a whole segment gives in its place, and frees what the segment went over. `Some` is the next segment, with
+    /// how many positions it has.
+    fn leave_part<G: Gate>(
         &self,
         gate: &G,
-        whole: TableWhole<S, R>,
-        spawn: &mut P,
-        busy: &mut TableBusy<'_, S, R>,
-    ) -> Result<Option<TableWhole<S, R>>, TableJobSeat<S, R>>
-        requires { StandsWhole S.stands_for S.is_instead S.size_of whole.job.job whole.segment (λ x. x.found) whole.part }
-        ensures { IfOk result (λ later. IfSome later (λ whole. StandsWhole S.stands_for S.is_instead S.size_of whole.job.job whole.segment (λ x. x.found) whole.part)) }
+        job: usize,
+        segment: usize,
+        part: S::Part,
+        scratch: &mut S::Scratch,
+    ) -> Option<(usize, u64)>
+        requires known { (job < S.job_count) × (segment ≤ S.last_of job) }
+        requires part { S.stands_for job segment 0 (S.size_of job segment) part }
+        ensures { IfSome result (λ next. (next.0 ≤ S.last_of job) × (next.1 ≡ S.size_of job next.0)) }
     {
-        let Whole {
-            job: begun,
-            segment,
-            part,
-        } = whole;
-        let job = begun.job;
+        let given = kept_given(&self.places, job)?;
+        if segment < self.jobs.last_segment(job) {
+            let next = segment + 1;
+            drop_source(&self.places, job, segment);
+            if let Ok(source) = self.jobs.next_source(self.alloc, job, segment, part, given) {
+                keep_source(&self.places, job, next, source);
+            }
+            return Some((next, size_of(self.jobs, &self.places, job, next)?));
+        }
+        if let Ok(answer) = last_answer(self, job, segment, part, given, scratch) {
+            keep_answer(&self.places, gate, job, answer);
+        }
+        drop_source(&self.places, job, segment);
+        None
+    }
+
+    /// Leaves what comes of a whole segment, as `leave_part` does.
+    fn leave<G: Gate>(
+        &self,
+        gate: &G,
+        job: usize,
+        segment: usize,
+        part: TablePart<S>,
+        scratch: &mut S::Scratch,
+    ) -> Option<(usize, u64)>
+        requires known { (job < S.job_count) × (segment ≤ S.last_of job) }
+        requires part { StandsWhole S.stands_for S.is_instead S.size_of job segment (λ x. x.found) part }
+        ensures { IfSome result (λ next. (next.0 ≤ S.last_of job) × (next.1 ≡ S.size_of job next.0)) }
+    {
         let Ok(SegmentPart { found, of: _ }) = part else {
-            return Err(begun);
+            return None;
         };
-        let part = match found {
-            Merged::Part(part) => part,
+        match found {
+            Merged::Part(part) => self.leave_part(gate, job, segment, part, scratch),
             Merged::Caught(instead) => {
                 let answer = self.jobs.answer_instead(job, instead);
                 keep_answer(&self.places, gate, job, answer);
                 drop_source(&self.places, job, segment);
-                return Err(begun);
+                None
             }
-        };
-        let Some(given) = kept_given(&self.places, job) else {
-            return Err(begun);
-        };
-        if segment < self.jobs.last_segment(job) {
-            drop_source(&self.places, job, segment);
-            if let Ok(source) = self.jobs.next_source(self.alloc, job, segment, part, given) {
-                keep_source(&self.places, job, segment + 1, source);
-            }
-            let Some(size) = size_of(self, job, segment + 1) else {
-                return Err(begun);
-            };
-            return Ok(self.begin(gate, begun, segment + 1, size, spawn, busy));
         }
-        if let Ok(answer) = last_answer(self, job, segment, part, given, &mut busy.scratch) {
-            keep_answer(&self.places, gate, job, answer);
-        }
-        drop_source(&self.places, job, segment);
-        Err(begun)
     }
 
     /// Ends one segment after the other, while this worker has the last part of one. Each is a later one of the same job. `Some` if the
@@ -150,10 +157,12 @@ impl<'a, S: JobSegments, R: Running> JobWork<'a, S, TablePart<S>, TableKept<S>, 
     {
         let mut left = first;
         for _ in 0..u64::MAX {
-            match self.end_segment(gate, left.take()?, spawn, busy) {
-                Ok(later) => left = later,
-                Err(over) => return Some(over),
-            }
+            let Whole { job, segment, part } = left.take()?;
+            let next = self.leave(gate, job.job, segment, part, &mut busy.scratch);
+            let Some((next, size)) = next else {
+                return Some(job);
+            };
+            left = self.begin(gate, job, next, size, spawn, busy);
         }
         None
     }

@@ -72,22 +72,14 @@ impl<'a, S: JobSegments, R: Running> JobWork<'a, S, TablePart<S>, TableKept<S>, 
     {
         let mut tasks = Vec::new(self.alloc);
         let unopened = purse.jobs;
-        let mut left = Some(purse);
+        let mut purse = purse;
         for _opened in 0..unopened {
-            let Some(purse) = left.take() else {
-                break;
-            };
-            if purse.jobs == 0 {
-                left = Some(purse);
-                break;
-            }
             let (rest, begun) = self.open_one(purse);
-            left = Some(rest);
+            purse = rest;
             if let Some(begun) = begun {
                 tasks.push(Task::Begin(begun))?;
             }
         }
-        let Some(purse) = left else { unreachable!() };
         let first = empty(self.alloc, self.jobs, purse, spare, stop_seat);
         let idles = idle_seats(
             self.alloc,
@@ -135,13 +127,10 @@ fn idle_seats<S: JobSegments, R: Running>(
     ensures { IfOk result (λ idles. length idles.items ≡ workers) }
 {
     let mut idles = Vec::new(alloc);
-    let mut left = Some(first);
+    let mut left = first;
     for made in 0..workers {
-        let Some(from) = left.take() else {
-            break;
-        };
-        let (rest, part) = idle_one(alloc, jobs, counts, stops, from, workers - made);
-        left = Some(rest);
+        let (rest, part) = idle_one(alloc, jobs, counts, stops, left, workers - made);
+        left = rest;
         idles.push(part)?;
     }
     Ok(idles)

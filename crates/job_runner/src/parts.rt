@@ -1,5 +1,5 @@
 //! The part of a piece: walked, or left out.
-ghost use Rattle.std.specs.Prelude.{◌≡◌, ◌<◌, ◌≤◌, ℕ, IfSome, IfOk};
+ghost use Rattle.std.specs.Prelude.{◌≡◌, ◌<◌, ◌≤◌, ℕ, IfOk};
 ghost use Rattle.early_stop.specs.Decisive.{Decides};
 ghost use Rattle.job_runner.specs.Cuts.{IsPiece};
 
@@ -12,24 +12,6 @@ use crate::segments::JobSegments;
 use crate::task::Running;
 use crate::work::TableWork;
 use worker_pool::Gate;
-
-/// How many positions the source of a segment has, if it is there, and what the job takes of earlier answers.
-pub(crate) fn size_of<S: JobSegments, R: Running>(
-    work: &TableWork<S, R>,
-    job: usize,
-    segment: usize,
-) -> Option<u64>
-    requires known { (job < S.job_count) × (segment ≤ S.last_of job) }
-    ensures { IfSome result (λ size. size ≡ S.size_of job segment) }
-{
-    let given = kept_given(&work.places, job)?;
-    if segment == 0 {
-        return Some(work.jobs.size(job, 0, &work.jobs.first_source(job), given));
-    }
-    let held = hold_source(&work.places, job, segment)?;
-    let source = source_in(&held, job, segment)?;
-    Some(work.jobs.size(job, segment, source, given))
-}
 
 /// Walks a piece with what the job takes of earlier answers.
 fn walked<S: JobSegments, R: Running>(

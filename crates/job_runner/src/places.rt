@@ -218,6 +218,25 @@ pub(crate) fn kept_given<S: JobSegments>(places: &[JobPlaces<S>], job: usize) ->
     }
 }
 
+/// How many positions the source of a segment has, if it is there, and what the job takes of earlier answers.
+pub(crate) fn size_of<S: JobSegments>(
+    jobs: &S,
+    places: &[JobPlaces<S>],
+    job: usize,
+    segment: usize,
+) -> Option<u64>
+    requires known { (job < S.job_count) × (segment ≤ S.last_of job) }
+    ensures { IfSome result (λ size. size ≡ S.size_of job segment) }
+{
+    let given = kept_given(places, job)?;
+    if segment == 0 {
+        return Some(jobs.size(job, 0, &jobs.first_source(job), given));
+    }
+    let held = hold_source(places, job, segment)?;
+    let source = source_in(&held, job, segment)?;
+    Some(jobs.size(job, segment, source, given))
+}
+
 /// Leaves the answer of a job in its place, and calls the gate.
 pub(crate) fn keep_answer<S: JobSegments, G: Gate>(
     places: &[JobPlaces<S>],

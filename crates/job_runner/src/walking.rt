@@ -40,18 +40,18 @@ fn fault_of<S: JobSegments, R: Running>(
     }
 }
 
-/// What is handed in for a piece: its part, or the fault that ends it, if the job gives an answer in its place.
-fn handed<S: JobSegments, R: Running>(
+/// Walks a piece. What is handed in for it: its part, or the fault that ends it, if the job gives an answer in its place.
+fn handed<S: JobSegments, R: Running, G: Gate>(
     work: &TableWork<S, R>,
+    gate: &G,
     piece: Piece,
-    walked: Result<S::Part, NoMemory>,
+    busy: &mut TableBusy<'_, S, R>,
 ) -> TablePart<S>
     requires piece { IsPiece S.job_count S.last_of S.size_of piece.job piece.segment piece.from piece.to }
-    requires part { IfOk walked (λ part. S.stands_for piece.job piece.segment piece.from piece.to part) }
     ensures handed { HandedIn S.stands_for S.faults_with (λ x. x.found) piece.job piece.segment piece.from piece.to result }
     ensures caught { IfOk result (λ x. IfMerged (λ part. (fault : Fault) → S.is_caught piece.job piece.segment part fault → ⊥) (λ answer. ⊥) x.found) }
 {
-    let Ok(part) = walked else {
+    let Ok(part) = part_of(work, gate, piece, busy) else {
         return Err(Failure::NoMemory);
     };
     match fault_of(work, piece, &part) {
@@ -77,9 +77,7 @@ fn leaf<S: JobSegments, R: Running, G: Gate>(
 {
     let Half { seat, place } = half;
     let cut = place.tag;
-    let piece = side_at(&place);
-    let walked = part_of(work, gate, piece, busy);
-    let value = handed(work, piece, walked);
+    let value = handed(work, gate, side_at(&place), busy);
     let tree = Tree::new(&work.counts, &[]);
     let watch = &mut busy.watch;
     watch.aim(cut.job, cut.segment);
@@ -143,15 +141,30 @@ impl<'a, S: JobSegments, R: Running> JobWork<'a, S, TablePart<S>, TableKept<S>, 
                     half: right,
                     of: PhantomData,
                 };
-                let pushed = spawn.push(Task::Walk(other));
-                let first = self.walk(gate, own, spawn, busy);
-                let Err(Task::Walk(other)) = pushed else {
-                    return first;
-                };
-                let second = self.walk(gate, other, spawn, busy);
-                if first.is_some() { first } else { second }
+                self.walk_both(gate, own, other, spawn, busy)
             }
         }
+    }
+
+    /// Walks two sides of a cut: the second one goes to the pool, and is walked here if that has no room.
+    #[cycle(walk)]
+    fn walk_both<G: Gate, P: Spawn<TableTask<S, R>>>(
+        &self,
+        gate: &G,
+        own: TableSideTask<S, R>,
+        other: TableSideTask<S, R>,
+        spawn: &mut P,
+        busy: &mut TableBusy<'_, S, R>,
+    ) -> Option<TableWhole<S, R>>
+        ensures { IfSome result (λ whole. StandsWhole S.stands_for S.is_instead S.size_of whole.job.job whole.segment (λ x. x.found) whole.part) }
+    {
+        let pushed = spawn.push(Task::Walk(other));
+        let first = self.walk(gate, own, spawn, busy);
+        let Err(Task::Walk(other)) = pushed else {
+            return first;
+        };
+        let second = self.walk(gate, other, spawn, busy);
+        if first.is_some() { first } else { second }
     }
 }
 
@@ -221,13 +234,7 @@ impl<'a, S: JobSegments, R: Running> JobWork<'a, S, TablePart<S>, TableKept<S>, 
                     half: right,
                     of: PhantomData,
                 };
-                let pushed = spawn.push(Task::Walk(other));
-                let first = self.walk(gate, own, spawn, busy);
-                let Err(Task::Walk(other)) = pushed else {
-                    return first;
-                };
-                let second = self.walk(gate, other, spawn, busy);
-                if first.is_some() { first } else { second }
+                self.walk_both(gate, own, other, spawn, busy)
             }
         }
     }

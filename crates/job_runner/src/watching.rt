@@ -1,11 +1,11 @@
 //! A worker looks at the word of a segment before it walks, and lowers it to what decides.
-ghost use Rattle.std.specs.Prelude.{◌≡◌, ◌<◌, ◌≤◌, IfOk, IfSome};
+ghost use Rattle.std.specs.Prelude.{◌≡◌, ◌<◌, ◌≤◌, IfOk};
 ghost use Rattle.early_stop.specs.Decisive.{no_place, Decides, IsDecisive};
 ghost use Rattle.job_runner.specs.Cuts.{begins, ends_at};
 
 use crate::cut::{CutPiece, Merged, SegmentPart, TablePart, side_at};
 use crate::piece::Piece;
-use crate::places::{hold_source, kept_given, source_in, word_of};
+use crate::places::{size_of, word_of};
 use crate::segments::JobSegments;
 use crate::task::Running;
 use crate::watch::Watch;
@@ -47,25 +47,11 @@ impl<S: JobSegments, R: Running> Watch<'_, S, R> {
         }
     }
 
-    /// How many positions the source of the segment has, if it is there.
-    fn size(&self) -> Option<u64>
-        ensures { IfSome result (λ size. size ≡ S.size_of self.now.job self.now.segment) }
-    {
-        let given = kept_given(self.places, self.job)?;
-        if self.segment == 0 {
-            let source = self.jobs.first_source(self.job);
-            return Some(self.jobs.size(self.job, 0, &source, given));
-        }
-        let held = hold_source(self.places, self.job, self.segment)?;
-        let source = source_in(&held, self.job, self.segment)?;
-        Some(self.jobs.size(self.job, self.segment, source, given))
-    }
-
     /// Lowers the word of the segment to the end of a piece with this part, if nothing after it matters.
     fn lower_after(&mut self, from: u64, to: u64, part: &S::Part)
         requires part { S.stands_for self.old.job self.old.segment from to part.now }
     {
-        let Some(size) = self.size() else {
+        let Some(size) = size_of(self.jobs, self.places, self.job, self.segment) else {
             return;
         };
         let piece = Piece {
@@ -83,7 +69,7 @@ impl<S: JobSegments, R: Running> Watch<'_, S, R> {
     fn lower_after_fault(&mut self, from: u64, to: u64, fault: Fault)
         requires fault { S.faults_with self.old.job self.old.segment from to fault }
     {
-        let Some(size) = self.size() else {
+        let Some(size) = size_of(self.jobs, self.places, self.job, self.segment) else {
             return;
         };
         let piece = Piece {

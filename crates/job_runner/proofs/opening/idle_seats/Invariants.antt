@@ -1,5 +1,5 @@
-use Rattle.std.proofs.Common.{◌≡◌, true, is_some, length}
+use Rattle.std.proofs.Common.{◌≡◌, length}
 use Rattle.job_runner.proofs.opening.idle_seats.Given as goal
 
 abbrev pub invariant-loop-made : goal.invariant-loop-made
-invariant-loop-made g l = (is_some l.left ≡ true) × (length l.idles.items ≡ l.made)
+invariant-loop-made g l = length l.idles.items ≡ l.made

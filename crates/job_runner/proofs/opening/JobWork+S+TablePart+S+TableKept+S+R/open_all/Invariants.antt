@@ -1,5 +1,5 @@
-use Rattle.std.proofs.Common.{◌≡◌, ◌≤◌, true, is_some, length}
+use Rattle.std.proofs.Common.{◌≡◌, ◌+◌, ◌≤◌, length}
 use Rattle.job_runner.proofs.opening.JobWork+S+TablePart+S+TableKept+S+R.open_all.Given as goal
 
 abbrev pub invariant-loop-opened : goal.invariant-loop-opened
-invariant-loop-opened g l = (is_some l.left ≡ true) × (length l.tasks.items ≤ l._opened)
+invariant-loop-opened g l = (l.purse.jobs + l._opened ≡ l.unopened) × (length l.tasks.items ≤ l._opened)

@@ -8,8 +8,8 @@ use Rattle.job_runner.proofs.SeatLemmas.{known_forked, top_still}
 use Rattle.job_runner.proofs.Halves.{piece_as, half_piece}
 use Rattle.job_runner.proofs.walking.JobWork+S+TablePart+S+TableKept+S+R.+walk.Goals as goal
 
-pub invariant_of-own : goal.invariant_of-own
-invariant_of-own g t c =
+pub walk-invariant_of-own : goal.walk-invariant_of-own
+walk-invariant_of-own g t c =
     let p = c.args.side in
     let s = c.in-Split in
     let cut = c.halves in
@@ -24,8 +24,8 @@ invariant_of-own g t c =
       piece = half_piece cut.result s.left.place.node s.left.place.root true s.left.place s.ensures.places.0 within whole;
     }
 
-pub invariant_of-other : goal.invariant_of-other
-invariant_of-other g t c =
+pub walk-invariant_of-other : goal.walk-invariant_of-other
+walk-invariant_of-other g t c =
     let p = c.args.side in
     let s = c.in-Split in
     let cut = c.halves in
