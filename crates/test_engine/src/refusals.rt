@@ -60,17 +60,22 @@ fn pushes(alloc: Global) -> Option<bool> {
     }
 }
 
+// Several times, so that the list of pieces has to grow.
 fn appends(alloc: Global) -> Option<bool> {
     let mut chunk = two(alloc, [1, 2])?;
-    let right = two(alloc, [3, 4])?;
-    match chunk.append(right) {
-        Ok(()) => has(&chunk, &[1, 2, 3, 4]).then_some(false),
-        Err(right) => {
-            let is_left = has(&chunk, &[1, 2]) && has(&right, &[3, 4]);
+    let mut is_refused = false;
+    for pieces in 1..9usize {
+        let right = two(alloc, [3, 4])?;
+        if let Err(right) = chunk.append(right) {
+            if chunk.pieces().len() != pieces || !has(&right, &[3, 4]) {
+                return None;
+            }
             chunk.append(right).ok()?;
-            (is_left && has(&chunk, &[1, 2, 3, 4])).then_some(true)
+            is_refused = true;
         }
     }
+    let is_whole = chunk.pieces().len() == 9 && chunk.pieces().iter().all(|piece| piece.len() == 2);
+    is_whole.then_some(is_refused)
 }
 
 fn gives_values(alloc: Global) -> Option<bool> {
