@@ -1,3 +1,4 @@
 mod NamedTexts
+mod OutcomeLemmas
 mod PlannedJobLemmas
 mod RunLemmas

@@ -1,5 +1,6 @@
 -- Condition: the files of this crate's definitions; the first line of each says what it is.
 pub mod Given
+pub mod Outcomes
 pub mod Refused
 pub mod Run
 pub mod Statuses

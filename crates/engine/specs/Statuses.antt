@@ -1,5 +1,5 @@
--- Meaning: the exit status of the program for each fault of a run.
-use Rattle.std.specs.Prelude.{ℕ}
+-- Meaning: the exit status of the program for each fault of a run, and after a run.
+use Rattle.std.specs.Prelude.{ℕ, Result, Ok, Err}
 use Rattle.engine.specs.declared.running.EngineFault.{EngineFault}
 use Rattle.engine.specs.declared.running.EngineFault.TheVariants.{Columns, Jobs, JobsRead, NoMemory, Write}
 use Rattle.columns.specs.declared.fault.ColumnFault.{ColumnFault}
@@ -42,3 +42,8 @@ status_of (Jobs f) = status_of_cause f.cause
 status_of JobsRead = 4
 status_of NoMemory = 3
 status_of (Write n) = 4
+
+-- after a run: 0 unless it answered a fault
+abbrev pub status_after : {A : Type 0} → Result A EngineFault → ℕ
+status_after (Ok a) = 0
+status_after (Err fault) = status_of fault

@@ -14,9 +14,11 @@
 #![tactic(auto)]
 
 mod gate;
+mod laws;
 mod running;
 mod telling;
 
 pub use gate::RunGate;
+pub use laws::{each_input_has_one_outcome, refusals_are_outcomes, settings_change_no_byte};
 pub use running::{EngineFault, run};
-pub use telling::tell;
+pub use telling::{status_after, tell};

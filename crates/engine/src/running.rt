@@ -10,7 +10,7 @@ ghost use Rattle.job_plan.specs.Parts.{plans_in};
 ghost use Rattle.job_plan.specs.Plans.{AbstractPlan};
 ghost use Rattle.run_settings.specs.SettingsParts.{form_of};
 ghost use Rattle.report.specs.Named.{IsNamed, IsText};
-ghost use Rattle.std.specs.Io.KnownBytes.{Keeps};
+ghost use Rattle.std.specs.Io.KnownBytes.{IsAtEnd, Keeps};
 ghost use Rattle.std.specs.Prelude.{◌≡◌, ◌≢◌, ℕ, All, List, length, map, Option, Ok, IfErr, IfOk, OnOk};
 ghost use Rattle.stream_tokens.specs.Forms.{IsName};
 
@@ -87,6 +87,8 @@ pub fn run<
         × IsGiven C.remaining columns.entry (J.remaining jobs.old) (form_of settings.now) input
         × Faulted input (W.contents writer.old) (W.contents writer.new) fault) }
 
+    ensures read_up { OnOk result (IsAtEnd (J.remaining jobs.new)) }
+
     ensures unread { IfErr result (λ fault. (cause : ColumnFault) → fault ≡ EngineFault.Columns cause →
         (J.remaining jobs.new ≡ J.remaining jobs.old) × (J.failures jobs.new ≡ J.failures jobs.old)) }
     ensures unwritten { IfErr result (λ fault. ((n : ℕ) → fault ≢ EngineFault.Write n) →
@@ -136,6 +138,7 @@ fn report_from<H: Threads + Wait + Sync, J: CountedRead, G: RunGate + Sync>(
     ensures ok { IfOk result (λ report. (bytes : List ℕ) × IsWhole (J.remaining jobs.old) bytes
         × ((file : Option (List ℕ)) → columns_of file ≡ Ok columns.now
         → IsReport (record { columns = file; jobs = bytes; form = form_of settings.now }) report)) }
+    ensures end { OnOk result (IsAtEnd (J.remaining jobs.new)) }
     ensures err { IfErr result (λ fault. fault ≢ EngineFault.JobsRead
         → (bytes : List ℕ) × IsWhole (J.remaining jobs.old) bytes
         × ((file : Option (List ℕ)) → columns_of file ≡ Ok columns.now

@@ -1,6 +1,6 @@
 //! One line on standard error for each fault of a run, and the status of the program.
 
-ghost use Rattle.engine.specs.Statuses.{status_of};
+ghost use Rattle.engine.specs.Statuses.{status_after, status_of};
 ghost use Rattle.std.specs.Prelude.{◌≡◌};
 
 use crate::running::EngineFault;
@@ -24,5 +24,15 @@ pub fn tell<W: Write>(fault: &EngineFault, writer: &mut W) -> u8
         EngineFault::Jobs(_) => 1,
         EngineFault::NoMemory => 3,
         EngineFault::JobsRead | EngineFault::Write { .. } => 4,
+    }
+}
+
+/// The program's exit status after a run: 0 unless it answered a fault, whose line is then written.
+pub fn status_after<W: Write>(answer: &Result<(), EngineFault>, writer: &mut W) -> u8
+    ensures { result ≡ status_after answer.now }
+{
+    match answer {
+        Ok(()) => 0,
+        Err(fault) => tell(fault, writer),
     }
 }

@@ -16,5 +16,7 @@ mod scan;
 
 pub use block::{merge, up};
 pub use descent::down;
-pub use laws::{every_split_tree_gives_the_prefix, two_passes_give_the_prefix};
+pub use laws::{
+    calls_give_the_prefix, every_split_tree_gives_the_prefix, two_passes_give_the_prefix,
+};
 pub use scan::{cut_to, fold_items, scan_items, scan_values};

@@ -32,4 +32,4 @@ pub use long_text::text_by;
 pub use pieces::{Report, write_report};
 pub use printable::a_meaning_has_a_report;
 pub use std::alloc::AllocError as NoMemory;
-pub use worked::worked_reports;
+pub use worked::{worked_reports, worked_reports_of_each_kind, worked_versions};

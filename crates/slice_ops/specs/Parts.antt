@@ -58,6 +58,13 @@ IsAdded (skip k) n env x t kept stopped = (kept ≡ trace (t.items ++ x ∷ []) 
 IsAdded (take_while p) n env x t kept stopped = IsTaken (front_ends p n env x) x t kept stopped
 IsAdded (drop_while p) n env x t kept stopped = (kept ≡ trace (t.items ++ x ∷ []) end.Done) × (stopped ≡ false)
 
+-- the stage keeps the item after a piece that goes on: all do but `takeWhile`, of one that ends the front
+abbrev pub IsKept : AbstractSlice → ℕ → Numbers → Item → Type 0
+IsKept (limit k) n env x = Unit {0}
+IsKept (skip k) n env x = Unit {0}
+IsKept (take_while p) n env x = front_ends p n env x ≡ None
+IsKept (drop_while p) n env x = Unit {0}
+
 -- how many items come before the first one that ends the front
 abbrev pub before_stop : Option (ℕ × End) → List Item → ℕ
 before_stop None xs = length xs

@@ -1,12 +1,12 @@
 // What a slice keeps of the pieces of a stream, and how the pieces join in encounter order.
 
-ghost use Rattle.std.specs.Prelude.{◌≡◌, ◌<◌, ℕ, false, [], ◌∷◌, IfOk, IfErr, OnOk, OnErr, is_some, length};
+ghost use Rattle.std.specs.Prelude.{◌≡◌, ◌≢◌, ◌<◌, ℕ, false, [], ◌∷◌, IfOk, IfErr, OnOk, OnErr, is_some, length};
 ghost use Rattle.lambda_values.specs.Earlier.{Numbers};
 ghost use Rattle.lambda_values.specs.Term.{truth_of};
 ghost use Rattle.trace.specs.Stops.{stop_at};
 ghost use Rattle.trace.specs.Trace.{Trace, trace, append};
 ghost use Rattle.trace.specs.declared.item.End.TheVariants as end;
-ghost use Rattle.slice_ops.specs.Parts.{AreAdded, IsAdded, IsFront, IsJoined, StandsFor, before_stop, is_settled};
+ghost use Rattle.slice_ops.specs.Parts.{AreAdded, IsAdded, IsFront, IsJoined, IsKept, StandsFor, before_stop, is_settled};
 ghost use Rattle.slice_ops.specs.Slices.{AbstractSlice, front_ends, slice_of, sliced, taken};
 
 use super::shorten::{Front, drop_while, limit, skip, take_while};
@@ -56,12 +56,13 @@ impl<'a> SlicePart<'a> {
 
     /// The part of the piece and one more item after it. It keeps no item that the stage takes away.
     ///
-    /// If the allocation fails, the part stays as it was.
+    /// If the allocation fails, the part stays as it was. An item that ends the front of a `takeWhile` takes no memory.
     pub fn push(&mut self, env: &Env, item: Item) -> Result<(), NoMemory>
         requires { is_settled self.old ≡ false }
         ensures ok { OnOk result ((d : AbstractSlice) (stage : ℕ) (t : Trace) → StandsFor d stage env.now self.old t
             → StandsFor d stage env.now self.new (append t (trace (item ∷ []) end.Done))) }
         ensures err { OnErr result (self.new ≡ self.old) }
+        ensures refused { OnErr result (IsKept (slice_of self.old.slice.now) self.old.stage env.now item) }
     {
         self.stopped = add_to(self.slice, self.stage, env, &mut self.chunk, item)?;
         Ok(())
@@ -117,7 +118,8 @@ impl<'a> SlicePart<'a> {
 
     /// The part of two pieces that lie side by side.
     ///
-    /// If the allocation fails, both parts come back.
+    /// If the allocation fails, both parts come back. It takes no memory if nothing matters after the left piece, or if the
+    /// right one keeps no item.
     pub fn join(
         mut self,
         right: SlicePart<'a>,
@@ -125,6 +127,7 @@ impl<'a> SlicePart<'a> {
         ensures ok { IfOk result (λ part. (d : AbstractSlice) (stage : ℕ) (env : Numbers) (a b : Trace)
             → StandsFor d stage env self.entry a → StandsFor d stage env right.entry b → StandsFor d stage env part (append a b)) }
         ensures err { IfErr result (λ parts. (parts.0 ≡ self.entry) × (parts.1 ≡ right.entry)) }
+        ensures refused { OnErr result ((is_settled self.entry ≡ false) × (right.entry.chunk.items ≢ [])) }
     {
         if self.stopped {
             return Ok(self);
@@ -193,6 +196,7 @@ fn add_to(
     requires { chunk.old.ending ≡ end.Done }
     ensures ok { IfOk result (λ stopped. IsAdded (slice_of slice.now) stage env.now item chunk.old chunk.new stopped) }
     ensures err { OnErr result (chunk.new ≡ chunk.old) }
+    ensures refused { OnErr result (IsKept (slice_of slice.now) stage env.now item) }
 {
     match slice {
         Slice::Limit(n) => {

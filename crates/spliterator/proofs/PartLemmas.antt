@@ -1,13 +1,15 @@
 -- The values that parts have left.
-use Rattle.std.proofs.Common.{◌≡◌, ◌≢◌, ℕ, suc, ◌+◌, ◌-◌, ◌<◌, ℤ, pos, ◌+ℤ◌, List, [], ◌∷◌, ◌++◌, length, get_or, drop, length-append, append_assoc, refl, sym, ap, ◌∙◌, arith}
+use Rattle.std.proofs.Common.{◌≡◌, ◌≢◌, ℕ, suc, ◌+◌, ◌-◌, ◌/◌, ◌<◌, ℤ, pos, ◌+ℤ◌, List, [], ◌∷◌, ◌++◌, length, get_or, take, drop, length-append, append_assoc, refl, sym, ap, ◌∙◌, arith}
 use Rattle.std.proofs.Math.Seq.{drop-cons}
 use Rattle.trace.specs.declared.item.Item.{Item}
 use Rattle.trace.specs.Cover.{counted, placed}
+use Rattle.spliterator.specs.declared.array_split.ArraySplit.{ArraySplit}
 use Rattle.spliterator.specs.declared.plain_split.PlainSplit.{PlainSplit}
 use Rattle.spliterator.specs.declared.plain_split.PlainSplit.TheVariants.{Range, Array}
-use Rattle.spliterator.specs.Splits.{IsSplit}
-use Rattle.spliterator.specs.Parts.{plain_values, plain_items, all_values}
-use Rattle.spliterator.proofs.SplitLemmas.{length-placed, is_cut}
+use Rattle.spliterator.specs.declared.range_split.RangeSplit.{RangeSplit}
+use Rattle.spliterator.specs.Splits.{IsSplit, split_items}
+use Rattle.spliterator.specs.Parts.{plain_values, plain_items, all_values, front_before, front_of}
+use Rattle.spliterator.proofs.SplitLemmas.{length-placed, length-split_items, is_cut}
 
 abbrev pub item_values : List Item → List ℤ
 item_values [] = []
@@ -79,3 +81,47 @@ split_front o f b h ts s =
     let l = length-append (plain_values b) ts in
     is_cut o (plain_values f) (plain_values b ++ ts) (plain_values h ++ ts)
     (ap (λ (vs : List ℤ). vs ++ ts) (sym (split_values f b h s)) ∙ append_assoc (plain_values f) (plain_values b) ts) (some_values f s.handed_out) (omega arith)
+
+-- ---- where a concatenation is split
+
+-- a part with values before others that have some
+front_whole : (us others ws : List ℤ) → (us ≡ [] → ws ≡ []) → 0 < length ws → us ≡ front_before us others ws
+front_whole [] others ws last h = absurd (let e : length ws ≡ 0 = ap length (last refl) in omega arith)
+front_whole (u ∷ us) others [] last h = absurd (omega arith)
+front_whole (u ∷ us) others (w ∷ ws) last h = refl
+
+pub whole_front : (p : PlainSplit) (ps : List PlainSplit) → (plain_values p ≡ [] → all_values ps ≡ []) → 0 < length (all_values ps) → plain_values p ≡ front_of (p ∷ ps)
+whole_front p ps last h = front_whole (plain_values p) (front_of ps) (all_values ps) last h
+
+take_joined : (xs ys : List ℤ) → xs ≡ take (length xs) (xs ++ ys)
+take_joined [] [] = refl
+take_joined [] (y ∷ ys) = refl
+take_joined (x ∷ xs) ys = ap (λ (zs : List ℤ). x ∷ zs) (take_joined xs ys)
+
+-- the last part with values
+front_half : (us others ws : List ℤ) → 0 < length us → length ws ≡ 0 → take (length us / 2) us ≡ front_before us others ws
+front_half [] others ws h e = absurd (omega arith)
+front_half (u ∷ us) others [] h e = refl
+front_half (u ∷ us) others (w ∷ ws) h e = absurd (omega arith)
+
+pub half_front : (f b p : PlainSplit) (ps : List PlainSplit) → IsSplit (plain_items f) (plain_items b) (plain_items p) → length (plain_items f) ≡ length (plain_items p) / 2
+    → length (all_values ps) ≡ 0 → plain_values f ≡ front_of (p ∷ ps)
+half_front f b p ps s half none =
+    let joined = split_values f b p s in
+    let of_f = length-plain f in
+    let of_p = length-plain p in
+    let count : length (plain_values f) ≡ length (plain_values p) / 2 = omega arith in
+    let many : 0 < length (plain_values f) = some_values f s.handed_out in
+    let some : 0 < length (plain_values p) = omega arith in
+    take_joined (plain_values f) (plain_values b)
+    ∙ (λ i. take (count i) (joined i))
+    ∙ front_half (plain_values p) (front_of ps) (all_values ps) some none
+
+-- a part that is split in half, as its type splits
+pub half_range : (p : PlainSplit) (r s : RangeSplit) → p ≡ Range r → s.to - s.from ≡ (r.to - r.from) / 2 → length (split_items s.start s.from s.to) ≡ length (plain_items p) / 2
+half_range p r s is half =
+    length-split_items s.start s.from s.to ∙ half ∙ ap (λ n. n / 2) (sym (length-split_items r.start r.from r.to)) ∙ ap (λ q. length (plain_items q) / 2) (sym is)
+
+pub half_array : (p : PlainSplit) (a s : ArraySplit) → p ≡ Array a → length s.values.now ≡ length a.values.now / 2 → length (placed s.origin s.values.now) ≡ length (plain_items p) / 2
+half_array p a s is half =
+    length-placed s.origin s.values.now ∙ half ∙ ap (λ n. n / 2) (sym (length-placed a.origin a.values.now)) ∙ ap (λ q. length (plain_items q) / 2) (sym is)

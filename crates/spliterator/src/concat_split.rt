@@ -1,8 +1,9 @@
 // Sources one after the other.
 
-ghost use Rattle.std.specs.Prelude.{◌≡◌, ℕ, ◌+◌, ◌^◌, ◌<◌, ◌≤◌, length, ◌++◌, [], IfSome, IfNone};
+ghost use Rattle.std.specs.Prelude.{◌≡◌, ℕ, ◌+◌, ◌^◌, ◌<◌, ◌≤◌, length, ◌++◌, [], ◌∷◌, IfSome, IfNone};
 ghost use Rattle.trace.specs.Cover.{placed};
-ghost use Rattle.spliterator.specs.Parts.{plain_values, all_values};
+ghost use Rattle.spliterator.specs.Parts.{plain_values, all_values, front_of};
+ghost use Rattle.spliterator.specs.Splits.{IsSplit};
 
 use super::array_split::ArraySplit;
 use super::characteristics::{IMMUTABLE, NONNULL, ORDERED, SIZED, SUBSIZED};
@@ -51,6 +52,7 @@ impl<'a> ConcatSplit<'a> {
     ) -> ConcatSplit<'a>
         requires size { size ≡ length (plain_values front) }
         requires whole { plain_values front ++ plain_values back ≡ plain_values self.old.head }
+        ensures values { plain_values result.head ++ all_values result.tail.now ≡ plain_values front.entry }
         ensures front { placed result.origin (plain_values result.head ++ all_values result.tail.now) ≡ placed self.old.origin (plain_values front.entry) }
         ensures back { placed self.new.origin (plain_values self.new.head ++ all_values self.new.tail.now) ≡ placed (self.old.origin + size) (plain_values back.entry ++ all_values self.old.tail.now) }
     {
@@ -72,6 +74,7 @@ impl<'a> ConcatSplit<'a> {
     /// Goes on to the next part that has items, if there is one.
     fn skip_empty_parts(&mut self)
         ensures same { placed self.new.origin (plain_values self.new.head ++ all_values self.new.tail.now) ≡ placed self.old.origin (plain_values self.old.head ++ all_values self.old.tail.now) }
+        ensures front { front_of (self.new.head ∷ self.new.tail.now) ≡ front_of (self.old.head ∷ self.old.tail.now) }
         ensures none { plain_values self.new.head ≡ [] → all_values self.new.tail.now ≡ [] }
     {
         while self.head.exact_size() == 0 {
@@ -94,7 +97,15 @@ impl<'a> LongSpliterator for ConcatSplit<'a> {
     ghost flags = { 0x4550 };
 
     /// Hands out the first of two or more parts with items; the only part with items is split itself.
-    fn try_split(&mut self) -> Option<ConcatSplit<'a>> {
+    fn try_split(&mut self) -> Option<ConcatSplit<'a>>
+        ensures some { IfSome result (λ prefix. IsSplit (placed prefix.origin (plain_values prefix.head ++ all_values prefix.tail.now))
+            (placed self.new.origin (plain_values self.new.head ++ all_values self.new.tail.now))
+            (placed self.old.origin (plain_values self.old.head ++ all_values self.old.tail.now))) }
+        ensures none { IfNone result (placed self.new.origin (plain_values self.new.head ++ all_values self.new.tail.now)
+            ≡ placed self.old.origin (plain_values self.old.head ++ all_values self.old.tail.now)) }
+        ensures few { IfNone result (length (placed self.old.origin (plain_values self.old.head ++ all_values self.old.tail.now)) < 2) }
+        ensures front { IfSome result (λ prefix. plain_values prefix.head ++ all_values prefix.tail.now ≡ front_of (self.old.head ∷ self.old.tail.now)) }
+    {
         self.skip_empty_parts();
         let head_size = self.head.exact_size();
         if head_size < self.size {

@@ -1,8 +1,9 @@
 // Sources that aren't concatenations.
 
-ghost use Rattle.std.specs.Prelude.{◌≡◌, List};
+ghost use Rattle.std.specs.Prelude.{◌≡◌, ◌/◌, ◌<◌, List, length, IfSome, IfNone};
 ghost use Rattle.trace.specs.declared.item.Item.{Item};
 ghost use Rattle.spliterator.specs.Parts.{plain_items};
+ghost use Rattle.spliterator.specs.Splits.{IsSplit};
 
 use super::array_split::ArraySplit;
 use super::characteristics::{IMMUTABLE, NONNULL, ORDERED, SIZED, SUBSIZED};
@@ -22,7 +23,12 @@ impl<'a> LongSpliterator for PlainSplit<'a> {
 
     ghost flags = { 0x4550 };
 
-    fn try_split(&mut self) -> Option<PlainSplit<'a>> {
+    fn try_split(&mut self) -> Option<PlainSplit<'a>>
+        ensures some { IfSome result (λ prefix. IsSplit (plain_items prefix) (plain_items self.new) (plain_items self.old)) }
+        ensures none { IfNone result (plain_items self.new ≡ plain_items self.old) }
+        ensures few { IfNone result (length (plain_items self.old) < 2) }
+        ensures half { IfSome result (λ prefix. length (plain_items prefix) ≡ length (plain_items self.old) / 2) }
+    {
         match self {
             PlainSplit::Range(range) => Some(PlainSplit::Range(range.try_split()?)),
             PlainSplit::Array(array) => Some(PlainSplit::Array(array.try_split()?)),

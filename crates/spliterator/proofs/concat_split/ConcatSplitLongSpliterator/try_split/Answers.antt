@@ -1,8 +1,8 @@
-use Rattle.std.proofs.Common.{◌+◌, ◌<◌, length, length-append, ap, sym, ◌∙◌, ◌++◌, arith}
+use Rattle.std.proofs.Common.{◌≡◌, ◌+◌, ◌<◌, length, length-append, ap, sym, ◌∙◌, ◌++◌, arith}
 use Rattle.trace.specs.Cover.{placed}
 use Rattle.spliterator.specs.Parts.{plain_values, all_values}
 use Rattle.spliterator.proofs.SplitLemmas.{length-placed}
-use Rattle.spliterator.proofs.PartLemmas.{length-plain, split_values, same_split, split_off, split_front}
+use Rattle.spliterator.proofs.PartLemmas.{length-plain, split_values, same_split, split_off, split_front, whole_front, half_front}
 use Rattle.spliterator.proofs.concat_split.ConcatSplitLongSpliterator.try_split.Goals as goal
 
 pub hand_out-requires-clause-size : goal.hand_out-requires-clause-size
@@ -48,3 +48,21 @@ returns-clause-some c =
     (c.hand_out-2.ensures.back ∙ ap (λ n. placed (s.origin + n) (plain_values back ++ all_values s.tail.now)) size)
     (sym c.skip_empty_parts.ensures.same)
     (split_front s.origin front back s.head (all_values s.tail.now) c.in-Some.ensures.some)
+
+pub returns-then-head_size-self-clause-front : goal.returns-then-head_size-self-clause-front
+returns-then-head_size-self-clause-front c =
+    let s = c.skip_empty_parts.new.self in
+    let more = c.if-head_size-self.true in
+    let size = s.sized ∙ length-append (plain_values s.head) (all_values s.tail.now) in
+    let head = c.exact_size-head_size.ensures ∙ length-plain s.head in
+    let some : 0 < length (all_values c.skip_empty_parts.new.self.tail.now) = omega arith in
+    c.hand_out.ensures.values ∙ whole_front s.head s.tail.now c.skip_empty_parts.ensures.none some ∙ c.skip_empty_parts.ensures.front
+
+pub returns-clause-front : goal.returns-clause-front
+returns-clause-front c =
+    let s = c.skip_empty_parts.new.self in
+    let size = s.sized ∙ length-append (plain_values s.head) (all_values s.tail.now) in
+    let head = c.exact_size-head_size.ensures ∙ length-plain s.head in
+    let last = c.if-head_size-self.false in
+    let none : length (all_values c.skip_empty_parts.new.self.tail.now) ≡ 0 = omega arith in
+    c.hand_out-2.ensures.values ∙ half_front c.in-Some.front c.try_split.new.self s.head s.tail.now c.in-Some.ensures.some c.in-Some.ensures.half none ∙ c.skip_empty_parts.ensures.front

@@ -1,0 +1,80 @@
+-- An input gives one thing.
+use Rattle.std.proofs.Common.{◌≡◌, ◌≢◌, ◌⊎◌, inl, inr, ℕ, List, ◌++◌, Option, Some, None, Result, Ok, Err, take, refl, sym, ap, subst, ◌∙◌}
+use Rattle.stream_tokens.specs.JobTexts.{job_texts_of, version_of}
+use Rattle.columns.specs.declared.fault.ColumnFault.{ColumnFault}
+use Rattle.columns.specs.declared.fault.ColumnFault.TheVariants as column
+use Rattle.columns.specs.Table.{NamedColumn}
+use Rattle.job_language.specs.declared.fault.JobFault.{JobFault}
+use Rattle.job_language.specs.Files.{IsRefused, SpellsJobs}
+use Rattle.job_language.specs.Jobs.{AbstractJob, names_of}
+use Rattle.job_language.proofs.EachFile.{each_file}
+use Rattle.job_language.proofs.OneFile.{left_once}
+use Rattle.job_meaning.specs.FileAnswers.{meaning_of}
+use Rattle.engine.specs.declared.running.EngineFault.TheVariants as engine_fault
+use Rattle.engine.specs.Outcomes.{HasJobsRefused, HasOutcome, Outcome, columns_refused, jobs_refused, reports}
+use Rattle.engine.specs.Run.{Faulted, Input, IsColumnFault, IsReport, Reported, columns_of, report_in}
+
+columns_once : (input : Input) (a b : List NamedColumn) → columns_of input.columns ≡ Ok a → columns_of input.columns ≡ Ok b → a ≡ b
+columns_once input a b h k = let e = sym h ∙ k in cc
+
+pub report_once : (input : Input) (a b : List ℕ) → IsReport input a → IsReport input b → a ≡ b
+report_once input a b h k =
+    let columns = columns_once input h.columns k.columns h.given k.given in
+    let spelled = subst (λ (cs : List NamedColumn). SpellsJobs input.jobs cs h.jobs) columns h.spelled in
+    let e = left_once (version_of input.jobs) k.columns (job_texts_of input.jobs) (Ok h.jobs) (Ok k.jobs) spelled k.spelled in
+    let jobs : h.jobs ≡ k.jobs = cc in
+    h.written ∙ ap (λ (js : List AbstractJob). report_in input.form (names_of js) (meaning_of js)) jobs ∙ sym k.written
+
+refusal_once : (input : Input) (f g : JobFault) → HasJobsRefused input f → HasJobsRefused input g → f ≡ g
+refusal_once input f g h k =
+    let columns = columns_once input h.columns k.columns h.given k.given in
+    let refused = subst (λ (cs : List NamedColumn). IsRefused input.jobs cs f) columns h.refused in
+    let e = left_once (version_of input.jobs) k.columns (job_texts_of input.jobs) (Err f) (Err g) refused k.refused in
+    cc
+
+never_both : (input : Input) (a : List ℕ) (f : JobFault) → IsReport input a → HasJobsRefused input f → (o p : Outcome) → o ≡ p
+never_both input a f h k o p =
+    let columns = columns_once input h.columns k.columns h.given k.given in
+    let spelled = subst (λ (cs : List NamedColumn). SpellsJobs input.jobs cs h.jobs) columns h.spelled in
+    let e = left_once (version_of input.jobs) k.columns (job_texts_of input.jobs) (Ok h.jobs) (Err f) spelled k.refused in
+    absurd (cc)
+
+table_or_none : (input : Input) (columns : List NamedColumn) (f : ColumnFault) → columns_of input.columns ≡ Ok columns → columns_of input.columns ≡ Err f → (o p : Outcome) → o ≡ p
+table_or_none input columns f h k o p = let e = sym h ∙ k in absurd (cc)
+
+pub outcome_once : (input : Input) (o p : Outcome) → HasOutcome input o → HasOutcome input p → o ≡ p
+outcome_once input (reports a) (reports b) h k = ap reports (report_once input a b h k)
+outcome_once input (reports a) (columns_refused g) h k = table_or_none input h.columns g h.given k (reports a) (columns_refused g)
+outcome_once input (reports a) (jobs_refused g) h k = never_both input a g h k (reports a) (jobs_refused g)
+outcome_once input (columns_refused f) (reports b) h k = table_or_none input k.columns f k.given h (columns_refused f) (reports b)
+outcome_once input (columns_refused f) (columns_refused g) h k = let e = sym h ∙ k in cc
+outcome_once input (columns_refused f) (jobs_refused g) h k = table_or_none input k.columns f k.given h (columns_refused f) (jobs_refused g)
+outcome_once input (jobs_refused f) (reports b) h k = never_both input b f k h (jobs_refused f) (reports b)
+outcome_once input (jobs_refused f) (columns_refused g) h k = table_or_none input h.columns g h.given k (jobs_refused f) (columns_refused g)
+outcome_once input (jobs_refused f) (jobs_refused g) h k = ap jobs_refused (refusal_once input f g h k)
+
+pub each_outcome : (input : Input) → (o : Outcome) × HasOutcome input o
+each_outcome input = by_columns (columns_of input.columns) refl
+  where
+    by_jobs : (columns : List NamedColumn) → columns_of input.columns ≡ Ok columns
+        → ((jobs : List AbstractJob) × SpellsJobs input.jobs columns jobs) ⊎ ((fault : JobFault) × IsRefused input.jobs columns fault) → (o : Outcome) × HasOutcome input o
+    by_jobs columns is (inl h) =
+        (reports (report_in input.form (names_of h.0) (meaning_of h.0)), record { columns = columns; given = is; jobs = h.0; spelled = h.1; written = refl })
+    by_jobs columns is (inr h) = (jobs_refused h.0, record { columns = columns; given = is; refused = h.1 })
+
+    by_columns : (r : Result (List NamedColumn) ColumnFault) → columns_of input.columns ≡ r → (o : Outcome) × HasOutcome input o
+    by_columns (Ok columns) is = by_jobs columns is (each_file input.jobs columns)
+    by_columns (Err f) is = (columns_refused f, is)
+
+pub columns_said : (file : Option (List ℕ)) (f : ColumnFault) → IsColumnFault file f → f ≢ column.Read → f ≢ column.NoMemory → columns_of file ≡ Err f
+columns_said None f h read memory = absurd h
+columns_said (Some bytes) f h read memory = h read memory
+
+pub written_once : (input : Input) (before : List ℕ) (a b : Option (List ℕ)) → Reported input (Some before) a → Reported input (Some before) b → a ≡ b
+written_once input before None b h k = absurd h.2
+written_once input before (Some x) None h k = absurd k.2
+written_once input before (Some x) (Some y) h k = ap Some (h.2 ∙ ap (λ (r : List ℕ). before ++ r) (report_once input h.0 k.0 h.1 k.1) ∙ sym k.2)
+
+pub cut_once : (input : Input) (before report : List ℕ) (after : Option (List ℕ)) (n : ℕ) → Faulted input (Some before) after (engine_fault.Write n) → IsReport input report → after ≡ Some (before ++ take n report)
+cut_once input before report None n h k = absurd h.3
+cut_once input before report (Some x) n h k = ap Some (h.3 ∙ ap (λ (r : List ℕ). before ++ take n r) (report_once input h.0 report h.1 k))

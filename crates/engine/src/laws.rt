@@ -1,0 +1,35 @@
+//! Laws of the definitions. The functions do nothing; their contracts are the laws.
+
+ghost use Rattle.std.specs.Prelude.{◌≡◌, ◌≢◌, ℕ, ◌++◌, List, Option, Some, take};
+ghost use Rattle.columns.specs.declared.fault.ColumnFault.{ColumnFault as meant_column_fault};
+ghost use Rattle.columns.specs.declared.fault.ColumnFault.TheVariants as column;
+ghost use Rattle.job_language.specs.declared.fault.Cause.TheVariants as cause;
+ghost use Rattle.job_language.specs.declared.fault.JobFault.{JobFault as meant_job_fault};
+ghost use Rattle.engine.specs.declared.running.EngineFault.TheVariants as engine_fault;
+ghost use Rattle.engine.specs.Outcomes.{HasOutcome, Outcome, columns_refused, jobs_refused};
+ghost use Rattle.engine.specs.Run.{Faulted, Input, IsReport, Reported, Says};
+
+/// Each input gives one thing: a report, a refusal of the column file, or a refusal of the job file, and no two of these.
+pub fn each_input_has_one_outcome()
+    ensures some { (input : Input) → (o : Outcome) × HasOutcome input o }
+    ensures one { (input : Input) (o p : Outcome) → HasOutcome input o → HasOutcome input p → o ≡ p }
+{}
+
+/// A refusal that a run answers is what the input gives, unless a read failed or memory ran out.
+pub fn refusals_are_outcomes()
+    ensures columns { (input : Input) (f : meant_column_fault) → Says input (engine_fault.Columns f)
+        → f ≢ column.Read → f ≢ column.NoMemory → HasOutcome input (columns_refused f) }
+    ensures jobs { (input : Input) (f : meant_job_fault) → Says input (engine_fault.Jobs f)
+        → f.cause ≢ cause.NoMemory → HasOutcome input (jobs_refused f) }
+{}
+
+/// Two runs over one input that each answered a report wrote the same bytes. By `run`, clause `report`, an input is the bytes of
+/// the two files and the form of the report: so neither the other settings nor the schedule changes a byte. After a failed
+/// write the bytes that went out are the first ones of that same report.
+pub fn settings_change_no_byte()
+    ensures reports { (input : Input) (a b : List ℕ) → IsReport input a → IsReport input b → a ≡ b }
+    ensures written { (input : Input) (before : List ℕ) (after other : Option (List ℕ))
+        → Reported input (Some before) after → Reported input (Some before) other → after ≡ other }
+    ensures cut { (input : Input) (before report : List ℕ) (after : Option (List ℕ)) (n : ℕ)
+        → Faulted input (Some before) after (engine_fault.Write n) → IsReport input report → after ≡ Some (before ++ take n report) }
+{}
