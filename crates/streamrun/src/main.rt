@@ -16,7 +16,7 @@ mod progress;
 use clap::error::ErrorKind as ArgumentErrorKind;
 use columns::Counted;
 use command_line::{Arguments, read_arguments};
-use engine::{EngineFault, run, tell};
+use engine::{EngineFault, run, status_after, tell};
 use progress::Progress;
 use report::CountedOut;
 use run_settings::Settings;
@@ -155,10 +155,7 @@ fn watched_run<H: Threads + Wait + Sync>(rt: &HostRuntime, threads: &H, given: G
             progress,
         );
         progress.end();
-        match answer {
-            Ok(()) => 0,
-            Err(fault) => tell(&fault, &mut rt.stderr()),
-        }
+        status_after(&answer, &mut rt.stderr())
     })
 }
 
