@@ -1,5 +1,5 @@
 -- Pieces that are taken up and down with the range cut to each.
-use Rattle.std.proofs.Common.{◌≡◌, ℕ, suc, ℤ, ◌+◌, ◌<◌, cond, List, [], ◌∷◌, ◌++◌, length, Option, None, Result, Ok, sym, refl, ap, subst, ◌∙◌, arith}
+use Rattle.std.proofs.Common.{◌≡◌, ℕ, suc, ℤ, ◌+◌, ◌<◌, false, cond, List, [], ◌∷◌, ◌++◌, length, Option, None, Result, Ok, sym, refl, ap, subst, ◌∙◌, arith}
 use Rattle.trace.specs.declared.item.Item.{Item}
 use Rattle.trace.specs.declared.item.Fault.{Fault}
 use Rattle.trace.specs.declared.item.End.TheVariants as end
