@@ -159,8 +159,8 @@ def wrong_commands():
 
 def wrong_editors(bad):
     """What vim's errorformat and the problem matcher of VS Code make of an explanation."""
-    with open(os.path.join(TOP, 'editors', 'vscode', 'problem-matcher.json'), encoding='utf-8') as file:
-        pattern = json.load(file)['pattern']
+    with open(os.path.join(TOP, 'editors', 'vscode', 'package.json'), encoding='utf-8') as file:
+        pattern = json.load(file)['contributes']['problemMatchers'][0]['pattern']
     matched = re.search(pattern['regexp'], run(bad, '--json')[0])
     got = matched and tuple(matched[pattern[it]] for it in ('file', 'line', 'column', 'message'))
     if got != (bad, '2', '3', MEANT):
