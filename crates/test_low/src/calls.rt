@@ -12,7 +12,7 @@ use reduce_ops::{Exact, ExactPart, Op, Partial};
 use slice_ops::{Slice, SlicePart, drop_while, limit, skip, take_while};
 use std::alloc::{AllocError, Global};
 use std::test::Fail;
-use stream_tokens::{Bytes, cut, job_texts};
+use stream_tokens::{Bytes, JobText, cut, job_texts};
 use trace::{Chunk, End, Fault, Fed, Item, NoMemory, PlacedValues, Stage, feed, feed_all};
 
 fn item(origin: u64, value: i64) -> Item {
@@ -45,15 +45,18 @@ fn test(alloc: Global, text: &str) -> Result<BoolExpr, NoMemory> {
 
 const FILE: &[u8] = b"# c\r\nversion 2\r\n\n a = of(1)\r\n\t.sum()\n// d\nb = of(2)";
 
+fn is_text(text: &JobText<'_>, line: u64, bytes: &[u8]) -> bool {
+    text.line == line && text.text.as_slice() == bytes
+}
+
 /// Whether the texts of a file, the tokens of a text and a number are those that stand there.
 fn are_read(alloc: Global) -> Result<bool, NoMemory> {
     let Ok((version, texts)) = job_texts(alloc, FILE) else {
         return Ok(false);
     };
-    let lines = texts.iter().map(|text| text.line);
-    let bytes = texts.iter().map(|text| text.text.as_slice());
-    let are_texts = lines.eq([4, 7])
-        && bytes.eq([b" a = of(1) \t.sum()".as_slice(), b"b = of(2)".as_slice()]);
+    let are_texts = texts.len() == 2
+        && is_text(&texts[0], 4, b" a = of(1) \t.sum()")
+        && is_text(&texts[1], 7, b"b = of(2)");
     let text = b" -  12L";
     let tokens = cut(alloc, text)?;
     let places = tokens.iter().map(|token| (token.from, token.to));
