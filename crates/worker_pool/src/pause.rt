@@ -21,6 +21,7 @@ pub struct Bell {
 }
 
 impl Bell {
+    /// A bell at which nobody sleeps.
     pub fn new() -> Bell {
         Bell {
             sleepers: AtomicU64::new(0),
@@ -61,6 +62,7 @@ pub struct Pause<'a> {
 }
 
 impl<'a> Pause<'a> {
+    /// The pause of a worker that is awake. All workers of a pool share the bell.
     pub fn new(bell: &'a Bell) -> Pause<'a> {
         Pause {
             bell,
