@@ -2,11 +2,13 @@
 import gzip
 import hashlib
 import os
+import re
 import shutil
 import subprocess
 import tempfile
 
-from page_text import pages_of, targets_of
+from page_commands import commands_of
+from page_text import pages_of, read, targets_of
 
 PROCESSORS = ('x86-64-v2', 'x86-64-v3')
 # What a reader gets, besides all that the pages link to.
@@ -53,9 +55,11 @@ def tracked(top, *paths):
 
 
 def documents(top):
-    """Pages, examples, and whatever a page links to, so that no link of a page leads nowhere."""
-    linked = {os.path.relpath(path, top) for page in pages_of(top) for path, _ in targets_of(page)}
-    return tracked(top, *DOCUMENTS, *sorted(path for path in linked if not path.startswith(('..', 'tools', 'python'))))
+    """Pages, examples, and whatever a page links to or reads in a command, so that no link leads nowhere. Tools have places of their own."""
+    named = {os.path.relpath(path, top) for page in pages_of(top) for path, _ in targets_of(page)}
+    words = {word for page in pages_of(top) for _, command, _ in commands_of(read(page)) for word in re.findall(r'[\w./-]+', command)}
+    named |= {word for word in words if os.path.isfile(os.path.join(top, word)) and not word.startswith('/')}
+    return tracked(top, *DOCUMENTS, *sorted(path for path in named if not path.startswith(('..', 'tools', 'python'))))
 
 
 def copy(source, target, is_program=False):
