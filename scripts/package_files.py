@@ -15,7 +15,6 @@ PROCESSORS = ('x86-64-v2', 'x86-64-v3')
 DOCUMENTS = ('README.md', 'CHANGELOG.md', 'VERSION', 'docs', 'examples', 'editors')
 TOOLS = ('tools/explain', 'tools/scatter', 'tools/scatter_lib')
 PYTHON = ('python/streamrun', 'python/streamrun_language')
-VIM = ('compiler', 'ftdetect', 'ftplugin', 'syntax')
 # The start of the tarball's program. A package for Debian chooses once, when it is installed.
 START = """#!/bin/sh
 lib=$(dirname "$(readlink -f "$0")")/../lib
@@ -130,6 +129,8 @@ def tarball_tree(build, folder):
     shell_files(build.top, os.path.join(folder, 'share'))
     copy_documents(build.top, folder, True)
     copy_all(build.top, (*TOOLS, 'python'), folder)
+    for tool in ('explain', 'scatter'):
+        os.symlink(f'../tools/{tool}', os.path.join(folder, 'bin', f'streamrun-{tool}'))
     write(os.path.join(folder, 'PROVED'), build.proved())
     write(os.path.join(folder, 'SHA256SUMS'), checksums(folder))
 
