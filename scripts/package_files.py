@@ -117,9 +117,13 @@ def shell_files(top, share):
 
 
 def programs(build, library):
+    """The programs without their tables of symbols, and what says which one a machine runs."""
     copy(os.path.join(build.top, 'scripts', 'processor'), os.path.join(library, 'processor'), True)
     for processor, path in build.programs.items():
-        copy(path, os.path.join(library, processor, 'streamrun'), True)
+        target = os.path.join(library, processor, 'streamrun')
+        os.makedirs(os.path.dirname(target))
+        subprocess.run(['strip', '-o', target, path], check=True)
+        os.chmod(target, 0o755)
 
 
 def tarball_tree(build, folder):
@@ -131,7 +135,7 @@ def tarball_tree(build, folder):
     copy_all(build.top, (*TOOLS, 'python'), folder)
     for tool in ('explain', 'scatter'):
         os.symlink(f'../tools/{tool}', os.path.join(folder, 'bin', f'streamrun-{tool}'))
-    write(os.path.join(folder, 'PROVED'), build.proved())
+    write(os.path.join(folder, 'PROVED'), build.proved(os.path.join(folder, 'lib')))
     write(os.path.join(folder, 'SHA256SUMS'), checksums(folder))
 
 
@@ -154,7 +158,7 @@ def debian_tree(build, folder):
         write(os.path.join(usr, 'bin', f'streamrun-{tool}'), f'#!/bin/sh\nexec /usr/bin/python3 /usr/share/streamrun/tools/{tool} "$@"\n', True)
     copy_documents(build.top, pages, False)
     os.symlink('../../streamrun/tools', os.path.join(pages, 'tools'))
-    write(os.path.join(pages, 'PROVED'), build.proved())
+    write(os.path.join(pages, 'PROVED'), build.proved(os.path.join(usr, 'lib', 'streamrun')))
     write(os.path.join(pages, 'copyright'), COPYRIGHT)
     write(os.path.join(pages, 'changelog'), build.debian_changelog())
     zipped(os.path.join(pages, 'changelog'), build.epoch)
