@@ -1,4 +1,4 @@
--- Meaning: places of a source that decide what a segment gives.
+-- Design: places of a source that decide what a segment gives.
 use Rattle.std.specs.Prelude.{◌≡◌, ◌≢◌, ℕ, ◌<◌, ◌≤◌, length, take}
 use Rattle.trace.specs.Trace.{Trace}
 

@@ -1,4 +1,4 @@
--- Meaning: pieces of a source of which some were left unwalked, and what lets them be left.
+-- Design: pieces of a source of which some were left unwalked, and what lets them be left.
 use Rattle.std.specs.Prelude.{◌≡◌, ◌⊎◌, ℕ, ◌-◌}
 use Rattle.trace.specs.Trace.{Trace, append}
 use Rattle.early_stop.specs.Decisive.{BeginsAs}

@@ -1,4 +1,4 @@
--- Meaning: jobs cut into segments, at each stage that looks at a whole walk.
+-- Design: jobs cut into segments, at each stage that looks at a whole walk.
 use Rattle.std.specs.Prelude.{ℕ, suc, ℤ, pos, Bool, true, false, ◌+◌, List, [], ◌∷◌, ◌++◌, length, map as each_of, Option, Some, None}
 use Rattle.lambda_values.specs.Earlier.{Numbers}
 use Rattle.trace.specs.declared.item.Item.{Item}

@@ -1,4 +1,4 @@
--- Meaning: slices before every other stage of a job, which select positions of its sources.
+-- Design: slices before every other stage of a job, which select positions of its sources.
 use Rattle.std.specs.Prelude.{ℕ, zero, suc, Bool, true, false, List, [], ◌∷◌, Option, Some, None, if◌then◌else◌}
 use Rattle.trace.specs.Stages.{AbstractStage}
 use Rattle.trace.specs.Trace.{Trace, trace}
