@@ -7,8 +7,8 @@ import re
 from page_text import DEFINITION, TICKED, read
 
 # Values that mean a refusal: what a last row forgets is then refused, and never given a value. `untyped` has no type and is refused
-# as an operand; `lexeme.Other` is in no expression; `Whole Other` is no listed operator.
-REFUSALS = ['None', 'false', '⊥', 'Err', 'untyped', 'lexeme.Other', 'Whole Other']
+# as an operand; `lexeme.Other` is in no expression; `Single Other` is no listed operator.
+REFUSALS = ['None', 'false', '⊥', 'Err', 'untyped', 'lexeme.Other', 'Single Other']
 REFUSED = re.compile('|'.join(re.escape(it) + r'(?![\w.])' for it in REFUSALS))
 # The file that says what a run writes: Meaning is what it rests on.
 CLOSURE = ['engine.specs.Run']

@@ -32,7 +32,7 @@ pub(crate) struct Team<'a, H> {
 
 /// The rows of a part of a text, under columns without names, if they were read.
 #[derive(Drop)]
-pub(crate) struct Piece {
+pub(crate) struct TextPiece {
     from: usize,
     to: usize,
     is_read: bool,
@@ -71,10 +71,10 @@ pub(crate) fn empty_pieces(
     count: usize,
     width: usize,
     rows: usize,
-) -> Result<Vec<Piece>, AllocError> {
+) -> Result<Vec<TextPiece>, AllocError> {
     let mut pieces = Vec::with_capacity(alloc, count)?;
     for _ in 0..count {
-        pieces.push(Piece {
+        pieces.push(TextPiece {
             from: 0,
             to: 0,
             is_read: false,
@@ -103,7 +103,7 @@ fn read_in_turns<H: Threads + Sync>(
     text: &[u8],
     from: usize,
     bytes: usize,
-    pieces: &mut [Piece],
+    pieces: &mut [TextPiece],
     columns: &mut [Column],
 ) -> bool
     requires within { from ≤ length text.now }
@@ -134,7 +134,7 @@ fn read_pieces<H: Threads + Sync>(
     text: &[u8],
     from: usize,
     bytes: usize,
-    pieces: &mut [Piece],
+    pieces: &mut [TextPiece],
     width: usize,
 )
     requires within { from ≤ length text.now }
@@ -142,7 +142,7 @@ fn read_pieces<H: Threads + Sync>(
     ensures { All (IsPieceThere text.now width) pieces.new }
 {
     let count = pieces.len().max(1);
-    let read = |index: usize, piece: &mut Piece|
+    let read = |index: usize, piece: &mut TextPiece|
         requires { (from ≤ length text.now) × (0 < width) }
         ensures { IsPieceThere text.entry.now width piece.new }
     { read_piece(text, from, index, bytes, width, piece) };
@@ -150,7 +150,14 @@ fn read_pieces<H: Threads + Sync>(
 }
 
 /// Reads the piece of this number of those from `from` on. A piece of another width stays unread.
-fn read_piece(text: &[u8], from: usize, index: usize, bytes: usize, width: usize, piece: &mut Piece)
+fn read_piece(
+    text: &[u8],
+    from: usize,
+    index: usize,
+    bytes: usize,
+    width: usize,
+    piece: &mut TextPiece,
+)
     requires within { from ≤ length text.now }
     requires some_column { 0 < width }
     ensures { IsPieceThere text.now width piece.new }
@@ -196,7 +203,7 @@ fn line_start(text: &[u8], at: usize) -> usize
 }
 
 /// Where the last piece ends, if all were read, the first from `from` on, and each starts where the one before it ends.
-fn end_of_pieces(text: &[u8], from: usize, pieces: &[Piece]) -> Option<usize>
+fn end_of_pieces(text: &[u8], from: usize, pieces: &[TextPiece]) -> Option<usize>
     requires within { from ≤ length text.now }
     ensures read { IfSome result (λ to. (columns : List NamedColumn) → All (IsPieceThere text.now (length columns)) pieces.now
         → AreRead (drop from text.now) (drop to text.now) columns (append_pieces columns pieces.now)) }
@@ -213,7 +220,7 @@ fn end_of_pieces(text: &[u8], from: usize, pieces: &[Piece]) -> Option<usize>
 }
 
 /// Puts the cells of all pieces under the columns in their places, and answers whether there was memory for all of them.
-fn put_pieces<H: Threads + Sync>(rt: &H, pieces: &[Piece], columns: &mut [Column]) -> bool
+fn put_pieces<H: Threads + Sync>(rt: &H, pieces: &[TextPiece], columns: &mut [Column]) -> bool
     ensures { result ≡ true → map named columns.new ≡ append_pieces (map named columns.old) pieces.now }
 {
     put_columns(rt, pieces, columns);
@@ -221,7 +228,7 @@ fn put_pieces<H: Threads + Sync>(rt: &H, pieces: &[Piece], columns: &mut [Column
 }
 
 /// The same; the columns that are whole after it have all of their cells.
-fn put_columns<H: Threads + Sync>(rt: &H, pieces: &[Piece], columns: &mut [Column])
+fn put_columns<H: Threads + Sync>(rt: &H, pieces: &[TextPiece], columns: &mut [Column])
     ensures { ArePut pieces.now columns.old columns.new }
 {
     let count = pieces.len().max(1);
@@ -242,7 +249,7 @@ pub(crate) fn put_plain_text<H: Threads + Sync>(
     rt: &H,
     text: &[u8],
     bytes: usize,
-    pieces: &mut [Piece],
+    pieces: &mut [TextPiece],
     columns: &mut [Column],
 ) -> Result<bool, AllocError>
     requires some_column { 0 < length columns.old }
@@ -264,7 +271,7 @@ pub(crate) fn put_plain_text<H: Threads + Sync>(
 }
 
 /// Puts the cells of each piece's column in this place under the column.
-fn put_column(pieces: &[Piece], place: usize, column: &mut Column)
+fn put_column(pieces: &[TextPiece], place: usize, column: &mut Column)
     ensures { IsPut pieces.now place column.old column.new }
 {
     column.is_whole = false;

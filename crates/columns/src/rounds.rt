@@ -20,7 +20,7 @@ ghost use Rattle.columns.specs.TableOfColumns.{named};
 use crate::by_records::{columns_by_records, put_by_records};
 use crate::fault::ColumnFault;
 use crate::header::without_mark;
-use crate::pieces::{Piece, Team, empty_pieces, put_plain_text};
+use crate::pieces::{Team, TextPiece, empty_pieces, put_plain_text};
 use crate::reading::{plain_header, rows_to_expect};
 use crate::round_bytes::{begin_with, last_line_end, read_on};
 use crate::table::{Column, Columns};
@@ -51,7 +51,7 @@ struct Rounds {
     limit: usize,
     /// How many bytes a piece has at least.
     piece: usize,
-    pieces: Vec<Piece>,
+    pieces: Vec<TextPiece>,
 }
 
 /// The columns of a file of which these bytes are read, and of all that the reader has left.
@@ -140,7 +140,7 @@ fn room_for_rounds<H>(
     bytes: &[u8],
     limit: usize,
     width: usize,
-) -> Result<(Vec<u8>, Vec<Piece>), AllocError>
+) -> Result<(Vec<u8>, Vec<TextPiece>), AllocError>
     ensures { IfOk result (λ room. room.0.items ≡ bytes.now) }
 {
     let mut next = Vec::with_capacity(alloc, limit)?;

@@ -3,8 +3,8 @@ use Rattle.std.proofs.Common.{◌≡◌, ℕ, suc, ◌+◌, ◌<◌, ◌≤◌, 
 use Rattle.std.proofs.lemmas.List.{drop_more, drop_all, take_more}
 use Rattle.lambda_expr.specs.declared.lexeme.Lexeme.{Lexeme}
 use Rattle.lambda_expr.specs.declared.lexeme.Lexeme.TheVariants as lexeme
-use Rattle.lambda_expr.specs.declared.lexeme.Name.TheVariants.{Plain, Owner, Truth, LowerLong, LongStream}
-use Rattle.lambda_expr.specs.declared.lexeme.Owner.TheVariants.{Math, Long}
+use Rattle.lambda_expr.specs.declared.lexeme.Name.TheVariants.{Plain, ClassName, Truth, LowerLong, LongStream}
+use Rattle.lambda_expr.specs.declared.lexeme.ClassName.TheVariants.{Math, Long}
 use Rattle.lambda_expr.specs.Members.{is_named, member_of}
 use Rattle.lambda_expr.specs.Lexemes.{first_name, lexeme_of, lexemes_from, lexemes_in, order_of}
 use Rattle.lambda_expr.specs.Words.{Word, named, numeral, quoted, referred, sign, bad}
@@ -26,7 +26,7 @@ lexeme_in ws at w = lexeme_of (first_of ws) (second_of ws) at w
 
 -- that of the last word is the same beside the names of these words with more
 name_by : (a b c d e f : Bool) (v : List ℕ) (early late : ℕ) → ((a || b || c || d || e || f) ≡ false → early ≡ late)
-    → (let name = λ (n : ℕ). if a then Owner Math else (if b then Owner Long else (if c then LongStream else (if d then LowerLong else (if e then Truth true else (if f then Truth false else Plain (record { number = n; member = member_of v })))))) in name early ≡ name late)
+    → (let name = λ (n : ℕ). if a then ClassName Math else (if b then ClassName Long else (if c then LongStream else (if d then LowerLong else (if e then Truth true else (if f then Truth false else Plain (record { number = n; member = member_of v })))))) in name early ≡ name late)
 name_by true b c d e f v early late same = refl
 name_by false true c d e f v early late same = refl
 name_by false false true d e f v early late same = refl

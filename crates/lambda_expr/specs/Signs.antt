@@ -7,8 +7,8 @@ use Rattle.lambda_expr.specs.declared.sign.Sign.TheVariants as sign
 use Rattle.lambda_values.specs.declared.operator.BinaryOperator.TheVariants as binary_operator
 use Rattle.lambda_values.specs.declared.operator.Comparison.TheVariants as comparison
 use Rattle.lambda_values.specs.declared.operator.Connective.TheVariants as connective
-use Rattle.lambda_expr.specs.declared.operation.Operation.{Operation}
-use Rattle.lambda_expr.specs.declared.operation.Operation.TheVariants.{Compute, Compare, Connect, Separate, Nothing}
+use Rattle.lambda_expr.specs.declared.operation.SignOperation.{SignOperation}
+use Rattle.lambda_expr.specs.declared.operation.SignOperation.TheVariants.{Compute, Compare, Connect, Separate, Nothing}
 
 -- the sign that a symbol is
 abbrev pub sign_of : Symbol → Option Sign
@@ -95,7 +95,7 @@ is_prefix sign.Not = true
 is_prefix s = false
 
 -- what a sign does between two operands (JLS 17, 15.17 to 15.24)
-abbrev pub operation_of : Sign → Operation
+abbrev pub operation_of : Sign → SignOperation
 operation_of sign.Comma = Separate
 operation_of sign.Or = Connect connective.Or
 operation_of sign.And = Connect connective.And

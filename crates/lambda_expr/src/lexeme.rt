@@ -12,7 +12,7 @@ use stream_tokens::{CutText, Symbol, TokenKind};
 
 /// A class whose methods and constants a lambda may name.
 #[derive(Clone, Copy)]
-pub(crate) enum Owner {
+pub(crate) enum ClassName {
     Math,
     Long,
 }
@@ -30,7 +30,7 @@ pub(crate) struct PlainName {
 #[derive(Clone, Copy)]
 pub(crate) enum Name {
     Plain(PlainName),
-    Owner(Owner),
+    ClassName(ClassName),
     /// `true` and `false`.
     Truth(bool),
     /// `long`.
@@ -74,9 +74,9 @@ fn name_of(first: Option<&[u8]>, second: Option<&[u8]>, name: &[u8]) -> Name
     ensures { result ≡ name_of (option_copied first.entry) (option_copied second.entry) name.now }
 {
     if name == b"Math".as_slice() {
-        Name::Owner(Owner::Math)
+        Name::ClassName(ClassName::Math)
     } else if name == b"Long".as_slice() {
-        Name::Owner(Owner::Long)
+        Name::ClassName(ClassName::Long)
     } else if name == b"LongStream".as_slice() {
         Name::LongStream
     } else if name == b"long".as_slice() {

@@ -4,7 +4,7 @@ use lambda_values::{BinaryOperator, Comparison, Connective, UnaryOperator};
 
 /// What a sign between two operands does.
 #[derive(Clone, Copy)]
-pub(crate) enum Operation {
+pub(crate) enum SignOperation {
     Compute(BinaryOperator),
     Compare(Comparison),
     Connect(Connective),

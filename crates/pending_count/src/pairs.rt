@@ -13,7 +13,7 @@ ghost use Rattle.pending_count.specs.declared.place.Side.TheVariants.{Whole};
 use crate::counts::Counts;
 use crate::place::{Fits, Place, Side, Slot};
 use crate::rule::{ArmPair, Arming, Hand, Handing, Parting, SplitArrivals, TakeKept, TakeSide};
-use crate::seat::{ArrivedPair, FinishPair, Seat, Token};
+use crate::seat::{ArrivedPair, FinishPair, Seat, SeatToken};
 use completion_core::Node;
 use std::marker::Brand;
 
@@ -165,10 +165,10 @@ impl<V, K: Fits<V>> Counts<V, K> {
     // Empties the slots that came to the token with the last arrival: the kept value's, the other side's, and its own.
     fn collect(
         &self,
-        mut token: Token<V, K, K::Tag>,
+        mut token: SeatToken<V, K, K::Tag>,
         node: Node,
         is_left: bool,
-    ) -> (Token<V, K, K::Tag>, FinishPair<V, K>)
+    ) -> (SeatToken<V, K, K::Tag>, FinishPair<V, K>)
         requires table { token.table_id ≡ self.now.table.shared.table_id }
         requires slots { (kept : K) × (theirs : V) × (ours : V) × HasAll node is_left kept theirs ours token.me.1 }
         ensures seat { (result.0.table_id ≡ token.table_id) × (result.0.id ≡ token.id) × (result.0.me.0 ≡ token.me.0) }

@@ -10,7 +10,7 @@ ghost use Rattle.slice_ops.specs.Parts.{before_stop};
 ghost use Rattle.slice_ops.specs.Rests.{IsTested, rest_of, stop_after};
 ghost use Rattle.slice_ops.specs.Slices.{dropped, front_ends, slice_of, sliced, taken};
 
-use super::shorten::Front;
+use super::shorten::FrontTest;
 use super::slice_part::Slice;
 use lambda_values::{BoolExpr, Env};
 use trace::{End, EndTest, SourceItems};
@@ -194,6 +194,6 @@ fn stop_in<I: SourceItems>(
     if front == source.count() {
         return None;
     }
-    let first = Front { stage, test, env };
+    let first = FrontTest { stage, test, env };
     first.end_before(source.item_at(front))
 }

@@ -9,7 +9,7 @@ ghost use Rattle.trace.specs.declared.item.End.TheVariants as end;
 ghost use Rattle.slice_ops.specs.Parts.{AreAdded, IsAdded, IsFront, IsJoined, IsKept, StandsFor, before_stop, is_settled};
 ghost use Rattle.slice_ops.specs.Slices.{AbstractSlice, front_ends, slice_of, sliced, taken};
 
-use super::shorten::{Front, drop_while, limit, skip, take_while};
+use super::shorten::{FrontTest, drop_while, limit, skip, take_while};
 use lambda_values::{BoolExpr, Env};
 use trace::{Chunk, End, EndTest, Item, NoMemory, SourceItems};
 
@@ -208,7 +208,7 @@ fn add_to(
             Ok(false)
         }
         Slice::TakeWhile(test) => {
-            let front = Front { stage, test, env };
+            let front = FrontTest { stage, test, env };
             if let Some(end) = front.end_before(item) {
                 chunk.end_with(end);
                 return Ok(true);
@@ -268,7 +268,7 @@ fn add_front<I: SourceItems>(
     if front == source.count() {
         return Ok(false);
     }
-    let first = Front { stage, test, env };
+    let first = FrontTest { stage, test, env };
     if let Some(end) = first.end_before(source.item_at(front)) {
         chunk.end_with(end);
     }

@@ -44,7 +44,7 @@ fn main(rt: HostRuntime) -> ExitCode {
 
 /// What a run is given: open files, and its settings.
 #[derive(Drop)]
-struct Given {
+struct GivenFiles {
     columns: Option<Counted<File>>,
     jobs: Counted<File>,
     settings: Settings,
@@ -53,7 +53,7 @@ struct Given {
 /// What a command line asks for.
 #[derive(Drop)]
 enum Asked {
-    Run(Given),
+    Run(GivenFiles),
     /// Nothing more: all was said, and this is the exit status.
     End(u8),
 }
@@ -99,7 +99,7 @@ fn opened_by(rt: &HostRuntime, arguments: &Arguments<'_>) -> Result<Asked, Alloc
         None => None,
     };
     match opened(rt, arguments.jobs, "jobs")? {
-        Some(jobs) => Ok(Asked::Run(Given {
+        Some(jobs) => Ok(Asked::Run(GivenFiles {
             columns,
             jobs: counted(jobs),
             settings,
@@ -132,14 +132,14 @@ fn counted(file: File) -> Counted<File> {
 /// It takes the runtime twice, for files and for threads: what may wait is proved for any handle that can start threads, and only
 /// `main` may name the one that it has. Whatever calls such a function is proved anew for the handle, with all below it, which takes
 /// minutes: so `main` calls this one directly.
-fn watched_run<H: Threads + Wait + Sync>(rt: &HostRuntime, threads: &H, given: Given) -> u8 {
+fn watched_run<H: Threads + Wait + Sync>(rt: &HostRuntime, threads: &H, given: GivenFiles) -> u8 {
     let progress = Progress::new(rt, threads);
     let progress = &progress;
     thread::scope(thread::scope_env(), threads, move |scope| -> u8 {
         if progress.is_counted() {
             let _ = scope.spawn(move || progress.keep_shown());
         }
-        let Given {
+        let GivenFiles {
             mut columns,
             mut jobs,
             settings,

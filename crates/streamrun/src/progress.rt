@@ -26,19 +26,19 @@ struct JobProgress {
 
 /// The state of the line.
 #[derive(Drop)]
-struct Line {
+struct ShownLine {
     is_shown: bool,
     is_over: bool,
 }
 
 /// What all jobs together have reached.
 #[derive(Drop)]
-struct Reached {
+struct ReachedWork {
     items: u64,
     entered: u64,
 }
 
-impl Reached {
+impl ReachedWork {
     /// How many thousandths of the items were entered; at most 999, since the run goes on as long as a line is shown.
     fn thousandths(&self) -> u64 {
         let share = if self.items < 1_000_000 {
@@ -72,7 +72,7 @@ pub struct Progress<'a, H> {
     known: AtomicU64,
     /// How many jobs have answers.
     answered: AtomicU64,
-    line: Mutex<Line>,
+    line: Mutex<ShownLine>,
     ended: AtomicU64,
 }
 
@@ -98,7 +98,7 @@ impl<'a, H> Progress<'a, H> {
             jobs,
             known: AtomicU64::new(0),
             answered: AtomicU64::new(0),
-            line: Mutex::new(Line {
+            line: Mutex::new(ShownLine {
                 is_shown: false,
                 is_over: false,
             }),
@@ -147,8 +147,8 @@ impl<'a, H> Progress<'a, H> {
     }
 
     /// What all jobs have reached. A job counts as many positions as its first walk has items, since its later walks enter positions too.
-    fn reached(&self) -> Reached {
-        let mut reached = Reached {
+    fn reached(&self) -> ReachedWork {
+        let mut reached = ReachedWork {
             items: 0,
             entered: 0,
         };
