@@ -15,7 +15,8 @@ ghost use Rattle.std.specs.Prelude.{◌≡◌, ◌≢◌, ℕ, All, List, length
 ghost use Rattle.stream_tokens.specs.Forms.{IsName};
 
 use crate::gate::RunGate;
-use columns::{ColumnFault, Columns, CountedRead, ReadAllFault, read_all_of, read_columns_by};
+use columns::{ColumnFault, Columns, CountedRead, read_columns_by};
+use counted_io::{ReadAllFault, read_all_of};
 use job_language::{Job, JobFault, read_jobs};
 use job_meaning::Answer;
 use job_plan::{JobPlan, Plan};

@@ -70,7 +70,7 @@ pub use ends::{Fold, Prefix, SegmentEnd};
 pub use fallback::Fallback;
 pub use fold_part::FoldPart;
 pub use given::GivenWalk;
-pub use job_meaning::{Answer, Values};
+pub use job_meaning::Answer;
 pub use leaves::{leaf, leaf_in_order, leaf_stored, leaf_until, leaf_with, unwalked};
 pub use outcome::Outcome;
 pub use part::Part;

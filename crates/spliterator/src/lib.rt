@@ -23,4 +23,3 @@ pub use concat_split::ConcatSplit;
 pub use long_spliterator::LongSpliterator;
 pub use plain_split::PlainSplit;
 pub use range_split::RangeSplit;
-pub use trace::MAX_SOURCE_SIZE;

@@ -6,7 +6,8 @@ use crate::random::{any_stage, any_values, next};
 use batch_eval::{
     Batch, BatchSink, BatchSource, Pipeline, PlacedValues, Registers, accept_each, feed_batches,
 };
-use lambda_expr::{Body, Env, InnerExpr, LongExpr, Want, read_lambda};
+use lambda_expr::{Env, InnerExpr, LongExpr, Want, read_lambda};
+use lambda_values::Body;
 use std::alloc::{AllocError, Global};
 use std::test::Fail;
 use trace::{Fed, Flow, Item, LongSink, NoMemory, Stage, feed_all};
