@@ -7,7 +7,7 @@ ghost use Rattle.test_engine.specs.ListLaws.{one_list};
 
 use early_stop::Stop;
 use job_plan::Settings;
-use job_table::{
+use job_runner::{
     Begun, CutPiece, EarlierAnswers, JobSegments, NoMemory, Piece, SegmentInput, run_all,
 };
 use std::alloc::Global;
