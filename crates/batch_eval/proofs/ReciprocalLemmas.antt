@@ -45,7 +45,8 @@ product_over n e a m above reach within small =
     let most : n * m / a < q + 1 = (div-lt_iff_lt-mul {k = a} {x = n * m} {y = q + 1} above).1 from_above in
     omega (arith, least, most)
 
--- the quotient by e + 1 of magnitudes up to h, where w is twice that, for a power p of two that is at most e and more than half of it
+-- the quotient by e + 1 of magnitudes up to h, where w is twice that, for a power p of two that is at most e and more
+-- than half of it
 divides_by : (w h e p n : ℕ) → w ≡ 2 * h → 0 < h → p ≤ e → e < 2 * p → n ≤ h → n * factor_of (suc e) (w * p) / w / p ≡ n / suc e
 divides_by w h e p n twice some_h low high within =
     let a = w * p in

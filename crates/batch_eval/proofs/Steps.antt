@@ -5,7 +5,7 @@ use Rattle.lambda_values.specs.Operators.{on}
 use Rattle.batch_eval.specs.declared.reached.Reached.{Reached}
 use Rattle.batch_eval.specs.Lanes.{StopsAt, Reaches, later_fault, after}
 
--- the same facts of functions that agree on the lanes
+-- facts of a function hold of another one that agrees with it on the lanes
 pub Reaches_same : (f g : ℕ → Result ℤ FaultKind) (c : ℕ → ℤ) (n : ℕ) (r : Reached) → ((k : ℕ) → k < n → f k ≡ g k) → Reaches f c n r → Reaches g c n r
 Reaches_same f g c n r same h =
     record {

@@ -18,7 +18,7 @@ use Rattle.batch_eval.specs.declared.reached.Reached.{Reached}
 use Rattle.batch_eval.specs.Lanes.{at, flagged, is_set, StopsAt, Reaches}
 use Rattle.batch_eval.specs.Batches.{gathered, lanes, picked, passing, end_after, origin_at, item_at}
 
--- the same lists, lane by lane
+-- equal lists, lane by lane
 pub gathered_same : (n : ℕ) (f g : ℕ → List Item) → ((k : ℕ) → k < n → f k ≡ g k) → gathered n f ≡ gathered n g
 gathered_same zero f g same = refl
 gathered_same (suc n) f g same = let a = gathered_same n f g (λ k below. same k (omega arith)) in let b = same n (omega arith) in cc

@@ -1,4 +1,4 @@
--- Condition: the walk that a batch of lanes stands for.
+-- Condition: the walk that a batch of lanes describes.
 use Rattle.std.specs.Prelude.{◌≡◌, ℕ, zero, suc, ◌+◌, ◌<◌, ◌≤◌, ◌^◌, ℤ, Bool, true, false, not, List, [], ◌∷◌, ◌++◌, length, slice_index, Option, Some, None, if◌then◌else◌}
 use Rattle.lambda_values.specs.declared.fault.FaultKind.{FaultKind}
 use Rattle.trace.specs.declared.item.Item.{Item}
@@ -68,7 +68,7 @@ abbrev pub wants : Bool → ℤ → Bool
 wants true z = is_set z
 wants false z = not (is_set z)
 
--- those of the first n lanes whose flag is as it is wanted
+-- the places of those among the first n lanes whose flag is as it is wanted
 abbrev pub wanted : Bool → List ℤ → ℕ → List ℕ
 wanted kind flags n = picked (λ k. wants kind (at flags k)) n
 

@@ -103,7 +103,7 @@ pub record Reaches (f : ℕ → Result ℤ FaultKind) (register : ℕ → ℤ) (
   pub values : (k : ℕ) → k < r.live → f k ≡ Ok (register k)
   pub stop : StopsAt f n r.live r.fault
 
--- the first fault of two steps, of which the later one stopped at an earlier lane, if at all
+-- the first fault of two steps; a fault of the later step is at an earlier lane
 abbrev pub later_fault : Option FaultKind → Option FaultKind → Option FaultKind
 later_fault (Some kind) before = Some kind
 later_fault None before = before

@@ -7,7 +7,8 @@ use Rattle.batch_eval.specs.declared.operands.Held.TheVariants as held
 use Rattle.batch_eval.specs.declared.reciprocal.Reciprocal.{Reciprocal}
 use Rattle.batch_eval.specs.declared.reciprocal.ShortReciprocal.{ShortReciprocal}
 
--- a magnitude that needs no more than these bits with its sign, over that of the divisor, is a product with the factor over a power of two
+-- a magnitude that needs no more than these bits with its sign, over the magnitude of the divisor, is a product with
+-- the factor over a power of two
 pub record Divides (bits : ℕ) (y : ℤ) (m s : ℕ) : Type 0 where
   pub divides : (n : ℕ) → n ≤ 2 ^ (bits - 1) → n * m / 2 ^ bits / 2 ^ s ≡ n / unsigned_abs y
   pub shift : s < bits
@@ -29,7 +30,7 @@ IsWithin most x = FitsSigned w64 x → unsigned_abs x ≤ most
 abbrev pub AreWithin : ℕ → List ℤ → ℕ → Type 0
 AreWithin most xs live = (k : ℕ) → k < live → IsWithin most (at xs k)
 
--- those of an operand that is held are
+-- the values of a held operand are within these bits
 abbrev pub HeldIsWithin : ℕ → Held → List ℤ → ℕ → Type 0
 HeldIsWithin most held.Out out live = AreWithin most out live
 HeldIsWithin most (held.Register xs) out live = AreWithin most xs.now live

@@ -105,7 +105,7 @@ impl Batch {
         })
     }
 
-    /// `map` of `LongStream`: each item's image, at the same place.
+    /// `map` of `LongStream`: the image of each item, at the place of that item.
     pub(crate) fn map(&mut self, image: &LongExpr, line: Pipeline<'_>, room: &mut [i64])
         requires { Fits (long_of image.now) (length room.old) }
         ensures { self.new ≡ each (of_item line.entry.first (abstract_map (long_of image.now)) line.entry.env.now) self.old.items self.old.ending }

@@ -56,8 +56,8 @@ pub(crate) fn eval_chosen(
     eval_parted(flags, a, b, valid, out, rest).after(tested)
 }
 
-/// Puts the one of two operands that each flag chooses into a register, up to the first fault. Each is
-/// evaluated at the lanes that need it only; if all need the same one, at those where they lie.
+/// Puts the operand that each flag chooses into a register, up to the first fault. Each operand is evaluated only at
+/// the lanes that need it. If all lanes need one operand, it is evaluated where they lie.
 #[cycle(register)]
 fn eval_parted(
     flags: &[i64],
@@ -109,8 +109,8 @@ fn eval_parted(
     merge(flags, live, ones, others, out)
 }
 
-/// The same where both operands are cheap and have a value at each lane, and else false. Both are
-/// evaluated at all lanes.
+/// Puts the operand that each flag chooses into a register, if both operands are cheap and have a value at each lane;
+/// else answers false. Both are evaluated at all lanes.
 #[cycle(register)]
 fn eval_both(
     flags: &[i64],

@@ -1,5 +1,5 @@
-//! An operator over lanes: which of its loops is run. An operator has a loop for any operands, in `binary.rt`; here are the
-//! shorter ways if the right operand is a number.
+//! An operator over lanes: which of its loops is run. An operator has a loop for any operands, in `binary.rt`; here are
+//! the shorter ways if the right operand is a number.
 
 ghost use Rattle.batch_eval.specs.Lanes.{HasBeside, HasHeld, Reaches, at, beside_value, held_at, infix_value, step_value};
 ghost use Rattle.batch_eval.specs.Powers.{power};
@@ -93,8 +93,8 @@ fn by_step_and_number(
     }
 }
 
-/// An operator between an operand that is held and a power of two, which has this exponent: a division by it needs none of the
-/// processor.
+/// An operator between an operand that is held and a power of two, which has this exponent: a division by it needs none
+/// of the processor.
 fn by_power(
     operator: BinaryOperator,
     held: Held<'_>,
@@ -192,8 +192,8 @@ fn by_held_reciprocal<D: Division, R: Divisor>(
     }
 }
 
-/// A division by a number: by its short reciprocal if it has one and all operands need no more than 32 bits, else by its reciprocal
-/// if it has one, else as the processor divides.
+/// A division by a number: by its short reciprocal if it has one and all operands need no more than 32 bits, else by
+/// its reciprocal if it has one, else as the processor divides.
 #[tactic(auto, using(crate::proofs::ReciprocalLemmas::held_within_64))]
 fn by_divisor<D: Division, K: Kernel>(
     held: Held<'_>,

@@ -53,8 +53,8 @@ fn at_opposite_distance(x: i64, n: u64) -> i64
     if x > 0 { !above } else { above }
 }
 
-/// What is left of a magnitude after a multiple of a short divisor is taken away, if it is less than the divisor: by its lower
-/// half alone, so that no product has more than 64 bits.
+/// What is left of a magnitude after a multiple of a short divisor is taken away, if it is less than the divisor: by
+/// its lower half alone, so that no product has more than 64 bits.
 fn short_rest(n: u64, quotient: u64, divisor: u32) -> u64
     requires least { quotient * divisor ≤ n }
     requires most { n < quotient * divisor + divisor }

@@ -17,7 +17,7 @@ pub(crate) fn sums_within(y: i64) -> (i64, i64)
     }
 }
 
-/// The same of `x - y`.
+/// The least and the greatest `x` for which `x - y` needs no more than 64 bits.
 pub(crate) fn differences_within(y: i64) -> (i64, i64)
     ensures { (x : ℤ) → result.0 ≤ℤ x → x ≤ℤ result.1 → FitsSigned w64 (x -ℤ y) }
 {

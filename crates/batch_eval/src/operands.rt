@@ -33,8 +33,8 @@ pub(crate) enum Step {
     Or(i64),
 }
 
-/// The other operand. `Register`: on the right, after a step. `Number`: on the right, and the operand that is held goes through
-/// the step. `NumberFirst`: on the left.
+/// The other operand. `Register`: on the right, after a step. `Number`: on the right, and the operand that is held goes
+/// through the step. `NumberFirst`: on the left.
 #[derive(Clone, Copy)]
 pub(crate) enum Beside<'a> {
     Register(&'a [i64], Step),

@@ -31,8 +31,8 @@ pub trait BatchSource: SourceItems {
         None
     }
 
-    /// The items of `count` positions from one on, if their places and their values lie side by side in memory. A `filter` that
-    /// comes first reads them there.
+    /// The items of `count` positions from one on, if their places and their values lie side by side in memory. A
+    /// `filter` that comes first reads them there.
     fn items_at(&self, position: u64, count: u64) -> Option<ListedItems<'_>>
         requires within { position + count ≤ length (Self.items self.now) }
         ensures count { IfSome result (λ listed. length listed.values.now ≡ count) }
@@ -41,8 +41,8 @@ pub trait BatchSource: SourceItems {
         None
     }
 
-    /// Gives a sink all items until it has enough. The items of a batch, and values that lie side by side, go at once; others one
-    /// by one.
+    /// Gives a sink all items until it has enough. The items of a batch, and values that lie side by side, go at once;
+    /// others one by one.
     fn give<S: BatchSink>(&self, _room: &mut [i64], sink: &mut S) -> Result<Fed, NoMemory>
         requires wants { S.flow sink.old ≡ Flow.More }
         ensures fed { (xs : List Item) → S.has_taken sink.old xs → IsFed S.has_taken xs (trace (Self.items self.now) end.Done) result sink.new }
