@@ -20,7 +20,7 @@ pub struct Fold {
     pub op: Op,
     /// What is folded before the first value: the answer is then a number, else an optional.
     pub start: Option<i64>,
-    /// Whether a 1 stands for each value.
+    /// Whether each value counts as 1.
     pub counts: bool,
 }
 
@@ -52,14 +52,14 @@ pub enum SegmentEnd {
 /// What is asked of an end of any kind, apart from its parts.
 #[derive(Clone, Copy)]
 pub(crate) struct EndRow<'e> {
-    /// The stage that looks at a whole walk, if such a stage is the end.
+    /// The stage that looks at a whole walk, if the segment ends in one.
     slice: Option<&'e Slice>,
     /// Whether it makes a walk of a walk, over which the next segment goes.
     gives_walk: bool,
     /// The test that it asks of items while it takes them, if it asks one.
     pub(crate) test: Option<&'e BoolExpr>,
-    /// Whether the items of lanes with flags are to be given with their flags: to a fold, which then moves no value, and to
-    /// `findFirst`, which the first flag decides.
+    /// Whether the items of lanes with flags are to be given with their flags: to a fold, which then moves no value,
+    /// and to `findFirst`, which the first flag decides.
     pub(crate) takes_flags: bool,
 }
 
@@ -81,7 +81,7 @@ impl SegmentEnd {
         }
     }
 
-    /// The stage that looks at a whole walk, if such a stage is the end.
+    /// The stage that looks at a whole walk, if the segment ends in one.
     pub fn slice(&self) -> Option<&Slice>
         ensures some { IfSome result (λ slice. slice_in (end_in self.now) ≡ Some (slice_of slice.now)) }
         ensures none { IfNone result (slice_in (end_in self.now) ≡ None) }
@@ -145,7 +145,7 @@ fn test_of_slice(slice: &Slice) -> Option<&BoolExpr> {
     }
 }
 
-/// The same of a find or a match.
+/// The test that a find or a match asks of items, if it asks one.
 fn test_of_find(find: &FindTerminal) -> Option<&BoolExpr> {
     match find {
         FindTerminal::AnyMatch(test)
@@ -162,7 +162,7 @@ fn folding(op: Op, start: Option<i64>, counts: bool) -> SegmentEnd
     SegmentEnd::Fold(Fold { op, start, counts })
 }
 
-/// A number as a terminal gives it, where it stands in place of a fault.
+/// The number of `onFault`, in the form in which the terminal gives numbers.
 pub(crate) fn number_as(terminal: &Terminal, number: i64) -> Fallback
     ensures { fallback_in result ≡ number_as (terminal_of terminal.now) number }
 {

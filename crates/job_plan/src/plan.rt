@@ -18,8 +18,9 @@ use std::mem;
 use trace::{NoMemory, Stage};
 
 impl<'c> Plan<'c> {
-    /// Cuts each job into segments, and finds the earlier jobs that it names. A name that no earlier job has is left out. The jobs are
-    /// moved; after a refused allocation they are dropped. Each name that is written is compared with those of the jobs before.
+    /// Cuts each job into segments, and finds the earlier jobs that it names. A name that no earlier job has is left
+    /// out. The jobs are moved; after a refused allocation they are dropped. Each name in a job is compared with the
+    /// names of the jobs before.
     pub fn of(alloc: Global, jobs: Vec<Job<'c>>) -> Result<Plan<'c>, NoMemory>
         ensures ok { IfOk result (λ plan. plans_in plan.jobs.items ≡ plans_of (jobs_of jobs.entry.items)) }
     {

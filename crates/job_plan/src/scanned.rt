@@ -51,7 +51,7 @@ impl<'a> ScannedWalk<'a> {
         })
     }
 
-    /// How the walk ends: it is done, since a fault stands in place of such a walk.
+    /// How the walk ends: it is done. A walk that ends in a fault is never scanned.
     pub(crate) fn end(&self) -> End
         ensures { result ≡ self.now.ending }
     {
