@@ -1,4 +1,4 @@
--- Condition: which positions of a source stand for a side of a cut, and which pieces a run has.
+-- Condition: which positions of a source belong to a side of a cut, and which pieces a run has.
 use Rattle.std.specs.Prelude.{◌≡◌, ℕ, ◌<◌, ◌≤◌, Bool, Option, Some, None, Result, Ok, Err, ⊤}
 use Rattle.trace.specs.declared.item.Fault.{Fault}
 use Rattle.completer_tree.specs.declared.part.Failure.{Failure}
@@ -43,7 +43,8 @@ IfHanded value faults (Ok x) = value x
 IfHanded value faults (Err (failure.Fault f)) = faults f
 IfHanded value faults (Err failure.NoMemory) = ⊤
 
--- what is handed in at a side of a cut: the part of these positions, a fault among them that the job catches, or nothing
+-- what is handed in at a side of a cut: the part of these positions, a fault among them that the job catches, or
+-- nothing
 abbrev pub HandedIn : {A B X : Type 0} → (ℕ → ℕ → ℕ → ℕ → A → Type 0) → (ℕ → ℕ → ℕ → ℕ → Fault → Type 0) → (X → Merged A B) → ℕ → ℕ → ℕ → ℕ → Result X Failure → Type 0
 HandedIn stands faults found job segment from to v = IfHanded (λ x. IfMerged (stands job segment from to) (λ a. ⊥) (found x)) (faults job segment from to) v
 

@@ -33,7 +33,7 @@ pub(crate) fn split_spare<S: JobSegments, R: Running>(
 }
 
 impl<'a, S: JobSegments, R: Running> JobWork<'a, S, TablePart<S>, TableKept<S>, R> {
-    /// Gives a job the credit for one more tree, out of that of the worker that begins it.
+    /// Gives a job the credit for one more tree, out of the credit of the worker that begins it.
     pub(crate) fn pay(
         &self,
         begun: TableJobSeat<S, R>,

@@ -87,8 +87,8 @@ impl<'a, S: JobSegments, R: Running> JobWork<'a, S, TablePart<S>, TableKept<S>, 
         self.go_on(gate, whole, spawn, busy)
     }
 
-    /// Leaves what the part of a whole segment gives in its place, and frees what the segment went over. `Some` is the next segment, with
-    /// how many positions it has.
+    /// Leaves what the part of a whole segment gives in its place, and frees what the segment went over. `Some` is the
+    /// next segment, with how many positions it has.
     fn leave_part<G: Gate>(
         &self,
         gate: &G,
@@ -144,8 +144,8 @@ impl<'a, S: JobSegments, R: Running> JobWork<'a, S, TablePart<S>, TableKept<S>, 
         }
     }
 
-    /// Ends one segment after the other, while this worker has the last part of one. Each is a later one of the same job. `Some` if the
-    /// job is over.
+    /// Ends one segment after the other, while this worker has the last part of one. They are consecutive segments of
+    /// one job. `Some` if the job is over.
     fn go_on<G: Gate, P: Spawn<TableTask<S, R>>>(
         &self,
         gate: &G,
@@ -188,7 +188,8 @@ impl<'a, S: JobSegments, R: Running> JobWork<'a, S, TablePart<S>, TableKept<S>, 
         (seat, self.arrive_at(part, waiting.job))
     }
 
-    /// The same for the one at this position of those that wait.
+    /// Arrives at the start node of the job at position `at` of the waiting jobs, with its part of the credit. `Some`
+    /// if that job may begin.
     fn free_next(
         &self,
         seat: TableSeat<S>,
@@ -205,8 +206,8 @@ impl<'a, S: JobSegments, R: Running> JobWork<'a, S, TablePart<S>, TableKept<S>, 
         self.free_one(seat, *next, (waiting.len() - at) as u64)
     }
 
-    /// Arrives for a job that is over at the start nodes of the jobs that wait for it, and settles it. Of those that may begin now one
-    /// comes back, and the others go to the pool.
+    /// Arrives for a job that is over at the start nodes of the jobs that wait for it, and settles it. Of those that
+    /// may begin now one comes back, and the others go to the pool.
     #[cycle(over)]
     #[tactic(auto, using(crate::proofs::SeatLemmas::begin_waiting, crate::proofs::SeatLemmas::ends_kept))]
     fn end_job<G: Gate, P: Spawn<TableTask<S, R>>>(
@@ -234,7 +235,8 @@ impl<'a, S: JobSegments, R: Running> JobWork<'a, S, TablePart<S>, TableKept<S>, 
         next
     }
 
-    /// Gives a job that may begin to the pool. If the pool has no room it is run here; `depth` is how many more jobs may be.
+    /// Gives a job that may begin to the pool. If the pool has no room it is run here; `depth` is how many more jobs
+    /// may be.
     #[cycle(over)]
     fn hand_over<G: Gate, P: Spawn<TableTask<S, R>>>(
         &self,

@@ -1,18 +1,19 @@
 //! Jobs in segments on workers, over one table of counts, whatever the jobs are.
 //!
-//! `run_all` works out the jobs of a type that implements `JobSegments`, which says how many jobs there are, how a piece of a segment
-//! is walked, how two parts are merged, and what comes of a whole segment. Each job has a start node. A piece longer than the
-//! threshold, or with few nodes than an even share of all positions, is cut in two if a node can be claimed; parts climb in trees of
-//! completers. Whoever gets the part of a whole segment leaves its outcome in a `OnceLock`, and begins the next segment or settles the
-//! job.
+//! `run_all` works out the jobs of a type that implements `JobSegments`, which says how many jobs there are, how a
+//! piece of a segment is walked, how two parts are merged, and what comes of a whole segment. Each job has a start
+//! node. A piece longer than the threshold, or with few nodes than an even share of all positions, is cut in two if a
+//! node can be claimed. Parts climb in trees of completers. Whoever gets the part of a whole segment leaves its outcome
+//! in a `OnceLock`, and begins the next segment or settles the job.
 //!
-//! Stands on `completer_tree`, `worker_pool` and `early_stop`, and on `run_settings` for what a run may use. Used by `job_table`, whose
-//! jobs are those of a plan.
-//! What it promises to its callers: `run_all`, clauses `count` and `each`: each answer is the answer of its job, in order, with any
-//! settings and in any schedule.
-//! Begin with `segments.rt`, then `run.rt`, `walking.rt` and `ending.rt`; docs/workers.md has a job's way through the threads.
-//! Not promised: that the call returns, that there is memory, that an answer comes from the tasks (else whoever reads it works it out),
-//! or speed.
+//! Stands on `completer_tree`, `worker_pool` and `early_stop`, and on `run_settings` for what a run may use. Used by
+//! `job_table`, whose jobs are the jobs of a plan.
+//! What it promises to its callers: `run_all`, clauses `count` and `each`: each answer is the answer of its job, in
+//! order, with any settings and in any schedule.
+//! Begin with `segments.rt`, then `run.rt`, `walking.rt` and `ending.rt`; docs/workers.md has a job's way through the
+//! threads.
+//! Not promised: that the call returns, that there is memory, that an answer comes from the tasks (else whoever reads
+//! it works it out), or speed.
 #![tactic(auto)]
 
 mod alone;

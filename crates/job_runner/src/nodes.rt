@@ -5,12 +5,12 @@ ghost use Rattle.run_settings.specs.SettingsParts.{nodes_of, threshold_of};
 use crate::segments::JobSegments;
 use run_settings::Settings;
 
-/// How many nodes a run has at least, if the settings allow it and a job has later segments: these may have more items than the first
-/// ones, as `flatMap` makes them, and how many isn't known before they are walked.
+/// How many nodes a run has at least, if the settings allow it and a job has later segments: these may have more items
+/// than the first ones, as `flatMap` makes them, and how many isn't known before they are walked.
 const LEAST_FOR_LATER: u64 = 4_096;
 
-/// The most nodes that the pieces of a job can claim. A piece is cut if it has more positions than the threshold, so each side has at
-/// least half as many as that. A later segment counts with as many positions as the first one.
+/// The most nodes that the pieces of a job can claim. A piece is cut if it has more positions than the threshold, so
+/// each side has at least half the threshold. A later segment is taken to have no more positions than the first one.
 fn most_cuts<S: JobSegments>(jobs: &S, job: usize, settings: Settings) -> u64
     requires { job < S.job_count }
 {
@@ -29,7 +29,8 @@ fn most_cuts<S: JobSegments>(jobs: &S, job: usize, settings: Settings) -> u64
     cuts
 }
 
-/// One start node for each job, and no more nodes for cuts than the settings allow and the jobs can use; 2^32 - 1 at most.
+/// One start node for each job, and no more nodes for cuts than the settings allow and the jobs can use; 2^32 - 1 at
+/// most.
 pub(crate) fn node_count<S: JobSegments>(jobs: &S, settings: Settings) -> u32
     ensures starts { min S.job_count (2 ^ 32 - 1) ≤ result }
     ensures few { result ≤ S.job_count + nodes_of settings }
@@ -71,8 +72,8 @@ fn divided_positions<S: JobSegments>(jobs: &S) -> u64 {
     positions
 }
 
-/// The most nodes that a segment of this many positions uses, if pieces longer than `longest` are cut. Each cut leaves half of the
-/// positions at most, rounded up.
+/// The most nodes that a segment of this many positions uses, if pieces longer than `longest` are cut. Each cut leaves
+/// half of the positions at most, rounded up.
 fn cuts_within(size: u64, longest: u64) -> u64 {
     let mut length = size;
     let mut cuts = 0u64;
@@ -86,7 +87,8 @@ fn cuts_within(size: u64, longest: u64) -> u64 {
     cuts
 }
 
-/// The most nodes that the segments of a job use so. A later segment counts with as many positions as the first one.
+/// The most nodes that the segments of a job use if no piece is longer than this. A later segment is taken to have no
+/// more positions than the first one.
 fn cuts_of_job<S: JobSegments>(jobs: &S, job: usize, longest: u64) -> u64
     requires { job < S.job_count }
 {
@@ -109,9 +111,9 @@ fn cuts_of_all<S: JobSegments>(jobs: &S, longest: u64) -> u64 {
     cuts
 }
 
-/// The most positions of a piece that isn't cut: the threshold, or more if there are too few nodes for pieces as short as that: an even
-/// share of all positions, doubled until there are nodes for all cuts, as long as something is cut. So no piece is left long because
-/// others were cut small before it, and the last of many jobs is cut as the first one is.
+/// The most positions of a piece that isn't cut: the threshold, or more if there are too few nodes for pieces as short
+/// as that: an even share of all positions, doubled until there are nodes for all cuts, as long as something is cut. So
+/// no piece is left long because others were cut small before it, and the last of many jobs is cut as the first one is.
 pub(crate) fn most_positions<S: JobSegments>(jobs: &S, settings: Settings) -> u64
     ensures some { 0 < result }
     ensures threshold { threshold_of settings ≤ result }

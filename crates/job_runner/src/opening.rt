@@ -21,8 +21,8 @@ use std::alloc::Global;
 use std::marker::PhantomData;
 
 impl<'a, S: JobSegments, R: Running> JobWork<'a, S, TablePart<S>, TableKept<S>, R> {
-    /// Arrives at the start node of a job, along the path of that node alone: the next one on the way is arrived at once the job has
-    /// left its answer. If it is the last arrival, the job may begin.
+    /// Arrives at the start node of a job, along the path of that node alone: the next one on the way is arrived at
+    /// once the job has left its answer. If it is the last arrival, the job may begin.
     pub(crate) fn arrive_at(&self, seat: TableSeat<S>, job: usize) -> Option<TableJobSeat<S, R>>
         requires job { job < R.jobs }
         requires can { CanArrive R.table R.jobs R.start R.keeps job seat }
@@ -58,7 +58,8 @@ impl<'a, S: JobSegments, R: Running> JobWork<'a, S, TablePart<S>, TableKept<S>, 
         (rest, self.arrive_at(part, job))
     }
 
-    /// Tasks for the jobs that name no other one, the last job first, and an `Idle` with an equal part of the credit for each worker.
+    /// Tasks for the jobs that name no other one, the last job first, and an `Idle` with an equal part of the credit
+    /// for each worker.
     pub(crate) fn open_all(
         &self,
         purse: TablePurse<S, R>,

@@ -19,7 +19,7 @@ use std::sync::Wait;
 use std::thread::Threads;
 use worker_pool::{Gate, run_pool};
 
-/// The answer that lies in the job's place. If there is none, it is worked out, from those of the jobs before it.
+/// The answer that lies in the job's place. If there is none, it is worked out from the answers of the jobs before it.
 fn read_answer<S: JobSegments, G: Gate>(
     alloc: Global,
     gate: &G,
@@ -125,10 +125,11 @@ where
     Ok(places_of(work))
 }
 
-/// The answers of all jobs, in their order, worked out by as many workers as the settings say.
+/// The answers of all jobs, in their order, worked out by the number of workers that the settings say.
 ///
-/// Each piece that is walked enters the gate first. An answer that no task left is worked out here, in the jobs' order, which enters the
-/// gate once, for all of the job's source. `NoMemory` says that a job couldn't be worked out here either.
+/// Each piece that is walked enters the gate first. An answer that no task left is worked out here, in the jobs' order,
+/// which enters the gate once, for all of the job's source. `NoMemory` says that a job couldn't be worked out here
+/// either.
 pub fn run_all<S: JobSegments + Send + Sync, H: Threads + Wait + Sync, G: Gate + Sync>(
     rt: &H,
     alloc: Global,

@@ -40,7 +40,8 @@ fn fault_of<S: JobSegments, R: Running>(
     }
 }
 
-/// Walks a piece. What is handed in for it: its part, or the fault that ends it, if the job gives an answer in its place.
+/// Walks a piece. What is handed in for it: its part, or the fault that ends it, if the job gives an answer in its
+/// place.
 fn handed<S: JobSegments, R: Running, G: Gate>(
     work: &TableWork<S, R>,
     gate: &G,
@@ -104,8 +105,8 @@ fn is_left_out<S: JobSegments, R: Running>(watch: &mut Watch<'_, S, R>, piece: P
 }
 
 impl<'a, S: JobSegments, R: Running> JobWork<'a, S, TablePart<S>, TableKept<S>, R> {
-    /// Walks one side of a cut. While it has more positions than the threshold and a node can be claimed, it is cut in two, and the right
-    /// side goes to the pool. `Some` is the whole segment, if this was its last part.
+    /// Walks one side of a cut. While it has more positions than the threshold and a node can be claimed, it is cut in
+    /// two, and the right side goes to the pool. `Some` is the whole segment, if this was its last part.
     #[cycle(walk)]
     #[tactic(auto, using(crate::proofs::SameRun::as_planned))]
     pub(crate) fn walk<G: Gate, P: Spawn<TableTask<S, R>>>(
@@ -192,7 +193,8 @@ fn walk_whole<S: JobSegments, R: Running, G: Gate>(
 }
 
 impl<'a, S: JobSegments, R: Running> JobWork<'a, S, TablePart<S>, TableKept<S>, R> {
-    /// Begins the tree of a segment, for which this worker pays. `Some` is the whole segment, if no part of it is left to others.
+    /// Begins the tree of a segment, for which this worker pays. `Some` is the whole segment, if no part of it is left
+    /// to others.
     #[tactic(auto, using(crate::proofs::SeatLemmas::can_keep, crate::proofs::SameRun::as_planned))]
     pub(crate) fn begin<G: Gate, P: Spawn<TableTask<S, R>>>(
         &self,

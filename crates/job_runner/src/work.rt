@@ -53,7 +53,8 @@ pub struct JobWork<'a, S: JobSegments, V, K: Fits<V, Tag = CutPiece>, R: Running
 
 pub type TableWork<'a, S, R> = JobWork<'a, S, TablePart<S>, TableKept<S>, R>;
 
-/// The counts of a run that hasn't begun, the start nodes of its jobs, and the seat that has an arrival at each of them.
+/// The counts of a run that hasn't begun, the start nodes of its jobs, and the seat that has an arrival at each of
+/// them.
 #[derive(Drop)]
 pub struct Opened<S: JobSegments, V, K: Fits<V, Tag = CutPiece>> {
     pub(crate) counts: Counts<V, K>,
@@ -70,7 +71,8 @@ pub struct Opened<S: JobSegments, V, K: Fits<V, Tag = CutPiece>> {
 pub type TableOpened<S> = Opened<S, TablePart<S>, TableKept<S>>;
 
 impl<S: JobSegments> Opened<S, TablePart<S>, TableKept<S>> {
-    /// Makes the counts of a run, and no more nodes than its jobs can use. `None` if there can't be a node for each job.
+    /// Makes the counts of a run, and no more nodes than its jobs can use. `None` if there can't be a node for each
+    /// job.
     pub fn new(
         alloc: Global,
         jobs: &S,
@@ -106,7 +108,8 @@ fn stop_words<S: JobSegments>(alloc: Global, jobs: &S) -> Result<(RunStops<S>, C
 }
 
 impl<'a, S: JobSegments, R: Running> JobWork<'a, S, TablePart<S>, TableKept<S>, R> {
-    /// The work of a run, with what a pool takes for it: a task for each job that names no other one, and an `Idle` for each worker.
+    /// The work of a run, with what a pool takes for it: a task for each job that names no other one, and an `Idle` for
+    /// each worker.
     pub fn new(
         alloc: Global,
         jobs: &'a S,
