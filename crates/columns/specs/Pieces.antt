@@ -35,7 +35,7 @@ with_pieces c pieces place = record { name = c.name; cells = fold (λ k p. k ++ 
 abbrev pub IsPut : List TextPiece → ℕ → Column → Column → Type 0
 IsPut pieces place before after = after.is_whole ≡ true → named after ≡ with_pieces (named before) pieces place
 
--- the same of each column
+-- each column that is whole has the cells of all pieces
 abbrev pub ArePut : List TextPiece → List Column → List Column → Type 0
 ArePut pieces before after =
     (place : ℕ) (c : Column) → place < length before → IsPut pieces place (get_or before place c) (get_or after place c)
@@ -45,6 +45,6 @@ pub record IsPiece (text : List ℕ) (width : ℕ) (p : TextPiece) : Type 0 wher
   pub ends : p.to ≤ length text
   pub read : AreRead (drop p.from text) (drop p.to text) (blanks width) (map named p.columns.items)
 
--- the same of a piece that may not have been read
+-- the piece holds the rows from a record's start to another one, if it was read
 abbrev pub IsPieceThere : List ℕ → ℕ → TextPiece → Type 0
 IsPieceThere text width p = p.is_read ≡ true → IsPiece text width p

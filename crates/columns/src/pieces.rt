@@ -1,12 +1,12 @@
 //! Plain rows, read in pieces of their text on threads of their own.
 //!
-//! A text is cut after line feeds. Each piece is read as if a record began with it, and its rows are put
-//! under those of the piece before only if that one was read to this very place. So a cut inside quotes is
-//! never taken for one between records.
+//! A text is cut after line feeds. Each piece is read as if a record began with it. Its rows are put under the rows of
+//! the piece before only if that piece was read exactly up to this place, so no cut inside quotes is taken for one
+//! between records.
 //!
-//! As many pieces at a time as there are workers are read, each on a thread. Then each column gets their cells on a
-//! thread of its own. The vectors of the pieces are used again, since memory that is new to the system costs more time
-//! than the parsing of what is put there.
+//! One piece for each worker is read at a time, each on a thread. Then each column gets its cells on a thread of its
+//! own. The vectors of the pieces are used again, since memory that is new to the system costs more time than the
+//! parsing of what is put there.
 ghost use Rattle.std.specs.Prelude.{◌≡◌, ◌<◌, ◌≤◌, [], true, All, List, IfOk, IfSome, length, map, drop};
 ghost use Rattle.std.specs.Bool.{MatchBool};
 ghost use Rattle.std.specs.List.{list_all};
@@ -65,7 +65,7 @@ pub(crate) fn read_plain_rows_by<H: Threads + Sync>(
     read_in_turns(team.rt, text, from, bytes, pieces.as_mut_slice(), columns)
 }
 
-/// Pieces of which none is read, with room for this many rows each.
+/// A number of pieces, none of them read yet, with room for this many rows each.
 pub(crate) fn empty_pieces(
     alloc: Global,
     count: usize,
@@ -97,7 +97,7 @@ fn nameless_columns(alloc: Global, width: usize, rows: usize) -> Result<Vec<Colu
     Ok(columns)
 }
 
-/// Reads the rows from place `from` on, as many pieces in each turn as there are.
+/// Reads the rows from place `from` on, in turns of `pieces.len()` pieces.
 fn read_in_turns<H: Threads + Sync>(
     rt: &H,
     text: &[u8],
@@ -219,7 +219,8 @@ fn end_of_pieces(text: &[u8], from: usize, pieces: &[TextPiece]) -> Option<usize
     Some(at)
 }
 
-/// Puts the cells of all pieces under the columns in their places, and answers whether there was memory for all of them.
+/// Puts the cells of all pieces under the columns in their places, and answers whether there was memory for all of
+/// them.
 fn put_pieces<H: Threads + Sync>(rt: &H, pieces: &[TextPiece], columns: &mut [Column]) -> bool
     ensures { result ≡ true → map named columns.new ≡ append_pieces (map named columns.old) pieces.now }
 {
@@ -227,7 +228,8 @@ fn put_pieces<H: Threads + Sync>(rt: &H, pieces: &[TextPiece], columns: &mut [Co
     are_whole(columns)
 }
 
-/// The same; the columns that are whole after it have all of their cells.
+/// Puts the cells of all pieces under the columns in their places; the columns that are whole after it have all of
+/// their cells.
 fn put_columns<H: Threads + Sync>(rt: &H, pieces: &[TextPiece], columns: &mut [Column])
     ensures { ArePut pieces.now columns.old columns.new }
 {

@@ -1,10 +1,11 @@
 //! Long column files, read and parsed at the same time.
 //!
-//! A file is read in rounds. While the whole lines of one round are parsed in pieces, the bytes of the next one are read
-//! into another buffer, after the begin of its first line. So few bytes of the file are held at a time, and the same memory
-//! takes all of them: memory that is new to the system costs more time than the reading.
+//! A file is read in rounds. While the whole lines of one round are parsed in pieces, the bytes of the next one are
+//! read into another buffer, after the beginning of its first line. So few bytes of the file are held at a time, and
+//! one piece of memory takes all of them: memory that is new to the system costs more time than the reading.
 //!
-//! From a round with another row than plain ones on, all bytes are read whole, and `csv` puts their rows under the columns.
+//! From the first round on that has a row that isn't plain, all bytes are read whole, and `csv` puts their rows under
+//! the columns.
 ghost use Rattle.std.specs.Prelude.{◌≡◌, ◌⊎◌, ◌++◌, ◌+◌, ◌<◌, ◌≤◌, ◌-◌, [], ℕ, List, true, IfErr, IfOk, OnOk, length, map, take, drop, vec_len};
 ghost use denote.Param.Send.{IsSync};
 ghost use Rattle.std.specs.Bool.{MatchBool};
@@ -54,7 +55,7 @@ struct Rounds {
     pieces: Vec<TextPiece>,
 }
 
-/// The columns of a file of which these bytes are read, and of all that the reader has left.
+/// The columns of these bytes and of all that the reader has left, read in rounds.
 pub(crate) fn columns_in_rounds<H: Threads + Sync, R: CountedRead>(
     team: &Team<'_, H>,
     alloc: Global,
@@ -76,7 +77,8 @@ pub(crate) fn columns_in_rounds<H: Threads + Sync, R: CountedRead>(
     columns_by_records(alloc, reader, bytes)
 }
 
-/// The same, of bytes whose header ends at `end` after a mark, with the columns under it.
+/// The columns of these bytes and of all that the reader has left. The header ends at `end`, after a byte order mark,
+/// and `columns` are the columns under it.
 fn columns_after<H: Threads + Sync, R: CountedRead>(
     team: &Team<'_, H>,
     alloc: Global,

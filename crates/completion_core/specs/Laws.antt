@@ -23,7 +23,8 @@ MakesAt a i action = ⊥
 abbrev pub RunsOnce : List ℕ → Type 0
 RunsOnce log = AllPairs (λ node later. node ≢ later) log
 
--- each node that runs isn't END, all arrivals that were ever owed to it are made by then, and no arrival is named, added or made there later
+-- each node that runs isn't END, all arrivals that were ever owed to it are made by then, and no arrival is named,
+-- added or made there later
 abbrev pub RunsAfterAll : List Action → Graph → Type 0
 RunsAfterAll actions g =
     (before later : List Action) (a node : ℕ) → actions ≡ before ++ Run a node ∷ later

@@ -73,7 +73,7 @@ impl FindTerminal {
         None
     }
 
-    /// The same over the items of these pieces, one piece after the other.
+    /// The decision of the first item that decides among the items of these pieces, one piece after the other.
     pub fn first_decision_in(
         &self,
         stage: u32,
@@ -90,7 +90,8 @@ impl FindTerminal {
         None
     }
 
-    /// The same over the items of a source, of which the first ones, up to this position, decide nothing: they aren't read.
+    /// The decision of the first item of a source that decides. The items up to this position decide nothing and aren't
+    /// read.
     pub fn first_decision_after<I: SourceItems>(
         &self,
         stage: u32,

@@ -1,4 +1,4 @@
--- Condition: what the program keeps of the parts of a job stands for.
+-- Condition: what the parts of a job that the program keeps mean.
 use Rattle.std.specs.Prelude.{◌≢◌, Option, Result, Ok, Err}
 use Rattle.lambda_values.specs.Term.{long_of, truth_of}
 use Rattle.lambda_values.specs.Streams.{inner_of}
@@ -13,7 +13,7 @@ use Rattle.job_language.specs.Causes.{Scope, first_cause, causes_of}
 use Rattle.job_language.specs.Rows.{Argument, nothing, column, job, number, test, stream, operator, exact, AbstractCall, source, stage, terminal, fallback}
 use Rattle.job_language.specs.Jobs.{source_of, job_stage_of, terminal_of}
 
--- what a last part of the program stands for
+-- the argument that a last part of the program means
 abbrev pub argument_in : code.Argument → Argument
 argument_in code_argument.Nothing = nothing
 argument_in (code_argument.Column cells) = column cells.now
@@ -24,7 +24,7 @@ argument_in (code_argument.Stream g) = stream (inner_of g)
 argument_in (code_argument.Operator f) = operator f
 argument_in code_argument.ExactSum = exact
 
--- what a part of a job of the program stands for
+-- the call that a part of a job of the program means
 abbrev pub part_in : call_part.CallPart → AbstractCall
 part_in (code_part.Source s) = source (source_of s)
 part_in (code_part.Stage g) = stage (job_stage_of g)

@@ -45,7 +45,7 @@ added j (stage g) = record j { stages = j.stages ++ g ∷ [] }
 added j (terminal d) = record j { terminal = d }
 added j (fallback z) = record j { on_fault = Some z }
 
--- a number stands in place of the faults of a terminal that gives numbers
+-- a terminal that gives numbers may have a number to give after a fault
 abbrev pub fallback_for : Gives → ℤ → Result AbstractCall Cause
 fallback_for gives.Number z = Ok (fallback z)
 fallback_for g z = Err cause.NotScalar

@@ -48,7 +48,7 @@ pub struct Job<'c> {
     /// In order of writing; at most 32.
     pub stages: Vec<JobStage>,
     pub terminal: Terminal,
-    /// `onFault(number)`: the number that stands in place of a fault; only if the terminal gives a number.
+    /// `onFault(number)`: the number that the job gives after a fault; only if the terminal gives a number.
     pub on_fault: Option<i64>,
     ghost few: { length stages.items ≤ 32 },
 }

@@ -111,7 +111,7 @@ fn read_in_turn<'c>(
     }
 }
 
-/// A call below this terminal: a number stands in place of the faults of one that gives a number.
+/// Adds a call after this terminal: the number of `onFault`, for a terminal that gives a number.
 fn below_terminal<'c>(terminal: &Terminal, part: CallPart<'c>) -> Result<CallPart<'c>, Cause>
     ensures { answer_in part_in result
         ≡ below_terminal (terminal_of terminal.now) (Ok (part_in part.entry)) }
@@ -125,7 +125,7 @@ fn below_terminal<'c>(terminal: &Terminal, part: CallPart<'c>) -> Result<CallPar
     }
 }
 
-/// Reads the call that stands after those of this job.
+/// Reads the call after the calls of this job.
 fn read_next_call<'c>(
     job: &Job<'c>,
     alloc: Global,

@@ -23,15 +23,15 @@ use Rattle.job_language.specs.Jobs.{AbstractPlainSource, range, range_closed, va
 use Rattle.job_meaning.specs.declared.answer.Answer.{Answer}
 use Rattle.job_meaning.specs.declared.answer.Answer.TheVariants as answer
 
--- the values of a plain source (`LongStream.range`, `rangeClosed`, `of`; the cells of a column). `result(name)` has none by itself:
--- before a walk the array of that job is put in its place
+-- the values of a plain source (`LongStream.range`, `rangeClosed`, `of`; the cells of a column). `result(name)` has
+-- none by itself: before a walk the array of that job is put in its place
 abbrev pub plain_values : AbstractPlainSource → List ℤ
 plain_values (range a b) = counted a (distance a b)
 plain_values (range_closed a b) = counted a (distance a (b +ℤ pos 1))
 plain_values (values vs) = vs
 plain_values (result name) = []
 
--- those of several sources, one after the other (`LongStream.concat`)
+-- the values of several sources, one after the other (`LongStream.concat`)
 abbrev pub values_of : List AbstractPlainSource → List ℤ
 values_of [] = []
 values_of (s ∷ ss) = plain_values s ++ values_of ss
@@ -69,8 +69,8 @@ exact_answer (Ok z) = answer.Number z
 exact_answer (Err f) = answer.Fault f
 
 -- the answer of a terminal, the stage with this number, for a walk (`LongStream.sum`, `count`, `min`, `max`, `toArray`,
--- `reduce`, `findFirst`, `anyMatch`, `allMatch`, `noneMatch`); a sum and a count are wrapped once to 64 bits, and an exact sum (`reduce(0, Math::addExact)`) has a
--- fault at the first item after which it is outside 64 bits
+-- `reduce`, `findFirst`, `anyMatch`, `allMatch`, `noneMatch`); a sum and a count are wrapped once to 64 bits, and an
+-- exact sum (`reduce(0, Math::addExact)`) has a fault at the first item after which it is outside 64 bits
 abbrev pub answer_of : ℕ → Numbers → AbstractTerminal → Trace → Answer
 answer_of n env sum t = unless_fault t.ending (answer.Number (wrap (total t.items)))
 answer_of n env count t = unless_fault t.ending (answer.Number (wrap (pos (length t.items))))
@@ -94,11 +94,11 @@ number_as (reduce f) z = answer.Optional (Some z)
 number_as (find d) z = answer.Optional (Some z)
 number_as to_array z = answer.Optional (Some z)
 
--- what a job gives in place of a fault, if it says so (`onFault`)
+-- what a job gives after a fault, if it says so (`onFault`)
 abbrev pub fallback_of : AbstractJob → Option Answer
 fallback_of job = option_map (number_as job.terminal) job.on_fault
 
--- this answer, if there is one, in place of a fault
+-- this answer, if there is one, instead of a fault
 abbrev pub instead_of_fault : Option Answer → Answer → Answer
 instead_of_fault None a = a
 instead_of_fault (Some b) (answer.Fault f) = b
@@ -118,7 +118,7 @@ is_usable (answer.Array vs) = true
 is_usable (answer.Fault f) = false
 is_usable (answer.Unusable place) = false
 
--- the number that `$name` stands for, if the answer under this name is one: a number, or the value of an optional
+-- the number under `$name`, if the answer of that job is one: a number, or the value of an optional
 abbrev pub number_of : Answer → Option ℤ
 number_of (answer.Number z) = Some z
 number_of (answer.Truth b) = None

@@ -81,7 +81,7 @@ by_front ws (Ok o) is = by_operands ws o is (each_operands o.source (drop o.coun
 
 -- ---- bodies that are an expression
 
--- every want but that of a stream
+-- every want but the want of a stream
 abbrev pub IsPlain : Want → Type 0
 IsPlain want.Stream = ⊥
 IsPlain w = Unit {0}

@@ -30,7 +30,7 @@ many_dead : (s : StreamSource) (n : ℕ) (es : List Shape) (w : Lexeme) (m : Lis
 many_dead s n [] w m a never count is = absurd cc
 many_dead s n (e ∷ es) w m a never count is = more_no s (suc n) (length es) never (subst (Takes s) (omega arith) count)
 
--- a comma after as many operands as the source has
+-- a comma after all operands that the source may have
 pub stops_many : (s : StreamSource) (n : ℕ) (ws : List Lexeme) (k : ℕ) → TakesMore s n → k < length ws → StopsAt Expression ws k → get_or ws k word.Open ≡ word.Sign sign.Comma → (TakesMore s (suc n) → ⊥) → StopsAt (Next s n) ws k
 stops_many s n ws k t lt stops a never = stops_by s n ws k t lt stops (λ es m count is. many_dead s n es (get_or ws k word.Open) m a never count is)
 

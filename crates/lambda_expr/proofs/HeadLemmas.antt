@@ -220,7 +220,7 @@ head_stops p ps after ws n f e = record {
 
 -- ---- words have one head
 
--- of two patterns whose words begin the same text one begins the other
+-- of two patterns whose words begin one text one begins the other
 abbrev Longer : List HeadMark → List HeadMark → Type 0
 Longer p q = (t : List HeadMark) × (q ≡ p ++ t)
 
@@ -239,7 +239,7 @@ one_begins (m ∷ p) (n ∷ q) (v ∷ f) (w ∷ g) r s x y is =
     let same : m ≡ n = (let e : Some m ≡ Some n = sym x.0 ∙ ap mark_of word ∙ y.0 in cc) in
     longer_by m n p q same (one_begins p q f g r s x.1 y.1 rest)
 
--- words of one pattern are as many as its marks
+-- one pattern has one word for each mark
 one_front : (p : List HeadMark) (f g r s : List Lexeme) → Fit p f → Fit p g → f ++ r ≡ g ++ s → (f ≡ g) × (r ≡ s)
 one_front [] [] [] r s x y is = (refl, is)
 one_front [] [] (w ∷ g) r s x y is = absurd y

@@ -20,7 +20,7 @@ pub data Ends : Lexeme → Type 0 where
   comma : Ends (word.Sign sign.Comma)
   close : Ends word.Close
 
--- after an expression such a word is stuck
+-- after an expression a word that ends an operand is stuck
 ends_stuck : (e : Shape) (u : Lexeme) → Binds 1 e → Ends u → reads (wants []) (spells e ++ u ∷ []) ≡ stuck
 ends_stuck e u b comma =
     let l = leads e [] b in

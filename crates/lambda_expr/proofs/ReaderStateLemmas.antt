@@ -15,7 +15,7 @@ use Rattle.lambda_expr.specs.Reader.{Frame, opened, signed, left, question, colo
 use Rattle.lambda_expr.proofs.Frames.{before, wanted, Ordered, after, filled, spells_filled, binds_filled, wanted_high, binds_lower, level_high, Keeps, join_keeps, join_stops, not_two, taken}
 use Rattle.lambda_expr.proofs.Leads.{at_top, reads_back, stuck_begins_none}
 
--- what stands for these words
+-- which state belongs to these words
 abbrev pub Stands : List Lexeme → State → Type 0
 Stands ws (wants fs) = (before fs ≡ ws) × Ordered fs
 Stands ws (has fs e) = (before fs ++ spells e ≡ ws) × Ordered fs × Binds 13 e
@@ -195,7 +195,7 @@ stands_from : (ws vs : List Lexeme) (s : State) → Stands ws s → Stands (ws +
 stands_from ws [] s h = subst (λ v. Stands v s) (sym (append-nil ws)) h
 stands_from ws (w ∷ vs) s h = subst (λ v. Stands v (reads (read s w) vs)) (append_assoc ws (w ∷ []) vs) (stands_from (put ws w) vs (read s w) (keeps ws s w h))
 
--- whatever the words are, what stands after them stands for them
+-- the state after words belongs to them, whatever they are
 pub stands : (ws : List Lexeme) → Stands ws (reads (wants []) ws)
 stands ws = stands_from [] ws (wants []) (refl, tt)
 

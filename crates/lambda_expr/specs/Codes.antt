@@ -86,11 +86,11 @@ code_of stuck = []
 abbrev pub top_of : List Pending → List ParseStep → Top
 top_of ps ss = record { frames = frames_of ps (rest (run [] ss)); shape = shape_on (run [] ss) }
 
--- the steps are those of the shapes and no others
+-- the steps spell the shapes and no others
 abbrev pub IsCoded : List Pending → List ParseStep → Held → Type 0
 IsCoded ps ss h = code_of (state_of ps ss h) ≡ ss
 
--- the code is at this state, and its steps are those of its shapes and no others
+-- the code is at this state, and its steps spell its shapes and no others
 pub record IsAt (ps : List Pending) (ss : List ParseStep) (h : Held) (s : State) : Type 0 where
   pub state : state_of ps ss h ≡ s
   pub steps : code_of (state_of ps ss h) ≡ ss

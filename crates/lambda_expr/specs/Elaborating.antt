@@ -13,7 +13,7 @@ use Rattle.lambda_expr.specs.Typing.{Typed, long, boolean, longs, untyped, calle
 use Rattle.lambda_expr.specs.Signs.{operation_of}
 use Rattle.lambda_values.specs.Wrap.{wrap}
 
--- what an operand of the program stands for
+-- the typed expression that an operand of the program means
 abbrev pub typed_of : TypedOperand → Typed
 typed_of (operand.Long e) = long (long_of e)
 typed_of (operand.Truth e) = boolean (truth_of e)

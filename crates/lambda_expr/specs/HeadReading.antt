@@ -9,7 +9,7 @@ abbrev pub IsFit : Bool → HeadMark → Lexeme → Type 0
 IsFit true m w = mark_of w ≡ Some m
 IsFit false m w = mark_of w ≢ Some m
 
--- as many words are what their marks want, from the first on
+-- the number of words, from the first on, that are what their marks want
 abbrev pub IsMatched : List HeadMark → List Lexeme → ℕ → Type 0
 IsMatched [] ws n = n ≡ 0
 IsMatched (m ∷ ms) [] n = n ≡ 0

@@ -22,7 +22,7 @@ mark_of word.Close = Some mark.Close
 mark_of word.Arrow = Some mark.Arrow
 mark_of w = None
 
--- the words are those of a pattern, one for each mark
+-- the words fit a pattern, one for each mark
 abbrev pub Fit : List HeadMark → List Lexeme → Type 0
 Fit [] [] = Unit {0}
 Fit [] (w ∷ ws) = ⊥
@@ -33,7 +33,7 @@ abbrev pub IsOneOf : List HeadMark → List (List HeadMark) → Type 0
 IsOneOf p [] = ⊥
 IsOneOf p (q ∷ qs) = (p ≡ q) ⊎ IsOneOf p qs
 
--- the words are those of one of these patterns, and then a text that may stand after them
+-- the words fit one of these patterns, and then comes a text that may be after them
 pub record HasHead (ps : List (List HeadMark)) (after : List Lexeme → List Lexeme → Type 0) (ws : List Lexeme) : Type 0 where
   pub pattern : List HeadMark
   pub listed : IsOneOf pattern ps

@@ -100,7 +100,7 @@ lexemes_in ws = let first = first_name None ws in lexemes_from first (first_name
 abbrev pub lexemes_of : List ℕ → List Token → List Lexeme
 lexemes_of text tokens = lexemes_in (words_of text tokens)
 
--- the name that a reference stands for, without its `$`
+-- the name of a reference, without its `$`
 abbrev pub reference_name : Word → List ℕ
 reference_name (referred w) = drop 1 w
 reference_name (named w) = []
@@ -109,7 +109,7 @@ reference_name (quoted w) = []
 reference_name (sign s) = []
 reference_name bad = []
 
--- the names that the references of a text stand for, by their places
+-- the names of the references of a text, by their places
 abbrev pub Names : Type 0
 Names = ℕ → List ℕ
 

@@ -30,7 +30,7 @@ wanted want.Bool (typing.boolean a) f = Ok (boolean a)
 wanted want.Pair (typing.long a) f = Ok (pair f)
 wanted w t f = Err fault.WrongType
 
--- what a lambda whose body is this expression gives, if its references stand for these names: the first that applies
+-- what a lambda whose body is this expression gives, if its references have these names: the first that applies
 abbrev pub expression_verdict : Want → Names → Shape → Result AbstractLambda ReadFault
 expression_verdict w h e =
     if not (fit (literals e)) then Err fault.LiteralTooLarge
@@ -94,7 +94,7 @@ pub record HasTooManyTokens (text : List ℕ) : Type 0 where
 abbrev pub SpellsLambda : List ℕ → Want → Lambda → Type 0
 SpellsLambda text w l = Judged text w (Ok (body_of l.body))
 
--- the text is refused for this; out of memory may stand in place of any answer
+-- the text is refused for this; out of memory may be the answer for any text
 abbrev pub IsRefused : List ℕ → Want → ReadFault → Type 0
 IsRefused text w (fault.Syntax at) = IsNoLambda text w at
 IsRefused text w fault.TooDeep = HasTooManyTokens text ⊎ Judged text w (Err fault.TooDeep)

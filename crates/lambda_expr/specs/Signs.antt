@@ -36,7 +36,7 @@ sign_of symbol.Tilde = Some sign.Complement
 sign_of symbol.Bang = Some sign.Not
 sign_of s = None
 
--- how tightly a sign binds; level 0 is the comma's, level 1 that of `? :`
+-- how tightly a sign binds; the comma has level 0, and `? :` level 1
 abbrev pub level : Sign → ℕ
 level sign.Comma = 0
 level sign.Or = 2

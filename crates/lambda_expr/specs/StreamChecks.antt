@@ -29,12 +29,12 @@ abbrev pub and_number : Typed → Option (List Long) → Option (List Long)
 and_number (long a) (Some es) = Some (a ∷ es)
 and_number t es = None
 
--- the numeric expressions that operands stand for, if each of them is one
+-- the numeric expressions that operands spell, if each of them spells one
 abbrev pub numbers : Names → List Shape → Option (List Long)
 numbers h [] = Some []
 numbers h (e ∷ es) = and_number (typed h e) (numbers h es)
 
--- the inner stream of a source and its operands, of which a range has two; `empty()` gives what `of()` gives
+-- the inner stream of a source and its operands; a range has two, and `empty()` gives what `of()` gives
 abbrev pub stream_of : StreamSource → List Long → Option Inner
 stream_of source.Range (a ∷ b ∷ []) = Some (range a b)
 stream_of source.RangeClosed (a ∷ b ∷ []) = Some (range_closed a b)

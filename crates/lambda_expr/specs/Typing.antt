@@ -1,4 +1,4 @@
--- Meaning: the term that an expression stands for, by the types of its operands.
+-- Meaning: the term that an expression means, by the types of its operands.
 use Rattle.std.specs.Prelude.{pos, ℤ, Option, Some, None}
 use Rattle.lambda_expr.specs.declared.sign.Sign.{Sign}
 use Rattle.lambda_expr.specs.declared.sign.Sign.TheVariants as sign
@@ -81,7 +81,7 @@ abbrev pub constant_typed : Option ℤ → Typed
 constant_typed (Some z) = long (term.number z)
 constant_typed None = untyped
 
--- the expression of a lambda, if its references stand for these names
+-- the expression of a lambda, if its references have these names
 abbrev pub typed : Names → Shape → Typed
 typed h (name i) = long (term.parameter i.number)
 typed h (number n) = long (term.number (wrap (pos n)))

@@ -43,7 +43,7 @@ pub(crate) struct Summary {
     pub(crate) literals: Literals,
     /// At most 65.
     pub(crate) depth: u32,
-    /// Whether each name is that of a parameter, a method or a constant.
+    /// Whether each name is the name of a parameter, a method or a constant.
     pub(crate) known: bool,
     pub(crate) form: BodyForm,
 }

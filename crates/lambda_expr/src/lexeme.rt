@@ -165,8 +165,8 @@ fn is_taken(taken: Option<&[u8]>, name: &[u8]) -> bool
     is_reserved(name) || Some(name) == taken
 }
 
-// The name that a token is, if a parameter may have it and it is not the one that is taken. It is asked only until two names
-// are known; inlined it slows every other token of the pass.
+// The name that a token is, if a parameter may have it and it is not the one that is taken. It is asked only until two
+// names are known; inlined it slows every other token of the pass.
 #[inline(never)]
 fn free_name<'a>(taken: Option<&[u8]>, kind: TokenKind, bytes: &'a [u8]) -> Option<&'a [u8]>
     ensures { option_copied result ≡ first_name (option_copied taken.entry) (word_for kind bytes.now ∷ []) }
@@ -178,7 +178,8 @@ fn free_name<'a>(taken: Option<&[u8]>, kind: TokenKind, bytes: &'a [u8]) -> Opti
     }
 }
 
-// The first name that a parameter may have, apart from one that is taken, with one more token: what is known before, if anything is.
+// The first name that a parameter may have, apart from one that is taken, with one more token: what is known before, if
+// anything is.
 fn first_name<'a>(
     taken: Option<&[u8]>,
     known: Option<&'a [u8]>,
@@ -194,8 +195,8 @@ fn first_name<'a>(
     }
 }
 
-/// The lexemes of a text, in one pass over its tokens. Each name is compared with the first two of the text up to it: a name
-/// that a parameter may have is one of these, or both are known by then.
+/// The lexemes of a text, in one pass over its tokens. Each name is compared with the first two of the text up to it: a
+/// name that a parameter may have is one of these, or both are known by then.
 pub(crate) fn lexemes(alloc: Global, text: &CutText) -> Result<Vec<Lexeme>, AllocError>
     ensures { IfOk result (λ lexemes. lexemes.items ≡ lexemes_of text.now.bytes text.now.tokens) }
 {
@@ -221,7 +222,7 @@ fn after_first(bytes: &[u8]) -> &[u8]
     }
 }
 
-/// The name that the reference at a place stands for, without its `$`; no bytes if there is none.
+/// The name of the reference at a place, without its `$`; no bytes if there is none.
 pub(crate) fn reference_name<'a>(text: &CutText<'a>, place: usize) -> &'a [u8]
     ensures { result.now ≡ names_in text.now.bytes text.now.tokens place }
 {

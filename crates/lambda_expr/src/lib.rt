@@ -1,7 +1,7 @@
 //! Lambdas over numbers of 64 bits: reading them from texts.
 //!
 //! It stands on `stream_tokens`, which cuts a text into tokens, and on `lambda_values`, which has the
-//! expressions and their values; what `lambda_values` offers has its names here too. Its users:
+//! expressions and their values; the types of what is read have their names here too. Its users:
 //! - `job_language` reads lambdas by `read_lambda_of`, clauses `ok` and `refused`: a part of a text that
 //!   is cut already gives the lambda that it spells, or the first refusal that applies, a syntax fault
 //!   with its column. It reads numbers by `Numeral`.

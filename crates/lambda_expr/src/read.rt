@@ -118,10 +118,9 @@ pub fn read_lambda_of(alloc: Global, text: &CutText, want: Want) -> Result<Lambd
 
 /// Reads a lambda of the wanted kind (JLS 17, 15.27).
 ///
-/// Refusals, the first that applies: `TooDeep` for more than 4,096 tokens, `Syntax`,
-/// `LiteralTooLarge`, `TooDeep` for a body deeper than 64 or a stream of more than 64 operands,
-/// `UnknownName`, `WrongType`. `NoMemory` may stand in place of any answer if an allocation failed; the
-/// empty text takes no memory.
+/// Refusals, the first that applies: `TooDeep` for more than 4,096 tokens, `Syntax`, `LiteralTooLarge`, `TooDeep` for a
+/// body deeper than 64 or a stream of more than 64 operands, `UnknownName`, `WrongType`. If an allocation failed, the
+/// answer may be `NoMemory`; the empty text takes no memory.
 ///
 /// For other programs: `streamrun` reads tokens that were cut before, by `read_lambda_of`.
 pub fn read_lambda(alloc: Global, text: &[u8], want: Want) -> Result<Lambda, ReadFault>

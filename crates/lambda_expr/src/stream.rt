@@ -27,7 +27,7 @@ pub(crate) struct Checks {
     fit: bool,
     /// That of the deepest operand, at most 65.
     depth: u32,
-    /// Whether each name is that of the parameter, a method or a constant.
+    /// Whether each name is the name of the parameter, a method or a constant.
     known: bool,
 }
 

@@ -99,7 +99,7 @@ pub(crate) fn function_of(owner: ClassName, name: Name) -> Option<Function>
     }
 }
 
-/// The constant of `Long` that a name stands for.
+/// The constant of `Long` with this name.
 pub(crate) fn constant_of(name: Name) -> Option<i64>
     ensures { result ≡ constant_of name }
 {

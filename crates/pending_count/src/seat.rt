@@ -8,7 +8,8 @@ use completion_core::Node;
 
 pub(crate) type SeatToken<V, K, T> = atomic_table::Seat<Option<Slot<V, K>>, View<T>>;
 
-/// A token that holds arrivals and credit. It is passed to each call of the counts and given back; no two threads have it at once.
+/// A token that holds arrivals and credit. It is passed to each call of the counts and given back; no two threads have
+/// it at once.
 #[derive(Drop)]
 pub struct Seat<V, K: Fits<V>> {
     pub(crate) token: SeatToken<V, K, K::Tag>,

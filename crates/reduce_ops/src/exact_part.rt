@@ -27,7 +27,7 @@ pub enum Exact {
     Sum(i64),
     /// The fault that ended the walk.
     Fault(Fault),
-    /// The sum is outside 64 bits after some item. A `RunningSum` finds the first such item.
+    /// Some running sum is outside 64 bits. A `RunningSum` finds the item at which that first happens.
     Search,
 }
 

@@ -24,8 +24,7 @@ pub enum Op {
     Xor,
     /// The composition of two affine maps modulo 2^32, the left one first. Identity 2^32.
     ///
-    /// A value stands for the map from y to `a * y + b` modulo 2^32, where `a` is its upper 32 bits and
-    /// `b` its lower 32 bits.
+    /// A value encodes the map from y to `a * y + b` modulo 2^32: `a` is its upper 32 bits and `b` its lower 32 bits.
     Affine,
     /// The left value. It has no identity.
     First,

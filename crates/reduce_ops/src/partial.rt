@@ -95,7 +95,7 @@ impl Partial {
         }
     }
 
-    /// The fault that ended the walk, or else the fold from a start, such as an identity of the operator.
+    /// The fault that ended the walk, or else the fold from a start, like an identity of the operator.
     pub fn finish_from(self, start: i64) -> Result<i64, Fault>
         ensures { (t : Trace) → StandsFor self t → result ≡ reduced_from (value_of self.op) start t }
     {

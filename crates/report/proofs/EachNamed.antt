@@ -38,7 +38,7 @@ usable n env (find d) t = usable_find (find_answer d n env t)
 usable n env exact_sum t = usable_exact _
 usable n env d t = usable_or_fault t.ending _ (λ i is. cc)
 
--- a number in place of a fault is no such answer either
+-- a number that is given after a fault is no answer of this kind either
 usable_number : (d : AbstractTerminal) (z : ℤ) (i : ℕ) → number_as d z ≡ Unusable i → ⊥
 usable_number sum z i is = cc
 usable_number d z i is = cc
@@ -48,7 +48,7 @@ usable_instead d None a other i is = other i is
 usable_instead d (Some z) (answer.Fault f) other i is = usable_number d z i is
 usable_instead d (Some z) a other i is = other i is
 
--- ---- the place of a job that is named is that of an earlier one
+-- ---- the place of a job that is named is the place of an earlier one
 
 chosen_low : (b : Bool) (a : Answer) (o : Option (ℕ × Answer)) (n : ℕ) → ((f : ℕ × Answer) → o ≡ Some f → f.0 < n) → (f : ℕ × Answer) → (if b then Some (0, a) else found_later o) ≡ Some f → f.0 < suc n
 chosen_low true a o n low f is = let e : 0 ≡ f.0 = ap (λ (g : ℕ × Answer). g.0) (let z : (0, a) ≡ f = cc in z) in omega arith

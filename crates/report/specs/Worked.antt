@@ -12,7 +12,7 @@ use Rattle.job_language.specs.Jobs.{AbstractPlainSource, range, values, Abstract
 abbrev pub job : List ℕ → AbstractPlainSource → List AbstractJobStage → AbstractTerminal → AbstractJob
 job name source stages terminal = record { name = name; sources = source ∷ []; stages = stages; terminal = terminal; on_fault = None }
 
--- helper: the same job, with a number in place of a fault
+-- helper: the job, with a number to give after a fault
 abbrev pub with_fallback : ℤ → AbstractJob → AbstractJob
 with_fallback z j = record { name = j.name; sources = j.sources; stages = j.stages; terminal = j.terminal; on_fault = Some z }
 

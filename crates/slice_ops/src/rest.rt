@@ -53,8 +53,8 @@ impl<'a> SliceRest<'a> {
         }
     }
 
-    /// What the slice makes of the items of a source. Of `takeWhile` and `dropWhile`, `front` is how many of them come before the
-    /// first one at which the test isn't true; the test is evaluated at that one alone. It takes no memory.
+    /// What the slice makes of the items of a source. Of `takeWhile` and `dropWhile`, `front` is how many of them come
+    /// before the first one at which the test isn't true; the test is evaluated at that one alone. It takes no memory.
     ///
     /// The slice is the stage with this number.
     pub fn cut<I: SourceItems>(self, stage: u32, env: &Env, source: &I, front: u64) -> SliceCut<'a>
@@ -180,7 +180,7 @@ fn cut_before<'a, I: SourceItems>(
     }
 }
 
-/// How the front of a source's items ends, of which as many come before its end: `None` if it is all of them.
+/// How the front of a source's items ends, if `front` items come before its end: `None` if the front is all of them.
 fn stop_in<I: SourceItems>(
     test: &BoolExpr,
     stage: u32,

@@ -68,8 +68,8 @@ impl<'a> SlicePart<'a> {
         Ok(())
     }
 
-    /// The part of the piece and the items of a source after it. Of `takeWhile`, `front` is how many of them come before
-    /// the first one at which the test isn't true; the test is evaluated at that one alone.
+    /// The part of the piece and the items of a source after it. Of `takeWhile`, `front` is how many of them come
+    /// before the first one at which the test isn't true; the test is evaluated at that one alone.
     ///
     /// If the allocation fails, the part stays as it was. Without items it takes no memory.
     pub fn push_all<I: SourceItems>(
@@ -118,8 +118,8 @@ impl<'a> SlicePart<'a> {
 
     /// The part of two pieces that lie side by side.
     ///
-    /// If the allocation fails, both parts come back. It takes no memory if nothing matters after the left piece, or if the
-    /// right one keeps no item.
+    /// If the allocation fails, both parts come back. It takes no memory if nothing matters after the left piece, or if
+    /// the right one keeps no item.
     pub fn join(
         mut self,
         right: SlicePart<'a>,
@@ -247,8 +247,7 @@ fn add_all<I: SourceItems>(
     }
 }
 
-/// Adds the items before the first one at which the test isn't true, of which `front` is the position. The answer says
-/// whether there is one.
+/// Adds items `0..front`; `front` is the first item that fails the test. The answer says whether there is one.
 fn add_front<I: SourceItems>(
     stage: u32,
     test: &BoolExpr,

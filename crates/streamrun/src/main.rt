@@ -71,7 +71,7 @@ fn read_command_line(rt: &HostRuntime) -> Result<Asked, AllocError> {
     read_words(rt, &given)
 }
 
-/// The same of the words themselves.
+/// Reads the words after the name of the program, and opens the files that they name.
 fn read_words(rt: &HostRuntime, given: &[String]) -> Result<Asked, AllocError> {
     let words: Vec<&str> = given.iter().map(|word| word.as_str()).collect(rt.alloc())?;
     match read_arguments(rt.alloc(), &words) {
@@ -126,12 +126,11 @@ fn counted(file: File) -> Counted<File> {
     Counted::with_likely_size(file, usize::try_from(size).unwrap_or(0))
 }
 
-/// Runs the jobs of an open file over the columns of another one, and answers the exit status. If standard error is a terminal, a line
-/// there says how far a long run is, on a thread of its own; without that thread there is no line.
+/// Runs the jobs of an open file over the columns of another one, and answers the exit status. If standard error is a
+/// terminal, a line there says how far a long run is, on a thread of its own; without that thread there is no line.
 ///
-/// It takes the runtime twice, for files and for threads: what may wait is proved for any handle that can start threads, and only
-/// `main` may name the one that it has. Whatever calls such a function is proved anew for the handle, with all below it, which takes
-/// minutes: so `main` calls this one directly.
+/// `rt` opens files. `threads` is the same handle, generic: the prover proves callees again for each concrete handle
+/// type, which takes minutes, and `main` alone may name its type. So `main` calls this function directly.
 fn watched_run<H: Threads + Wait + Sync>(rt: &HostRuntime, threads: &H, given: GivenFiles) -> u8 {
     let progress = Progress::new(rt, threads);
     let progress = &progress;

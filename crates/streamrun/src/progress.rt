@@ -1,5 +1,5 @@
-//! How far a long run is: one line on standard error, if that is a terminal. It has at most 39 characters: a line that is
-//! longer than the terminal is wide can't be wiped, and the width can't be asked for.
+//! How far a long run is: one line on standard error, if that is a terminal. It has at most 39 characters: a line that
+//! is longer than the terminal is wide can't be wiped, and the width can't be asked for.
 
 use engine::RunGate;
 use std::io::{IsTerminal, Write};
@@ -20,7 +20,7 @@ const STEP: u64 = 250;
 struct JobProgress {
     /// How many items its first walk goes over, as far as that was known before the jobs ran.
     items: AtomicU64,
-    /// How many positions its pieces have that were entered, those of later walks among them.
+    /// How many positions of its pieces were entered, later walks included.
     entered: AtomicU64,
 }
 
@@ -146,7 +146,8 @@ impl<'a, H> Progress<'a, H> {
         };
     }
 
-    /// What all jobs have reached. A job counts as many positions as its first walk has items, since its later walks enter positions too.
+    /// What all jobs have reached. A job counts only the items of its first walk, since its later walks enter positions
+    /// too.
     fn reached(&self) -> ReachedWork {
         let mut reached = ReachedWork {
             items: 0,

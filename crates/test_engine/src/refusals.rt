@@ -29,7 +29,7 @@ fn made_once(alloc: Global, values: [i64; 2]) -> Result<Chunk, NoMemory>
     Ok(chunk)
 }
 
-/// The same, made once more if an allocation fails.
+/// A chunk of two values, made once more if an allocation fails.
 fn two(alloc: Global, values: [i64; 2]) -> Option<Chunk>
     ensures { IfSome result (λ chunk. chunk.ending ≡ end.Done) }
 {
@@ -45,8 +45,8 @@ fn has(chunk: &Chunk, values: &[i64]) -> bool {
     found.map(|item| item.value).eq(values.iter().copied()) && chunk.end() == End::Done
 }
 
-// Each of the following makes a call, and once more if it is refused. It says whether it was, and nothing if what the call left or gave
-// is wrong.
+// Each of the following makes a call, and once more if it is refused. It says whether it was, and nothing if what the
+// call left or gave is wrong.
 
 fn pushes(alloc: Global) -> Option<bool> {
     let mut chunk = Chunk::ending(alloc, End::Done);
