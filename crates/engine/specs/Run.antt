@@ -1,11 +1,15 @@
--- Meaning: what a run writes, from the bytes of the column file and of the job file to the bytes of the report. Read this first.
---   bytes of the column file → columns         columns/specs/Cells, Table, Refusals
---   bytes of the job file → texts of jobs      stream_tokens/specs/JobTexts, Tokens
---   texts of jobs         → jobs               job_language/specs/Files, Verdicts, Grammar, Table; their lambdas: lambda_expr/specs/Grammar, Refusals
---   jobs                  → answers            job_meaning/specs/FileAnswers, Names, Walks; their walks: trace/specs/Cover, Stages, Trace, Stops; what stages and terminals make of
---                                              them: slice_ops/specs/Slices, prefix_scan/specs/Prefixes, find_ops/specs/Finds, reduce_ops/specs/Folds, Operators, ExactSums;
---                                              values of lambdas: lambda_values/specs/Value, Operators, Streams
---   answers               → bytes of the report     report/specs/Text, Json; an answer in both forms: report/specs/AnswerForms
+-- Meaning: what a run writes, from the bytes of both files to the bytes of the report. Read this first.
+--   bytes of the column file → columns       columns/specs/Cells, Table, Refusals
+--   bytes of the job file    → texts of jobs    stream_tokens/specs/JobTexts, Tokens
+--   texts of jobs            → jobs          job_language/specs/Files, Verdicts, Grammar, Table
+--     their lambdas                          lambda_expr/specs/Grammar, Refusals
+--   jobs                     → answers       job_meaning/specs/FileAnswers, Names, Walks
+--     their walks                            trace/specs/Cover, Stages, Trace, Stops
+--     slices, prefixes, finds                slice_ops/specs/Slices, prefix_scan/specs/Prefixes, find_ops/specs/Finds
+--     folds                                  reduce_ops/specs/Folds, Operators, ExactSums
+--     values of lambdas                      lambda_values/specs/Value, Operators, Streams
+--   answers                  → bytes of report    report/specs/Text, Json
+--     an answer in both forms                report/specs/AnswerForms
 -- Reports of small files, worked out: report/specs/Worked.
 use Rattle.std.specs.Prelude.{◌≡◌, ◌≢◌, ℕ, ◌<◌, List, [], length, take, Option, Some, None, Result, Ok, Err}
 use Rattle.std.specs.Io.KnownBytes.{Appends, Keeps}
