@@ -60,7 +60,7 @@ class Function:
 
     def is_called_by(self, caller, types, is_alone):
         """Whether a function's code names it. `types` are its type and other names of it, and `is_alone` says that no other type has
-        a method of this name; a method of two types is that of the type that the caller's file names."""
+        a method of this name; a method of two types belongs to the type that the caller's file names."""
         if self.is_of_trait:
             return bool(re.search(rf'[.:]{self.name}\b', caller.code))
         paths = re.findall(rf'(\.)?(?:\b(\w+)(?:::<[^;()]*>)?::)?\b{self.name}\b(?!: )', caller.code)

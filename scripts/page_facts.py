@@ -58,7 +58,7 @@ def messages(top):
 
 
 def gallery(top):
-    """Reports of examples/gallery that aren't what the tables give, and those of examples/answers that aren't what is counted up."""
+    """Reports of examples/gallery that aren't what the tables give, and reports of examples/answers that aren't what is counted up."""
     yield from lines_of_script(top, 'reference/gallery/answers', '--check')
     yield from lines_of_script(top, 'reference/counted/generate', '--check')
 

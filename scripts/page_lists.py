@@ -91,7 +91,7 @@ def lists(top):
 
 
 def write_lists(top):
-    """Writes these lists, and those of docs/adding.md, which scripts/adding makes."""
+    """Writes these lists, and the lists of docs/adding.md, which scripts/adding makes."""
     for path, page in pages_with_lists(top):
         with open(os.path.join(top, path), 'w', encoding='utf-8') as file:
             file.write(page)

@@ -1,4 +1,4 @@
-"""The recipes over other tables than those of their page: scripts/pages --run calls this.
+"""The recipes over other tables than on their page: scripts/pages --run calls this.
 
 Each recipe of docs/recipes.md is run again, by its own two commands, over random tables of the same names, whose cells are
 negative, zero, and the least and greatest ones that both tools and the recipe's words allow. The report has to be what
@@ -89,7 +89,7 @@ HEADERS = {'sales': ['day', 'article', 'price', 'quantity'], 'sensor': ['second'
 
 
 def write_tables(folder, name, numbers):
-    """The tables of a recipe, over those of the gallery."""
+    """The tables of a recipe, over the tables of the gallery."""
     special = COLUMNS[name](numbers)
     for table, header in HEADERS.items():
         columns = [special.get(column) or list(range(1, ROWS + 1)) for column in header]

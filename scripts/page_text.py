@@ -163,7 +163,7 @@ def is_known(first, last, sources):
 
 
 def without_blocks(text):
-    """A page with empty lines in place of its blocks."""
+    """A page with empty lines instead of its blocks."""
     return re.sub(r'^```.*?^```$', lambda it: '\n' * it[0].count('\n'), text, flags=re.M | re.S)
 
 

@@ -38,7 +38,7 @@ class Source:
 
 
 class Writer(LambdaWriter):
-    """Writes the jobs of one file. numbers, arrays: the jobs above that have such an answer (or none)."""
+    """Writes the jobs of one file. numbers, arrays: the jobs above that have an answer of this kind (or none)."""
 
     def __init__(self, seed, index, kinds, most):
         super().__init__(random.Random(f'{seed}/{index}/{",".join(kinds)}/{most}'))
@@ -235,7 +235,7 @@ class Writer(LambdaWriter):
         return job
 
     def long_sources(self):
-        """A source that is far too long to walk, of which few items are asked for."""
+        """A source that is far too long to walk; few of its items are asked for."""
         length = self.pick(2 ** 62, 2 ** 62, 2 ** 62 + 1, 2 ** 62 - 1, 2 ** 40, 2 ** 33 + 1)
         start = self.pick(0, MIN, -length // 2, 1, MAX - length)
         near = self.pick(0, 1, 2, 63, 64, 999, 1000, 1023, 1024, 1025, 3000, self.random.randint(0, self.most))

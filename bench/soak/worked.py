@@ -1,5 +1,5 @@
-"""Answers that were worked out by hand from the definitions of the language, or are those of Java 17; the model has to
-give them, and those of examples/."""
+"""Answers that were worked out by hand from the definitions of the language, or given by Java 17; the model has to
+give them, and the answers of examples/."""
 import glob
 import os
 import re
@@ -280,7 +280,7 @@ def refused_texts():
     front, columns = '', None
     for row in read(REFUSED_TEXTS).decode().splitlines():
         word, _, text = row.partition(' => ')
-        # In a text `\\n` and others stand for what they stand for in Python.
+        # In a text `\\n` and others mean what they mean in Python.
         if row.startswith('front:'):
             front, columns = unescaped(row[len('front: '):]), None
         elif row.startswith('columns: '):
@@ -345,6 +345,6 @@ def compare_all(outcome_of):
             passed += 1
         else:
             failed += 1
-            print(f'{jobs[:200]!r}: {(out + err)[:200]} {status} in place of {str(wanted)[:200]}')
+            print(f'{jobs[:200]!r}: {(out + err)[:200]} {status} instead of {str(wanted)[:200]}')
     print(f'worked answers: {passed} passed, {failed} failed')
     return 0 if passed and not failed else 1

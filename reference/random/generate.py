@@ -4,7 +4,7 @@
     reference/random/generate.py report    writes examples/random.csv, .jobs, .report and .json
     reference/random/generate.py java      runs the jobs as Java and compares; `java` is taken from the PATH
 
-The jobs depend on the seed alone, and their answers are those of the model (python/streamrun_language). Java has no
+The jobs depend on the seed alone, and their answers are given by the model (python/streamrun_language). Java has no
 numbers of stages and items for its faults, so only their kinds are compared with it.
 """
 import itertools
