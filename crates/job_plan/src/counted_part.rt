@@ -58,7 +58,7 @@ fn is_count(fold: Fold) -> bool
 }
 
 impl FoldPart {
-    /// The fold of this number of items, of a walk that ended so.
+    /// The fold of this number of items, of a walk with this end.
     fn of_count(fold: Fold, count: u64, ending: End) -> FoldPart
         requires adds { fold.op ≡ Op.Sum }
         requires counts { fold.counts ≡ true }

@@ -83,7 +83,7 @@ pub(crate) trait EndPart: Drop + Sized {
         false
     }
 
-    /// Ends the piece so, unless it is settled. It takes no memory.
+    /// Ends the piece as said, unless it is settled. It takes no memory.
     fn end_with(&mut self, ending: End)
         ensures stands { (e : AbstractEnd) (stage : ℕ) (env : Numbers) (t : Trace) → EndsFor e stage env (as_part self.old) t
             → EndsFor e stage env (as_part self.new) (append t (trace [] ending)) }

@@ -28,7 +28,7 @@ pub struct Fold {
 #[derive(Clone, Copy)]
 pub struct Prefix {
     pub op: Op,
-    /// The positions of the walk, from the first up to, not with, the second, at which it does so; without them, all.
+    /// The positions of the walk at which it does so, from the first up to, not with, the second; without them, all.
     pub range: Option<(u64, u64)>,
 }
 
@@ -89,7 +89,7 @@ impl SegmentEnd {
         self.row().slice
     }
 
-    /// Whether it makes a walk of a walk, over which the next segment goes. Others give the answer of the job.
+    /// Whether it makes a walk of a walk; the next segment goes over it. Other ends give the answer of the job.
     pub fn gives_walk(&self) -> bool
         ensures { result ≡ gives_walk (end_in self.now) }
     {

@@ -63,8 +63,7 @@ impl Held {
         }
     }
 
-    /// The maps, and stages after them. The number of the slice that stood between them goes to a map that changes
-    /// nothing.
+    /// The maps, and stages after them. The number of the slice between them goes to a map that changes nothing.
     fn joined(self, later: Vec<Stage>) -> Result<Vec<Stage>, NoMemory>
         ensures { IfOk result (λ all. all.items ≡ self.stages.items ++ Stage.Map (LongExpr.Parameter 0) ∷ later.items) }
     {

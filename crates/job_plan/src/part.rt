@@ -26,9 +26,9 @@ use trace::{Chunk, End, Fault, Item, NoMemory, SourceItems};
 
 /// What a piece of a segment's source gives to the end of the segment.
 ///
-/// A fold, an exact sum and a find have a constant size, `limit(n)` keeps `n` items at most, `takeWhile` those before
-/// the first at which its test isn't true. The other slices keep all items, and `toArray` all values. A prefix keeps
-/// all items, but borrows values of the sources if no stage comes before it.
+/// A fold, an exact sum and a find have a constant size. `limit(n)` keeps `n` items at most, and `takeWhile` the items
+/// before the first at which its test isn't true. The other slices keep all items, and `toArray` all values. A prefix
+/// keeps all items, but borrows values of the sources if no stage comes before it.
 #[derive(Drop)]
 pub enum Part<'p> {
     Slice(SlicePart<'p>),

@@ -84,7 +84,7 @@ impl Begun {
         }
     }
 
-    /// Takes the segment of the stages, which ends so, and begins the next one.
+    /// Takes the segment of the stages, with this end, and begins the next one.
     fn next_segment(&mut self, end: SegmentEnd) -> Segment
         requires few { self.old.first_stage + length self.old.stages.items ≤ 33 }
         ensures segment { segment_in result ≡ record { first = self.old.first_stage; stages = stages_of self.old.stages.items; ending = end_in end } }
@@ -101,7 +101,7 @@ impl Begun {
         }
     }
 
-    /// Adds the segment of the stages, which ends so.
+    /// Adds the segment of the stages, with this end.
     fn end(&mut self, end: SegmentEnd) -> Result<(), NoMemory>
         requires few { self.old.first_stage + length self.old.stages.items ≤ 33 }
         ensures segments { OnOk result (segments_in self.new.segments.items

@@ -12,7 +12,7 @@ use std::alloc::Global;
 use std::marker::Model;
 use trace::{End, NoMemory};
 
-/// Pieces of a walk, and for each of them the fold of what lies left of it. Contracts see the prefix of that walk.
+/// Pieces of a walk, each with the fold of what lies left of it. Contracts see the prefix of that walk.
 #[derive(Drop)]
 pub struct ScannedWalk<'a> {
     pub(crate) prefix: Prefix,

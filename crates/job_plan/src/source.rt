@@ -50,7 +50,7 @@ pub struct Walked<'g, 'a, 'c, 'e> {
 }
 
 impl<'g, 'a, 'c> Source<'g, 'a, 'c> {
-    /// The source of the first segment of a job, also if that only selects positions.
+    /// The source of the first segment of a job, even if that segment only selects positions.
     pub fn of_job(job: &'a JobPlan<'c>) -> Source<'g, 'a, 'c>
         ensures { walk_in result ≡ source_walk (plan_in job.now).sources }
     {

@@ -138,9 +138,8 @@ pub(crate) fn selected_window(segments: &[Segment], window: Window) -> Window
 }
 
 impl<'c> JobPlan<'c> {
-    /// The segments that are walked: those after the first ones that select positions of the job's sources, and do
-    /// nothing else. `Source::of_selected` is what the first of them goes over. It takes constant time for each segment
-    /// left out.
+    /// The segments that are walked, after the first ones that only select positions of the job's sources.
+    /// `Source::of_selected` is what the first of them goes over. It takes constant time for each segment left out.
     pub fn later_segments(&self) -> &[Segment]
         ensures { segments_in result.now ≡ later_segments (plan_in self.now).segments }
     {
