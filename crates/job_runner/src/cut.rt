@@ -110,8 +110,8 @@ impl<S: JobSegments> PartValue for SegmentPart<S> {
     ghost result = { λ cut v. StandsWhole S.stands_for S.is_instead S.size_of cut.job cut.segment (λ x. x.found) v };
 }
 
-/// Merges the parts of the two sides of a cut. A fault on a side goes on to the parent; at the top what the job gives
-/// in its place is the tree's result.
+/// Merges the parts of the two sides of a cut. A fault on a side goes on to the parent; at the top of a tree it becomes
+/// what the job gives after a fault.
 #[derive(Drop)]
 pub struct Join<S: JobSegments> {
     pub(crate) cut: CutPiece,

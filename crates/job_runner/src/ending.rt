@@ -57,7 +57,7 @@ fn last_answer<S: JobSegments, R: Running>(
 }
 
 impl<'a, S: JobSegments, R: Running> JobWork<'a, S, TablePart<S>, TableKept<S>, R> {
-    /// Leaves what a job takes of earlier answers in its place, or its answer, if there is nothing to walk.
+    /// Leaves the job's inputs from earlier jobs in its place, or its answer, if there is nothing to walk.
     fn prepare<G: Gate>(&self, gate: &G, job: usize)
         requires { job < R.jobs }
     {
@@ -87,8 +87,8 @@ impl<'a, S: JobSegments, R: Running> JobWork<'a, S, TablePart<S>, TableKept<S>, 
         self.go_on(gate, whole, spawn, busy)
     }
 
-    /// Leaves what the part of a whole segment gives in its place, and frees what the segment went over. `Some` is the
-    /// next segment, with how many positions it has.
+    /// Leaves what the part of a whole segment gives in its place, and frees the source of the segment. `Some` is the
+    /// next segment, with its number of positions.
     fn leave_part<G: Gate>(
         &self,
         gate: &G,
@@ -206,8 +206,8 @@ impl<'a, S: JobSegments, R: Running> JobWork<'a, S, TablePart<S>, TableKept<S>, 
         self.free_one(seat, *next, (waiting.len() - at) as u64)
     }
 
-    /// Arrives for a job that is over at the start nodes of the jobs that wait for it, and settles it. Of those that
-    /// may begin now one comes back, and the others go to the pool.
+    /// Arrives for a job that is over at the start nodes of the jobs that wait for it, and settles it. One of the jobs
+    /// that may begin now comes back, and the others go to the pool.
     #[cycle(over)]
     #[tactic(auto, using(crate::proofs::SeatLemmas::begin_waiting, crate::proofs::SeatLemmas::ends_kept))]
     fn end_job<G: Gate, P: Spawn<TableTask<S, R>>>(
@@ -235,8 +235,8 @@ impl<'a, S: JobSegments, R: Running> JobWork<'a, S, TablePart<S>, TableKept<S>, 
         next
     }
 
-    /// Gives a job that may begin to the pool. If the pool has no room it is run here; `depth` is how many more jobs
-    /// may be.
+    /// Gives a job that may begin to the pool. If the pool has no room, it is run here; `depth` is how many more jobs
+    /// may be run so, one inside the other.
     #[cycle(over)]
     fn hand_over<G: Gate, P: Spawn<TableTask<S, R>>>(
         &self,

@@ -22,7 +22,7 @@ pub struct KeptSource<S: JobSegments> {
 /// The place of a segment's source, while it is read.
 pub(crate) type HeldSource<'w, S> = RwLockReadGuard<'w, Option<KeptSource<S>>>;
 
-/// What a job takes of the answers that it names, with the number of the job.
+/// The inputs of a job from the answers that it names, with the number of the job.
 #[derive(Drop)]
 pub struct KeptGiven<S: JobSegments> {
     pub(crate) job: usize,

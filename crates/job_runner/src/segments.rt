@@ -109,17 +109,17 @@ pub trait JobSegments {
         requires job { job < job_count }
         ensures { result ≡ last_of job };
 
-    /// The different jobs that a job names. It begins after them. No answer rests on this.
+    /// The different jobs that a job names. It begins after them. No answer depends on it.
     fn names(&self, alloc: Global, job: usize) -> Result<Vec<usize>, NoMemory>
         requires job { job < job_count };
 
-    /// How many positions the first segment of a job has, as far as that is known before the run. No answer rests on
-    /// this.
+    /// How many positions the first segment of a job has, as far as that is known before the run. No answer depends on
+    /// it.
     fn likely_size(&self, job: usize) -> u64
         requires job { job < job_count };
 
-    /// What a job takes of the answers that it names, or its answer, if there is nothing to walk. `NoMemory` also if an
-    /// answer that it names isn't there.
+    /// The result is the job's inputs from earlier jobs, or its answer if nothing is to be walked. `NoMemory` also if
+    /// an answer that it names isn't there.
     fn given<E: EarlierAnswers<Self::Answer>>(
         &self,
         alloc: Global,
@@ -144,7 +144,7 @@ pub trait JobSegments {
         ensures { result ≡ size_of job segment };
 
     /// Whether a segment is walked in pieces, side by side. If not, it is one piece, whatever the threshold is. No
-    /// answer rests on this.
+    /// answer depends on it.
     fn is_divided(&self, job: usize, segment: usize) -> bool
         requires job { job < job_count }
         requires segment { segment ≤ last_of job };
@@ -175,7 +175,7 @@ pub trait JobSegments {
         requires fault { faults_with piece.job piece.segment piece.from piece.to fault }
         ensures { result ≡ true → Decides (gives piece.job piece.segment) (goes_over piece.job piece.segment) piece.to };
 
-    /// The fault that ends a piece, if the job gives an answer in its place.
+    /// The fault that ends a piece, if the job gives another answer after a fault.
     fn fault(&self, piece: Piece, given: &Self::Given, part: &Self::Part) -> Option<Fault>
         requires piece { IsPiece job_count last_of size_of piece.job piece.segment piece.from piece.to }
         requires given { is_given piece.job given.now }
