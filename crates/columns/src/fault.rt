@@ -33,7 +33,7 @@ pub enum ColumnFault {
 }
 
 impl ColumnFault {
-    /// The number that a fault is known by, from 1 to 7.
+    /// The number of a fault, from 1 to 7.
     pub fn number(&self) -> u8
         ensures { result ≡ number_of_fault self.now }
     {

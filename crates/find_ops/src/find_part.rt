@@ -1,4 +1,4 @@
-// What the pieces of a stream decide, and how they merge in encounter order.
+//! What the pieces of a stream decide, and how they merge in encounter order.
 
 ghost use Rattle.std.specs.Prelude.{◌≡◌, ℕ, [], ◌∷◌, is_some, None, take};
 ghost use Rattle.trace.specs.declared.item.End.TheVariants as end;

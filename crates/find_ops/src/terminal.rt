@@ -1,4 +1,4 @@
-// The terminals that look for an item, and what one item decides.
+//! The terminals that look for an item, and what one item decides.
 
 ghost use Rattle.std.specs.Prelude.{◌≡◌, flat_map, take};
 ghost use Rattle.find_ops.specs.Finds.{find_of, answer_of_none, decision, first_decision};

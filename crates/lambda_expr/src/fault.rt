@@ -1,4 +1,4 @@
-// Why a text is no lambda.
+//! Why a text is no lambda.
 
 ghost use Rattle.std.specs.Prelude.{◌≡◌};
 ghost use Rattle.lambda_expr.specs.declared.fault.ReadFault.TheVariants.{NoMemory};

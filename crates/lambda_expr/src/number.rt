@@ -1,4 +1,4 @@
-// Numbers as they are written, and the value of each.
+//! Numbers as they are written, and the value of each.
 
 ghost use Rattle.lambda_expr.specs.Numbers.{ANumber, IsNumber, IsNumberRefused, SpellsNumber};
 ghost use Rattle.lambda_expr.specs.NumberValues.{in_64_bits, number_value};

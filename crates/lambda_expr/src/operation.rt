@@ -1,4 +1,4 @@
-// What a sign means, and what the name of a method means.
+//! What a sign means, and what the name of a method means.
 
 use lambda_values::{BinaryOperator, Comparison, Connective, UnaryOperator};
 

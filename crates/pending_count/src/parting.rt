@@ -35,7 +35,7 @@ impl<V, K: Fits<V>> Counts<V, K> {
         (Seat { token, credit }, found)
     }
 
-    /// A second seat with `k` of this seat's arrivals at the node, and some of its credit. It knows what this one
+    /// A second seat with `k` of this seat's arrivals at the node, and some of its credit. It knows what this seat
     /// knows. One load.
     pub fn split(
         &self,

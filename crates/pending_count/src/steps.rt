@@ -119,7 +119,7 @@ impl<V, K: Fits<V>> Counts<V, K> {
         Seat { token, credit }
     }
 
-    /// `d` more arrivals at a node of `arm` at which the seat holds one, for as much credit. `Err` where the credit is
+    /// `d` more arrivals at a node of `arm` at which the seat holds one, for a credit of `d`. `Err` where the credit is
     /// less; then nothing changes. One `fetch_add`. Java: `CountedCompleter.addToPendingCount`.
     pub fn add(&self, seat: Seat<V, K>, node: Node, d: u32) -> Result<Seat<V, K>, Seat<V, K>>
         requires table { IsSeatOf self.now seat }
@@ -162,8 +162,8 @@ impl<V, K: Fits<V>> Counts<V, K> {
         })
     }
 
-    /// One arrival at a node of `arm`. It is `Last` exactly where one was owed and not made. One `fetch_sub`. Java: the
-    /// count that `CountedCompleter.tryComplete` lowers.
+    /// One arrival at a node of `arm`. It is `Last` exactly where one was owed and not made. One `fetch_sub`. It lowers
+    /// the count that Java's `CountedCompleter.tryComplete` lowers.
     pub fn arrive(&self, seat: Seat<V, K>, node: Node) -> Arrived<V, K>
         requires table { IsSeatOf self.now seat }
         requires node { 0 < node }

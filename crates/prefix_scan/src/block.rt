@@ -1,5 +1,5 @@
-// Blocks: what the up pass knows of pieces. The fold of the items at positions of a range, if there are any, and the
-// end.
+//! Blocks: what the up pass knows of pieces. The fold of the items at positions of a range, if there are any, and the
+//! end.
 
 ghost use Rattle.std.specs.Prelude.{◌≡◌, ◌+◌, ◌<◌, ◌^◌, None, ℕ, List, length, flat_map};
 ghost use Rattle.trace.specs.Trace.{Trace, append, trace};

@@ -1,4 +1,4 @@
-// The pass down over a chunk, where its items are stored.
+//! The pass down over a chunk, where its items are stored.
 
 ghost use Rattle.std.specs.Prelude.{◌≡◌, ◌+◌, ℕ, []};
 ghost use Rattle.trace.specs.Trace.{trace};

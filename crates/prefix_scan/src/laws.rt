@@ -1,4 +1,4 @@
-// Laws of the two passes. Each stands on a function that does nothing.
+//! Laws of the two passes. Each stands on a function that does nothing.
 
 ghost use Rattle.std.specs.Prelude.{◌≡◌, ◌++◌, ℕ, ℤ, false, List, Option, None, Ok, length};
 ghost use Rattle.trace.specs.Trace.{Trace, trace};

@@ -1,4 +1,4 @@
-// Folds and scans of the items of a piece: one loop each, compiled for each operator that is used often.
+//! Folds and scans of the items of a piece: one loop each, compiled for each operator that is used often.
 
 ghost use Rattle.std.specs.Prelude.{◌≡◌, List, map};
 ghost use Rattle.trace.specs.declared.item.Item.{Item as item};

@@ -1,4 +1,4 @@
-// Laws of the operators and of folds. Each stands on a function that does nothing.
+//! Laws of the operators and of folds. Each stands on a function that does nothing.
 
 ghost use Rattle.std.specs.Prelude.{◌≡◌, ℕ, ℤ, pos, Some, List, ◌++◌, length};
 ghost use Rattle.lambda_values.specs.Wrap.{wrap};

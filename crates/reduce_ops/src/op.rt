@@ -1,4 +1,4 @@
-// The operators with which a stream is folded.
+//! The operators with which a stream is folded.
 
 ghost use Rattle.std.specs.Prelude.{◌≡◌, ◌/◌, ◌%◌, ◌^◌};
 ghost use Rattle.reduce_ops.specs.Operators.{value_of, identity_of, affine, bits_of, upper, lower};

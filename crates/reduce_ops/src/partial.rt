@@ -1,4 +1,4 @@
-// Folds of the pieces of a stream, and their merging in encounter order.
+//! Folds of the pieces of a stream, and their merging in encounter order.
 
 ghost use Rattle.std.specs.Prelude.{◌≡◌, Some, [], ◌∷◌, ◌++◌};
 ghost use Rattle.trace.specs.declared.item.End.TheVariants as end;
@@ -35,7 +35,7 @@ impl Partial {
         }
     }
 
-    /// The fold of a piece without items that ended so.
+    /// The fold of a piece without items, with this end.
     pub fn none(op: Op, end: End) -> Partial
         ensures op { result.op ≡ op }
         ensures stands { StandsFor result (trace [] end) }
@@ -57,7 +57,7 @@ impl Partial {
         self.value = fold_on(self.op, self.value, item.value);
     }
 
-    /// Ends the piece so, unless a fault has ended it.
+    /// Ends the piece as said, unless a fault has ended it.
     pub fn end_with(&mut self, end: End)
         ensures op { self.new.op ≡ self.old.op }
         ensures stands { (t : Trace) → StandsFor self.old t → StandsFor self.new (append t (trace [] end)) }

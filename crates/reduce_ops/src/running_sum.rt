@@ -43,7 +43,7 @@ impl RunningSum {
         }
     }
 
-    /// Ends the walk so, unless a fault has ended the sum.
+    /// Ends the walk as said, unless a fault has ended the sum.
     pub fn end_with(&mut self, end: End)
         ensures stands { (stage : ℕ) (t : Trace) → IsRunning stage self.old t → IsRunning stage self.new (append t (trace [] end)) }
     {

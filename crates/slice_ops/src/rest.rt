@@ -1,4 +1,4 @@
-// What slices do with a walk that comes in parts, one after the other.
+//! What slices do with a walk that comes in parts, one after the other.
 
 ghost use Rattle.std.specs.Prelude.{◌≡◌, ◌≤◌, ◌-◌, ℕ, [], true, length, take, drop};
 ghost use Rattle.lambda_values.specs.Earlier.{Numbers};
@@ -83,7 +83,7 @@ impl<'a> SliceRest<'a> {
         }
     }
 
-    /// How a walk ends after the slice that ends so with no further item.
+    /// How a walk ends after the slice, if it ends as said with no further item.
     pub fn end_after(&self, end: End) -> End
         ensures { (stage : ℕ) (env : Numbers) → sliced (rest_of self.now) stage env (trace [] end) ≡ trace [] result }
     {

@@ -1,4 +1,4 @@
-// Chunks that a slice shortens in place.
+//! Chunks that a slice shortens in place.
 
 ghost use Rattle.std.specs.Prelude.{◌≡◌, length, nat_lt, not, is_some};
 ghost use Rattle.lambda_values.specs.Term.{truth_of};

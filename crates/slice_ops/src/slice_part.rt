@@ -1,4 +1,4 @@
-// What a slice keeps of the pieces of a stream, and how the pieces join in encounter order.
+//! What a slice keeps of the pieces of a stream, and how the pieces join in encounter order.
 
 ghost use Rattle.std.specs.Prelude.{◌≡◌, ◌≢◌, ◌<◌, ℕ, false, [], ◌∷◌, IfOk, IfErr, OnOk, OnErr, is_some, length};
 ghost use Rattle.lambda_values.specs.Earlier.{Numbers};
@@ -96,7 +96,7 @@ impl<'a> SlicePart<'a> {
         self.slice
     }
 
-    /// The part of the piece if it ends so. It takes no memory.
+    /// Ends the piece as said. It takes no memory.
     pub fn end_with(&mut self, end: End)
         ensures { (d : AbstractSlice) (stage : ℕ) (env : Numbers) (t : Trace) → StandsFor d stage env self.old t
             → StandsFor d stage env self.new (append t (trace [] end)) }

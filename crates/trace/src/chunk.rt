@@ -40,7 +40,7 @@ impl Model for Chunk {
 }
 
 impl Chunk {
-    /// A chunk without items that ends so. It takes no memory.
+    /// A chunk without items, with this end. It takes no memory.
     pub fn ending(alloc: Global, end: End) -> Chunk
         ensures { result ≡ trace [] end }
     {
@@ -114,7 +114,7 @@ impl Chunk {
         Ok(())
     }
 
-    /// Ends so, unless a fault has ended the chunk. It takes no memory.
+    /// Ends the chunk as said, unless a fault has ended it. It takes no memory.
     pub fn end_with(&mut self, end: End)
         ensures { self.new ≡ append self.old (trace [] end) }
     {
