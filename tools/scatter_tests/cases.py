@@ -120,7 +120,7 @@ def refusals(test, folder):
     columns = write(folder, 'table.csv', TABLE)
     for text, line in UNMERGEABLE:
         jobs = write(folder, 'jobs', text.encode())
-        # There is no such program: nothing runs before the refusal.
+        # The program isn't there: nothing runs before the refusal.
         for got in (run('run', '--parts', 2, '--program', '/none', '--columns', columns, jobs), run('jobs', jobs)):
             test.expect(text, got == (b'', f'scatter: jobs: line {line}\n'.encode(), 1), got)
         test.expect(text, real('plan', jobs)[1:] == (f'scatter: jobs: line {line}\n'.encode(), 1), real('plan', jobs))
@@ -227,7 +227,7 @@ def blocks_of(text):
 
 
 def page(test, folder):
-    """The commands of the page, as printed, in a folder with the examples; those of a cluster aside."""
+    """The commands of the page, as printed, in a folder with the examples; the commands of a cluster aside."""
     os.mkdir(os.path.join(folder, 'bin'))
     os.symlink(test.program, os.path.join(folder, 'bin', 'streamrun'))
     for name in ('examples', 'tools'):

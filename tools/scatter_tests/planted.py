@@ -17,7 +17,7 @@ def in_another_order(merge):
 
 
 def without_the_answers_before(members):
-    """Lets each part take its own number for that of the whole."""
+    """Lets each part take its own number for the number of the whole."""
     def jobs_of_all_rounds(self, number, answers):
         return members(self, number, answers)[0], set()
     return jobs_of_all_rounds
@@ -53,7 +53,7 @@ MISTAKES = [
     ('a value that isn\'t counted', merging, 'length_of', lambda array: array.count(b',')),
     ('a table cut anywhere', tables, 'cuts', at_bytes(tables.cuts)),
 ]
-# Such a mistake shows over tables that are refused.
+# This mistake shows over tables that are refused.
 MISTAKES_OF_REFUSALS = [
     ('a row that isn\'t moved', running, 'ended_by', lambda outcome, part, before, true=running.ended_by: true(outcome, part, 0)),
     ('a quote that isn\'t heeded', tables, 'spans', lambda data, start: iter([(False, start, len(data))] * (start < len(data)))),

@@ -30,7 +30,7 @@ class PartsWriter(Writer):
         self.cut_arrays, self.other_arrays = {}, []
 
     def cut_job(self):
-        """A job over a column, or over an array of such a job."""
+        """A job over a column, or over an array of one of these jobs."""
         if not self.cut_arrays or self.often(0.6):
             source = self.column(self.rows)
         else:
