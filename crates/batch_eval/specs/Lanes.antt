@@ -1,4 +1,4 @@
--- Condition: what registers of numbers hold, lane by lane, and how far a step over lanes came.
+-- Condition: what registers hold, lane by lane, and how far a step over lanes came.
 use Rattle.std.specs.Int.{w64, cast_unsigned}
 use Rattle.std.specs.Prelude.{◌≡◌, ℕ, ◌<◌, ◌≤◌, ◌^◌, ◌%◌, ℤ, pos, Bool, true, false, not, List, length, slice_index_or, Option, Some, None, Result, Ok, Err}
 use Rattle.std.specs.Ordering.{int_eq}

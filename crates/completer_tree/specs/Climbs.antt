@@ -1,4 +1,4 @@
--- Condition: what an arrival at a place gives the seat, and what a finisher has to have.
+-- Condition: what an arrival at a place gives, and what a finisher has to have.
 use Rattle.std.specs.Prelude.{◌≡◌, ◌≢◌, ℕ, ◌+◌, ◌<◌, [], ◌∷◌, Some, None, ⊤}
 use Rattle.atomic_table.specs.Seated.{TableId}
 use Rattle.completion_core.specs.Legal.{count}

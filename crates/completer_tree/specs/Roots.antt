@@ -1,4 +1,4 @@
--- Condition: what the notes of a seat say of the top of a tree, and of what the top keeps.
+-- Condition: what a seat notes of the top of a tree, and of what the top keeps.
 use Rattle.std.specs.Prelude.{◌≡◌, ◌≢◌, ℕ, ◌+◌, ◌<◌, ◌≤◌, List, [], ◌∷◌, Option, Some, None}
 use Rattle.completion_core.specs.Legal.{count}
 use Rattle.pending_count.specs.declared.view.View.{View}

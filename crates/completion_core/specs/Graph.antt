@@ -1,4 +1,4 @@
--- Design: the graph of completers, which is its nodes and the arrivals that are owed to each of them.
+-- Design: the graph of completers: its nodes, and the arrivals owed to each.
 -- Each arrival has a name, which is its node and its place in that node's list; it keeps it for ever.
 -- Java SE 17, CountedCompleter: the pending count of a node is the number of its arrivals that aren't made, less one.
 use Rattle.std.specs.Prelude.{ℕ, zero, suc, ◌+◌, ◌<◌, ◌≤◌, ◌==◌, Bool, true, false, List, [], ◌∷◌, Option, None, if◌then◌else◌}

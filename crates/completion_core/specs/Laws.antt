@@ -1,4 +1,4 @@
--- Design: what holds of every list of actions that is legal on a new graph, in the words of completers.
+-- Design: what holds of every legal list of actions on a new graph.
 use Rattle.std.specs.Prelude.{◌≡◌, ◌≢◌, ℕ, ◌<◌, List, ◌∷◌, ◌++◌, Option, Some, ◌⊎◌, All, AllPairs, slice_get}
 use Rattle.completion_core.specs.declared.action.Action.{Action}
 use Rattle.completion_core.specs.declared.action.Action.TheVariants.{Arm, Add, Arrive, Run, Settle}

@@ -1,4 +1,4 @@
--- Design: why an action is refused: of the demands that it doesn't meet the first, in a fixed order.
+-- Design: why an action is refused: the first of its demands that is not met, in a fixed order.
 use Rattle.std.specs.Prelude.{◌≡◌, ℕ, ◌+◌, ◌<◌, ◌≤◌, ◌^◌, ◌⊎◌, false, List, Some, ⊤, length, take, slice_get}
 use Rattle.completion_core.specs.declared.action.Action.{Action}
 use Rattle.completion_core.specs.declared.action.Action.TheVariants.{Claim, Arm, Add, Give, Arrive, Run, Settle}

@@ -1,4 +1,4 @@
--- Condition: what a read does to a reader's count of failed reads, and to its bytes.
+-- Condition: what a read does to a reader.
 use Rattle.std.specs.Prelude.{◌≡◌, ◌++◌, ℕ, List, Option, Result, Ok, Err}
 use Rattle.std.specs.Io.KnownBytes.{Consumes}
 use Rattle.counted_io.specs.declared.counted_read.Counted.{Counted}

@@ -1,4 +1,4 @@
--- Design: the words of early stop and the views of its seats, as they stand between any two steps, and what each call is.
+-- Design: the words of early stop, the views of its seats, and what each call is.
 use Rattle.std.specs.Prelude.{◌≡◌, ℕ, ◌<◌, ◌≤◌, ◌==◌, min, List, [], ◌∷◌, ◌++◌, length, slice_index_or, slice_set, replicate, if◌then◌else◌}
 use mathlib.Core.Option.{some}
 use lib.ListN.{get_elem?}

@@ -1,4 +1,4 @@
--- Design: pieces of a source that may be left unwalked in part, and what lets them be left.
+-- Design: when pieces of a source may be left unwalked in part.
 use Rattle.std.specs.Prelude.{◌≡◌, ◌⊎◌, ℕ, ◌-◌}
 use Rattle.trace.specs.Trace.{Trace, append}
 use Rattle.early_stop.specs.Decisive.{BeginsAs}

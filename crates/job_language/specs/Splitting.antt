@@ -1,4 +1,4 @@
--- Condition: a call taken apart, from word to word, after its opening parenthesis.
+-- Condition: a call taken apart, word by word, after its opening parenthesis.
 use Rattle.std.specs.Prelude.{◌≡◌, ℕ, suc, ◌+◌, Bool, true, ◌&&◌, List, [], ◌∷◌, ◌++◌, length, Option, Some, None, slice_range, take, ◌≤◌, ◌<◌}
 use Rattle.stream_tokens.specs.declared.symbol.Symbol.TheVariants as symbol
 use Rattle.lambda_expr.specs.Words.{Word, named, sign, bad}

@@ -1,4 +1,4 @@
--- Condition: the values of a walk, without the places of its items.
+-- Condition: the values of a walk, without places.
 use Rattle.std.specs.Prelude.{ℤ, List, ◌++◌, map as each_of}
 use Rattle.trace.specs.declared.item.Item.{Item}
 use Rattle.trace.specs.declared.item.End.{End}

@@ -1,4 +1,4 @@
--- Design: the answers of the jobs of a file that are cut into segments. Jobs that a job names are found by their places.
+-- Design: the answers of jobs in segments. Jobs that a job names are found by their places.
 use Rattle.std.specs.Prelude.{ℕ, ℤ, if◌then◌else◌, List, [], ◌∷◌, ◌++◌, Option, Some, None, slice_get}
 use Rattle.lambda_values.specs.Earlier.{Numbers}
 use Rattle.job_language.specs.Jobs.{AbstractPlainSource, range, range_closed, values, result}

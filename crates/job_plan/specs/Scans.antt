@@ -1,4 +1,4 @@
--- Condition: the part of a prefix, and the walk that it gives, kept in pieces.
+-- Condition: the part of a prefix, and its walk, in pieces.
 use Rattle.std.specs.Prelude.{◌≡◌, ℕ, ◌+◌, ◌<◌, ◌≤◌, ◌^◌, ℤ, List, [], ◌∷◌, length, flat_map, All, Option, None}
 use Rattle.trace.specs.declared.item.Item.{Item}
 use Rattle.trace.specs.declared.item.End.TheVariants as end

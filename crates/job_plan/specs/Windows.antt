@@ -1,4 +1,4 @@
--- Design: slices before every other stage of a job, which select positions of its sources.
+-- Design: slices that select positions of a job's sources.
 use Rattle.std.specs.Prelude.{ℕ, zero, suc, Bool, true, false, List, [], ◌∷◌, Option, Some, None, if◌then◌else◌}
 use Rattle.trace.specs.Stages.{AbstractStage}
 use Rattle.trace.specs.Trace.{Trace, trace}

@@ -1,4 +1,4 @@
--- Condition: laws of parts that continuations of a tree need.
+-- Condition: laws of parts that the continuations of a tree need.
 use Rattle.std.proofs.Common.{◌≡◌, ℕ, subst, Option, Some, None}
 use Rattle.std.specs.Prelude.{Result}
 use Rattle.std.specs.Coded.{Π_prop}

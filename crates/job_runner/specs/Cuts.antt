@@ -1,4 +1,4 @@
--- Condition: which positions of a source belong to a side of a cut, and which pieces a run has.
+-- Condition: which positions belong to a side of a cut, and which pieces a run has.
 use Rattle.std.specs.Prelude.{◌≡◌, ℕ, ◌<◌, ◌≤◌, Bool, Option, Some, None, Result, Ok, Err, ⊤}
 use Rattle.trace.specs.declared.item.Fault.{Fault}
 use Rattle.completer_tree.specs.declared.part.Failure.{Failure}

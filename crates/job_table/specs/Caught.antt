@@ -1,4 +1,4 @@
--- Condition: faults of pieces that the jobs of a plan catch.
+-- Condition: faults that the jobs of a plan catch.
 use Rattle.std.specs.Prelude.{◌≡◌, ◌<◌, ◌≤◌, ℕ, List, length, Option, Some, None, slice_get}
 use Rattle.trace.specs.declared.item.Fault.{Fault}
 use Rattle.job_meaning.specs.declared.answer.Answer.{Answer}

@@ -1,4 +1,4 @@
--- Condition: the segments of a plan: what each goes over, and what parts of it describe.
+-- Condition: the segments of a plan: what each goes over, and what its parts describe.
 use Rattle.std.specs.Prelude.{ℕ, zero, suc, pos, ◌-◌, ◌^◌, min, take, Bool, true, false, List, [], ◌∷◌, length, Option, Some, None, IfSome, slice_get, slice_index_or, if◌then◌else◌, ◌==◌}
 use Rattle.lambda_values.specs.Earlier.{Numbers}
 use Rattle.trace.specs.Trace.{Trace, nothing}

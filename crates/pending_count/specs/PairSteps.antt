@@ -1,4 +1,4 @@
--- Condition: what arming a pair, and arriving at one with a value, means for the graph, and what the last of the two arrivals gets.
+-- Condition: what arming a pair, and arriving at it with a value, means for the graph.
 use Rattle.std.specs.Prelude.{◌≡◌, ◌≢◌, ℕ, ◌-◌, ◌<◌, List, [], ◌∷◌, Option, Some}
 use Rattle.completion_core.specs.declared.action.Action.TheVariants.{Arm}
 use Rattle.completion_core.specs.declared.action.Reply.TheVariants.{Done}

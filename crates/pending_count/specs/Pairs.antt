@@ -1,4 +1,4 @@
--- Condition: which seat holds the sides of pairs, and what the slots of their values contain.
+-- Condition: which seat holds the sides of pairs, and what their slots contain.
 use Rattle.std.specs.Prelude.{◌≡◌, ℕ, ◌+◌, ◌*◌, ◌<◌, ◌≤◌, Bool, true, false, List, [], ◌∷◌, length, Option, Some, None}
 use mathlib.Core.Option.{some}
 use mathlib.Core.Option as mc

@@ -1,4 +1,4 @@
--- Condition: what contracts say of counts and of a seat, and of the answers in which seats come back.
+-- Condition: what contracts say of counts, of a seat, and of answers with seats.
 use Rattle.std.specs.Prelude.{◌≡◌, ℕ, Option, ⊤}
 use Rattle.atomic_table.specs.Seated.{TableId}
 use Rattle.completion_core.specs.declared.action.Reply.{Reply}

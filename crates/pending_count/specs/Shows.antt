@@ -1,4 +1,4 @@
--- Design: when the words of a table and the views of its seats show a graph of completers.
+-- Design: when words and the views of seats show a graph of completers.
 -- Word i belongs to node i, word 0 to END, and the claim word comes after them. An actor is a seat, by its number.
 use Rattle.std.specs.Prelude.{◌≡◌, ℕ, ◌+◌, ◌<◌, ◌≤◌, min, Bool, true, false, List, [], length, slice_index, Some}
 use Rattle.atomic_table.specs.Table.{State}

@@ -1,4 +1,4 @@
--- Condition: what each call of the counts means for the graph that words and views show.
+-- Condition: what each call of the counts means for the graph of completers.
 use Rattle.std.specs.Prelude.{◌≡◌, ◌≢◌, ℕ, zero, suc, ◌+◌, ◌-◌, ◌<◌, ◌≤◌, ◌==◌, List, [], ◌∷◌, ◌++◌, length, slice_set, slice_index, Option, Some, None, nat_lt, if◌then◌else◌, ⊤}
 use mathlib.Core.Option.{some}
 use lib.ListN.{get_elem?}

@@ -1,4 +1,4 @@
--- Design: what a seat knows, as lists with an entry for each arrival, and how each call changes it.
+-- Design: what a seat knows, and how each call changes it.
 use Rattle.std.specs.Prelude.{◌≡◌, ℕ, ◌+◌, ◌-◌, ◌*◌, ◌^◌, ◌<◌, ◌≤◌, ◌==◌, min, true, false, List, [], ◌∷◌, ◌++◌, Option, Some, None, nat_lt, if◌then◌else◌, slice_index_or, ◌||◌, ◌⊎◌}
 use Rattle.completion_core.specs.Graph.{copies}
 use Rattle.completion_core.specs.Legal.{count}

@@ -1,4 +1,4 @@
--- Condition: how far the sums of a piece reach, and which walks the parts of exact sums describe.
+-- Condition: the range of the sums of a piece, and which walks the parts of exact sums describe.
 use Rattle.std.specs.Prelude.{◌≡◌, ◌⊎◌, ℕ, ◌^◌, ℤ, pos, negsuc, ◌+ℤ◌, ◌-ℤ◌, ◌≤ℤ◌, neg_ℤ, Bool, true, false, is_err, List, map, Option, Some, None, Ok, Err, ⊤}
 use Rattle.std.specs.Int.{int_max, int_min}
 use Rattle.std.specs.List.{fold}

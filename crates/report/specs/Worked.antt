@@ -1,4 +1,4 @@
--- Design: small files of jobs, in the terms of the definitions, whose reports are worked out.
+-- Design: small files of jobs, as terms of the definitions, and their reports.
 use Rattle.std.specs.Prelude.{ℕ, ℤ, pos, negsuc, List, [], ◌∷◌, codes, None, Some}
 use Rattle.lambda_values.specs.Term.{number, parameter, reference, binary, Truth, compare}
 use Rattle.lambda_values.specs.declared.operator.BinaryOperator.TheVariants.{Add, Divide, Subtract}

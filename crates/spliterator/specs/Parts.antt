@@ -1,4 +1,4 @@
--- Condition: the values and items that the spliterators have left.
+-- Condition: what the spliterators have left.
 use Rattle.std.specs.Prelude.{ℤ, ◌+ℤ◌, pos, ◌-◌, ◌/◌, List, [], ◌∷◌, ◌++◌, length, take}
 use Rattle.trace.specs.declared.item.Item.{Item}
 use Rattle.trace.specs.Cover.{counted, placed}
