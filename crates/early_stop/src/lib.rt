@@ -1,5 +1,4 @@
-//! Early stop: for each segment of a run the least place of its source that is known to decide what the segment gives,
-//! in an atomic word, and what may be left unwalked because of it.
+//! Early stop: for each segment of a run the least place known to decide what the segment gives, in an atomic word.
 //!
 //! Stands on `trace` and `atomic_table`. Used by `job_plan`, whose leaves ask a `Stop`, and by `job_runner`, whose
 //! workers share a `Cut`.

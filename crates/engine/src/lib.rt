@@ -1,4 +1,4 @@
-//! The run: from the bytes of a column file and a job file to the bytes of the report, with the theorem on the call.
+//! The run: from the bytes of a column file and a job file to the bytes of the report.
 //!
 //! Stands on `columns` and `job_language`, which read the two files, on `job_meaning`, which says what the jobs mean,
 //! on `job_plan` and `job_table`, which cut and run them, and on `report`: on their contracts, and on lemmas about
