@@ -192,13 +192,18 @@ def anchors_of(page):
         yield re.sub(r'[^\w\- ]', '', heading.lower()).replace(' ', '-')
 
 
+def targets_of(page):
+    """(path, heading) of each link of a page to a file; the heading is empty if the link names none."""
+    for target, anchor in re.findall(r'\]\(([^)#\s]*)(?:#([^)\s]+))?\)', read(page)):
+        if '://' not in target:
+            yield os.path.join(os.path.dirname(page), target) if target else page, anchor
+
+
 def links(top):
     """Links that lead nowhere: to a file that isn't there, or to a heading that its page hasn't."""
     for page in pages_of(top) + [os.path.join(top, 'CONTRIBUTING.md')]:
-        for target, anchor in re.findall(r'\]\(([^)#\s]*)(?:#([^)\s]+))?\)', read(page)):
-            path = os.path.join(os.path.dirname(page), target) if target else page
-            if '://' in target:
-                continue
+        for path, anchor in targets_of(page):
+            target = os.path.relpath(path, os.path.dirname(page))
             if not os.path.exists(path):
                 yield f'{os.path.basename(page)}: a link to {target}, which is not there'
             elif anchor and anchor not in anchors_of(path):

@@ -1,2 +1,2 @@
 """The version of the file VERSION. Made by scripts/shell_files."""
-VERSION = '0.1.0'
+VERSION = '1.0.0'

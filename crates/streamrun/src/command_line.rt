@@ -33,7 +33,7 @@ fn arguments_of<'a>(matches: &ArgMatches<'a>) -> Arguments<'a> {
 
 /// What the help says first: the version, as the file VERSION has it, and what the program does.
 const VERSION_AND_PURPOSE: &str =
-    "streamrun 0.1.0: runs pipelines over 64-bit integers, with one answer per job";
+    "streamrun 1.0.0: runs pipelines over 64-bit integers, with one answer per job";
 
 /// What the help says below the options.
 const EXAMPLE_AND_STATUSES: &str =
