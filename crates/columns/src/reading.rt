@@ -58,7 +58,7 @@ pub fn read_columns<R: CountedRead>(alloc: Global, reader: &mut R) -> Result<Col
 /// A file of no more than a piece for each worker is read whole first. Of a longer one only the pieces in hand, those that
 /// are read meanwhile and their cells are held beside 8 bytes for each cell. A thread is started for each worker whenever
 /// that many pieces are parsed, and again, if there are as many columns, whenever their cells are put under the columns.
-/// With one worker, and for a file of one piece, none is. If a row isn't plain, all bytes from its pieces on are read
+/// With one worker, which reads and parses in turns, and for a file of one piece, none is. If a row isn't plain, all bytes from its pieces on are read
 /// whole and parsed on one thread: if the file is refused, or a number is quoted in part.
 pub fn read_columns_by<H: Threads + Sync, R: CountedRead>(
     rt: &H,
@@ -78,11 +78,8 @@ pub fn read_columns_by<H: Threads + Sync, R: CountedRead>(
         → HasRisen (R.failures reader.old) (R.failures reader.new)) }
     ensures counts { R.failures reader.old ≤ R.failures reader.new }
 {
-    let limit = if workers < 2 {
-        usize::MAX
-    } else {
-        workers.saturating_mul(piece).max(1)
-    };
+    let workers = workers.max(1);
+    let limit = workers.saturating_mul(piece).max(1);
     let team = Team { rt, workers, piece };
     columns_up_to(&team, alloc, reader, limit)
 }
