@@ -53,7 +53,7 @@ pub(crate) fn read_plain_rows_by<H: Threads + Sync>(
     ensures { result ≡ true → AreRead (drop from text.now) [] (map named columns.old) (map named columns.new) }
 {
     let bytes = team.piece;
-    if team.workers < 2 || text.len() - from <= bytes {
+    if text.len() - from <= bytes {
         return read_plain_rows(text, from, text.len(), columns);
     }
     let first = &text[from..from.saturating_add(bytes).min(text.len())];

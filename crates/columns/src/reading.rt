@@ -58,9 +58,9 @@ pub fn read_columns<R: CountedRead>(alloc: Global, reader: &mut R) -> Result<Col
 /// A file of no more than a piece for each worker is read whole first. Of a longer file only these are held: the pieces
 /// in hand, the pieces that are read meanwhile, their cells, and 8 bytes for each cell. A thread is started for each
 /// worker whenever that many pieces are parsed. If there are at least that many columns, threads are started again to
-/// put the cells under the columns. With one worker, and for a file of one piece, no thread is started. If a row isn't
-/// plain, all bytes from its pieces on are read whole and parsed on one thread: if the file is refused, or a number is
-/// quoted in part.
+/// put the cells under the columns. One worker reads and parses in turns: for it, and for a file of one piece, no thread
+/// is started. If a row isn't plain, all bytes from its pieces on are read whole and parsed on one thread: if the file
+/// is refused, or a number is quoted in part.
 pub fn read_columns_by<H: Threads + Sync, R: CountedRead>(
     rt: &H,
     alloc: Global,
@@ -79,11 +79,8 @@ pub fn read_columns_by<H: Threads + Sync, R: CountedRead>(
         → HasRisen (R.failures reader.old) (R.failures reader.new)) }
     ensures counts { R.failures reader.old ≤ R.failures reader.new }
 {
-    let limit = if workers < 2 {
-        usize::MAX
-    } else {
-        workers.saturating_mul(piece).max(1)
-    };
+    let workers = workers.max(1);
+    let limit = workers.saturating_mul(piece).max(1);
     let team = Team { rt, workers, piece };
     columns_up_to(&team, alloc, reader, limit)
 }

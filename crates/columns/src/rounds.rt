@@ -1,7 +1,7 @@
 //! Long column files, read and parsed at the same time.
 //!
-//! A file is read in rounds. While the whole lines of one round are parsed in pieces, the bytes of the next one are
-//! read into another buffer, after the beginning of its first line. So few bytes of the file are held at a time, and
+//! A file is read in rounds. While the whole lines of one round are parsed in pieces, or after it with one worker, the
+//! bytes of the next one are read into another buffer, after the beginning of its first line. So few bytes of the file are held at a time, and
 //! one piece of memory takes all of them: memory that is new to the system costs more time than the reading.
 //!
 //! From the first round on that has a row that isn't plain, all bytes are read whole, and `csv` puts their rows under
@@ -211,7 +211,8 @@ fn next_round<H: Threads + Sync, R: CountedRead>(
     Ok(if is_end { Round::Last } else { Round::Put })
 }
 
-/// Puts the rows of the whole lines before `end` under the columns, on threads, and reads on into `spare` on this one.
+/// Puts the rows of the whole lines before `end` under the columns, on threads, and reads on into `spare` on this one; with
+/// one piece both are done on this one, in turn.
 fn put_and_read<H: Threads + Sync, R: CountedRead>(
     rt: &H,
     reader: &mut R,
@@ -236,6 +237,7 @@ fn put_and_read<H: Threads + Sync, R: CountedRead>(
     let pieces = rounds.pieces.as_mut_slice();
     let spare = &mut rounds.spare;
     let limit = rounds.limit;
+    let is_alone = pieces.len() < 2;
     let mut put = || -> Result<bool, AllocError>
         requires { IsSync H.row × (0 < length columns.now) }
         ensures { IfOk result (λ is_plain. MatchBool is_plain
@@ -250,6 +252,9 @@ fn put_and_read<H: Threads + Sync, R: CountedRead>(
         ensures read { IfErr result (λ fault. fault ≡ ColumnFault.Read → HasRisen (R.failures reader.entry.now) (R.failures reader.exit.now)) }
         ensures counts { R.failures reader.entry.now ≤ R.failures reader.exit.now }
     { read_on(reader, spare, limit) };
+    if is_alone {
+        return (put(), read());
+    }
     thread::join_mut(rt, &mut put, &mut read)
 }
 
