@@ -58,9 +58,8 @@ def messages(top):
 
 
 def gallery(top):
-    """Reports of examples/gallery that aren't what the tables give, and those of tests/answers that aren't what is counted up."""
-    yield from lines_of_script(top, 'reference/gallery/answers', '--check')
-    yield from lines_of_script(top, 'reference/counted/generate', '--check')
+    """Reports of examples/gallery that aren't what the tables give."""
+    yield from lines_of_script(top, 'reference/gallery', '--check')
 
 
 def crates_of(top, with_tests=False):
@@ -174,6 +173,6 @@ def helps(top):
 
 def editors(top):
     """Tokens of examples/ that an editor gives another colour than the grammar says."""
-    for line in lines_of_script(top, 'tests/editors', top):
+    for line in lines_of_script(top, 'tests/editors'):
         if not line.startswith('editors: '):
             yield line

@@ -2,7 +2,7 @@
 
 Each recipe of docs/recipes.md is run again, by its own two commands, over random tables of the same names, whose cells are
 negative, zero, and the least and greatest ones that both tools and the recipe's words allow. The report has to be what
-reference/gallery/answers works out from the table, and each number that the other tool prints has to stand in it.
+reference/gallery works out from the table, and each number that the other tool prints has to stand in it.
 """
 import collections
 import importlib.machinery
@@ -106,7 +106,7 @@ def write(path, header, rows):
 
 def answers_over(top, folder):
     """The script that works out reports, over the tables of this folder."""
-    path = os.path.join(top, 'reference', 'gallery', 'answers')
+    path = os.path.join(top, 'reference', 'gallery')
     loader = importlib.machinery.SourceFileLoader('gallery_answers', path)
     module = importlib.util.module_from_spec(importlib.util.spec_from_loader('gallery_answers', loader))
     loader.exec_module(module)

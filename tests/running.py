@@ -2,12 +2,14 @@
 import argparse
 import collections
 import concurrent.futures
+import functools
 import glob
 import os
 import resource
 import shutil
 import subprocess
 import sys
+import tempfile
 
 TESTS = os.path.dirname(os.path.realpath(__file__))
 TOP = os.path.dirname(TESTS)
@@ -52,9 +54,18 @@ def write(path, data):
     return path
 
 
+@functools.lru_cache(maxsize=None)
+def counted():
+    """A folder, as long as the script runs, with the job files of reference/counted."""
+    folder = tempfile.TemporaryDirectory()
+    subprocess.run([os.path.join(TOP, 'reference', 'counted'), folder.name], check=True)
+    return folder
+
+
 def job_files():
     """(path of a job file, the columns that it is run over or None) of all that have a report or a refusal beside them."""
-    for path in sorted(path for folder in FOLDERS for path in glob.glob(os.path.join(TOP, folder, '*.jobs'))):
+    folders = [*(os.path.join(TOP, folder) for folder in FOLDERS), counted().name]
+    for path in sorted(path for folder in folders for path in glob.glob(os.path.join(folder, '*.jobs'))):
         folder, name = os.path.split(path[:-len('.jobs')])
         tables = [os.path.join(folder, table + '.csv') for table in (name, name.split('.')[0])]
         yield path, next(filter(os.path.exists, tables), None)
