@@ -64,3 +64,77 @@ def build_crate(work, name, source, stands_on, proofs=None, words=()):
     if ended.returncode:
         sys.exit(f'{ended.stdout[-4000:]}{name} was not built')
     return os.path.join(crate, 'out', name)
+
+
+def ran(command, is_needed=True, most=None):
+    """The cost of a run, with what it prints, or its first bytes: all that this process holds counts as memory of later runs. None if it
+    fails, and isn't needed."""
+    with tempfile.TemporaryFile() as out:
+        begun = time.perf_counter()
+        running = subprocess.Popen(command, stdin=subprocess.DEVNULL, stdout=out, stderr=None if is_needed else subprocess.DEVNULL)
+        _, status, used = os.wait4(running.pid, 0)
+        wall = time.perf_counter() - begun
+        running.returncode = os.waitstatus_to_exitcode(status)
+        out.seek(0)
+        printed = out.read(most).decode()
+    if running.returncode and is_needed:
+        sys.exit(f'{command[0]} ended with {running.returncode}')
+    return None if running.returncode else Cost(1000 * wall, 1000 * (used.ru_utime + used.ru_stime), used.ru_maxrss * 1024, printed)
+
+
+def least(costs):
+    """The least times of some runs, and the most memory; all have to print the same."""
+    costs = list(costs)
+    if len({cost.printed for cost in costs}) != 1:
+        sys.exit(f'the answers differ: {sorted({cost.printed[:200] for cost in costs})}')
+    return Cost(min(cost.wall for cost in costs), min(cost.processor for cost in costs), max(cost.memory for cost in costs), costs[0].printed)
+
+
+def least_of(turns, command, **more):
+    """The least cost of so many runs of a command."""
+    return least(ran(command, **more) for _ in range(turns))
+
+
+def in_turns(turns, commands):
+    """The least cost of each command, by its name; they take turns, and have to give the words that the first one gives."""
+    rounds = [{name: ran(command) for name, command in commands.items()} for _ in range(turns)]
+    found = {name: least(one[name] for one in rounds) for name in commands}
+    wanted = next(iter(found.values())).printed.split()
+    for name, cost in found.items():
+        if cost.printed.split() != wanted:
+            sys.exit(f'{name} gives another answer: {cost.printed[:200]!r}')
+    return found
+
+
+def peer(work, path, *flags):
+    """The command of a peer, built of a source in C, Java or Rust, or of a folder for cargo; None, with a line, if it can't be built."""
+    source, stem = os.path.join(HERE, path), os.path.basename(path).split('.')[0]
+    made = os.path.join(work, stem)
+    environment = {**os.environ, 'RUSTFLAGS': '-C target-cpu=x86-64-v2'}
+    if path.endswith('.c'):
+        build, command = [os.environ.get('CC', 'gcc'), '-O2', '-pthread', *flags, '-o', made, source], [made]
+    elif path.endswith('.java'):
+        build, command = ['javac', '-d', work, source], ['java', *flags, '-cp', work, stem]
+    elif path.endswith('.rs'):
+        build, command = ['rustc', '-O', *flags, '-o', made, source], [made]
+    else:
+        made += '_peer'
+        shutil.copytree(source, made)
+        os.mkdir(os.path.join(made, '.cargo'))
+        with open(os.path.join(made, '.cargo', 'config.toml'), 'w', encoding='utf-8') as file:
+            file.write(CARGO)
+        name = os.path.basename(os.path.dirname(source)) + '_peer'
+        build, command = ['cargo', 'build', '--release', '--offline'], [os.path.join(made, 'target', 'release', name)]
+    if not shutil.which(build[0]):
+        print(f'{path}: left out, since {build[0]} is not installed')
+        return None
+    ended = subprocess.run(build, cwd=made if build[0] == 'cargo' else work, env=environment, capture_output=True, text=True, check=False)
+    if ended.returncode:
+        print(f'{path}: left out, since it was not built: {ended.stderr[-400:]}')
+        return None
+    return command
+
+
+def row(title, cells, width=24):
+    """Prints a line of a table: a title, and cells of ten columns."""
+    print(f'{title:{width}}' + ''.join(f'{cell:>10.2f}' if isinstance(cell, float) else f'{cell:>10}' for cell in cells), flush=True)

@@ -25,7 +25,8 @@ Run = collections.namedtuple('Run', 'out err status')
 
 
 def options_of(page, at=PROGRAM, **defaults):
-    """The options of a script, by the page at its head: each default gives one its kind. The program is this one if none is given."""
+    """The options of a script, by the page at its head: each default gives one its kind. The program is `at` if none is given; with
+    None there is no program."""
     first, rest = page.replace('%', '%%').split('\n\n', 1)
     parser = argparse.ArgumentParser(description=first, usage=rest.strip(), formatter_class=argparse.RawDescriptionHelpFormatter)
     for name, default in defaults.items():
@@ -33,6 +34,8 @@ def options_of(page, at=PROGRAM, **defaults):
         if isinstance(default, list):
             kind['type'] = lambda text: text.split(',')
         parser.add_argument('--' + name.replace('_', '-'), **kind)
+    if at is None:
+        return parser.parse_args()
     parser.add_argument('program', nargs='?', default=at)
     options = parser.parse_args()
     found = options.program and shutil.which(options.program)

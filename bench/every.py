@@ -1,45 +1,44 @@
-#!/usr/bin/env python3
-"""Times every operation of the job language, as docs/job-language.md names them (rows.py): each source, stage and terminal,
-each operator of folds and of lambdas, each call; over a range, a column, a concat, after a filter, after a flatMap and after a
-limit; on one worker and on four.
-
-    bench/every/run [OPTION..] [PROGRAM]      PROGRAM: crates/streamrun/out/streamrun, if not given
-
-    --items N      how many items a source has at first (4000000); it grows until a run takes 50 ms
-    --rows N       how many rows the column has (1000000); a job over it is written several times, until a run takes 200 ms
-    --rounds N     each figure is the least of so many runs (3)
-    --workers A,B  on how many workers (1,4)
-    --only TEXT    only rows whose line has this text
-
-For each row it prints: how many times as long as the best of its kind in the same place and on as many workers it takes per
-item, or per value that it gives if these are more; the same beside the best of all rows of its sort; nanoseconds per item that
-enters it (on one worker of processor time, so that other work counts little; else of wall time), processors used, and bytes of
-memory per item. The start of the program and the reading of the column file are taken off. Rows are sorted by the first
-figure, then by the second; those beyond 4 times the best of their kind are marked. A row that takes less than 0.1 ns per item has
-ended early, or walks nothing, and is compared with none. README.md says what a kind is.
+"""The part that times every operation of the job language, as docs/job-language.md names them (every_rows.py), and says which are
+slow: each source, stage and terminal, each operator of folds and of lambdas, each call.
 """
-import argparse
 import os
-import re
-import subprocess
-import sys
 import tempfile
-import time
 from collections import namedtuple
 
-sys.dont_write_bytecode = True
-HERE = os.path.dirname(os.path.abspath(__file__))
-TOP = os.path.join(HERE, '..', '..')
-sys.path.insert(0, HERE)
-from rows import contexts, rows  # noqa: E402
+from every_rows import contexts, rows
+from lib import TOP, least_of, ran
+from running import options_of, write
 
-ENOUGH_SECONDS, MOST_ITEMS = 0.05, 2 ** 29
+PAGE = """Times every operation that docs/job-language.md names, so a new one is measured as soon as the page has it.
+
+    bench/run every [OPTION..] [PROGRAM]      PROGRAM: crates/streamrun/out/streamrun, if not given
+
+    --items N      how many items a source has at first (4000000); it grows until a run takes 50 ms
+    --rows N       how many rows the column has (1000000); a job over it is written up to 256 times, until a run takes 200 ms
+    --rounds N     each figure is the least of so many runs (3)
+    --workers A,B  on how many workers (1,4)
+    --only TEXT    only rows whose kind and name have this text
+
+Each row is measured over a range, a column, a concat, after a filter, after a flatMap and after a limit. Whether a job is one at all
+the program decides: what it refuses, or answers by a fault, is left out. The figures of a row:
+
+- of its kind: the time per item, or per value that it gives if these are more, by that of the fastest row of its kind in the same place,
+  on as many workers; beyond 4 it is marked; `-` if a row takes less than 0.1 ns per item: it ends early or walks nothing. The kind is
+  its sort and what it has to do, since a division isn't an addition: WORK in every_rows.py. A new operation is simple until it
+  stands there.
+- of its sort: the same beside the fastest of all rows of its sort: source, stage, terminal, lambda, condition.
+- ns per item that enters it: on one worker processor time, on several wall time, without the start and the reading of columns.
+- processors: processor time by wall time. Bytes per item: the most memory that was held, without that of the start; what is below
+  some 14 MB in all isn't seen.
+
+A `toArray` pays for its report. All rows take some minutes, on a machine without other work.
+"""
+ENOUGH_MILLISECONDS, MOST_ITEMS = 50, 2 ** 29
 # Reading a column file takes some hundredths of a second more or less from one run to the next.
-ENOUGH_BESIDE_READING, MOST_JOBS = 0.2, 256
+ENOUGH_BESIDE_READING, MOST_JOBS = 200, 256
 LEAST_NANOSECONDS, MARKED = 0.1, 4
 TEST_ITEMS = 128
 
-Cost = namedtuple('Cost', 'wall processor memory')
 Line = namedtuple('Line', 'row place workers nanoseconds cores memory')
 
 
@@ -62,27 +61,13 @@ class Bench:
     def path(self, name):
         return os.path.join(self.folder, name)
 
-    def run(self, job, columns, workers, times=1):
-        """(cost, first bytes of the report) of one run over so many jobs like this one, or None if the job is refused."""
-        with open(self.path('jobs'), 'w', encoding='utf-8') as file:
-            file.writelines(f'j{it} = {job}\n' for it in range(times))
-        command = [self.options.program, '--workers', str(workers)]
-        command += ['--columns', self.path(columns)] if columns else []
-        with open(self.path('out'), 'wb') as out:
-            start = time.perf_counter()
-            running = subprocess.Popen([*command, self.path('jobs')], stdout=out, stderr=subprocess.DEVNULL)
-            _, status, usage = os.wait4(running.pid, 0)
-            wall = time.perf_counter() - start
-        running.returncode = os.waitstatus_to_exitcode(status)
-        with open(self.path('out'), 'rb') as out:
-            said = out.read(40)
-        if running.returncode:
-            return None
-        return Cost(wall, usage.ru_utime + usage.ru_stime, usage.ru_maxrss * 1024), said
+    def command(self, job, columns, workers, times=1):
+        """The command over so many jobs like this one."""
+        jobs = write(self.path('jobs'), ''.join(f'j{it} = {job}\n' for it in range(times)))
+        return [self.options.program, '--workers', str(workers), *(['--columns', self.path(columns)] if columns else []), jobs]
 
-    def least(self, job, columns, workers, times=1):
-        found = [self.run(job, columns, workers, times)[0] for _ in range(self.options.rounds)]
-        return Cost(*map(min, zip(*found)))
+    def least(self, *words):
+        return least_of(self.options.rounds, self.command(*words), most=40)
 
     def start(self, columns, workers):
         """What a run costs that does nothing but start and read the column file."""
@@ -93,10 +78,10 @@ class Bench:
     def kind_of(self, row):
         """The kind of a row, by its answer too, or None if the program doesn't take its job or answers by a fault."""
         job = f'{row.source or contexts(TEST_ITEMS)[0][1]}.{row.rest}'
-        ran = self.run(job, 'few.csv', 1)
-        if ran is None or b'= fault' in ran[1]:
+        cost = ran(self.command(job, 'few.csv', 1), is_needed=False, most=40)
+        if cost is None or '= fault' in cost.printed:
             return None
-        return f'{row.sort}, an array' if b'= [' in ran[1] else row.kind
+        return f'{row.sort}, an array' if '= [' in cost.printed else row.kind
 
     def line(self, at, kind, place, workers):
         """The figures of the row with this number in a place, at a length at which it takes long enough."""
@@ -108,7 +93,7 @@ class Bench:
             items = self.options.rows * times if columns else items
             start, cost = self.start(columns, workers), self.least(f'{source}.{row.rest}', columns, workers, times)
             taken = max(cost.wall - start.wall, 0)
-            enough = ENOUGH_BESIDE_READING if columns else ENOUGH_SECONDS
+            enough = ENOUGH_BESIDE_READING if columns else ENOUGH_MILLISECONDS
             grown, most = (times * 4, MOST_JOBS) if columns else (length * 8, MOST_ITEMS)
             if taken >= enough or grown > most or self.options.items < 10 ** 6:
                 break
@@ -118,10 +103,10 @@ class Bench:
             else:
                 length = grown
         processor = max(cost.processor - start.processor, 0)
-        cores = processor / taken if taken > 0.001 else 0
+        cores = processor / taken if taken > 1 else 0
         name = contexts(length)[place][0] if row.source is None else 'itself'
         counted = processor if workers == 1 else taken
-        return Line(row._replace(kind=kind), name, workers, counted / items * 1e9, cores, max(cost.memory - start.memory, 0) / items)
+        return Line(row._replace(kind=kind), name, workers, counted / items * 1e6, cores, max(cost.memory - start.memory, 0) / items)
 
     def lines(self):
         for at, row in enumerate(rows(self.page, TEST_ITEMS)):
@@ -130,7 +115,7 @@ class Bench:
                 continue
             places = range(1 if row.source else len(contexts(TEST_ITEMS)))
             for place in places:
-                for workers in self.options.workers:
+                for workers in map(int, self.options.workers):
                     yield self.line(at, kind, place, workers)
 
 
@@ -153,21 +138,8 @@ def shown(factor):
     return '-' if factor is None else f'{factor:.1f}'
 
 
-def options_of(arguments):
-    parser = argparse.ArgumentParser(usage=__doc__.split('\n\n', 1)[1], add_help=False)
-    parser.add_argument('program', nargs='?', default=os.path.join(TOP, 'crates', 'streamrun', 'out', 'streamrun'))
-    for name, default in [('items', 4_000_000), ('rows', 1_000_000), ('rounds', 3)]:
-        parser.add_argument(f'--{name}', type=int, default=default)
-    parser.add_argument('--workers', type=lambda text: list(map(int, re.findall(r'\d+', text))), default=[1, 4])
-    parser.add_argument('--only', default='')
-    options = parser.parse_args(arguments)
-    if not os.access(options.program, os.X_OK):
-        parser.error(f'no program at {options.program}')
-    return options
-
-
-def main():
-    options = options_of(sys.argv[1:])
+def every():
+    options = options_of(PAGE, items=4_000_000, rows=1_000_000, rounds=3, workers=['1', '4'], only='')
     with tempfile.TemporaryDirectory() as folder:
         lines = list(Bench(options, folder).lines())
     print(f'{len(os.sched_getaffinity(0))} processors, least of {options.rounds} runs')
@@ -183,7 +155,3 @@ def main():
               f'{line.place} | {line.row.kind} | `{name}` |')
     print(f'every: {len(lines)} rows, {marked} beyond {MARKED} times the best of their kind')
     return 0 if lines else 1
-
-
-if __name__ == '__main__':
-    sys.exit(main())

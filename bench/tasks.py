@@ -1,4 +1,4 @@
-"""The tasks of bench/peers and bench/cores: their jobs, their table, and the same tasks for tools of tables."""
+"""The tasks of the parts peers, cores and tables: their jobs, their table, and the same tasks for tools of tables."""
 import pathlib
 
 ROWS = 1_000_000
@@ -6,20 +6,24 @@ ROWS = 1_000_000
 MAP_FILTER_SUM = "map(x -> x * 3 + 1).filter(x -> (x & 4) == 0).sum()"
 FIFTEEN = "((((x * 31 + 7) ^ (x >>> 3)) * 13 - 5 ^ (x << 2)) + (x & 255)) * 3 - (x ^ 85) + x | 1"
 
-TWELVE = """\
-j1 = column("b").sum()
-j2 = column("b").filter(x -> x > 0).count()
-j3 = column("b").min()
-j4 = column("b").max()
-j5 = column("c").map(x -> x % 1000).sum()
-j6 = column("c").filter(x -> x % 2 == 0).map(x -> x / 2).sum()
-j7 = column("c").anyMatch(x -> x < 0)
-j8 = column("d").map(x -> x * x).sum()
-j9 = column("d").reduce((x, y) -> Math.max(x, y))
-j10 = column("d").allMatch(x -> x >= 0)
-j11 = column("e").filter(x -> x > 5000).max()
-j12 = column("e").map(x -> x < 0 ? -x : x).sum()
-"""
+
+def twelve(b, c, d, e):
+    """Twelve aggregations over these columns."""
+    return f'''\
+j1 = column("{b}").sum()
+j2 = column("{b}").filter(x -> x > 0).count()
+j3 = column("{b}").min()
+j4 = column("{b}").max()
+j5 = column("{c}").map(x -> x % 1000).sum()
+j6 = column("{c}").filter(x -> x % 2 == 0).map(x -> x / 2).sum()
+j7 = column("{c}").anyMatch(x -> x < 0)
+j8 = column("{d}").map(x -> x * x).sum()
+j9 = column("{d}").reduce((x, y) -> Math.max(x, y))
+j10 = column("{d}").allMatch(x -> x >= 0)
+j11 = column("{e}").filter(x -> x > 5000).max()
+j12 = column("{e}").map(x -> x < 0 ? -x : x).sum()
+'''
+
 
 SMALL = "".join(f"j{i} = range(0, 100).map(x -> x * {i}).filter(x -> x % 3 == 0).sum()\n" for i in range(256))
 
@@ -28,7 +32,7 @@ CHAIN = "j0 = range(0, 100).sum()\n" + "".join(f"j{i} = range(0, 100).map(x -> x
 
 JOBS = {
     "one_sum": 's = column("b").sum()\n',
-    "twelve": TWELVE,
+    "twelve": twelve(*"bcde"),
     "map_filter_sum": f"s = range(0, 100000000).{MAP_FILTER_SUM}\n",
     "fifteen": f"s = range(0, 100000000).map(x -> {FIFTEEN}).sum()\n",
     "to_array": "a = range(0, 1000000).map(x -> x * 7).toArray()\n",
@@ -38,8 +42,11 @@ JOBS = {
     "shallow_find": "f = range(0, 4611686018427387904).filter(x -> x % 1001 == 1000).findFirst()\n",
 }
 
-# The tasks that read the table.
+# The tasks that read the table, and those of few milliseconds.
 OF_COLUMNS = ("one_sum", "twelve")
+SHORT = ("small_jobs", "chain", "shallow_find")
+# The tasks that the part cores times.
+OF_CORES = ("map_filter_sum", "fifteen", "twelve", "small_jobs", "to_array_10")
 
 MAWK = {
     "one_sum": 'NR > 1 { s += $2 } END { printf "s = %.0f\\n", s }',
@@ -97,6 +104,18 @@ import numpy as np
 def table(*columns):
     return np.loadtxt(sys.argv[1], delimiter=",", skiprows=1, usecols=columns, dtype=np.int64, unpack=True, ndmin=2)
 """
+
+
+def sqlite(table, query):
+    create = "create table t(a integer, b integer, c integer, d integer, e integer, f integer, g integer, h integer);"
+    return ["sqlite3", ":memory:", "-cmd", create, "-cmd", ".mode csv", "-cmd", f".import --skip 1 {table} t", "-cmd",
+            ".mode list", "-cmd", '.separator "\\n"', query]
+
+
+def sums_of(table):
+    """The commands of mawk and sqlite3 that sum the column c0 of a table, whose cells may stand in quotes."""
+    return {"mawk": ["mawk", "-F,", 'NR > 1 { gsub(/"/, "", $1); s += $1 } END { printf "s = %.0f\\n", s }', table],
+            "sqlite3": ["sqlite3", ":memory:", ".mode csv", f".import {table} t", ".mode list", "select 's = ' || sum(cast(c0 as integer)) from t;"]}
 
 
 def write_table(path):

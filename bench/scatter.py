@@ -1,12 +1,4 @@
-#!/usr/bin/env python3
-"""Times one run of the program over a table beside runs over its parts: by processes, by a Dask cluster of four processes
-on this machine, and by such a cluster of which a worker is killed in the middle. Each has to write the same bytes.
-
-    bench/scatter/run [--rows N] [--parts N] [PROGRAM]
-
-N: 10000000 rows, 8 parts. PROGRAM: crates/streamrun/out/streamrun. It wants cc, and Debian's python3-distributed.
-"""
-import argparse
+"""The part that times one run of the program over a table beside runs over its parts."""
 import os
 import signal
 import subprocess
@@ -14,11 +6,9 @@ import sys
 import tempfile
 import time
 
-sys.dont_write_bytecode = True
-HERE = os.path.dirname(os.path.realpath(__file__))
-TOP = os.path.join(HERE, '..', '..')
-sys.path[:0] = [os.path.join(TOP, 'tools'), os.path.join(TOP, 'python')]
-from scatter_lib.workers import distributed_or_debian  # noqa: E402
+from lib import TOP, peer
+from running import options_of, write
+from scatter_lib.workers import distributed_or_debian
 
 JOBS = '''total = column("c0").sum()
 least = column("c3").min()
@@ -29,26 +19,6 @@ late = column("c1").map(x -> 1000 / (x - {late})).sum()
 above = column("c0").filter(x -> x > $total / {rows}).count()
 '''
 WORKERS, LOOK_SECONDS, SECONDS = 4, 0.05, 3000
-
-
-def options_of():
-    parser = argparse.ArgumentParser(usage='bench/scatter/run [--rows N] [--parts N] [PROGRAM]')
-    parser.add_argument('--rows', type=int, default=10 ** 7)
-    parser.add_argument('--parts', type=int, default=8)
-    parser.add_argument('program', nargs='?', default=os.path.join(TOP, 'crates', 'streamrun', 'out', 'streamrun'))
-    options = parser.parse_args()
-    options.program = os.path.abspath(options.program)
-    return options
-
-
-def make_files(folder, rows):
-    maker, table, jobs = (os.path.join(folder, name) for name in ('make_table', 'table.csv', 'jobs'))
-    subprocess.run(['cc', '-O2', os.path.join(HERE, '..', 'tables', 'make_table.c'), '-o', maker], check=True)
-    with open(table, 'wb') as file:
-        subprocess.run([maker, str(rows), '4'], stdout=file, check=True)
-    with open(jobs, 'w', encoding='ascii') as file:
-        file.write(JOBS.format(late=rows * 9 // 10, rows=rows))
-    return table, jobs
 
 
 def timed(name, command, meanwhile=None):
@@ -85,24 +55,33 @@ def kill_a_worker(client):
     return meanwhile
 
 
-def main():
+def scatter():
+    """Times one run of the program over a table beside runs over its parts: by processes, by a Dask cluster of four processes on this
+    machine, and by such a cluster of which a worker is killed in the middle. Each has to write the same bytes.
+
+    bench/run scatter [--rows N] [--parts N] [PROGRAM]
+
+    N: 10000000 rows, 8 parts. It wants a C compiler, and Debian's python3-distributed.
+    """
+    options = options_of(scatter.__doc__, rows=10 ** 7, parts=8)
+    # (another Python, which has the package, may have to begin again)
+    sys.argv.insert(1, 'scatter')
     distributed = distributed_or_debian()
-    options = options_of()
     with tempfile.TemporaryDirectory() as folder:
-        table, jobs = make_files(folder, options.rows)
+        table = os.path.join(folder, 'table.csv')
+        with open(table, 'wb') as file:
+            subprocess.run([*peer(folder, 'tables/make_table.c'), str(options.rows), '4'], stdout=file, check=True)
+        jobs = write(os.path.join(folder, 'jobs'), JOBS.format(late=options.rows * 9 // 10, rows=options.rows))
         print(f'{options.rows} rows, {os.path.getsize(table)} bytes, {options.parts} parts, {os.cpu_count()} processors')
         wanted = timed('one run', [options.program, '--columns', table, jobs])
-        scatter = [os.path.join(TOP, 'tools', 'scatter'), 'run', '--parts', str(options.parts), '--program', options.program,
-                   '--columns', table, jobs]
-        got = [timed('parts by processes', scatter)]
+        by_parts = [os.path.join(TOP, 'tools', 'scatter'), 'run', '--parts', str(options.parts), '--program', options.program,
+                    '--columns', table, jobs]
+        got = [timed('parts by processes', by_parts)]
         cluster = distributed.LocalCluster(n_workers=WORKERS, threads_per_worker=1, dashboard_address=':0')
         with cluster, distributed.Client(cluster) as client:
-            there = [*scatter, '--scheduler', cluster.scheduler_address]
+            there = [*by_parts, '--scheduler', cluster.scheduler_address]
             got.append(timed(f'parts by a cluster of {WORKERS} processes', there))
             got.append(timed('the same', there, kill_a_worker(client)))
-    print('the same bytes in each' if all(it == wanted for it in got) else 'OTHER BYTES')
-    return 0 if all(it == wanted for it in got) else 1
-
-
-if __name__ == '__main__':
-    sys.exit(main())
+    is_right = all(it == wanted for it in got)
+    print('the same bytes in each' if is_right else 'OTHER BYTES')
+    return 0 if is_right else 1
