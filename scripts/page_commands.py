@@ -82,8 +82,6 @@ def wrong_answers(text, top, program):
 def missing_tools(command, top='.'):
     """The tools that a command names, and the modules that its program of Python imports, that aren't installed."""
     named = set(re.findall(r'\b(%s)\b' % '|'.join(TOOLS), command))
-    if 'reference/streams/run' in command:
-        named.add('java')
     if '<(' in command:
         named.add('bash')
     modules = set()

@@ -6,7 +6,7 @@ import re
 import subprocess
 
 from page_commands import commands_of
-from page_text import TICKED, contracts_of, pages_of, read, without_blocks
+from page_text import TICKED, contracts_of, read, without_blocks
 
 
 def recipes(top):
@@ -52,15 +52,14 @@ def messages(top):
         if not files and 'read failed' not in line:
             yield f'faults-and-messages.md: {line} is given by no file'
         for name in files:
-            fault = os.path.join(top, 'examples', name + '.fault')
-            if not os.path.exists(fault) or not re.fullmatch(f'streamrun: {line}\n', read(fault)):
+            fault = next((path for path in (os.path.join(top, it, name + '.fault') for it in ('examples', 'tests')) if os.path.exists(path)), None)
+            if not fault or not re.fullmatch(f'streamrun: {line}\n', read(fault)):
                 yield f'faults-and-messages.md: {name}.jobs does not give {line}'
 
 
 def gallery(top):
-    """Reports of examples/gallery that aren't what the tables give, and reports of examples/answers that aren't what is counted up."""
-    yield from lines_of_script(top, 'reference/gallery/answers', '--check')
-    yield from lines_of_script(top, 'reference/counted/generate', '--check')
+    """Reports of examples/gallery that aren't what the tables give."""
+    yield from lines_of_script(top, 'reference/gallery', '--check')
 
 
 def crates_of(top, with_tests=False):
@@ -120,42 +119,8 @@ def others(top):
                 yield f'{crate}: the comment of {name or "lib.rt"} does not say "for other programs"'
 
 
-# What is in backquotes and looks like a path, or like the name of a file.
-A_PATH = re.compile(r'(?=.*[A-Za-z])[\w.+-]+(?:/[\w.+-]+)+/?|[\w+-]+\.(?:rt|antt|edit|jobs|csv|py|md)')
-
-
-def ends_of_paths(top):
-    """Each path of the repository, and what is left of it without its first folders: pages name files as short as they can."""
-    found = set()
-    for folder, folders, files in os.walk(top):
-        folders[:] = [name for name in folders if name not in ('.git', 'out')]
-        for name in folders + files:
-            parts = os.path.relpath(os.path.join(folder, name), top).split(os.sep)
-            found.update('/'.join(parts[first:]) for first in range(len(parts)))
-    return found
-
-
-def is_there(top, known, path):
-    """Whether a path is one of the repository, or names a wrong body by its crate."""
-    crate, _, edit = path.partition('/')
-    folders = [os.path.join(top, 'crates', crate, kind, edit + '.edit') for kind in ('must-fail', 'wrong-bodies')]
-    return path in known or any(map(os.path.exists, folders))
-
-
-def missing_paths(top):
-    """Paths and names of files in backquotes that aren't there. A word in capitals is a placeholder."""
-    known = ends_of_paths(top)
-    for page in pages_of(top) + [os.path.join(top, 'CONTRIBUTING.md')]:
-        for number, line in enumerate(without_blocks(read(page)).splitlines(), 1):
-            for word in ' '.join(TICKED.findall(line)).split():
-                path = word.strip(',;').rstrip('/')
-                if A_PATH.fullmatch(path) and not re.search(r'\b[A-Z]{2,}\b', path) and not is_there(top, known, path):
-                    yield f'{os.path.basename(page)}:{number}: {path} is not there'
-
-
 def paths(top):
-    """Paths in backquotes, and rows of the path of a job in architecture.md, whose file or function isn't there."""
-    yield from missing_paths(top)
+    """Rows of the path of a job, in architecture.md, whose file or function isn't there."""
     page = read(os.path.join(top, 'docs', 'architecture.md'))
     block = re.search(r'^The files and functions on that path.*?^```\n(.*?)^```$', page, re.M | re.S)[1]
     for path, functions in re.findall(r'^ *(\w+/src/\w+\.rt) +(\w[\w:]*(?:, \w+)*)', block, re.M):
@@ -177,12 +142,7 @@ def lines_of_script(top, *command):
 
 def worked(top):
     """The source with the worked answers, if it isn't what they are."""
-    yield from lines_of_script(top, 'bench/soak/worked_jobs', '--check', top)
-
-
-def adding(top):
-    """Lists of files of docs/adding.md that aren't the present ones."""
-    yield from lines_of_script(top, 'scripts/adding', '--check', top)
+    yield from lines_of_script(top, 'tests/soak/worked_jobs', '--check', top)
 
 
 def shell(top):
@@ -197,17 +157,17 @@ def manual(top):
 
 def helps(top):
     """Scripts that don't say by --help what they do. Without an answer install and test would begin to build, so they aren't run."""
-    for path in sorted(glob.glob(os.path.join(top, 'scripts', '*'))):
-        name = os.path.basename(path)
-        if os.path.isfile(path) and os.access(path, os.X_OK) and name not in ('install', 'test'):
+    for path in sorted(glob.glob(os.path.join(top, 'scripts', '*')) + glob.glob(os.path.join(top, 'tests', '*'))):
+        name = os.path.relpath(path, top)
+        if os.path.isfile(path) and os.access(path, os.X_OK) and name not in ('scripts/install', 'scripts/test'):
             run = subprocess.run([path, '--help'], stdout=subprocess.PIPE, stderr=subprocess.DEVNULL, stdin=subprocess.DEVNULL, text=True,
                                  timeout=60, check=False)
-            if run.returncode or f'scripts/{name}' not in run.stdout:
-                yield f'scripts/{name} --help: status {run.returncode}, and no text that says how it is called'
+            if run.returncode or name not in run.stdout:
+                yield f'{name} --help: status {run.returncode}, and no text that says how it is called'
 
 
 def editors(top):
     """Tokens of examples/ that an editor gives another colour than the grammar says."""
-    for line in lines_of_script(top, 'scripts/editors', top):
+    for line in lines_of_script(top, 'tests/editors'):
         if not line.startswith('editors: '):
             yield line

@@ -5,7 +5,7 @@
 //! give or take little or fail, and calls that the program doesn't make. `worked.rt` is written from the worked answers
 //! of `bench/soak`.
 //! Answers of jobs, refusals and settings are tested over the program, by `examples/`, `bench/soak` and
-//! `scripts/command_line`.
+//! `tests/command_line`.
 //!
 //! Begin with `runs.rt`, which runs a job file over bytes in memory, and `lists.rt`, jobs of one's own. A function that
 //! may wait is proved anew, with all below it, for each call by a test: so each test makes one call, in a loop over its
