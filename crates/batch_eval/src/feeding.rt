@@ -48,8 +48,8 @@ pub fn feed_batches<I: BatchSource, S: BatchSink>(
     feed_from(line, source, FIRST_BATCH, registers, sink)
 }
 
-/// Feeds a source as `feed_batches` does, but the first batch is already full. It is for items that were in one batch
-/// together: they stay in one batch.
+/// Feeds a source as `feed_batches` does, but the first batch may hold 1,024 items already. It is for items that were
+/// in one batch together: they stay in one batch.
 pub fn feed_at_once<I: BatchSource, S: BatchSink>(
     line: Pipeline<'_>,
     source: &I,

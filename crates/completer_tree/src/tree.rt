@@ -93,7 +93,7 @@ fn above<T: Copy>(at: Option<Place<T>>, node: Node) -> (Node, Node)
     }
 }
 
-// Forks at a place, and says what the new node keeps.
+// Forks as `Tree::fork` does; the new node keeps an arrival for each entry of `onward`.
 fn fork_keeping<T: PartValue, C: Continuation<T>>(
     counts: &TreeCounts<T, C>,
     seat: TreeSeat<T, C>,

@@ -84,8 +84,8 @@ impl<'c> JobPlan<'c> {
         }
     }
 
-    /// The segments that are walked: the last slice that is streamed and the segments after it. `streamed` gives the
-    /// part of the first of them. Without these slices they are the `later_segments`.
+    /// The segments after the slices that the walk of the job's sources goes through. `streamed` gives the part of the
+    /// first of them. If the walk goes through no slices, they are the `later_segments`.
     pub fn walked_segments(&self) -> &[Segment]
         ensures { segments_in result.now ≡ walked_segments (plan_in self.now) }
     {
