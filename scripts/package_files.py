@@ -17,7 +17,7 @@ TOOLS = ('tools/explain', 'tools/scatter', 'tools/scatter_lib')
 PYTHON = ('python/streamrun', 'python/streamrun_language')
 # The start of the tarball's program. A package for Debian chooses once, when it is installed.
 START = """#!/bin/sh
-lib=$(dirname "$(readlink -f "$0")")/../lib
+lib=$(readlink -f "$0") && lib=${lib%/*/*}/lib
 exec "$lib/$("$lib/processor")/streamrun" "$@"
 """
 ABOUT = """ A job is a pipeline as in Java's LongStream: a source, maps, filters, folds.
