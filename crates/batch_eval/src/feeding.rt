@@ -133,6 +133,7 @@ fn feed_piece<I: BatchSource, S: BatchSink>(
 ) -> Result<Fed, NoMemory>
     requires wants { S.flow sink.old ≡ Flow.More }
     requires room { FitsStages (stages_of line.stages.now) (length space.old.room.items) }
+    requires some { 0 < count }
     requires lanes { count ≤ 1024 }
     requires within { position + count ≤ length (I.items source.now) }
     requires bound { length (I.items source.now) < 2 ^ 64 }
@@ -150,6 +151,14 @@ fn feed_piece<I: BatchSource, S: BatchSink>(
                 values,
             };
             return feed_run(line, run, space, sink);
+        }
+        if let Some(value) = source.value_from(position) {
+            if let Some((Stage::Map(image), later)) = line.split_first() {
+                let place = first + position;
+                if space.batch.map_counted(place, value, count, image, line) {
+                    return feed_space(later, space, sink);
+                }
+            }
         }
     }
     if let Some(listed) = source.items_at(position, count) {

@@ -156,21 +156,23 @@ pub(crate) fn folded_flagged(op: Op, counts: bool, values: &[i64], flags: &[i64]
     })
 }
 
-/// The fold of the values whose flag isn't 0, or of a 1 for each of them, as a number; `None` if no flag is set.
+/// The fold of the values whose flag isn't 0, or of a 1 for each of them, as a number; `None` if no flag is set. The loops
+/// know their identity, and whether they count.
 fn fold_flagged(op: Op, counts: bool, identity: i64, values: &[i64], flags: &[i64]) -> Option<i64>
     requires identity { identity_of op ≡ Some identity }
     requires values { length flags.now ≤ length values.now }
     ensures { result ≡ folded_values (value_of op) counts (flagged_values values.now flags.now (length flags.now)) }
 {
     match op {
-        Op::Sum => fold_each_flagged(Op::Sum, counts, identity, values, flags),
-        Op::Min => fold_each_flagged(Op::Min, counts, identity, values, flags),
-        Op::Max => fold_each_flagged(Op::Max, counts, identity, values, flags),
-        Op::Product => fold_flagged_backwards(Op::Product, counts, identity, values, flags),
-        Op::And => fold_each_flagged(Op::And, counts, identity, values, flags),
-        Op::Or => fold_each_flagged(Op::Or, counts, identity, values, flags),
-        Op::Xor => fold_each_flagged(Op::Xor, counts, identity, values, flags),
-        Op::Affine => fold_flagged_backwards(Op::Affine, counts, identity, values, flags),
+        Op::Sum if counts => fold_each_flagged(Op::Sum, true, 0, values, flags),
+        Op::Sum => fold_each_flagged(Op::Sum, false, 0, values, flags),
+        Op::Min => fold_each_flagged(Op::Min, counts, i64::MAX, values, flags),
+        Op::Max => fold_each_flagged(Op::Max, counts, i64::MIN, values, flags),
+        Op::Product => fold_flagged_backwards(Op::Product, counts, 1, values, flags),
+        Op::And => fold_each_flagged(Op::And, counts, -1, values, flags),
+        Op::Or => fold_each_flagged(Op::Or, counts, 0, values, flags),
+        Op::Xor => fold_each_flagged(Op::Xor, counts, 0, values, flags),
+        Op::Affine => fold_flagged_backwards(Op::Affine, counts, 1 << 32, values, flags),
         Op::First => fold_each_flagged(Op::First, counts, identity, values, flags),
         Op::Last => fold_each_flagged(Op::Last, counts, identity, values, flags),
     }
@@ -220,16 +222,20 @@ fn fold_each_flagged(
     requires values { length flags.now ≤ length values.now }
     ensures { result ≡ folded_values (value_of op) counts (flagged_values values.now flags.now (length flags.now)) }
 {
-    let mut passed: usize = 0;
+    let mut missed: usize = 0;
     let mut folded = identity;
     for lane in 0..flags.len() {
         let passes = is_set(flags[lane]);
-        passed += if passes { 1 } else { 0 };
+        missed += if passes { 0 } else { 1 };
         let taken = counted_value(counts, values[lane]);
         let value = if passes { taken } else { identity };
         folded = op.apply(folded, value);
     }
-    if passed == 0 { None } else { Some(folded) }
+    if missed == flags.len() {
+        None
+    } else {
+        Some(folded)
+    }
 }
 
 /// The fold of two folds side by side. Each of them may be of no item.
