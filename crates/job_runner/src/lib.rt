@@ -2,7 +2,7 @@
 //!
 //! `run_all` works out the jobs of a type that implements `JobSegments`, which says how many jobs there are, how a piece of a segment
 //! is walked, how two parts are merged, and what comes of a whole segment. Each job has a start node. A piece longer than the
-//! threshold, or with few nodes than an even share of all positions, is cut in two if a node can be claimed; parts climb in trees of
+//! threshold, and than one of 64 equal pieces for each worker, is cut in two if a node can be claimed; parts climb in trees of
 //! completers. Whoever gets the part of a whole segment leaves its outcome in a `OnceLock`, and begins the next segment or settles the
 //! job.
 //!
@@ -22,6 +22,7 @@ mod credit;
 mod cut;
 mod earlier;
 mod ending;
+mod freeing;
 mod nodes;
 mod opening;
 mod parts;
@@ -39,6 +40,7 @@ mod work;
 
 pub use cut::{CutPiece, Join, Merged, SegmentPart, TableCounts, TableKept, TablePart, TableSeat};
 pub use earlier::{Earlier, EarlierAnswers};
+pub use opening::{Opened, TableOpened};
 pub use piece::{Piece, SegmentInput};
 pub use places::{JobPlaces, KeptAnswer, KeptGiven, KeptSource};
 pub use run::run_all;
@@ -50,4 +52,4 @@ pub use task::{
     Idle, JobSeat, Purse, Running, SideTask, Spare, TableIdle, TableJobSeat, TablePurse,
     TableSideTask, TableSpare, TableTask, TableWhole, Task, Whole,
 };
-pub use work::{JobWork, Opened, TableOpened, TableWork};
+pub use work::{JobWork, TableWork};

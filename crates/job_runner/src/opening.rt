@@ -1,15 +1,20 @@
-//! The openings of the jobs, and the seats of the workers.
-ghost use Rattle.std.specs.Prelude.{◌≡◌, ◌<◌, ◌≤◌, ◌-◌, ℕ, length, IfOk, IfSome};
+//! The counts of a run, the openings of the jobs, and the seats of the workers.
+ghost use Rattle.std.specs.Prelude.{◌≡◌, ◌<◌, ◌≤◌, ◌-◌, ℕ, [], length, IfOk, IfSome};
+ghost use Rattle.pending_count.specs.Seats.{view_of, IsSeatOf};
 ghost use Rattle.completer_tree.specs.Trees.{table_id_of};
-ghost use Rattle.early_stop.specs.Seats.{table_of as stop_table_of};
+ghost use Rattle.early_stop.specs.Seats.{IsSeatOf as IsStopSeatOf, table_of as stop_table_of, segments_of, count_of};
+ghost use Rattle.job_runner.specs.Starts.{HasStarts};
 ghost use Rattle.job_runner.specs.Stops.{stop_id_of};
 ghost use Rattle.job_runner.specs.Tasks.{CanArrive};
 
 use crate::NoMemory;
+use crate::arming::arm_all;
 use crate::credit::split_spare;
-use crate::cut::{TableCounts, TableKept, TablePart, TableSeat};
+use crate::cut::{CutPiece, TableCounts, TableKept, TablePart, TableSeat};
+use crate::nodes::{most_positions, node_count, segment_count};
 use crate::segments::JobSegments;
-use crate::stopping::RunStops;
+use crate::start::Start;
+use crate::stopping::{RunSegments, RunStops};
 use crate::task::{
     Idle, JobSeat, Purse, Running, TableIdle, TableJobSeat, TablePurse, TableSpare, TableTask, Task,
 };
@@ -17,8 +22,67 @@ use crate::work::{JobWork, TableWork};
 use completer_tree::Tree;
 use completion_core::END;
 use early_stop::CutSeat;
+use pending_count::{Counts, Fits, Seat};
+use run_settings::Settings;
 use std::alloc::Global;
 use std::marker::PhantomData;
+
+/// The counts of a run that hasn't begun, the start nodes of its jobs, and the seat that has an arrival at each of them.
+#[derive(Drop)]
+pub struct Opened<S: JobSegments, V, K: Fits<V, Tag = CutPiece>> {
+    pub(crate) counts: Counts<V, K>,
+    pub(crate) seat: Seat<V, K>,
+    pub(crate) starts: Vec<Start>,
+    pub(crate) stops: RunStops<S>,
+    pub(crate) stop_seat: CutSeat,
+    /// The most positions of a piece that isn't cut.
+    pub(crate) longest: u64,
+    ghost seated: { IsSeatOf counts seat },
+    ghost started: { HasStarts 0 starts.items [] (view_of seat) },
+    ghost stop_seated: { IsStopSeatOf stops stop_seat },
+    ghost counted: { count_of stops ≡ (segments_of stops).count },
+    ghost splits: { 0 < longest },
+}
+
+pub type TableOpened<S> = Opened<S, TablePart<S>, TableKept<S>>;
+
+impl<S: JobSegments> Opened<S, TablePart<S>, TableKept<S>> {
+    /// Makes the counts of a run, and no more nodes than its jobs can use. `None` if there can't be a node for each job.
+    pub fn new(
+        alloc: Global,
+        jobs: &S,
+        settings: Settings,
+    ) -> Result<Option<TableOpened<S>>, NoMemory>
+        ensures { IfOk result (λ o. IfSome o (λ opened. length opened.starts.items ≡ S.job_count)) }
+    {
+        let longest = most_positions(jobs, settings);
+        let nodes = node_count(jobs, settings, longest);
+        let (stops, stop_seat) = stop_words(alloc, jobs)?;
+        let (counts, seat) = TableCounts::<S>::new(alloc, nodes, jobs.jobs() as u64)?;
+        let Some((seat, starts)) = arm_all(alloc, jobs, &counts, seat)? else {
+            return Ok(None);
+        };
+        Ok(Some(Opened {
+            counts,
+            seat,
+            starts,
+            stops,
+            stop_seat,
+            longest,
+        }))
+    }
+}
+
+/// The words of early stop of a run, one for each segment.
+fn stop_words<S: JobSegments>(alloc: Global, jobs: &S) -> Result<(RunStops<S>, CutSeat), NoMemory>
+    ensures { IfOk result (λ made. IsStopSeatOf made.0 made.1 × (count_of made.0 ≡ (segments_of made.0).count)) }
+{
+    let segments = RunSegments::<S> {
+        count: segment_count(jobs).min(u64::from(u32::MAX)) as u32,
+        of: PhantomData,
+    };
+    RunStops::<S>::new(alloc, &segments)
+}
 
 impl<'a, S: JobSegments, R: Running> JobWork<'a, S, TablePart<S>, TableKept<S>, R> {
     /// Arrives at the start node of a job, along the path of that node alone: the next one on the way is arrived at once the job has
