@@ -11,7 +11,9 @@ use crate::places::{
     drop_source, hold_source, keep_answer, keep_given, keep_source, kept_given, size_of, source_in,
 };
 use crate::segments::{Begun, JobSegments};
-use crate::task::{JobSeat, Running, TableJobSeat, TableTask, TableWhole, Task, Whole};
+use crate::task::{
+    FinishedSegment, JobSeat, Running, TableFinishedSegment, TableJobSeat, TableTask, Task,
+};
 use crate::work::{JobWork, TableWork};
 use worker_pool::{Gate, Spawn};
 
@@ -146,14 +148,14 @@ impl<'a, S: JobSegments, R: Running> JobWork<'a, S, TablePart<S>, TableKept<S>, 
     fn end_segment<G: Gate, P: Spawn<TableTask<S, R>>>(
         &self,
         gate: &G,
-        whole: TableWhole<S, R>,
+        whole: TableFinishedSegment<S, R>,
         spawn: &mut P,
         busy: &mut TableBusy<'_, S, R>,
-    ) -> Result<Option<TableWhole<S, R>>, TableJobSeat<S, R>>
+    ) -> Result<Option<TableFinishedSegment<S, R>>, TableJobSeat<S, R>>
         requires { StandsWhole S.stands_for S.is_instead S.size_of whole.job.job whole.segment (λ x. x.found) whole.part }
         ensures { IfOk result (λ next. IfSome next (λ whole. StandsWhole S.stands_for S.is_instead S.size_of whole.job.job whole.segment (λ x. x.found) whole.part)) }
     {
-        let Whole { job, segment, part } = whole;
+        let FinishedSegment { job, segment, part } = whole;
         match self.leave(gate, job.job, segment, part, &mut busy.scratch) {
             Some((next, size)) => Ok(self.begin(gate, job, next, size, spawn, busy)),
             None => Err(job),
@@ -165,7 +167,7 @@ impl<'a, S: JobSegments, R: Running> JobWork<'a, S, TablePart<S>, TableKept<S>, 
     fn go_on<G: Gate, P: Spawn<TableTask<S, R>>>(
         &self,
         gate: &G,
-        first: Option<TableWhole<S, R>>,
+        first: Option<TableFinishedSegment<S, R>>,
         spawn: &mut P,
         busy: &mut TableBusy<'_, S, R>,
     ) -> Option<TableJobSeat<S, R>>

@@ -40,7 +40,7 @@ mod work;
 
 pub use cut::{CutPiece, Join, Merged, SegmentPart, TableCounts, TableKept, TablePart, TableSeat};
 pub use earlier::{Earlier, EarlierAnswers};
-pub use opening::{Opened, TableOpened};
+pub use opening::{FreshCounts, TableFreshCounts};
 pub use piece::{Piece, SegmentInput};
 pub use places::{JobPlaces, KeptAnswer, KeptGiven, KeptSource};
 pub use run::run_all;
@@ -49,7 +49,7 @@ pub use start::{Start, Waiting};
 pub use std::alloc::AllocError as NoMemory;
 pub use stopping::{RunSegments, RunStops};
 pub use task::{
-    Idle, JobSeat, Purse, Running, SideTask, Spare, TableIdle, TableJobSeat, TablePurse,
-    TableSideTask, TableSpare, TableTask, TableWhole, Task, Whole,
+    FinishedSegment, Idle, JobSeat, Running, SideTask, Spare, TableFinishedSegment, TableIdle,
+    TableJobSeat, TableSideTask, TableSpare, TableTask, TableUnopenedJobs, Task, UnopenedJobs,
 };
 pub use work::{JobWork, TableWork};

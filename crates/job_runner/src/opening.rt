@@ -16,7 +16,8 @@ use crate::segments::JobSegments;
 use crate::start::Start;
 use crate::stopping::{RunSegments, RunStops};
 use crate::task::{
-    Idle, JobSeat, Purse, Running, TableIdle, TableJobSeat, TablePurse, TableSpare, TableTask, Task,
+    Idle, JobSeat, Running, TableIdle, TableJobSeat, TableSpare, TableTask, TableUnopenedJobs,
+    Task, UnopenedJobs,
 };
 use crate::work::{JobWork, TableWork};
 use completer_tree::Tree;
@@ -29,7 +30,7 @@ use std::marker::PhantomData;
 
 /// The counts of a run that hasn't begun, the start nodes of its jobs, and the seat that has an arrival at each of them.
 #[derive(Drop)]
-pub struct Opened<S: JobSegments, V, K: Fits<V, Tag = CutPiece>> {
+pub struct FreshCounts<S: JobSegments, V, K: Fits<V, Tag = CutPiece>> {
     pub(crate) counts: Counts<V, K>,
     pub(crate) seat: Seat<V, K>,
     pub(crate) starts: Vec<Start>,
@@ -44,15 +45,15 @@ pub struct Opened<S: JobSegments, V, K: Fits<V, Tag = CutPiece>> {
     ghost splits: { 0 < longest },
 }
 
-pub type TableOpened<S> = Opened<S, TablePart<S>, TableKept<S>>;
+pub type TableFreshCounts<S> = FreshCounts<S, TablePart<S>, TableKept<S>>;
 
-impl<S: JobSegments> Opened<S, TablePart<S>, TableKept<S>> {
+impl<S: JobSegments> FreshCounts<S, TablePart<S>, TableKept<S>> {
     /// Makes the counts of a run, and no more nodes than its jobs can use. `None` if there can't be a node for each job.
     pub fn new(
         alloc: Global,
         jobs: &S,
         settings: Settings,
-    ) -> Result<Option<TableOpened<S>>, NoMemory>
+    ) -> Result<Option<TableFreshCounts<S>>, NoMemory>
         ensures { IfOk result (λ o. IfSome o (λ opened. length opened.starts.items ≡ S.job_count)) }
     {
         let longest = most_positions(jobs, settings);
@@ -62,7 +63,7 @@ impl<S: JobSegments> Opened<S, TablePart<S>, TableKept<S>> {
         let Some((seat, starts)) = arm_all(alloc, jobs, &counts, seat)? else {
             return Ok(None);
         };
-        Ok(Some(Opened {
+        Ok(Some(FreshCounts {
             counts,
             seat,
             starts,
@@ -106,15 +107,18 @@ impl<'a, S: JobSegments, R: Running> JobWork<'a, S, TablePart<S>, TableKept<S>, 
     }
 
     /// Opens the last job that isn't opened. `Some` if the job names no other one, so that it may begin.
-    fn open_one(&self, purse: TablePurse<S, R>) -> (TablePurse<S, R>, Option<TableJobSeat<S, R>>)
-        requires some_left { 0 < purse.jobs }
-        ensures { result.0.jobs ≡ purse.jobs - 1 }
+    fn open_one(
+        &self,
+        unopened: TableUnopenedJobs<S, R>,
+    ) -> (TableUnopenedJobs<S, R>, Option<TableJobSeat<S, R>>)
+        requires some_left { 0 < unopened.jobs }
+        ensures { result.0.jobs ≡ unopened.jobs - 1 }
     {
-        let Purse { seat, jobs, of } = purse;
+        let UnopenedJobs { seat, jobs, of } = unopened;
         let share = seat.credit() / jobs as u64;
         let job = jobs - 1;
         let (seat, part) = self.counts.split(seat, self.start(job).node, 1, share);
-        let rest = Purse {
+        let rest = UnopenedJobs {
             seat,
             jobs: job,
             of,
@@ -125,26 +129,26 @@ impl<'a, S: JobSegments, R: Running> JobWork<'a, S, TablePart<S>, TableKept<S>, 
     /// Tasks for the jobs that name no other one, the last job first, and an `Idle` with an equal part of the credit for each worker.
     pub(crate) fn open_all(
         &self,
-        purse: TablePurse<S, R>,
+        unopened: TableUnopenedJobs<S, R>,
         spare: TableSpare<S, R>,
         stop_seat: CutSeat,
         workers: u64,
     ) -> Result<(Vec<TableTask<S, R>>, Vec<TableIdle<S, R>>), NoMemory>
         requires stops { stop_table_of stop_seat ≡ R.stops }
-        ensures tasks { IfOk result (λ made. length made.0.items ≤ purse.jobs) }
+        ensures tasks { IfOk result (λ made. length made.0.items ≤ unopened.jobs) }
         ensures idles { IfOk result (λ made. length made.1.items ≡ workers) }
     {
         let mut tasks = Vec::new(self.alloc);
-        let unopened = purse.jobs;
-        let mut purse = purse;
-        for _opened in 0..unopened {
-            let (rest, begun) = self.open_one(purse);
-            purse = rest;
+        let count = unopened.jobs;
+        let mut unopened = unopened;
+        for _opened in 0..count {
+            let (rest, begun) = self.open_one(unopened);
+            unopened = rest;
             if let Some(begun) = begun {
                 tasks.push(Task::Begin(begun))?;
             }
         }
-        let first = empty(self.alloc, self.jobs, purse, spare, stop_seat);
+        let first = empty(self.alloc, self.jobs, unopened, spare, stop_seat);
         let idles = idle_seats(
             self.alloc,
             self.jobs,
@@ -157,17 +161,17 @@ impl<'a, S: JobSegments, R: Running> JobWork<'a, S, TablePart<S>, TableKept<S>, 
     }
 }
 
-/// What is left of a purse whose jobs are opened, and the credit of all workers.
+/// The credit of all workers, once all jobs are opened.
 fn empty<S: JobSegments, R: Running>(
     alloc: Global,
     jobs: &S,
-    purse: TablePurse<S, R>,
+    unopened: TableUnopenedJobs<S, R>,
     spare: TableSpare<S, R>,
     stop_seat: CutSeat,
 ) -> TableIdle<S, R>
     requires stops { stop_table_of stop_seat ≡ R.stops }
 {
-    let Purse { seat, jobs: _, of } = purse;
+    let UnopenedJobs { seat, jobs: _, of } = unopened;
     Idle {
         seat,
         spare: Some(spare),

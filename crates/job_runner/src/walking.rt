@@ -12,7 +12,8 @@ use crate::piece::Piece;
 use crate::places::{kept_given, size_of};
 use crate::segments::JobSegments;
 use crate::task::{
-    JobSeat, Running, SideTask, TableJobSeat, TableSideTask, TableTask, TableWhole, Task, Whole,
+    FinishedSegment, JobSeat, Running, SideTask, TableFinishedSegment, TableJobSeat, TableSideTask,
+    TableTask, Task,
 };
 use crate::watch::Watch;
 use crate::work::{JobWork, TableWork};
@@ -66,7 +67,7 @@ fn leaf<S: JobSegments, R: Running, G: Gate>(
     gate: &G,
     side: TableSideTask<S, R>,
     busy: &mut TableBusy<'_, S, R>,
-) -> Option<TableWhole<S, R>>
+) -> Option<TableFinishedSegment<S, R>>
     ensures { IfSome result (λ whole. StandsWhole S.stands_for S.is_instead S.size_of whole.job.job whole.segment (λ x. x.found) whole.part) }
 {
     let SideTask { half, of: _ } = side;
@@ -83,7 +84,7 @@ fn leaf<S: JobSegments, R: Running, G: Gate>(
         job: cut.job,
         of: PhantomData,
     };
-    Some(Whole {
+    Some(FinishedSegment {
         job: begun,
         segment: cut.segment,
         part,
@@ -100,11 +101,7 @@ fn is_left_out<S: JobSegments, R: Running>(watch: &mut Watch<'_, S, R>, piece: P
 
 /// The most positions of a piece of a segment that isn't cut. A segment that turns out longer than it was counted with isn't cut into
 /// more pieces than others, so that no worker spends all nodes on its beginning.
-fn longest_of<S: JobSegments, R: Running>(
-    work: &TableWork<S, R>,
-    job: usize,
-    segment: usize,
-) -> u64
+fn longest_of<S: JobSegments, R: Running>(work: &TableWork<S, R>, job: usize, segment: usize) -> u64
     requires known { (job < S.job_count) × (segment ≤ S.last_of job) }
     ensures { 0 < result }
 {
@@ -166,7 +163,7 @@ impl<'a, S: JobSegments, R: Running> JobWork<'a, S, TablePart<S>, TableKept<S>, 
         side: TableSideTask<S, R>,
         spawn: &mut P,
         busy: &mut TableBusy<'_, S, R>,
-    ) -> Option<TableWhole<S, R>>
+    ) -> Option<TableFinishedSegment<S, R>>
         ensures { IfSome result (λ whole. StandsWhole S.stands_for S.is_instead S.size_of whole.job.job whole.segment (λ x. x.found) whole.part) }
     {
         let piece = side_at(&side.half.place);
@@ -189,7 +186,7 @@ impl<'a, S: JobSegments, R: Running> JobWork<'a, S, TablePart<S>, TableKept<S>, 
         other: TableSideTask<S, R>,
         spawn: &mut P,
         busy: &mut TableBusy<'_, S, R>,
-    ) -> Option<TableWhole<S, R>>
+    ) -> Option<TableFinishedSegment<S, R>>
         ensures { IfSome result (λ whole. StandsWhole S.stands_for S.is_instead S.size_of whole.job.job whole.segment (λ x. x.found) whole.part) }
     {
         let pushed = spawn.push(Task::Walk(other));
@@ -211,7 +208,7 @@ fn walk_whole<S: JobSegments, R: Running, G: Gate>(
     segment: usize,
     size: u64,
     busy: &mut TableBusy<'_, S, R>,
-) -> TableWhole<S, R>
+) -> TableFinishedSegment<S, R>
     requires known { segment ≤ R.last job.job }
     requires size { size ≡ R.size job.job segment }
     ensures { StandsWhole S.stands_for S.is_instead S.size_of result.job.job result.segment (λ x. x.found) result.part }
@@ -222,7 +219,7 @@ fn walk_whole<S: JobSegments, R: Running, G: Gate>(
         Ok(part) => Ok(SegmentPart::of_part(part)),
         Err(_refused) => Err(Failure::NoMemory),
     };
-    Whole { job, segment, part }
+    FinishedSegment { job, segment, part }
 }
 
 impl<'a, S: JobSegments, R: Running> JobWork<'a, S, TablePart<S>, TableKept<S>, R> {
@@ -276,7 +273,7 @@ impl<'a, S: JobSegments, R: Running> JobWork<'a, S, TablePart<S>, TableKept<S>, 
         size: u64,
         spawn: &mut P,
         busy: &mut TableBusy<'_, S, R>,
-    ) -> Option<TableWhole<S, R>>
+    ) -> Option<TableFinishedSegment<S, R>>
         requires known { segment ≤ R.last begun.job }
         requires size { size ≡ R.size begun.job segment }
         ensures { IfSome result (λ whole. StandsWhole S.stands_for S.is_instead S.size_of whole.job.job whole.segment (λ x. x.found) whole.part) }

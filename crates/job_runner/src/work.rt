@@ -12,12 +12,12 @@ use crate::NoMemory;
 use crate::busy::Busy;
 use crate::cut::{CutPiece, TableCounts, TableKept, TablePart};
 use crate::nodes::{pieces_of_segment, segment_count};
-use crate::opening::{Opened, TableOpened};
+use crate::opening::{FreshCounts, TableFreshCounts};
 use crate::places::{JobPlaces, empty_places, kept_answer};
 use crate::segments::JobSegments;
 use crate::start::{Start, Waiting};
 use crate::stopping::RunStops;
-use crate::task::{Idle, Running, TableIdle, TablePurse, TableSpare, TableTask, Task};
+use crate::task::{Idle, Running, TableIdle, TableSpare, TableTask, TableUnopenedJobs, Task};
 use crate::watch::Watch;
 use completion_core::END;
 use early_stop::CutSeat;
@@ -61,7 +61,7 @@ impl<'a, S: JobSegments, R: Running> JobWork<'a, S, TablePart<S>, TableKept<S>, 
         alloc: Global,
         jobs: &'a S,
         settings: Settings,
-        opened: TableOpened<S>,
+        opened: TableFreshCounts<S>,
     ) -> Result<
         (
             TableWork<'a, S, R>,
@@ -79,7 +79,7 @@ impl<'a, S: JobSegments, R: Running> JobWork<'a, S, TablePart<S>, TableKept<S>, 
         ensures idles { IfOk result (λ made. length made.2.items ≡ workers_of settings) }
     {
         let places = empty_places(alloc, jobs)?;
-        let Opened {
+        let FreshCounts {
             counts,
             seat,
             starts,
@@ -101,7 +101,7 @@ impl<'a, S: JobSegments, R: Running> JobWork<'a, S, TablePart<S>, TableKept<S>, 
             stops,
             of: PhantomData,
         };
-        let purse = TablePurse::<S, R> {
+        let unopened = TableUnopenedJobs::<S, R> {
             seat,
             jobs: jobs.jobs(),
             of: PhantomData,
@@ -110,7 +110,7 @@ impl<'a, S: JobSegments, R: Running> JobWork<'a, S, TablePart<S>, TableKept<S>, 
             seat: other,
             of: PhantomData,
         };
-        let (tasks, idles) = work.open_all(purse, spare, stop_seat, settings.workers())?;
+        let (tasks, idles) = work.open_all(unopened, spare, stop_seat, settings.workers())?;
         Ok((work, tasks, idles))
     }
 

@@ -18,10 +18,11 @@ mod plan_segments;
 mod planned;
 
 pub use job_runner::{
-    Begun, CutPiece, Earlier, EarlierAnswers, Idle, JobPlaces, JobSeat, JobSegments, JobWork, Join,
-    KeptAnswer, KeptGiven, KeptSource, Merged, NoMemory, Opened, Piece, Purse, RunSegments,
-    RunStops, Running, SegmentInput, SegmentPart, SideTask, Spare, Start, TableCounts, TableIdle,
-    TableJobSeat, TableKept, TableOpened, TablePart, TablePurse, TableSeat, TableSideTask,
-    TableSpare, TableTask, TableWhole, TableWork, Task, Waiting, Whole, run_all,
+    Begun, CutPiece, Earlier, EarlierAnswers, FinishedSegment, FreshCounts, Idle, JobPlaces,
+    JobSeat, JobSegments, JobWork, Join, KeptAnswer, KeptGiven, KeptSource, Merged, NoMemory,
+    Piece, RunSegments, RunStops, Running, SegmentInput, SegmentPart, SideTask, Spare, Start,
+    TableCounts, TableFinishedSegment, TableFreshCounts, TableIdle, TableJobSeat, TableKept,
+    TablePart, TableSeat, TableSideTask, TableSpare, TableTask, TableUnopenedJobs, TableWork, Task,
+    UnopenedJobs, Waiting, run_all,
 };
 pub use planned::{PlanJobs, Planned, RunFault, run_jobs};
