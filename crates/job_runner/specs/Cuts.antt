@@ -1,10 +1,11 @@
 -- Condition: which positions belong to a side of a cut, and which pieces a run has.
-use Rattle.std.specs.Prelude.{◌≡◌, ℕ, ◌<◌, ◌≤◌, Bool, Option, Some, None, Result, Ok, Err, ⊤}
+use Rattle.std.specs.Prelude.{◌≡◌, ℕ, ◌-◌, ◌<◌, ◌≤◌, Bool, Option, Some, None, Result, Ok, Err, ⊤}
 use Rattle.trace.specs.declared.item.Fault.{Fault}
 use Rattle.completer_tree.specs.declared.part.Failure.{Failure}
 use Rattle.completer_tree.specs.declared.part.Failure.TheVariants as failure
 use Rattle.pending_count.specs.declared.place.Side.{Side}
 use Rattle.pending_count.specs.declared.place.Side.TheVariants.{Left, Right, Whole}
+use Rattle.pending_count.specs.declared.place.Place.{Place}
 use Rattle.pending_count.specs.Pairs.{side_of}
 use Rattle.job_runner.specs.declared.cut.CutPiece.{CutPiece}
 use Rattle.job_runner.specs.declared.cut.Merged.{Merged}
@@ -20,6 +21,10 @@ abbrev pub ends_at : CutPiece → Side → ℕ
 ends_at c Left = c.middle
 ends_at c Right = c.to
 ends_at c Whole = c.to
+
+-- how many positions the side of a place has
+abbrev pub positions_at : Place CutPiece → ℕ
+positions_at p = ends_at p.tag p.side - begins p.tag p.side
 
 -- the cut is of the positions of this side of the parent
 abbrev pub IsSideOf : CutPiece → CutPiece × Bool → Type 0

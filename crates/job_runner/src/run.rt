@@ -8,10 +8,11 @@ ghost use Rattle.job_runner.specs.Stops.{stop_id_of};
 use crate::NoMemory;
 use crate::alone::answer_alone;
 use crate::earlier::Earlier;
+use crate::opening::TableFreshCounts;
 use crate::places::{JobPlaces, answer_in, empty_places};
 use crate::segments::JobSegments;
 use crate::task::{Running, TableIdle, TableTask};
-use crate::work::{JobWork, TableOpened, TableWork};
+use crate::work::{JobWork, TableWork};
 use run_settings::Settings;
 use std::alloc::Global;
 use std::marker::Brand;
@@ -105,7 +106,7 @@ fn run_on<
     gate: &G,
     jobs: &S,
     settings: Settings,
-    opened: TableOpened<S>,
+    opened: TableFreshCounts<S>,
 ) -> Result<Vec<JobPlaces<S>>, NoMemory>
 where
     S::Part: Send,
@@ -147,7 +148,7 @@ where
     ensures count { IfOk result (λ answers. length answers.items ≡ S.job_count) }
     ensures each { IfOk result (λ answers. AreAnswers S.is_answer 0 answers.items) }
 {
-    let places = match TableOpened::<S>::new(alloc, jobs, settings)? {
+    let places = match TableFreshCounts::<S>::new(alloc, jobs, settings)? {
         Some(opened) => run_on::<S, Brand, H, G>(rt, alloc, gate, jobs, settings, opened)?,
         None => Vec::new(alloc),
     };

@@ -106,7 +106,7 @@ pub struct Idle<V, K: Fits<V, Tag = CutPiece>, R: Running, T> {
 /// The seat from which the openings are split off. It has an arrival at the start node of each job that isn't opened
 /// yet: the first `jobs`.
 #[derive(Drop)]
-pub struct Purse<V, K: Fits<V, Tag = CutPiece>, R: Running> {
+pub struct UnopenedJobs<V, K: Fits<V, Tag = CutPiece>, R: Running> {
     pub(crate) seat: Seat<V, K>,
     pub(crate) jobs: usize,
     pub(crate) of: PhantomData<R>,
@@ -119,7 +119,7 @@ pub struct Purse<V, K: Fits<V, Tag = CutPiece>, R: Running> {
 
 /// A segment that was walked whole, with the right to end its job.
 #[derive(Drop)]
-pub struct Whole<V, K: Fits<V, Tag = CutPiece>, R: Running> {
+pub struct FinishedSegment<V, K: Fits<V, Tag = CutPiece>, R: Running> {
     pub(crate) job: JobSeat<V, K, R>,
     pub(crate) segment: usize,
     pub(crate) part: V,
@@ -136,6 +136,6 @@ pub type TableSpare<S, R> = Spare<TablePart<S>, TableKept<S>, R>;
 
 pub type TableIdle<S, R> = Idle<TablePart<S>, TableKept<S>, R, <S as JobSegments>::Scratch>;
 
-pub type TablePurse<S, R> = Purse<TablePart<S>, TableKept<S>, R>;
+pub type TableUnopenedJobs<S, R> = UnopenedJobs<TablePart<S>, TableKept<S>, R>;
 
-pub type TableWhole<S, R> = Whole<TablePart<S>, TableKept<S>, R>;
+pub type TableFinishedSegment<S, R> = FinishedSegment<TablePart<S>, TableKept<S>, R>;

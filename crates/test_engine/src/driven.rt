@@ -7,7 +7,7 @@ ghost use Rattle.job_runner.specs.Stops.{stop_id_of};
 use crate::shown::{columns_of, plan_of};
 use crate::worked::{COLUMNS, FILES};
 use job_plan::{Form, Plan, Settings};
-use job_runner::{JobSegments, NoMemory, Running, TableOpened, TableWork};
+use job_runner::{JobSegments, NoMemory, Running, TableFreshCounts, TableWork};
 use job_table::PlanJobs;
 use std::alloc::{AllocError, Global};
 use std::marker::Brand;
@@ -72,7 +72,7 @@ fn answers_found<S: JobSegments + Send + Sync, R: Running + Send + Sync, H: Wait
     alloc: Global,
     jobs: &S,
     settings: Settings,
-    opened: TableOpened<S>,
+    opened: TableFreshCounts<S>,
     drops: u64,
 ) -> Result<usize, NoMemory>
 where
@@ -115,7 +115,7 @@ where
     S::Instead: Send,
     S::Scratch: Send,
 {
-    match TableOpened::<S>::new(alloc, jobs, settings)? {
+    match TableFreshCounts::<S>::new(alloc, jobs, settings)? {
         Some(opened) => answers_found::<S, Brand, H>(rt, alloc, jobs, settings, opened, drops),
         None => Ok(0),
     }

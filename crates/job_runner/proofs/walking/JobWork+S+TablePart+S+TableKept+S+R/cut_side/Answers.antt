@@ -6,10 +6,10 @@ use Rattle.job_runner.specs.declared.cut.CutPiece.{CutPiece}
 use Rattle.job_runner.specs.Tasks.{KnowsTop}
 use Rattle.job_runner.proofs.SeatLemmas.{known_forked, top_still}
 use Rattle.job_runner.proofs.Halves.{piece_as, half_piece}
-use Rattle.job_runner.proofs.walking.JobWork+S+TablePart+S+TableKept+S+R.+walk.Goals as goal
+use Rattle.job_runner.proofs.walking.JobWork+S+TablePart+S+TableKept+S+R.cut_side.Goals as goal
 
-pub walk-invariant_of-own : goal.walk-invariant_of-own
-walk-invariant_of-own g t c =
+pub invariant_of-own : goal.invariant_of-own
+invariant_of-own g c =
     let p = c.args.side in
     let s = c.in-Split in
     let cut = c.halves in
@@ -24,8 +24,8 @@ walk-invariant_of-own g t c =
       piece = half_piece cut.result s.left.place.node s.left.place.root true s.left.place s.ensures.places.0 within whole;
     }
 
-pub walk-invariant_of-other : goal.walk-invariant_of-other
-walk-invariant_of-other g t c =
+pub invariant_of-other : goal.invariant_of-other
+invariant_of-other g c =
     let p = c.args.side in
     let s = c.in-Split in
     let cut = c.halves in

@@ -1,7 +1,7 @@
 use Rattle.std.proofs.Common.{◌≤◌, ◌+◌, ◌++◌, ◌∷◌, [], drop, length, arith}
 use Rattle.job_runner.specs.Waits.{nodes_in}
 use Rattle.job_runner.proofs.SeatLemmas.{first_kept, next_waits}
-use Rattle.job_runner.proofs.ending.JobWork+S+TablePart+S+TableKept+S+R.free_next.Goals as goal
+use Rattle.job_runner.proofs.freeing.JobWork+S+TablePart+S+TableKept+S+R.free_next.Goals as goal
 
 pub free_one-requires-clause-has : goal.free_one-requires-clause-has
 free_one-requires-clause-has g c =

@@ -3,27 +3,24 @@ use Rattle.pending_count.specs.declared.place.Place.{Place}
 use Rattle.pending_count.specs.Seats.{view_of}
 use Rattle.completer_tree.specs.Trees.{table_id_of, CanFork}
 use Rattle.job_runner.specs.declared.cut.CutPiece.{CutPiece}
-use Rattle.job_runner.specs.Tasks.{HasKept, KnowsTop}
+use Rattle.job_runner.specs.Tasks.{KnowsTop}
 use Rattle.job_runner.specs.Cuts.{IsPiece}
 use Rattle.job_runner.proofs.SeatLemmas.{known_forked, kept_still, top_known}
 use Rattle.job_runner.proofs.Halves.{piece_as, half_piece}
-use Rattle.job_runner.proofs.walking.JobWork+S+TablePart+S+TableKept+S+R.begin.Goals as goal
+use Rattle.job_runner.proofs.walking.JobWork+S+TablePart+S+TableKept+S+R.cut_segment.Goals as goal
 
 pub invariant_of-whole : goal.invariant_of-whole
 invariant_of-whole g c =
     let w = c.in-Whole in
-    let b = c.pay-seat.result in
-    let same = c.pay-seat.ensures.job in
-    let kept = kept_still (g.R.Running.keeps b.job) b.seat w.seat (w.ensures.whole.1 ∙ ap table_id_of c.new-tree.ensures.0 ∙ c.args.self.now.table) w.ensures.whole.2 b.has in
+    let b = c.args.begun in
     record {
-      has = subst (λ j. HasKept g.R.Running.table g.R.Running.jobs g.R.Running.start g.R.Running.keeps (g.R.Running.keeps j) w.seat) same kept;
-      known = c.args.begun.known;
+      has = kept_still (g.R.Running.keeps b.job) b.seat w.seat (w.ensures.whole.1 ∙ ap table_id_of c.new-tree.ensures.0 ∙ c.args.self.now.table) w.ensures.whole.2 b.has;
+      known = b.known;
     }
 
 pub invariant_of-own : goal.invariant_of-own
 invariant_of-own g c =
     let b = c.args.begun in
-    let p = c.pay-seat.result in
     let s = c.in-Split in
     let cut = c.halves in
     let piece = c.all-all.ensures in
@@ -36,15 +33,14 @@ invariant_of-own g c =
     let is : onward ≡ g.R.Running.keeps b.job = c.new-tree.ensures.1 ∙ c.deref.ensures.value ∙ c.start.ensures.1 in
     record {
       can = subst (λ id. CanFork id s.left.place s.left.seat) (ap table_id_of c.new-tree.ensures.0 ∙ c.args.self.now.table) s.ensures.split.0;
-      top = subst (λ j. KnowsTop (g.R.Running.keeps j) s.left.place.root (view_of s.left.seat)) (sym named) (top_known b.job onward is b.known s.left.place (view_of p.seat) (view_of s.left.seat) p.has.knows s.ensures.tops.0);
-      knows = known_forked None onward s.left.place (view_of p.seat) (view_of s.left.seat) p.has.knows s.ensures.tops.0 s.ensures.split.0.can_hand.rooted;
+      top = subst (λ j. KnowsTop (g.R.Running.keeps j) s.left.place.root (view_of s.left.seat)) (sym named) (top_known b.job onward is b.known s.left.place (view_of b.seat) (view_of s.left.seat) b.has.knows s.ensures.tops.0);
+      knows = known_forked None onward s.left.place (view_of b.seat) (view_of s.left.seat) b.has.knows s.ensures.tops.0 s.ensures.split.0.can_hand.rooted;
       piece = half_piece cut.result s.left.place.node s.left.place.root true s.left.place s.ensures.places.0 within whole;
     }
 
 pub invariant_of-other : goal.invariant_of-other
 invariant_of-other g c =
     let b = c.args.begun in
-    let p = c.pay-seat.result in
     let s = c.in-Split in
     let cut = c.halves in
     let piece = c.all-all.ensures in
@@ -57,7 +53,7 @@ invariant_of-other g c =
     let is : onward ≡ g.R.Running.keeps b.job = c.new-tree.ensures.1 ∙ c.deref.ensures.value ∙ c.start.ensures.1 in
     record {
       can = subst (λ id. CanFork id s.right.place s.right.seat) (ap table_id_of c.new-tree.ensures.0 ∙ c.args.self.now.table) s.ensures.split.1;
-      top = subst (λ j. KnowsTop (g.R.Running.keeps j) s.right.place.root (view_of s.right.seat)) (sym named) (top_known b.job onward is b.known s.right.place (view_of p.seat) (view_of s.right.seat) p.has.knows s.ensures.tops.1);
-      knows = known_forked None onward s.right.place (view_of p.seat) (view_of s.right.seat) p.has.knows s.ensures.tops.1 s.ensures.split.1.can_hand.rooted;
+      top = subst (λ j. KnowsTop (g.R.Running.keeps j) s.right.place.root (view_of s.right.seat)) (sym named) (top_known b.job onward is b.known s.right.place (view_of b.seat) (view_of s.right.seat) b.has.knows s.ensures.tops.1);
+      knows = known_forked None onward s.right.place (view_of b.seat) (view_of s.right.seat) b.has.knows s.ensures.tops.1 s.ensures.split.1.can_hand.rooted;
       piece = half_piece cut.result s.left.place.node s.left.place.root false s.right.place s.ensures.places.1 within whole;
     }

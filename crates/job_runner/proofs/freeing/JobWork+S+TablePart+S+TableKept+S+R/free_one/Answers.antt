@@ -1,6 +1,6 @@
 use Rattle.std.proofs.Common.{◌≡◌, ◌∙◌, arith}
 use Rattle.job_runner.proofs.SeatLemmas.{part_arrives, rest_kept}
-use Rattle.job_runner.proofs.ending.JobWork+S+TablePart+S+TableKept+S+R.free_one.Goals as goal
+use Rattle.job_runner.proofs.freeing.JobWork+S+TablePart+S+TableKept+S+R.free_one.Goals as goal
 
 pub arrive_at-requires-clause-can : goal.arrive_at-requires-clause-can
 arrive_at-requires-clause-can g c =
