@@ -1,6 +1,6 @@
 //! What ends a segment, and all that is asked of it but its parts.
 
-ghost use Rattle.std.specs.Prelude.{◌≡◌, None, Some, IfNone, IfSome};
+ghost use Rattle.std.specs.Prelude.{◌≡◌, None, Some, IfNone, IfSome, option_map};
 ghost use Rattle.slice_ops.specs.Slices.{slice_of};
 ghost use Rattle.job_language.specs.Jobs.{terminal_of};
 ghost use Rattle.job_plan.specs.Parts.{end_in, fallback_in};
@@ -162,18 +162,16 @@ fn folding(op: Op, start: Option<i64>, counts: bool) -> SegmentEnd
     SegmentEnd::Fold(Fold { op, start, counts })
 }
 
-/// A number as a terminal gives it, where it stands in place of a fault.
-pub(crate) fn number_as(terminal: &Terminal, number: i64) -> Fallback
-    ensures { fallback_in result ≡ number_as (terminal_of terminal.now) number }
+/// A number as a terminal gives it, where it stands for a fault; none after an array and after a match.
+pub(crate) fn number_as(terminal: &Terminal, number: i64) -> Option<Fallback>
+    ensures { option_map fallback_in result ≡ number_as (terminal_of terminal.now) number }
 {
     match terminal {
         Terminal::Sum | Terminal::Count | Terminal::ReduceFrom { .. } | Terminal::ExactSum => {
-            Fallback::Number(number)
+            Some(Fallback::Number(number))
         }
-        Terminal::Min
-        | Terminal::Max
-        | Terminal::ToArray
-        | Terminal::Reduce(_)
-        | Terminal::Find(_) => Fallback::Optional(number),
+        Terminal::Min | Terminal::Max | Terminal::Reduce(_) | Terminal::Find(FindTerminal::First) =>
+            Some(Fallback::Optional(number)),
+        Terminal::ToArray | Terminal::Find(_) => None,
     }
 }
