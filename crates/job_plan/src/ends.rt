@@ -2,7 +2,10 @@
 
 ghost use Rattle.std.specs.Prelude.{◌≡◌, None, Some, IfNone, IfSome, option_map};
 ghost use Rattle.slice_ops.specs.Slices.{slice_of};
+ghost use Rattle.find_ops.specs.Finds.{find_of};
 ghost use Rattle.job_language.specs.Jobs.{terminal_of};
+ghost use Rattle.lambda_values.specs.Term.{truth_of};
+ghost use Rattle.job_plan.specs.EndRows.{end_test, find_test, slice_test, takes_flags};
 ghost use Rattle.job_plan.specs.Parts.{end_in, fallback_in};
 ghost use Rattle.job_plan.specs.Plans.{end_of, gives_walk, slice_in};
 ghost use Rattle.job_meaning.specs.Walks.{number_as};
@@ -101,6 +104,8 @@ impl SegmentEnd {
         ensures some { IfSome result.slice (λ slice. slice_in (end_in self.now) ≡ Some (slice_of slice.now)) }
         ensures none { IfNone result.slice (slice_in (end_in self.now) ≡ None) }
         ensures walk { result.gives_walk ≡ gives_walk (end_in self.now) }
+        ensures test { option_map (λ test. truth_of test.now) result.test ≡ end_test (end_in self.now) }
+        ensures flags { result.takes_flags ≡ takes_flags (end_in self.now) }
     {
         match self {
             SegmentEnd::Slice(slice) => EndRow {
@@ -138,15 +143,19 @@ impl SegmentEnd {
 }
 
 /// The test that a slice asks of items while it takes them, if it asks one.
-fn test_of_slice(slice: &Slice) -> Option<&BoolExpr> {
+fn test_of_slice(slice: &Slice) -> Option<&BoolExpr>
+    ensures { option_map (λ test. truth_of test.now) result ≡ slice_test (slice_of slice.now) }
+{
     match slice {
         Slice::TakeWhile(test) => Some(test),
         Slice::Limit(_) | Slice::Skip(_) | Slice::DropWhile(_) => None,
     }
 }
 
-/// The same of a find or a match.
-fn test_of_find(find: &FindTerminal) -> Option<&BoolExpr> {
+/// The test of a match; `findFirst` asks none.
+fn test_of_find(find: &FindTerminal) -> Option<&BoolExpr>
+    ensures { option_map (λ test. truth_of test.now) result ≡ find_test (find_of find.now) }
+{
     match find {
         FindTerminal::AnyMatch(test)
         | FindTerminal::AllMatch(test)
