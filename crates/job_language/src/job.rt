@@ -52,3 +52,14 @@ pub struct Job<'c> {
     pub on_fault: Option<i64>,
     ghost few: { length stages.items ≤ 32 },
 }
+
+/// A job of which not all calls were read. It has a terminal once that was read.
+#[derive(Drop)]
+pub(crate) struct BegunJob<'c> {
+    pub(crate) name: Bytes,
+    pub(crate) sources: Vec<PlainSource<'c>>,
+    pub(crate) stages: Vec<JobStage>,
+    pub(crate) terminal: Option<Terminal>,
+    pub(crate) on_fault: Option<i64>,
+    ghost few: { length stages.items ≤ 32 },
+}

@@ -1,5 +1,5 @@
 -- Meaning: the walk of a job, the answer that its terminal gives, and what that is to jobs that name it.
-use Rattle.std.specs.Prelude.{ℕ, suc, ℤ, pos, ◌+ℤ◌, Bool, true, false, List, [], ◌∷◌, ◌++◌, length, map as each_of, Option, Some, None, Result, Ok, Err, option_map}
+use Rattle.std.specs.Prelude.{ℕ, suc, ℤ, pos, ◌+ℤ◌, Bool, true, false, List, [], ◌∷◌, ◌++◌, length, map as each_of, Option, Some, None, Result, Ok, Err}
 use Rattle.lambda_values.specs.Earlier.{Numbers}
 use Rattle.lambda_values.specs.Streams.{counted, distance}
 use Rattle.lambda_values.specs.Wrap.{wrap}
@@ -16,7 +16,7 @@ use Rattle.reduce_ops.specs.Folds.{fold_from, fold_items, total}
 use Rattle.reduce_ops.specs.Operators.{value_of}
 use Rattle.slice_ops.specs.Slices.{sliced}
 use Rattle.prefix_scan.specs.Prefixes.{prefixed}
-use Rattle.find_ops.specs.Finds.{find_answer}
+use Rattle.find_ops.specs.Finds.{first, any_match, all_match, none_match, find_answer}
 use Rattle.find_ops.specs.declared.find_part.Found.{Found}
 use Rattle.find_ops.specs.declared.find_part.Found.TheVariants as found
 use Rattle.job_language.specs.Jobs.{AbstractPlainSource, range, range_closed, values, result, AbstractJobStage, item, slice, prefix, AbstractTerminal, sum, count, min, max, to_array, reduce, reduce_from, find, exact_sum, AbstractJob}
@@ -82,21 +82,30 @@ answer_of n env (reduce_from a f) t = unless_fault t.ending (answer.Number (fold
 answer_of n env (find d) t = found_answer (find_answer d n env t)
 answer_of n env exact_sum t = exact_answer (exactly_summed n t)
 
--- a number as a terminal gives it: `sum`, `count` and `reduce` from a number give a number, the others an optional
-abbrev pub number_as : AbstractTerminal → ℤ → Answer
-number_as sum z = answer.Number z
-number_as count z = answer.Number z
-number_as (reduce_from a f) z = answer.Number z
-number_as exact_sum z = answer.Number z
-number_as min z = answer.Optional (Some z)
-number_as max z = answer.Optional (Some z)
-number_as (reduce f) z = answer.Optional (Some z)
-number_as (find d) z = answer.Optional (Some z)
-number_as to_array z = answer.Optional (Some z)
+-- a number as a terminal gives it, in place of a fault: `sum`, `count` and `reduce` from a number give a number, `min`, `max`, `reduce` and
+-- `findFirst` an optional; an array and a match give none, and the reader refuses `onFault` after them
+abbrev pub number_as : AbstractTerminal → ℤ → Option Answer
+number_as sum z = Some (answer.Number z)
+number_as count z = Some (answer.Number z)
+number_as (reduce_from a f) z = Some (answer.Number z)
+number_as exact_sum z = Some (answer.Number z)
+number_as min z = Some (answer.Optional (Some z))
+number_as max z = Some (answer.Optional (Some z))
+number_as (reduce f) z = Some (answer.Optional (Some z))
+number_as (find first) z = Some (answer.Optional (Some z))
+number_as (find (any_match p)) z = None
+number_as (find (all_match p)) z = None
+number_as (find (none_match p)) z = None
+number_as to_array z = None
+
+-- helper: a number that may be missing, as a terminal gives it
+abbrev pub fallback_as : AbstractTerminal → Option ℤ → Option Answer
+fallback_as d None = None
+fallback_as d (Some z) = number_as d z
 
 -- what a job gives after a fault, if it says so (`onFault`)
 abbrev pub fallback_of : AbstractJob → Option Answer
-fallback_of job = option_map (number_as job.terminal) job.on_fault
+fallback_of job = fallback_as job.terminal job.on_fault
 
 -- this answer, if there is one, instead of a fault
 abbrev pub instead_of_fault : Option Answer → Answer → Answer

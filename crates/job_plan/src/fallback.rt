@@ -3,7 +3,7 @@
 ghost use Rattle.std.specs.Prelude.{◌≡◌, option_map};
 ghost use Rattle.job_language.specs.Jobs.{terminal_of};
 ghost use Rattle.job_plan.specs.Parts.{fallback_in, plan_in};
-ghost use Rattle.job_meaning.specs.Walks.{instead_of_fault, number_as};
+ghost use Rattle.job_meaning.specs.Walks.{fallback_as, instead_of_fault};
 
 use crate::ends::number_as;
 use crate::segment::JobPlan;
@@ -34,10 +34,10 @@ impl Fallback {
 /// The fallback of a job whose `onFault` has this number, in the form in which the terminal gives numbers; none without
 /// a number.
 pub(crate) fn fallback_of(terminal: &Terminal, number: Option<i64>) -> Option<Fallback>
-    ensures { option_map fallback_in result ≡ option_map (number_as (terminal_of terminal.now)) number }
+    ensures { option_map fallback_in result ≡ fallback_as (terminal_of terminal.now) number }
 {
     match number {
-        Some(number) => Some(number_as(terminal, number)),
+        Some(number) => number_as(terminal, number),
         None => None,
     }
 }
