@@ -1,26 +1,15 @@
 """What scripts/pages checks of calls, tests and wrong bodies: that each public call is made, and that what promises.md says is
 shown by tests, or refused, is."""
 import glob
-import importlib.machinery
-import importlib.util
 import os
 import re
 
+from loading import script
 from page_text import TICKED, read
 
-SCRIPTS = os.path.dirname(os.path.abspath(__file__))
 COMMENT = re.compile(r'//.*$')
-
-
-def budget():
-    """scripts/gate_budget, which knows the functions of a source."""
-    loader = importlib.machinery.SourceFileLoader('gate_budget', os.path.join(SCRIPTS, 'gate_budget'))
-    module = importlib.util.module_from_spec(importlib.util.spec_from_loader('gate_budget', loader))
-    loader.exec_module(module)
-    return module
-
-
-BUDGET = budget()
+# It knows the functions of a source.
+BUDGET = script('scripts', 'gate_budget')
 
 
 def block_of(lines, place):
@@ -60,7 +49,7 @@ class Function:
 
     def is_called_by(self, caller, types, is_alone):
         """Whether a function's code names it. `types` are its type and other names of it, and `is_alone` says that no other type has
-        a method of this name; a method of two types is that of the type that the caller's file names."""
+        a method of this name; a method of two types belongs to the type that the caller's file names."""
         if self.is_of_trait:
             return bool(re.search(rf'[.:]{self.name}\b', caller.code))
         paths = re.findall(rf'(\.)?(?:\b(\w+)(?:::<[^;()]*>)?::)?\b{self.name}\b(?!: )', caller.code)

@@ -1,4 +1,4 @@
-"""What scripts/pages checks of contracts: the words that those of public calls name, and the code that builds calls of jobs."""
+"""What scripts/pages checks of contracts: the words that contracts of public calls name, and the code that builds calls of jobs."""
 import glob
 import os
 import re

@@ -4,7 +4,7 @@ A block that begins with ```console has commands, each after '$ ' (it goes on in
 while a quote is open), and after each the lines that it prints. A command runs in a folder that has examples/, reference/ and what else the
 repository has, with the program on PATH as `streamrun`. It has to end with status 0 and to print just these lines,
 standard error among them. Commands of one page share the folder, so a later one may read what an earlier one wrote.
-Answers in the text are run too, all those of a page as one file over examples/accounts.csv: `JOB` is `ANSWER`, or is a
+Answers in the text are run too, all answers of a page as one file over examples/accounts.csv: `JOB` is `ANSWER`, or is a
 number, and `NAME = JOB` gives `NAME = ANSWER`. The recipes are run over random tables too (page_recipes.py).
 
 A command that names a tool of TOOLS that isn't installed, a script that runs Java, or a program of Python that imports what
@@ -82,8 +82,6 @@ def wrong_answers(text, top, program):
 def missing_tools(command, top='.'):
     """The tools that a command names, and the modules that its program of Python imports, that aren't installed."""
     named = set(re.findall(r'\b(%s)\b' % '|'.join(TOOLS), command))
-    if 'reference/streams/run' in command:
-        named.add('java')
     if '<(' in command:
         named.add('bash')
     modules = set()
@@ -146,7 +144,7 @@ def wrong_with(command, printed, folder, environment):
             said = printed[place] if place < len(printed) else None
             came = lines[place] if place < len(lines) else None
             if said != came:
-                return f'line {place + 1} of what it prints is {came!r} in place of {said!r}'
+                return f'line {place + 1} of what it prints is {came!r} instead of {said!r}'
     return f'status {run.returncode}' if run.returncode else None
 
 

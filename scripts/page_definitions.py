@@ -7,14 +7,11 @@ import re
 from page_text import DEFINITION, TICKED, read
 
 # Values that mean a refusal: what a last row forgets is then refused, and never given a value. `untyped` has no type and is refused
-# as an operand; `lexeme.Other` is in no expression; `Whole Other` is no listed operator.
-REFUSALS = ['None', 'false', '⊥', 'Err', 'untyped', 'lexeme.Other', 'Whole Other']
+# as an operand; `lexeme.Other` is in no expression; `Single Other` is no listed operator.
+REFUSALS = ['None', 'false', '⊥', 'Err', 'untyped', 'lexeme.Other', 'Single Other']
 REFUSED = re.compile('|'.join(re.escape(it) + r'(?![\w.])' for it in REFUSALS))
 # The file that says what a run writes: Meaning is what it rests on.
 CLOSURE = ['engine.specs.Run']
-# Files that call themselves Meaning, though Run.antt rests on none of them; each is to begin with -- Design:.
-NOT_YET_DESIGNS = {'early_stop.specs.Decisive', 'early_stop.specs.Leaving', 'engine.specs.Statuses', 'job_plan.specs.Pieces',
-                   'job_plan.specs.PlannedAnswers', 'job_plan.specs.Plans', 'job_plan.specs.Windows'}
 IMPORT = re.compile(r'^(?:pub )?use Rattle\.([\w.+]+?)(?:\.\{|\.\*|$| )', re.M)
 CONSTRUCTOR = re.compile(r'^  ([a-z]\w*) :', re.M)
 
@@ -60,12 +57,10 @@ def meanings(top):
         is_meaning = first.startswith('-- Meaning:')
         if not first.startswith(('-- Meaning: ', '-- Condition: ', '-- Design: ')):
             yield f'{path}: its first line says none of Meaning, Condition and Design'
-        elif is_meaning and name not in reached | NOT_YET_DESIGNS:
+        elif is_meaning and name not in reached:
             yield f'{path}: Run.antt imports it nowhere, so its first line begins with -- Design:'
         elif name in reached and not is_meaning:
             yield f'{path}: Run.antt rests on it, so its first line begins with -- Meaning:'
-        elif name in NOT_YET_DESIGNS and not is_meaning:
-            yield f'{path}: it is no exception any more; take it out of NOT_YET_DESIGNS'
 
 
 def definitions(top):

@@ -52,15 +52,14 @@ def messages(top):
         if not files and 'read failed' not in line:
             yield f'faults-and-messages.md: {line} is given by no file'
         for name in files:
-            fault = os.path.join(top, 'examples', name + '.fault')
-            if not os.path.exists(fault) or not re.fullmatch(f'streamrun: {line}\n', read(fault)):
+            fault = next((path for path in (os.path.join(top, it, name + '.fault') for it in ('examples', 'tests')) if os.path.exists(path)), None)
+            if not fault or not re.fullmatch(f'streamrun: {line}\n', read(fault)):
                 yield f'faults-and-messages.md: {name}.jobs does not give {line}'
 
 
 def gallery(top):
-    """Reports of examples/gallery that aren't what the tables give, and those of examples/answers that aren't what is counted up."""
-    yield from lines_of_script(top, 'reference/gallery/answers', '--check')
-    yield from lines_of_script(top, 'reference/counted/generate', '--check')
+    """Reports of examples/gallery that aren't what the tables give."""
+    yield from lines_of_script(top, 'reference/gallery', '--check')
 
 
 def crates_of(top, with_tests=False):
@@ -143,12 +142,7 @@ def lines_of_script(top, *command):
 
 def worked(top):
     """The source with the worked answers, if it isn't what they are."""
-    yield from lines_of_script(top, 'bench/soak/worked_jobs', '--check', top)
-
-
-def adding(top):
-    """Lists of files of docs/adding.md that aren't the present ones."""
-    yield from lines_of_script(top, 'scripts/adding', '--check', top)
+    yield from lines_of_script(top, 'tests/soak/worked_jobs', '--check', top)
 
 
 def shell(top):
@@ -163,17 +157,17 @@ def manual(top):
 
 def helps(top):
     """Scripts that don't say by --help what they do. Without an answer install and test would begin to build, so they aren't run."""
-    for path in sorted(glob.glob(os.path.join(top, 'scripts', '*'))):
-        name = os.path.basename(path)
-        if os.path.isfile(path) and os.access(path, os.X_OK) and name not in ('install', 'test'):
+    for path in sorted(glob.glob(os.path.join(top, 'scripts', '*')) + glob.glob(os.path.join(top, 'tests', '*'))):
+        name = os.path.relpath(path, top)
+        if os.path.isfile(path) and os.access(path, os.X_OK) and name not in ('scripts/install', 'scripts/test'):
             run = subprocess.run([path, '--help'], stdout=subprocess.PIPE, stderr=subprocess.DEVNULL, stdin=subprocess.DEVNULL, text=True,
                                  timeout=60, check=False)
-            if run.returncode or f'scripts/{name}' not in run.stdout:
-                yield f'scripts/{name} --help: status {run.returncode}, and no text that says how it is called'
+            if run.returncode or name not in run.stdout:
+                yield f'{name} --help: status {run.returncode}, and no text that says how it is called'
 
 
 def editors(top):
     """Tokens of examples/ that an editor gives another colour than the grammar says."""
-    for line in lines_of_script(top, 'scripts/editors', top):
+    for line in lines_of_script(top, 'tests/editors'):
         if not line.startswith('editors: '):
             yield line

@@ -13,13 +13,17 @@ WORD = re.compile(r"[A-Za-z_][A-Za-z_0-9']*")
 # Words in backquotes that no source has: methods and an error of Rust's std, tools and what they print, and a name that is
 # only an example.
 OUTSIDE = {'read_to_end', 'write_all', 'WriteZero', 'perf', 'clock', 'row_2', 'jq', 'gnuplot', 'sqlite3', 'Inf', 'inf',
-           'mawk', 'miller', 'is_not_empty', 'itsv', 'pipefail', 'select_dtypes', "integer'"}
+           'mawk', 'miller', 'is_not_empty', 'itsv', 'pipefail', 'select_dtypes', 'ulimit', "integer'"}
 DEFINITION = re.compile(r'^(?:abbrev pub|pub data|pub record|def pub|pub abbrev) ([^\s:({]+)')
 
 
 def read(path):
     with open(path, encoding='utf-8') as file:
         return file.read()
+
+
+def files_below(folder):
+    return sorted(path for path in glob.glob(os.path.join(folder, '**', '*'), recursive=True) if os.path.isfile(path))
 
 
 def pages_of(top):
@@ -48,8 +52,8 @@ def code(top):
 
 
 def examples_of(top):
-    """The texts of examples/ and its folders."""
-    paths = glob.glob(os.path.join(top, 'examples', '**', '*'), recursive=True)
+    """The files of examples/, its folders and tests/messages that are texts."""
+    paths = [path for folder in ('examples', 'tests/messages') for path in glob.glob(os.path.join(top, folder, '**', '*'), recursive=True)]
     return [path for path in paths if os.path.isfile(path) and is_text(path)]
 
 
@@ -148,7 +152,7 @@ def words(top):
 def words_of_sources(top):
     """For each source of a crate, each script and each example the words in it, and in its path."""
     found = {}
-    for pattern in ('crates/*/*/**/*.*', 'scripts/*', 'tools/**/*', 'examples/**/*', 'reference/**/*', 'bench/soak/*', 'python/**/*', '.ci/*', '*.txt'):
+    for pattern in ('crates/*/*/**/*.*', 'scripts/*', 'tools/**/*', 'examples/**/*', 'reference/**/*', 'tests/**/*', 'python/**/*', '.ci/*', '*.txt'):
         for path in glob.glob(os.path.join(top, pattern), recursive=True):
             name = os.path.relpath(path, top)
             # scripts/planted has the words that must not be found.
@@ -163,7 +167,7 @@ def is_known(first, last, sources):
 
 
 def without_blocks(text):
-    """A page with empty lines in place of its blocks."""
+    """A page with empty lines instead of its blocks."""
     return re.sub(r'^```.*?^```$', lambda it: '\n' * it[0].count('\n'), text, flags=re.M | re.S)
 
 

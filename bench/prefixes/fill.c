@@ -15,7 +15,7 @@ int main(int argc, char **argv) {
     }
     uint64_t total = 0;
     for (long i = 0; i < count; i++) total += (uint64_t)values[i];
-    printf("%lld\n", (long long)(int64_t)total);
+    printf("q = %lld\n", (long long)(int64_t)total);
     free(values);
     return 0;
 }

@@ -14,7 +14,7 @@ except ImportError:
 
 
 class Fault(NamedTuple):
-    """The first fault of a job: its kind, such as 'divide-by-zero', the stage from 1 (0 is the source), and the place of the
+    """The first fault of a job: its kind, like 'divide-by-zero', the stage from 1 (0 is the source), and the place of the
     item in the source from 0, or None if it concerns no single item."""
     kind: str
     stage: int

@@ -82,7 +82,7 @@ class Truth(Node):
 
 @dataclass
 class Constant(Node):
-    """A constant of Long, such as `Long.MAX_VALUE`."""
+    """A constant of Long, like `Long.MAX_VALUE`."""
 
     name: str
 
@@ -144,7 +144,7 @@ class Binary(Applied):
 
 
 class Call(Applied):
-    """A method, such as `Math.abs`, with its operands."""
+    """A method, like `Math.abs`, with its operands."""
 
     def form(self):
         return CALLS[self.name]

@@ -1,4 +1,4 @@
-"""Tests of the package streamrun: scripts/python runs them, with the program in the environment as STREAMRUN.
+"""Tests of the package streamrun: tests/python runs them, with the program in the environment as STREAMRUN.
 
 With WITHOUT=numpy,pandas these modules can't be imported, as where they aren't installed.
 """

@@ -29,7 +29,7 @@ class Part:
 
 @dataclass
 class Job:
-    """A job. names: 'array' or 'number' for each job that it names, in order of writing. kind: that of its answer.
+    """A job. names: 'array' or 'number' for each job that it names, in order of writing. kind: the kind of its answer.
     operator: the name of the one by which answers are folded, if by any. version: of its file."""
 
     name: str

@@ -1,7 +1,7 @@
 """The answer over a table of the answers over its parts, in the order of the parts.
 
-Each rule is a law of the crates, which docs/beyond-one-machine.md names. The walk of the whole is that of the first part,
-then that of the second, and so on, up to the first one that decides or ends in a fault.
+Each rule is a law of the crates, which docs/beyond-one-machine.md names. The walk of the whole goes through the first part,
+then the second, and so on, up to the first one that decides or ends in a fault.
 """
 from streamrun_language.operators import OPERATORS
 
@@ -11,7 +11,7 @@ DECIDING = {'anyMatch': True, 'allMatch': False, 'noneMatch': False}
 
 
 class Disagreement(Exception):
-    """Reports that can't be those of one job file over the parts of one table."""
+    """Reports that can't be of one job file over the parts of one table."""
 
 
 def moved(answer, before):

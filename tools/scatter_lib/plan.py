@@ -101,7 +101,7 @@ class Plan:
         return found
 
     def members(self, number, answers):
-        """The names of the jobs in the job file of a round, and those of them that only give a number."""
+        """The names of the jobs in the job file of a round, and which of them only give a number."""
         asked = self.asked(number, answers)
         members, given, waiting = {job.name for job in asked}, set(), list(asked)
         while waiting:
@@ -128,7 +128,7 @@ class Plan:
         return number == 1 or any(self.jobs[name].is_cut for name in names if name not in given)
 
     def merge(self, number, answers, reports, rows):
-        """The answers up to a round, of those of the rounds before it and of the reports of the parts, in the order of
+        """The answers up to a round, of the answers before it and of the reports of the parts, in the order of
         the file. rows: how many rows each part has."""
         names = self.members(number, answers)[0]
         for report in reports:

@@ -10,12 +10,12 @@ MOST_TRIES = 3
 
 
 class NoProgram(Exception):
-    """There is no such program, or it can't be started."""
+    """The program isn't there, or it can't be started."""
 
 
 def outcome_of(program, options, jobs, pieces):
     """(status, standard output, standard error) of a run over a job file and a table that comes in pieces. The status is
-    below 0 if a signal ended the run, and None if there is no such program."""
+    below 0 if a signal ended the run, and None if the program isn't there."""
     with tempfile.TemporaryDirectory() as folder:
         jobs_path = os.path.join(folder, 'jobs')
         with open(jobs_path, 'wb') as file:

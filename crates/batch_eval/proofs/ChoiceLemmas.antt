@@ -35,7 +35,7 @@ picked_here p i (suc n) within is =
     ))
 
 module _ (p : ℕ → Bool) (f : ℕ → Result ℤ FaultKind) (column : ℕ → ℤ) (i n : ℕ) (r : Reached) where
-  -- its value is that of its place
+  -- its value is the value at its place
   pub one_value : i < n → p i ≡ true → length (picked p i) < r.live → Reaches (λ j. f (get_or (picked p n) j 0)) column (length (picked p n)) r → f i ≡ Ok (column (length (picked p i)))
   one_value within is below h = ap f (sym (picked_here p i n within is).1) ∙ h.values (length (picked p i)) below
 
@@ -95,7 +95,7 @@ chosen_reaches t a b flags out live tested last test both =
     chosen_is (Ok false) x y = refl
     chosen_is (Err kind) x y = refl
 
--- the same where each lane has a value
+-- a test, and then what its flags choose, where each lane has a value
 pub chosen_everywhere : (t : ℕ → Result Bool FaultKind) (a b : ℕ → Result ℤ FaultKind) (flags out : List ℤ) (live : ℕ) (tested : Reached) → Reaches (λ k. flagged (t k)) (at flags) live tested → ((k : ℕ) → k < tested.live → by_flag (at flags k) (a k) (b k) ≡ Ok (at out k)) → Reaches (λ k. chosen_value (t k) (a k) (b k)) (at out) live (after (record { live = tested.live; fault = None }) tested)
 chosen_everywhere t a b flags out live tested test values = chosen_reaches t a b flags out live tested (record { live = tested.live; fault = None }) test (record { within = omega arith; values = values; stop = refl })
 

@@ -27,11 +27,15 @@ placed_counts first vs few = record {
 same_item : (x : Item) (o : ℕ) (v : ℤ) → x.origin ≡ o → x.value ≡ v → x ≡ record { origin = o; value = v }
 same_item x o v p q = λ i. record { origin = p i; value = q i }
 
--- the item of a lane whose place is counted up
-pub counted_item : (items : List Item) (first p k : ℕ) (origins : List ℕ) (values : List ℤ) → CountsFrom first items → HasValue items (p + k) (at values k) → slice_get items (p + k) ≡ Some (item_at (Some (first + p)) origins values k)
-counted_item items first p k origins values counts h =
+-- an item whose place is counted up
+pub placed_item : (items : List Item) (first p k : ℕ) (v : ℤ) → CountsFrom first items → HasValue items (p + k) v → slice_get items (p + k) ≡ Some (record { origin = first + p + k; value = v })
+placed_item items first p k v counts h =
     let place : h.0.origin ≡ first + p + k = counts.places (p + k) h.0 h.1 ∙ omega arith in
-    h.1 ∙ ap Some (same_item h.0 (first + p + k) (at values k) place h.2)
+    h.1 ∙ ap Some (same_item h.0 (first + p + k) v place h.2)
+
+-- that of a lane
+pub counted_item : (items : List Item) (first p k : ℕ) (origins : List ℕ) (values : List ℤ) → CountsFrom first items → HasValue items (p + k) (at values k) → slice_get items (p + k) ≡ Some (item_at (Some (first + p)) origins values k)
+counted_item items first p k origins values counts h = placed_item items first p k (at values k) counts h
 
 -- one value more
 pub one_value_more : (items : List Item) (p lane : ℕ) (values : List ℤ) (x : Item) (v : ℤ) → lane < length values → slice_get items (p + lane) ≡ Some x → x.value ≡ v → ((k : ℕ) → k < lane → HasValue items (p + k) (at values k)) → (k : ℕ) → k < lane + 1 → HasValue items (p + k) (at (set values lane v) k)

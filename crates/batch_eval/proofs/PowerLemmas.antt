@@ -89,7 +89,7 @@ signed_below x p r m small fits is neg sign =
     let there : wrap (neg_ℤ p) ≡ wrap (neg_ℤ (pos m)) = ap (λ v. wrap (neg_ℤ v)) (positive_wraps p m small is) ∙ neg_wraps (pos m) in
     neg ∙ wrapping_neg_is w64 p fits ∙ there ∙ ap wrap (sym (sign_below x m sign))
 
--- a power of two has as many zeros at its end as its exponent says
+-- a power of two has its exponent's number of zeros at its end
 zeros_of_power : (k : ℕ) → k < 64 → trailing_zeros w64 (2 ^ k) ≡ k
 zeros_of_power k below =
     let lowest = bit_at-trailing_zeros w64 (2 ^ k) (pow_pos k) (pow_below k 64 below) in

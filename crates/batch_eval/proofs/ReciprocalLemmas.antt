@@ -1,20 +1,18 @@
 -- Division by multiplication: the factor is a power of two over the divisor, rounded up.
-use Rattle.std.proofs.Common.{◌≡◌, ℕ, zero, suc, ◌+◌, ◌-◌, ◌*◌, ◌/◌, ◌%◌, ◌<◌, ◌≤◌, ◌^◌, ap, sym, subst, arith, refl, ◌∙◌, ℤ, pos, negsuc, FitsSigned, List, of_z, to_z, w64}
-use Rattle.std.specs.Prelude.{false, bit_or, int_rem, unsigned_abs}
+use Rattle.std.proofs.Common.{◌≡◌, ℕ, zero, suc, ◌+◌, ◌-◌, ◌*◌, ◌/◌, ◌%◌, ◌<◌, ◌≤◌, ◌^◌, ap, sym, arith, refl, ◌∙◌, ℤ, pos, negsuc, FitsSigned, of_z, to_z, w64}
+use Rattle.std.specs.Int.{cast_unsigned}
+use Rattle.std.specs.Prelude.{false, int_rem, unsigned_abs, ◌≤ℤ◌}
 use Rattle.std.specs.Ordering.{int_eq}
 use Rattle.std.proofs.lemmas.Grind.{common_steps}
 use Rattle.std.proofs.Math.Nat.{add-mul-mod_self_right, div-div-eq-div-mul, div-lt_iff_lt-mul, div-mul-le_self, dvd-mul_right, le-div_iff_mul-le, lt-div-mul-add, lt_of_mul-lt-mul_right, mod-eq_of_lt, mod-le, mod-lt, mod-mod_of_dvd, mul-add-div_right, mul-le-mul, mul-le-mul_left, mul-le-mul_right}
-use Rattle.std.proofs.lemmas.Int.{int_wrap_fits, to_z-of_z}
+use Rattle.std.proofs.lemmas.Int.{int_wrap_fits, ints, to_z-of_z}
 use Rattle.std.proofs.lemmas.Bool.{cases_lt}
-use Rattle.std.proofs.lemmas.Nat.{div-add-mod', le_or_l, le_or_r, pow_pos}
+use Rattle.std.proofs.lemmas.Nat.{div-add-mod', pow_pos}
 use Rattle.std.proofs.Math.Pow.{pow_mono}
 use mathlib.Core.Logic.{⊎_elim}
 use Rattle.lambda_values.specs.Wrap.{wrap}
-use Rattle.batch_eval.specs.Lanes.{at}
 use Rattle.batch_eval.specs.Powers.{with_sign_of}
-use Rattle.batch_eval.specs.Reciprocals.{Divides, IsWithin, HeldIsWithin, distance}
-use Rattle.batch_eval.specs.declared.operands.Held.{Held}
-use Rattle.batch_eval.specs.declared.operands.Held.TheVariants as held
+use Rattle.batch_eval.specs.Reciprocals.{Divides, IsWithin, natural}
 
 -- a power of two over d, rounded up
 abbrev pub factor_of : ℕ → ℕ → ℕ
@@ -45,7 +43,8 @@ product_over n e a m above reach within small =
     let most : n * m / a < q + 1 = (div-lt_iff_lt-mul {k = a} {x = n * m} {y = q + 1} above).1 from_above in
     omega (arith, least, most)
 
--- the quotient by e + 1 of magnitudes up to h, where w is twice that, for a power p of two that is at most e and more than half of it
+-- the quotient by e + 1 of magnitudes up to h, where w is twice that, for a power p of two that is at most e and more
+-- than half of it
 divides_by : (w h e p n : ℕ) → w ≡ 2 * h → 0 < h → p ≤ e → e < 2 * p → n ≤ h → n * factor_of (suc e) (w * p) / w / p ≡ n / suc e
 divides_by w h e p n twice some_h low high within =
     let a = w * p in
@@ -115,26 +114,24 @@ pub divisor_counts : (y : ℤ) → 1 < unsigned_abs y → int_eq y (pos 0) ≡ f
 divisor_counts (pos a) above = grind (arith, common_steps)
 divisor_counts (negsuc a) above = refl
 
-within_64 : (x : ℤ) → IsWithin (2 ^ 63) x
+-- no magnitude of 64 bits is beyond 2^63
+pub within_64 : (x : ℤ) → IsWithin (2 ^ 63) x
 within_64 (pos a) fits = omega (arith, fits.sfits)
 within_64 (negsuc a) fits = omega (arith, fits.sfits)
 
--- no magnitude of 64 bits is beyond 2^63
-pub held_within_64 : (h : Held) (out : List ℤ) (live : ℕ) → HeldIsWithin (2 ^ 63) h out live
-held_within_64 held.Out out live = λ k _. within_64 _
-held_within_64 (held.Register xs) out live = λ k _. within_64 _
+-- no magnitude of 32 bits is beyond 2^31
+pub short_within : (x : ℤ) → negsuc 2147483647 ≤ℤ x → x ≤ℤ pos 2147483647 → IsWithin (2 ^ 31) x
+short_within (pos a) least greatest fits = omega (arith, ints, greatest)
+short_within (negsuc a) least greatest fits = omega (arith, ints, least)
 
--- what is near 0, or near -1 if it is below 0, has a small magnitude
-pub near_within : (x : ℤ) (n : ℕ) → distance x < n → IsWithin n x
-near_within (pos a) n near fits = omega (arith, near)
-near_within (negsuc a) n near fits = omega (arith, near)
+-- and none of 31 bits
+pub natural_within : (x : ℤ) → IsWithin (2 ^ 31) (natural x)
+natural_within x fits = let some : 0 < 2 ^ 31 = omega arith in omega (arith, mod-lt (cast_unsigned w64 x) some)
 
--- what is near 0 at the lanes before i, and at lane i, is so at those before i + 1, up to the union of the bits
-pub near_with : (xs : List ℤ) (i b d : ℕ) → ((k : ℕ) → k < i → distance (at xs k) ≤ b) → distance (at xs i) ≤ d → (k : ℕ) → k < i + 1 → distance (at xs k) ≤ bit_or b d
-near_with xs i b d before here k less = ⊎_elim
-    (λ earlier. omega (arith, before k earlier, le_or_l b d))
-    (λ from. let same : k ≡ i = omega (arith, less, from) in subst (λ j. distance (at xs j) ≤ bit_or b d) (sym same) (omega (arith, here, le_or_r b d)))
-    (cases_lt k i)
+-- a natural number of 31 bits is these bits
+pub natural_is : (x : ℤ) → pos 0 ≤ℤ x → x ≤ℤ pos 2147483647 → natural x ≡ x
+natural_is (pos a) least greatest = ap pos (mod-eq_of_lt (omega (arith, ints, greatest)))
+natural_is (negsuc a) least greatest = absurd (omega (arith, ints, least))
 
 signed_rest : (x y : ℤ) → with_sign_of x (unsigned_abs x % unsigned_abs y) ≡ int_rem x y
 signed_rest (pos a) (pos b) = refl

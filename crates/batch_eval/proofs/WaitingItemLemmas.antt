@@ -1,4 +1,4 @@
--- How a walk goes on of which some items wait, and what `flatMap` makes of items one after the other.
+-- How a walk goes on while some of its items wait, and what `flatMap` makes of items one after the other.
 use Rattle.std.proofs.Common.{◌≡◌, ◌+◌, ◌≤◌, ℕ, List, [], ◌∷◌, ◌++◌, length, take, drop, Result, Ok, Err, Some, refl, sym, ap, subst, ◌∙◌, append_assoc}
 use Rattle.std.proofs.lemmas.List.{append-nil, take_more, take_all, take-append-drop}
 use Rattle.std.proofs.lemmas.Option.{slice_get_within, get_or_from_slice_get}
@@ -27,7 +27,7 @@ module _ {S : Type 0} (h : S → List Item → Type 0) (line : Pipeline) (xs : L
   pub holds_more : (whole pending part : List Item) (s : S) → Holds h line xs whole pending s → Holds h line xs (whole ++ part) (pending ++ part) s
   holds_more whole pending part s held = (held.0, ap (λ (ys : List Item). ys ++ part) held.1 ∙ append_assoc held.0 pending part, held.2)
 
-  -- the same of the items of two walks
+  -- more items wait, of a walk that goes on from another one
   pub holds_further : (front next : Trace) (part pending pending' : List Item) (s : S) → next ≡ trace (front.items ++ part) end.Done → pending' ≡ pending ++ part → Holds h line xs front.items pending s → Holds h line xs next.items pending' s
   holds_further front next part pending pending' s more waits held =
       let longer : Holds h line xs (front.items ++ part) pending' s = subst (λ (ys : List Item). Holds h line xs (front.items ++ part) ys s) (sym waits) (holds_more front.items pending part s held) in

@@ -1,5 +1,5 @@
 -- What a stage makes of the lanes of a batch, lane by lane.
-use Rattle.std.proofs.Common.{◌≡◌, ℕ, zero, suc, ◌<◌, ◌≤◌, ℤ, pos, Bool, true, false, List, [], ◌∷◌, ◌++◌, length, get_or, Option, Some, None, Result, Ok, Err, if◌then◌else◌, refl, sym, ap, subst, ◌∙◌, append_assoc, arith, length-append}
+use Rattle.std.proofs.Common.{◌≡◌, ℕ, zero, suc, ◌<◌, ◌≤◌, ℤ, pos, negsuc, Bool, true, false, List, [], ◌∷◌, ◌++◌, length, get_or, Option, Some, None, Result, Ok, Err, if◌then◌else◌, refl, sym, ap, subst, ◌∙◌, append_assoc, arith, length-append}
 use Rattle.std.proofs.lemmas.List.{append-nil, get_or_append_left, get_or_at}
 use mathlib.Core.Logic.{dite}
 use native.Mathlib.Decide.{ℕ_discrete}
@@ -18,7 +18,7 @@ use Rattle.batch_eval.specs.declared.reached.Reached.{Reached}
 use Rattle.batch_eval.specs.Lanes.{at, flagged, is_set, StopsAt, Reaches}
 use Rattle.batch_eval.specs.Batches.{gathered, lanes, picked, passing, end_after, origin_at, item_at}
 
--- the same lists, lane by lane
+-- equal lists, lane by lane
 pub gathered_same : (n : ℕ) (f g : ℕ → List Item) → ((k : ℕ) → k < n → f k ≡ g k) → gathered n f ≡ gathered n g
 gathered_same zero f g same = refl
 gathered_same (suc n) f g same = let a = gathered_same n f g (λ k below. same k (omega arith)) in let b = same n (omega arith) in cc
@@ -72,7 +72,7 @@ abbrev kept_if : Bool → Item → List Item
 kept_if b x = if b then x ∷ [] else []
 
 passed_flag : (stage : ℕ) (x : Item) (r : Result Bool FaultKind) (z : ℤ) → flagged r ≡ Ok z → passed stage x r ≡ trace (kept_if (is_set z) x) end.Done
-passed_flag stage x (Ok true) z is = let same : pos 1 ≡ z = cc in subst (λ (z : ℤ). passed stage x (Ok true) ≡ trace (kept_if (is_set z) x) end.Done) same refl
+passed_flag stage x (Ok true) z is = let same : negsuc 0 ≡ z = cc in subst (λ (z : ℤ). passed stage x (Ok true) ≡ trace (kept_if (is_set z) x) end.Done) same refl
 passed_flag stage x (Ok false) z is = let same : pos 0 ≡ z = cc in subst (λ (z : ℤ). passed stage x (Ok false) ≡ trace (kept_if (is_set z) x) end.Done) same refl
 passed_flag stage x (Err kind) z is = cc
 

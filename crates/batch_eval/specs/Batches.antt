@@ -1,6 +1,7 @@
--- Condition: the walk that a batch of lanes stands for.
-use Rattle.std.specs.Prelude.{◌≡◌, ℕ, zero, suc, ◌+◌, ◌<◌, ◌≤◌, ◌^◌, ℤ, Bool, true, false, not, List, [], ◌∷◌, ◌++◌, length, slice_index, Option, Some, None, if◌then◌else◌}
+-- Condition: the walk that a batch of lanes describes.
+use Rattle.std.specs.Prelude.{◌≡◌, ℕ, zero, suc, ◌+◌, ◌<◌, ◌≤◌, ◌^◌, ℤ, pos, ◌+ℤ◌, Bool, true, false, not, List, [], ◌∷◌, ◌++◌, length, slice_index, Option, Some, None, if◌then◌else◌}
 use Rattle.lambda_values.specs.declared.fault.FaultKind.{FaultKind}
+use Rattle.lambda_values.specs.Wrap.{wrap}
 use Rattle.trace.specs.declared.item.Item.{Item}
 use Rattle.trace.specs.declared.item.End.{End}
 use Rattle.trace.specs.declared.item.End.TheVariants as end
@@ -25,6 +26,10 @@ origin_at None origins k = slice_index origins k
 -- the item of a lane
 abbrev pub item_at : Option ℕ → List ℕ → List ℤ → ℕ → Item
 item_at start origins values k = record { origin = origin_at start origins k; value = at values k }
+
+-- the item of a lane whose place and value count up
+abbrev pub counted_item : ℕ → ℤ → ℕ → Item
+counted_item place first k = record { origin = place + k; value = wrap (first +ℤ pos k) }
 
 -- the items of listed places and values, one after the other
 abbrev pub listed_items : List ℕ → List ℤ → List Item
@@ -68,7 +73,7 @@ abbrev pub wants : Bool → ℤ → Bool
 wants true z = is_set z
 wants false z = not (is_set z)
 
--- those of the first n lanes whose flag is as it is wanted
+-- the places of those among the first n lanes whose flag is as it is wanted
 abbrev pub wanted : Bool → List ℤ → ℕ → List ℕ
 wanted kind flags n = picked (λ k. wants kind (at flags k)) n
 

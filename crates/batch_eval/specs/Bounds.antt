@@ -23,7 +23,7 @@ HasBounds (values (a ∷ [])) env x v w = ⊥
 HasBounds (values (a ∷ (b ∷ []))) env x v w = HaveValues a b env x v w
 HasBounds (values (a ∷ (b ∷ (c ∷ es)))) env x v w = ⊥
 
--- the same at each of the first items
+-- at each of the first items these are the bounds of a range, or the values of the two operands of `of`
 abbrev pub HaveBounds : Inner → Numbers → List Item → List ℤ → List ℤ → Type 0
 HaveBounds inner env items froms tos = (k : ℕ) → k < length froms → HasBounds inner env (at (map (λ x. x.value) items) k) (at froms k) (at tos k)
 

@@ -1,6 +1,6 @@
--- Condition: what registers of numbers hold, lane by lane, and how far a step over lanes came.
+-- Condition: what registers hold, lane by lane, and how far a step over lanes came.
 use Rattle.std.specs.Int.{w64, cast_unsigned}
-use Rattle.std.specs.Prelude.{◌≡◌, ℕ, ◌<◌, ◌≤◌, ◌^◌, ◌%◌, ℤ, pos, Bool, true, false, not, List, length, slice_index_or, Option, Some, None, Result, Ok, Err}
+use Rattle.std.specs.Prelude.{◌≡◌, ℕ, ◌<◌, ◌≤◌, ◌^◌, ◌%◌, ℤ, pos, negsuc, Bool, true, false, not, List, length, slice_index_or, Option, Some, None, Result, Ok, Err}
 use Rattle.std.specs.Ordering.{int_eq}
 use Rattle.lambda_values.specs.declared.fault.FaultKind.{FaultKind}
 use Rattle.lambda_values.specs.declared.operator.BinaryOperator.TheVariants as binary_operator
@@ -10,6 +10,8 @@ use Rattle.batch_eval.specs.declared.dispatch.Infix.{Infix}
 use Rattle.batch_eval.specs.declared.dispatch.Infix.TheVariants as op
 use Rattle.batch_eval.specs.declared.operands.Beside.{Beside}
 use Rattle.batch_eval.specs.declared.operands.Beside.TheVariants as beside
+use Rattle.batch_eval.specs.declared.operands.Branch.{Branch}
+use Rattle.batch_eval.specs.declared.operands.Branch.TheVariants as branch
 use Rattle.batch_eval.specs.declared.operands.Held.{Held}
 use Rattle.batch_eval.specs.declared.operands.Held.TheVariants as held
 use Rattle.batch_eval.specs.declared.operands.Step.{Step}
@@ -22,7 +24,7 @@ at xs k = slice_index_or xs k (pos 0)
 
 -- a boolean as a register holds it
 abbrev pub flag_of : Bool → ℤ
-flag_of true = pos 1
+flag_of true = negsuc 0
 flag_of false = pos 0
 
 -- a flag that is set
@@ -92,6 +94,16 @@ HasBeside (beside.Register ys s) n = n ≤ length ys.now
 HasBeside (beside.Number s y) n = Unit {0}
 HasBeside (beside.NumberFirst x) n = Unit {0}
 
+-- what a condition chooses at a lane
+abbrev pub branch_at : Branch → ℕ → ℤ
+branch_at (branch.Number z) k = z
+branch_at (branch.Register xs s) k = step_value s (at xs.now k)
+
+-- it has at least this many lanes
+abbrev pub HasBranch : Branch → ℕ → Type 0
+HasBranch (branch.Number z) n = Unit {0}
+HasBranch (branch.Register xs s) n = n ≤ length xs.now
+
 -- n lanes were done up to this one: all of them, or the one that has this fault
 abbrev pub StopsAt : (ℕ → Result ℤ FaultKind) → ℕ → ℕ → Option FaultKind → Type 0
 StopsAt f n live None = live ≡ n
@@ -103,7 +115,7 @@ pub record Reaches (f : ℕ → Result ℤ FaultKind) (register : ℕ → ℤ) (
   pub values : (k : ℕ) → k < r.live → f k ≡ Ok (register k)
   pub stop : StopsAt f n r.live r.fault
 
--- the first fault of two steps, of which the later one stopped at an earlier lane, if at all
+-- the first fault of two steps; a fault of the later step is at an earlier lane
 abbrev pub later_fault : Option FaultKind → Option FaultKind → Option FaultKind
 later_fault (Some kind) before = Some kind
 later_fault None before = before

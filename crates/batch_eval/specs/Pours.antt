@@ -1,4 +1,4 @@
--- Condition: a walk into a sink, of which some items wait.
+-- Condition: a walk into a sink while some of its items wait.
 use Rattle.std.specs.Prelude.{◌≡◌, List, ◌++◌, Result, Ok, Err}
 use Rattle.std.specs.declared.alloc.AllocError.{AllocError}
 use Rattle.trace.specs.declared.item.Item.{Item}
@@ -14,7 +14,8 @@ use Rattle.batch_eval.specs.Pipelines.{piped}
 abbrev pub Holds : {S : Type 0} → (S → List Item → Type 0) → Pipeline → List Item → List Item → List Item → S → Type 0
 Holds h line xs whole pending s = (done : List Item) × (whole ≡ done ++ pending) × IsFed h xs (piped line (trace done end.Done)) (Ok fed.More) s
 
--- the same, or the walk was stopped at one of them
+-- all of these items were taken through the stages, but for the last ones, which wait; or the walk was stopped at one
+-- of them
 abbrev pub Poured : {S : Type 0} → (S → List Item → Type 0) → Pipeline → List Item → List Item → Result Fed AllocError → List Item → S → Type 0
 Poured h line xs whole (Ok fed.More) pending s = Holds h line xs whole pending s
 Poured h line xs whole (Ok (fed.Fault f)) pending s = IsFed h xs (piped line (trace whole end.Done)) (Ok (fed.Fault f)) s

@@ -1,13 +1,11 @@
 -- Condition: division by multiplication.
-use Rattle.std.specs.Prelude.{◌≡◌, ℕ, ◌<◌, ◌≤◌, ◌+◌, ◌*◌, ◌-◌, ◌/◌, ◌^◌, ℤ, pos, negsuc, FitsSigned, List, unsigned_abs}
-use Rattle.std.specs.Int.{w64}
-use Rattle.batch_eval.specs.Lanes.{at}
-use Rattle.batch_eval.specs.declared.operands.Held.{Held}
-use Rattle.batch_eval.specs.declared.operands.Held.TheVariants as held
+use Rattle.std.specs.Prelude.{◌≡◌, ℕ, ◌<◌, ◌≤◌, ◌+◌, ◌*◌, ◌-◌, ◌/◌, ◌%◌, ◌^◌, ℤ, pos, negsuc, FitsSigned, unsigned_abs}
+use Rattle.std.specs.Int.{w64, cast_unsigned}
 use Rattle.batch_eval.specs.declared.reciprocal.Reciprocal.{Reciprocal}
 use Rattle.batch_eval.specs.declared.reciprocal.ShortReciprocal.{ShortReciprocal}
 
--- a magnitude that needs no more than these bits with its sign, over that of the divisor, is a product with the factor over a power of two
+-- a magnitude that needs no more than these bits with its sign, over the magnitude of the divisor, is a product with
+-- the factor over a power of two
 pub record Divides (bits : ℕ) (y : ℤ) (m s : ℕ) : Type 0 where
   pub divides : (n : ℕ) → n ≤ 2 ^ (bits - 1) → n * m / 2 ^ bits / 2 ^ s ≡ n / unsigned_abs y
   pub shift : s < bits
@@ -25,14 +23,9 @@ IsShortReciprocal r = Divides 32 r.divisor r.factor r.shift
 abbrev pub IsWithin : ℕ → ℤ → Type 0
 IsWithin most x = FitsSigned w64 x → unsigned_abs x ≤ most
 
--- those at the first lanes are
-abbrev pub AreWithin : ℕ → List ℤ → ℕ → Type 0
-AreWithin most xs live = (k : ℕ) → k < live → IsWithin most (at xs k)
-
--- those of an operand that is held are
-abbrev pub HeldIsWithin : ℕ → Held → List ℤ → ℕ → Type 0
-HeldIsWithin most held.Out out live = AreWithin most out live
-HeldIsWithin most (held.Register xs) out live = AreWithin most xs.now live
+-- the lower 31 bits of a number
+abbrev pub natural : ℤ → ℤ
+natural x = pos (cast_unsigned w64 x % 2 ^ 31)
 
 -- how far an integer is from 0, or from -1 if it is below 0
 abbrev pub distance : ℤ → ℕ

@@ -24,7 +24,7 @@ abbrev mutual
   FitsTest (connect o a b) room = (4096 ≤ room) × FitsTest a (room - 1024) × FitsTest b (room - 4096)
   FitsTest (choose_truth c a b) room = (4096 ≤ room) × FitsTest c (room - 1024) × FitsTest a (room - 4096) × FitsTest b (room - 4096)
 
--- the same of two operands
+-- there is room for two operands, the second one evaluated while the first is kept
 abbrev pub FitsBoth : Long → Long → ℕ → Type 0
 FitsBoth a b room = Fits a room × (1024 ≤ room) × Fits b (room - 1024)
 

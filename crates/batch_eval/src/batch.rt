@@ -1,16 +1,17 @@
 //! A batch of items in registers, and the stages over it.
 
-ghost use Rattle.batch_eval.specs.Batches.{CountsUp, StopsInside, end_after, item_at, listed_items, origin_at};
+ghost use Rattle.batch_eval.specs.Batches.{CountsUp, StopsInside, counted_item, end_after, item_at, lanes, listed_items, origin_at};
 ghost use Rattle.batch_eval.specs.Lanes.{at};
 ghost use Rattle.batch_eval.specs.Rooms.{Fits};
 ghost use Rattle.lambda_values.specs.Term.{long_of};
-ghost use Rattle.std.specs.Prelude.{◌≡◌, ◌+◌, ◌<◌, ◌≤◌, ◌^◌, List, [], ◌++◌, IfOk, None, Some, length, map, take};
+ghost use Rattle.std.specs.Prelude.{◌≡◌, ◌+◌, ◌<◌, ◌≤◌, ◌^◌, List, [], ◌++◌, IfOk, IsTrue, None, Some, length, map, take};
 ghost use Rattle.trace.specs.Stages.{of_item};
 ghost use Rattle.trace.specs.Stages.{map as abstract_map};
 ghost use Rattle.trace.specs.Cover.{placed};
 ghost use Rattle.trace.specs.Trace.{each, trace};
 ghost use Rattle.trace.specs.declared.item.Item.{Item};
 
+use crate::counted::eval_counted;
 use crate::listed::ListedItems;
 use crate::listing::{copy_front, list_items, list_places, list_values};
 use crate::pipeline::Pipeline;
@@ -105,7 +106,7 @@ impl Batch {
         })
     }
 
-    /// `map` of `LongStream`: each item's image, at the same place.
+    /// `map` of `LongStream`: the image of each item, at the place of that item.
     pub(crate) fn map(&mut self, image: &LongExpr, line: Pipeline<'_>, room: &mut [i64])
         requires { Fits (long_of image.now) (length room.old) }
         ensures { self.new ≡ each (of_item line.entry.first (abstract_map (long_of image.now)) line.entry.env.now) self.old.items self.old.ending }
@@ -151,6 +152,31 @@ impl Batch {
         self.end = stopped(End::Done, line.first, start, &self.origins, reached);
         self.live = reached.live;
         self.start = start;
+    }
+
+    /// Starts again with the images of numbers that count up, at places that do, if there are loops for it that read no register;
+    /// else answers false.
+    pub(crate) fn map_counted(
+        &mut self,
+        place: u64,
+        first: i64,
+        count: u64,
+        image: &LongExpr,
+        line: Pipeline<'_>,
+    ) -> bool
+        requires lanes { count ≤ 1024 }
+        requires few { place ≤ 2 ^ 62 }
+        ensures { IsTrue result → self.new ≡ each (of_item line.entry.first (abstract_map (long_of image.now)) line.entry.env.now) (lanes count (counted_item place first)) End.Done }
+    {
+        let live = count as usize;
+        let Some(reached) = eval_counted(image, line.env, first, live, &mut self.values) else {
+            return false;
+        };
+        let start = Some(place);
+        self.end = stopped(End::Done, line.first, start, &self.origins, reached);
+        self.live = reached.live;
+        self.start = start;
+        true
     }
 
     /// Starts again with items that lie elsewhere.

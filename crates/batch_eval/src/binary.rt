@@ -1,49 +1,50 @@
 //! The operators on two numbers: the type of each, and its loop.
 
-ghost use Rattle.batch_eval.specs.Lanes.{HasBeside, HasHeld, Reaches, at, beside_value, held_at};
+ghost use Rattle.batch_eval.specs.Lanes.{HasBeside, Reaches, at, beside_value};
 ghost use Rattle.lambda_values.specs.Operators.{binary_value};
 ghost use Rattle.lambda_values.specs.declared.operator.BinaryOperator.TheVariants as binary_operator;
 ghost use Rattle.std.specs.Prelude.{◌≡◌, ◌≤◌, length};
 
 use crate::kernel::Kernel;
-use crate::operands::{Beside, Held, by_kernel};
+use crate::lanes::Lanes;
+use crate::operands::{Beside, by_kernel};
 use crate::reached::Reached;
 use lambda_values::{BinaryOperator, FaultKind};
 
 /// An operator between two operands.
-pub(crate) fn by_operator(
+pub(crate) fn by_operator<A: Lanes>(
     operator: BinaryOperator,
-    held: Held<'_>,
+    a: A,
     beside: Beside<'_>,
     live: usize,
     out: &mut [i64],
 ) -> Reached
-    requires held { HasHeld held live }
+    requires a { live ≤ A.count a }
     requires beside { HasBeside beside live }
     requires out { live ≤ length out.old }
-    ensures { Reaches (λ k. beside_value (binary_value operator) beside.entry (held_at held.entry out.old k) k) (at out.new) live result }
+    ensures { Reaches (λ k. beside_value (binary_value operator) beside.entry (A.number a (at out.old k) k) k) (at out.new) live result }
 {
     match operator {
-        BinaryOperator::Add => by_kernel::<Add>(held, beside, live, out),
-        BinaryOperator::Subtract => by_kernel::<Subtract>(held, beside, live, out),
-        BinaryOperator::Multiply => by_kernel::<Multiply>(held, beside, live, out),
-        BinaryOperator::Divide => by_kernel::<Divide>(held, beside, live, out),
-        BinaryOperator::Remainder => by_kernel::<Remainder>(held, beside, live, out),
-        BinaryOperator::ShiftLeft => by_kernel::<ShiftLeft>(held, beside, live, out),
-        BinaryOperator::ShiftRight => by_kernel::<ShiftRight>(held, beside, live, out),
-        BinaryOperator::ShiftRightUnsigned => by_kernel::<ShiftRightUnsigned>(
-            held, beside, live, out,
+        BinaryOperator::Add => by_kernel::<Add, A>(a, beside, live, out),
+        BinaryOperator::Subtract => by_kernel::<Subtract, A>(a, beside, live, out),
+        BinaryOperator::Multiply => by_kernel::<Multiply, A>(a, beside, live, out),
+        BinaryOperator::Divide => by_kernel::<Divide, A>(a, beside, live, out),
+        BinaryOperator::Remainder => by_kernel::<Remainder, A>(a, beside, live, out),
+        BinaryOperator::ShiftLeft => by_kernel::<ShiftLeft, A>(a, beside, live, out),
+        BinaryOperator::ShiftRight => by_kernel::<ShiftRight, A>(a, beside, live, out),
+        BinaryOperator::ShiftRightUnsigned => by_kernel::<ShiftRightUnsigned, A>(
+            a, beside, live, out,
         ),
-        BinaryOperator::And => by_kernel::<And>(held, beside, live, out),
-        BinaryOperator::Xor => by_kernel::<Xor>(held, beside, live, out),
-        BinaryOperator::Or => by_kernel::<Or>(held, beside, live, out),
-        BinaryOperator::Min => by_kernel::<Min>(held, beside, live, out),
-        BinaryOperator::Max => by_kernel::<Max>(held, beside, live, out),
-        BinaryOperator::FloorDivide => by_kernel::<FloorDivide>(held, beside, live, out),
-        BinaryOperator::FloorRemainder => by_kernel::<FloorRemainder>(held, beside, live, out),
-        BinaryOperator::AddExact => by_kernel::<AddExact>(held, beside, live, out),
-        BinaryOperator::SubtractExact => by_kernel::<SubtractExact>(held, beside, live, out),
-        BinaryOperator::MultiplyExact => by_kernel::<MultiplyExact>(held, beside, live, out),
+        BinaryOperator::And => by_kernel::<And, A>(a, beside, live, out),
+        BinaryOperator::Xor => by_kernel::<Xor, A>(a, beside, live, out),
+        BinaryOperator::Or => by_kernel::<Or, A>(a, beside, live, out),
+        BinaryOperator::Min => by_kernel::<Min, A>(a, beside, live, out),
+        BinaryOperator::Max => by_kernel::<Max, A>(a, beside, live, out),
+        BinaryOperator::FloorDivide => by_kernel::<FloorDivide, A>(a, beside, live, out),
+        BinaryOperator::FloorRemainder => by_kernel::<FloorRemainder, A>(a, beside, live, out),
+        BinaryOperator::AddExact => by_kernel::<AddExact, A>(a, beside, live, out),
+        BinaryOperator::SubtractExact => by_kernel::<SubtractExact, A>(a, beside, live, out),
+        BinaryOperator::MultiplyExact => by_kernel::<MultiplyExact, A>(a, beside, live, out),
     }
 }
 

@@ -1,5 +1,5 @@
 //! The bounds of inner ranges, by columns: of all items of a batch before the first range is walked. For `of` with two
-//! operands their values are such a pair of numbers, too.
+//! operands, the two values are the bounds.
 
 ghost use Rattle.batch_eval.specs.Bounds.{HasBounds, HaveValues};
 ghost use Rattle.batch_eval.specs.Lanes.{at};
@@ -26,7 +26,7 @@ pub(crate) struct Bounds<'a> {
     pub(crate) tos: &'a [i64],
 }
 
-/// The expressions of the two numbers that the values of an inner stream come from, if it has such.
+/// The expressions of the two bounds of an inner stream, or none for a stream without two bounds.
 fn bounds_of(inner: &InnerExpr) -> Option<(&LongExpr, &LongExpr)>
     ensures { IfSome result (λ both. (env : Numbers) (x v w : ℤ) → HaveValues (long_of both.0.now) (long_of both.1.now) env x v w → HasBounds (inner_of inner.now) env x v w) }
 {
@@ -44,8 +44,8 @@ fn bounds_of(inner: &InnerExpr) -> Option<(&LongExpr, &LongExpr)>
     }
 }
 
-/// How much room each of the two bounds may take: a register, if there are such and enough is left for the later stages,
-/// and else nothing.
+/// How many lanes each of the two bounds may take: a register if the stream has bounds and enough room is left for the
+/// later stages, else 0.
 pub(crate) fn bound_room(inner: &InnerExpr, later: &[Stage], room: usize) -> usize
     requires { FitsStages (stages_of later.now) room }
     ensures within { result + result ≤ room }

@@ -11,7 +11,7 @@ use lambda_values::{BinaryOperator, BoolExpr, Faults, LongExpr};
 /// To gather the lanes that need an operand and to merge them again takes about as long as this many operators.
 const FEW_OPERATORS: u32 = 8;
 
-/// Whether an operand has a few operators, none of which is expensive or may have a fault.
+/// Whether an operand has few operators, and each is cheap and can't fault.
 pub(crate) fn is_cheap(operand: Operand<'_>) -> bool {
     match operand {
         Operand::Long(expr) => after_long(expr, FEW_OPERATORS + 1) > 0,
@@ -43,7 +43,7 @@ fn after_long(expr: &LongExpr, operators: u32) -> u32 {
     }
 }
 
-/// The same of a test.
+/// How many of these operators a test leaves; 0 if it is not cheap, or if there are too few.
 #[cycle(cheap)]
 fn after_test(test: &BoolExpr, operators: u32) -> u32 {
     if operators == 0 {

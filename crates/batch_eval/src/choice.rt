@@ -3,29 +3,16 @@
 ghost use Rattle.batch_eval.specs.Lanes.{Reaches, at};
 ghost use Rattle.batch_eval.specs.Rooms.{FitsChosen, FitsParted};
 ghost use Rattle.batch_eval.specs.Choices.{at_each, between, by_flag, chosen_value, operand_value};
-ghost use Rattle.lambda_values.specs.Earlier.{Numbers};
 ghost use Rattle.lambda_values.specs.Term.{truth_of};
 ghost use Rattle.lambda_values.specs.Value.{truth_value};
-ghost use Rattle.std.specs.Prelude.{◌≡◌, ◌<◌, ◌≤◌, ℕ, ℤ, IfSome, IsTrue, Ok, length};
+ghost use Rattle.std.specs.Prelude.{◌≡◌, ◌<◌, ◌≤◌, ℕ, IsTrue, Ok, length};
 
 use crate::cheap::is_cheap;
-use crate::choose::{Side, all_flags, gather, merge, select};
-use crate::flag::flag;
-use crate::lanes::{Number, Own, Register};
+use crate::choose::{Side, all_flags, gather, merge};
+use crate::operands::blend;
 use crate::reached::{Reached, all};
-use crate::register::{Inputs, LANES, Operand, eval_bool, eval_operand};
-use lambda_values::{BoolExpr, LongExpr};
-
-/// The number of an operand that is one.
-fn number_of(operand: Operand<'_>) -> Option<i64>
-    ensures { IfSome result (λ z. (x : ℤ) (env : Numbers) → operand_value operand.entry x env ≡ Ok z) }
-{
-    match operand {
-        Operand::Long(LongExpr::Number(number)) => Some(*number),
-        Operand::Flag(value) => Some(flag(value)),
-        _ => None,
-    }
-}
+use crate::register::{Inputs, LANES, Operand, eval_bool, eval_branch, eval_operand};
+use lambda_values::BoolExpr;
 
 /// Puts `condition ? a : b` into a register, up to its first fault. Where `a` and
 /// `b` are cheap and have no fault, both are evaluated at all lanes.
@@ -56,8 +43,8 @@ pub(crate) fn eval_chosen(
     eval_parted(flags, a, b, valid, out, rest).after(tested)
 }
 
-/// Puts the one of two operands that each flag chooses into a register, up to the first fault. Each is
-/// evaluated at the lanes that need it only; if all need the same one, at those where they lie.
+/// Puts the operand that each flag chooses into a register, up to the first fault. Each operand is evaluated only at
+/// the lanes that need it. If all lanes need one operand, it is evaluated where they lie.
 #[cycle(register)]
 fn eval_parted(
     flags: &[i64],
@@ -109,8 +96,8 @@ fn eval_parted(
     merge(flags, live, ones, others, out)
 }
 
-/// The same where both operands are cheap and have a value at each lane, and else false. Both are
-/// evaluated at all lanes.
+/// Puts the operand that each flag chooses into a register, if both operands are cheap and have a value at each lane;
+/// else answers false. Both are evaluated at all lanes.
 #[cycle(register)]
 fn eval_both(
     flags: &[i64],
@@ -130,18 +117,10 @@ fn eval_both(
     if !is_cheap(a) || !is_cheap(b) {
         return false;
     }
-    let (ones, rest) = room.split_at_mut(3 * LANES);
-    if let Some(number) = number_of(b) {
-        let first = eval_operand(a, inputs, out, rest);
-        select::<Own, Number>(flags, Own, Number(number), inputs.live, out);
-        return first.live == inputs.live;
-    }
-    let second = eval_operand(b, inputs, out, rest);
-    if let Some(number) = number_of(a) {
-        select::<Number, Own>(flags, Number(number), Own, inputs.live, out);
-        return second.live == inputs.live;
-    }
-    let first = eval_operand(a, inputs, ones, rest);
-    select::<Register<'_>, Own>(flags, Register(ones), Own, inputs.live, out);
+    let (ones, rest) = room.split_at_mut(LANES);
+    let (others, rest) = rest.split_at_mut(2 * LANES);
+    let (one, first) = eval_branch(a, inputs, ones, rest);
+    let (other, second) = eval_branch(b, inputs, others, rest);
+    blend(flags, one, other, inputs.live, out);
     first.live == inputs.live && second.live == inputs.live
 }

@@ -1,4 +1,5 @@
-//! Lanes by their flags: those of one kind in a register of their own, and two such registers as one again.
+//! Lanes by their flags: the lanes of one kind moved to a register of their own, and two of these registers merged
+//! again.
 
 ghost use Rattle.batch_eval.specs.Batches.{wanted, wants};
 ghost use Rattle.batch_eval.specs.Lanes.{Reaches, at, is_set as is_set_flag};

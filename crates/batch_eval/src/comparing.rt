@@ -1,35 +1,36 @@
-//! The comparisons of two numbers: the type of each, and its loop.
+//! The comparisons of two numbers: the type of each, and its loop. `x > y` is `y < x`.
 
-ghost use Rattle.batch_eval.specs.Lanes.{HasBeside, HasHeld, Reaches, at, beside_value, compared, held_at};
+ghost use Rattle.batch_eval.specs.Lanes.{HasBeside, Reaches, at, beside_value, compared};
 ghost use Rattle.lambda_values.specs.declared.operator.Comparison.TheVariants as comparison;
 ghost use Rattle.std.specs.Prelude.{◌≡◌, ◌≤◌, length};
 
 use crate::flag::flag;
-use crate::kernel::Kernel;
-use crate::operands::{Beside, Held, by_kernel};
+use crate::kernel::{Kernel, Swapped};
+use crate::lanes::Lanes;
+use crate::operands::{Beside, by_kernel};
 use crate::reached::Reached;
 use lambda_values::{Comparison, FaultKind};
 
 /// A comparison of two operands, as flags.
-pub(crate) fn by_comparison(
+pub(crate) fn by_comparison<A: Lanes>(
     comparison: Comparison,
-    held: Held<'_>,
+    a: A,
     beside: Beside<'_>,
     live: usize,
     out: &mut [i64],
 ) -> Reached
-    requires held { HasHeld held live }
+    requires a { live ≤ A.count a }
     requires beside { HasBeside beside live }
     requires out { live ≤ length out.old }
-    ensures { Reaches (λ k. beside_value (compared comparison) beside.entry (held_at held.entry out.old k) k) (at out.new) live result }
+    ensures { Reaches (λ k. beside_value (compared comparison) beside.entry (A.number a (at out.old k) k) k) (at out.new) live result }
 {
     match comparison {
-        Comparison::Equal => by_kernel::<Equal>(held, beside, live, out),
-        Comparison::NotEqual => by_kernel::<NotEqual>(held, beside, live, out),
-        Comparison::Less => by_kernel::<Less>(held, beside, live, out),
-        Comparison::LessOrEqual => by_kernel::<LessOrEqual>(held, beside, live, out),
-        Comparison::Greater => by_kernel::<Greater>(held, beside, live, out),
-        Comparison::GreaterOrEqual => by_kernel::<GreaterOrEqual>(held, beside, live, out),
+        Comparison::Equal => by_kernel::<Equal, A>(a, beside, live, out),
+        Comparison::NotEqual => by_kernel::<NotEqual, A>(a, beside, live, out),
+        Comparison::Less => by_kernel::<Less, A>(a, beside, live, out),
+        Comparison::LessOrEqual => by_kernel::<LessOrEqual, A>(a, beside, live, out),
+        Comparison::Greater => by_kernel::<Swapped<Less>, A>(a, beside, live, out),
+        Comparison::GreaterOrEqual => by_kernel::<Swapped<LessOrEqual>, A>(a, beside, live, out),
     }
 }
 
@@ -74,27 +75,5 @@ impl Kernel for LessOrEqual {
 
     fn apply(x: i64, y: i64) -> Result<i64, FaultKind> {
         Ok(flag(Comparison::LessOrEqual.apply(x, y)))
-    }
-}
-
-/// `x > y`, as a flag.
-pub(crate) struct Greater;
-
-impl Kernel for Greater {
-    ghost value = { compared comparison.Greater };
-
-    fn apply(x: i64, y: i64) -> Result<i64, FaultKind> {
-        Ok(flag(Comparison::Greater.apply(x, y)))
-    }
-}
-
-/// `x >= y`, as a flag.
-pub(crate) struct GreaterOrEqual;
-
-impl Kernel for GreaterOrEqual {
-    ghost value = { compared comparison.GreaterOrEqual };
-
-    fn apply(x: i64, y: i64) -> Result<i64, FaultKind> {
-        Ok(flag(Comparison::GreaterOrEqual.apply(x, y)))
     }
 }

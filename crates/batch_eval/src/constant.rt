@@ -32,7 +32,7 @@ pub(crate) fn constant_in(expr: &LongExpr) -> Option<i64>
     }
 }
 
-/// The number of an expression that is one, or that the name of an earlier job stands for.
+/// The number of a constant expression or of the earlier job that the expression names.
 pub(crate) fn number_in(expr: &LongExpr, env: &Env) -> Option<i64>
     ensures { IfSome result (λ z. (x : ℤ) → long_value (long_of expr.now) x env.now ≡ Ok z) }
 {

@@ -1,9 +1,8 @@
-//! An operator over lanes: which of its loops is run. An operator has a loop for any operands, in `binary.rt`; here are the
-//! shorter ways if the right operand is a number.
+//! An operator over lanes: which of its loops is run. An operator has a loop for any operands, in `binary.rt`; here are
+//! the shorter ways if the right operand is a number.
 
 ghost use Rattle.batch_eval.specs.Lanes.{HasBeside, HasHeld, Reaches, at, beside_value, held_at, infix_value, step_value};
 ghost use Rattle.batch_eval.specs.Powers.{power};
-ghost use Rattle.batch_eval.specs.Reciprocals.{HeldIsWithin};
 ghost use Rattle.lambda_values.specs.Operators.{binary_value};
 ghost use Rattle.std.specs.Prelude.{◌≡◌, ◌≤◌, ◌≤ℤ◌, ℤ, length, pos};
 
@@ -13,22 +12,22 @@ use crate::binary::{
 };
 use crate::comparing::by_comparison;
 use crate::division::{
-    DivideByReciprocal, Division, FloorDivideByReciprocal, FloorRemainderByReciprocal,
+    DivideByReciprocal, Division, FloorDivideByReciprocal, FloorRemainderByReciprocal, Natural,
     RemainderByReciprocal,
 };
-use crate::exact::{differences_within, held_within, sums_within};
+use crate::exact::{NATURAL, SHORT, differences_within, lanes_within, sums_within};
 use crate::kernel::Kernel;
-use crate::lanes::{Own, Register};
-use crate::loops::divide;
+use crate::lanes::{Lanes, Number, Own, Register, Stepped};
+use crate::loops::{divide, run};
 use crate::multiply::{MultiplyByHalf, is_half};
-use crate::operands::{Beside, Held, Step, by_kernel, by_number};
+use crate::operands::{Beside, Held, Step, by_kernel};
 use crate::power::{
     DivideByPower, FloorDivideByPower, FloorRemainderByPower, RemainderByPower, exponent_of,
 };
 use crate::reached::Reached;
-use crate::reciprocal::{Divisor, Reciprocal, ShortReciprocal, reciprocal_of, short_reciprocal_of};
-use crate::short::held_is_short;
+use crate::reciprocal::{Reciprocal, ShortReciprocal, reciprocal_of, short_reciprocal_of};
 use lambda_values::{BinaryOperator, Comparison, Faults};
+use std::marker::PhantomData;
 
 /// What stands between two operands.
 #[derive(Clone, Copy)]
@@ -58,161 +57,172 @@ pub(crate) fn by_infix(
     requires out { live ≤ length out.old }
     ensures { Reaches (λ k. beside_value (infix_value op) beside.entry (held_at held.entry out.old k) k) (at out.new) live result }
 {
-    match op {
-        Infix::Compute(operator) => match beside {
-            Beside::Number(Step::Stay, y) => match exponent_of(y) {
-                Some(exponent) => by_power(operator, held, y, exponent, live, out),
-                None => by_any_number(operator, held, y, live, out),
-            },
-            Beside::Number(step, y) => by_step_and_number(operator, held, step, y, live, out),
-            _ => by_operator(operator, held, beside, live, out),
-        },
-        Infix::Compare(comparison) => by_comparison(comparison, held, beside, live, out),
+    match held {
+        Held::Out => by_infix_lanes::<Own>(op, Own, beside, live, out),
+        Held::Register(xs) => by_infix_lanes::<Register<'_>>(op, Register(xs), beside, live, out),
     }
 }
 
-/// An operator between an operand after a step and a number.
-fn by_step_and_number(
+fn by_infix_lanes<A: Lanes>(
+    op: Infix,
+    a: A,
+    beside: Beside<'_>,
+    live: usize,
+    out: &mut [i64],
+) -> Reached
+    requires a { live ≤ A.count a }
+    requires beside { HasBeside beside live }
+    requires out { live ≤ length out.old }
+    ensures { Reaches (λ k. beside_value (infix_value op) beside.entry (A.number a (at out.old k) k) k) (at out.new) live result }
+{
+    match op {
+        Infix::Compute(operator) => match beside {
+            Beside::Number(Step::Stay, y) => match exponent_of(y) {
+                Some(exponent) => by_power(operator, a, y, exponent, live, out),
+                None => by_any_number(operator, a, y, live, out),
+            },
+            Beside::Number(step, y) => by_step_and_number(operator, a, step, y, live, out),
+            _ => by_operator(operator, a, beside, live, out),
+        },
+        Infix::Compare(comparison) => by_comparison(comparison, a, beside, live, out),
+    }
+}
+
+/// An operator between lanes after a step and a number.
+fn by_step_and_number<A: Lanes>(
     operator: BinaryOperator,
-    held: Held<'_>,
+    a: A,
     step: Step,
     y: i64,
     live: usize,
     out: &mut [i64],
 ) -> Reached
-    requires held { HasHeld held live }
+    requires a { live ≤ A.count a }
     requires out { live ≤ length out.old }
-    ensures { Reaches (λ k. binary_value operator (step_value step (held_at held.entry out.old k)) y) (at out.new) live result }
+    ensures { Reaches (λ k. binary_value operator (step_value step (A.number a (at out.old k) k)) y) (at out.new) live result }
 {
     let beside = Beside::Number(step, y);
     match operator {
         BinaryOperator::Multiply if is_half(y) => {
-            by_kernel::<MultiplyByHalf>(held, beside, live, out)
+            by_kernel::<MultiplyByHalf, A>(a, beside, live, out)
         }
-        _ => by_operator(operator, held, beside, live, out),
+        _ => by_operator(operator, a, beside, live, out),
     }
 }
 
-/// An operator between an operand that is held and a power of two, which has this exponent: a division by it needs none of the
+/// An operator between lanes and a power of two, which has this exponent: a division by it needs none of the
 /// processor.
-fn by_power(
+fn by_power<A: Lanes>(
     operator: BinaryOperator,
-    held: Held<'_>,
+    a: A,
     y: i64,
     exponent: i64,
     live: usize,
     out: &mut [i64],
 ) -> Reached
     requires power { y ≡ pos (power exponent) }
-    requires held { HasHeld held live }
+    requires a { live ≤ A.count a }
     requires out { live ≤ length out.old }
-    ensures { Reaches (λ k. binary_value operator (held_at held.entry out.old k) y) (at out.new) live result }
+    ensures { Reaches (λ k. binary_value operator (A.number a (at out.old k) k) y) (at out.new) live result }
 {
     match operator {
-        BinaryOperator::Divide => by_number::<DivideByPower>(held, exponent, live, out),
-        BinaryOperator::Remainder => { by_number::<RemainderByPower>(held, exponent, live, out) }
+        BinaryOperator::Divide => run::<DivideByPower, A, Number>(a, Number(exponent), live, out),
+        BinaryOperator::Remainder => {
+            run::<RemainderByPower, A, Number>(a, Number(exponent), live, out)
+        }
         BinaryOperator::FloorDivide => {
-            by_number::<FloorDivideByPower>(held, exponent, live, out)
+            run::<FloorDivideByPower, A, Number>(a, Number(exponent), live, out)
         }
         BinaryOperator::FloorRemainder => {
-            by_number::<FloorRemainderByPower>(held, exponent, live, out)
+            run::<FloorRemainderByPower, A, Number>(a, Number(exponent), live, out)
         }
-        _ => by_any_number(operator, held, y, live, out),
+        _ => by_any_number(operator, a, y, live, out),
     }
 }
 
-fn by_any_number(
+fn by_any_number<A: Lanes>(
     operator: BinaryOperator,
-    held: Held<'_>,
+    a: A,
     y: i64,
     live: usize,
     out: &mut [i64],
 ) -> Reached
-    requires held { HasHeld held live }
+    requires a { live ≤ A.count a }
     requires out { live ≤ length out.old }
-    ensures { Reaches (λ k. binary_value operator (held_at held.entry out.old k) y) (at out.new) live result }
+    ensures { Reaches (λ k. binary_value operator (A.number a (at out.old k) k) y) (at out.new) live result }
 {
     match operator {
-        BinaryOperator::Divide => by_divisor::<DivideByReciprocal, Divide>(held, y, live, out),
-        BinaryOperator::Remainder => by_divisor::<RemainderByReciprocal, Remainder>(
-            held, y, live, out,
+        BinaryOperator::Divide => by_divisor::<DivideByReciprocal, Divide, A>(a, y, live, out),
+        BinaryOperator::Remainder => by_divisor::<RemainderByReciprocal, Remainder, A>(
+            a, y, live, out,
         ),
-        BinaryOperator::FloorDivide => by_divisor::<FloorDivideByReciprocal, FloorDivide>(
-            held, y, live, out,
+        BinaryOperator::FloorDivide => by_divisor::<FloorDivideByReciprocal, FloorDivide, A>(
+            a, y, live, out,
         ),
-        BinaryOperator::FloorRemainder => by_divisor::<FloorRemainderByReciprocal, FloorRemainder>(
-            held, y, live, out,
-        ),
+        BinaryOperator::FloorRemainder => by_divisor::<
+            FloorRemainderByReciprocal,
+            FloorRemainder,
+            A,
+        >(a, y, live, out),
         BinaryOperator::AddExact => {
-            by_exact_number::<AddExact, Add>(sums_within(y), held, y, live, out)
+            by_exact_number::<AddExact, Add, A>(sums_within(y), a, y, live, out)
         }
         BinaryOperator::SubtractExact => {
-            by_exact_number::<SubtractExact, Subtract>(differences_within(y), held, y, live, out)
+            by_exact_number::<SubtractExact, Subtract, A>(differences_within(y), a, y, live, out)
         }
-        _ => by_step_and_number(operator, held, Step::Stay, y, live, out),
+        _ => by_step_and_number(operator, a, Step::Stay, y, live, out),
     }
 }
 
 /// An exact operator and a number: the wrapping operator, where no operand is out of these bounds.
-pub(crate) fn by_exact_number<K: Kernel, W: Kernel>(
+pub(crate) fn by_exact_number<K: Kernel, W: Kernel, A: Lanes>(
     bounds: (i64, i64),
-    held: Held<'_>,
+    a: A,
     y: i64,
     live: usize,
     out: &mut [i64],
 ) -> Reached
     requires wraps { (x : ℤ) → bounds.0 ≤ℤ x → x ≤ℤ bounds.1 → W.value x y ≡ K.value x y }
-    requires held { HasHeld held live }
+    requires a { live ≤ A.count a }
     requires out { live ≤ length out.old }
-    ensures { Reaches (λ k. K.value (held_at held.entry out.old k) y) (at out.new) live result }
+    ensures { Reaches (λ k. K.value (A.number a (at out.old k) k) y) (at out.new) live result }
 {
-    if held_within(held, out, bounds, live) {
-        by_number::<W>(held, y, live, out)
+    if lanes_within(a, bounds, live, out) {
+        run::<W, A, Number>(a, Number(y), live, out)
     } else {
-        by_number::<K>(held, y, live, out)
+        run::<K, A, Number>(a, Number(y), live, out)
     }
 }
 
-/// An operand that is held, and a divisor with a reciprocal.
-fn by_held_reciprocal<D: Division, R: Divisor>(
-    held: Held<'_>,
-    by: R,
-    live: usize,
-    out: &mut [i64],
-) -> Reached
-    requires by { R.divides by }
-    requires held { HasHeld held live }
-    requires out { live ≤ length out.old }
-    requires within { HeldIsWithin R.most held out.old live }
-    ensures { Reaches (λ k. D.value (held_at held.entry out.old k) (R.number by)) (at out.new) live result }
-{
-    match held {
-        Held::Out => divide::<D, R, Own>(Own, by, live, out),
-        Held::Register(xs) => divide::<D, R, Register<'_>>(Register(xs), by, live, out),
-    }
-}
-
-/// A division by a number: by its short reciprocal if it has one and all operands need no more than 32 bits, else by its reciprocal
-/// if it has one, else as the processor divides.
-#[tactic(auto, using(crate::proofs::ReciprocalLemmas::held_within_64))]
-fn by_divisor<D: Division, K: Kernel>(
-    held: Held<'_>,
+/// A division of lanes by a number: by its short reciprocal if it has one and no operand needs more than 32 bits, else by its
+/// reciprocal if it has one, else as the processor divides. If no operand is below 0 either, nothing is done for signs.
+#[tactic(auto, using(crate::proofs::ReciprocalLemmas::within_64, crate::proofs::ReciprocalLemmas::short_within, crate::proofs::ReciprocalLemmas::natural_within))]
+fn by_divisor<D: Division, K: Kernel, A: Lanes>(
+    a: A,
     y: i64,
     live: usize,
     out: &mut [i64],
 ) -> Reached
     requires divides { (x : ℤ) → D.value x y ≡ K.value x y }
-    requires held { HasHeld held live }
+    requires a { live ≤ A.count a }
     requires out { live ≤ length out.old }
-    ensures { Reaches (λ k. K.value (held_at held.entry out.old k) y) (at out.new) live result }
+    ensures { Reaches (λ k. K.value (A.number a (at out.old k) k) y) (at out.new) live result }
 {
     if let Some(by) = short_reciprocal_of(y) {
-        if held_is_short(held, out, live) {
-            return by_held_reciprocal::<D, ShortReciprocal>(held, by, live, out);
+        if lanes_within(a, NATURAL, live, out) {
+            let naturals: Stepped<Natural, A> = Stepped {
+                of: a,
+                by: 0,
+                kernel: PhantomData,
+            };
+            return divide::<D, ShortReciprocal, Stepped<Natural, A>>(naturals, by, live, out);
+        }
+        if lanes_within(a, SHORT, live, out) {
+            return divide::<D, ShortReciprocal, A>(a, by, live, out);
         }
     }
     match reciprocal_of(y) {
-        Some(by) => by_held_reciprocal::<D, Reciprocal>(held, by, live, out),
-        None => by_number::<K>(held, y, live, out),
+        Some(by) => divide::<D, Reciprocal, A>(a, by, live, out),
+        None => run::<K, A, Number>(a, Number(y), live, out),
     }
 }

@@ -1,14 +1,16 @@
 //! Division by a number whose reciprocal is known.
 
-ghost use Rattle.batch_eval.specs.Reciprocals.{away, distance as distance_of};
+ghost use Rattle.batch_eval.specs.Reciprocals.{away, distance as distance_of, natural};
 ghost use Rattle.lambda_values.specs.Operators.{binary_value, rounded_down};
 ghost use Rattle.lambda_values.specs.Wrap.{wrap};
 ghost use Rattle.lambda_values.specs.declared.fault.FaultKind.{FaultKind};
 ghost use Rattle.lambda_values.specs.declared.operator.BinaryOperator.TheVariants as binary_operator;
 ghost use Rattle.std.specs.Prelude.{ℤ, ◌≡◌, ◌<◌, ◌≤◌, ◌+◌, ◌*◌, ◌-◌, ◌%◌, ◌^◌, Ok, Result, neg_ℤ, unsigned_abs};
 
+use crate::kernel::Kernel;
 use crate::power::signed_as;
 use crate::reciprocal::{Divisor, HALF};
+use lambda_values::FaultKind;
 
 /// How far a number is from 0, or from -1 if it is below 0.
 pub(crate) fn distance(x: i64) -> u64
@@ -53,8 +55,8 @@ fn at_opposite_distance(x: i64, n: u64) -> i64
     if x > 0 { !above } else { above }
 }
 
-/// What is left of a magnitude after a multiple of a short divisor is taken away, if it is less than the divisor: by its lower
-/// half alone, so that no product has more than 64 bits.
+/// What is left of a magnitude after a multiple of a short divisor is taken away, if it is less than the divisor: by
+/// its lower half alone, so that no product has more than 64 bits.
 fn short_rest(n: u64, quotient: u64, divisor: u32) -> u64
     requires least { quotient * divisor ≤ n }
     requires most { n < quotient * divisor + divisor }
@@ -90,6 +92,17 @@ fn quotient_down<R: Divisor>(x: i64, by: R) -> i64
         at_opposite_distance(x, by.quotient(opposite_distance(x)))
     } else {
         at_distance(x, by.quotient(distance(x)))
+    }
+}
+
+/// The lower 31 bits of a number, which a compiler sees isn't below 0; the second operand isn't looked at.
+pub(crate) struct Natural;
+
+impl Kernel for Natural {
+    ghost value = { λ x _. Ok (natural x) };
+
+    fn apply(x: i64, _y: i64) -> Result<i64, FaultKind> {
+        Ok((x.cast_unsigned() % (1 << 31)).cast_signed())
     }
 }
 

@@ -1,10 +1,16 @@
-//! Where exact operators by a number can't overflow.
+//! Whether operands are within bounds: those in which exact operators by a number can't overflow, and those of 32 bits.
 
-ghost use Rattle.batch_eval.specs.Lanes.{HasHeld, at, held_at};
+ghost use Rattle.batch_eval.specs.Lanes.{at};
 ghost use Rattle.std.specs.Int.{w64};
 ghost use Rattle.std.specs.Prelude.{◌≤◌, ◌<◌, ℕ, ℤ, ◌+ℤ◌, ◌-ℤ◌, ◌≤ℤ◌, FitsSigned, IsTrue, length};
 
-use crate::operands::Held;
+use crate::lanes::Lanes;
+
+/// The integers from 0 that need no more than 32 bits.
+pub(crate) const NATURAL: (i64, i64) = (0, 2_147_483_647);
+
+/// All integers that need no more than 32 bits.
+pub(crate) const SHORT: (i64, i64) = (-2_147_483_648, 2_147_483_647);
 
 /// The least and the greatest `x` for which `x + y` needs no more than 64 bits.
 pub(crate) fn sums_within(y: i64) -> (i64, i64)
@@ -17,7 +23,7 @@ pub(crate) fn sums_within(y: i64) -> (i64, i64)
     }
 }
 
-/// The same of `x - y`.
+/// The least and the greatest `x` for which `x - y` needs no more than 64 bits.
 pub(crate) fn differences_within(y: i64) -> (i64, i64)
     ensures { (x : ℤ) → result.0 ≤ℤ x → x ≤ℤ result.1 → FitsSigned w64 (x -ℤ y) }
 {
@@ -29,26 +35,16 @@ pub(crate) fn differences_within(y: i64) -> (i64, i64)
 }
 
 /// Whether each of these lanes is within two bounds. There is no early end, so that the loop has no branch.
-fn lanes_within(xs: &[i64], bounds: (i64, i64), live: usize) -> bool
-    requires { live ≤ length xs.now }
-    ensures { IsTrue result → (k : ℕ) → k < live → (bounds.0 ≤ℤ at xs.now k) × (at xs.now k ≤ℤ bounds.1) }
+pub(crate) fn lanes_within<A: Lanes>(a: A, bounds: (i64, i64), live: usize, out: &[i64]) -> bool
+    requires a { live ≤ A.count a }
+    requires out { live ≤ length out.now }
+    ensures { IsTrue result → (k : ℕ) → k < live → (bounds.0 ≤ℤ A.number a (at out.now k) k) × (A.number a (at out.now k) k ≤ℤ bounds.1) }
 {
     let (least, greatest) = bounds;
     let mut within = true;
     for i in 0..live {
-        within = within & (least <= xs[i]) & (xs[i] <= greatest);
+        let value = a.get(i, out[i]);
+        within = within & (least <= value) & (value <= greatest);
     }
     within
-}
-
-/// Whether the lanes of an operand that is held are within the bounds.
-pub(crate) fn held_within(held: Held<'_>, out: &[i64], bounds: (i64, i64), live: usize) -> bool
-    requires held { HasHeld held live }
-    requires out { live ≤ length out.now }
-    ensures { IsTrue result → (k : ℕ) → k < live → (bounds.0 ≤ℤ held_at held.entry out.now k) × (held_at held.entry out.now k ≤ℤ bounds.1) }
-{
-    match held {
-        Held::Out => lanes_within(out, bounds, live),
-        Held::Register(xs) => lanes_within(xs, bounds, live),
-    }
 }

@@ -29,10 +29,10 @@ const FIRST_BATCH: u64 = 16;
 ///
 /// The sink gets what `feed_all` of `trace` gives it. Each operator of a stage goes over a whole batch
 /// before the next one, so lambdas may be evaluated at up to one batch of items more than decide the
-/// result, and after each `flatMap` at one batch of inner values more. Expressions that need more than 32 registers, and
-/// what comes after a fourth `flatMap`, are evaluated item by item; so is all of a source of under 64 items without a
-/// `flatMap` if no registers are there yet, and of any source if an allocation of registers failed.
-/// `NoMemory` comes from the sink alone, which then keeps what it has accepted before.
+/// result, and after each `flatMap` at one batch of inner values more. Expressions that need more than 32 registers,
+/// and what comes after a fourth `flatMap`, are evaluated item by item; so is all of a source of under 64 items without
+/// a `flatMap` if no registers are there yet, and of any source if an allocation of registers failed. `NoMemory` comes
+/// from the sink alone, which then keeps what it has accepted before.
 pub fn feed_batches<I: BatchSource, S: BatchSink>(
     line: Pipeline<'_>,
     source: &I,
@@ -48,8 +48,8 @@ pub fn feed_batches<I: BatchSource, S: BatchSink>(
     feed_from(line, source, FIRST_BATCH, registers, sink)
 }
 
-/// The same, with as many items as a batch holds in the first one already: for items that were in a batch together, so that
-/// there is one batch for each of theirs.
+/// Feeds a source as `feed_batches` does, but the first batch may hold 1,024 items already. It is for items that were
+/// in one batch together: they stay in one batch.
 pub fn feed_at_once<I: BatchSource, S: BatchSink>(
     line: Pipeline<'_>,
     source: &I,
@@ -65,7 +65,7 @@ pub fn feed_at_once<I: BatchSource, S: BatchSink>(
     feed_from(line, source, LANES as u64, registers, sink)
 }
 
-/// The same, with a first batch of this size.
+/// Feeds a source as `feed_batches` does, with a first batch of `first` items.
 fn feed_from<I: BatchSource, S: BatchSink>(
     line: Pipeline<'_>,
     source: &I,
@@ -89,7 +89,8 @@ fn feed_from<I: BatchSource, S: BatchSink>(
     fed
 }
 
-/// The same of stages that the room is enough for.
+/// Feeds a source as `feed_batches` does, with a first batch of `first` items, through stages for which the room is
+/// enough.
 fn feed_pieces<I: BatchSource, S: BatchSink>(
     line: Pipeline<'_>,
     source: &I,
@@ -132,6 +133,7 @@ fn feed_piece<I: BatchSource, S: BatchSink>(
 ) -> Result<Fed, NoMemory>
     requires wants { S.flow sink.old ≡ Flow.More }
     requires room { FitsStages (stages_of line.stages.now) (length space.old.room.items) }
+    requires some { 0 < count }
     requires lanes { count ≤ 1024 }
     requires within { position + count ≤ length (I.items source.now) }
     requires bound { length (I.items source.now) < 2 ^ 64 }
@@ -150,6 +152,14 @@ fn feed_piece<I: BatchSource, S: BatchSink>(
             };
             return feed_run(line, run, space, sink);
         }
+        if let Some(value) = source.value_from(position) {
+            if let Some((Stage::Map(image), later)) = line.split_first() {
+                let place = first + position;
+                if space.batch.map_counted(place, value, count, image, line) {
+                    return feed_space(later, space, sink);
+                }
+            }
+        }
     }
     if let Some(listed) = source.items_at(position, count) {
         return feed_listed(line, listed, space, sink);
@@ -158,8 +168,8 @@ fn feed_piece<I: BatchSource, S: BatchSink>(
     feed_space(line, space, sink)
 }
 
-/// Takes up to 1,024 items whose places and values lie side by side. A `filter` that comes first reads them there, unless the sink
-/// takes its flags.
+/// Takes up to 1,024 items whose places and values lie side by side. A `filter` that comes first reads them there,
+/// unless the sink takes its flags.
 fn feed_listed<S: BatchSink>(
     line: Pipeline<'_>,
     listed: ListedItems<'_>,

@@ -32,8 +32,9 @@ struct Places<'a> {
 }
 
 impl Batch {
-    /// Adds the values of the inner streams at the items of a batch, from a position on, up to the first item that has no
-    /// bounds, whose values have a fault, or for whose values there is no space. The result is the position of that item.
+    /// Adds the values of the inner streams at the items of a batch, from a position on, up to the first item that has
+    /// no bounds, whose values have a fault, or for whose values there is no space. The result is the position of that
+    /// item.
     pub(crate) fn add_few(&mut self, bounds: Bounds<'_>, batch: &Batch, position: u64) -> u64
         requires position { position ≤ length batch.now.items }
         requires froms { length bounds.froms.now ≤ length batch.now.items }
@@ -136,8 +137,8 @@ fn put_values(
     }
 }
 
-/// The same of inner streams whose values come so. Each kind has a loop of its own: to ask for the kind at each item takes as
-/// long as to put its values.
+/// Puts the values of inner streams of one kind into registers, after the values that are there. Each kind has a loop
+/// of its own: to ask for the kind at each item takes as long as to put its values.
 fn put_values_by<V: FromTwo>(
     bounds: Bounds<'_>,
     places: Places<'_>,

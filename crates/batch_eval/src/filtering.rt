@@ -45,7 +45,7 @@ impl Batch {
         self.start = None;
     }
 
-    /// Starts again with those of the values that lie elsewhere at which the test is true.
+    /// Starts again with the values of a run at which the test is true.
     pub(crate) fn filter_run(
         &mut self,
         run: PlacedValues<'_>,
@@ -77,7 +77,7 @@ impl Batch {
         self.start = None;
     }
 
-    /// The same of items that lie elsewhere.
+    /// Starts again with the listed items at which the test is true.
     pub(crate) fn filter_listed(
         &mut self,
         listed: ListedItems<'_>,
@@ -133,7 +133,7 @@ impl Batch {
         give_passing(test, line, lanes, &mut self.spare, room, sink)
     }
 
-    /// The same of values that lie elsewhere.
+    /// `filter` as the last stage over a run: gives a sink the values at which the test is true, where they lie.
     pub(crate) fn give_passing_run<S: BatchSink>(
         &mut self,
         run: PlacedValues<'_>,

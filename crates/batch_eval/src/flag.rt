@@ -1,4 +1,4 @@
-//! Booleans in a register: 1 for true, 0 for false.
+//! Booleans in a register: -1 for true, which a loop has from a comparison, and 0 for false.
 
 ghost use Rattle.batch_eval.specs.Lanes.{flag_of};
 ghost use Rattle.batch_eval.specs.Lanes.{is_set as is_set_flag};
@@ -8,7 +8,7 @@ ghost use Rattle.std.specs.Prelude.{◌≡◌};
 pub(crate) fn flag(value: bool) -> i64
     ensures { result ≡ flag_of value }
 {
-    if value { 1 } else { 0 }
+    if value { -1 } else { 0 }
 }
 
 /// Whether a flag is set: it is not 0.

@@ -20,7 +20,7 @@ use crate::staging::fed_by;
 use lambda_values::BoolExpr;
 use trace::{End, Fed, Flow, Item, LongSink, NoMemory};
 
-/// Values in lanes, and a flag for each of the first lanes. The items are those of the lanes whose flag isn't 0.
+/// Values in lanes, and a flag for each of the first lanes. The items are the values of the lanes whose flag isn't 0.
 #[derive(Clone, Copy)]
 pub struct FlaggedLanes<'a> {
     start: Option<u64>,

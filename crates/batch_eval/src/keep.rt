@@ -51,8 +51,8 @@ fn keep(flags: &[i64], live: usize, values: &mut [i64], origins: &mut [u64]) -> 
     kept
 }
 
-/// The items of the lanes whose flag is set, at places that count up from `first`: puts them to the front of registers, with
-/// their places listed, and answers how many they are.
+/// The items of the lanes whose flag is set, at places that count up from `first`: puts them to the front of registers,
+/// with their places listed, and answers how many they are.
 pub(crate) fn keep_from<A: Lanes>(
     flags: &[i64],
     live: usize,
@@ -83,7 +83,8 @@ pub(crate) fn keep_from<A: Lanes>(
     kept
 }
 
-/// The same of items that lie elsewhere, whose places are listed.
+/// Puts the listed items whose lane has a set flag to the front of registers, with their places, and answers how many
+/// they are.
 pub(crate) fn keep_listed(
     flags: &[i64],
     live: usize,

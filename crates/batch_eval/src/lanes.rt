@@ -1,7 +1,8 @@
 //! What loops over lanes read. Each is a type, so that one function is all loops.
 
 ghost use Rattle.batch_eval.specs.Lanes.{at, or_zero};
-ghost use Rattle.std.specs.Prelude.{◌≡◌, ◌<◌, ◌^◌, ℕ, ℤ, length};
+ghost use Rattle.lambda_values.specs.Wrap.{wrap};
+ghost use Rattle.std.specs.Prelude.{◌≡◌, ◌<◌, ◌^◌, ◌+ℤ◌, ℕ, ℤ, length, pos};
 
 use crate::kernel::Kernel;
 use std::marker::PhantomData;
@@ -59,6 +60,20 @@ impl Lanes for Number {
 
     fn get(self, _lane: usize, _old: i64) -> i64 {
         self.0
+    }
+}
+
+/// Numbers that count up from one.
+#[derive(Clone, Copy)]
+pub(crate) struct Counting(pub(crate) i64);
+
+impl Lanes for Counting {
+    ghost count = { λ _. 2 ^ 63 };
+
+    ghost number = { λ counting _ lane. wrap (counting.0 +ℤ pos lane) };
+
+    fn get(self, lane: usize, _old: i64) -> i64 {
+        self.0.wrapping_add(lane as i64)
     }
 }
 

@@ -1,13 +1,13 @@
 //! Walks through stages a batch of items at a time.
 //!
-//! `feed_all` of `trace` takes one item through all stages before the next one, and goes over the tree
-//! of an expression for each item. Here up to 1,024 items lie in registers, lane by lane, and each
-//! operator goes over all lanes before the next operator: one loop per operator and batch. A fault cuts
-//! the batch at its lane, so the next operator goes over the lanes before it only, and may meet the
-//! fault of an earlier lane, which then cuts further. What is left is what a walk item by item gives.
+//! `feed_all` of `trace` takes one item through all stages before the next one, and goes over the tree of an expression
+//! for each item. Here up to 1,024 items lie in registers, lane by lane, and each operator goes over all lanes before
+//! the next operator: one loop per operator and batch. A fault cuts the batch at its lane. The next operator goes over
+//! the lanes before it only, and may meet the fault of an earlier lane, which cuts further. What is left is what a walk
+//! item by item gives.
 //!
-//! Stands on `lambda_values` and `trace`. What it promises to its users: `feed_batches`, clauses `fed`,
-//! `flow` and `refused`, which are those of `feed_all` word for word.
+//! Stands on `lambda_values` and `trace`. What it promises to its users: `feed_batches`, clauses `fed`, `flow` and
+//! `refused`, which repeat the clauses of `feed_all` word for word.
 //! Begin with `feeding.rt`, `batch.rt` and `register.rt`, and `specs/Lanes.antt` (`Reaches`).
 //! Not promised: how fast it is (`bench/lanes` measures it), and that memory for registers is there.
 #![tactic(auto)]
@@ -20,6 +20,7 @@ mod choice;
 mod choose;
 mod comparing;
 mod constant;
+mod counted;
 mod dispatch;
 mod division;
 mod exact;
@@ -45,7 +46,6 @@ mod reciprocal;
 mod register;
 mod registers;
 mod room;
-mod short;
 mod sink;
 mod source;
 mod staging;

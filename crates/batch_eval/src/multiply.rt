@@ -1,4 +1,5 @@
-//! Multiplication by a number whose upper half is 0. AVX2 makes it of two products of halves; by any number it takes three.
+//! Multiplication by a number whose upper half is 0. AVX2 makes it of two products of halves; by any number it takes
+//! three.
 
 ghost use Rattle.batch_eval.specs.Lanes.{lower_half as lower_half_of};
 ghost use Rattle.lambda_values.specs.Operators.{binary_value};

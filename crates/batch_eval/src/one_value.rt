@@ -10,8 +10,8 @@ use crate::pipeline::Pipeline;
 use crate::room::fits;
 use lambda_values::InnerExpr;
 
-/// `flatMap` to inner streams of at most one value, as `of(x + 1)` or `empty()`: that value, at the same place. For
-/// others, and if there is no room for the expression, it changes nothing and answers false.
+/// `flatMap` to inner streams of at most one value, as `of(x + 1)` or `empty()`: puts that value at the place of the
+/// item. For other streams, and if there is no room for the expression, it changes nothing and answers false.
 pub(crate) fn map_to_one(
     batch: &mut Batch,
     inner: &InnerExpr,

@@ -1,11 +1,12 @@
 //! An operator over lanes: the loop for where its operands are.
 
-ghost use Rattle.batch_eval.specs.Lanes.{HasBeside, HasHeld, Reaches, at, beside_value, held_at, or_zero, step_value};
-ghost use Rattle.std.specs.Prelude.{◌≤◌, Ok, length};
+ghost use Rattle.batch_eval.specs.Lanes.{HasBeside, HasBranch, Reaches, at, beside_value, branch_at, is_set, step_value};
+ghost use Rattle.std.specs.Prelude.{◌≡◌, ◌<◌, ◌≤◌, ℕ, Ok, length, if◌then◌else◌};
 
 use crate::binary::{Add, And, Or, ShiftLeft, ShiftRight, ShiftRightUnsigned, Subtract, Xor};
+use crate::choose::select;
 use crate::kernel::{First, Kernel, Swapped};
-use crate::lanes::{Lanes, Number, Own, Register, Stepped};
+use crate::lanes::{Lanes, Number, Register, Stepped};
 use crate::loops::run;
 use crate::multiply::MultiplyByHalf;
 use crate::reached::Reached;
@@ -33,8 +34,8 @@ pub(crate) enum Step {
     Or(i64),
 }
 
-/// The other operand. `Register`: on the right, after a step. `Number`: on the right, and the operand that is held goes through
-/// the step. `NumberFirst`: on the left.
+/// The other operand. `Register`: on the right, after a step. `Number`: on the right, and the operand that is held goes
+/// through the step. `NumberFirst`: on the left.
 #[derive(Clone, Copy)]
 pub(crate) enum Beside<'a> {
     Register(&'a [i64], Step),
@@ -42,22 +43,34 @@ pub(crate) enum Beside<'a> {
     NumberFirst(i64),
 }
 
-/// An operator between an operand that is held and another one.
-pub(crate) fn by_kernel<K: Kernel>(
-    held: Held<'_>,
-    beside: Beside<'_>,
-    live: usize,
-    out: &mut [i64],
-) -> Reached
-    requires held { HasHeld held live }
-    requires beside { HasBeside beside live }
-    requires out { live ≤ length out.old }
-    ensures { Reaches (λ k. beside_value K.value beside.entry (held_at held.entry out.old k) k) (at out.new) live result }
-{
-    match held {
-        Held::Out => by_lanes::<K, Own>(Own, beside, live, out),
-        Held::Register(xs) => by_lanes::<K, Register<'_>>(Register(xs), beside, live, out),
-    }
+/// What a condition chooses at a lane: a number, or what a step makes of a register.
+#[derive(Clone, Copy)]
+pub(crate) enum Branch<'a> {
+    Number(i64),
+    Register(&'a [i64], Step),
+}
+
+/// Does this with lanes after a step.
+macro_rules! after_step {
+    ($step:expr, $of:ty, $a:expr, $lanes:ident => $done:expr) => {
+        after_step!($step, $of, $a, $lanes => $done, Add Subtract MultiplyByHalf ShiftLeft ShiftRight ShiftRightUnsigned And Xor Or)
+    };
+    ($step:expr, $of:ty, $a:expr, $lanes:ident => $done:expr, $($kernel:ident)*) => {
+        match $step {
+            Step::Stay => {
+                let $lanes = $a;
+                $done
+            }
+            $(Step::$kernel(by) => {
+                let $lanes: Stepped<$kernel, $of> = Stepped {
+                    of: $a,
+                    by,
+                    kernel: PhantomData,
+                };
+                $done
+            })*
+        }
+    };
 }
 
 /// One number at each lane.
@@ -68,28 +81,13 @@ pub(crate) fn fill(number: i64, live: usize, out: &mut [i64]) -> Reached
     run::<First, Number, Number>(Number(number), Number(0), live, out)
 }
 
-/// What another register has.
-pub(crate) fn copy(xs: &[i64], live: usize, out: &mut [i64]) -> Reached
-    requires xs { live ≤ length xs.now }
-    requires out { live ≤ length out.old }
-    ensures { Reaches (λ k. Ok (at xs.now k)) (at out.new) live result }
-{
-    run::<First, Register<'_>, Number>(Register(xs), Number(0), live, out)
-}
-
-/// An operator between an operand that is held and a number.
-pub(crate) fn by_number<K: Kernel>(held: Held<'_>, y: i64, live: usize, out: &mut [i64]) -> Reached
-    requires held { HasHeld held live }
-    requires out { live ≤ length out.old }
-    ensures { Reaches (λ k. K.value (held_at held.entry out.old k) y) (at out.new) live result }
-{
-    match held {
-        Held::Out => run::<K, Own, Number>(Own, Number(y), live, out),
-        Held::Register(xs) => run::<K, Register<'_>, Number>(Register(xs), Number(y), live, out),
-    }
-}
-
-fn by_lanes<K: Kernel, A: Lanes>(a: A, beside: Beside<'_>, live: usize, out: &mut [i64]) -> Reached
+/// An operator between lanes and another operand.
+pub(crate) fn by_kernel<K: Kernel, A: Lanes>(
+    a: A,
+    beside: Beside<'_>,
+    live: usize,
+    out: &mut [i64],
+) -> Reached
     requires a { live ≤ A.count a }
     requires beside { HasBeside beside live }
     requires out { live ≤ length out.old }
@@ -105,7 +103,7 @@ fn by_lanes<K: Kernel, A: Lanes>(a: A, beside: Beside<'_>, live: usize, out: &mu
 }
 
 /// An operator between two operands, the first one after a step.
-fn by_step<K: Kernel, A: Lanes, B: Lanes>(
+pub(crate) fn by_step<K: Kernel, A: Lanes, B: Lanes>(
     a: A,
     step: Step,
     b: B,
@@ -117,38 +115,36 @@ fn by_step<K: Kernel, A: Lanes, B: Lanes>(
     requires out { live ≤ length out.old }
     ensures { Reaches (λ k. K.value (step_value step (A.number a (at out.old k) k)) (B.number b (at out.old k) k)) (at out.new) live result }
 {
-    match step {
-        Step::Stay => run::<K, A, B>(a, b, live, out),
-        Step::Add(by) => after_step::<K, Add, A, B>(a, by, b, live, out),
-        Step::Subtract(by) => after_step::<K, Subtract, A, B>(a, by, b, live, out),
-        Step::MultiplyByHalf(by) => after_step::<K, MultiplyByHalf, A, B>(a, by, b, live, out),
-        Step::ShiftLeft(by) => after_step::<K, ShiftLeft, A, B>(a, by, b, live, out),
-        Step::ShiftRight(by) => after_step::<K, ShiftRight, A, B>(a, by, b, live, out),
-        Step::ShiftRightUnsigned(by) => {
-            after_step::<K, ShiftRightUnsigned, A, B>(a, by, b, live, out)
+    after_step!(step, A, a, lanes => run::<K, _, B>(lanes, b, live, out))
+}
+
+/// One branch into the lanes whose flag is set, and another one into the others.
+pub(crate) fn blend(flags: &[i64], one: Branch<'_>, other: Branch<'_>, live: usize, out: &mut [i64])
+    requires flags { live ≤ length flags.now }
+    requires one { HasBranch one live }
+    requires other { HasBranch other live }
+    requires out { live ≤ length out.old }
+    ensures { (k : ℕ) → k < live → at out.new k ≡ (if is_set (at flags.now k) then branch_at one.entry k else branch_at other.entry k) }
+{
+    match one {
+        Branch::Number(number) => blend_with(flags, Number(number), other, live, out),
+        Branch::Register(xs, step) => {
+            after_step!(step, Register<'_>, Register(xs), lanes => blend_with(flags, lanes, other, live, out))
         }
-        Step::And(by) => after_step::<K, And, A, B>(a, by, b, live, out),
-        Step::Xor(by) => after_step::<K, Xor, A, B>(a, by, b, live, out),
-        Step::Or(by) => after_step::<K, Or, A, B>(a, by, b, live, out),
     }
 }
 
-fn after_step<K: Kernel, S: Kernel, A: Lanes, B: Lanes>(
-    a: A,
-    by: i64,
-    b: B,
-    live: usize,
-    out: &mut [i64],
-) -> Reached
+fn blend_with<A: Lanes>(flags: &[i64], a: A, other: Branch<'_>, live: usize, out: &mut [i64])
+    requires flags { live ≤ length flags.now }
     requires a { live ≤ A.count a }
-    requires b { live ≤ B.count b }
+    requires other { HasBranch other live }
     requires out { live ≤ length out.old }
-    ensures { Reaches (λ k. K.value (or_zero (S.value (A.number a (at out.old k) k) by)) (B.number b (at out.old k) k)) (at out.new) live result }
+    ensures { (k : ℕ) → k < live → at out.new k ≡ (if is_set (at flags.now k) then A.number a (at out.old k) k else branch_at other.entry k) }
 {
-    let stepped = Stepped {
-        of: a,
-        by,
-        kernel: PhantomData,
-    };
-    run::<K, Stepped<S, A>, B>(stepped, b, live, out)
+    match other {
+        Branch::Number(number) => select(flags, a, Number(number), live, out),
+        Branch::Register(xs, step) => {
+            after_step!(step, Register<'_>, Register(xs), lanes => select(flags, a, lanes, live, out))
+        }
+    }
 }

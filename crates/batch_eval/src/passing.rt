@@ -40,7 +40,8 @@ pub fn count_passing(
     count_flags(flags, wanted, reached.live)
 }
 
-/// The same by a walk over the tree of the test for each value.
+/// How many values come before the first one at which the test isn't `wanted`, or faults, by a walk over the tree of
+/// the test for each value.
 fn count_one_by_one(test: &BoolExpr, wanted: bool, env: &Env, values: &[i64]) -> usize
     ensures within { result ≤ length values.now }
     ensures passed { (k : ℕ) → k < result → truth_value (truth_of test.now) (at values.now k) env.now ≡ Ok wanted }
@@ -54,8 +55,8 @@ fn count_one_by_one(test: &BoolExpr, wanted: bool, env: &Env, values: &[i64]) ->
     values.len()
 }
 
-/// How many of the first `live` flags come before the first one that is not as it is wanted. Mostly all are, which a loop without
-/// a branch finds out.
+/// How many of the first `live` flags come before the first one that is not as it is wanted. Mostly all are, which a
+/// loop without a branch finds out.
 fn count_flags(flags: &[i64], wanted: bool, live: usize) -> usize
     requires { live ≤ length flags.now }
     ensures within { result ≤ live }

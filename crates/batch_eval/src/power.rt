@@ -1,4 +1,4 @@
-//! Division by powers of two, by shifts and masks in place of the processor's division.
+//! Division by powers of two, by shifts and masks instead of the processor's division.
 
 ghost use Rattle.batch_eval.specs.Powers.{by_power_value, power, with_sign_of};
 ghost use Rattle.lambda_values.specs.Operators.{low_six_bits, rounded_down};

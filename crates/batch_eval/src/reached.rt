@@ -20,7 +20,7 @@ pub(crate) fn all(live: usize) -> Reached
 }
 
 impl Reached {
-    /// What two steps came to, of which this is the later: its fault is at an earlier lane.
+    /// What an earlier and this later step came to together: a fault of the later step is at an earlier lane.
     pub(crate) fn after(self, earlier: Reached) -> Reached
         ensures { result ≡ after self earlier }
     {

@@ -1,4 +1,4 @@
-//! Reciprocals of divisors, by which magnitudes are divided by a multiplication in place of the processor's division.
+//! Reciprocals of divisors, by which magnitudes are divided with a multiplication instead of the processor's division.
 
 ghost use Rattle.batch_eval.specs.Reciprocals.{IsReciprocal, IsShortReciprocal};
 ghost use Rattle.std.specs.Prelude.{◌≡◌, ◌<◌, ◌≤◌, ◌+◌, ◌*◌, ◌/◌, ◌^◌, ◌⊎◌, ℕ, ℤ, MatchOption, unsigned_abs};
@@ -26,7 +26,7 @@ pub(crate) trait Divisor: Copy {
         ensures value { result ≡ number self }
         ensures above { 1 < unsigned_abs result };
 
-    /// A magnitude over that of the divisor.
+    /// A magnitude divided by the magnitude of the divisor.
     fn quotient(self, n: u64) -> u64
         requires divides { divides self }
         requires n { n ≤ most }
@@ -34,8 +34,8 @@ pub(crate) trait Divisor: Copy {
         ensures bound { result < 2 ^ 63 };
 }
 
-/// A divisor, what a magnitude is multiplied by, and how far the upper 64 bits of the product are shifted. The factor is given
-/// by its halves, so that no product has more than 64 bits, and a loop can make several at a time.
+/// A divisor, what a magnitude is multiplied by, and how far the upper 64 bits of the product are shifted. The factor
+/// is given by its halves, so that no product has more than 64 bits, and a loop can make several at a time.
 #[derive(Clone, Copy)]
 pub(crate) struct Reciprocal {
     divisor: i64,
@@ -44,8 +44,8 @@ pub(crate) struct Reciprocal {
     shift: u32,
 }
 
-/// A divisor of at most 32 bits, what a magnitude of at most 32 bits is multiplied by, and how far the upper 32 bits of the product
-/// are shifted. No product has more than 64 bits, so a loop can make several at a time.
+/// A divisor of at most 32 bits, what a magnitude of at most 32 bits is multiplied by, and how far the upper 32 bits of
+/// the product are shifted. No product has more than 64 bits, so a loop can make several at a time.
 #[derive(Clone, Copy)]
 pub(crate) struct ShortReciprocal {
     divisor: i64,

@@ -1,6 +1,6 @@
 //! The values of an expression at the lanes of a batch: one loop per operator of the expression.
 
-ghost use Rattle.batch_eval.specs.Lanes.{HasHeld, Reaches, at, flagged, held_at, infix_value};
+ghost use Rattle.batch_eval.specs.Lanes.{HasBranch, HasHeld, Reaches, at, branch_at, flagged, held_at, infix_value};
 ghost use Rattle.batch_eval.specs.Rooms.{Fits, FitsBoth, FitsOperand, FitsTest};
 ghost use Rattle.batch_eval.specs.Choices.{at_each, between, operand_value};
 ghost use Rattle.lambda_values.specs.Operators.{on};
@@ -12,8 +12,10 @@ use crate::choice::eval_chosen;
 use crate::constant::number_in;
 use crate::dispatch::{Infix, by_infix, has_shorter_way};
 use crate::flag::flag;
-use crate::kernel::Opposite;
-use crate::operands::{Beside, Held, by_number, copy, fill};
+use crate::kernel::{First, Opposite};
+use crate::lanes::{Number, Own, Register};
+use crate::loops::run;
+use crate::operands::{Beside, Branch, Held, Step, fill};
 use crate::reached::{Reached, all};
 use crate::step::{last_step, no_step};
 use crate::unary::by_unary;
@@ -54,7 +56,12 @@ pub(crate) fn eval_long(
 {
     match expr {
         LongExpr::Number(number) => fill(*number, inputs.live, out),
-        LongExpr::Parameter(_) => copy(inputs.xs, inputs.live, out),
+        LongExpr::Parameter(_) => run::<First, _, _>(
+            Register(inputs.xs),
+            Number(0),
+            inputs.live,
+            out,
+        ),
         LongExpr::Reference(name) => {
             let number = inputs.env.number(name.as_slice()).unwrap_or(0);
             fill(number, inputs.live, out)
@@ -99,7 +106,7 @@ pub(crate) fn eval_bool(
         }
         BoolExpr::Not(operand) => {
             let first = eval_bool(operand, inputs, out, room);
-            by_number::<Opposite>(Held::Out, 0, first.live, out).after(first)
+            run::<Opposite, Own, Number>(Own, Number(0), first.live, out).after(first)
         }
         BoolExpr::Connect(Connective::And, a, b) => {
             let b = Operand::Bool(b);
@@ -138,6 +145,41 @@ pub(crate) fn eval_operand(
         Operand::Long(expr) => eval_long(expr, inputs, out, room),
         Operand::Bool(test) => eval_bool(test, inputs, out, room),
         Operand::Flag(value) => fill(flag(value), inputs.live, out),
+    }
+}
+
+/// What a condition may choose, without its last operator in a register, if that one may be a step.
+#[cycle(register)]
+pub(crate) fn eval_branch<'a>(
+    operand: Operand<'_>,
+    inputs: Inputs<'a>,
+    register: &'a mut [i64],
+    room: &mut [i64],
+) -> (Branch<'a>, Reached)
+    requires lanes { inputs.live ≤ 1024 }
+    requires xs { inputs.live ≤ length inputs.xs.now }
+    requires register { inputs.live ≤ length register.old }
+    requires room { FitsOperand operand (length room.old) }
+    ensures branch { HasBranch result.0 inputs.entry.live }
+    ensures reached { Reaches (at_each inputs.entry (operand_value operand.entry)) (branch_at result.0) inputs.entry.live result.1 }
+{
+    match operand {
+        Operand::Long(expr) => {
+            if let Some(number) = number_in(expr, inputs.env) {
+                return (Branch::Number(number), all(inputs.live));
+            }
+            let last = last_step(expr, inputs.env);
+            if let LongExpr::Parameter(_) = last.of {
+                return (Branch::Register(inputs.xs, last.step), all(inputs.live));
+            }
+            let reached = eval_long(last.of, inputs, register, room);
+            (Branch::Register(register, last.step), reached)
+        }
+        Operand::Bool(test) => {
+            let reached = eval_bool(test, inputs, register, room);
+            (Branch::Register(register, Step::Stay), reached)
+        }
+        Operand::Flag(value) => (Branch::Number(flag(value)), all(inputs.live)),
     }
 }
 

@@ -49,9 +49,9 @@ impl Registers {
         Registers { alloc, space: None }
     }
 
-    /// Registers that these stages can use for a walk over this number of items, moved out; a sink's test as well, unless it
-    /// needs more than 31 of them. There are none if the stages need more than 32, if the items are few, without a
-    /// `flatMap`, and an allocation would be needed, or if it failed.
+    /// Registers that these stages can use for a walk over this number of items, moved out; a sink's test as well,
+    /// unless it needs more than 31 of them. There are none if the stages need more than 32, if the items are few,
+    /// without a `flatMap`, and an allocation would be needed, or if it failed.
     pub(crate) fn take_for(
         &mut self,
         stages: &[Stage],
@@ -65,7 +65,8 @@ impl Registers {
         Some(space)
     }
 
-    /// The same, perhaps without batches for inner values.
+    /// Registers for a walk of these stages over this number of items, moved out, or none as in `take_for`. They may
+    /// have no batches for inner values.
     fn take_room(&mut self, stages: &[Stage], test: Option<&BoolExpr>, count: u64) -> Option<Space>
         ensures { IfSome result (λ space. FitsStages (stages_of stages.now) (length space.room.items)) }
     {
@@ -113,8 +114,8 @@ impl Space {
         })
     }
 
-    /// Adds batches for the inner values of the `flatMap`s among these stages, up to three, as far as memory for them is
-    /// there.
+    /// Adds batches for the inner values of the `flatMap`s among these stages, up to three, as far as memory for them
+    /// is there.
     fn nest(&mut self, alloc: Global, stages: &[Stage])
         ensures { self.new.room.items ≡ self.old.room.items }
     {

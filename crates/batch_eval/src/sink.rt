@@ -16,17 +16,18 @@ use trace::{Fed, Flow, LongSink, NoMemory, PlacedValues, SourceItems};
 /// A sink that takes the items of a batch at once.
 pub trait BatchSink: LongSink {
     /// Takes the items one after the other until it has enough, as `accept` takes one, and answers `More` or `Enough`.
-    /// How the walk ends after them is not the sink's matter. What the sink puts into the room isn't read by others:
+    /// It doesn't learn how the walk ends after them. The sink may write to the room, which no other reads:
     /// `count_passing` tests the values of a batch in it.
     ///
-    /// `accept_each` is such a call for any sink.
+    /// `accept_each` does this for any sink.
     fn accept_batch(&mut self, batch: &Batch, room: &mut [i64]) -> Result<Fed, NoMemory>
         requires wants { Self.flow self.old ≡ Flow.More }
         ensures fed { (xs : List Item) → Self.has_taken self.old xs → IsFed Self.has_taken xs (trace batch.now.items end.Done) result self.new }
         ensures flow { Self.flow self.new ≡ flow_after result }
         ensures refused { OnErr result Self.takes_memory };
 
-    /// The same of values that lie side by side. Unless a sink does better, it takes them one by one.
+    /// Takes values that lie side by side, as `accept` takes one item after the other. Unless a sink has a faster way,
+    /// it takes them one by one.
     fn accept_run(&mut self, run: PlacedValues<'_>, room: &mut [i64]) -> Result<Fed, NoMemory>
         requires wants { Self.flow self.old ≡ Flow.More }
         ensures fed { (xs : List Item) → Self.has_taken self.old xs → IsFed Self.has_taken xs (trace (placed run.entry.origin run.entry.values.now) end.Done) result self.new }
@@ -37,12 +38,13 @@ pub trait BatchSink: LongSink {
     }
 
     /// Whether a `filter` that comes last is to give its lanes with their flags, by `accept_flagged`, and not the items
-    /// that pass as a batch of their own, by `accept_batch`. The sink gets the same items either way.
+    /// that pass as a batch of their own, by `accept_batch`. Both give the sink equal items.
     fn takes_flags(&self) -> bool {
         false
     }
 
-    /// The same of the items of lanes whose flag is set. Unless a sink does better, it takes them one by one.
+    /// Takes the items of the lanes whose flag is set, as `accept` takes one item after the other. Unless a sink has a
+    /// faster way, it takes them one by one.
     fn accept_flagged(&mut self, lanes: FlaggedLanes<'_>) -> Result<Fed, NoMemory>
         requires wants { Self.flow self.old ≡ Flow.More }
         ensures fed { (xs : List Item) → Self.has_taken self.old xs → IsFed Self.has_taken xs

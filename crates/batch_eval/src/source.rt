@@ -3,7 +3,8 @@
 ghost use Rattle.batch_eval.specs.Batches.{item_at};
 ghost use Rattle.batch_eval.specs.Lanes.{at};
 ghost use Rattle.batch_eval.specs.Places.{CountsFrom, HasValue};
-ghost use Rattle.std.specs.Prelude.{◌≡◌, ◌+◌, ◌<◌, ◌≤◌, ◌^◌, ℕ, List, IfSome, None, OnErr, Some, drop, length, slice_get, take};
+ghost use Rattle.lambda_values.specs.Wrap.{wrap};
+ghost use Rattle.std.specs.Prelude.{◌≡◌, ◌+◌, ◌+ℤ◌, ◌<◌, ◌≤◌, ◌^◌, ℕ, List, IfSome, None, OnErr, Some, drop, length, pos, slice_get, take};
 ghost use Rattle.trace.specs.Sinks.{IsFed, flow_after};
 ghost use Rattle.trace.specs.Trace.{trace};
 ghost use Rattle.trace.specs.declared.item.End.TheVariants as end;
@@ -31,6 +32,14 @@ pub trait BatchSource: SourceItems {
         None
     }
 
+    /// The value at a position, if the values after it count up from it. A `map` that comes first then need not read them.
+    fn value_from(&self, position: u64) -> Option<i64>
+        requires within { position < length (Self.items self.now) }
+        ensures { IfSome result (λ first. (k : ℕ) → position + k < length (Self.items self.now) → HasValue (Self.items self.now) (position + k) (wrap (first +ℤ pos k))) }
+    {
+        None
+    }
+
     /// The items of `count` positions from one on, if their places and their values lie side by side in memory. A `filter` that
     /// comes first reads them there.
     fn items_at(&self, position: u64, count: u64) -> Option<ListedItems<'_>>
@@ -41,8 +50,8 @@ pub trait BatchSource: SourceItems {
         None
     }
 
-    /// Gives a sink all items until it has enough. The items of a batch, and values that lie side by side, go at once; others one
-    /// by one.
+    /// Gives a sink all items until it has enough. The items of a batch, and values that lie side by side, go at once;
+    /// others one by one.
     fn give<S: BatchSink>(&self, _room: &mut [i64], sink: &mut S) -> Result<Fed, NoMemory>
         requires wants { S.flow sink.old ≡ Flow.More }
         ensures fed { (xs : List Item) → S.has_taken sink.old xs → IsFed S.has_taken xs (trace (Self.items self.now) end.Done) result sink.new }
@@ -87,6 +96,10 @@ impl<I: BatchSource> BatchSource for SourcePart<'_, I> {
         self.source.values_at(self.from + position, count)
     }
 
+    fn value_from(&self, position: u64) -> Option<i64> {
+        self.source.value_from(self.from + position)
+    }
+
     fn items_at(&self, position: u64, count: u64) -> Option<ListedItems<'_>> {
         self.source.items_at(self.from + position, count)
     }
@@ -95,6 +108,10 @@ impl<I: BatchSource> BatchSource for SourcePart<'_, I> {
 impl BatchSource for RangeItems {
     fn first_place(&self) -> Option<u64> {
         Some(self.origin)
+    }
+
+    fn value_from(&self, position: u64) -> Option<i64> {
+        Some(self.item_at(position).value)
     }
 }
 

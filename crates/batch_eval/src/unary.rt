@@ -7,7 +7,9 @@ ghost use Rattle.std.specs.Prelude.{◌≡◌, ◌≤◌, length};
 
 use crate::dispatch::by_exact_number;
 use crate::kernel::Kernel;
-use crate::operands::{Held, by_number};
+use crate::lanes::{Lanes, Number, Own, Register};
+use crate::loops::run;
+use crate::operands::Held;
 use crate::reached::Reached;
 use lambda_values::{FaultKind, UnaryOperator};
 
@@ -22,12 +24,24 @@ pub(crate) fn by_unary(
     requires out { live ≤ length out.old }
     ensures { Reaches (λ k. unary_value operator (held_at held.entry out.old k)) (at out.new) live result }
 {
+    match held {
+        Held::Out => by_unary_lanes::<Own>(operator, Own, live, out),
+        Held::Register(xs) => by_unary_lanes::<Register<'_>>(operator, Register(xs), live, out),
+    }
+}
+
+fn by_unary_lanes<A: Lanes>(operator: UnaryOperator, a: A, live: usize, out: &mut [i64]) -> Reached
+    requires a { live ≤ A.count a }
+    requires out { live ≤ length out.old }
+    ensures { Reaches (λ k. unary_value operator (A.number a (at out.old k) k)) (at out.new) live result }
+{
+    let none = Number(0);
     match operator {
-        UnaryOperator::Negate => by_number::<Negate>(held, 0, live, out),
-        UnaryOperator::Complement => by_number::<Complement>(held, 0, live, out),
-        UnaryOperator::Absolute => by_number::<Absolute>(held, 0, live, out),
+        UnaryOperator::Negate => run::<Negate, A, Number>(a, none, live, out),
+        UnaryOperator::Complement => run::<Complement, A, Number>(a, none, live, out),
+        UnaryOperator::Absolute => run::<Absolute, A, Number>(a, none, live, out),
         UnaryOperator::NegateExact => {
-            by_exact_number::<NegateExact, Negate>((-i64::MAX, i64::MAX), held, 0, live, out)
+            by_exact_number::<NegateExact, Negate, A>((-i64::MAX, i64::MAX), a, 0, live, out)
         }
     }
 }

@@ -11,7 +11,7 @@ low_byte r hi lo m H L =
     let one : bit_and (hi * 256 + lo) 255 ≡ lo = and_mask (hi * 256 + lo) 8 ∙ omega arith in
     and_block 16 r m (hi * 256 + lo) 255 (omega arith) (omega arith) ∙ ap (λ x. bit_and r m * 65536 + x) one
 
--- the same of each pair of bytes
+-- a mask takes the lower byte of each pair of bytes
 low_bytes : (a b c d f g i j : ℕ) → a < 256 → b < 256 → c < 256 → d < 256 → f < 256 → g < 256 → i < 256 → j < 256
     → bit_and ((((j * 256 + i) * 65536 + (g * 256 + f)) * 65536 + (d * 256 + c)) * 65536 + (b * 256 + a)) 0x00ff_00ff_00ff_00ff
     ≡ ((i * 65536 + f) * 65536 + c) * 65536 + a

@@ -315,7 +315,7 @@ rows_on (row ∷ rows) width r s xs rest more is (inr (init, e)) good all after 
     let (here, later) = rows_good width r row rows good in
     row_on s xs rest row rows more r reads here all (λ t ys tis lines left. rows_on rows width (r + 1) t ys rest more tis lines later left after)
 
--- the rows of lines without a fault are those of the text that goes on after them
+-- the rows of lines without a fault are rows of the text that goes on after them
 pub AreRead-on : (xs rest : List ℕ) (more : List (List (List ℕ))) (a b : List NamedColumn) (read : AreRead xs [] a b) → IsLines xs → AreRowsOf rest more
     → AreRowsOf (xs ++ rest) (read.rows ++ more)
 AreRead-on xs rest more a b read lines after =

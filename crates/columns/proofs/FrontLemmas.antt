@@ -49,7 +49,7 @@ cells_of_first : (header : List (List ℕ)) (rows : List (List (List ℕ))) → 
 cells_of_first [] rows h = absurd (omega arith)
 cells_of_first (name ∷ names) rows h = length-map rows first_number
 
--- as many rows as cells of the first column
+-- the number of rows is the number of cells of the first column
 rows_so_far : (front : List ℕ) (columns : List NamedColumn) (f : IsFront front columns) → 0 < length columns → length (cells_at columns 0) ≡ length f.rows
 rows_so_far front columns f h =
     ap (λ c. length (cells_at c 0)) (f.put ∙ with_rows-columns_under f.header [] f.rows) ∙ cells_of_first f.header f.rows (omega (arith, h, width_of front columns f))
@@ -103,7 +103,7 @@ IsFront-whole front rest a b f read all are =
     read.put ∙ ap (λ k. with_rows k read.rows) f.put ∙ sym (with_rows-append (columns_under f.header []) f.rows read.rows) in
     whole_table all f.header rows b (AreRowsOf-same (front ++ rest) all (f.header ∷ rows) are here) f.fits good put
 
--- the same, of a whole file
+-- the rest of a whole file is plain
 pub IsFront-file : (bytes : List ℕ) (end : ℕ) (a b : List NamedColumn) → IsFront (take end (strip_bom bytes)) a → AreRead (drop end (strip_bom bytes)) [] a b → cells_of bytes ≡ Ok b
 IsFront-file bytes end a b f read =
     let text : take end (strip_bom bytes) ++ drop end (strip_bom bytes) ≡ strip_bom bytes = take-append-drop end (strip_bom bytes) in
@@ -220,7 +220,7 @@ pub IsPutBy-records : (a b : Option (List ℕ)) (bytes gone text : List ℕ) (be
 IsPutBy-records a b bytes gone text before now answer some consumed is put =
     (gone, consumed, λ front f. IsFront-records front (bytes ++ gone) before now answer some f (rw is at put))
 
--- the mark at the start of a text is that of its beginning
+-- the mark at the start of a text is the mark at the start of its beginning
 pub strip_bom-more : (bytes more : List ℕ) → 3 ≤ length bytes → strip_bom (bytes ++ more) ≡ strip_bom bytes ++ more
 unfolding strip_bom
 strip_bom-more [] more h = absurd (omega arith)

@@ -6,7 +6,7 @@ use Rattle.std.proofs.lemmas.List.Folds.{list_all_at}
 use Rattle.std.proofs.lemmas.List.Sums.{fold_more}
 use Rattle.std.specs.List.{list_all}
 use Rattle.columns.specs.declared.table.Column.{Column}
-use Rattle.columns.specs.declared.pieces.Piece.{Piece}
+use Rattle.columns.specs.declared.pieces.TextPiece.{TextPiece}
 use Rattle.columns.specs.Pieces.{ArePut, IsPiece, IsPieceThere, append_columns, append_pieces, blanks, cells_at, with_pieces}
 use Rattle.columns.specs.PlainRows.{AreRead}
 use Rattle.columns.proofs.PlainRowLemmas.{AreRead-join}
@@ -65,7 +65,7 @@ length-append_columns [] piece = refl
 length-append_columns (c ∷ columns) [] = refl
 length-append_columns (c ∷ columns) (p ∷ piece) = ap suc (length-append_columns columns piece)
 
-length-append_pieces : (pieces : List Piece) (columns : List NamedColumn) → length (append_pieces columns pieces) ≡ length columns
+length-append_pieces : (pieces : List TextPiece) (columns : List NamedColumn) → length (append_pieces columns pieces) ≡ length columns
 length-append_pieces [] columns = refl
 length-append_pieces (p ∷ pieces) columns =
     length-append_pieces pieces (append_columns columns (map named p.columns.items)) ∙ length-append_columns columns (map named p.columns.items)
@@ -77,7 +77,7 @@ get_or-append_columns (c ∷ columns) [] i d h = rw (append-nil (get_or (c ∷ c
 get_or-append_columns (c ∷ columns) (p ∷ piece) zero d h = refl
 get_or-append_columns (c ∷ columns) (p ∷ piece) (suc i) d h = get_or-append_columns columns piece i d (omega arith)
 
-get_or-append_pieces : (pieces : List Piece) (columns : List NamedColumn) (i : ℕ) (d : NamedColumn) → i < length columns
+get_or-append_pieces : (pieces : List TextPiece) (columns : List NamedColumn) (i : ℕ) (d : NamedColumn) → i < length columns
     → get_or (append_pieces columns pieces) i d ≡ with_pieces (get_or columns i d) pieces i
 get_or-append_pieces [] columns i d h = refl
 get_or-append_pieces (p ∷ pieces) columns i d h =
@@ -91,7 +91,7 @@ whole_at columns i c h whole = elim (cases_Bool (get_or columns i c).is_whole) [
   | inr other ↦ cc (sym whole ∙ list_all_at (λ k. k.is_whole) columns i c h other)
 ]
 
-put_at : (pieces : List Piece) (before after : List Column) (d : NamedColumn) → length after ≡ length before → ArePut pieces before after → list_all (λ k. k.is_whole) after ≡ true
+put_at : (pieces : List TextPiece) (before after : List Column) (d : NamedColumn) → length after ≡ length before → ArePut pieces before after → list_all (λ k. k.is_whole) after ≡ true
     → (i : ℕ) → i < length (map named after) → get_or (map named after) i d ≡ get_or (append_pieces (map named before) pieces) i d
 put_at pieces before [] d same put whole i h = absurd (omega arith)
 put_at pieces before (a ∷ after) d same put whole i h =
@@ -103,7 +103,7 @@ put_at pieces before (a ∷ after) d same put whole i h =
     ∙ sym (get_or-append_pieces pieces (map named before) i d in_named)
 
 -- columns that are whole have the cells of all pieces
-pub put_all : (pieces : List Piece) (before after : List Column) → length after ≡ length before → ArePut pieces before after → list_all (λ k. k.is_whole) after ≡ true
+pub put_all : (pieces : List TextPiece) (before after : List Column) → length after ≡ length before → ArePut pieces before after → list_all (λ k. k.is_whole) after ≡ true
     → map named after ≡ append_pieces (map named before) pieces
 put_all pieces before after same put whole =
     let d : NamedColumn = record { name = []; cells = [] } in
@@ -118,28 +118,28 @@ cells_there (k ∷ columns) zero c h here = ap (λ x. x.cells.items) (sym here)
 cells_there (k ∷ columns) (suc i) c h here = cells_there columns i c (omega arith) here
 
 -- one piece more
-with_pieces_more : (c : NamedColumn) (pieces : List Piece) (i place : ℕ) (p : Piece) → i < length pieces
+with_pieces_more : (c : NamedColumn) (pieces : List TextPiece) (i place : ℕ) (p : TextPiece) → i < length pieces
     → with_pieces c (take (i + 1) pieces) place
     ≡ record { name = c.name; cells = (with_pieces c (take i pieces) place).cells ++ cells_at (map named (get_or pieces i p).columns.items) place }
 with_pieces_more c pieces i place p h =
     ap (λ cells. record { name = c.name; cells = cells }) (fold_more (λ k q. k ++ cells_at (map named q.columns.items) place) c.cells pieces i p h)
 
-append_pieces_more : (columns : List NamedColumn) (pieces : List Piece) (i : ℕ) (p : Piece) → i < length pieces
+append_pieces_more : (columns : List NamedColumn) (pieces : List TextPiece) (i : ℕ) (p : TextPiece) → i < length pieces
     → append_pieces columns (take (i + 1) pieces) ≡ append_columns (append_pieces columns (take i pieces)) (map named (get_or pieces i p).columns.items)
 append_pieces_more columns pieces i p h = fold_more (λ k q. append_columns k (map named q.columns.items)) columns pieces i p h
 
-pub put_more : (before : NamedColumn) (pieces : List Piece) (i place : ℕ) (p : Piece) (k : NamedColumn) (cells more : List ℤ) → i < length pieces → p ≡ get_or pieces i p
+pub put_more : (before : NamedColumn) (pieces : List TextPiece) (i place : ℕ) (p : TextPiece) (k : NamedColumn) (cells more : List ℤ) → i < length pieces → p ≡ get_or pieces i p
     → k ≡ with_pieces before (take i pieces) place → cells_at (map named p.columns.items) place ≡ more → cells ≡ k.cells ++ more
     → record { name = k.name; cells = cells } ≡ with_pieces before (take (i + 1) pieces) place
 put_more before pieces i place p k cells more h here so_far there grown =
-    let cells_of : Piece → List ℤ = λ q. cells_at (map named q.columns.items) place in
+    let cells_of : TextPiece → List ℤ = λ q. cells_at (map named q.columns.items) place in
     let name : k.name ≡ before.name = ap (λ q. q.name) so_far in
     let all : cells ≡ (with_pieces before (take i pieces) place).cells ++ cells_of (get_or pieces i p) =
     grown ∙ ap (λ m. k.cells ++ m) (sym there ∙ ap cells_of here) ∙ ap (λ q. q.cells ++ cells_of (get_or pieces i p)) so_far in
     rw (name, all) (sym (with_pieces_more before pieces i place p h))
 
 -- the next piece is read, and starts where the one before it ends
-pub put_next : (text : List ℕ) (columns : List NamedColumn) (from at width : ℕ) (pieces : List Piece) (i : ℕ) (p : Piece) → width ≡ length columns
+pub put_next : (text : List ℕ) (columns : List NamedColumn) (from at width : ℕ) (pieces : List TextPiece) (i : ℕ) (p : TextPiece) → width ≡ length columns
     → All (IsPieceThere text width) pieces → i < length pieces → p ≡ get_or pieces i p → p.is_read ≡ true → p.from ≡ at
     → AreRead (drop from text) (drop at text) columns (append_pieces columns (take i pieces))
     → (p.to ≤ length text) × AreRead (drop from text) (drop p.to text) columns (append_pieces columns (take (i + 1) pieces))

@@ -128,6 +128,6 @@ quoted_there text at end n is_last ys in_text first h within second number after
 pub past : (text : List ℕ) (at end : ℕ) (n : ℤ) → number_of (take (end - at) (drop at text)) ≡ Some n → at < end
 past text at end n h = omega (arith, number_length (take (end - at) (drop at text)) n h, length-take (end - at) (drop at text))
 
--- a number that was passed on is the same
+-- a number that was passed on doesn't change
 pub passed : (cell : List ℕ) (v x : ℤ) → number_of cell ≡ Some v → x ≡ to_z w64 (of_z w64 v) → number_of cell ≡ Some x
 passed cell v x h e = h ∙ ap Some (sym (e ∙ to_z-of_z w64 v (SpellsCell-number_of cell v h).fits))

@@ -48,7 +48,7 @@ after_record cfg n [] s p h e more =
     rw (start, nothing, records_from-none cfg n) (st.StartRecord, [], (refl, refl), refl)
 after_record cfg n (c ∷ rest) s p h e more = more p.1 p.2 (omega (arith, next_record-shorter cfg rest s [] [] c p e))
 
--- as many records as there are bytes, and one more, are all
+-- the number of bytes, and one more, is enough for all records
 pub AreRecords-records_from : (cfg : Config) (n : ℕ) (s : State) (xs : List ℕ) → length xs < n → AreRecords cfg s xs (records_from cfg n s xs)
 unfolding records_from Reached
 AreRecords-records_from cfg zero s xs h = absurd (omega arith)

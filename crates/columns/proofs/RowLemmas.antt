@@ -44,7 +44,7 @@ pub columns_under-append : (names : List (List ℕ)) (name : List ℕ)
 columns_under-append [] name = refl
 columns_under-append (n ∷ names) name = ap (λ columns. record { name = n; cells = [] } ∷ columns) (columns_under-append names name)
 
--- the names of the columns under a header are those of the header
+-- the names of the columns under a header are the names of the header
 names_under : (names : List (List ℕ)) → map (λ c. c.name) (columns_under names []) ≡ names
 names_under [] = refl
 names_under (name ∷ names) = ap (λ l. name ∷ l) (names_under names)
@@ -76,7 +76,8 @@ with_row_more columns fields i c n in_columns in_fields value here =
     let cells : drop i fields ≡ get_or fields i [] ∷ drop (i + 1) fields = drop_more fields i [] in_fields in
     rw (front, back, split, cells, value) (append_assoc (take i columns) (after ∷ []) rest)
 
--- the rows that a reader has left, from row n on, give the fault and the table that all rows give, over the columns so far; the first of all is row f
+-- the rows that a reader has left, from row n on, give the fault and the table that all rows give, over the columns so
+-- far; the first of all is row f
 pub record RowsLeft (width f : ℕ) (reader : Reader (Bor (List ℕ))) (n : ℕ) (now start : List NamedColumn) (rows : List (List (List ℕ))) : Type 0 where
   pub left : List (List (List ℕ))
   pub reading : IsReading reader left
@@ -148,7 +149,7 @@ row_fault_is width r row h =
     let same : (length row == width) ≡ true = grind (arith, nat_tests) in
     rw same refl
 
--- the same of columns in memory: the column at the place is now a, with the number at its end
+-- of columns in memory, the column at the place is now a, with the number at its end
 pub put_number : (columns : List Column) (fields : List (List ℕ)) (i : ℕ) (c a : Column) (n : ℤ) → i < length columns → i < length fields
     → number_of (get_or fields i []) ≡ Some n → c ≡ get_or columns i c → named a ≡ record { name = c.name.items; cells = c.cells.items ++ n ∷ [] }
     → take (i + 1) (map named (set columns i a)) ++ with_row (drop (i + 1) (map named (set columns i a))) (drop (i + 1) fields)

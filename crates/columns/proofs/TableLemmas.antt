@@ -20,7 +20,7 @@ pub length-columns_under : (names : List (List ℕ)) (rows : List (List (List �
 length-columns_under [] rows = refl
 length-columns_under (name ∷ names) rows = ap suc (length-columns_under names (map (drop 1) rows))
 
--- as many columns as names
+-- the number of columns is the number of names
 pub length_of_header : (columns : List Column) (names : List (List ℕ)) → map named columns ≡ columns_under names [] → length columns ≡ length names
 length_of_header columns names e = sym (length-map columns named) ∙ ap length e ∙ length-columns_under names []
 

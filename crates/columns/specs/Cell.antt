@@ -17,7 +17,8 @@ abbrev pub IsSigned : List ℕ → ℕ → ℤ → Type 0
 IsSigned sign m n =
     ((sign ≡ []) × (n ≡ pos m)) ⊎ ((sign ≡ codes "+") × (n ≡ pos m)) ⊎ ((sign ≡ codes "-") × (n ≡ neg_ℤ (pos m)))
 
--- a cell spells a number: blanks, a sign or none, one digit or more, blanks, and the number lies between -2^63 and 2^63 - 1
+-- a cell spells a number: blanks, a sign or none, one digit or more, blanks, and the number lies between -2^63 and 2^63
+-- - 1
 pub record SpellsCell (cell : List ℕ) (n : ℤ) : Type 0 where
   pub before : List ℕ
   pub sign : List ℕ

@@ -13,7 +13,7 @@ records_of bytes = records default_config (strip_bom bytes)
 abbrev pub cells_of : List ℕ → Result (List NamedColumn) ColumnFault
 cells_of bytes = table_of (records_of bytes)
 
--- an answer is that of the bytes, or says that a read failed or that memory was refused
+-- the answer follows from the bytes, or says that a read failed or that memory was refused
 abbrev pub IsAnswerTo : List ℕ → Result (List NamedColumn) ColumnFault → Type 0
 IsAnswerTo bytes answer =
     MatchResult answer (λ columns. cells_of bytes ≡ Ok columns) (λ fault. fault ≢ Read → fault ≢ NoMemory → cells_of bytes ≡ Err fault)

@@ -1,6 +1,6 @@
 -- Condition: rows that were read in pieces of their text.
 use Rattle.std.specs.Prelude.{◌≡◌, ◌<◌, ◌≤◌, ◌++◌, ◌∷◌, [], ℕ, ℤ, zero, suc, true, List, length, map, drop, fold, get_or}
-use Rattle.columns.specs.declared.pieces.Piece.{Piece}
+use Rattle.columns.specs.declared.pieces.TextPiece.{TextPiece}
 use Rattle.columns.specs.declared.table.Column.{Column}
 use Rattle.columns.specs.PlainRows.{AreRead}
 use Rattle.columns.specs.Table.{NamedColumn}
@@ -18,7 +18,7 @@ append_columns (c ∷ columns) [] = c ∷ columns
 append_columns (c ∷ columns) (p ∷ piece) = record { name = c.name; cells = c.cells ++ p.cells } ∷ append_columns columns piece
 
 -- columns with the cells of pieces under theirs, one piece after the other
-abbrev pub append_pieces : List NamedColumn → List Piece → List NamedColumn
+abbrev pub append_pieces : List NamedColumn → List TextPiece → List NamedColumn
 append_pieces columns pieces = fold (λ k p. append_columns k (map named p.columns.items)) columns pieces
 
 -- the cells of the column in a place
@@ -28,23 +28,23 @@ cells_at (c ∷ columns) zero = c.cells
 cells_at (c ∷ columns) (suc place) = cells_at columns place
 
 -- a column with the cells of the pieces' columns in this place under its own
-abbrev pub with_pieces : NamedColumn → List Piece → ℕ → NamedColumn
+abbrev pub with_pieces : NamedColumn → List TextPiece → ℕ → NamedColumn
 with_pieces c pieces place = record { name = c.name; cells = fold (λ k p. k ++ cells_at (map named p.columns.items) place) c.cells pieces }
 
 -- a column that is whole has the cells of all pieces
-abbrev pub IsPut : List Piece → ℕ → Column → Column → Type 0
+abbrev pub IsPut : List TextPiece → ℕ → Column → Column → Type 0
 IsPut pieces place before after = after.is_whole ≡ true → named after ≡ with_pieces (named before) pieces place
 
--- the same of each column
-abbrev pub ArePut : List Piece → List Column → List Column → Type 0
+-- each column that is whole has the cells of all pieces
+abbrev pub ArePut : List TextPiece → List Column → List Column → Type 0
 ArePut pieces before after =
     (place : ℕ) (c : Column) → place < length before → IsPut pieces place (get_or before place c) (get_or after place c)
 
 -- the piece holds the rows from a record's start to another one
-pub record IsPiece (text : List ℕ) (width : ℕ) (p : Piece) : Type 0 where
+pub record IsPiece (text : List ℕ) (width : ℕ) (p : TextPiece) : Type 0 where
   pub ends : p.to ≤ length text
   pub read : AreRead (drop p.from text) (drop p.to text) (blanks width) (map named p.columns.items)
 
--- the same of a piece that may not have been read
-abbrev pub IsPieceThere : List ℕ → ℕ → Piece → Type 0
+-- the piece holds the rows from a record's start to another one, if it was read
+abbrev pub IsPieceThere : List ℕ → ℕ → TextPiece → Type 0
 IsPieceThere text width p = p.is_read ≡ true → IsPiece text width p

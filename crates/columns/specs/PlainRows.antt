@@ -39,7 +39,8 @@ abbrev pub IsAfterField : List ℕ → Bool → List ℕ → Type 0
 IsAfterField xs is_last ys =
     ((xs ≡ []) × (is_last ≡ true) × (ys ≡ [])) ⊎ ((c : ℕ) × (xs ≡ c ∷ ys) × (ends_field c ≡ true) × (is_last ≡ not (c == 44)))
 
--- a row's first field starts at xs; the row has no fault, the next record starts at ys, and its numbers put the columns from `before` to `after`
+-- a row's first field starts at xs; the row has no fault, the next record starts at ys, and its numbers put the columns
+-- from `before` to `after`
 pub record IsRowThere (xs ys : List ℕ) (before after : List NamedColumn) : Type 0 where
   pub row : List (List ℕ)
   pub ends : Ends (next_record default_config st.StartField [] [] xs) row ys
@@ -61,7 +62,8 @@ pub record EndsFirst (xs : List ℕ) (end : ℕ) : Type 0 where
   pub between : IsBetween state
   pub reads : (rest : List ℕ) → next_record default_config st.StartRecord [] [] (take end xs ++ rest) ≡ Some (fields, state, rest)
 
--- from a record's start at xs to one at ys there are rows without a fault, which put the columns from `before` to `after`
+-- from a record's start at xs to one at ys there are rows without a fault, which put the columns from `before` to
+-- `after`
 pub record AreRead (xs ys : List ℕ) (before after : List NamedColumn) : Type 0 where
   pub rows : List (List (List ℕ))
   pub reads : (more : List (List (List ℕ))) → AreRowsOf ys more → AreRowsOf xs (rows ++ more)

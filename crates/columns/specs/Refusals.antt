@@ -24,7 +24,7 @@ abbrev pub cell_fault : ℕ → ℕ → List (List ℕ) → Option ColumnFault
 cell_fault r c [] = None
 cell_fault r c (cell ∷ cells) = if is_some (number_of cell) then cell_fault r (c + 1) cells else Some (BadNumber r c)
 
--- row r has as many cells as there are columns, and then each of them spells a number
+-- row r has a cell for each column and no more, and then each cell spells a number
 abbrev pub row_fault : ℕ → ℕ → List (List ℕ) → Option ColumnFault
 row_fault width r row = if length row == width then cell_fault r 1 row else Some (RowLength r)
 

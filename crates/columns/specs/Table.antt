@@ -29,7 +29,8 @@ abbrev pub unless : Option ColumnFault → List NamedColumn → Result (List Nam
 unless None columns = Ok columns
 unless (Some fault) columns = Err fault
 
--- the table of some records, of which the first is the header: its columns, or the first fault of the header and then of the rows
+-- the table of some records, where the first one is the header: its columns, or the first fault of the header and then
+-- of the rows
 abbrev pub table_of : List (List (List ℕ)) → Result (List NamedColumn) ColumnFault
 table_of [] = Err NoHeader
 table_of (header ∷ rows) =

@@ -1,4 +1,5 @@
-//! Rows that are read by their records: those of a file of which a round holds more than plain text, and of one without a plain header.
+//! Rows that are read by their records: the rows of a file with a round that holds more than plain text, or with a
+//! header that isn't plain.
 
 ghost use Rattle.std.specs.Prelude.{◌≡◌, ◌≢◌, ◌++◌, ◌+◌, ◌<◌, ◌≤◌, ◌-◌, ℕ, List, IfErr, length, map};
 ghost use Rattle.std.specs.Io.KnownBytes.{Consumes};
@@ -20,7 +21,7 @@ use counted_io::CountedRead;
 use csv::ByteRecord;
 use std::alloc::Global;
 
-/// The columns of a file of which these bytes are read, and of all that the reader has left, by their records.
+/// The columns of these bytes and of all that the reader has left, read by their records.
 pub(crate) fn columns_by_records<R: CountedRead>(
     alloc: Global,
     reader: &mut R,

@@ -7,9 +7,9 @@ ghost use Rattle.std.specs.Char.{is_ascii_digit};
 ghost use Rattle.columns.specs.Cell.{SpellsCell, digits_value, is_blank};
 ghost use Rattle.columns.specs.Number.{drop_blanks, number_of, signed_digits, signed_number};
 
-/// The number that a cell spells in decimal digits, with spaces and tabs around it and one sign
-/// before it, or none. There may be any number of digits, of which the first ones may be zeros.
-/// `None` is any other text, and a number that an `i64` doesn't hold. Takes one look at each byte.
+/// The number that a cell spells in decimal digits, with one sign or none before them, and spaces and tabs around.
+/// There may be any number of digits, and leading zeros. `None` for any other text, and for a number that an `i64`
+/// doesn't hold. Looks at each byte once.
 pub fn read_cell(cell: &[u8]) -> Option<i64>
     ensures value { result ≡ number_of cell.now }
     ensures spells { IfSome result (λ n. SpellsCell cell.now n) }

@@ -60,7 +60,7 @@ fn value_of_lanes(lanes: u8x16, count: usize) -> u64
     eight_digits((both % (1 << 64)) as u64) * 100_000_000 + eight_digits((both >> 64) as u64)
 }
 
-/// The number that eight digits write, the first of which is the lowest byte of the word.
+/// The number that eight digits write. The first digit is the lowest byte of the word.
 #[inline(always)]
 fn eight_digits(word: u64) -> u64
     ensures value { (digits : List ℕ) → length digits ≡ 8 → AllBelowBase 10 digits → word ≡ number_l 256 digits

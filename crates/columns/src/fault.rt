@@ -18,7 +18,7 @@ pub enum ColumnFault {
     /// The row's leftmost cell that spells no number of 64 bits.
     #[error("columns: bad number in row {row} column {column}")]
     BadNumber { row: usize, column: usize },
-    /// The row hasn't as many cells as the header has names.
+    /// The row has more or fewer cells than the header has names.
     #[error("columns: wrong length of row {row}")]
     RowLength { row: usize },
     /// The header has more than 256 names.
@@ -33,7 +33,7 @@ pub enum ColumnFault {
 }
 
 impl ColumnFault {
-    /// The number that a fault is known by, from 1 to 7.
+    /// The number of a fault, from 1 to 7.
     pub fn number(&self) -> u8
         ensures { result ≡ number_of_fault self.now }
     {

@@ -7,7 +7,7 @@ ghost use Rattle.columns.specs.Places.{state_of};
 
 /// Where a reading stands in a record.
 #[derive(Clone, Copy)]
-enum Place {
+enum RecordPlace {
     RecordStart,
     FieldStart,
     Field,
@@ -34,7 +34,7 @@ pub(crate) fn header_end(text: &[u8]) -> Option<usize>
     ensures within { IfSome result (λ end. end ≤ length text.now) }
     ensures first { IfSome result (λ end. EndsFirst text.now end) }
 {
-    let mut place = Place::RecordStart;
+    let mut place = RecordPlace::RecordStart;
     for at in 0..text.len() {
         match place_after(place, text[at]) {
             Some(next) => place = next,
@@ -45,20 +45,24 @@ pub(crate) fn header_end(text: &[u8]) -> Option<usize>
 }
 
 /// The place after a byte, or `None` if the byte ends the record.
-fn place_after(place: Place, byte: u8) -> Option<Place>
+fn place_after(place: RecordPlace, byte: u8) -> Option<RecordPlace>
     ensures goes { IfSome result (λ next. (is_end (step default_config (state_of place) byte).1 ≡ false)
         × ((step default_config (state_of place) byte).0 ≡ state_of next)) }
     ensures ends { IfNone result ((is_end (step default_config (state_of place) byte).1 ≡ true)
         × IsBetween (step default_config (state_of place) byte).0) }
 {
     match place {
-        Place::Quoted if byte == b'"' => Some(Place::AfterQuote),
-        Place::Quoted => Some(Place::Quoted),
-        Place::AfterQuote if byte == b'"' => Some(Place::Quoted),
-        Place::RecordStart if byte == b'\r' || byte == b'\n' => Some(Place::RecordStart),
-        Place::RecordStart | Place::FieldStart if byte == b'"' => Some(Place::Quoted),
-        _ if byte == b',' => Some(Place::FieldStart),
+        RecordPlace::Quoted if byte == b'"' => Some(RecordPlace::AfterQuote),
+        RecordPlace::Quoted => Some(RecordPlace::Quoted),
+        RecordPlace::AfterQuote if byte == b'"' => Some(RecordPlace::Quoted),
+        RecordPlace::RecordStart if byte == b'\r' || byte == b'\n' => Some(
+            RecordPlace::RecordStart,
+        ),
+        RecordPlace::RecordStart | RecordPlace::FieldStart if byte == b'"' => Some(
+            RecordPlace::Quoted,
+        ),
+        _ if byte == b',' => Some(RecordPlace::FieldStart),
         _ if byte == b'\r' || byte == b'\n' => None,
-        _ => Some(Place::Field),
+        _ => Some(RecordPlace::Field),
     }
 }

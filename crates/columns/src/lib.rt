@@ -1,10 +1,10 @@
 //! Column files: text files of integer columns, read into their columns or refused.
 //!
-//! Stands on `csv`, whose own definition of the records of a text is cited here, on `counted_io`, whose
-//! names it gives out, and on `thiserror`. It is for the job reader, which takes a job's cells from `Columns::get`, and for the
-//! program. What it promises to them: `read_columns` and, on threads, `read_columns_by`, clause `cells`: the columns that the bytes
-//! give, names and cells in order, or the first fault with its row and column; clause `read`: a
-//! failed read is reported only if one was counted.
+//! Stands on `csv`, whose own definition of the records of a text is cited here, on `counted_io`, whose readers it
+//! gives out, and on `thiserror`. It is for the job reader, which takes a job's cells from `Columns::get`, and for the
+//! program. What it promises to them: `read_columns` and, on threads, `read_columns_by`, clause `cells`: the columns
+//! that the bytes give, names and cells in order, or the first fault with its row and column; clause `read`: a failed
+//! read is reported only if one was counted.
 //!
 //! Begin with `specs/Cells.antt` (bytes to columns), then `specs/Table.antt`, `specs/Refusals.antt`
 //! and `specs/Cell.antt` (the grammar of one number); of the code with `reading.rt`. `records.rt`
@@ -28,7 +28,7 @@ mod rows;
 mod table;
 
 pub use cell::read_cell;
-pub use counted_io::{Counted, CountedRead, ReadAllFault, read_all_of};
+pub use counted_io::{Counted, CountedRead};
 pub use fault::ColumnFault;
 pub use reading::{read_columns, read_columns_by};
 pub use table::Columns;

@@ -1,12 +1,12 @@
 //! Plain rows, read in pieces of their text on threads of their own.
 //!
-//! A text is cut after line feeds. Each piece is read as if a record began with it, and its rows are put
-//! under those of the piece before only if that one was read to this very place. So a cut inside quotes is
-//! never taken for one between records.
+//! A text is cut after line feeds. Each piece is read as if a record began with it. Its rows are put under the rows of
+//! the piece before only if that piece was read exactly up to this place, so no cut inside quotes is taken for one
+//! between records.
 //!
-//! As many pieces at a time as there are workers are read, each on a thread. Then each column gets their cells on a
-//! thread of its own. The vectors of the pieces are used again, since memory that is new to the system costs more time
-//! than the parsing of what is put there.
+//! One piece for each worker is read at a time, each on a thread. Then each column gets its cells on a thread of its
+//! own. The vectors of the pieces are used again, since memory that is new to the system costs more time than the
+//! parsing of what is put there.
 ghost use Rattle.std.specs.Prelude.{◌≡◌, ◌<◌, ◌≤◌, [], true, All, List, IfOk, IfSome, length, map, drop};
 ghost use Rattle.std.specs.Bool.{MatchBool};
 ghost use Rattle.std.specs.List.{list_all};
@@ -32,7 +32,7 @@ pub(crate) struct Team<'a, H> {
 
 /// The rows of a part of a text, under columns without names, if they were read.
 #[derive(Drop)]
-pub(crate) struct Piece {
+pub(crate) struct TextPiece {
     from: usize,
     to: usize,
     is_read: bool,
@@ -53,7 +53,7 @@ pub(crate) fn read_plain_rows_by<H: Threads + Sync>(
     ensures { result ≡ true → AreRead (drop from text.now) [] (map named columns.old) (map named columns.new) }
 {
     let bytes = team.piece;
-    if team.workers < 2 || text.len() - from <= bytes {
+    if text.len() - from <= bytes {
         return read_plain_rows(text, from, text.len(), columns);
     }
     let first = &text[from..from.saturating_add(bytes).min(text.len())];
@@ -65,16 +65,16 @@ pub(crate) fn read_plain_rows_by<H: Threads + Sync>(
     read_in_turns(team.rt, text, from, bytes, pieces.as_mut_slice(), columns)
 }
 
-/// Pieces of which none is read, with room for this many rows each.
+/// A number of pieces, none of them read yet, with room for this many rows each.
 pub(crate) fn empty_pieces(
     alloc: Global,
     count: usize,
     width: usize,
     rows: usize,
-) -> Result<Vec<Piece>, AllocError> {
+) -> Result<Vec<TextPiece>, AllocError> {
     let mut pieces = Vec::with_capacity(alloc, count)?;
     for _ in 0..count {
-        pieces.push(Piece {
+        pieces.push(TextPiece {
             from: 0,
             to: 0,
             is_read: false,
@@ -97,13 +97,13 @@ fn nameless_columns(alloc: Global, width: usize, rows: usize) -> Result<Vec<Colu
     Ok(columns)
 }
 
-/// Reads the rows from place `from` on, as many pieces in each turn as there are.
+/// Reads the rows from place `from` on, in turns of `pieces.len()` pieces.
 fn read_in_turns<H: Threads + Sync>(
     rt: &H,
     text: &[u8],
     from: usize,
     bytes: usize,
-    pieces: &mut [Piece],
+    pieces: &mut [TextPiece],
     columns: &mut [Column],
 ) -> bool
     requires within { from ≤ length text.now }
@@ -134,7 +134,7 @@ fn read_pieces<H: Threads + Sync>(
     text: &[u8],
     from: usize,
     bytes: usize,
-    pieces: &mut [Piece],
+    pieces: &mut [TextPiece],
     width: usize,
 )
     requires within { from ≤ length text.now }
@@ -142,7 +142,7 @@ fn read_pieces<H: Threads + Sync>(
     ensures { All (IsPieceThere text.now width) pieces.new }
 {
     let count = pieces.len().max(1);
-    let read = |index: usize, piece: &mut Piece|
+    let read = |index: usize, piece: &mut TextPiece|
         requires { (from ≤ length text.now) × (0 < width) }
         ensures { IsPieceThere text.entry.now width piece.new }
     { read_piece(text, from, index, bytes, width, piece) };
@@ -150,7 +150,14 @@ fn read_pieces<H: Threads + Sync>(
 }
 
 /// Reads the piece of this number of those from `from` on. A piece of another width stays unread.
-fn read_piece(text: &[u8], from: usize, index: usize, bytes: usize, width: usize, piece: &mut Piece)
+fn read_piece(
+    text: &[u8],
+    from: usize,
+    index: usize,
+    bytes: usize,
+    width: usize,
+    piece: &mut TextPiece,
+)
     requires within { from ≤ length text.now }
     requires some_column { 0 < width }
     ensures { IsPieceThere text.now width piece.new }
@@ -196,7 +203,7 @@ fn line_start(text: &[u8], at: usize) -> usize
 }
 
 /// Where the last piece ends, if all were read, the first from `from` on, and each starts where the one before it ends.
-fn end_of_pieces(text: &[u8], from: usize, pieces: &[Piece]) -> Option<usize>
+fn end_of_pieces(text: &[u8], from: usize, pieces: &[TextPiece]) -> Option<usize>
     requires within { from ≤ length text.now }
     ensures read { IfSome result (λ to. (columns : List NamedColumn) → All (IsPieceThere text.now (length columns)) pieces.now
         → AreRead (drop from text.now) (drop to text.now) columns (append_pieces columns pieces.now)) }
@@ -212,16 +219,18 @@ fn end_of_pieces(text: &[u8], from: usize, pieces: &[Piece]) -> Option<usize>
     Some(at)
 }
 
-/// Puts the cells of all pieces under the columns in their places, and answers whether there was memory for all of them.
-fn put_pieces<H: Threads + Sync>(rt: &H, pieces: &[Piece], columns: &mut [Column]) -> bool
+/// Puts the cells of all pieces under the columns in their places, and answers whether there was memory for all of
+/// them.
+fn put_pieces<H: Threads + Sync>(rt: &H, pieces: &[TextPiece], columns: &mut [Column]) -> bool
     ensures { result ≡ true → map named columns.new ≡ append_pieces (map named columns.old) pieces.now }
 {
     put_columns(rt, pieces, columns);
     are_whole(columns)
 }
 
-/// The same; the columns that are whole after it have all of their cells.
-fn put_columns<H: Threads + Sync>(rt: &H, pieces: &[Piece], columns: &mut [Column])
+/// Puts the cells of all pieces under the columns in their places; the columns that are whole after it have all of
+/// their cells.
+fn put_columns<H: Threads + Sync>(rt: &H, pieces: &[TextPiece], columns: &mut [Column])
     ensures { ArePut pieces.now columns.old columns.new }
 {
     let count = pieces.len().max(1);
@@ -242,7 +251,7 @@ pub(crate) fn put_plain_text<H: Threads + Sync>(
     rt: &H,
     text: &[u8],
     bytes: usize,
-    pieces: &mut [Piece],
+    pieces: &mut [TextPiece],
     columns: &mut [Column],
 ) -> Result<bool, AllocError>
     requires some_column { 0 < length columns.old }
@@ -264,7 +273,7 @@ pub(crate) fn put_plain_text<H: Threads + Sync>(
 }
 
 /// Puts the cells of each piece's column in this place under the column.
-fn put_column(pieces: &[Piece], place: usize, column: &mut Column)
+fn put_column(pieces: &[TextPiece], place: usize, column: &mut Column)
     ensures { IsPut pieces.now place column.old column.new }
 {
     column.is_whole = false;

@@ -1,7 +1,7 @@
 //! Rows of numbers, read where they stand in a text, without `csv`.
 //!
-//! A row is read so if each cell is a number, bare or whole in quotes, and there is one for each column. What is read is
-//! what `csv` reads there; of every other row nothing is said, and `csv` reads it.
+//! A row is read so if each cell is a number, bare or whole in quotes, and there is one for each column. What is read
+//! is what `csv` reads there; of every other row nothing is said, and `csv` reads it.
 ghost use Rattle.std.specs.Prelude.{◌≡◌, ◌∷◌, ◌++◌, [], ◌<◌, ◌≤◌, ◌-◌, ◌^◌, ◌||◌, ◌==◌, ℤ, true, Some, IfSome, length, map, take, drop, get_or};
 ghost use Rattle.std.specs.List.{list_all};
 ghost use Rattle.std.specs.Char.{is_ascii_digit};
@@ -134,7 +134,8 @@ fn ends_field(byte: u8) -> bool
 /// With one digit more after it, a number below this one is still an `i64`.
 const ENOUGH: u64 = 922_337_203_685_477_580;
 
-/// The number of a minus sign or none and some digits from `at` on, and where they end; not of all digits if there are many.
+/// The number of a minus sign or none and some digits from `at` on, and where they end; not of all digits if there are
+/// many.
 #[inline(always)]
 fn short_number(text: &[u8], at: usize) -> Option<(i64, usize)>
     requires { at ≤ length text.now }
@@ -151,7 +152,7 @@ fn short_number(text: &[u8], at: usize) -> Option<(i64, usize)>
     Some((size as i64, end))
 }
 
-/// The same of a minus sign at `at` and some digits.
+/// The number of a minus sign at `at` and some digits, and where they end; not of all digits if there are many.
 #[inline(always)]
 fn negative_number(text: &[u8], at: usize) -> Option<(i64, usize)>
     requires within { at < length text.now }
@@ -191,7 +192,7 @@ fn digits_at(text: &[u8], at: usize) -> (u64, usize)
     more_digits(text, at, at + count, value)
 }
 
-/// The same, where the digits from `at` to `from` are worth `so_far`.
+/// What the digits from `at` on are worth, and where they end, if the digits from `at` to `from` are worth `so_far`.
 #[inline(always)]
 fn more_digits(text: &[u8], at: usize, from: usize, so_far: u64) -> (u64, usize)
     requires within { (at ≤ from) × (from ≤ length text.now) }

@@ -52,14 +52,15 @@ pub fn read_columns<R: CountedRead>(alloc: Global, reader: &mut R) -> Result<Col
     }
 }
 
-/// The same columns or the same fault as `read_columns` gives. Pieces of at least `piece` bytes are cut after line
-/// feeds and parsed on threads, as many at a time as there are workers, while the next ones are read.
+/// The columns, or the fault, that `read_columns` gives, parsed on threads. Pieces of at least `piece` bytes are cut
+/// after line feeds. One piece for each worker is parsed at a time, while the next ones are read.
 ///
-/// A file of no more than a piece for each worker is read whole first. Of a longer one only the pieces in hand, those that
-/// are read meanwhile and their cells are held beside 8 bytes for each cell. A thread is started for each worker whenever
-/// that many pieces are parsed, and again, if there are as many columns, whenever their cells are put under the columns.
-/// With one worker, and for a file of one piece, none is. If a row isn't plain, all bytes from its pieces on are read
-/// whole and parsed on one thread: if the file is refused, or a number is quoted in part.
+/// A file of no more than a piece for each worker is read whole first. Of a longer file only these are held: the pieces
+/// in hand, the pieces that are read meanwhile, their cells, and 8 bytes for each cell. A thread is started for each
+/// worker whenever that many pieces are parsed. If there are at least that many columns, threads are started again to
+/// put the cells under the columns. One worker reads and parses in turns: for it, and for a file of one piece, no thread
+/// is started. If a row isn't plain, all bytes from its pieces on are read whole and parsed on one thread: if the file
+/// is refused, or a number is quoted in part.
 pub fn read_columns_by<H: Threads + Sync, R: CountedRead>(
     rt: &H,
     alloc: Global,
@@ -78,16 +79,13 @@ pub fn read_columns_by<H: Threads + Sync, R: CountedRead>(
         → HasRisen (R.failures reader.old) (R.failures reader.new)) }
     ensures counts { R.failures reader.old ≤ R.failures reader.new }
 {
-    let limit = if workers < 2 {
-        usize::MAX
-    } else {
-        workers.saturating_mul(piece).max(1)
-    };
+    let workers = workers.max(1);
+    let limit = workers.saturating_mul(piece).max(1);
     let team = Team { rt, workers, piece };
     columns_up_to(&team, alloc, reader, limit)
 }
 
-/// The same, of a file that is read whole first if it has fewer bytes than `limit`.
+/// The columns, or the fault, that `read_columns` gives. A file of fewer than `limit` bytes is read whole first.
 fn columns_up_to<H: Threads + Sync, R: CountedRead>(
     team: &Team<'_, H>,
     alloc: Global,
@@ -191,7 +189,7 @@ fn plain_columns(alloc: Global, bytes: &[u8]) -> Option<Columns>
     Some(Columns::of(columns))
 }
 
-/// The same, read in pieces.
+/// The columns of some bytes, if all rows are plain; the bytes are parsed in pieces, on threads.
 fn plain_columns_by<H: Threads + Sync>(
     team: &Team<'_, H>,
     alloc: Global,
@@ -224,7 +222,8 @@ pub(crate) fn plain_header(
     plain_header_from(alloc, bytes, total, &mut reader, &mut row)
 }
 
-/// The same, by a reader of the records.
+/// The columns under the header of some bytes, without cells, and where the first row may start, by a reader of the
+/// records.
 fn plain_header_from(
     alloc: Global,
     bytes: &[u8],
@@ -254,8 +253,8 @@ fn plain_header_from(
 /// How many bytes at the start of a file its row count is estimated from.
 const SAMPLE: usize = 64 * 1024;
 
-/// How many rows to expect in `total` bytes, of which these are the first: as many as there are if all lines are as long
-/// as the first ones, and no more than a file of numbers can have, whose rows take two bytes or more for each cell.
+/// How many rows to expect in `total` bytes that begin with these: the number of rows if all lines are as long as the
+/// first ones. It is never more than a file of numbers can have, whose rows take two bytes or more for each cell.
 pub(crate) fn rows_to_expect(bytes: &[u8], total: usize, columns: usize) -> usize {
     let sample = &bytes[..bytes.len().min(SAMPLE)];
     let line_feeds = sample.iter().filter(|byte| **byte == b'\n').count();

@@ -9,7 +9,8 @@ use crate::fault::ColumnFault;
 use counted_io::{CountedRead, ReadAllFault, read_up_to};
 use std::alloc::AllocError;
 
-/// Reads on, after the bytes that are there, until they are `limit` bytes, and answers whether the reader is at its end.
+/// Reads on, after the bytes that are there, until they are `limit` bytes, and answers whether the reader is at its
+/// end.
 pub(crate) fn read_on<R: CountedRead>(
     reader: &mut R,
     bytes: &mut Vec<u8>,
@@ -29,7 +30,7 @@ pub(crate) fn read_on<R: CountedRead>(
     }
 }
 
-/// Puts bytes in place of those that are there.
+/// Replaces the bytes of a vector.
 pub(crate) fn begin_with(spare: &mut Vec<u8>, bytes: &[u8]) -> Result<(), AllocError>
     ensures { OnOk result (spare.new.items ≡ bytes.now) }
 {

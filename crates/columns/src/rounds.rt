@@ -1,10 +1,11 @@
 //! Long column files, read and parsed at the same time.
 //!
-//! A file is read in rounds. While the whole lines of one round are parsed in pieces, the bytes of the next one are read
-//! into another buffer, after the begin of its first line. So few bytes of the file are held at a time, and the same memory
-//! takes all of them: memory that is new to the system costs more time than the reading.
+//! A file is read in rounds. While the whole lines of one round are parsed in pieces, or after it with one worker, the
+//! bytes of the next one are read into another buffer, after the beginning of its first line. So few bytes of the file are held at a time, and
+//! one piece of memory takes all of them: memory that is new to the system costs more time than the reading.
 //!
-//! From a round with another row than plain ones on, all bytes are read whole, and `csv` puts their rows under the columns.
+//! From the first round on that has a row that isn't plain, all bytes are read whole, and `csv` puts their rows under
+//! the columns.
 ghost use Rattle.std.specs.Prelude.{◌≡◌, ◌⊎◌, ◌++◌, ◌+◌, ◌<◌, ◌≤◌, ◌-◌, [], ℕ, List, true, IfErr, IfOk, OnOk, length, map, take, drop, vec_len};
 ghost use denote.Param.Send.{IsSync};
 ghost use Rattle.std.specs.Bool.{MatchBool};
@@ -20,7 +21,7 @@ ghost use Rattle.columns.specs.TableOfColumns.{named};
 use crate::by_records::{columns_by_records, put_by_records};
 use crate::fault::ColumnFault;
 use crate::header::without_mark;
-use crate::pieces::{Piece, Team, empty_pieces, put_plain_text};
+use crate::pieces::{Team, TextPiece, empty_pieces, put_plain_text};
 use crate::reading::{plain_header, rows_to_expect};
 use crate::round_bytes::{begin_with, last_line_end, read_on};
 use crate::table::{Column, Columns};
@@ -51,10 +52,10 @@ struct Rounds {
     limit: usize,
     /// How many bytes a piece has at least.
     piece: usize,
-    pieces: Vec<Piece>,
+    pieces: Vec<TextPiece>,
 }
 
-/// The columns of a file of which these bytes are read, and of all that the reader has left.
+/// The columns of these bytes and of all that the reader has left, read in rounds.
 pub(crate) fn columns_in_rounds<H: Threads + Sync, R: CountedRead>(
     team: &Team<'_, H>,
     alloc: Global,
@@ -76,7 +77,8 @@ pub(crate) fn columns_in_rounds<H: Threads + Sync, R: CountedRead>(
     columns_by_records(alloc, reader, bytes)
 }
 
-/// The same, of bytes whose header ends at `end` after a mark, with the columns under it.
+/// The columns of these bytes and of all that the reader has left. The header ends at `end`, after a byte order mark,
+/// and `columns` are the columns under it.
 fn columns_after<H: Threads + Sync, R: CountedRead>(
     team: &Team<'_, H>,
     alloc: Global,
@@ -140,7 +142,7 @@ fn room_for_rounds<H>(
     bytes: &[u8],
     limit: usize,
     width: usize,
-) -> Result<(Vec<u8>, Vec<Piece>), AllocError>
+) -> Result<(Vec<u8>, Vec<TextPiece>), AllocError>
     ensures { IfOk result (λ room. room.0.items ≡ bytes.now) }
 {
     let mut next = Vec::with_capacity(alloc, limit)?;
@@ -209,7 +211,8 @@ fn next_round<H: Threads + Sync, R: CountedRead>(
     Ok(if is_end { Round::Last } else { Round::Put })
 }
 
-/// Puts the rows of the whole lines before `end` under the columns, on threads, and reads on into `spare` on this one.
+/// Puts the rows of the whole lines before `end` under the columns, on threads, and reads on into `spare` on this one; with
+/// one piece both are done on this one, in turn.
 fn put_and_read<H: Threads + Sync, R: CountedRead>(
     rt: &H,
     reader: &mut R,
@@ -234,6 +237,7 @@ fn put_and_read<H: Threads + Sync, R: CountedRead>(
     let pieces = rounds.pieces.as_mut_slice();
     let spare = &mut rounds.spare;
     let limit = rounds.limit;
+    let is_alone = pieces.len() < 2;
     let mut put = || -> Result<bool, AllocError>
         requires { IsSync H.row × (0 < length columns.now) }
         ensures { IfOk result (λ is_plain. MatchBool is_plain
@@ -248,6 +252,9 @@ fn put_and_read<H: Threads + Sync, R: CountedRead>(
         ensures read { IfErr result (λ fault. fault ≡ ColumnFault.Read → HasRisen (R.failures reader.entry.now) (R.failures reader.exit.now)) }
         ensures counts { R.failures reader.entry.now ≤ R.failures reader.exit.now }
     { read_on(reader, spare, limit) };
+    if is_alone {
+        return (put(), read());
+    }
     thread::join_mut(rt, &mut put, &mut read)
 }
 

@@ -109,7 +109,7 @@ fn number_at(row: &ByteRecord, place: usize) -> Option<i64>
     read_cell(row.get(place)?)
 }
 
-/// Puts the rows that are left under the columns, row by row, of which the next one is the `first`th of its file.
+/// Puts the rows that are left under the columns, row by row. The next row is number `first` of its file.
 pub(crate) fn read_rows(
     reader: &mut Reader<&[u8]>,
     row: &mut ByteRecord,

@@ -15,7 +15,7 @@ pub(crate) struct Column {
     pub(crate) is_whole: bool,
 }
 
-/// The columns of a file, in its order. Those of `read_columns` have one length and different names.
+/// The columns of a file, in its order. `read_columns` gives columns of one length and different names.
 #[derive(Debug, Drop)]
 pub struct Columns {
     // `None` is no column: an empty vector would want an allocator.

@@ -65,7 +65,7 @@ ran_last fits tag_of place_of nodes actor node {slot} {v} {w} n one told =
     let at_one : IsHanded fits tag_of place_of nodes actor node slot v 1 w = subst (λ k. IsHanded fits tag_of place_of nodes actor node slot v k w) one told in
     record { old = _; new = w; step = at_one.one_step }
 
--- an arrival that wasn't the last, said of another seat of the same actor
+-- an arrival that wasn't the last, said of another seat of one actor
 pub pending_as : {V K T A : Type 0} {g : Ghosts K V T} (r : Option A) (counts : Counts V K T) (seat next later : Seat V K T g) → actor_of next ≡ actor_of seat → IfNone r (WasPending counts next later) → IfNone r (WasPending counts seat later)
 pending_as {g = g} None counts seat next later same h = record { place = h.place; before = h.before; owed = h.owed; others = h.others; handed = subst (λ a. IsHanded g.fits g.tag_of g.place_of (nodes_of counts) a h.place.node (slot_of h.place.node h.place.side) h.before h.owed (view_of later)) same h.handed }
 pending_as (Some x) counts seat next later same h = tt

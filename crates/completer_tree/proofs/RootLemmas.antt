@@ -119,7 +119,7 @@ module _ {S T : Type 0} {nodes actor n : ℕ} (node : ℕ) (onward : List ℕ) (
   sides_is : v2.sides ≡ left_slot node ∷ right_slot node ∷ minus (sides_of onward v0.sides) v0.sides
   sides_is = ap (λ (u : View T). u.sides) is ∙ ap (λ (u : View T). left_slot node ∷ right_slot node ∷ minus (sides_of onward u.sides) u.sides) claim_is
 
-  -- the same for a seat with these notes
+  -- of a seat with these notes: a place of this tree that was noted is the one with which the node was armed
   module _ (w : View T) (p : Place T) (where_is : p.node ≡ node) (root_is : p.root ≡ root_of at node) (places : w.places ≡ v2.places) (noted : w.noted ≡ v2.noted) (noted_sides : w.noted_sides ≡ v2.noted_sides) (few : (k : ℕ) → count k w.sides ≤ count k v2.sides) where
     pub fork_leads : Leads w.places p.node p.root
     fork_leads = subst (λ l. Leads l p.node p.root) (sym (places ∙ places_is)) (subst (λ k. Leads after k p.root) (sym where_is) (subst (λ k. Leads after node k) (sym root_is) (leads_here at refl leads)))
@@ -236,7 +236,7 @@ climb_kept None r at v w z moved kept same h = whenever r (subst (λ u. HasKept 
 climb_kept (Some p) None at v w z moved kept same h = tt
 climb_kept (Some p) (Some a) at v w z moved kept same h = kept_above at p v w z (moved p refl) h
 
--- the node that ran last is the top of the same tree
+-- the node that ran last is the top of the tree
 pub climb_ran : {T A : Type 0} (Ran : ℕ → Type 0) (o : Option (Place T)) (r : Option A) (at : Place T) → ((p : Place T) → o ≡ Some p → p.root ≡ at.root) → (o ≡ None → at.node ≡ at.root) → Ran at.node
     → IfSome o (λ p. IfSome r (λ _. Ran p.root)) → IfSome r (λ _. Ran at.root)
 climb_ran Ran None r at root top ran h = whenever r (subst Ran (top refl) ran)

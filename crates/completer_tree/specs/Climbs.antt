@@ -1,4 +1,4 @@
--- Condition: what an arrival at a place gives the seat, and what a finisher has to have.
+-- Condition: what an arrival at a place gives, and what a finisher has to have.
 use Rattle.std.specs.Prelude.{◌≡◌, ◌≢◌, ℕ, ◌+◌, ◌<◌, [], ◌∷◌, Some, None, ⊤}
 use Rattle.atomic_table.specs.Seated.{TableId}
 use Rattle.completion_core.specs.Legal.{count}
@@ -21,7 +21,7 @@ use Rattle.completer_tree.specs.declared.climbing.Next.TheVariants as next
 use Rattle.completer_tree.specs.Roots.{HasKept}
 use Rattle.completer_tree.specs.Trees.{CanHand, RanBy}
 
--- In place of the arrival at one place the seat has the one at the next, which is at a smaller node of the same tree.
+-- The seat has one arrival fewer at one place and one more at the next, which is at a smaller node of the same tree.
 pub record HasMoved {T : Type 0} (at p : Place T) (v w : View T) : Type 0 where
   pub root : p.root ≡ at.root
   pub smaller : p.node < at.node
@@ -39,7 +39,7 @@ module _ {V K T : Type 0} {g : Ghosts K V T} where
     pub right : g.fits (g.tag_of finisher.finish.kept) Right finisher.finish.right
     pub next : (p : Place T) → g.place_of finisher.finish.kept ≡ Some p → CanHand id p seat
 
-  -- The last arrival at this place: the finisher is that of its node, and the seat has what the node kept.
+  -- The last arrival at this place: the finisher is the one of its node, and the seat has what the node kept.
   pub record HasArrived (counts : Counts V K T) (at : Place T) (seat later : Seat V K T g) (finisher : Finisher V K) : Type 0 where
     pub can : CanFinish counts.table.shared.table_id later finisher
     pub tag : g.tag_of finisher.finish.kept ≡ at.tag

@@ -1,4 +1,4 @@
--- Condition: what a fork gives, by its two cases.
+-- Condition: what a fork gives.
 use Rattle.std.specs.Prelude.{◌≡◌, ℕ, ◌+◌, ⊤, ◌⊎◌}
 use Rattle.pending_count.specs.declared.place.Fits.{Ghosts}
 use Rattle.pending_count.specs.declared.seat.Seat.{Seat}

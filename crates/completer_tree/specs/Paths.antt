@@ -6,7 +6,8 @@ use Rattle.pending_count.specs.Views.{left_slot, right_slot, note_of, IsPlainAt}
 use Rattle.pending_count.specs.Steps.{IsArrived}
 
 module _ {T : Type 0} where
-  -- The seat has noted that the node i keeps an arrival at the node j, and no side of a pair at any node of the path from j on.
+  -- The seat has noted that the node i keeps an arrival at the node j, and no side of a pair at any node of the path
+  -- from j on.
   pub record Keeps (i j : ℕ) (path : List ℕ) (v : View T) : Type 0 where
     pub given : List ℕ
     pub noted : note_of i v.noted ≡ Some given
@@ -20,7 +21,7 @@ module _ {T : Type 0} where
   KeepsNext i [] v = ⊤
   KeepsNext i (j ∷ path) v = Keeps i j (j ∷ path) v × KeepsNext j path v
 
-  -- nodes of `arm`, of which the seat holds no side
+  -- nodes of `arm` at which the seat holds no side
   abbrev pub ArePlain : List ℕ → View T → Type 0
   ArePlain path v = (k : ℕ) → 0 < count k path → (0 < k) × IsPlainAt k v
 
@@ -29,7 +30,8 @@ module _ {T : Type 0} where
   IsPath [] v = ⊤
   IsPath (i ∷ path) v = (0 < count i v.held) × ArePlain (i ∷ path) v × KeepsNext i path v
 
-  -- the arrivals at the nodes of a path in turn, up to the first that isn't the last at its node; `finished` of them are the last
+  -- the arrivals at the nodes of a path in turn, up to the first that isn't the last at its node; `finished` of them
+  -- are the last
   abbrev pub Propagates : (S : Type 0) → ℕ → ℕ → List ℕ → View T → View T → ℕ → Type 0
   Propagates S nodes actor [] v w finished = (finished ≡ 0) × (w ≡ v)
   Propagates S nodes actor (i ∷ path) v w finished =

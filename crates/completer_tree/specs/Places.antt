@@ -1,4 +1,4 @@
--- Condition: the place to which the answer of a node goes, and which failure is the leftmost.
+-- Condition: where the answer of a node goes, and which failure is the leftmost.
 use Rattle.std.specs.Prelude.{◌≡◌, ℕ, Bool, Option, Some, None, Result, Ok, Err}
 use Rattle.pending_count.specs.declared.place.Side.{Side}
 use Rattle.pending_count.specs.declared.place.Side.TheVariants.{Left, Right, Whole}

@@ -1,4 +1,4 @@
--- Condition: what the notes of a seat say of the top of a tree, and of what the top keeps.
+-- Condition: what a seat notes of the top of a tree, and of what the top keeps.
 use Rattle.std.specs.Prelude.{◌≡◌, ◌≢◌, ℕ, ◌+◌, ◌<◌, ◌≤◌, List, [], ◌∷◌, Option, Some, None}
 use Rattle.completion_core.specs.Legal.{count}
 use Rattle.pending_count.specs.declared.view.View.{View}
@@ -46,7 +46,8 @@ module _ {T : Type 0} where
     pub still_noted : (i : ℕ) (given : List ℕ) → note_of i v.noted ≡ Some given → note_of i w.noted ≡ Some given
     pub still_noted_sides : (i : ℕ) (given : List ℕ) → note_of i v.noted_sides ≡ Some given → note_of i w.noted_sides ≡ Some given
 
-  -- The result of the tree was given here: in place of the arrival at this place the seat has what the top kept, and it notes what it noted.
+  -- The result of the tree was given here: the seat has what the top kept instead of the arrival at this place, and it
+  -- notes what it noted.
   pub record HasKept (p : Place T) (v w : View T) : Type 0 where
     pub held : (given : List ℕ) → note_of p.root v.noted ≡ Some given → (j : ℕ) → count j w.held + count j (p.node ∷ []) ≡ count j given + count j v.held
     pub sides : (given : List ℕ) → note_of p.root v.noted_sides ≡ Some given → (j : ℕ) → count j w.sides + count j (slot_of p.node p.side ∷ []) ≡ count j given + count j v.sides

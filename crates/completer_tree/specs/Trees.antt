@@ -1,4 +1,4 @@
--- Condition: what a seat has to have for a place in a tree, and what an arrival there gives it.
+-- Condition: what a seat needs for a place in a tree, and what an arrival there gives it.
 use Rattle.std.specs.Prelude.{◌≡◌, ℕ, ◌+◌, ◌<◌, ◌≤◌, List, Some, [], ◌∷◌}
 use Rattle.completion_core.specs.declared.action.Action.TheVariants.{Arrive, Run}
 use Rattle.completion_core.specs.declared.action.Reply.TheVariants.{Last}

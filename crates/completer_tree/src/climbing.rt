@@ -14,8 +14,8 @@ use crate::part::{Failure, Handed, PartValue};
 use crate::tree::{CompleterTree, Tree, TreeSeat};
 use pending_count::{ArrivedPair, FinishPair, Fits, Place, Seat};
 
-/// The right to run one of the two continuations of a node, with what was handed in on its sides. It comes with the last of the two
-/// arrivals, and with no other; `Tree::next_complete` and `Finisher::finish` use it up.
+/// The right to run one of the two continuations of a node, with what was handed in on its sides. It comes with the
+/// last of the two arrivals, and with no other; `Tree::next_complete` and `Finisher::finish` use it up.
 #[derive(Drop)]
 pub struct Finisher<V, K> {
     finish: FinishPair<V, K>,
@@ -41,7 +41,8 @@ pub enum Next<V, K: Fits<V>> {
     Whole(Seat<V, K>, V),
 }
 
-/// Looks at each value before it is handed in: at the one that a caller hands in, and at the answers of the nodes that this completes.
+/// Looks at each value before it is handed in: at the one that a caller hands in, and at the answers of the nodes that
+/// this completes.
 pub trait Looker<T: PartValue> {
     fn look(&mut self, at: &Place<T::Tag>, value: &Handed<T>)
         requires fits { T.fits at.now.tag at.now.side value.now };
@@ -56,7 +57,8 @@ impl<T: PartValue> Looker<T> for Unwatched {
 }
 
 impl<T: PartValue, C: Continuation<T>> Finisher<Handed<T>, Completer<T, C>> {
-    /// Runs one of the node's two continuations. The place is the one at which the answer is to be handed in; none at the top of a tree.
+    /// Runs one of the node's two continuations. The place is the one at which the answer is to be handed in; none at
+    /// the top of a tree.
     pub fn finish(self) -> (Handed<T>, Option<Place<T::Tag>>)
         requires left { T.fits (C.tag_of self.finish.kept.run) Left self.finish.left }
         requires right { T.fits (C.tag_of self.finish.kept.run) Right self.finish.right }
@@ -116,8 +118,8 @@ impl<'a, T: PartValue, C: Continuation<T>> Tree<'a, Handed<T>, Completer<T, C>> 
         }
     }
 
-    /// Runs one of the node's two continuations, and hands the answer in at the parent (Java: `nextComplete`). At the top of a tree the
-    /// answer is the tree's result. For other programs: `streamrun` climbs by `try_complete`.
+    /// Runs one of the node's two continuations, and hands the answer in at the parent (Java: `nextComplete`). At the
+    /// top of a tree the answer is the tree's result. For other programs: `streamrun` climbs by `try_complete`.
     pub fn next_complete(
         &self,
         seat: TreeSeat<T, C>,
@@ -132,7 +134,8 @@ impl<'a, T: PartValue, C: Continuation<T>> Tree<'a, Handed<T>, Completer<T, C>> 
         self.next_complete_with(seat, finisher, &mut Unwatched)
     }
 
-    /// The same; the answer is looked at before it is handed in.
+    /// Runs one of the node's two continuations as `next_complete` does; the answer is looked at before it is handed
+    /// in.
     pub fn next_complete_with<L: Looker<T>>(
         &self,
         seat: TreeSeat<T, C>,
@@ -156,8 +159,8 @@ impl<'a, T: PartValue, C: Continuation<T>> Tree<'a, Handed<T>, Completer<T, C>> 
         }
     }
 
-    /// Hands a value in at a place, and goes on upwards while each arrival is the last (Java: `tryComplete`). `Some` is the result of the
-    /// whole tree, which is given to one caller only; without a place it is the value itself.
+    /// Hands a value in at a place, and goes on upwards while each arrival is the last (Java: `tryComplete`). `Some` is
+    /// the result of the whole tree, which is given to one caller only; without a place it is the value itself.
     pub fn try_complete(
         &self,
         seat: TreeSeat<T, C>,
@@ -176,7 +179,8 @@ impl<'a, T: PartValue, C: Continuation<T>> Tree<'a, Handed<T>, Completer<T, C>> 
         self.try_complete_with(seat, at, value, &mut Unwatched)
     }
 
-    /// The same; each value is looked at before it is handed in, this one and each answer on the way up.
+    /// Hands a value in at a place as `try_complete` does. This value, and each answer on the way up, is looked at
+    /// before it is handed in.
     pub fn try_complete_with<L: Looker<T>>(
         &self,
         seat: TreeSeat<T, C>,
@@ -203,8 +207,8 @@ impl<'a, T: PartValue, C: Continuation<T>> Tree<'a, Handed<T>, Completer<T, C>> 
         }
     }
 
-    /// `try_complete` with a failure in place of a value (Java: `completeExceptionally`, which here waits for the other arrivals).
-    /// For other programs: `streamrun` hands a failure in by `try_complete`.
+    /// `try_complete` with a failure instead of a value (Java: `completeExceptionally`, which here waits for the other
+    /// arrivals). For other programs: `streamrun` hands a failure in by `try_complete`.
     pub fn complete_exceptionally(
         &self,
         seat: TreeSeat<T, C>,

@@ -6,8 +6,8 @@ ghost use Rattle.completer_tree.specs.Places.{Goes, IsLeftmost};
 
 use crate::part::{Failure, Handed, PartValue};
 
-/// The continuations of one node: exactly one of them runs, once, after both sides were handed in. The answer goes to the parent, or
-/// at the top of a tree to whoever handed in the last value.
+/// The continuations of one node: exactly one of them runs, once, after both sides were handed in. The answer goes to
+/// the parent, or at the top of a tree to whoever handed in the last value.
 pub trait Continuation<T: PartValue>: Drop {
     ghost tag_of: { Self → T.Tag };
 
@@ -28,13 +28,14 @@ pub trait Continuation<T: PartValue>: Drop {
         requires right { T.fits (tag_of self) Right (Ok right) }
         ensures goes { Goes T.fits (tag_of self) (goes_to self) result };
 
-    /// Runs if a side has no value, on the failure of the leftmost such side (Java: `onExceptionalCompletion`). It answers `Err` to
-    /// pass a failure on to the parent, or `Ok` to hand in a value in its place.
+    /// Runs if a side has no value, on the failure of the leftmost side without one (Java: `onExceptionalCompletion`).
+    /// It answers `Err` to pass a failure on to the parent, or `Ok` to hand in a value instead.
     fn on_exceptional_completion(self, failure: Failure) -> Handed<T>
         requires leftmost { IsLeftmost T.fits (tag_of self) failure }
         ensures goes { Goes T.fits (tag_of self) (goes_to self) result };
 
-    /// The whole tree gives the same for a node and for its parent; at the top it is the node's own answer.
+    /// A node's place in the tree leads to the parent: the whole tree gives one answer for both. At the top it is the
+    /// node's own answer.
     ghost leads: { (c : Self) (p : T.Tag × Bool) → goes_to c ≡ Some p → (v : Result T Failure) → T.result p.0 v → T.result (tag_of c) v };
 
     ghost ends: { (c : Self) → goes_to c ≡ None → (v : Result T Failure) → T.fits (tag_of c) Whole v → T.result (tag_of c) v };

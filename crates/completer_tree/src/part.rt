@@ -1,4 +1,4 @@
-//! Values that stand for parts of a whole, and why a part has no value.
+//! Values that describe parts of a whole, and why a part has no value.
 ghost use Rattle.std.specs.Prelude.{Result};
 ghost use Rattle.completer_tree.specs.declared.part.Failure.{Failure};
 ghost use Rattle.pending_count.specs.declared.place.Side.{Side};
@@ -17,10 +17,10 @@ pub enum Failure {
 /// What is handed in at a place.
 pub type Handed<T> = Result<T, Failure>;
 
-/// A value that stands for a part of a whole.
+/// A value that describes a part of a whole.
 pub trait PartValue: Drop {
-    /// What distinguishes one node from another, for example the range of items that it stands for. It has to be one struct of plain
-    /// fields without type parameters (see `pending_count::Fits`).
+    /// What distinguishes one node from another, for example the range of items below it. It has to be one struct of
+    /// plain fields without type parameters (see `pending_count::Fits`).
     type Tag: Copy;
 
     // The fact about a tag, a side of its node or the whole of it, and what is handed in there.

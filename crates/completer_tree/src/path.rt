@@ -8,8 +8,9 @@ use completion_core::Node;
 use pending_count::{Arrived, Fits, Seat};
 
 impl<'a, V, K: Fits<V>> Tree<'a, V, K> {
-    /// Arrives at the nodes of a path in turn, as long as each arrival is the last at its node (Java: `propagateCompletion`). No
-    /// continuation runs. The number is that of the nodes whose last arrival it made. One `fetch_sub` for each arrival.
+    /// Arrives at the nodes of a path in turn, as long as each arrival is the last at its node (Java:
+    /// `propagateCompletion`). No continuation runs. It answers at how many nodes its arrival was the last. One
+    /// `fetch_sub` for each arrival.
     pub fn propagate_completion(&self, seat: Seat<V, K>, path: &[Node]) -> (Seat<V, K>, usize)
         requires table { IsSeatOf self.now.counts.now seat }
         requires path { IsPath path.now (view_of seat) }

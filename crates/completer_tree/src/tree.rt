@@ -45,7 +45,8 @@ pub enum Forked<V, K: Fits<V>, C> {
 }
 
 impl<'a, V, K: Fits<V>> Tree<'a, V, K> {
-    /// A tree whose top node keeps an arrival of the seat's for each entry of `onward`. Whoever gets the tree's result gets them back.
+    /// A tree whose top node keeps an arrival of the seat's for each entry of `onward`. Whoever gets the tree's result
+    /// gets them back.
     pub fn new(counts: &'a Counts<V, K>, onward: &'a [Node]) -> Tree<'a, V, K>
         ensures { (result.counts.now ≡ counts.now) × (result.onward.now ≡ onward.now) }
     {
@@ -54,8 +55,9 @@ impl<'a, V, K: Fits<V>> Tree<'a, V, K> {
 }
 
 impl<'a, T: PartValue, C: Continuation<T>> Tree<'a, Handed<T>, Completer<T, C>> {
-    /// Claims a node for the continuations `run`, below the place `at` or as the top of the tree, and splits the seat in two, one for
-    /// each side. `Whole` only if the credit is 0 or all nodes were claimed. One `fetch_add`, one store and two loads.
+    /// Claims a node for the continuations `run`, below the place `at` or as the top of the tree, and splits the seat
+    /// in two, one for each side. `Whole` only if the credit is 0 or all nodes were claimed. One `fetch_add`, one store
+    /// and two loads.
     pub fn fork(
         &self,
         seat: TreeSeat<T, C>,
@@ -81,7 +83,7 @@ impl<'a, T: PartValue, C: Continuation<T>> Tree<'a, Handed<T>, Completer<T, C>> 
     }
 }
 
-// The number of the parent, which is 0 for a top, and that of the top.
+// The number of the parent, which is 0 for a top, and the number of the top.
 fn above<T: Copy>(at: Option<Place<T>>, node: Node) -> (Node, Node)
     ensures { (result.0 ≡ parent_of at) × (result.1 ≡ root_of at node) }
 {
@@ -91,7 +93,7 @@ fn above<T: Copy>(at: Option<Place<T>>, node: Node) -> (Node, Node)
     }
 }
 
-// The same with what the new node keeps.
+// Forks as `Tree::fork` does; the new node keeps an arrival for each entry of `onward`.
 fn fork_keeping<T: PartValue, C: Continuation<T>>(
     counts: &TreeCounts<T, C>,
     seat: TreeSeat<T, C>,

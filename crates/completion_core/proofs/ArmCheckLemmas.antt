@@ -1,4 +1,4 @@
--- What a book says of the graph that it stands for, as the checks of an arming need it.
+-- What a book says of the graph that it means, as the checks of an arming need it.
 use Rattle.std.proofs.Common.{◌≡◌, ℕ, ◌<◌, ◌≤◌, ◌^◌, false, List, length, ap, ◌∙◌, sym, arith}
 use Rattle.std.specs.List.{All}
 use Rattle.completion_core.specs.declared.node_state.NodeState.{NodeState}

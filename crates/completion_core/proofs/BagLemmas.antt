@@ -82,7 +82,7 @@ walk_on xs held p alike before next h r is small enough = record {
   few = let f = r.few in omega arith;
 }
 
--- one node more, which stands `next` times so far, and of which n are held
+-- one node more, which the list has `next` times so far; n of them are held
 module _ (xs ys : List ℕ) (same : ys ≡ xs) (held : ℕ → ℕ) (p alike before next n : ℕ) (up : IsNonDecreasing xs) (h : p < length ys) (r : HoldsUpTo xs held p alike before) (is : next ≡ cond (eqb (get_or ys p 0) before) (alike + 1) 1) (told : n ≡ held (get_or ys p 0)) where
   h' : p < length xs
   h' = subst (λ l. p < length l) same h

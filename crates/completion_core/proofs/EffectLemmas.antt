@@ -1,4 +1,4 @@
--- What a legal action does to a book: the new book stands for the graph after it.
+-- What a legal action does to a book: the new book means the graph after it.
 use Rattle.std.proofs.Common.{◌≡◌, ◌≢◌, ℕ, zero, suc, ◌+◌, ◌-◌, ◌<◌, ◌≤◌, ◌^◌, eqb, cond, Bool, true, false, List, [], ◌∷◌, ◌++◌, length, Option, None, sym, refl, ap, ◌∙◌, subst, arith, eq-eqb, ne_eqb, true≢false, length-append, set, get_or-set_same, get_or-set_other, append-nil}
 use mathlib.Core.Logic.{dite}
 use native.Mathlib.Decide.{ℕ_discrete}

@@ -8,7 +8,7 @@ use Rattle.completion_core.specs.Holdings.{place, each_place}
 use Rattle.completion_core.proofs.TotalLemmas.{by_bool, total-ones, total-zeros, one_held, self_held}
 use Rattle.completion_core.proofs.HoldingLemmas.{each_place-self, each_place-other}
 
--- as many arrivals in one actor's hands are that many for this actor at this node, and none for others or elsewhere
+-- k arrivals in one actor's hands are k for this actor at this node, and none for others or elsewhere
 pub place_is : (a node k x i : ℕ) → total (one_same (Held x)) (copies (only_at node k i) (Held a)) ≡ place a node k x i
 place_is a node k x i = dite (ℕ_discrete i node)
     (λ e. let at : only_at node k i ≡ k = ap (λ b. cond b k 0) (eq-eqb i node e) in
@@ -19,7 +19,7 @@ place_is a node k x i = dite (ℕ_discrete i node)
     (λ n. total-zeros (one_same (Held x)) (only_at node k i) (Held a) (one_held x a n) ∙ sym (ap (λ b. cond (b && eqb a x) k 0) key ∙ ap (λ b. cond b k 0) (ne_eqb a x (λ h. n (sym h))))))
     (λ n. ap (λ m. total (one_same (Held x)) (copies m (Held a))) (ap (λ b. cond b k 0) (ne_eqb i node n)) ∙ sym (ap (λ b. cond (b && eqb a x) k 0) (ne_eqb node i (λ h. n (sym h)))))
 
--- the same for one at each node of a list
+-- one arrival at each node of a list is one for this actor there, and none for others or elsewhere
 pub each_place_is : (a : ℕ) (nodes : List ℕ) (x i : ℕ) → total (one_same (Held x)) (copies (count i nodes) (Held a)) ≡ each_place a nodes x i
 each_place_is a nodes x i = dite (ℕ_discrete x a)
     (λ e. ap (λ y. total (one_same (Held y)) (copies (count i nodes) (Held a))) e ∙ total-ones (one_same (Held a)) (count i nodes) (Held a) (self_held a) ∙ sym (each_place-self a nodes i) ∙ ap (λ y. each_place a nodes y i) (sym e))

@@ -103,6 +103,6 @@ pub each_place-other : (actor : ℕ) (xs : List ℕ) (a i : ℕ) → a ≢ actor
 each_place-other actor [] a i n = refl
 each_place-other actor (x ∷ xs) a i n = let e = place_other actor x a i n in let r = each_place-other actor xs a i n in omega arith
 
--- the actor's own part of the nodes so far is no more than that of all
+-- the actor's own part of the nodes so far is no more than its part of all
 pub each_place-next : (actor : ℕ) (xs : List ℕ) (p : ℕ) → p < length xs → count (get_or xs p 0) (take p xs) + 1 ≤ count (get_or xs p 0) xs
 each_place-next actor xs p h = let a = count-take-more (get_or xs p 0) xs p h in let b = count-take-le (get_or xs p 0) (p + 1) xs in let c = at_here (get_or xs p 0) 1 in omega arith

@@ -1,4 +1,4 @@
--- The first book stands for the new graph.
+-- The first book means the new graph.
 use Rattle.std.proofs.Common.{◌≡◌, ℕ, zero, suc, ◌<◌, ◌^◌, cond, false, List, [], ◌∷◌, length, None, refl, ap, ◌∙◌, sym, arith, ne_eqb}
 use Rattle.completion_core.specs.declared.node_state.NodeState.{NodeState}
 use Rattle.completion_core.specs.Graph.{Held, Kept, total, copies, left, one_same, not_made, Graph, start}

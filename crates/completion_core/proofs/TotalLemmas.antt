@@ -49,7 +49,7 @@ upd_here f i x = ap (λ b. cond b x (f i)) (here i)
 pub upd_else : {A : Type 0} (f : ℕ → A) (i : ℕ) (x : A) (j : ℕ) → j ≢ i → upd f i x j ≡ f j
 upd_else f i x j n = ap (λ b. cond b x (f j)) (ne_eqb j i n)
 
--- as many as there are at this node
+-- the number that is at this node
 pub total-fresh : {A : Type 0} (f : A → ℕ) (node n : ℕ) (x : A) (i : ℕ) → total f (cond (eqb i node) (copies n x) []) ≡ total f (copies (only_at node n i) x)
 total-fresh f node n x i = by_bool (eqb i node) (λ l. total f l ≡ total f (copies (cond (eqb i node) n 0) x)) (copies n x) []
     (λ e. ap (λ b. total f (copies (cond b n 0) x)) (sym e)) (λ e. ap (λ b. total f (copies (cond b n 0) x)) (sym e))

@@ -1,4 +1,4 @@
--- Condition: what the store of a graph keeps, and which graphs it stands for.
+-- Condition: what the store of a graph keeps, and which graphs it may mean.
 use Rattle.std.specs.Prelude.{◌≡◌, ℕ, ◌+◌, ◌<◌, ◌≤◌, ◌^◌, Bool, false, ◌&&◌, List, [], length, None, nat_eq, unwrap_or, slice_index_or}
 use Rattle.std.specs.Map.{lookup}
 use Rattle.completion_core.specs.declared.node_state.NodeState.{NodeState}
@@ -43,6 +43,6 @@ pub record StandsFor (b : Book) (g : Graph) : Type 0 where
   pub few : (i : ℕ) → 0 < i → length (g.arrivals i) ≤ 2 ^ 62
   pub fits : (i : ℕ) → length (g.arrivals i) < 2 ^ 64
 
--- some graph is the one that the book stands for
+-- the book means some graph
 abbrev pub IsBook : Book → Type 0
 IsBook b = (g : Graph) × StandsFor b g

@@ -1,4 +1,4 @@
--- Design: the graph of completers, which is its nodes and the arrivals that are owed to each of them.
+-- Design: the graph of completers: its nodes, and the arrivals owed to each.
 -- Each arrival has a name, which is its node and its place in that node's list; it keeps it for ever.
 -- Java SE 17, CountedCompleter: the pending count of a node is the number of its arrivals that aren't made, less one.
 use Rattle.std.specs.Prelude.{ℕ, zero, suc, ◌+◌, ◌<◌, ◌≤◌, ◌==◌, Bool, true, false, List, [], ◌∷◌, Option, None, if◌then◌else◌}
@@ -19,7 +19,7 @@ abbrev pub copies : {A : Type 0} → ℕ → A → List A
 copies zero x = []
 copies (suc n) x = x ∷ copies n x
 
--- helper: whether two arrivals are in the same hands
+-- helper: whether two arrivals are at one node and in one actor's hands
 abbrev pub same : Arrival → Arrival → Bool
 same Made Made = true
 same Made (Held b) = false
@@ -49,8 +49,8 @@ amount z arrivals = total (one_same z) arrivals
 abbrev pub left : List Arrival → ℕ
 left arrivals = total not_made arrivals
 
--- Node 0 is END. Nodes 1 to `nodes` may be drawn, and those up to `drawn` were; each is what it was claimed by, the arrivals that are owed to it,
--- whether it was armed, whether it ran, and who made the last of its arrivals.
+-- Node 0 is END. Nodes 1 to `nodes` may be drawn, and those up to `drawn` were; each is what it was claimed by, the
+-- arrivals that are owed to it, whether it was armed, whether it ran, and who made the last of its arrivals.
 pub record Graph : Type 0 where
   pub nodes : ℕ
   pub drawn : ℕ

@@ -1,4 +1,4 @@
--- Design: what holds of every list of actions that is legal on a new graph, in the words of completers.
+-- Design: what holds of every legal list of actions on a new graph.
 use Rattle.std.specs.Prelude.{◌≡◌, ◌≢◌, ℕ, ◌<◌, List, ◌∷◌, ◌++◌, Option, Some, ◌⊎◌, All, AllPairs, slice_get}
 use Rattle.completion_core.specs.declared.action.Action.{Action}
 use Rattle.completion_core.specs.declared.action.Action.TheVariants.{Arm, Add, Arrive, Run, Settle}
@@ -23,7 +23,8 @@ MakesAt a i action = ⊥
 abbrev pub RunsOnce : List ℕ → Type 0
 RunsOnce log = AllPairs (λ node later. node ≢ later) log
 
--- each node that runs isn't END, all arrivals that were ever owed to it are made by then, and no arrival is named, added or made there later
+-- each node that runs isn't END, all arrivals that were ever owed to it are made by then, and no arrival is named,
+-- added or made there later
 abbrev pub RunsAfterAll : List Action → Graph → Type 0
 RunsAfterAll actions g =
     (before later : List Action) (a node : ℕ) → actions ≡ before ++ Run a node ∷ later

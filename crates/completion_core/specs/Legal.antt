@@ -1,7 +1,7 @@
 -- Design: which actions are legal on a graph, what each answers, and the graph after it.
--- Java SE 17, CountedCompleter: `tryComplete` is Arrive and, after Last, Run and the same at what the node kept; `propagateCompletion`
--- is that without continuations; `nextComplete` is Run and Arrive at what the node kept.
--- Where an action moves some of the arrivals that an actor holds at a node, it moves the first of them.
+-- Java SE 17, CountedCompleter: `tryComplete` is Arrive and, after Last, Run and `tryComplete` at what the node kept;
+-- `propagateCompletion` does it without continuations; `nextComplete` is Run and Arrive at what the node kept. Where an
+-- action moves some of the arrivals that an actor holds at a node, it moves the first of them.
 use Rattle.std.specs.Prelude.{◌≡◌, ℕ, zero, suc, ◌+◌, ◌<◌, ◌≤◌, ◌==◌, true, false, List, [], ◌∷◌, ◌++◌, Some, ⊤, nat_lt, if◌then◌else◌}
 use Rattle.completion_core.specs.declared.action.Action.{Action}
 use Rattle.completion_core.specs.declared.action.Action.TheVariants.{Claim, Arm, Add, Give, Arrive, Run, Settle}
@@ -49,7 +49,8 @@ Legal (Add a node d) g = IsDrawn g node × (0 < amount (Held a) (g.arrivals node
 Legal (Give a b node k) g = (0 < node → node ≤ g.drawn) × (k ≤ amount (Held a) (g.arrivals node))
 -- a held arrival is made (Java: firstComplete)
 Legal (Arrive a node) g = IsDrawn g node × (0 < amount (Held a) (g.arrivals node))
--- a node is run once, after all arrivals that are owed to it, by the actor that made the last of them (Java: onCompletion)
+-- a node is run once, after all arrivals that are owed to it, by the actor that made the last of them (Java:
+-- onCompletion)
 Legal (Run a node) g = IsDrawn g node × (g.ran node ≡ false) × (left (g.arrivals node) ≡ 0) × (g.last node ≡ Some a)
 -- a held arrival at END is made
 Legal (Settle a) g = 0 < amount (Held a) (g.arrivals 0)

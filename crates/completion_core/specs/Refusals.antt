@@ -1,4 +1,4 @@
--- Design: why an action is refused: of the demands that it doesn't meet the first, in a fixed order.
+-- Design: why an action is refused: the first of its demands that is not met, in a fixed order.
 use Rattle.std.specs.Prelude.{◌≡◌, ℕ, ◌+◌, ◌<◌, ◌≤◌, ◌^◌, ◌⊎◌, false, List, Some, ⊤, length, take, slice_get}
 use Rattle.completion_core.specs.declared.action.Action.{Action}
 use Rattle.completion_core.specs.declared.action.Action.TheVariants.{Claim, Arm, Add, Give, Arrive, Run, Settle}
@@ -19,7 +19,8 @@ rank OnwardNotEarlier = 6
 rank TooMany = 7
 rank NoMemory = 8
 
--- What an action must meet, or it is refused by this name. The first six are the parts of `Legal`; the last two are limits of the store.
+-- What an action must meet, or it is refused by this name. The first six are the parts of `Legal`; the last two are
+-- limits of the store.
 abbrev pub Meets : Illegal → Action → Graph → Type 0
 Meets NoSuchNode (Arm a node pending onward) g = IsDrawn g node
 Meets NoSuchNode (Add a node d) g = IsDrawn g node
@@ -38,7 +39,8 @@ Meets OnwardNotEarlier (Arm a node pending onward) g = (i : ℕ) → 0 < count i
 -- a node's arrivals, made ones counted in, stay within 2^62
 Meets TooMany (Arm a node pending onward) g = length (g.arrivals node) + (pending + 1) ≤ 2 ^ 62
 Meets TooMany (Add a node d) g = length (g.arrivals node) + d ≤ 2 ^ 62
--- An allocation may fail wherever one is made: a claim makes none if no node is left, a Give none if nothing changes hands, a Run none if the node kept nothing.
+-- An allocation may fail wherever one is made: a claim makes none if no node is left, a Give none if nothing changes
+-- hands, a Run none if the node kept nothing.
 Meets NoMemory (Claim a) g = g.nodes ≤ g.drawn
 Meets NoMemory (Arm a node pending onward) g = ⊥
 Meets NoMemory (Give a b node k) g = (a ≡ b) ⊎ (k ≡ 0)

@@ -1,4 +1,4 @@
--- Design: whole lists of actions, one after the other, and the log of the nodes that they run.
+-- Design: lists of actions, and the log of the nodes that they run.
 use Rattle.std.specs.Prelude.{ℕ, List, [], ◌∷◌, ⊤}
 use Rattle.completion_core.specs.declared.action.Action.{Action}
 use Rattle.completion_core.specs.declared.action.Action.TheVariants.{Claim, Arm, Add, Give, Arrive, Run, Settle}

@@ -1,4 +1,4 @@
--- Condition: what the two halves of a step say of a book, for every graph that it stands for.
+-- Condition: what the two halves of a step say of a book, for every graph that it may mean.
 use Rattle.std.specs.Prelude.{◌≡◌, MatchResult, Result, ⊤}
 use Rattle.completion_core.specs.declared.action.Action.{Action}
 use Rattle.completion_core.specs.declared.action.Action.TheVariants.{Claim, Arm, Add, Give, Arrive, Run, Settle}

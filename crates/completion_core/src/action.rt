@@ -18,7 +18,8 @@ pub enum Action {
     Claim {
         actor: Actor,
     },
-    /// Names `pending + 1` fresh arrivals at a node that the actor claimed, and gives the node one arrival of the actor's for each entry of `onward`.
+    /// Names `pending + 1` fresh arrivals at a node that the actor claimed, and gives the node one arrival of the
+    /// actor's for each entry of `onward`.
     Arm {
         actor: Actor,
         node: Node,
@@ -61,7 +62,8 @@ pub enum Reply {
     Node(Node),
     /// A claim found no node left to draw.
     NoNode,
-    /// An arrival that wasn't the last, with the pending count of its node from then on: how many more may come before the last.
+    /// An arrival that wasn't the last, with the pending count of its node from then on: how many more may come before
+    /// the last.
     Pending(u64),
     /// The last arrival that was owed to its node.
     Last,

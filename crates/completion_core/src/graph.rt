@@ -15,7 +15,7 @@ use std::marker::Model;
 /// The node that is there from the beginning, owes an arrival for each end and is never armed or run.
 pub const END: Node = 0;
 
-/// Nodes and the arrivals that are owed to them. Arrivals in the same hands are kept as one number.
+/// Nodes and the arrivals that are owed to them. Equal arrivals in one actor's hands are kept as one number.
 #[derive(Drop)]
 pub struct Graph {
     pub(crate) nodes: u32,
@@ -74,7 +74,7 @@ impl Graph {
     pub(crate) fn holds_all(&self, actor: Actor, nodes: &Nodes) -> bool
         ensures { IsTrue result ↔ ((i : ℕ) → count i nodes.now ≤ held_in self.now.holdings actor i) }
     {
-        // How many entries up to here are the same node: those stand side by side.
+        // How many entries up to here are this node: equal entries lie side by side.
         let mut alike = 0u64;
         let mut before = END;
         for &node in nodes.as_slice() {

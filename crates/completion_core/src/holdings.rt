@@ -6,7 +6,8 @@ use crate::nodes::Nodes;
 use std::alloc::{AllocError, Global};
 use std::collections::HashMap;
 
-/// Numbers of arrivals by node and actor. An actor that gave away or made all that it held at a node has no entry there.
+/// Numbers of arrivals by node and actor. An actor that gave away or made all that it held at a node has no entry
+/// there.
 #[derive(Drop)]
 pub struct Holdings {
     entries: HashMap<(Node, Actor), u64>,
@@ -32,7 +33,7 @@ impl Holdings {
         self.entries.get(&(node, actor)).copied().unwrap_or(0)
     }
 
-    /// Makes room for as many new entries.
+    /// Makes room for `additional` new entries.
     pub fn reserve(&mut self, additional: usize) -> Result<(), AllocError>
         ensures held { (a i : ℕ) → held self.new a i ≡ held self.old a i }
         ensures room { OnOk result (additional ≤ room self.new) }

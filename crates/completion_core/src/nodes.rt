@@ -6,7 +6,7 @@ use crate::action::Node;
 use std::alloc::{AllocError, Global};
 use std::marker::Model;
 
-/// Nodes in ascending order, in which one may stand several times.
+/// Nodes in ascending order; a node may occur several times.
 #[derive(Drop, Debug)]
 pub struct Nodes {
     items: Vec<Node>,

@@ -12,7 +12,8 @@ use crate::action::{Action, Illegal, Node};
 use crate::graph::Graph;
 use std::alloc::Global;
 
-/// Takes all actions of a list on a new graph, and answers the graph after them with the nodes in the order of their runs.
+/// Takes all actions of a list on a new graph, and answers the graph after them with the nodes in the order of their
+/// runs.
 ///
 /// An error has the index of the first action that is refused, or 0 and `NoMemory` where no graph could be made.
 pub fn play(
@@ -30,7 +31,8 @@ pub fn play(
     ensures after_all { IfOk result (λ _. RunsAfterAll actions.now (start nodes ends)) }
     ensures made_once { IfOk result (λ _. MadeOnce actions.now (start nodes ends)) }
 
-    // A refusal is that of the first action that can't be taken, and not for memory or room only where the list isn't legal.
+    // The refusal is the one of the first action that can't be taken. It is for memory or room only where the list
+    // isn't legal.
     ensures refused { IfErr result (λ e. IsFirstRefused e.0 e.1 actions.now (start nodes ends) ⊎ ((e.0 ≡ 0) × (e.1 ≡ NoMemory))) }
     ensures illegal { IfErr result (λ e. rank e.1 < 7 → ¬ LegalAll actions.now (start nodes ends)) }
 {

@@ -10,8 +10,8 @@ use crate::graph::Graph;
 
 /// Takes an action, or says why it is refused.
 ///
-/// A step costs a few operations on a map and a vector, and as many more as an `Arm` or a `Run` has onward arrivals.
-/// It asks for memory only once nothing else speaks against the action.
+/// A step costs a few operations on a map and a vector, and one more for each onward arrival of an `Arm` or a `Run`. It
+/// asks for memory only if nothing else speaks against the action.
 pub fn step(graph: &mut Graph, action: Action) -> Result<Reply, Illegal>
     ensures legal { IfOk result (λ _. (g : PureGraph) → StandsFor graph.old g → Legal action g) }
     ensures answer { IfOk result (λ answer. (g : PureGraph) → StandsFor graph.old g → answer ≡ reply action g) }

@@ -1,4 +1,4 @@
--- Condition: what a read does to a reader's count of failed reads, and to its bytes.
+-- Condition: what a read does to a reader.
 use Rattle.std.specs.Prelude.{◌≡◌, ◌++◌, ℕ, List, Option, Result, Ok, Err}
 use Rattle.std.specs.Io.KnownBytes.{Consumes}
 use Rattle.counted_io.specs.declared.counted_read.Counted.{Counted}
@@ -13,7 +13,7 @@ failures_after n (Err _) = one_more n
 abbrev pub GaveSome : Option (List ℕ) → Option (List ℕ) → Type 0
 GaveSome before after = (gone : List ℕ) × Consumes before after gone
 
--- the same, and some bytes grew by them
+-- the reader gave some bytes and still has the rest, if its bytes are known, and other bytes grew by the given ones
 abbrev pub HasGiven : Option (List ℕ) → Option (List ℕ) → List ℕ → List ℕ → Type 0
 HasGiven before after old new = (gone : List ℕ) × Consumes before after gone × (new ≡ old ++ gone)
 

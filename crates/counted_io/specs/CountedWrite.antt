@@ -1,4 +1,4 @@
--- Condition: what a write does to a writer's count of failed writes.
+-- Condition: what a write does to a writer.
 use Rattle.std.specs.Prelude.{◌==◌, ◌&&◌, ℕ, not, if◌then◌else◌, Result, Ok, Err}
 use Rattle.counted_io.specs.declared.counted_write.CountedOut.{CountedOut}
 use Rattle.counted_io.specs.FailureCounts.{one_more}

@@ -1,4 +1,4 @@
--- Condition: a count of failures that stays at the greatest number it can hold.
+-- Condition: a count of failures that saturates.
 use Rattle.std.specs.Prelude.{◌<◌, ◌≤◌, ◌+◌, ◌-◌, ◌^◌, ◌⊎◌, ℕ, nat_lt, if◌then◌else◌}
 
 -- the greatest count that a `u64` holds

@@ -168,8 +168,8 @@ pub fn read_up_to<R: CountedRead>(
     Ok(false)
 }
 
-/// No bytes yet, but room for as many as the guess says if there is memory, and for one more: the read that
-/// finds the end asks for some too.
+/// No bytes yet, with room for the guessed number of bytes and one more if there is memory: the read that finds the end
+/// asks for some too.
 fn room_for(alloc: Global, guess: usize) -> Vec<u8>
     ensures { vec_len result ≡ 0 }
 {

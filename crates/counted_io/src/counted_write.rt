@@ -90,10 +90,10 @@ pub struct WriteFault {
     pub written: u64,
 }
 
-/// Writes all the bytes, in as many writes as the writer needs.
+/// Writes all the bytes, in as few or many writes as the writer needs.
 ///
-/// If there are no bytes, nothing is written, so this succeeds even if every write would fail. An interrupted
-/// write is tried again, as std's writers do it, and its failure stays counted.
+/// If there are no bytes, nothing is written, so this succeeds even if every write would fail. An interrupted write is
+/// tried again, as std's writers do it, and its failure stays counted.
 pub fn write_all_of<W: CountedWrite>(writer: &mut W, bytes: &[u8]) -> Result<(), WriteFault>
     ensures ok { OnOk result (Appends (W.contents writer.old) (W.contents writer.new) bytes.now) }
     ensures err { IfErr result (λ fault. Appends (W.contents writer.old) (W.contents writer.new) (take fault.written bytes.now)) }

@@ -1,4 +1,4 @@
-//! Readers and writers that count what failed, the whole of a reader's bytes, and writing all of some bytes.
+//! Readers and writers that count what failed.
 //!
 //! Stands on std and on `thiserror`. `columns` and `report` stand on it and give out its names; the run reads a
 //! job file and writes a report by it.

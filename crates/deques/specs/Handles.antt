@@ -1,4 +1,4 @@
--- Design: the calls that an owner, a thief and a pass have made, and which deque a handle is of.
+-- Design: the calls that a handle has made, and which deque it is of.
 use Rattle.std.specs.Prelude.{◌≡◌, ℕ, List}
 use Rattle.crossbeam_deque.specs.Handles.{taken, worker_deque, stealer_deque, worker_view, view}
 use Rattle.crossbeam_deque.specs.Injected.{injector_view, IsInjectorPassOf}

@@ -1,4 +1,4 @@
--- Design: the calls of a deque as one history, and what each of them does to the tasks that are held.
+-- Design: the calls of a deque as one history, and what each does to the tasks that are held.
 use Rattle.std.specs.Prelude.{◌≡◌, ◌≢◌, ℕ, suc, ◌≤◌, ◌==◌, List, [], ◌∷◌, ◌++◌, length, map, Option, Some, None, if◌then◌else◌}
 use mathlib.Core.Option.{some}
 use lib.ListN.{get_elem?}

@@ -43,8 +43,8 @@ impl<T: Drop> Inbox<T> {
         (Pass { pass }, put)
     }
 
-    /// The oldest task. `None` only if the inbox was empty at one moment of the call. Waits only while other threads are
-    /// inside a `put` or a `take`.
+    /// The oldest task. `None` only if the inbox was empty at one moment of the call. Waits only while other threads
+    /// are inside a `put` or a `take`.
     pub fn take<R: Wait>(&self, rt: &R, pass: Pass<T>) -> (Pass<T>, Option<T>)
         requires { IsOf self.now pass }
         ensures same { IsOf self.now result.0 }

@@ -27,7 +27,7 @@ begins_less j k s t h (b, w) = (
   λ few. w (omega arith),
 )
 
--- a beginning has as many items
+-- a beginning has that number of items
 long_take : (k : ℕ) (xs ys : List Item) → k ≤ length ys → take k xs ≡ take k ys → k ≤ length xs
 long_take zero xs ys h e = omega arith
 long_take (suc k) xs [] h e = absurd (omega arith)
@@ -52,7 +52,7 @@ long_append s b = long_on s.items s.ending
     long_on xs end.Done = let l = length-append xs b.items in omega arith
     long_on xs (end.Fault f) = omega arith
 
--- the same walk, and then a beginning of k more
+-- a walk, and then a beginning of k more
 begins_after : (xs : List Item) (e : End) (k : ℕ) (s t : Trace) → BeginsAs k s t → BeginsAs (length xs + k) (then_on xs e s) (then_on xs e t)
 begins_after xs end.Done k s t (b, w) = (
   (λ low. take-append-add xs t.items k ∙ ap (λ (l : List Item). xs ++ l) (b (let l = length-append xs s.items in omega arith)) ∙ sym (take-append-add xs s.items k)),
@@ -76,7 +76,7 @@ module _ (decides : ℕ → Type 0) where
   pub enough_left : (at c : ℕ) (s t : Trace) → decides c → c ≤ at → IsEnough decides at s t
   enough_left at c s t ok h = let z : c - at ≡ 0 = omega arith in inr (c, ok, subst (λ k. BeginsAs k s t) (sym z) ((λ low. refl), λ few. absurd (omega arith)))
 
-  -- a piece of which only a first part was walked, up to a decisive place or beyond it
+  -- a piece whose first part alone was walked, up to a decisive place or beyond it
   pub enough_begun : (at c m : ℕ) (s t b : Trace) → decides c → c ≤ at + m → length s.items ≡ m → IsEnough decides at (append s b) (append s nothing)
   enough_begun at c m s t b ok h l = inr (c, ok, begins_cut (c - at) s s b nothing (omega arith) ((λ low. refl), λ few. refl))
 
@@ -106,7 +106,7 @@ enough_gives outcome s t e = ⊎_elim
     (λ (h : (c : ℕ) × Decides outcome s c × BeginsAs (c - 0) s t). let z : h.0 - 0 ≡ h.0 = omega arith in h.1 t (subst (λ k. BeginsAs k s t) z h.2))
     e
 
--- if fewer places are known, no less stands for a piece
+-- if fewer places are known, no fewer walks describe a piece
 pub enough_as : (decides decides' : ℕ → Type 0) (at : ℕ) (s t : Trace) → ((c : ℕ) → decides c → decides' c) → IsEnough decides at s t → IsEnough decides' at s t
 enough_as decides decides' at s t to e = ⊎_elim
     (λ (h : t ≡ s). inl h)

@@ -66,7 +66,7 @@ module _ {O : Type 0} (close : Trace → O) (g : Trace → Trace) (joins : (a b 
   pub settled_decides : i + m ≤ length s.items → IsSettled close (g piece) → Decides (λ t. close (g t)) s (i + m)
   settled_decides low settles t (b, w) = ap close (cuts t (b low)) ∙ settles (g before) (g (rest t)) (g (rest s)) ∙ sym (ap close (cuts s refl))
 
-  -- and also if a part that stands for it settles the outcome, some of it being left unwalked
+  -- and also if its part settles the outcome, even if some of it was left unwalked
   pub enough_decides : (t : Trace) → i + m ≤ length s.items → IsEnough (Decides (λ u. close (g u)) s) i piece t → IsSettled close (g t) → Decides (λ u. close (g u)) s (i + m)
   enough_decides t low enough settles = ⊎_elim
       (λ (e : t ≡ piece). settled_decides low (subst (λ u. IsSettled close (g u)) e settles))

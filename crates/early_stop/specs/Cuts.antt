@@ -1,4 +1,4 @@
--- Design: the words of early stop and the views of its seats, as they stand between any two steps, and what each call is.
+-- Design: the words of early stop, the views of its seats, and what each call is.
 use Rattle.std.specs.Prelude.{◌≡◌, ℕ, ◌<◌, ◌≤◌, ◌==◌, min, List, [], ◌∷◌, ◌++◌, length, slice_index_or, slice_set, replicate, if◌then◌else◌}
 use mathlib.Core.Option.{some}
 use lib.ListN.{get_elem?}
@@ -43,14 +43,16 @@ part_view v = record { lowered = []; known = v.known }
 abbrev pub Board : Type 0
 Board = State (Unit {0}) KnownPlaces
 
--- Between any two steps: the word of a segment is the least place that any seat has lowered there, it is decisive, and it is no greater than what any seat knows.
+-- Between any two steps: the word of a segment is the least place that any seat has lowered there, it is decisive, and
+-- it is no greater than what any seat knows.
 pub record Ruled (decides : ℕ → ℕ → Type 0) (words : ℕ) (s : Board) : Type 0 where
   pub size : length s.words ≡ words
   pub word : (i : ℕ) → i < words → slice_index_or s.words i 0 ≡ least_lowered i s.views
   pub decisive : (i : ℕ) → i < words → decides i (slice_index_or s.words i 0)
   pub known : (i : ℕ) → i < words → (a : ℕ) (v : KnownPlaces) → get_elem? s.views a ≡ some v → slice_index_or s.words i 0 ≤ least i v.known
 
--- One atomic step of the actor's, on the word i, which had n and then has n'. Its view was v and then is w, and nothing else changed.
+-- One atomic step of the actor's, on the word i, which had n and then has n'. Its view was v and then is w, and nothing
+-- else changed.
 pub record OneStep (decides : ℕ → ℕ → Type 0) (words i n n' actor : ℕ) (v w : KnownPlaces) : Type 0 where
   pub before : Board
   pub later : Board
@@ -72,7 +74,7 @@ pub record IsSeen (decides : ℕ → ℕ → Type 0) (words actor i : ℕ) (v : 
   pub known : n ≤ least i v.known
   pub one_step : OneStep decides words i n n actor v w
 
--- whatever the words and the other views are, they are the same after a split, with one view more
+-- a split adds one view and changes nothing else, whatever the words and the other views are
 abbrev pub IsSplit : (ℕ → ℕ → Type 0) → ℕ → KnownPlaces → KnownPlaces → KnownPlaces → Type 0
 IsSplit decides words v rest part = (s : Board) (actor : ℕ) → Ruled decides words s → get_elem? s.views actor ≡ some v
     → Ruled decides words (record { words = s.words; homes = s.homes; views = slice_set s.views actor rest ++ part ∷ [] })

@@ -1,4 +1,4 @@
--- Meaning: places of a source that decide what a segment gives.
+-- Design: places of a source that decide what a segment gives.
 use Rattle.std.specs.Prelude.{◌≡◌, ◌≢◌, ℕ, ◌<◌, ◌≤◌, length, take}
 use Rattle.trace.specs.Trace.{Trace}
 
@@ -14,6 +14,6 @@ BeginsAs c s t = (c ≤ length s.items → take c t.items ≡ take c s.items) ×
 abbrev pub Decides : {O : Type 0} → (Trace → O) → Trace → ℕ → Type 0
 Decides outcome source c = (t : Trace) → BeginsAs c source t → outcome t ≡ outcome source
 
--- the same, or no place is known
+-- every walk that begins with the first c items of the source gives what the source gives; or no place is known
 abbrev pub IsDecisive : {O : Type 0} → (Trace → O) → Trace → ℕ → Type 0
 IsDecisive outcome source c = c ≢ no_place → Decides outcome source c

@@ -1,4 +1,4 @@
--- Meaning: pieces of a source of which some were left unwalked, and what lets them be left.
+-- Design: when pieces of a source may be left unwalked in part.
 use Rattle.std.specs.Prelude.{◌≡◌, ◌⊎◌, ℕ, ◌-◌}
 use Rattle.trace.specs.Trace.{Trace, append}
 use Rattle.early_stop.specs.Decisive.{BeginsAs}
@@ -7,6 +7,6 @@ use Rattle.early_stop.specs.Decisive.{BeginsAs}
 abbrev pub IsSettled : {O : Type 0} → (Trace → O) → Trace → Type 0
 IsSettled close t = (a b c : Trace) → close (append (append a t) b) ≡ close (append (append a t) c)
 
--- t stands for the piece s that begins at this place: it is s, at least up to a place that decides
+-- t describes the piece s that begins at this place: it is s, at least up to a place that decides
 abbrev pub IsEnough : (ℕ → Type 0) → ℕ → Trace → Trace → Type 0
 IsEnough decides at s t = (t ≡ s) ⊎ ((c : ℕ) × decides c × BeginsAs (c - at) s t)

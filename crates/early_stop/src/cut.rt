@@ -7,7 +7,8 @@ use crate::view::KnownPlaces;
 use atomic_table::Table;
 use std::alloc::Global;
 
-/// For each segment a place of its source, in an atomic word of its own. Threads share it by `&`; each steps with its own `CutSeat`.
+/// For each segment a place of its source, in an atomic word of its own. Threads share it by `&`; each steps with its
+/// own `CutSeat`.
 #[derive(Drop)]
 pub struct Cut<S: Segments> {
     pub(crate) table: Table<(), KnownPlaces, S, CutRule<S>, Global>,

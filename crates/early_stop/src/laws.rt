@@ -6,8 +6,9 @@ ghost use Rattle.trace.specs.Trace.{Trace, trace, append};
 ghost use Rattle.early_stop.specs.Decisive.{Decides};
 ghost use Rattle.early_stop.specs.Leaving.{IsSettled, IsEnough};
 
-/// Parts of pieces side by side: each was walked, or begins at or right of a decisive place, or is joined of such parts. Then so is the
-/// part joined of them, and that of the whole source gives what the source gives.
+/// Parts of pieces that lie side by side may be joined, if each piece was walked, or begins at or right of a decisive
+/// place, or is joined of pieces like these. The joined piece is again one of these, and the part of the whole source
+/// gives what the source gives.
 #[tactic(auto, using(crate::proofs::Leaving::enough_walked, crate::proofs::Leaving::enough_left, crate::proofs::Leaving::enough_joined, crate::proofs::Leaving::enough_gives))]
 pub fn parts_may_be_joined<O>()
     ensures walked { (outcome : Trace → O) (source : Trace) (at : ℕ) (s : Trace) → IsEnough (Decides outcome source) at s s }
@@ -16,8 +17,8 @@ pub fn parts_may_be_joined<O>()
     ensures whole { (outcome : Trace → O) (source t : Trace) → IsEnough (Decides outcome source) 0 source t → outcome t ≡ outcome source }
 {}
 
-/// The end of a piece is decisive if the part that stands for it settles the outcome, also if some of it was left unwalked. `g` is what
-/// the stages of the segment make of a walk.
+/// The end of a piece is decisive if its part settles the outcome, even if some of the piece was left unwalked. `g` is
+/// what the stages of the segment make of a walk.
 #[tactic(auto, using(crate::proofs::Settling::enough_decides))]
 pub fn settled_parts_decide<O>()
     ensures { (close : Trace → O) (g : Trace → Trace) → ((a b : Trace) → g (append a b) ≡ append (g a) (g b)) → (s t : Trace) (i m : ℕ) → i + m ≤ length s.items

@@ -1,8 +1,9 @@
-//! Early stop: for each segment of a run the least place of its source that is known to decide what the segment gives, in an atomic
-//! word, and what may be left unwalked because of it.
+//! Early stop: for each segment of a run the least place known to decide what the segment gives, in an atomic word.
 //!
-//! Stands on `trace` and `atomic_table`. Used by `job_plan`, whose leaves ask a `Stop`, and by `job_runner`, whose workers share a `Cut`.
-//! Begin with `specs/Decisive.antt` and `specs/Leaving.antt`, then `stop.rt` and `steps.rt`; `laws.rt` says what may be left out.
+//! Stands on `trace` and `atomic_table`. Used by `job_plan`, whose leaves ask a `Stop`, and by `job_runner`, whose
+//! workers share a `Cut`.
+//! Begin with `specs/Decisive.antt` and `specs/Leaving.antt`, then `stop.rt` and `steps.rt`; `laws.rt` says what may be
+//! left out.
 //! Not promised: that a place is ever seen. No call waits, and none but `Cut::new` takes memory.
 #![tactic(auto)]
 

@@ -55,7 +55,7 @@ impl<S: Segments> Cut<S> {
         seat
     }
 
-    /// The same with a seat that stays where it is.
+    /// Lowers the segment's word to the place, if it isn't lower already. One `fetch_min`. The seat stays where it is.
     pub fn lower_with(&self, seat: &mut CutSeat, segment: u32, place: u64)
         requires table { IsSeatOf self.now seat.old }
         requires segment { (segment < count_of self.now) × (count_of self.now ≡ S.count (segments_of self.now)) }
@@ -80,8 +80,8 @@ impl<S: Segments> Cut<S> {
             .fetch_min::<Lower<A>>(&mut seat.token, segment as usize, place);
     }
 
-    /// The segment's word: a place that decides what the segment gives, and is no greater than what the seat knows; the greatest u64 if no
-    /// place is known. One load.
+    /// The segment's word: a place that decides what the segment gives, and is no greater than what the seat knows; the
+    /// greatest u64 if no place is known. One load.
     ///
     /// For other programs: `streamrun` calls `seen_with`.
     pub fn seen(&self, seat: CutSeat, segment: u32) -> (CutSeat, u64)
@@ -97,7 +97,8 @@ impl<S: Segments> Cut<S> {
         (seat, place)
     }
 
-    /// The same with a seat that stays where it is.
+    /// The segment's word: a place that decides what the segment gives, and is no greater than what the seat knows; the
+    /// greatest u64 if no place is known. One load. The seat stays where it is.
     pub fn seen_with(&self, seat: &mut CutSeat, segment: u32) -> u64
         requires table { IsSeatOf self.now seat.old }
         requires segment { (segment < count_of self.now) × (count_of self.now ≡ S.count (segments_of self.now)) }

@@ -8,7 +8,8 @@ use std::marker::Model;
 pub struct KnownPlaces {
     /// The places that the seat lowered.
     pub ghost lowered: { List (ℕ × ℕ) },
-    /// The places that a word was known to have reached: those that the seat lowered or saw, or a seat that it was split off from.
+    /// The places that a word was known to have reached: the seat, or one that it was split off from, lowered or saw
+    /// them.
     pub ghost known: { List (ℕ × ℕ) },
 }
 

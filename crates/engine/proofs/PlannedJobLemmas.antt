@@ -1,4 +1,4 @@
--- The names of planned jobs are those of the jobs.
+-- The names of planned jobs are the names of the jobs.
 use Rattle.std.proofs.Common.{◌≡◌, ℕ, List, [], ◌∷◌, ◌++◌, refl, sym, ap, ◌∙◌}
 use Rattle.std.specs.Prelude.{map}
 use Rattle.job_language.specs.Jobs.{AbstractJob, names_of}

@@ -1,4 +1,4 @@
--- Design: what an input gives: a report, the refusal of its column file, or that of its job file. No setting of a run is a part of it.
+-- Design: what an input gives: a report, or the refusal of one of its files. No setting of a run is a part of it.
 use Rattle.std.specs.Prelude.{◌≡◌, ℕ, List, Ok, Err}
 use Rattle.columns.specs.declared.fault.ColumnFault.{ColumnFault}
 use Rattle.columns.specs.Table.{NamedColumn}

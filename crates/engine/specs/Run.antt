@@ -1,11 +1,15 @@
--- Meaning: what a run writes, from the bytes of the column file and of the job file to the bytes of the report. Read this first.
---   bytes of the column file → columns         columns/specs/Cells, Table, Refusals
---   bytes of the job file → texts of jobs      stream_tokens/specs/JobTexts, Tokens
---   texts of jobs         → jobs               job_language/specs/Files, Verdicts, Grammar, Table; their lambdas: lambda_expr/specs/Grammar, Refusals
---   jobs                  → answers            job_meaning/specs/FileAnswers, Names, Walks; their walks: trace/specs/Cover, Stages, Trace, Stops; what stages and terminals make of
---                                              them: slice_ops/specs/Slices, prefix_scan/specs/Prefixes, find_ops/specs/Finds, reduce_ops/specs/Folds, Operators, ExactSums;
---                                              values of lambdas: lambda_values/specs/Value, Operators, Streams
---   answers               → bytes of the report     report/specs/Text, Json; an answer in both forms: report/specs/AnswerForms
+-- Meaning: what a run writes, from the bytes of both files to the bytes of the report. Read this first.
+--   bytes of the column file → columns       columns/specs/Cells, Table, Refusals
+--   bytes of the job file    → texts of jobs    stream_tokens/specs/JobTexts, Tokens
+--   texts of jobs            → jobs          job_language/specs/Files, Verdicts, Grammar, Table
+--     their lambdas                          lambda_expr/specs/Grammar, Refusals
+--   jobs                     → answers       job_meaning/specs/FileAnswers, Names, Walks
+--     their walks                            trace/specs/Cover, Stages, Trace, Stops
+--     slices, prefixes, finds                slice_ops/specs/Slices, prefix_scan/specs/Prefixes, find_ops/specs/Finds
+--     folds                                  reduce_ops/specs/Folds, Operators, ExactSums
+--     values of lambdas                      lambda_values/specs/Value, Operators, Streams
+--   answers                  → bytes of report    report/specs/Text, Json
+--     an answer in both forms                report/specs/AnswerForms
 -- Reports of small files, worked out: report/specs/Worked.
 use Rattle.std.specs.Prelude.{◌≡◌, ◌≢◌, ℕ, ◌<◌, List, [], length, take, Option, Some, None, Result, Ok, Err}
 use Rattle.std.specs.Io.KnownBytes.{Appends, Keeps}
@@ -26,7 +30,8 @@ use Rattle.report.specs.Text.{report_text}
 use Rattle.engine.specs.declared.running.EngineFault.{EngineFault}
 use Rattle.engine.specs.declared.running.EngineFault.TheVariants.{Columns, Jobs, JobsRead, NoMemory, Write}
 
--- what a run is given: the bytes of the column file, if there is one, those of the job file, and the form of the report
+-- what a run is given: the bytes of the column file, if there is one, the bytes of the job file, and the form of the
+-- report
 pub record Input : Type 0 where
   pub columns : Option (List ℕ)
   pub jobs : List ℕ
@@ -42,8 +47,8 @@ abbrev pub report_in : Form → List (List ℕ) → List Answer → List ℕ
 report_in form.Text names answers = report_text names answers
 report_in form.Json names answers = report_json names answers
 
--- the report of the jobs that the input spells: what one thread writes that takes the jobs in file order and each source in
--- encounter order, with the first fault that it meets in place of the job's answer
+-- the report of the jobs that the input spells: what one thread writes that takes the jobs in file order and each
+-- source in encounter order; a job that meets a fault has the first one as its answer
 pub record IsReport (input : Input) (report : List ℕ) : Type 0 where
   pub columns : List NamedColumn
   pub given : columns_of input.columns ≡ Ok columns
@@ -60,7 +65,7 @@ abbrev pub IsColumnFault : Option (List ℕ) → ColumnFault → Type 0
 IsColumnFault None f = ⊥
 IsColumnFault (Some bytes) f = f ≢ column.Read → f ≢ column.NoMemory → cells_of bytes ≡ Err f
 
--- the column file, if there is one, is a table: a fault of the job file comes after those of the column file
+-- the column file, if there is one, is a table: a fault of the job file comes after every fault of the column file
 abbrev pub HasColumns : Input → Type 0
 HasColumns input = (columns : List NamedColumn) × (columns_of input.columns ≡ Ok columns)
 

@@ -1,4 +1,4 @@
--- Meaning: the exit status of the program for each fault of a run, and after a run.
+-- Design: the exit status of the program.
 use Rattle.std.specs.Prelude.{ℕ, Result, Ok, Err}
 use Rattle.engine.specs.declared.running.EngineFault.{EngineFault}
 use Rattle.engine.specs.declared.running.EngineFault.TheVariants.{Columns, Jobs, JobsRead, NoMemory, Write}

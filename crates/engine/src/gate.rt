@@ -2,10 +2,11 @@
 
 use worker_pool::Gate;
 
-/// A gate of a whole run: it is also called as the run goes from one part to the next. None of these calls changes the report.
+/// A gate of a whole run: it is also called as the run goes from one part to the next. None of these calls changes the
+/// report.
 pub trait RunGate: Gate {
-    /// Called for each job of the file in turn, before the first of them begins. `items` is how many items its first walk goes over,
-    /// as far as that is known then; it is 0 of a job that is walked through its slices, in one piece.
+    /// Called for each job of the file in turn, before the first of them begins. `items` is how many items its first
+    /// walk goes over, as far as that is known then; it is 0 of a job that is walked through its slices, in one piece.
     fn before_job(&self, _job: usize, _items: u64) {}
 
     /// Called before the first byte of the report is written. No call of the gate comes after it.

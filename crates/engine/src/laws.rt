@@ -9,7 +9,8 @@ ghost use Rattle.engine.specs.declared.running.EngineFault.TheVariants as engine
 ghost use Rattle.engine.specs.Outcomes.{HasOutcome, Outcome, columns_refused, jobs_refused};
 ghost use Rattle.engine.specs.Run.{Faulted, Input, IsReport, Reported, Says};
 
-/// Each input gives one thing: a report, a refusal of the column file, or a refusal of the job file, and no two of these.
+/// Each input gives one thing: a report, a refusal of the column file, or a refusal of the job file, and no two of
+/// these.
 pub fn each_input_has_one_outcome()
     ensures some { (input : Input) → (o : Outcome) × HasOutcome input o }
     ensures one { (input : Input) (o p : Outcome) → HasOutcome input o → HasOutcome input p → o ≡ p }
@@ -23,9 +24,9 @@ pub fn refusals_are_outcomes()
         → f.cause ≢ cause.NoMemory → HasOutcome input (jobs_refused f) }
 {}
 
-/// Two runs over one input that each answered a report wrote the same bytes. By `run`, clause `report`, an input is the bytes of
-/// the two files and the form of the report: so neither the other settings nor the schedule changes a byte. After a failed
-/// write the bytes that went out are the first ones of that same report.
+/// Two runs over one input that each answered a report wrote equal bytes. By `run`, clause `report`, an input is the
+/// bytes of the two files and the form of the report: so neither the other settings nor the schedule changes a byte.
+/// After a failed write the bytes that went out are the first ones of that report.
 pub fn settings_change_no_byte()
     ensures reports { (input : Input) (a b : List ℕ) → IsReport input a → IsReport input b → a ≡ b }
     ensures written { (input : Input) (before : List ℕ) (after other : Option (List ℕ))

@@ -15,7 +15,8 @@ ghost use Rattle.std.specs.Prelude.{◌≡◌, ◌≢◌, ℕ, All, List, length
 ghost use Rattle.stream_tokens.specs.Forms.{IsName};
 
 use crate::gate::RunGate;
-use columns::{ColumnFault, Columns, CountedRead, ReadAllFault, read_all_of, read_columns_by};
+use columns::{ColumnFault, Columns, CountedRead, read_columns_by};
+use counted_io::{ReadAllFault, read_all_of};
 use job_language::{Job, JobFault, read_jobs};
 use job_meaning::Answer;
 use job_plan::{JobPlan, Plan};
@@ -30,7 +31,8 @@ use thiserror::Error;
 
 /// Why a run gives no report, or only a part of it. Unless it is `Write`, nothing was written.
 ///
-/// The numbers are stable; there is no 6 and no 7. The text is the program's line on standard error, without the program's name.
+/// The numbers are stable; there is no 6 and no 7. The text is the program's line on standard error, without the
+/// program's name.
 #[derive(Clone, Copy, Debug, PartialEq, Eq, Error)]
 pub enum EngineFault {
     /// 1: the column file is refused, a read of it failed, or memory for it was refused.
@@ -56,13 +58,13 @@ const PIECE: usize = 4 * 1024 * 1024;
 /// Reads the columns, if there is a reader of them, then the job file whole; checks the jobs, runs them,
 /// builds the report whole and writes it.
 ///
-/// The columns are read and the jobs run on threads, no more than the settings say. A piece of at most the threshold is never cut; a
-/// longer one is, while nodes last, unless the walk goes through a slice that doesn't select positions of the source. The gate is
-/// called before each piece, and one that does nothing will do. None of this changes the report.
-/// The cells of the columns, the job file and the report are each held in memory once. While the cells are read, the bytes
-/// of a column file of at most 4 MiB for each thread are held whole, of a longer one twice that many, or all that are
-/// left from a row with quotes on; the cells of one piece for each thread are held beside. If the column file is refused,
-/// the job file isn't read.
+/// The columns are read and the jobs run on threads, no more than the settings say. A piece of at most the threshold is
+/// never cut; a longer one is, while nodes last, unless the walk goes through a slice that doesn't select positions of
+/// the source. The gate is called before each piece, and one that does nothing will do. None of this changes the
+/// report. The cells of the columns, the job file and the report are each held in memory once. While the cells are
+/// read, the bytes of a column file of at most 4 MiB for each thread are held whole, of a longer one twice that many,
+/// or all that are left from a row with quotes on; the cells of one piece for each thread are held beside. If the
+/// column file is refused, the job file isn't read.
 pub fn run<
     H: Threads + Wait + Sync,
     C: CountedRead,
@@ -78,8 +80,8 @@ pub fn run<
     settings: &Settings,
     gate: &G,
 ) -> Result<(), EngineFault>
-    // The headline: the writer holds what it held before, and then the report of the jobs that the bytes
-    // spell. The input is what the readers held, and some bytes for a reader of which they aren't known.
+    // The headline: after what the writer held before, it holds the report of the jobs that the bytes spell. The input
+    // is what the readers held, and some bytes for a reader whose bytes aren't known.
     ensures report { OnOk result ((input : Input)
         × IsGiven C.remaining columns.entry (J.remaining jobs.old) (form_of settings.now) input
         × Reported input (W.contents writer.old) (W.contents writer.new)) }

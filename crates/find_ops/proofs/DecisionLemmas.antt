@@ -82,7 +82,7 @@ module _ (d : Find) (n : ℕ) (env : Numbers) where
   pub settled : (p : FindPart) (a b : Trace) → is_some p.decision ≡ true → StandsFor d n env p a → StandsFor d n env p (append a b)
   settled p a b h s = merged p (record { decision = decision_of d n env b; otherwise = answer_of_none d }) p a b s (record { decision = refl; otherwise = refl }) (sym (some_kept p.decision (decision_of d n env b) h)) refl
 
-  -- the same for a loop over pieces
+  -- what is decided stays, in a loop over pieces
   pub piece_step : {X : Type 0} (f : X → List Item) (ps : List X) (i : ℕ) (p : X) → i < length ps → p ≡ get_or ps i p
       → first_decision d n env (flat_map f (drop i ps)) ≡ option_or (first_decision d n env (f p)) (first_decision d n env (flat_map f (drop (i + 1) ps)))
   piece_step f ps i p h e =
@@ -100,7 +100,7 @@ module _ (d : Find) (n : ℕ) (env : Numbers) where
       → first_decision d n env (flat_map f (drop i ps)) ≡ first_decision d n env (flat_map f (drop (i + 1) ps))
   piece_passed f ps i p h e k = piece_step f ps i p h e ∙ ap (λ o. option_or o (first_decision d n env (flat_map f (drop (i + 1) ps)))) k
 
-  -- items of which the first ones decide nothing, and a loop over the others
+  -- items whose first ones decide nothing, and a loop over the others
   pub decided_later : (xs : List Item) (i : ℕ) → first_decision d n env (take i xs) ≡ None → first_decision d n env (drop i xs) ≡ first_decision d n env xs
   decided_later xs i h =
       ap (λ o. option_or o (first_decision d n env (drop i xs))) (sym h) ∙ sym (first_joined (take i xs) (drop i xs)) ∙ ap (first_decision d n env) (take-append-drop i xs)

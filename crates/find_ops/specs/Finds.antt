@@ -22,7 +22,7 @@ pub data Find : Type 0 where
   all_match : Truth → Find
   none_match : Truth → Find
 
--- what a terminal of the program stands for
+-- the find that a terminal of the program means
 abbrev pub find_of : FindTerminal → Find
 find_of terminal.First = first
 find_of (terminal.AnyMatch p) = any_match (truth_of p)
@@ -41,7 +41,7 @@ abbrev pub if_true : Found → Bool → Option (Result Found Fault)
 if_true a true = Some (Ok a)
 if_true a false = None
 
--- helper: the same, if it came out false
+-- helper: an answer, if the test came out false
 abbrev pub if_false : Found → Bool → Option (Result Found Fault)
 if_false a true = None
 if_false a false = Some (Ok a)

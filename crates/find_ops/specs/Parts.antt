@@ -1,4 +1,4 @@
--- Condition: what the part of a find stands for.
+-- Condition: which walk the part of a find describes.
 use Rattle.std.specs.Prelude.{◌≡◌, ℕ}
 use Rattle.trace.specs.Trace.{Trace}
 use Rattle.find_ops.specs.declared.find_part.FindPart.{FindPart}

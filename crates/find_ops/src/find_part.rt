@@ -1,4 +1,4 @@
-// What the pieces of a stream decide, and how they merge in encounter order.
+//! What the pieces of a stream decide, and how they merge in encounter order.
 
 ghost use Rattle.std.specs.Prelude.{◌≡◌, ℕ, [], ◌∷◌, is_some, None, take};
 ghost use Rattle.trace.specs.declared.item.End.TheVariants as end;
@@ -69,8 +69,8 @@ impl FindPart {
         }
     }
 
-    /// The part of this piece and the items of a source after it, of which the first ones, up to this position, decide
-    /// nothing. It looks at the others until one decides.
+    /// The part of this piece and the items of a source after it. The items up to this position decide nothing. It
+    /// looks at the others until one decides.
     pub fn look_after<I: SourceItems>(
         self,
         terminal: &FindTerminal,

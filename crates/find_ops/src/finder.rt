@@ -1,4 +1,4 @@
-// The sink of a walk that ends in a find or a match.
+//! The sink of a walk that ends in a find or a match.
 
 ghost use Rattle.std.specs.Prelude.{◌≡◌, [], if◌then◌else◌, is_some};
 ghost use Rattle.trace.specs.declared.item.End.TheVariants as end;

@@ -1,4 +1,4 @@
-// Laws of finds. Each stands on a function that does nothing.
+//! Laws of finds. Each stands on a function that does nothing.
 
 ghost use Rattle.std.specs.Prelude.{◌≡◌, ◌≢◌, ℕ, None};
 ghost use Rattle.trace.specs.Trace.{Trace, append};

@@ -1,4 +1,4 @@
-// The terminals that look for an item, and what one item decides.
+//! The terminals that look for an item, and what one item decides.
 
 ghost use Rattle.std.specs.Prelude.{◌≡◌, flat_map, take};
 ghost use Rattle.find_ops.specs.Finds.{find_of, answer_of_none, decision, first_decision};
@@ -73,7 +73,7 @@ impl FindTerminal {
         None
     }
 
-    /// The same over the items of these pieces, one piece after the other.
+    /// The decision of the first item that decides among the items of these pieces, one piece after the other.
     pub fn first_decision_in(
         &self,
         stage: u32,
@@ -90,7 +90,8 @@ impl FindTerminal {
         None
     }
 
-    /// The same over the items of a source, of which the first ones, up to this position, decide nothing: they aren't read.
+    /// The decision of the first item of a source that decides. The items up to this position decide nothing and aren't
+    /// read.
     pub fn first_decision_after<I: SourceItems>(
         &self,
         stage: u32,

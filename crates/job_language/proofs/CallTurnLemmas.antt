@@ -15,10 +15,10 @@ use Rattle.job_language.specs.Rows.{AbstractCall, Argument, Row, as_source, as_c
 use Rattle.job_language.specs.Table.{row, role_of}
 use Rattle.job_language.specs.declared.job.JobStage.{JobStage}
 use Rattle.job_language.specs.declared.job.PlainSource.{PlainSource}
-use Rattle.job_language.specs.Jobs.{AbstractJob, given_by, source_of, sources_of, job_stage_of, job_stages_of}
+use Rattle.job_language.specs.Jobs.{AbstractJob, AbstractTerminal, given_by, source_of, sources_of, job_stage_of, job_stages_of}
 use Rattle.job_language.specs.Causes.{Scope, first_cause, when, stage_cause, early_causes, numbers_of}
 use Rattle.job_language.specs.Arguments.{PlacedCall, IsArgumentRead}
-use Rattle.job_language.specs.Verdicts.{call_answer, added, below_terminal, fallback_for, IsReadAfter, IsCallRead, IsReadInTurn, IsNextCall, AreRead}
+use Rattle.job_language.specs.Verdicts.{BegunJob, call_answer, added, below_terminal, fallback_below, fallback_for, finished, IsReadAfter, IsCallRead, IsReadInTurn, IsNextCall, AreRead}
 use Rattle.job_language.specs.Shapes.{placed_in, all_placed}
 use Rattle.job_language.specs.Parts.{part_in, answer_in, Answers}
 
@@ -42,7 +42,7 @@ what : {A : Type 0} (f : A → AbstractCall) (x : Result A Cause) (g : AbstractC
 what f (Ok v) g e = (v, cc)
 what f (Err c) g e = absurd cc
 
-grown : (j : AbstractJob) (r : Row) (a : Argument) (ks : List ℤ) (g : AbstractCall) → built_by r a ks ≡ Ok g → stage_cause (length j.stages) (role_in r) ≡ None → length j.stages ≤ 32 → length (added j g).stages ≤ 32
+grown : (j : BegunJob) (r : Row) (a : Argument) (ks : List ℤ) (g : AbstractCall) → built_by r a ks ≡ Ok g → stage_cause (length j.stages) (role_in r) ≡ None → length j.stages ≤ 32 → length (added j g).stages ≤ 32
 grown j (as_source t) a ks g e h le = let w = what source (taken t a ks) g e in subst (λ v. length (added j v).stages ≤ 32) w.1 le
 grown j as_concat a ks g e h le = absurd cc
 grown j (as_stage t) a ks g e h le =
@@ -54,46 +54,50 @@ grown j (as_stage t) a ks g e h le =
 grown j (as_terminal t) a ks g e h le = let w = what terminal (taken t a ks) g e in subst (λ v. length (added j v).stages ≤ 32) w.1 le
 grown j (as_fallback t) a ks g e h le = let w = what fallback (taken t a ks) g e in subst (λ v. length (added j v).stages ≤ 32) w.1 le
 
-after_call : (j : AbstractJob) (s : Scope) (t : TokenizedText) (c : PlacedCall) (g : AbstractCall) (f : Option Cause) → IsReadAfter f s t c (Ok g) → stage_cause (length j.stages) (role_of c.call.operation) ≡ None → length j.stages ≤ 32 → length (added j g).stages ≤ 32
+after_call : (j : BegunJob) (s : Scope) (t : TokenizedText) (c : PlacedCall) (g : AbstractCall) (f : Option Cause) → IsReadAfter f s t c (Ok g) → stage_cause (length j.stages) (role_of c.call.operation) ≡ None → length j.stages ≤ 32 → length (added j g).stages ≤ 32
 after_call j s t c g (Some e) r h le = absurd cc
 after_call j s t c g None (Ok a, arg, eq) h le = let o = c.call.operation in grown j (row o) a (numbers_of o (length c.call.parts) 0 c.call.parts) g eq h le
 after_call j s t c g None (Err e, arg, eq) h le = absurd cc
 
-in_turn : (j : AbstractJob) (s : Scope) (t : TokenizedText) (c : PlacedCall) (g : AbstractCall) (late : Option Cause) → stage_cause (length j.stages) (role_of c.call.operation) ≡ late → IsReadInTurn late s t c (Ok g) → length j.stages ≤ 32 → length (added j g).stages ≤ 32
+in_turn : (j : BegunJob) (s : Scope) (t : TokenizedText) (c : PlacedCall) (g : AbstractCall) (late : Option Cause) → stage_cause (length j.stages) (role_of c.call.operation) ≡ late → IsReadInTurn late s t c (Ok g) → length j.stages ≤ 32 → length (added j g).stages ≤ 32
 in_turn j s t c g (Some e) h r le = absurd cc
 in_turn j s t c g None h r le = after_call j s t c g (first_cause (early_causes c.call)) r h le
 
-after_turn : (j : AbstractJob) (s : Scope) (t : TokenizedText) (c : PlacedCall) (g : AbstractCall) → IsReadInTurn (stage_cause (length j.stages) (role_of c.call.operation)) s t c (Ok g) → length j.stages ≤ 32 → length (added j g).stages ≤ 32
+after_turn : (j : BegunJob) (s : Scope) (t : TokenizedText) (c : PlacedCall) (g : AbstractCall) → IsReadInTurn (stage_cause (length j.stages) (role_of c.call.operation)) s t c (Ok g) → length j.stages ≤ 32 → length (added j g).stages ≤ 32
 after_turn j s t c g r le = in_turn j s t c g (stage_cause (length j.stages) (role_of c.call.operation)) refl r le
 
-by_terminal : (d : Gives) (j : AbstractJob) (z : ℤ) (g : AbstractCall) → fallback_for d z ≡ Ok g → length j.stages ≤ 32 → length (added j g).stages ≤ 32
+by_terminal : (d : Gives) (j : BegunJob) (z : ℤ) (g : AbstractCall) → fallback_for d z ≡ Ok g → length j.stages ≤ 32 → length (added j g).stages ≤ 32
 by_terminal gives.Number j z g h le = let same : fallback z ≡ g = cc in subst (λ v. length (added j v).stages ≤ 32) same le
 by_terminal gives.Boolean j z g h le = absurd cc
 by_terminal gives.Array j z g h le = absurd cc
 
-by_answer : (j : AbstractJob) (s : Scope) (t : TokenizedText) (c : PlacedCall) (q : Result AbstractCall Cause) (g : AbstractCall)
+by_below : (d : Option AbstractTerminal) (j : BegunJob) (z : ℤ) (g : AbstractCall) → fallback_below d z ≡ Ok g → length j.stages ≤ 32 → length (added j g).stages ≤ 32
+by_below None j z g h le = absurd cc
+by_below (Some d) j z g h le = by_terminal (given_by d) j z g h le
+
+by_answer : (j : BegunJob) (s : Scope) (t : TokenizedText) (c : PlacedCall) (q : Result AbstractCall Cause) (g : AbstractCall)
     → IsReadInTurn (stage_cause (length j.stages) (role_of c.call.operation)) s t c q → below_terminal j.terminal q ≡ Ok g → length j.stages ≤ 32 → length (added j g).stages ≤ 32
 by_answer j s t c (Err e) g turn h le = absurd cc
-by_answer j s t c (Ok (fallback z)) g turn h le = by_terminal (given_by j.terminal) j z g h le
+by_answer j s t c (Ok (fallback z)) g turn h le = by_below j.terminal j z g h le
 by_answer j s t c (Ok k) g turn h le = let same : k ≡ g = cc in subst (λ v. length (added j v).stages ≤ 32) same (after_turn j s t c k turn le)
 
-pub few_after : (j : AbstractJob) (s : Scope) (t : TokenizedText) (c : PlacedCall) (g : AbstractCall) → IsNextCall j s t c (Ok g) → length j.stages ≤ 32 → length (added j g).stages ≤ 32
+pub few_after : (j : BegunJob) (s : Scope) (t : TokenizedText) (c : PlacedCall) (g : AbstractCall) → IsNextCall j s t c (Ok g) → length j.stages ≤ 32 → length (added j g).stages ≤ 32
 few_after j s t c g (q, turn, h) le = by_answer j s t c q g turn h le
 
 -- a call that is read in turn, below the terminal
-pub next_refused : (j : AbstractJob) (s : Scope) (t : TokenizedText) (c : PlacedCall) (e : Cause) → IsReadInTurn (stage_cause (length j.stages) (role_of c.call.operation)) s t c (Err e) → IsNextCall j s t c (Err e)
+pub next_refused : (j : BegunJob) (s : Scope) (t : TokenizedText) (c : PlacedCall) (e : Cause) → IsReadInTurn (stage_cause (length j.stages) (role_of c.call.operation)) s t c (Err e) → IsNextCall j s t c (Err e)
 next_refused j s t c e turn = (Err e, turn, refl)
 
-pub next_read : (j : AbstractJob) (s : Scope) (t : TokenizedText) (c : PlacedCall) (g : AbstractCall) (r : Result CallPart Cause) → IsReadInTurn (stage_cause (length j.stages) (role_of c.call.operation)) s t c (Ok g)
+pub next_read : (j : BegunJob) (s : Scope) (t : TokenizedText) (c : PlacedCall) (g : AbstractCall) (r : Result CallPart Cause) → IsReadInTurn (stage_cause (length j.stages) (role_of c.call.operation)) s t c (Ok g)
     → answer_in part_in r ≡ below_terminal j.terminal (Ok g) → Answers part_in (IsNextCall j s t c) r
 next_read j s t c g (Ok p) turn h = (Ok g, turn, sym h)
 next_read j s t c g (Err e) turn h = λ other. (Ok g, turn, sym h)
 
 -- the calls from a place on
-pub turn_here : (s : Scope) (t : TokenizedText) (j : AbstractJob) (ws : List Word) (cs : List written.WrittenCall) (i : ℕ) (x : written.WrittenCall) (e : Cause) → i < length cs → x ≡ get_or cs i x → IsNextCall j s t (placed_in ws x) (Err e) → AreRead s t j (all_placed ws (drop i cs)) (Err e)
+pub turn_here : (s : Scope) (t : TokenizedText) (j : BegunJob) (ws : List Word) (cs : List written.WrittenCall) (i : ℕ) (x : written.WrittenCall) (e : Cause) → i < length cs → x ≡ get_or cs i x → IsNextCall j s t (placed_in ws x) (Err e) → AreRead s t j (all_placed ws (drop i cs)) (Err e)
 turn_here s t j ws cs i x e lt is h = subst (λ v. AreRead s t j (all_placed ws v) (Err e)) (sym (drop_more cs i x lt ∙ ap (λ y. y ∷ drop (i + 1) cs) (sym is))) (inl (e, h, refl))
 
-pub turn_more : (s : Scope) (t : TokenizedText) (j k : AbstractJob) (ws : List Word) (cs : List written.WrittenCall) (i : ℕ) (x : written.WrittenCall) (g : AbstractCall) (r : Result AbstractJob Cause) → i < length cs → x ≡ get_or cs i x → IsNextCall j s t (placed_in ws x) (Ok g) → k ≡ added j g → AreRead s t k (all_placed ws (drop (i + 1) cs)) r → AreRead s t j (all_placed ws (drop i cs)) r
+pub turn_more : (s : Scope) (t : TokenizedText) (j k : BegunJob) (ws : List Word) (cs : List written.WrittenCall) (i : ℕ) (x : written.WrittenCall) (g : AbstractCall) (r : Result AbstractJob Cause) → i < length cs → x ≡ get_or cs i x → IsNextCall j s t (placed_in ws x) (Ok g) → k ≡ added j g → AreRead s t k (all_placed ws (drop (i + 1) cs)) r → AreRead s t j (all_placed ws (drop i cs)) r
 turn_more s t j k ws cs i x g r lt is h same rest = subst (λ v. AreRead s t j (all_placed ws v) r) (sym (drop_more cs i x lt ∙ ap (λ y. y ∷ drop (i + 1) cs) (sym is))) (inr (g, h, subst (λ v. AreRead s t v (all_placed ws (drop (i + 1) cs)) r) same rest))
 
 pub length_stages : (gs : List JobStage) → length (job_stages_of gs) ≡ length gs
@@ -117,5 +121,5 @@ few_pushed true gs hs g e more few =
     subst (λ v. length v ≤ 32) (sym e) (omega arith)
 few_pushed false gs hs g e more few = subst (λ v. length v ≤ 32) (sym e) few
 
-pub none_left : (s : Scope) (t : TokenizedText) (j : AbstractJob) (ws : List Word) (cs : List written.WrittenCall) (i : ℕ) → length cs ≤ i → AreRead s t j (all_placed ws (drop i cs)) (Ok j)
-none_left s t j ws cs i far = subst (λ v. AreRead s t j (all_placed ws v) (Ok j)) (sym (drop_all i cs far)) refl
+pub none_left : (s : Scope) (t : TokenizedText) (j : BegunJob) (ws : List Word) (cs : List written.WrittenCall) (i : ℕ) → length cs ≤ i → AreRead s t j (all_placed ws (drop i cs)) (finished j)
+none_left s t j ws cs i far = subst (λ v. AreRead s t j (all_placed ws v) (finished j)) (sym (drop_all i cs far)) refl

@@ -80,7 +80,7 @@ no_spelled (a ∷ b ∷ []) h = absurd (omega arith)
 no_spelled (a ∷ b ∷ c ∷ []) h = absurd (omega arith)
 no_spelled (a ∷ b ∷ c ∷ d ∷ ws) h = no_more_for (word_of a) (word_of b) (word_of c) (word_of d) (words_in ws)
 
--- words of which there aren't three are no `Math::addExact`
+-- fewer than three words are no `Math::addExact`
 no_exact_two : (a b : Word) → false ≡ is_add_exact (a ∷ b ∷ [])
 no_exact_two (named v) (sign symbol.DoubleColon) = refl
 no_exact_two (named v) b = refl

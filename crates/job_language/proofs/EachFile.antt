@@ -33,7 +33,8 @@ each_jobs : (version : ℕ) (columns : List NamedColumn) (above : List AbstractJ
 each_jobs version columns above [] = (Ok above, refl)
 each_jobs version columns above (t ∷ ts) = let n = each_next version columns above t.text in after_next version columns above t ts n.0 n.1 (λ j. each_jobs version columns (above ++ j ∷ []) ts)
 
--- a line needs no memory: it is skipped, it continues nothing, or it begins something; `p` and `q` are the tests of `kind_of`
+-- a line needs no memory: it is skipped, it continues nothing, or it begins something; `p` and `q` are the tests of
+-- `kind_of`
 abbrev Left : Type 0
 Left = Result (List JobText) TextFault
 

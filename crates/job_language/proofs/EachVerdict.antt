@@ -24,7 +24,7 @@ use Rattle.job_language.specs.Jobs.{AbstractJob}
 use Rattle.job_language.specs.Causes.{Scope, first_cause, stage_cause, early_causes, numbers_of}
 use Rattle.job_language.specs.Operators.{is_add_exact, spelled_op}
 use Rattle.job_language.specs.Arguments.{PlacedCall, IsOutcome, lambda_answer, IsLambdaRead, IsOperatorRead, IsReadBy, IsArgumentRead, last_param, last_part, argument_text, listed, name_answer, name_in, string_in, text_answer}
-use Rattle.job_language.specs.Verdicts.{call_answer, added, below_terminal, IsNextCall, job_named, placed_calls, IsReadAfter, IsReadInTurn, AreRead, IsJobRead, IsRead}
+use Rattle.job_language.specs.Verdicts.{BegunJob, call_answer, added, below_terminal, finished, IsNextCall, job_named, placed_calls, IsReadAfter, IsReadInTurn, AreRead, IsJobRead, IsRead}
 use Rattle.job_language.specs.Verdicts as verdict
 use Rattle.job_language.specs.Parts.{causes_before}
 use Rattle.job_language.proofs.EachCut.{each_cut}
@@ -75,15 +75,15 @@ each_turn : (o : Option Cause) (s : Scope) (t : TokenizedText) (c : PlacedCall) 
 each_turn (Some e) s t c = (Err e, refl)
 each_turn None s t c = each_after (first_cause (early_causes c.call)) s t c
 
-abbrev HasRest : Scope → TokenizedText → AbstractJob → List PlacedCall → Type 0
+abbrev HasRest : Scope → TokenizedText → BegunJob → List PlacedCall → Type 0
 HasRest s t j cs = (r : Result AbstractJob Cause) × AreRead s t j cs r
 
-rest_after : (s : Scope) (t : TokenizedText) (j : AbstractJob) (c : PlacedCall) (cs : List PlacedCall) (r : Result AbstractCall Cause) → IsNextCall j s t c r → ((g : AbstractCall) → HasRest s t (added j g) cs) → HasRest s t j (c ∷ cs)
+rest_after : (s : Scope) (t : TokenizedText) (j : BegunJob) (c : PlacedCall) (cs : List PlacedCall) (r : Result AbstractCall Cause) → IsNextCall j s t c r → ((g : AbstractCall) → HasRest s t (added j g) cs) → HasRest s t j (c ∷ cs)
 rest_after s t j c cs (Err e) h later = (Err e, inl (e, h, refl))
 rest_after s t j c cs (Ok g) h later = let l = later g in (l.0, inr (g, h, l.1))
 
-each_rest : (s : Scope) (t : TokenizedText) (j : AbstractJob) (cs : List PlacedCall) → HasRest s t j cs
-each_rest s t j [] = (Ok j, refl)
+each_rest : (s : Scope) (t : TokenizedText) (j : BegunJob) (cs : List PlacedCall) → HasRest s t j cs
+each_rest s t j [] = (finished j, refl)
 each_rest s t j (c ∷ cs) =
     let here = each_turn (stage_cause (length j.stages) (role_of c.call.operation)) s t c in
     rest_after s t j c cs (below_terminal j.terminal here.0) (here.0, here.1, refl) (λ g. each_rest s t (added j g) cs)

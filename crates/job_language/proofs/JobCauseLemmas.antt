@@ -25,7 +25,7 @@ stands_at ws [] i d lt h = absurd (omega arith)
 stands_at ws (c ∷ cs) zero d lt h = h.0
 stands_at ws (c ∷ cs) (suc i) d lt h = stands_at ws cs i d (omega arith) h.1
 
--- the same of an item of a loop
+-- a call that a loop reads belongs to the words, as all calls do
 pub item_stands : (ws : List Word) (cs : List written.WrittenCall) (i : ℕ) (x : written.WrittenCall) → i < length cs → x ≡ get_or cs i x → StandIn ws cs → StandsIn ws x
 item_stands ws cs i x lt is h = subst (StandsIn ws) (sym is) (stands_at ws cs i x lt h)
 
@@ -134,7 +134,7 @@ pub version_is : (s : Scope) (ws : List Word) (cs : List written.WrittenCall) (j
 version_is s ws cs j a h =
     ap (λ b. when (b && nat_lt s.version 2) Syntax) (ap ends_in_fallback (calls_of_job ws cs j a h) ∙ ends_job ws j h.spelled)
 
--- the causes of a job before those of its calls
+-- the causes of a job that come before the causes of its calls
 pub by_version : (s : Scope) (j : Job) (e : Cause) → version_cause s j ≡ Some e → first_cause (causes_of s j) ≡ Some e
 by_version s j e h = ap (λ o. first_cause (o ∷ (name_causes s j.name ++ sources_cause j ∷ []))) h
 

@@ -1,4 +1,4 @@
--- The reader of a job gives the job that was written, and stands for the pieces that it has read.
+-- The reader of a job gives the job that was written, and holds the pieces that it has read.
 use Rattle.std.proofs.Common.{◌≡◌, ℕ, Bool, true, false, List, [], ◌∷◌, ◌++◌, length, Option, Some, None, refl, sym, ap, ◌∙◌, append_assoc, append-nil}
 use Rattle.job_language.specs.declared.operation.Role.{Role}
 use Rattle.job_language.specs.declared.operation.Role.TheVariants as role
@@ -98,7 +98,7 @@ reads_job j source stages terminal fallback =
     ∙ ap (λ r. reads (stepped j.source j.stages j.terminal r) tail) terminal.role
     ∙ ends j.source j.stages j.terminal j.fallback j.semicolon fallback
 
--- what is read stands for the pieces so far
+-- what is read spells the pieces so far
 abbrev before : List Frame → List Piece
 before [] = []
 before (opened q ∷ fs) = before fs ++ (owned q ++ begin_concat ∷ [])
@@ -172,7 +172,7 @@ inner : (ps : List Piece) (p : Piece) (f : List Piece) (q : Bool) (a b : List Pi
 inner ps p f true a b h = ap (λ v. f ++ owner ∷ dot ∷ begin_concat ∷ v) (sym (append_assoc a b (p ∷ []))) ∙ put ps p f (owner ∷ dot ∷ begin_concat ∷ (a ++ b)) (sym (append_assoc f (owner ∷ dot ∷ begin_concat ∷ a) b) ∙ h)
 inner ps p f false a b h = ap (λ v. f ++ begin_concat ∷ v) (sym (append_assoc a b (p ∷ []))) ∙ put ps p f (begin_concat ∷ (a ++ b)) (sym (append_assoc f (begin_concat ∷ a) b) ∙ h)
 
--- the same where the pieces of the sources end with a comma before the last
+-- a comma or a parenthesis after the last source of an open `concat`, where the pieces of the sources end with a comma
 inner_more : (ps : List Piece) (p : Piece) (f : List Piece) (q : Bool) (a b : List Piece) → (f ++ (owned q ++ begin_concat ∷ (a ++ comma ∷ []))) ++ b ≡ ps → f ++ (owned q ++ begin_concat ∷ ((a ++ comma ∷ b) ++ p ∷ [])) ≡ ps ++ p ∷ []
 inner_more ps p f q a b h =
     ap (λ v. f ++ (owned q ++ begin_concat ∷ v)) (append_assoc a (comma ∷ b) (p ∷ []) ∙ sym (append_assoc a (comma ∷ []) (b ++ p ∷ [])))

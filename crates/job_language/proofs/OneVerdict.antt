@@ -23,11 +23,11 @@ use Rattle.job_language.specs.declared.operation.Param.TheVariants as param
 use Rattle.job_language.specs.Rows.{AbstractCall, Argument, source, stage, terminal, fallback}
 use Rattle.job_language.specs.Table.{role_of}
 use Rattle.job_language.specs.Grammar.{Job, IsJob, IsNoJob, pieces_words, job_pieces}
-use Rattle.job_language.specs.Jobs.{AbstractJob}
+use Rattle.job_language.specs.Jobs.{AbstractJob, AbstractTerminal}
 use Rattle.job_language.specs.Causes.{Scope, first_cause, stage_cause, early_causes, numbers_of}
 use Rattle.job_language.specs.Operators.{is_add_exact, spelled_op}
 use Rattle.job_language.specs.Arguments.{PlacedCall, IsOutcome, lambda_answer, IsLambdaRead, IsOperatorRead, IsReadBy, IsArgumentRead, last_param, last_part, argument_text}
-use Rattle.job_language.specs.Verdicts.{call_answer, added, below_terminal, IsNextCall, job_named, placed_calls, IsReadAfter, IsReadInTurn, AreRead, IsJobRead, IsRead, IsInside}
+use Rattle.job_language.specs.Verdicts.{BegunJob, call_answer, added, below_terminal, finished_by, IsNextCall, job_named, placed_calls, IsReadAfter, IsReadInTurn, AreRead, IsJobRead, IsRead, IsInside}
 use Rattle.job_language.specs.Verdicts as verdict
 use Rattle.job_language.specs.Parts.{causes_before}
 use Rattle.job_language.proofs.ShapeLemmas.{one_spelled}
@@ -70,10 +70,10 @@ one_turn : (o : Option Cause) (s : Scope) (t : TokenizedText) (c : PlacedCall) (
 one_turn (Some e) s t c r q h k = sym h ∙ k
 one_turn None s t c r q h k = one_after (first_cause (early_causes c.call)) s t c r q h k
 
-one_next : (j : AbstractJob) (s : Scope) (t : TokenizedText) (c : PlacedCall) (r q : Result AbstractCall Cause) → IsNextCall j s t c r → IsNextCall j s t c q → r ≡ q
+one_next : (j : BegunJob) (s : Scope) (t : TokenizedText) (c : PlacedCall) (r q : Result AbstractCall Cause) → IsNextCall j s t c r → IsNextCall j s t c q → r ≡ q
 one_next j s t c r q h k = sym h.2 ∙ ap (below_terminal j.terminal) (one_turn (stage_cause (length j.stages) (role_of c.call.operation)) s t c h.0 k.0 h.1 k.1) ∙ k.2
 
-one_rest : (s : Scope) (t : TokenizedText) (j : AbstractJob) (cs : List PlacedCall) (r q : Result AbstractJob Cause) → AreRead s t j cs r → AreRead s t j cs q → r ≡ q
+one_rest : (s : Scope) (t : TokenizedText) (j : BegunJob) (cs : List PlacedCall) (r q : Result AbstractJob Cause) → AreRead s t j cs r → AreRead s t j cs q → r ≡ q
 one_rest s t j [] r q h k = sym h ∙ k
 one_rest s t j (c ∷ cs) r q (inl (e, a, x)) (inl (f, b, y)) =
     let eq = one_next j s t c (Err e) (Err f) a b in
@@ -113,14 +113,20 @@ one_read s text r q (verdict.inside a) (verdict.outside b) = absurd (subst (λ t
 one_read s text r q (verdict.inside a) (verdict.inside b) = both_inside s text r q a b
 
 -- the name of a job is the first word of its text
-same_name : (j : AbstractJob) (g : AbstractCall) → (added j g).name ≡ j.name
+same_name : (j : BegunJob) (g : AbstractCall) → (added j g).name ≡ j.name
 same_name j (source s) = refl
 same_name j (stage s) = refl
 same_name j (terminal d) = refl
 same_name j (fallback z) = refl
 
-name_kept : (s : Scope) (t : TokenizedText) (j k : AbstractJob) (cs : List PlacedCall) → AreRead s t j cs (Ok k) → k.name ≡ j.name
-name_kept s t j k [] h = let same : j ≡ k = cc in ap (λ v. v.name) (sym same)
+name_finished : (j : BegunJob) (k : AbstractJob) (d : Option AbstractTerminal) → finished_by j d ≡ Ok k → k.name ≡ j.name
+name_finished j k None h = absurd cc
+name_finished j k (Some d) h =
+    let same : record { name = j.name; sources = j.sources; stages = j.stages; terminal = d; on_fault = j.on_fault } ≡ k = cc in
+    ap (λ (v : AbstractJob). v.name) (sym same)
+
+name_kept : (s : Scope) (t : TokenizedText) (j : BegunJob) (k : AbstractJob) (cs : List PlacedCall) → AreRead s t j cs (Ok k) → k.name ≡ j.name
+name_kept s t j k [] h = name_finished j k j.terminal h
 name_kept s t j k (c ∷ cs) (inl (e, a, x)) = absurd cc
 name_kept s t j k (c ∷ cs) (inr (g, a, x)) = name_kept s t (added j g) k cs x ∙ same_name j g
 

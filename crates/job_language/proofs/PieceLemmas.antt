@@ -101,7 +101,7 @@ next_piece p (q ∷ qs) r h k e =
     let both = one_piece q p (pieces_words qs) r k.0 h e in
     (qs, ap (λ v. v ∷ qs) both.0, k.1, both.1)
 
--- no words are those of no piece
+-- no words are spelled by no piece alone
 pub no_pieces : (ps : List Piece) → pieces_words ps ≡ [] → ps ≡ []
 no_pieces [] h = refl
 no_pieces (p ∷ ps) h = let f : first_word p ∷ (later_words p ++ pieces_words ps) ≡ [] = ap (λ v. v ++ pieces_words ps) (sym (words_of_piece p)) ∙ h in absurd cc

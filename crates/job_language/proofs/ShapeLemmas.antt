@@ -28,7 +28,7 @@ stands_from ps (q ∷ qs) s k h = subst (λ v. Stands v (reads (read s q) qs)) (
 pub stands : (ps : List Piece) → ArePieces ps → Stands ps (reads begins ps)
 stands ps k = stands_from [] ps begins k (refl, tt)
 
--- the calls of a job are those of its pieces
+-- the calls of a job are the calls of its pieces
 calls_steps : (cs : List Call) → calls_of (steps_pieces cs) ≡ cs
 calls_steps [] = refl
 calls_steps (c ∷ cs) = ap (λ v. c ∷ v) (calls_steps cs)
@@ -334,7 +334,7 @@ one_spelled ws j k h l =
     let jobs : Some j ≡ Some k = sym (last_job j) ∙ ap (job_in j.name) states ∙ ap (λ n. job_in n (last_state k)) name ∙ last_job k in
     cc
 
--- words of which one is unsound are no job
+-- words with an unsound one are no job
 pub no_unsound_job : (ws : List Word) → list_all is_sound ws ≡ false → IsNoJob ws
 no_unsound_job ws h j k = let e : true ≡ false = sym k.sound ∙ h in absurd cc
 

@@ -64,7 +64,7 @@ read_back (a ∷ c ∷ xs) rest h n =
     ∙ ap (λ s. reads s (sign symbol.Comma ∷ (parts_words (c ∷ xs) ++ sign symbol.Close ∷ rest))) (takes a [] [] 0 0 h.0)
     ∙ back_from c xs [] a rest h.1.0 h.1.1
 
--- what is read stands for the words so far
+-- what is read spells the words so far
 abbrev pub commas : List (List Word) → List Word
 commas [] = []
 commas (a ∷ xs) = a ++ sign symbol.Comma ∷ commas xs

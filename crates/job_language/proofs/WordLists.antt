@@ -1,4 +1,4 @@
--- What the words of the program stand for, place by place.
+-- Which words the words of the program mean, place by place.
 use Rattle.std.proofs.Common.{◌≡◌, ℕ, zero, suc, ◌-◌, ◌<◌, ◌≤◌, true, false, List, [], ◌∷◌, length, take, drop, get_or, refl, ap, ◌∙◌, arith}
 use Rattle.std.specs.Prelude.{slice_range}
 use Rattle.lambda_expr.specs.Words.{Word, named, quoted, bad}

@@ -25,7 +25,7 @@ pub record Earlier : Type 0 where
   pub name : List ℕ
   pub gives : Gives
 
--- what the names of a job may stand for, and the version of the language that it is written in
+-- what a job may name, and the version of the language that it is written in
 pub record Scope : Type 0 where
   pub version : ℕ
   pub jobs : List Earlier
@@ -99,7 +99,7 @@ values_cause params.Count (k ∷ []) = when (is_negative k) cause.NegativeCount
 values_cause params.Positions (a ∷ b ∷ []) = when (is_negative a || int_lt b a) cause.BadRange
 values_cause p ks = None
 
--- the causes of a call before that of its last part
+-- the causes of a call that come before the causes of its last part
 abbrev pub early_causes : Call → List (Option Cause)
 early_causes c =
     let n = length c.parts in
@@ -111,10 +111,10 @@ abbrev pub stage_cause : ℕ → Role → Option Cause
 stage_cause n role.Stage = when (nat_le 32 n) cause.TooLong
 stage_cause n r = None
 
--- at most 8 plain sources, those of each `concat` counted
+-- at most 8 plain sources; each source inside `concat` counts
 abbrev pub sources_cause : Job → Option Cause
 sources_cause j = when (nat_lt 8 (length (plain_sources j.source))) cause.TooLong
 
--- the causes of a job before those of its calls
+-- the causes of a job that come before the causes of its calls
 abbrev pub causes_of : Scope → Job → List (Option Cause)
 causes_of scope j = version_cause scope j ∷ (name_causes scope j.name ++ sources_cause j ∷ [])

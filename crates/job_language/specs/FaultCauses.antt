@@ -1,4 +1,4 @@
--- Condition: how what callees answer becomes the fault of a file.
+-- Condition: how answers of callees become the fault of a file.
 use Rattle.stream_tokens.specs.declared.job_text.TextFault.{TextFault}
 use Rattle.stream_tokens.specs.declared.job_text.TextFault.TheVariants as text
 use Rattle.lambda_expr.specs.declared.fault.ReadFault.{ReadFault}

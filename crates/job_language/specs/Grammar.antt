@@ -148,7 +148,7 @@ calls_of [] = []
 calls_of (call c ∷ ps) = c ∷ calls_of ps
 calls_of (p ∷ ps) = calls_of ps
 
--- the plain sources of a source, those of each `concat` in order
+-- the plain sources of a source; the sources inside each `concat` in order
 abbrev pub plain_sources : Source → List Call
 plain_sources s = calls_of (source_pieces s)
 

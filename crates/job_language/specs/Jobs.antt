@@ -55,7 +55,7 @@ given_by (find (none_match p)) = gives.Boolean
 given_by exact_sum = gives.Number
 
 -- an abstract job: its name in bytes, its plain sources in order of writing, its stages, its terminal, and the number
--- that stands in place of a fault, if there is one
+-- of `onFault`, if there is one
 pub record AbstractJob : Type 0 where
   pub name : List ℕ
   pub sources : List AbstractPlainSource
@@ -71,7 +71,7 @@ source_of (source.Values vs) = values vs.items
 source_of (source.Column cells) = values cells.now
 source_of (source.Result name) = result name
 
--- helper: those of several sources
+-- helper: each of several sources
 abbrev pub sources_of : List PlainSource → List AbstractPlainSource
 sources_of [] = []
 sources_of (s ∷ ss) = source_of s ∷ sources_of ss
@@ -82,7 +82,7 @@ job_stage_of (stage.Item g) = item (stage_of g)
 job_stage_of (stage.Slice d) = slice (slice_of d)
 job_stage_of (stage.Prefix positions f) = prefix positions f
 
--- helper: those of several stages
+-- helper: each of several stages
 abbrev pub job_stages_of : List JobStage → List AbstractJobStage
 job_stages_of [] = []
 job_stages_of (g ∷ gs) = job_stage_of g ∷ job_stages_of gs
@@ -103,7 +103,7 @@ terminal_of terminal.ExactSum = exact_sum
 abbrev pub job_of : Job → AbstractJob
 job_of j = record { name = j.name; sources = sources_of j.sources.items; stages = job_stages_of j.stages.items; terminal = terminal_of j.terminal; on_fault = j.on_fault }
 
--- helper: those of several jobs
+-- helper: each of several jobs
 abbrev pub jobs_of : List Job → List AbstractJob
 jobs_of [] = []
 jobs_of (j ∷ js) = job_of j ∷ jobs_of js

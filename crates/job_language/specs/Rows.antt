@@ -32,8 +32,8 @@ pub data AbstractCall : Type 0 where
   terminal : AbstractTerminal → AbstractCall
   fallback : ℤ → AbstractCall
 
--- what a row takes, and what it builds of it: an operator stands alone, or after two positions, or after its identity;
--- from 0, the addition of exact sums may stand in place of the operator
+-- what a row takes, and what it builds of it: an operator is alone, or after two positions, or after its identity;
+-- after 0 it may be the addition of exact sums instead
 pub data Takes (A : Type 0) : Type 0 where
   of_nothing : A → Takes A
   of_bounds : (ℤ → ℤ → A) → Takes A

@@ -1,4 +1,4 @@
--- Condition: what the scope of the program stands for.
+-- Condition: which names the scope of the program means.
 use Rattle.std.specs.Prelude.{List, [], ◌∷◌}
 use Rattle.job_language.specs.declared.scope.EarlierJob as job
 use Rattle.job_language.specs.declared.scope.Scope as code

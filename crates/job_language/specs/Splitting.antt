@@ -1,4 +1,4 @@
--- Condition: a call taken apart, from word to word, after its opening parenthesis.
+-- Condition: a call taken apart, word by word, after its opening parenthesis.
 use Rattle.std.specs.Prelude.{◌≡◌, ℕ, suc, ◌+◌, Bool, true, ◌&&◌, List, [], ◌∷◌, ◌++◌, length, Option, Some, None, slice_range, take, ◌≤◌, ◌<◌}
 use Rattle.stream_tokens.specs.declared.symbol.Symbol.TheVariants as symbol
 use Rattle.lambda_expr.specs.Words.{Word, named, sign, bad}
@@ -11,7 +11,7 @@ use Rattle.job_language.specs.declared.word.Word.TheVariants as code_word
 use Rattle.job_language.specs.Table.{param_of, fits}
 use Rattle.job_language.specs.Calls.{Call, IsCall, bracket_of, nest, parts_words}
 
--- what the words of the program stand for
+-- the word that a word of the program means
 abbrev pub word_of : code.Word → Word
 word_of (code_word.Name w) = named w.now
 word_of (code_word.Number w) = words.numeral w.now
@@ -90,7 +90,7 @@ pub record IsSplit (ws : List Word) (es : List ℕ) : Type 0 where
   pub state : reads start ws ≡ closed (pieces ws 0 es)
   pub ends : AreEnds 0 es (length ws)
 
--- the words after the parenthesis are those of the rest of a call, and others
+-- the words after the parenthesis are the rest of a call, and others
 pub record Completes (c : Call) (rest : List Word) (ws : List Word) : Type 0 where
   pub call : IsCall c
   pub spelled : parts_words c.parts ++ sign symbol.Close ∷ rest ≡ ws

@@ -13,8 +13,7 @@ use Rattle.job_language.specs.Rows.{Argument, AbstractCall, source, stage, termi
 use Rattle.job_language.specs.Table.{role_of, built_of}
 use Rattle.job_language.specs.Calls.{call_words}
 use Rattle.job_language.specs.Grammar.{Piece, call, piece_words, job_pieces, Job, IsJob, IsNoJob}
-use Rattle.job_language.specs.Jobs.{AbstractTerminal, AbstractJob, given_by}
-use Rattle.job_language.specs.Jobs as term
+use Rattle.job_language.specs.Jobs.{AbstractPlainSource, AbstractJobStage, AbstractTerminal, AbstractJob, given_by}
 use Rattle.job_language.specs.Causes.{Earlier, Scope, first_cause, stage_cause, early_causes, numbers_of, causes_of}
 use Rattle.job_language.specs.Arguments.{PlacedCall, IsArgumentRead}
 
@@ -38,42 +37,63 @@ abbrev pub IsReadInTurn : Option Cause → Scope → TokenizedText → PlacedCal
 IsReadInTurn (Some e) scope t c r = Err e ≡ r
 IsReadInTurn None scope t c r = IsCallRead scope t c r
 
--- a job with one more part
-abbrev pub added : AbstractJob → AbstractCall → AbstractJob
+-- a job of which not all calls were read: it has a terminal once that was read
+pub record BegunJob : Type 0 where
+  pub name : List ℕ
+  pub sources : List AbstractPlainSource
+  pub stages : List AbstractJobStage
+  pub terminal : Option AbstractTerminal
+  pub on_fault : Option ℤ
+
+-- with one more part
+abbrev pub added : BegunJob → AbstractCall → BegunJob
 added j (source s) = record j { sources = j.sources ++ s ∷ [] }
 added j (stage g) = record j { stages = j.stages ++ g ∷ [] }
-added j (terminal d) = record j { terminal = d }
+added j (terminal d) = record j { terminal = Some d }
 added j (fallback z) = record j { on_fault = Some z }
 
--- a number stands in place of the faults of a terminal that gives numbers
+-- the job after its last call; in the grammar none is without a terminal
+abbrev pub finished_by : BegunJob → Option AbstractTerminal → Result AbstractJob Cause
+finished_by j None = Err cause.Syntax
+finished_by j (Some d) = Ok (record { name = j.name; sources = j.sources; stages = j.stages; terminal = d; on_fault = j.on_fault })
+
+abbrev pub finished : BegunJob → Result AbstractJob Cause
+finished j = finished_by j j.terminal
+
+-- a terminal that gives numbers may have a number to give after a fault
 abbrev pub fallback_for : Gives → ℤ → Result AbstractCall Cause
 fallback_for gives.Number z = Ok (fallback z)
 fallback_for g z = Err cause.NotScalar
 
--- what a call is below this terminal
-abbrev pub below_terminal : AbstractTerminal → Result AbstractCall Cause → Result AbstractCall Cause
-below_terminal d (Ok (fallback z)) = fallback_for (given_by d) z
+-- a number above a terminal stands in place of nothing
+abbrev pub fallback_below : Option AbstractTerminal → ℤ → Result AbstractCall Cause
+fallback_below None z = Err cause.NotScalar
+fallback_below (Some d) z = fallback_for (given_by d) z
+
+-- what a call is below this terminal, if it stands below one
+abbrev pub below_terminal : Option AbstractTerminal → Result AbstractCall Cause → Result AbstractCall Cause
+below_terminal d (Ok (fallback z)) = fallback_below d z
 below_terminal d (Ok (source s)) = Ok (source s)
 below_terminal d (Ok (stage g)) = Ok (stage g)
 below_terminal d (Ok (terminal e)) = Ok (terminal e)
 below_terminal d (Err e) = Err e
 
 -- what the next call of a job is read as
-abbrev pub IsNextCall : AbstractJob → Scope → TokenizedText → PlacedCall → Result AbstractCall Cause → Type 0
+abbrev pub IsNextCall : BegunJob → Scope → TokenizedText → PlacedCall → Result AbstractCall Cause → Type 0
 IsNextCall j scope t c r =
     (q : Result AbstractCall Cause) × IsReadInTurn (stage_cause (length j.stages) (role_of c.call.operation)) scope t c q
     × (below_terminal j.terminal q ≡ r)
 
 -- the calls that are left, in order of writing: the first that is refused gives the cause
-abbrev pub AreRead : Scope → TokenizedText → AbstractJob → List PlacedCall → Result AbstractJob Cause → Type 0
-AreRead scope t j [] r = Ok j ≡ r
+abbrev pub AreRead : Scope → TokenizedText → BegunJob → List PlacedCall → Result AbstractJob Cause → Type 0
+AreRead scope t j [] r = finished j ≡ r
 AreRead scope t j (c ∷ cs) r =
     ((e : Cause) × IsNextCall j scope t c (Err e) × (Err e ≡ r))
     ⊎ ((g : AbstractCall) × IsNextCall j scope t c (Ok g) × AreRead scope t (added j g) cs r)
 
--- a job before its parts; the last of them is its terminal
-abbrev pub job_named : List ℕ → AbstractJob
-job_named w = record { name = w; sources = []; stages = []; terminal = term.sum; on_fault = None }
+-- a job before its parts
+abbrev pub job_named : List ℕ → BegunJob
+job_named w = record { name = w; sources = []; stages = []; terminal = None; on_fault = None }
 
 -- calls with their places, after n words
 abbrev pub placed : ℕ → List Piece → List PlacedCall

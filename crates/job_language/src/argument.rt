@@ -81,7 +81,7 @@ fn read_result<'c>(alloc: Global, name: &[u8], gives: Option<Gives>) -> Result<A
     }
 }
 
-/// The job that a name stands for.
+/// The earlier job with this name.
 fn read_name<'c>(alloc: Global, scope: Scope, name: Option<&[u8]>) -> Result<Argument<'c>, Cause>
     ensures { let w = option_map (λ w. w.now) name.entry in
         Answers argument_in (λ r. name_answer (scope_of scope.entry) w ≡ r) result }

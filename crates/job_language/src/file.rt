@@ -84,10 +84,9 @@ fn read_next<'c>(
 
 /// The jobs of a file, or the first fault in file order.
 ///
-/// Each job is checked whole before the next one, and the 257th is refused unread. A job may name the jobs
-/// above it and these columns, of which it borrows the cells. A file is of version 2 if its first line that isn't
-/// skipped is `version 2`. Linear in the bytes, apart from a look at each
-/// earlier name. A text of one line isn't copied.
+/// Each job is checked whole before the next one, and the 257th is refused unread. A job may name the jobs above it and
+/// these columns, whose cells it borrows. A file is of version 2 if its first line that isn't skipped is `version 2`.
+/// Takes time linear in the bytes, and compares each name with each earlier one. A text of one line isn't copied.
 pub fn read_jobs<'c>(
     alloc: Global,
     bytes: &[u8],

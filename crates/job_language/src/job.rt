@@ -48,7 +48,18 @@ pub struct Job<'c> {
     /// In order of writing; at most 32.
     pub stages: Vec<JobStage>,
     pub terminal: Terminal,
-    /// `onFault(number)`: the number that stands in place of a fault; only if the terminal gives a number.
+    /// `onFault(number)`: the number that the job gives after a fault; only if the terminal gives a number.
     pub on_fault: Option<i64>,
+    ghost few: { length stages.items ≤ 32 },
+}
+
+/// A job of which not all calls were read. It has a terminal once that was read.
+#[derive(Drop)]
+pub(crate) struct BegunJob<'c> {
+    pub(crate) name: Bytes,
+    pub(crate) sources: Vec<PlainSource<'c>>,
+    pub(crate) stages: Vec<JobStage>,
+    pub(crate) terminal: Option<Terminal>,
+    pub(crate) on_fault: Option<i64>,
     ghost few: { length stages.items ≤ 32 },
 }

@@ -35,8 +35,7 @@ pub fn a_job_has_a_name()
     ensures { (s : meant_scope) (text : List ℕ) (j : AbstractJob) → IsRead s text (Ok j) → IsName j.name }
 {}
 
-/// With the same columns, bytes are a file of one list of jobs at most, are refused for one fault at most,
-/// and not both.
+/// With equal columns, bytes are a file of one list of jobs at most, are refused for one fault at most, and not both.
 pub fn one_file()
     ensures jobs { (bytes : List ℕ) (columns : List NamedColumn) (j k : List AbstractJob)
         → SpellsJobs bytes columns j → SpellsJobs bytes columns k → j ≡ k }

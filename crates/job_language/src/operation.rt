@@ -99,7 +99,7 @@ pub enum Params {
     Nothing,
     /// Two numbers.
     Bounds,
-    /// Numbers, as many as there are.
+    /// Any number of numbers.
     Values,
     Number,
     /// A number that isn't negative.
@@ -198,7 +198,7 @@ pub fn operation_of(name: &[u8]) -> Option<Operation>
     None
 }
 
-/// A name is that of one operation at most.
+/// One operation at most has a name.
 pub fn one_operation()
     ensures { (a b : operation) → name_of a ≡ name_of b → a ≡ b }
 {}

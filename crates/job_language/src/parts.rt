@@ -1,18 +1,18 @@
 //! The parts of a job, one call after the other.
-ghost use Rattle.std.specs.Prelude.{◌≡◌, ◌≤◌, IfOk, Ok, length};
+ghost use Rattle.std.specs.Prelude.{◌≡◌, ◌≤◌, IfOk, Ok, length, option_map};
 ghost use Rattle.lambda_expr.specs.Words.{words_of};
 ghost use Rattle.job_language.specs.Splitting.{words_in};
 ghost use Rattle.job_language.specs.Table.{role_of};
 ghost use Rattle.job_language.specs.Shapes.{StandsIn, StandIn, placed_in, all_placed};
 ghost use Rattle.job_language.specs.Scopes.{scope_of};
 ghost use Rattle.job_language.specs.Causes.{stage_cause};
-ghost use Rattle.job_language.specs.Verdicts.{added, below_terminal, job_named, IsCallRead, IsNextCall, IsReadInTurn, AreRead};
+ghost use Rattle.job_language.specs.Verdicts.{added, below_terminal, fallback_below, finished, job_named, IsCallRead, IsNextCall, IsReadInTurn, AreRead};
 ghost use Rattle.job_language.specs.Jobs.{job_of, terminal_of};
-ghost use Rattle.job_language.specs.Parts.{part_in, answer_in, Answers};
+ghost use Rattle.job_language.specs.Parts.{part_in, begun_of, answer_in, Answers, Leads};
 
 use crate::argument::read_argument;
 use crate::fault::Cause;
-use crate::job::Job;
+use crate::job::{BegunJob, Job};
 use crate::numbers::read_values;
 use crate::operation::Role;
 use crate::params::role_of;
@@ -45,24 +45,49 @@ fn read_call<'c>(
     built(call.operation, numbers, last)
 }
 
-/// A job before its calls. The terminal is a sum until it is read.
-fn named<'c>(alloc: Global, name: &[u8]) -> Result<Job<'c>, AllocError>
-    ensures { IfOk result (λ job. job_of job ≡ job_named name.now) }
+impl<'c> BegunJob<'c> {
+    /// The job, after its last call.
+    fn finished(self) -> Result<Job<'c>, Cause>
+        ensures { answer_in job_of result ≡ finished (begun_of self.entry) }
+    {
+        let BegunJob {
+            name,
+            sources,
+            stages,
+            terminal,
+            on_fault,
+        } = self;
+        match terminal {
+            Some(terminal) => Ok(Job {
+                name,
+                sources,
+                stages,
+                terminal,
+                on_fault,
+            }),
+            None => Err(Cause::Syntax),
+        }
+    }
+}
+
+/// A job before its calls.
+fn named<'c>(alloc: Global, name: &[u8]) -> Result<BegunJob<'c>, AllocError>
+    ensures { IfOk result (λ job. begun_of job ≡ job_named name.now) }
 {
     let bytes = name.to_vec(alloc)?;
-    Ok(Job {
+    Ok(BegunJob {
         name: Bytes::from(bytes),
         sources: Vec::new(alloc),
         stages: Vec::new(alloc),
-        terminal: Terminal::Sum,
+        terminal: None,
         on_fault: None,
     })
 }
 
 /// Puts what a call builds after the others.
-fn add<'c>(job: &mut Job<'c>, part: CallPart<'c>) -> Result<(), AllocError>
-    requires { length (added (job_of job.old) (part_in part)).stages ≤ 32 }
-    ensures { IfOk result (λ _. job_of job.new ≡ added (job_of job.old) (part_in part.entry)) }
+fn add<'c>(job: &mut BegunJob<'c>, part: CallPart<'c>) -> Result<(), AllocError>
+    requires { length (added (begun_of job.old) (part_in part)).stages ≤ 32 }
+    ensures { IfOk result (λ _. begun_of job.new ≡ added (begun_of job.old) (part_in part.entry)) }
 {
     match part {
         CallPart::Source(source) => {
@@ -72,7 +97,7 @@ fn add<'c>(job: &mut Job<'c>, part: CallPart<'c>) -> Result<(), AllocError>
             job.stages.push(stage)?;
         }
         CallPart::Terminal(terminal) => {
-            job.terminal = terminal;
+            job.terminal = Some(terminal);
         }
         CallPart::Fallback(number) => {
             job.on_fault = Some(number);
@@ -111,23 +136,36 @@ fn read_in_turn<'c>(
     }
 }
 
-/// A call below this terminal: a number stands in place of the faults of one that gives a number.
-fn below_terminal<'c>(terminal: &Terminal, part: CallPart<'c>) -> Result<CallPart<'c>, Cause>
+/// Adds the number of `onFault` after this terminal, if it gives a number.
+fn fallback_below<'c>(terminal: &Option<Terminal>, number: i64) -> Result<CallPart<'c>, Cause>
+    ensures { answer_in part_in result ≡ fallback_below (option_map terminal_of terminal.now) number }
+{
+    let Some(terminal) = terminal else {
+        return Err(Cause::NotScalar);
+    };
+    match terminal.gives() {
+        Gives::Number => Ok(CallPart::Fallback(number)),
+        _ => Err(Cause::NotScalar),
+    }
+}
+
+/// Adds a call after this terminal: the number of `onFault`, for a terminal that gives a number.
+fn below_terminal<'c>(
+    terminal: &Option<Terminal>,
+    part: CallPart<'c>,
+) -> Result<CallPart<'c>, Cause>
     ensures { answer_in part_in result
-        ≡ below_terminal (terminal_of terminal.now) (Ok (part_in part.entry)) }
+        ≡ below_terminal (option_map terminal_of terminal.now) (Ok (part_in part.entry)) }
 {
     match part {
-        CallPart::Fallback(number) => match terminal.gives() {
-            Gives::Number => Ok(CallPart::Fallback(number)),
-            _ => Err(Cause::NotScalar),
-        },
+        CallPart::Fallback(number) => fallback_below(terminal, number),
         part => Ok(part),
     }
 }
 
-/// Reads the call that stands after those of this job.
+/// Reads the call after the calls of this job.
 fn read_next_call<'c>(
-    job: &Job<'c>,
+    job: &BegunJob<'c>,
     alloc: Global,
     scope: Scope<'_, 'c>,
     text: &CutText,
@@ -136,7 +174,7 @@ fn read_next_call<'c>(
 ) -> Result<CallPart<'c>, Cause>
     requires words { words_in words.now ≡ words_of text.now.bytes text.now.tokens }
     requires stands { StandsIn (words_in words.now) call.now }
-    ensures { Answers part_in (IsNextCall (job_of job.now) (scope_of scope.entry) text.now
+    ensures { Answers part_in (IsNextCall (begun_of job.now) (scope_of scope.entry) text.now
         (placed_in (words_in words.now) call.now)) result }
 {
     let part = read_in_turn(job.stages.len(), alloc, scope, text, words, call)?;
@@ -145,7 +183,7 @@ fn read_next_call<'c>(
 
 /// Reads these calls in order of writing, and puts what they build after the parts of this job.
 fn add_parts<'c>(
-    job: &mut Job<'c>,
+    job: &mut BegunJob<'c>,
     alloc: Global,
     scope: Scope<'_, 'c>,
     text: &CutText,
@@ -154,8 +192,8 @@ fn add_parts<'c>(
 ) -> Result<(), Cause>
     requires words { words_in words.now ≡ words_of text.now.bytes text.now.tokens }
     requires stand { StandIn (words_in words.now) calls.now }
-    ensures { Answers (λ _. job_of job.new) (AreRead (scope_of scope.entry) text.now (job_of job.old)
-        (all_placed (words_in words.now) calls.now)) result }
+    ensures { Leads (AreRead (scope_of scope.entry) text.now (begun_of job.old)
+        (all_placed (words_in words.now) calls.now)) (begun_of job.new) result }
 {
     for call in calls {
         let part = read_next_call(job, alloc, scope, text, words, call)?;
@@ -180,5 +218,5 @@ pub fn read_parts<'c>(
 {
     let mut job = named(alloc, name)?;
     add_parts(&mut job, alloc, scope, text, words, calls)?;
-    Ok(job)
+    job.finished()
 }

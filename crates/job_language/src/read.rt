@@ -27,7 +27,7 @@ use stream_tokens::{CutText, cut};
 
 /// How many bytes the text of a job may have.
 const MAX_BYTES: usize = 65_536;
-/// How many plain sources a job may have, those of each `concat` counted.
+/// How many plain sources a job may have; each source inside `concat` counts.
 const MAX_SOURCES: usize = 8;
 
 fn one_if_source(role: Role) -> usize
@@ -138,10 +138,10 @@ fn read_cut<'c>(alloc: Global, scope: Scope<'_, 'c>, text: &CutText) -> Result<J
 
 /// Reads a job from its text: its lines, joined by spaces. Each argument is read once, in order of writing.
 ///
-/// `TooLong` for more than 65,536 bytes, `Syntax` if the text is no job, else the first cause in order
-/// of writing. Takes memory for the tokens, a word for each, and what is kept of the job, and time in
-/// proportion to the bytes of the text and of the names of the scope. `NoMemory` may stand in place of any
-/// answer but the first if an allocation failed.
+/// `TooLong` for more than 65,536 bytes, `Syntax` if the text is no job, else the first cause in order of writing.
+/// Takes memory for the tokens, a word for each, and what is kept of the job, and time in proportion to the bytes of
+/// the text and of the names of the scope. If an allocation failed, the answer may be `NoMemory`, but not if the text
+/// is too long.
 pub fn read_job<'c>(alloc: Global, scope: Scope<'_, 'c>, text: &[u8]) -> Result<Job<'c>, Cause>
     ensures ok { IfOk result (λ job. IsRead (scope_of scope.entry) text.now (Ok (job_of job))) }
     ensures refused { IfErr result (λ cause. cause ≢ NoMemory

@@ -30,7 +30,7 @@ pub enum CallPart<'c> {
     Source(PlainSource<'c>),
     Stage(JobStage),
     Terminal(Terminal),
-    /// The number that stands in place of a fault.
+    /// The number that the job gives after a fault.
     Fallback(i64),
 }
 

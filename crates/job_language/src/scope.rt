@@ -1,4 +1,4 @@
-//! What the names of a job may stand for: earlier jobs and columns.
+//! What a job may name: earlier jobs and columns.
 ghost use Rattle.std.specs.Prelude.{◌≡◌, drop};
 ghost use Rattle.job_language.specs.Causes.{given};
 ghost use Rattle.job_language.specs.Scopes.{scope_of, jobs_of};

@@ -12,12 +12,12 @@ pub record NamedAnswer : Type 0 where
   pub name : List ℕ
   pub answer : Answer
 
--- helper: the same, one place later
+-- helper: what was found, one place later
 abbrev pub found_later : Option (ℕ × Answer) → Option (ℕ × Answer)
 found_later None = None
 found_later (Some found) = Some (suc found.0, found.1)
 
--- the place of the first job with this name among these, counted from 0, and its answer, if there is such a job
+-- the first job with this name among these: its place, counted from 0, and its answer
 abbrev pub found : List NamedAnswer → List ℕ → Option (ℕ × Answer)
 found [] name = None
 found (a ∷ more) name = if same_name a.name name then Some (0, a.answer) else found_later (found more name)
@@ -49,17 +49,17 @@ abbrev pub number_found : List ℕ → Option (ℕ × Answer) → Numbers
 number_found name None = []
 number_found name (Some found) = numbered name (number_of found.1)
 
--- the numbers that the `$` names among these stand for, in order of writing
+-- the numbers under the `$` names among these, in order of writing
 abbrev pub numbers_named : List NamedAnswer → List (List ℕ) → Numbers
 numbers_named before [] = []
 numbers_named before (name ∷ names) = number_found name (found before name) ++ numbers_named before names
 
--- helper: those of the job that was found
+-- helper: the array of the job that was found
 abbrev pub array_found : Option (ℕ × Answer) → List ℤ
 array_found None = []
 array_found (Some found) = array_of found.1
 
--- a source, with the array in place of `result(name)`
+-- a source; `result(name)` becomes the array of that job
 abbrev pub put_in : List NamedAnswer → AbstractPlainSource → AbstractPlainSource
 put_in before (range a b) = range a b
 put_in before (range_closed a b) = range_closed a b
@@ -76,14 +76,14 @@ abbrev pub unless_unusable : Option ℕ → Answer → Answer
 unless_unusable None a = a
 unless_unusable (Some place) a = answer.Unusable place
 
--- the answer of a job after the jobs before it: unusable because of the first job that it names whose answer can't be used, or
--- the answer of its walk, with the numbers and arrays of the jobs that it names
+-- the answer of a job after the jobs before it: unusable because of the first job that it names whose answer can't be
+-- used, or the answer of its walk, with the numbers and arrays of the jobs that it names
 abbrev pub answer_after : List NamedAnswer → AbstractJob → Answer
 answer_after before job =
     unless_unusable (first_unusable before (names_in_job job))
     (answer_of_job (numbers_named before (names_in_job job)) (record { name = job.name; sources = all_put_in before job.sources; stages = job.stages; terminal = job.terminal; on_fault = job.on_fault }))
 
--- the answers of jobs in file order, after those of the jobs before them
+-- the answers of jobs in file order, after the answers of the jobs before them
 abbrev pub answers_after : List NamedAnswer → List AbstractJob → List Answer
 answers_after before [] = []
 answers_after before (job ∷ jobs) = answer_after before job ∷ answers_after (before ++ record { name = job.name; answer = answer_after before job } ∷ []) jobs

@@ -7,7 +7,8 @@ use Rattle.slice_ops.specs.Slices.{AbstractSlice, limit, skip, take_while, drop_
 use Rattle.find_ops.specs.Finds.{Find, first, any_match, all_match, none_match}
 use Rattle.job_language.specs.Jobs.{AbstractPlainSource, range, range_closed, values, result, AbstractJobStage, item, slice, prefix, AbstractTerminal, find, AbstractJob}
 
--- helper: the names that stand in a stage that looks at one item at a time, in a stage that looks at a whole walk, in a find
+-- helper: the names that stand in a stage that looks at one item at a time, in a stage that looks at a whole walk, in a
+-- find
 abbrev pub stage_names : AbstractStage → List (List ℕ)
 stage_names (map e) = long_names e
 stage_names (filter p) = truth_names p
@@ -49,7 +50,7 @@ source_names (range_closed a b) = []
 source_names (values vs) = []
 source_names (result name) = name ∷ []
 
--- helper: those of several sources, and of several stages
+-- helper: the names in several sources, and in several stages
 abbrev pub all_source_names : List AbstractPlainSource → List (List ℕ)
 all_source_names [] = []
 all_source_names (s ∷ ss) = source_names s ++ all_source_names ss
@@ -62,7 +63,7 @@ all_stage_names (g ∷ gs) = job_stage_names g ++ all_stage_names gs
 abbrev pub names_in_job : AbstractJob → List (List ℕ)
 names_in_job job = all_source_names job.sources ++ (all_stage_names job.stages ++ terminal_names job.terminal)
 
--- helper: whether two names are the same
+-- helper: whether two names are equal
 abbrev pub same_name : List ℕ → List ℕ → Bool
 same_name a b = pointwise nat_eq a b
 

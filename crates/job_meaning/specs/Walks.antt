@@ -1,5 +1,5 @@
 -- Meaning: the walk of a job, the answer that its terminal gives, and what that is to jobs that name it.
-use Rattle.std.specs.Prelude.{ℕ, suc, ℤ, pos, ◌+ℤ◌, Bool, true, false, List, [], ◌∷◌, ◌++◌, length, map as each_of, Option, Some, None, Result, Ok, Err, option_map}
+use Rattle.std.specs.Prelude.{ℕ, suc, ℤ, pos, ◌+ℤ◌, Bool, true, false, List, [], ◌∷◌, ◌++◌, length, map as each_of, Option, Some, None, Result, Ok, Err}
 use Rattle.lambda_values.specs.Earlier.{Numbers}
 use Rattle.lambda_values.specs.Streams.{counted, distance}
 use Rattle.lambda_values.specs.Wrap.{wrap}
@@ -16,22 +16,22 @@ use Rattle.reduce_ops.specs.Folds.{fold_from, fold_items, total}
 use Rattle.reduce_ops.specs.Operators.{value_of}
 use Rattle.slice_ops.specs.Slices.{sliced}
 use Rattle.prefix_scan.specs.Prefixes.{prefixed}
-use Rattle.find_ops.specs.Finds.{find_answer}
+use Rattle.find_ops.specs.Finds.{first, any_match, all_match, none_match, find_answer}
 use Rattle.find_ops.specs.declared.find_part.Found.{Found}
 use Rattle.find_ops.specs.declared.find_part.Found.TheVariants as found
 use Rattle.job_language.specs.Jobs.{AbstractPlainSource, range, range_closed, values, result, AbstractJobStage, item, slice, prefix, AbstractTerminal, sum, count, min, max, to_array, reduce, reduce_from, find, exact_sum, AbstractJob}
 use Rattle.job_meaning.specs.declared.answer.Answer.{Answer}
 use Rattle.job_meaning.specs.declared.answer.Answer.TheVariants as answer
 
--- the values of a plain source (`LongStream.range`, `rangeClosed`, `of`; the cells of a column). `result(name)` has none by itself:
--- before a walk the array of that job is put in its place
+-- the values of a plain source (`LongStream.range`, `rangeClosed`, `of`; the cells of a column). `result(name)` has
+-- none by itself: before a walk the array of that job is put in its place
 abbrev pub plain_values : AbstractPlainSource → List ℤ
 plain_values (range a b) = counted a (distance a b)
 plain_values (range_closed a b) = counted a (distance a (b +ℤ pos 1))
 plain_values (values vs) = vs
 plain_values (result name) = []
 
--- those of several sources, one after the other (`LongStream.concat`)
+-- the values of several sources, one after the other (`LongStream.concat`)
 abbrev pub values_of : List AbstractPlainSource → List ℤ
 values_of [] = []
 values_of (s ∷ ss) = plain_values s ++ values_of ss
@@ -69,8 +69,8 @@ exact_answer (Ok z) = answer.Number z
 exact_answer (Err f) = answer.Fault f
 
 -- the answer of a terminal, the stage with this number, for a walk (`LongStream.sum`, `count`, `min`, `max`, `toArray`,
--- `reduce`, `findFirst`, `anyMatch`, `allMatch`, `noneMatch`); a sum and a count are wrapped once to 64 bits, and an exact sum (`reduce(0, Math::addExact)`) has a
--- fault at the first item after which it is outside 64 bits
+-- `reduce`, `findFirst`, `anyMatch`, `allMatch`, `noneMatch`); a sum and a count are wrapped once to 64 bits, and an
+-- exact sum (`reduce(0, Math::addExact)`) has a fault at the first item after which it is outside 64 bits
 abbrev pub answer_of : ℕ → Numbers → AbstractTerminal → Trace → Answer
 answer_of n env sum t = unless_fault t.ending (answer.Number (wrap (total t.items)))
 answer_of n env count t = unless_fault t.ending (answer.Number (wrap (pos (length t.items))))
@@ -82,23 +82,32 @@ answer_of n env (reduce_from a f) t = unless_fault t.ending (answer.Number (fold
 answer_of n env (find d) t = found_answer (find_answer d n env t)
 answer_of n env exact_sum t = exact_answer (exactly_summed n t)
 
--- a number as a terminal gives it: `sum`, `count` and `reduce` from a number give a number, the others an optional
-abbrev pub number_as : AbstractTerminal → ℤ → Answer
-number_as sum z = answer.Number z
-number_as count z = answer.Number z
-number_as (reduce_from a f) z = answer.Number z
-number_as exact_sum z = answer.Number z
-number_as min z = answer.Optional (Some z)
-number_as max z = answer.Optional (Some z)
-number_as (reduce f) z = answer.Optional (Some z)
-number_as (find d) z = answer.Optional (Some z)
-number_as to_array z = answer.Optional (Some z)
+-- a number as a terminal gives it, in place of a fault: `sum`, `count` and `reduce` from a number give a number, `min`, `max`, `reduce` and
+-- `findFirst` an optional; an array and a match give none, and the reader refuses `onFault` after them
+abbrev pub number_as : AbstractTerminal → ℤ → Option Answer
+number_as sum z = Some (answer.Number z)
+number_as count z = Some (answer.Number z)
+number_as (reduce_from a f) z = Some (answer.Number z)
+number_as exact_sum z = Some (answer.Number z)
+number_as min z = Some (answer.Optional (Some z))
+number_as max z = Some (answer.Optional (Some z))
+number_as (reduce f) z = Some (answer.Optional (Some z))
+number_as (find first) z = Some (answer.Optional (Some z))
+number_as (find (any_match p)) z = None
+number_as (find (all_match p)) z = None
+number_as (find (none_match p)) z = None
+number_as to_array z = None
 
--- what a job gives in place of a fault, if it says so (`onFault`)
+-- helper: a number that may be missing, as a terminal gives it
+abbrev pub fallback_as : AbstractTerminal → Option ℤ → Option Answer
+fallback_as d None = None
+fallback_as d (Some z) = number_as d z
+
+-- what a job gives after a fault, if it says so (`onFault`)
 abbrev pub fallback_of : AbstractJob → Option Answer
-fallback_of job = option_map (number_as job.terminal) job.on_fault
+fallback_of job = fallback_as job.terminal job.on_fault
 
--- this answer, if there is one, in place of a fault
+-- this answer, if there is one, instead of a fault
 abbrev pub instead_of_fault : Option Answer → Answer → Answer
 instead_of_fault None a = a
 instead_of_fault (Some b) (answer.Fault f) = b
@@ -118,7 +127,7 @@ is_usable (answer.Array vs) = true
 is_usable (answer.Fault f) = false
 is_usable (answer.Unusable place) = false
 
--- the number that `$name` stands for, if the answer under this name is one: a number, or the value of an optional
+-- the number under `$name`, if the answer of that job is one: a number, or the value of an optional
 abbrev pub number_of : Answer → Option ℤ
 number_of (answer.Number z) = Some z
 number_of (answer.Truth b) = None

@@ -26,7 +26,8 @@ pub enum Answer {
 }
 
 impl Answer {
-    /// Whether a job that names a job with this answer can be run: not if that is a fault, an empty optional or unusable.
+    /// Whether a job that names a job with this answer can be run: not if that is a fault, an empty optional or
+    /// unusable.
     pub fn is_usable(&self) -> bool
         ensures { result ≡ is_usable self.now }
     {
@@ -37,7 +38,8 @@ impl Answer {
         }
     }
 
-    /// The number that a `$` name of the job stands for, if the answer is a number or an optional with a value.
+    /// The number that `$` and the job's name give in later jobs, if the answer is a number or an optional with a
+    /// value.
     pub fn number(&self) -> Option<i64>
         ensures { result ≡ number_of self.now }
     {
@@ -63,8 +65,8 @@ impl Answer {
         }
     }
 
-    /// The same answer. An array has one piece at most, so that others can go over it as a slice; the values of several pieces are
-    /// copied once, 8 bytes each.
+    /// This answer, with an array in one piece at most, so that a caller can go over it as a slice; the values of
+    /// several pieces are copied once, 8 bytes each.
     pub fn in_one_piece(self, alloc: Global) -> Result<Answer, NoMemory>
         ensures { IfOk result (λ answer. answer ≡ self) }
     {

@@ -1,12 +1,13 @@
 //! What the jobs of a file mean: the answer of each.
 //!
-//! Stands on `job_language`, for jobs, and on the definitions of `trace`, `reduce_ops`, `slice_ops`, `find_ops` and `prefix_scan`,
-//! for walks. Used by `job_plan`, which cuts jobs into segments, by `report`, which writes answers, and by `engine`, whose
-//! contract cites it.
-//! Begin with `meaning_of` of `specs/FileAnswers.antt`, then `specs/Walks.antt`: the walk of a job, and the answer that its terminal
-//! gives. The code is the answer as a value: `Answer`, and the `Values` of an array in the pieces in which they were made.
-//! What it promises to its users: what an answer is to a job that names it (`is_usable`, `number`, `array`), and that no call of
-//! `Values` changes a value or its place.
+//! Stands on `job_language`, for jobs, and on the definitions of `trace`, `reduce_ops`, `slice_ops`, `find_ops` and
+//! `prefix_scan`, for walks. Used by `job_plan`, which cuts jobs into segments, by `report`, which writes answers, and
+//! by `engine`, whose contract cites it.
+//! Begin with `meaning_of` of `specs/FileAnswers.antt`, then `specs/Walks.antt`: the walk of a job, and the answer that
+//! its terminal gives. The code is the answer as a value: `Answer`, and the `Values` of an array in the pieces in which
+//! they were made.
+//! What it promises to its users: what an answer is to a job that names it (`is_usable`, `number`, `array`), and that
+//! no call of `Values` changes a value or its place.
 //! Not promised: that anything is run. `job_plan` does that, a piece at a time.
 #![tactic(auto)]
 

@@ -80,7 +80,7 @@ impl Values {
         copied(alloc, &self.pieces)
     }
 
-    /// The same values in one piece at most, so that `as_slice` gives them. Those of several pieces are copied once.
+    /// These values in one piece at most, so that `as_slice` gives them. The values of several pieces are copied once.
     pub fn in_one_piece(self, alloc: Global) -> Result<Values, NoMemory>
         ensures { IfOk result (λ values. values ≡ self) }
     {

@@ -25,7 +25,7 @@ items_counted f false [] = refl
 items_counted f true (x ∷ xs) = ap Some (from_counted f true (pos 1) xs)
 items_counted f false (x ∷ xs) = ap Some (from_counted f false x.value xs)
 
--- the fold of a batch's values is that of its items
+-- the fold of a batch's values is the fold of its items
 pub batch_stands : (p : Partial) (counts : Bool) (vs : List ℤ) (xs : List Item) → p.value ≡ folded_values (value_of p.op) counts vs → p.end ≡ end.Done → map (λ (x : Item). x.value) xs ≡ vs → FoldStands p (trace (counted_as counts xs) end.Done)
 batch_stands p counts vs xs is done same = record {
   value = is ∙ ap (folded_values (value_of p.op) counts) (sym same) ∙ items_counted (value_of p.op) counts xs;
@@ -65,7 +65,7 @@ pub after_left : (f : ℤ → ℤ → ℤ) → IsAssociative f → (counts : Boo
 after_left f grouped counts a b [] = refl
 after_left f grouped counts a b (v ∷ vs) = ap (λ (d : ℤ). fold (λ c w. f c (each_one counts w)) d vs) (grouped a b (each_one counts v)) ∙ after_left f grouped counts a (f b (each_one counts v)) vs
 
--- two halves by themselves, of which the right one begins with its own first value
+-- two halves by themselves, where the right one begins with its own first value
 pub halves_folded : (f : ℤ → ℤ → ℤ) → IsAssociative f → (counts : Bool) (start begun first left right whole : ℤ) (n : ℕ) (values near others after far rest : List ℤ) → values ≡ near ++ others → others ≡ first ∷ after → after ≡ far ++ rest
     → length near ≤ n → length far ≤ n → begun ≡ each_one counts first → left ≡ fold (λ c w. f c (each_one counts w)) start (take n near) → right ≡ fold (λ c w. f c (each_one counts w)) begun (take n far)
     → whole ≡ f left (fold (λ c w. f c (each_one counts w)) right rest) → whole ≡ fold (λ c w. f c (each_one counts w)) start values

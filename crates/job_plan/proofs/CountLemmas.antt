@@ -1,4 +1,4 @@
--- Counts after maps that can't have a fault, which leave as many items as they take.
+-- Counts after maps that can't have a fault, which leave one item for each that they take.
 use Rattle.std.proofs.Common.{◌≡◌, ℕ, Bool, suc, ◌+◌, ◌≤◌, ◌-◌, ℤ, pos, ◌+ℤ◌, true, false, List, [], ◌∷◌, length, drop, Option, Some, None, Result, refl, sym, ap, subst, ◌∙◌, arith, rules}
 use Rattle.std.proofs.lemmas.Int.{int_wrap_fits}
 use Rattle.std.proofs.lemmas.List.{append-nil, length-take}
@@ -35,7 +35,7 @@ use Rattle.job_plan.proofs.Elements.{length_dropped}
 use Rattle.job_plan.proofs.MoveLemmas.{both, first_of, value_there}
 use Rattle.job_plan.proofs.WalkLemmas.{same_ending}
 
--- a walk has as many items as another one, and the same end
+-- two walks have equally many items, and one end
 abbrev HasSize : Trace → Trace → Type 0
 HasSize t u = (length u.items ≡ length t.items) × (u.ending ≡ t.ending)
 
@@ -89,7 +89,7 @@ pub counted_end : (p : Partial) (t : Trace) (counts : Bool) (ending : End) → c
 counted_end p t counts ending adds last =
     subst (λ (u : Trace). FoldStands p u) ((λ i. trace (append-nil (ones t.items) i) (sym last i)) ∙ ap (λ (c : Bool). trace (counted_as c t.items) t.ending) (sym adds))
 
--- a part of a segment that counts after such maps
+-- a part of a segment that counts after maps that can't have a fault
 pub counted_stands : (segment : Segment) (fold : Fold) (p : FoldPart) (from : ℕ) (to : Option ℕ) (t : Trace) (count : ℕ) (ending : End) (env : Numbers)
     → segment.end ≡ ends.Fold fold → all_keep true (stages_of segment.stages.items) ≡ true → count ≡ span from to (length t.items) → ending ≡ (piece_of 0 to t).ending
     → ((u : Trace) → length u.items ≡ count → u.ending ≡ ending → IsFold fold.op fold.start fold.counts p u) → StandsFor (segment_in segment) env (part.Fold p) (piece_of from to t)

@@ -55,7 +55,7 @@ piece_in_two g env from to t =
     as_piece from None t = refl
     as_piece from (Some to) t = refl
 
--- what a walk leaves, by how it ended: P holds of the walks that a value stands for
+-- what a walk leaves, by how it ended: P holds of the walks that a value describes
 module _ (P : Trace → Type 0) (w : Trace) (e : End) where
   pub stands_more : w.ending ≡ end.Done → P (append (trace ([] ++ w.items) end.Done) (trace [] e)) → P (append w (trace [] e))
   stands_more done p = subst P (ap (λ (f : End). append (trace w.items f) (trace [] e)) (sym done)) p

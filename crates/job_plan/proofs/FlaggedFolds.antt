@@ -57,7 +57,7 @@ module _ (values flags : List ℤ) where
     some_folded is (v ∷ vs) fits some =
         ap (λ (a : ℤ). Some (fold (λ b w. value_of op b (each_one counts w)) a vs)) (all_identities op identity is (each_one counts v) (one_fits v fits.0)).0
 
-    -- onto an identity the fold is the same, if there are values
+    -- a fold onto an identity is the fold, if there are values
     pub flagged_folded : identity_of op ≡ Some identity → (n : ℕ) → AllFit (flagged_values values flags n) → 0 < length (flagged_values values flags n) → Some (folded_from n) ≡ folded_values (value_of op) counts (flagged_values values flags n)
     flagged_folded is n fits some = some_folded is (flagged_values values flags n) fits some
 

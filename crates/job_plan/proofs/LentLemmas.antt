@@ -36,7 +36,7 @@ pub piece_again : (gs : List AbstractStage) (from : ℕ) (to : Option ℕ) (t : 
 piece_again gs from None t ending e = (λ j. trace (append-nil (imaged gs (elements from None t.items)) j) (e j))
 piece_again gs from (Some to) t ending e = (λ j. trace (append-nil (imaged gs (elements from (Some to) t.items)) j) (e j))
 
--- a part of a segment whose stages are such maps
+-- a part of a segment whose stages are cheap maps
 pub lent_stands : (segment : Segment) (prefix : Prefix) (p : AbstractScan) (t : Trace) (env : Numbers) → segment.end ≡ ends.Prefix prefix → ArePlain (stages_of segment.stages.items)
     → p ≡ scan prefix.op prefix.range (segment.first_stage + length segment.stages.items) (trace (imaged (stages_of segment.stages.items) t.items) t.ending) → StandsFor (segment_in segment) env (part.Prefix p) t
 lent_stands segment prefix p t env e plain is =

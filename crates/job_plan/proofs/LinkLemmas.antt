@@ -17,7 +17,7 @@ pub linked_last : (ls : List AbstractLink) (l : AbstractLink) (env : Numbers) (t
 linked_last [] l env t = refl
 linked_last (k ∷ ls) l env t = linked_last ls l env (link_walk k env t)
 
--- the answer of segments is that of those after the slices, over what these make of the walk
+-- the answer of segments is the answer of the segments after the slices, over what these make of the walk
 pub links_answer : (ss : List AbstractSegment) (env : Numbers) (t : Trace) → segments_answer ss env t ≡ segments_answer (after_links ss) env (linked (first_links ss) env t)
 links_answer [] env t = refl
 links_answer (s ∷ ss) env t = by (links_answer ss env) s.ending refl

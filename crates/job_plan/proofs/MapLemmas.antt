@@ -25,7 +25,7 @@ use Rattle.job_plan.proofs.RunLemmas.{values_placed}
 both_true : (a b : Bool) → a ≡ true → b ≡ true → (a && b) ≡ true
 both_true a b h k = ap (λ c. c && b) h ∙ k
 
--- such an expression can't have a fault
+-- an expression of this kind can't have a fault
 mutual
   faultless : (e : Long) → IsPlain e → never_faults e ≡ true
   faultless (number z) h = refl
@@ -76,7 +76,7 @@ value_is e h x env =
     let v = value_there e (faultless e h) x none in
     same_value e h x env none ∙ v.1 ∙ sym (ap (λ r. Ok (value_in r)) v.1)
 
--- ---- a walk through such maps
+-- ---- a walk through maps that can't have a fault
 
 imaged_by : Long → List Item → List Item
 imaged_by e xs = each_of (λ (x : Item). record { origin = x.origin; value = value_in (long_value e x.value []) }) xs

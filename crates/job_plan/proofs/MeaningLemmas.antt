@@ -1,4 +1,4 @@
--- The answers of jobs in segments are those of their file.
+-- The answers of jobs in segments are the answers of their file.
 use Rattle.std.proofs.Common.{◌≡◌, ℕ, suc, Bool, true, false, List, [], ◌∷◌, ◌++◌, Option, Some, None, refl, sym, ap, ◌∙◌}
 use Rattle.std.specs.Prelude.{if◌then◌else◌, map, slice_get}
 use Rattle.std.specs.Cmp.Lexicographic.{same_text}

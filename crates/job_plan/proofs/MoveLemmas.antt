@@ -1,4 +1,4 @@
--- Slices that come after maps alone, and plans that give the same answers.
+-- Slices that come after maps alone, and plans with equal answers.
 use Rattle.std.proofs.Common.{◌≡◌, ℕ, zero, suc, ◌+◌, ◌<◌, ℤ, pos, nat_lt, if◌then◌else◌, Bool, true, false, ◌&&◌, not, List, [], ◌∷◌, ◌++◌, length, map as each_of, take, Option, Some, None, Result, Ok, Err, length-append, append_assoc, refl, sym, ap, subst, ◌∙◌, arith}
 use Rattle.std.proofs.lemmas.Bool.{ltb-false, ltb-true, lt-ltb}
 use Rattle.std.specs.Ordering.{int_eq}
@@ -212,7 +212,7 @@ skip_before_maps m (flat_map g ∷ gs) h n env t = absurd (let z : false ≡ tru
 
 -- ---- segments
 
--- the same segments before others
+-- segments with equal answers, after others
 pub same_after : (front ss us : List AbstractSegment) → SameAnswers ss us → SameAnswers (front ++ ss) (front ++ us)
 same_after [] ss us h = h
 same_after (s ∷ front) ss us h = λ env t. by (outcome_of s env t) env (λ u. same_after front ss us h env u)
@@ -382,7 +382,7 @@ pub all_same : (ps : List AbstractPlan) → AllSamePlans ps ps
 all_same [] = tt
 all_same (p ∷ ps) = (record { name = refl; named = refl; sources = refl; fallback = refl; answers = λ env t. refl }, all_same ps)
 
--- a plan in place of the same one
+-- a plan instead of one with equal answers
 pub same_plan_later : (ps rs qs : List AbstractPlan) (p q : AbstractPlan) → AllSamePlans (ps ++ q ∷ rs) qs → IsSamePlan p q → AllSamePlans ((ps ++ p ∷ []) ++ rs) qs
 same_plan_later [] rs [] p q h k = absurd h
 same_plan_later [] rs (x ∷ qs) p q h k =

@@ -25,7 +25,7 @@ use Rattle.job_plan.proofs.LinkLemmas.{each_link_more, linked_last}
 use Rattle.job_plan.proofs.SideBySide.{whole_piece}
 use Rattle.job_plan.proofs.WalkLemmas.{taken_none}
 
--- P holds of the walks that a value stands for
+-- P holds of the walks that a value describes
 module _ (P : Trace → Type 0) (g : AbstractSegment) (env : Numbers) (t : Trace) where
   abbrev fed_walk : Trace
   fed_walk = walk_of g env (trace (elements 0 None t.items) end.Done)

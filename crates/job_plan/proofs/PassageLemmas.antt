@@ -137,7 +137,7 @@ module _ {S : Type 0} (h : S → List Item → Type 0) (f : S → Flow) (begun :
     passed_on (fed.Fault x) p took wants next = subst (λ (q : Passage). Passed left q s (xs ++ items)) (sym next) (went_faulted x took)
     passed_on fed.Enough p took wants next = subst (λ (q : Passage). Passed left q s (xs ++ items)) (sym next) (went_enough took wants)
 
-  -- what a next sink makes that is closed in place of the slice
+  -- what a next sink makes that is closed instead of the slice
   module _ (P : Trace → Type 0) (rest : AbstractSlice) (s : S) (xs : List Item) where
     pub closed_open : (e k : End) → sliced rest n env (trace [] e) ≡ trace [] k → Passed rest passage.Open s xs → ((ys : List Item) → h s ys → P (append (trace ys end.Done) (trace [] k)))
         → P (onward h f begun n g env xs (trace [] e))

@@ -68,7 +68,7 @@ run_folded op place vs fold same stands few places fits =
       places = record { places = places; fits = fits };
     }
 
--- values after those of a piece
+-- values after the values of a piece
 pub run_added : (items : PieceItems) (first place count : ℕ) (old new : RunValues) (vs : List ℤ) → items ≡ piece.Run first old → place ≡ first + count → length (run_values old) ≡ count → run_values new ≡ run_values old ++ vs
     → placed first (run_values new) ≡ items_in items ++ placed place vs
 run_added items first place count old new vs is at size more =

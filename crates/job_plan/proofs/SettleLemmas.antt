@@ -63,7 +63,7 @@ module _ (g : Item → Option End) (t : Trace) (h : is_some (stop_at g t.items) 
       let l = later_some (stop_at g xs) (length xs + s.0.0, s.0.1) in
       (l.0, stop_joined g xs t.items ∙ ap (λ o. option_or (stop_at g xs) (shift (length xs) o)) s.1 ∙ l.1)
 
-  -- and keeps the same, whatever follows
+  -- and keeps equal items, whatever follows
   same_front : (xs ys : List Item) (e : End) → kept_before (stop_at g ((xs ++ t.items) ++ ys)) (trace ((xs ++ t.items) ++ ys) e) ≡ trace (take (stops_after xs).0.0 (xs ++ t.items)) (stops_after xs).0.1
   same_front xs ys e =
       let s = stops_after xs in

@@ -29,7 +29,7 @@ pub not_after : (m : ℕ) (to : Option ℕ) → IfSome to (λ last. m ≤ last) 
 not_after m None h = tt
 not_after m (Some t) h = h
 
--- a part that is settled stands for all that follows
+-- a part that is settled describes all that follows
 pub settled_piece : (s : AbstractSegment) (env : Numbers) (p : Part) (t : Trace) (from middle : ℕ) (to : Option ℕ) → from ≤ middle → IsNotAfter middle to → is_settled p ≡ true
     → StandsFor s env p (piece_of from (Some middle) t) → StandsFor s env p (piece_of from to t)
 settled_piece s env p t from middle to h k is x =
@@ -59,7 +59,7 @@ taken_on e n env begun p q xs ys took on kind = (
   kind ∙ took.1,
 )
 
--- the same end, stage and numbers
+-- what was taken, said of an equal end, stage and numbers
 pub taken_as : (e f : AbstractEnd) (m n : ℕ) (env named : Numbers) (begun p : Part) (xs : List Item) → e ≡ f → m ≡ n → env ≡ named → HasTaken f n named begun p xs → HasTaken e m env begun p xs
 taken_as e f m n env named begun p xs a b c h =
     subst (λ (x : AbstractEnd). HasTaken x m env begun p xs) (sym a) (subst (λ (x : ℕ). HasTaken f x env begun p xs) (sym b) (subst (λ (x : Numbers). HasTaken f n x begun p xs) (sym c) h))
@@ -123,7 +123,7 @@ pub enough_is_settled : (b : Bool) → flow_of b ≡ flow.Enough → b ≡ true
 enough_is_settled true h = refl
 enough_is_settled false h = cc
 
--- the same end, stage and numbers
+-- which walk a part describes, said of an equal end, stage and numbers
 pub unpinned : (e f : AbstractEnd) (m n : ℕ) (env named : Numbers) (p : Part) (t : Trace) → e ≡ f → m ≡ n → env ≡ named → EndsFor f n named p t → EndsFor e m env p t
 unpinned e f m n env named p t a b c h =
     subst (λ (x : AbstractEnd). EndsFor x m env p t) (sym a) (subst (λ (x : ℕ). EndsFor f x env p t) (sym b) (subst (λ (x : Numbers). EndsFor f n x p t) (sym c) h))

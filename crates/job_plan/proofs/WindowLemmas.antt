@@ -49,7 +49,7 @@ module _ {A : Type 0} where
   same_elements : (f g : ℕ) (o p : Option ℕ) (xs : List A) → min f (length xs) ≡ min g (length xs) → span f o (length xs) ≡ span g p (length xs) → elements f o xs ≡ elements g p xs
   same_elements f g o p xs e k = clamped f o xs ∙ (λ i. take (k i) (drop (e i) xs)) ∙ sym (clamped g p xs)
 
-  -- the same, of positions that are numbers of 64 bits
+  -- positions of the elements at positions that are numbers of 64 bits
   window_within : (a f : ℕ) (p o : Option ℕ) (xs : List A) → length xs ≤ 4611686018427387904
       → elements a p (elements f o xs) ≡ elements (min (f + a) 18446744073709551615) (earlier o (moved p f)) xs
   window_within a f None None xs h = elements_within a f None None xs ∙ same_elements (f + a) (min (f + a) 18446744073709551615) None None xs (omega arith) (omega arith)
@@ -59,7 +59,7 @@ module _ {A : Type 0} where
   window_within a f (Some b) (Some t) xs h =
       elements_within a f (Some b) (Some t) xs ∙ same_elements (f + a) (min (f + a) 18446744073709551615) (Some (min t (f + b))) (Some (min t (min (f + b) 18446744073709551615))) xs (omega arith) (omega arith)
 
-  -- as many elements as there are positions within the list
+  -- the number of elements is the number of positions within the list
   length_elements : (from : ℕ) (to : Option ℕ) (xs : List A) → length (elements from to xs) ≡ span from to (length xs)
   length_elements from None xs = length_dropped from xs
   length_elements from (Some to) xs = let l = length_dropped from xs in length_taken (to - from) (drop from xs) ∙ omega arith

@@ -1,4 +1,4 @@
--- Condition: the values of a walk, without the places of its items.
+-- Condition: the values of a walk, without places.
 use Rattle.std.specs.Prelude.{ℤ, List, ◌++◌, map as each_of}
 use Rattle.trace.specs.declared.item.Item.{Item}
 use Rattle.trace.specs.declared.item.End.{End}
@@ -13,7 +13,7 @@ pub record AbstractArray : Type 0 where
 abbrev pub array : List ℤ → End → AbstractArray
 array vs e = record { values = vs; ending = e }
 
--- those of a walk
+-- the array of a walk
 abbrev pub array_of : Trace → AbstractArray
 array_of t = array (each_of (λ (x : Item). x.value) t.items) t.ending
 

@@ -8,7 +8,7 @@ use Rattle.lambda_values.specs.declared.operator.Faults.{Faults}
 use Rattle.lambda_values.specs.declared.operator.Faults.TheVariants as faults
 use Rattle.lambda_values.specs.Operators.{binary_faults, unary_faults}
 
--- whether an operator with such faults has none
+-- whether an operator with these faults never has one
 abbrev pub is_never : Faults → Bool
 is_never faults.Never = true
 is_never faults.ByZero = false
@@ -27,7 +27,7 @@ is_divisor (unary o a) = false
 is_divisor (binary o a b) = false
 is_divisor (choose c a b) = false
 
--- whether an operator with such faults has none with this right operand
+-- whether an operator with these faults never has one with this right operand
 abbrev pub is_never_by : Faults → Long → Bool
 is_never_by faults.Never b = true
 is_never_by faults.ByZero b = is_divisor b

@@ -24,7 +24,7 @@ all_calm (g ∷ gs) = is_calm g && all_calm gs
 abbrev pub IsClean : Trace → Type 0
 IsClean t = (f : Fault) → t.ending ≡ end.Fault f → t.items ≡ []
 
--- segments that go over such a walk give the same answer
+-- segments that give equal answers for every walk without an item before a fault
 abbrev pub SameOfClean : List AbstractSegment → List AbstractSegment → Type 0
 SameOfClean ss us = (env : Numbers) (t : Trace) → IsClean t → segments_answer ss env t ≡ segments_answer us env t
 
@@ -32,7 +32,7 @@ SameOfClean ss us = (env : Numbers) (t : Trace) → IsClean t → segments_answe
 abbrev pub finding_first : AbstractSegment → AbstractSegment
 finding_first s = record { first = s.first; stages = s.stages; ending = finding (find_of terminal.First) }
 
--- segments of which the last one does
+-- these segments, the last one changed to find the first value
 abbrev pub last_finds : List AbstractSegment → List AbstractSegment
 last_finds [] = []
 last_finds (s ∷ []) = finding_first s ∷ []

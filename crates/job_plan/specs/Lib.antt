@@ -1,6 +1,7 @@
 -- Condition: the files of this crate's definitions; the first line of each says what it is.
 pub mod Arrays
 pub mod Batches
+pub mod EndRows
 pub mod Faultless
 pub mod Firsts
 pub mod FoldFaults

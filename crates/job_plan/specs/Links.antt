@@ -52,8 +52,8 @@ abbrev pub goes_through : List AbstractSegment → Bool
 goes_through [] = false
 goes_through (s ∷ ss) = ends_in_slice s.ending
 
--- whether the walk of a job's sources goes through slices that don't select positions, the segments after these, and what the
--- first of them goes over
+-- whether the walk of a job's sources goes through slices that don't select positions, the segments after these, and
+-- what the first of them goes over
 abbrev pub plan_streams : AbstractPlan → Bool
 plan_streams plan = goes_through (later_segments plan.segments)
 

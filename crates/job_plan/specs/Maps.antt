@@ -25,7 +25,7 @@ abbrev mutual
   IsPlainTest (connect o a b) = IsPlainTest a × IsPlainTest b
   IsPlainTest (choose_truth c a b) = IsPlainTest c × (IsPlainTest a × IsPlainTest b)
 
--- stages that are maps by such expressions
+-- stages that are maps by these expressions
 abbrev pub IsPlainStage : AbstractStage → Type 0
 IsPlainStage (map e) = IsPlain e
 IsPlainStage (filter p) = ⊥
@@ -35,12 +35,12 @@ abbrev pub ArePlain : List AbstractStage → Type 0
 ArePlain [] = ⊤
 ArePlain (g ∷ gs) = IsPlainStage g × ArePlain gs
 
--- helper: the value of such an expression
+-- helper: the value of an expression that can't fault
 abbrev pub value_in : Result ℤ FaultKind → ℤ
 value_in (Ok v) = v
 value_in (Err k) = pos 0
 
--- what such maps, one after the other, make of a value
+-- what these maps, one after the other, make of a value
 abbrev pub image : List AbstractStage → ℤ → ℤ
 image [] v = v
 image (map e ∷ gs) v = image gs (value_in (long_value e v []))
@@ -55,7 +55,7 @@ images gs vs = each_of (image gs) vs
 abbrev pub imaged : List AbstractStage → List Item → List Item
 imaged gs xs = each_of (λ (x : Item). record { origin = x.origin; value = image gs x.value }) xs
 
--- helper: that stages are such maps has one proof at most
+-- helper: that stages are maps of this kind has one proof at most
 mutual
   IsPlain-prop : (e : Long) → IsProp (IsPlain e)
   IsPlain-prop (number z) = Unit-prop

@@ -1,4 +1,4 @@
--- Condition: slices that come after maps alone, and plans that give the same answers.
+-- Condition: slices that come after maps alone, and plans with equal answers.
 use Rattle.std.specs.Prelude.{◌≡◌, Bool, true, false, ◌&&◌, List, [], ◌∷◌, ◌++◌, Option, Some, None}
 use Rattle.lambda_values.specs.Earlier.{Numbers}
 use Rattle.trace.specs.Stages.{AbstractStage, map, filter, flat_map, stages_of}
@@ -23,8 +23,8 @@ abbrev pub all_keep : Bool → List AbstractStage → Bool
 all_keep faultless [] = true
 all_keep faultless (g ∷ gs) = stage_keeps faultless g && all_keep faultless gs
 
--- whether a slice after these stages gives the same if it comes before them: `limit` after maps, `skip` after maps that
--- can't have a fault, since the items that it drops are evaluated
+-- whether a slice after these stages gives equal items before them: `limit` after maps, `skip` after maps that can't
+-- have a fault, since the items that it drops are evaluated
 abbrev pub slice_comes_first : List AbstractStage → AbstractSlice → Bool
 slice_comes_first gs (limit n) = all_keep false gs
 slice_comes_first gs (skip n) = all_keep true gs
@@ -38,11 +38,11 @@ some_comes_first gs (Some d) = slice_comes_first gs d
 abbrev pub comes_first : List AbstractStage → AbstractEnd → Bool
 comes_first gs e = some_comes_first gs (slice_in e)
 
--- segments that go over a walk give the same answer, whatever the walk is
+-- segments that give equal answers for every walk
 abbrev pub SameAnswers : List AbstractSegment → List AbstractSegment → Type 0
 SameAnswers ss us = (env : Numbers) (t : Trace) → segments_answer ss env t ≡ segments_answer us env t
 
--- a plan that differs in its segments alone, which give the same answer over all sources
+-- a plan that differs in its segments alone, which give equal answers for all sources
 pub record IsSamePlan (p q : AbstractPlan) : Type 0 where
   pub name : p.name ≡ q.name
   pub named : p.named ≡ q.named

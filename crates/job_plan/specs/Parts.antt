@@ -1,4 +1,4 @@
--- Condition: what the parts, segments and sources of the program stand for.
+-- Condition: what the parts, segments and sources of the program mean.
 use Rattle.std.specs.Prelude.{◌≡◌, ℕ, ℤ, Bool, true, false, not, List, [], ◌∷◌, Option, Some, is_some, option_map}
 use Rattle.lambda_values.specs.Earlier.{Numbers}
 use Rattle.trace.specs.declared.item.Item.{Item}
@@ -53,7 +53,7 @@ abbrev pub segments_in : List Segment → List AbstractSegment
 segments_in [] = []
 segments_in (s ∷ ss) = segment_in s ∷ segments_in ss
 
--- what stands in place of a fault
+-- the answer that a fallback of the program means
 abbrev pub fallback_in : Fallback → Answer
 fallback_in (fallback.Number z) = answer.Number z
 fallback_in (fallback.Optional z) = answer.Optional (Some z)
@@ -83,8 +83,8 @@ pub record IsFold (f : Op) (a : Option ℤ) (counts : Bool) (p : FoldPart) (t : 
   pub counting : p.counts ≡ counts
   pub stands : FoldStands p.partial (trace (counted_as counts t.items) t.ending)
 
--- a part stands for a walk that came through the stages, at this end, which is the stage with this number; of another kind than the end it
--- stands for none
+-- a part describes a walk that came through the stages, at this end, which is the stage with this number; a part of
+-- another kind than the end describes none
 abbrev pub EndsFor : AbstractEnd → ℕ → Numbers → Part → Trace → Type 0
 EndsFor (slicing d) n env (part.Slice p) t = SliceStands d n env p t
 EndsFor (folding f a counts) n env (part.Fold p) t = IsFold f a counts p t
@@ -94,7 +94,8 @@ EndsFor (scanning f r) n env (part.Prefix p) t = p ≡ scan f r n t
 EndsFor exactly n env (part.Exact p) t = SumStands n p t
 EndsFor e n env p t = ⊥
 
--- whether a part of a whole walk may leave it open what the segment gives, so that the walk is to be done once more, in order
+-- whether a part of a whole walk may leave it open what the segment gives, so that the walk is to be done once more, in
+-- order
 abbrev pub may_search : Part → Bool
 may_search (part.Exact p) = not (is_running_sum p)
 may_search p = false
@@ -107,11 +108,12 @@ GoesOnFrom e n env begun p u = ((t : Trace) → EndsFor e n env begun t → Ends
 abbrev pub HasTaken : AbstractEnd → ℕ → Numbers → Part → Part → List Item → Type 0
 HasTaken e n env begun p xs = GoesOnFrom e n env begun p (trace xs end.Done)
 
--- a part stands for a piece of a segment's source
+-- a part describes a piece of a segment's source
 abbrev pub StandsFor : AbstractSegment → Numbers → Part → Trace → Type 0
 StandsFor s env p t = EndsFor s.ending (last_stage s) env p (walk_of s env t)
 
--- a part stands for enough of the piece of a segment's source that begins at this place: all of it, or what comes before a place that decides
+-- a part describes enough of the piece of a segment's source that begins at this place: all of it, or what comes before
+-- a place that decides
 abbrev pub StandsEnough : (ℕ → Type 0) → AbstractSegment → Numbers → Part → ℕ → Trace → Type 0
 StandsEnough decides s env p at piece = (t : Trace) × IsEnough decides at piece t × StandsFor s env p t
 

@@ -25,8 +25,8 @@ passage_flow passage.Enough f = flow.Enough
 passage_flow (passage.Ended e) f = flow.Enough
 passage_flow passage.Refused f = flow.More
 
--- how a slice goes on after items that it cut, if this became of those that pass, and the walk goes on after them or ends in a fault of the
--- slice: nothing comes any more after a fault, nor from a slice that lets nothing pass
+-- how a slice goes on after items that it cut, if this became of those that pass, and the walk goes on after them or
+-- ends in a fault of the slice: nothing comes any more after a fault, nor from a slice that lets nothing pass
 abbrev pub IsAfter : Fed → End → AbstractSlice → Passage → Type 0
 IsAfter fed.More e rest passage.Open = e ≡ end.Done
 IsAfter fed.More e rest passage.Enough = ⊥
@@ -47,7 +47,7 @@ module _ {S : Type 0} (has_taken : S → List Item → Type 0) (wants : S → Fl
   abbrev pub onward : List Item → Trace → Trace
   onward xs later = through_link begun n next env (append (trace xs end.Done) later)
 
-  -- these items went into a slice, of which this is left, and the next sink has taken what became of them
+  -- these items went into a slice with this rest, and the next sink has taken what became of them
   abbrev pub HasPassed : AbstractSlice → Passage → S → List Item → Type 0
   HasPassed rest passage.Open s xs = (ys : List Item) × has_taken s ys × ((later : Trace) → onward xs later ≡ append (trace ys end.Done) (through_link rest n next env later))
   HasPassed rest passage.Enough s xs = (ys : List Item) × has_taken s ys × (wants s ≡ flow.Enough) × ((later : Trace) → (z : Trace) × (onward xs later ≡ append (trace ys end.Done) z))

@@ -1,4 +1,4 @@
--- Meaning: pieces of a walk.
+-- Design: pieces of a walk.
 use Rattle.std.specs.Prelude.{ℕ, ◌-◌, List, Option, Some, None, take, drop}
 use Rattle.trace.specs.declared.item.End.TheVariants as end
 use Rattle.trace.specs.Trace.{Trace, trace}

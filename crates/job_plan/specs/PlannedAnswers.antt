@@ -1,4 +1,4 @@
--- Meaning: the answers of the jobs of a file that are cut into segments. Jobs that a job names are found by their places.
+-- Design: the answers of jobs in segments. Jobs that a job names are found by their places.
 use Rattle.std.specs.Prelude.{ℕ, ℤ, if◌then◌else◌, List, [], ◌∷◌, ◌++◌, Option, Some, None, slice_get}
 use Rattle.lambda_values.specs.Earlier.{Numbers}
 use Rattle.job_language.specs.Jobs.{AbstractPlainSource, range, range_closed, values, result}
@@ -24,7 +24,7 @@ abbrev pub number_there : List ℕ → Option Answer → Numbers
 number_there name None = []
 number_there name (Some a) = numbered name (number_of a)
 
--- the numbers that these names stand for, in order of writing
+-- the numbers under these names, in order of writing
 abbrev pub numbers_at : List Answer → List Named → Numbers
 numbers_at before [] = []
 numbers_at before (n ∷ ns) = number_there n.name (slice_get before n.job) ++ numbers_at before ns
@@ -43,7 +43,7 @@ abbrev pub array_at : List Answer → Option ℕ → List ℤ
 array_at before None = []
 array_at before (Some place) = array_in (slice_get before place)
 
--- a source, with the array in place of `result(name)`
+-- a source; `result(name)` becomes the array of that job
 abbrev pub put_at : List Answer → List Named → AbstractPlainSource → AbstractPlainSource
 put_at before named (range a b) = range a b
 put_at before named (range_closed a b) = range_closed a b
@@ -55,7 +55,7 @@ abbrev pub all_put_at : List Answer → List Named → List AbstractPlainSource 
 all_put_at before named [] = []
 all_put_at before named (s ∷ ss) = put_at before named s ∷ all_put_at before named ss
 
--- a job with the arrays that it names in place of their names
+-- a job; the arrays that it names become values
 abbrev pub put_into : List Answer → AbstractPlan → AbstractPlan
 put_into before plan = record { name = plan.name; named = plan.named; sources = all_put_at before plan.named plan.sources; segments = plan.segments; fallback = plan.fallback }
 
@@ -63,7 +63,7 @@ put_into before plan = record { name = plan.name; named = plan.named; sources = 
 abbrev pub planned_after : List Answer → AbstractPlan → Answer
 planned_after before plan = unless_unusable (first_unusable_at before plan.named) (planned_answer (numbers_at before plan.named) (put_into before plan))
 
--- the answers of jobs in file order, after those of the jobs before them
+-- the answers of jobs in file order, after the answers of the jobs before them
 abbrev pub planned_from : List Answer → List AbstractPlan → List Answer
 planned_from before [] = []
 planned_from before (plan ∷ plans) = planned_after before plan ∷ planned_from (before ++ planned_after before plan ∷ []) plans

@@ -1,4 +1,4 @@
--- Meaning: jobs cut into segments, at each stage that looks at a whole walk.
+-- Design: jobs cut into segments, at each stage that looks at a whole walk.
 use Rattle.std.specs.Prelude.{ℕ, suc, ℤ, pos, Bool, true, false, ◌+◌, List, [], ◌∷◌, ◌++◌, length, map as each_of, Option, Some, None}
 use Rattle.lambda_values.specs.Earlier.{Numbers}
 use Rattle.trace.specs.declared.item.Item.{Item}
@@ -31,7 +31,7 @@ pub data AbstractEnd : Type 0 where
   exactly : AbstractEnd
   scanning : Op → Range → AbstractEnd
 
--- the stage that looks at a whole walk, if such a stage is the end
+-- the stage that looks at a whole walk, if the segment ends in one
 abbrev pub slice_in : AbstractEnd → Option AbstractSlice
 slice_in (slicing d) = Some d
 slice_in e = None
@@ -48,8 +48,8 @@ pub record AbstractSegment : Type 0 where
   pub stages : List AbstractStage
   pub ending : AbstractEnd
 
--- a job in segments: the outcome of each one is the source of the next; the earlier jobs that it names; and what it gives in
--- place of a fault, if anything
+-- a job in segments: the outcome of each one is the source of the next; the earlier jobs that it names; and what it
+-- gives after a fault, if anything
 pub record AbstractPlan : Type 0 where
   pub name : List ℕ
   pub named : List Named
@@ -69,7 +69,7 @@ end_of (reduce f) = folding f None false
 end_of (reduce_from a f) = folding f (Some a) false
 end_of (find d) = finding d
 
--- the segments of stages and a terminal, after these stages, the first of which has this number
+-- the segments of stages and a terminal, after these stages; the first segment has this number
 abbrev pub segments_from : ℕ → List AbstractStage → List AbstractJobStage → AbstractTerminal → List AbstractSegment
 segments_from n gs [] d = record { first = n; stages = gs; ending = end_of d } ∷ []
 segments_from n gs (item g ∷ rest) d = segments_from n (gs ++ g ∷ []) rest d
@@ -81,7 +81,7 @@ abbrev pub placed : List ℕ → Option ℕ → List Named
 placed name None = []
 placed name (Some place) = record { name = name; job = place } ∷ []
 
--- those of several names that are among the names of earlier jobs, with the place of the first job of that name
+-- the names among the names of earlier jobs, each with the place of the first job of that name
 abbrev pub all_placed : List (List ℕ) → List (List ℕ) → List Named
 all_placed before [] = []
 all_placed before (name ∷ names) = placed name (place_of before name) ++ all_placed before names
@@ -135,7 +135,7 @@ abbrev pub on_outcome : Outcome → (Trace → Answer) → Answer
 on_outcome (outcome.Source t) later = later t
 on_outcome (outcome.Answer a) later = a
 
--- the answer of segments, each of which takes what the one before it gives; there is at least one
+-- the answer of segments, where each takes what the one before it gives; there is at least one
 abbrev pub segments_answer : List AbstractSegment → Numbers → Trace → Answer
 segments_answer [] env t = answer.Number (pos 0)
 segments_answer (s ∷ ss) env t = on_outcome (outcome_of s env t) (segments_answer ss env)

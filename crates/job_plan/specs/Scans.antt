@@ -1,4 +1,4 @@
--- Condition: the part of a prefix, and the walk that it gives, kept in pieces.
+-- Condition: the part of a prefix, and its walk, in pieces.
 use Rattle.std.specs.Prelude.{◌≡◌, ℕ, ◌+◌, ◌<◌, ◌≤◌, ◌^◌, ℤ, List, [], ◌∷◌, length, flat_map, All, Option, None}
 use Rattle.trace.specs.declared.item.Item.{Item}
 use Rattle.trace.specs.declared.item.End.TheVariants as end
@@ -26,7 +26,7 @@ scan f r n t = record { op = f; range = r; stage = n; walk = t }
 abbrev pub scan_append : AbstractScan → Trace → AbstractScan
 scan_append s u = scan s.op s.range s.stage (append s.walk u)
 
--- the items of a piece, and those of several
+-- the items of a piece, and the items of several pieces
 abbrev pub items_of : FoldedPiece → List Item
 items_of p = items_in p.items
 

@@ -13,12 +13,12 @@ module _ {S : Type 0} (h : S → List Item → Type 0) (walk : List Item → Tra
   abbrev pub IsWalked : List Item → S → Fed → S → Type 0
   IsWalked ys s r t = (xs : List Item) → h s xs → IsFed h xs (walk ys) (Ok r) t
 
-  -- if the walk wasn't cut, it is that of all these items
+  -- if the walk wasn't cut, all these items were walked
   abbrev pub IsWhole : List Item → S → Option Fed → S → Type 0
   IsWhole ys s (Some r) t = IsWalked ys s r t
   IsWhole ys s None t = ⊤
 
-  -- if it was, it is that of the items before a place that is at or after one that decides
+  -- if it was, the items before a place at or after one that decides were walked
   abbrev pub IsCut : (ℕ → Type 0) → List Item → ℕ → Option ℕ → S → Option Fed → S → Type 0
   IsCut decides items from to s (Some r) t = ⊤
   IsCut decides items from to s None t = (p : ℕ) × (from ≤ p) × IsNotAfter p to × IfNone to (p ≤ length items) × ((c : ℕ) × decides c × (c ≤ p)) × IsWalked (elements from (Some p) items) s fed.More t

@@ -1,4 +1,4 @@
--- Meaning: slices before every other stage of a job, which select positions of its sources.
+-- Design: slices that select positions of a job's sources.
 use Rattle.std.specs.Prelude.{ℕ, zero, suc, Bool, true, false, List, [], ◌∷◌, Option, Some, None, if◌then◌else◌}
 use Rattle.trace.specs.Stages.{AbstractStage}
 use Rattle.trace.specs.Trace.{Trace, trace}
@@ -7,8 +7,8 @@ use Rattle.job_plan.specs.Pieces.{elements}
 use Rattle.job_plan.specs.Plans.{AbstractEnd, AbstractSegment, AbstractPlan, slice_in}
 use Rattle.job_meaning.specs.Walks.{source_walk}
 
--- whether a stage selects positions, and leaves the end of the walk over a job's sources as it is: `skip`, and `limit` of at
--- least one item. `limit(0)` takes the fault of sources that are too long away
+-- whether a stage selects positions, and leaves the end of the walk over a job's sources as it is: `skip`, and `limit`
+-- of at least one item. `limit(0)` takes the fault of sources that are too long away
 abbrev pub slice_selects : AbstractSlice → Bool
 slice_selects (limit zero) = false
 slice_selects (limit (suc n)) = true
@@ -16,7 +16,7 @@ slice_selects (skip n) = true
 slice_selects (take_while p) = false
 slice_selects (drop_while p) = false
 
--- helper: whether such a stage is there, and does
+-- helper: whether there is a slice, and it selects positions
 abbrev pub some_selects : Option AbstractSlice → Bool
 some_selects None = false
 some_selects (Some d) = slice_selects d
@@ -34,14 +34,14 @@ abbrev pub later_segments : List AbstractSegment → List AbstractSegment
 later_segments [] = []
 later_segments (s ∷ ss) = if selects s.stages s.ending then later_segments ss else s ∷ ss
 
--- what such a segment makes of a walk
+-- what a segment that ends in this slice makes of a walk
 abbrev pub slice_selected : AbstractSlice → Trace → Trace
 slice_selected (limit n) t = limited n t
 slice_selected (skip n) t = skipped n t
 slice_selected (take_while p) t = t
 slice_selected (drop_while p) t = t
 
--- helper: what such a stage makes of it, if it is there
+-- helper: what the slice makes of it, if there is one
 abbrev pub some_selected : Option AbstractSlice → Trace → Trace
 some_selected None t = t
 some_selected (Some d) t = slice_selected d t

@@ -14,7 +14,8 @@ use trace::{End, NoMemory, SourceItems};
 
 /// The values of a piece, without the places of its items, and how the walk ended. Contracts see just that.
 ///
-/// The values are stored in pieces: those of a batch are copied at once, and joining two parts moves the pieces and no value.
+/// The values are stored in pieces: the values of a batch are copied at once, and joining two parts moves the pieces
+/// and no value.
 #[derive(Drop)]
 pub struct ArrayPart {
     pieces: Vec<Vec<i64>>,
@@ -76,7 +77,8 @@ impl ArrayPart {
 
     /// Goes on with another part. It moves the pieces of `right` and no value.
     ///
-    /// A part that ends in a fault stays as it is. If the allocation fails, `right` comes back and the part stays as it was.
+    /// A part that ends in a fault stays as it is. If the allocation fails, `right` comes back and the part stays as it
+    /// was.
     pub(crate) fn append(&mut self, mut right: ArrayPart) -> Result<(), ArrayPart>
         ensures ok { OnOk result (self.new ≡ array_append self.old right) }
         ensures err { OnErr result (self.new ≡ self.old) }

@@ -12,11 +12,12 @@ use lambda_values::{BinaryOperator, BoolExpr, Env, Faults, LongExpr};
 use std::alloc::Global;
 use trace::Stage;
 
-/// How many operators the maps have at most. What they make of a value is computed twice: for the fold of a piece, and where the
-/// piece is read. Up to about this many, that takes less time than to write 8 bytes for each value and to read them again.
+/// How many operators the maps have at most. What they make of a value is computed twice: for the fold of a piece, and
+/// where the piece is read. Up to about this many, that takes less time than to write 8 bytes for each value and to
+/// read them again.
 const MOST_OPERATORS: u32 = 4;
 
-/// Maps, one after the other, none of which can have a fault or names an earlier job. There may be none.
+/// Maps, one after the other. Each names no earlier job and can't have a fault. There may be none.
 #[derive(Clone, Copy)]
 pub struct Maps<'a> {
     alloc: Global,
@@ -26,7 +27,7 @@ pub struct Maps<'a> {
 }
 
 impl<'a> Maps<'a> {
-    /// These stages, if they are such maps and cheap.
+    /// These stages, if all of them are cheap maps that can't have a fault and name no earlier job.
     pub(crate) fn of(alloc: Global, stages: &'a [Stage]) -> Option<Maps<'a>>
         requires { length stages.now < 2 ^ 32 }
         ensures { IfSome result (λ maps. maps.stages.now ≡ stages.now) }
@@ -72,7 +73,7 @@ impl<'a> Maps<'a> {
     }
 }
 
-/// How many of these operators stages leave, if they are such maps.
+/// How many of these operators stages leave, if all of them are maps that can't have a fault and name no earlier job.
 fn after_stages(stages: &[Stage], operators: u32) -> Option<u32>
     ensures { IfSome result (λ _. ArePlain (stages_of stages.now)) }
 {
@@ -85,7 +86,7 @@ fn after_stages(stages: &[Stage], operators: u32) -> Option<u32>
     }
 }
 
-/// How many of these operators a stage leaves, if it is such a map.
+/// How many of these operators a stage leaves, if it is a map that can't have a fault and names no earlier job.
 fn after_stage(stage: &Stage, operators: u32) -> Option<u32>
     ensures { IfSome result (λ _. IsPlainStage (stage_of stage.now)) }
 {
@@ -123,7 +124,7 @@ fn after_long(expr: &LongExpr, operators: u32) -> Option<u32>
     }
 }
 
-/// The same of a test.
+/// How many of these operators a test leaves, if it names no earlier job and can't have a fault.
 #[cycle(cheap)]
 fn after_test(test: &BoolExpr, operators: u32) -> Option<u32>
     ensures { IfSome result (λ _. IsPlainTest (truth_of test.now)) }

@@ -17,15 +17,15 @@ pub(crate) trait Closing: BatchSink + Drop {
     /// What the sink makes.
     type Made;
 
-    // it stands for the walk that went into the sink
+    // it describes the walk that went into the sink
     ghost stands: { Self.Made → Trace → Type 0 };
 
     /// Whether the sink wants no further item.
     fn has_enough(&self) -> bool
         ensures { flow_of result ≡ Self.flow self.now };
 
-    /// What the sink makes of the items that it took, if the walk ends so after them. If the sink has enough, it makes the same
-    /// of any walk that begins with them.
+    /// What the sink makes of the items that it took, if the walk ends with `ending` after them. If the sink has
+    /// enough, it makes equal parts of all walks that begin with them.
     fn close(self, ending: End) -> Result<Self::Made, NoMemory>
         ensures closed { IfOk result (λ made. (xs : List Item) → Self.has_taken self xs → Self.stands made (append (trace xs end.Done) (trace [] ending))) }
         ensures enough { IfOk result (λ made. Self.flow self ≡ Flow.Enough → (xs : List Item) (later : Trace) → Self.has_taken self xs → Self.stands made (append (trace xs end.Done) later)) };

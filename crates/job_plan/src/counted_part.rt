@@ -1,4 +1,4 @@
-//! The part of a count after stages that leave as many items as they take: no item is looked at.
+//! The part of a count after stages that leave one item for each that they take: no item is looked at.
 
 ghost use Rattle.std.specs.Prelude.{◌≡◌, ◌≤◌, ◌^◌, List, IfSome, length, true};
 ghost use Rattle.lambda_values.specs.Earlier.{Numbers};
@@ -21,8 +21,8 @@ use crate::windows::Window;
 use reduce_ops::{Op, Partial};
 use trace::{End, Item, MAX_SOURCE_SIZE};
 
-/// The part of the items at these positions, if the segment counts them and its stages are maps that can't have a fault: it has the
-/// number of the positions. `None` also if the source has more than 2^62 items.
+/// The part of the items at these positions, if the segment counts them and its stages are maps that can't have a
+/// fault: it has the number of the positions. `None` also if the source has more than 2^62 items.
 ///
 /// It takes time for each stage, and for each source of the job, but not for the items.
 pub(crate) fn counted_part<'p>(
@@ -58,7 +58,7 @@ fn is_count(fold: Fold) -> bool
 }
 
 impl FoldPart {
-    /// The fold of this number of items, of a walk that ended so.
+    /// The fold of this number of items, of a walk with this end.
     fn of_count(fold: Fold, count: u64, ending: End) -> FoldPart
         requires adds { fold.op ≡ Op.Sum }
         requires counts { fold.counts ≡ true }

@@ -67,7 +67,8 @@ pub(crate) trait EndPart: Drop + Sized {
         ensures kind { may_search (as_part self.new) ≡ may_search (as_part self.old) }
         ensures keeps { keeps_items (as_part self.new) ≡ keeps_items (as_part self.old) };
 
-    /// Adds the values whose flag isn't 0, if the end is a fold by an operator that has an identity, and answers whether it is.
+    /// Adds the values whose flag isn't 0, if the end is a fold by an operator that has an identity, and answers
+    /// whether it is.
     fn push_flagged(&mut self, _values: &[i64], _flags: &[i64]) -> bool
         requires open { is_settled (as_part self.old) ≡ false }
         requires flagged { length _flags.now ≤ length _values.now }
@@ -82,7 +83,7 @@ pub(crate) trait EndPart: Drop + Sized {
         false
     }
 
-    /// Ends the piece so, unless it is settled. It takes no memory.
+    /// Ends the piece as said, unless it is settled. It takes no memory.
     fn end_with(&mut self, ending: End)
         ensures stands { (e : AbstractEnd) (stage : ℕ) (env : Numbers) (t : Trace) → EndsFor e stage env (as_part self.old) t
             → EndsFor e stage env (as_part self.new) (append t (trace [] ending)) }

@@ -1,8 +1,11 @@
 //! What ends a segment, and all that is asked of it but its parts.
 
-ghost use Rattle.std.specs.Prelude.{◌≡◌, None, Some, IfNone, IfSome};
+ghost use Rattle.std.specs.Prelude.{◌≡◌, None, Some, IfNone, IfSome, option_map};
 ghost use Rattle.slice_ops.specs.Slices.{slice_of};
+ghost use Rattle.find_ops.specs.Finds.{find_of};
 ghost use Rattle.job_language.specs.Jobs.{terminal_of};
+ghost use Rattle.lambda_values.specs.Term.{truth_of};
+ghost use Rattle.job_plan.specs.EndRows.{end_test, find_test, slice_test, takes_flags};
 ghost use Rattle.job_plan.specs.Parts.{end_in, fallback_in};
 ghost use Rattle.job_plan.specs.Plans.{end_of, gives_walk, slice_in};
 ghost use Rattle.job_meaning.specs.Walks.{number_as};
@@ -20,7 +23,7 @@ pub struct Fold {
     pub op: Op,
     /// What is folded before the first value: the answer is then a number, else an optional.
     pub start: Option<i64>,
-    /// Whether a 1 stands for each value.
+    /// Whether each value counts as 1.
     pub counts: bool,
 }
 
@@ -28,7 +31,7 @@ pub struct Fold {
 #[derive(Clone, Copy)]
 pub struct Prefix {
     pub op: Op,
-    /// The positions of the walk, from the first up to, not with, the second, at which it does so; without them, all.
+    /// The positions of the walk at which it does so, from the first up to, not with, the second; without them, all.
     pub range: Option<(u64, u64)>,
 }
 
@@ -52,14 +55,14 @@ pub enum SegmentEnd {
 /// What is asked of an end of any kind, apart from its parts.
 #[derive(Clone, Copy)]
 pub(crate) struct EndRow<'e> {
-    /// The stage that looks at a whole walk, if such a stage is the end.
+    /// The stage that looks at a whole walk, if the segment ends in one.
     slice: Option<&'e Slice>,
     /// Whether it makes a walk of a walk, over which the next segment goes.
     gives_walk: bool,
     /// The test that it asks of items while it takes them, if it asks one.
     pub(crate) test: Option<&'e BoolExpr>,
-    /// Whether the items of lanes with flags are to be given with their flags: to a fold, which then moves no value, and to
-    /// `findFirst`, which the first flag decides.
+    /// Whether the items of lanes with flags are to be given with their flags: to a fold, which then moves no value,
+    /// and to `findFirst`, which the first flag decides.
     pub(crate) takes_flags: bool,
 }
 
@@ -81,7 +84,7 @@ impl SegmentEnd {
         }
     }
 
-    /// The stage that looks at a whole walk, if such a stage is the end.
+    /// The stage that looks at a whole walk, if the segment ends in one.
     pub fn slice(&self) -> Option<&Slice>
         ensures some { IfSome result (λ slice. slice_in (end_in self.now) ≡ Some (slice_of slice.now)) }
         ensures none { IfNone result (slice_in (end_in self.now) ≡ None) }
@@ -89,7 +92,7 @@ impl SegmentEnd {
         self.row().slice
     }
 
-    /// Whether it makes a walk of a walk, over which the next segment goes. Others give the answer of the job.
+    /// Whether it makes a walk of a walk; the next segment goes over it. Other ends give the answer of the job.
     pub fn gives_walk(&self) -> bool
         ensures { result ≡ gives_walk (end_in self.now) }
     {
@@ -101,6 +104,8 @@ impl SegmentEnd {
         ensures some { IfSome result.slice (λ slice. slice_in (end_in self.now) ≡ Some (slice_of slice.now)) }
         ensures none { IfNone result.slice (slice_in (end_in self.now) ≡ None) }
         ensures walk { result.gives_walk ≡ gives_walk (end_in self.now) }
+        ensures test { option_map (λ test. truth_of test.now) result.test ≡ end_test (end_in self.now) }
+        ensures flags { result.takes_flags ≡ takes_flags (end_in self.now) }
     {
         match self {
             SegmentEnd::Slice(slice) => EndRow {
@@ -138,15 +143,19 @@ impl SegmentEnd {
 }
 
 /// The test that a slice asks of items while it takes them, if it asks one.
-fn test_of_slice(slice: &Slice) -> Option<&BoolExpr> {
+fn test_of_slice(slice: &Slice) -> Option<&BoolExpr>
+    ensures { option_map (λ test. truth_of test.now) result ≡ slice_test (slice_of slice.now) }
+{
     match slice {
         Slice::TakeWhile(test) => Some(test),
         Slice::Limit(_) | Slice::Skip(_) | Slice::DropWhile(_) => None,
     }
 }
 
-/// The same of a find or a match.
-fn test_of_find(find: &FindTerminal) -> Option<&BoolExpr> {
+/// The test that a match asks of items; `findFirst` asks none.
+fn test_of_find(find: &FindTerminal) -> Option<&BoolExpr>
+    ensures { option_map (λ test. truth_of test.now) result ≡ find_test (find_of find.now) }
+{
     match find {
         FindTerminal::AnyMatch(test)
         | FindTerminal::AllMatch(test)
@@ -162,18 +171,16 @@ fn folding(op: Op, start: Option<i64>, counts: bool) -> SegmentEnd
     SegmentEnd::Fold(Fold { op, start, counts })
 }
 
-/// A number as a terminal gives it, where it stands in place of a fault.
-pub(crate) fn number_as(terminal: &Terminal, number: i64) -> Fallback
-    ensures { fallback_in result ≡ number_as (terminal_of terminal.now) number }
+/// The number of `onFault`, in the form in which the terminal gives numbers; none after an array and after a match.
+pub(crate) fn number_as(terminal: &Terminal, number: i64) -> Option<Fallback>
+    ensures { option_map fallback_in result ≡ number_as (terminal_of terminal.now) number }
 {
     match terminal {
         Terminal::Sum | Terminal::Count | Terminal::ReduceFrom { .. } | Terminal::ExactSum => {
-            Fallback::Number(number)
+            Some(Fallback::Number(number))
         }
-        Terminal::Min
-        | Terminal::Max
-        | Terminal::ToArray
-        | Terminal::Reduce(_)
-        | Terminal::Find(_) => Fallback::Optional(number),
+        Terminal::Min | Terminal::Max | Terminal::Reduce(_) | Terminal::Find(FindTerminal::First) =>
+            Some(Fallback::Optional(number)),
+        Terminal::ToArray | Terminal::Find(_) => None,
     }
 }

@@ -1,16 +1,16 @@
-//! What a job gives in place of a fault.
+//! What a job gives after a fault.
 
 ghost use Rattle.std.specs.Prelude.{◌≡◌, option_map};
 ghost use Rattle.job_language.specs.Jobs.{terminal_of};
 ghost use Rattle.job_plan.specs.Parts.{fallback_in, plan_in};
-ghost use Rattle.job_meaning.specs.Walks.{instead_of_fault, number_as};
+ghost use Rattle.job_meaning.specs.Walks.{fallback_as, instead_of_fault};
 
 use crate::ends::number_as;
 use crate::segment::JobPlan;
 use job_language::Terminal;
 use job_meaning::Answer;
 
-/// What a job gives in place of a fault, in the form of what its terminal gives.
+/// What a job gives after a fault, in the form in which its terminal answers.
 #[derive(Clone, Copy)]
 pub enum Fallback {
     /// Of `sum`, `count`, and `reduce` from a number.
@@ -31,18 +31,19 @@ impl Fallback {
     }
 }
 
-/// What stands in place of a fault, if a number does: this number, as the terminal gives numbers.
+/// The fallback of a job whose `onFault` has this number, in the form in which the terminal gives numbers; none without
+/// a number.
 pub(crate) fn fallback_of(terminal: &Terminal, number: Option<i64>) -> Option<Fallback>
-    ensures { option_map fallback_in result ≡ option_map (number_as (terminal_of terminal.now)) number }
+    ensures { option_map fallback_in result ≡ fallback_as (terminal_of terminal.now) number }
 {
     match number {
-        Some(number) => Some(number_as(terminal, number)),
+        Some(number) => number_as(terminal, number),
         None => None,
     }
 }
 
 impl<'c> JobPlan<'c> {
-    /// The answer of the job, by what its segments give: the fallback, if there is one, stands in place of a fault.
+    /// The answer of the job, by what its segments give: the fallback instead of a fault, if the job has one.
     pub fn without_fault(&self, given: Answer) -> Answer
         ensures { result ≡ instead_of_fault (plan_in self.now).fallback given }
     {

@@ -57,7 +57,7 @@ pub(crate) fn never_faults(expr: &LongExpr) -> bool
     }
 }
 
-/// The same of a test.
+/// Whether no operator of a test can have a fault.
 #[cycle(faultless)]
 pub(crate) fn test_never_faults(test: &BoolExpr) -> bool
     ensures { result ≡ test_never_faults (truth_of test.now) }

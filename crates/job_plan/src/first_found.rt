@@ -42,7 +42,7 @@ fn is_first(fold: Fold) -> bool
     matches!(fold.op, Op::First) && fold.start.is_none() && !fold.counts
 }
 
-/// Whether the end of a segment is such a fold.
+/// Whether a segment ends in a fold that keeps the first value.
 fn keeps_first(end: &SegmentEnd) -> bool
     ensures { result ≡ true → end_in end.now ≡ folding Op.First None false }
 {
@@ -78,7 +78,7 @@ fn last_may_find(segments: &[Segment]) -> bool
     last_may_find(later)
 }
 
-/// These segments, of which the last one finds the first value if it may.
+/// These segments; the last one finds the first value if it may.
 pub(crate) fn with_first_found(segments: Vec<Segment>) -> Result<Vec<Segment>, NoMemory>
     ensures { IfOk result (λ found. SameOfClean (segments_in found.items) (segments_in segments.items)) }
 {

@@ -81,7 +81,7 @@ impl<'a> FoldedPiece<'a> {
         })
     }
 
-    /// The same of what maps make of values that are lent. It stores none of them.
+    /// The piece of what maps make of lent values, at places that count up from this one. It stores none of them.
     pub(crate) fn lent(
         op: Op,
         maps: Maps<'a>,
@@ -102,7 +102,8 @@ impl<'a> FoldedPiece<'a> {
         }
     }
 
-    /// The same of integers that count up.
+    /// The piece of what maps make of integers that count up, at places that count up from this one. It stores none of
+    /// them.
     pub(crate) fn counted(
         op: Op,
         maps: Maps<'a>,
@@ -136,8 +137,8 @@ impl<'a> FoldedPiece<'a> {
         }
     }
 
-    /// Adds the items of a source, which have this fold, and answers `true`; or `false` if the piece has no space for them
-    /// or doesn't list its items. If an allocation fails, the piece stays as it was.
+    /// Adds the items of a source, which have this fold, and answers `true`; or `false` if the piece has no space for
+    /// them or doesn't list its items. If an allocation fails, the piece stays as it was.
     pub(crate) fn add<I: SourceItems>(
         &mut self,
         op: Op,
@@ -164,8 +165,8 @@ impl<'a> FoldedPiece<'a> {
         Ok(true)
     }
 
-    /// Adds values at places that count up from this one, and answers `true`; or `false` if the piece has no space for them or
-    /// doesn't store values up to that place. If an allocation fails, the piece stays as it was.
+    /// Adds values at places that count up from this one, and answers `true`; or `false` if the piece has no space for
+    /// them or doesn't store values up to that place. If an allocation fails, the piece stays as it was.
     pub(crate) fn add_run(&mut self, op: Op, place: u64, values: &[i64]) -> Result<bool, NoMemory>
         requires folded { IsFolded op self.old }
         requires few { length values.now ≤ 4096 }

@@ -34,7 +34,8 @@ pub(crate) struct Scan {
     pub(crate) start: Option<i64>,
 }
 
-/// A prefix of the items of a piece: the positions of the piece at which it folds, and the fold of what lies left of the piece.
+/// A prefix of the items of a piece: the positions of the piece at which it folds, and the fold of what lies left of
+/// the piece.
 #[derive(Clone, Copy)]
 struct PieceScan {
     op: Op,

@@ -27,7 +27,7 @@ pub(crate) fn folded(op: Op, counts: bool, values: &[i64]) -> Partial
     }
 }
 
-/// The same as a number; `None` without values.
+/// The fold of values, or of a 1 for each of them, as a number; `None` without values.
 fn fold_values(op: Op, counts: bool, values: &[i64]) -> Option<i64>
     ensures { result ≡ folded_values (value_of op) counts values.now }
 {
@@ -45,7 +45,8 @@ fn fold_values(op: Op, counts: bool, values: &[i64]) -> Option<i64>
     }
 }
 
-/// The same by one operator, from the first value to the last one.
+/// The fold of values, or of a 1 for each of them, by one operator, from the first value to the last one; `None`
+/// without values.
 fn fold_each(op: Op, counts: bool, values: &[i64]) -> Option<i64>
     ensures { result ≡ folded_values (value_of op) counts values.now }
 {
@@ -53,18 +54,18 @@ fn fold_each(op: Op, counts: bool, values: &[i64]) -> Option<i64>
     Some(fold_from(op, counts, counted_value(counts, *first), later))
 }
 
-/// How many of the last values `fold_backwards` folds first. A product is 0 modulo 2^64 once its values have 64 factors of 2.
-/// Of integers that count up 66 always have them, of others 98 nearly always. Half of them are 48 after a first value, a
-/// multiple of what a loop over vectors takes at a time.
+/// How many of the last values `fold_backwards` folds first. A product is 0 modulo 2^64 once its values have 64 factors
+/// of 2. Of integers that count up 66 always have them, of others 98 nearly always. Half of them are 48 after a first
+/// value, a multiple of what a loop over vectors takes at a time.
 const LAST_BLOCK: usize = 98;
 
-/// How many times as long as a block the one before it is. So a batch has two blocks at most, and if all its values count, the
-/// loop over the long one is nearly as fast as one over all. Blocks of one length took up to twice as long.
+/// How many times as long as a block the one before it is. So a batch has two blocks at most, and if all its values
+/// count, the loop over the long one is nearly as fast as one over all. Blocks of one length took up to twice as long.
 const BLOCK_GROWTH: usize = 16;
 
-/// The same from the last values backwards, a block at a time, until the fold is the same with any values before it. It is for
-/// the operators that multiply: loops of the others are as fast as reading the values. The fold of the batches before isn't
-/// looked at, since with values that make it 0 the last block of this one is nearly always 0, too.
+/// The fold of values, from the last ones backwards, a block at a time, until no value before can change it. It is for
+/// the operators that multiply: the loops of the others are as fast as reading the values. The fold of the batches
+/// before isn't looked at: where it is 0, the last block of this batch is nearly always 0, too.
 fn fold_backwards(op: Op, counts: bool, values: &[i64]) -> Option<i64>
     ensures { result ≡ folded_values (value_of op) counts values.now }
 {
@@ -85,8 +86,7 @@ fn fold_backwards(op: Op, counts: bool, values: &[i64]) -> Option<i64>
     folded
 }
 
-/// Whether the fold of some values is the same with any values before them: a product that is 0, and an affine map whose
-/// factor is 0.
+/// Whether no value before some values can change their fold: a product that is 0, and an affine map whose factor is 0.
 fn hides_what_comes_before(op: Op, folded: Option<i64>) -> bool
     ensures { result ≡ true → (a : Option ℤ) → joined_value (value_of op) a folded ≡ folded }
 {
@@ -105,8 +105,8 @@ fn fold_block(op: Op, counts: bool, values: &[i64]) -> Option<i64>
     Some(fold_halves(op, counts, counted_value(counts, *first), later))
 }
 
-/// Folds values onto a start, each half of them by itself: so no product of one half waits for one of the other. The halves
-/// are merged in their order, since every operator is associative, but not every one is commutative.
+/// Folds values onto a start, each half of them by itself: so no product of one half waits for one of the other. The
+/// halves are merged in their order, since every operator is associative, but not every one is commutative.
 fn fold_halves(op: Op, counts: bool, start: i64, values: &[i64]) -> i64
     ensures { result ≡ fold (λ a v. value_of op a (each_one counts v)) start values.now }
 {
@@ -156,27 +156,30 @@ pub(crate) fn folded_flagged(op: Op, counts: bool, values: &[i64], flags: &[i64]
     })
 }
 
-/// The same as a number; `None` if no flag is set.
+/// The fold of the values whose flag isn't 0, or of a 1 for each of them, as a number; `None` if no flag is set. The loops
+/// know their identity, and whether they count.
 fn fold_flagged(op: Op, counts: bool, identity: i64, values: &[i64], flags: &[i64]) -> Option<i64>
     requires identity { identity_of op ≡ Some identity }
     requires values { length flags.now ≤ length values.now }
     ensures { result ≡ folded_values (value_of op) counts (flagged_values values.now flags.now (length flags.now)) }
 {
     match op {
-        Op::Sum => fold_each_flagged(Op::Sum, counts, identity, values, flags),
-        Op::Min => fold_each_flagged(Op::Min, counts, identity, values, flags),
-        Op::Max => fold_each_flagged(Op::Max, counts, identity, values, flags),
-        Op::Product => fold_flagged_backwards(Op::Product, counts, identity, values, flags),
-        Op::And => fold_each_flagged(Op::And, counts, identity, values, flags),
-        Op::Or => fold_each_flagged(Op::Or, counts, identity, values, flags),
-        Op::Xor => fold_each_flagged(Op::Xor, counts, identity, values, flags),
-        Op::Affine => fold_flagged_backwards(Op::Affine, counts, identity, values, flags),
+        Op::Sum if counts => fold_each_flagged(Op::Sum, true, 0, values, flags),
+        Op::Sum => fold_each_flagged(Op::Sum, false, 0, values, flags),
+        Op::Min => fold_each_flagged(Op::Min, counts, i64::MAX, values, flags),
+        Op::Max => fold_each_flagged(Op::Max, counts, i64::MIN, values, flags),
+        Op::Product => fold_flagged_backwards(Op::Product, counts, 1, values, flags),
+        Op::And => fold_each_flagged(Op::And, counts, -1, values, flags),
+        Op::Or => fold_each_flagged(Op::Or, counts, 0, values, flags),
+        Op::Xor => fold_each_flagged(Op::Xor, counts, 0, values, flags),
+        Op::Affine => fold_flagged_backwards(Op::Affine, counts, 1 << 32, values, flags),
         Op::First => fold_each_flagged(Op::First, counts, identity, values, flags),
         Op::Last => fold_each_flagged(Op::Last, counts, identity, values, flags),
     }
 }
 
-/// The same by one operator, from the last values backwards, as `fold_backwards`.
+/// The fold of the values whose flag isn't 0, by one operator, from the last values backwards, as in `fold_backwards`;
+/// `None` if no flag is set.
 fn fold_flagged_backwards(
     op: Op,
     counts: bool,
@@ -206,8 +209,8 @@ fn fold_flagged_backwards(
     folded
 }
 
-/// The same by one operator. In the place of a value whose flag isn't set it folds the identity, and it reads each value
-/// before it looks at the flag: so no lane needs a branch.
+/// The fold of the values whose flag isn't 0, by one operator; `None` if no flag is set. For a value whose flag isn't
+/// set it folds the identity. It reads each value before it looks at the flag, so no lane needs a branch.
 fn fold_each_flagged(
     op: Op,
     counts: bool,
@@ -219,19 +222,23 @@ fn fold_each_flagged(
     requires values { length flags.now ≤ length values.now }
     ensures { result ≡ folded_values (value_of op) counts (flagged_values values.now flags.now (length flags.now)) }
 {
-    let mut passed: usize = 0;
+    let mut missed: usize = 0;
     let mut folded = identity;
     for lane in 0..flags.len() {
         let passes = is_set(flags[lane]);
-        passed += if passes { 1 } else { 0 };
+        missed += if passes { 0 } else { 1 };
         let taken = counted_value(counts, values[lane]);
         let value = if passes { taken } else { identity };
         folded = op.apply(folded, value);
     }
-    if passed == 0 { None } else { Some(folded) }
+    if missed == flags.len() {
+        None
+    } else {
+        Some(folded)
+    }
 }
 
-/// Two folds side by side, each of which may be of no item.
+/// The fold of two folds side by side. Each of them may be of no item.
 pub(crate) fn joined(op: Op, left: Option<i64>, right: Option<i64>) -> Option<i64>
     ensures { result ≡ joined_value (value_of op) left right }
 {

@@ -13,8 +13,8 @@ const MOST_PIECES: usize = 8_192;
 
 /// The walk that a segment gave, as the source of the next one, in which any number of leaves look for their positions.
 ///
-/// Contracts see the trace of that walk. It has at most 8,192 pieces if there was memory to make it so, and knows how many
-/// items it has. After a prefix it may borrow the sources of the job.
+/// Contracts see the trace of that walk. It has at most 8,192 pieces if there was memory to make it so, and knows how
+/// many items it has. After a prefix it may borrow the sources of the job.
 #[derive(Drop)]
 pub struct GivenWalk<'a> {
     pub(crate) kept: Kept<'a>,
@@ -34,8 +34,8 @@ impl<'a> Model for GivenWalk<'a> {
 }
 
 impl<'a> GivenWalk<'a> {
-    /// Keeps a chunk. The items of more than 8,192 pieces are copied into one, 16 bytes each; if the allocation fails, they
-    /// stay as they are.
+    /// Keeps a chunk. The items of more than 8,192 pieces are copied into one, 16 bytes each; if the allocation fails,
+    /// they stay as they are.
     pub fn of(alloc: Global, chunk: Chunk) -> GivenWalk<'a>
         ensures { result ≡ chunk }
     {
@@ -76,7 +76,7 @@ impl<'a> GivenWalk<'a> {
     }
 }
 
-/// The same walk. Of many pieces it makes one, if there is memory for it.
+/// This walk, in one piece if it has many pieces and there is memory for one.
 fn in_few_pieces(alloc: Global, chunk: Chunk) -> Chunk
     ensures { result ≡ chunk }
 {
@@ -89,7 +89,7 @@ fn in_few_pieces(alloc: Global, chunk: Chunk) -> Chunk
     }
 }
 
-/// The same walk in one piece, each item copied.
+/// This walk in one piece, each item copied.
 fn joined(alloc: Global, chunk: &Chunk) -> Result<Chunk, NoMemory>
     ensures { IfOk result (λ joined. joined ≡ chunk.now) }
 {

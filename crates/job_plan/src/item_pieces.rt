@@ -14,7 +14,8 @@ use crate::windows::Window;
 use batch_eval::{BatchSink, Pipeline, Registers, feed_batches};
 use trace::{Fed, Flow, Item, NoMemory};
 
-/// Takes the items at these positions of pieces. It looks for the first of them once, and at no piece after the last one.
+/// Takes the items at these positions of pieces. It looks for the first of them once, and at no piece after the last
+/// one.
 pub(crate) fn feed_pieces<S: BatchSink>(
     line: Pipeline<'_>,
     pieces: &[Vec<Item>],

@@ -26,10 +26,10 @@ use trace::{End, Fed, NoMemory};
 
 /// The part of the items at these positions of the source of a segment.
 ///
-/// A piece without `window.to` ends as the source does. The walk goes by batches, which begin with 16 items and have 1,024 at
-/// most; it stops after the batch in which nothing more matters. Only the parts of slices, arrays and prefixes need
-/// memory, for the items that they keep. If registers for batches aren't to be had, the walk goes item by item. A count
-/// after maps that can't have a fault needs no walk: it takes the number of the positions.
+/// A piece without `window.to` ends as the source does. The walk goes by batches, which begin with 16 items and have
+/// 1,024 at most; it stops after the batch in which nothing more matters. Only the parts of slices, arrays and prefixes
+/// need memory, for the items that they keep. If registers for batches aren't to be had, the walk goes item by item. A
+/// count after maps that can't have a fault needs no walk: it takes the number of the positions.
 ///
 /// For other programs: a worker of `streamrun` asks on its way whether the walk may stop, by `leaf_until`.
 pub fn leaf<'p>(
@@ -45,7 +45,8 @@ pub fn leaf<'p>(
     leaf_with(alloc, segment, walked, window, &mut registers)
 }
 
-/// The same with the registers of a worker, which it uses for all its leaves. For other programs, as `leaf`.
+/// The part of the items at these positions of the source of a segment, as `leaf` gives it, with the registers of a
+/// worker, which uses them for all its leaves. For other programs, as `leaf`.
 pub fn leaf_with<'p>(
     alloc: Global,
     segment: &'p Segment,
@@ -62,7 +63,7 @@ pub fn leaf_with<'p>(
     leaf_copied(alloc, segment, walked, window, registers)
 }
 
-/// The same, of a source that may be gone before the part is: the part borrows none of its values.
+/// The part of the items at these positions, which borrows no value of the source: the source may go before the part.
 pub(crate) fn leaf_copied<'p>(
     alloc: Global,
     segment: &'p Segment,
@@ -95,7 +96,8 @@ pub fn leaf_in_order<'p>(
     leaf_from(none, segment, walked, Window::all(), registers)
 }
 
-/// The part of what this part stands for and then of the items at these positions. It borrows none of the values of the source.
+/// The part of the items of a given part and then of the items at these positions. It borrows none of the values of the
+/// source.
 pub(crate) fn leaf_from<'p>(
     part: Part<'p>,
     segment: &'p Segment,
@@ -111,7 +113,8 @@ pub(crate) fn leaf_from<'p>(
     leaf_as::<Brand>(part, segment, walked, window, registers)
 }
 
-/// The same, for an end that contracts can name.
+/// The part of the items of a given part and then of the items at these positions, for an end whose type contracts can
+/// name.
 fn leaf_as<'p, K: Ending>(
     part: Part<'p>,
     segment: &'p Segment,
@@ -147,8 +150,8 @@ fn leaf_as<'p, K: Ending>(
     Ok(sink.part)
 }
 
-/// The same, unless `stop` names a place that decides what the segment gives: then the walk may end at that place or later. It looks for
-/// one every 65,536 positions.
+/// The part of the items at these positions, unless `stop` names a place that decides what the segment gives: then the
+/// walk may end at that place or later. It looks for one every 65,536 positions.
 pub fn leaf_until<'p, W: Stop>(
     alloc: Global,
     segment: &'p Segment,
@@ -167,7 +170,7 @@ pub fn leaf_until<'p, W: Stop>(
     leaf_stored(alloc, segment, walked, window, registers, stop)
 }
 
-/// The same, of a source that may be gone before the part is: the part borrows none of its values.
+/// The part that `leaf_until` gives, but it borrows no value of the source: the source may go before the part.
 pub fn leaf_stored<'p, W: Stop>(
     alloc: Global,
     segment: &'p Segment,
@@ -187,7 +190,7 @@ pub fn leaf_stored<'p, W: Stop>(
     leaf_until_as::<Brand, W>(none, segment, walked, window, registers, stop)
 }
 
-/// The same, for an end that contracts can name.
+/// The part that `leaf_until` gives, after a given part, for an end whose type contracts can name.
 fn leaf_until_as<'p, K: Ending, W: Stop>(
     part: Part<'p>,
     segment: &'p Segment,

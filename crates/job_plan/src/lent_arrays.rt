@@ -5,7 +5,8 @@ use std::alloc::Global;
 use trace::NoMemory;
 
 impl Plan<'_> {
-    /// Whether a later job goes over the array of this one. A run then puts it in one piece when it is there. No answer rests on this.
+    /// Whether a later job goes over the array of this one. A run then puts it in one piece when it is there. No answer
+    /// depends on it.
     pub fn lends(&self, job: usize) -> bool {
         self.lent.get(job).copied().unwrap_or(false)
     }

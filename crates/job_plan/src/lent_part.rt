@@ -1,4 +1,5 @@
-//! The part of a prefix that nothing or cheap maps come before: it borrows the values of the job's sources and the maps.
+//! The part of a prefix that nothing or cheap maps come before: it borrows the values of the job's sources and the
+//! maps.
 
 ghost use Rattle.std.specs.Prelude.{◌≡◌, ◌+◌, ◌<◌, ◌≤◌, ◌^◌, pos, ◌+ℤ◌, length, take, drop, true, IfOk, IfSome, OnErr, OnOk};
 ghost use Rattle.lambda_values.specs.Earlier.{Numbers};
@@ -28,8 +29,8 @@ use job_language::PlainSource;
 use std::alloc::Global;
 use trace::NoMemory;
 
-/// The part of the items at these positions, if a prefix goes over the sources of a job with no stage but cheap maps before it. It
-/// takes memory for each 4,096 of them, and none for values.
+/// The part of the items at these positions, if a prefix goes over the sources of a job with no stage but cheap maps
+/// before it. It takes memory for each 4,096 of them, and none for values.
 pub(crate) fn lent_part<'p>(
     alloc: Global,
     segment: &'p Segment,
@@ -74,7 +75,7 @@ fn push_plain<'a>(
     push_sources(part, maps, plain.sources, 0, selected, registers)
 }
 
-/// Adds what maps make of the items at these positions of sources, of which the first item has the place `origin`.
+/// Adds what maps make of the items at these positions of sources. The first item has the place `origin`.
 fn push_sources<'a>(
     part: &mut PrefixPart<'a>,
     maps: Maps<'a>,

@@ -1,12 +1,12 @@
 //! Jobs cut into segments, and the parts of their walks.
 //!
-//! Stands on `job_meaning`, which says what the answer of a job is, on `job_language`, for jobs, on `trace` and `batch_eval`, for
-//! walks, and on `reduce_ops`, `slice_ops`, `find_ops` and `prefix_scan`, which make of a walk what stages and terminals ask. Used
-//! by whatever runs jobs.
-//! Begin with `specs/Plans.antt`. A job is cut into segments, and the earlier jobs that it names are found (`Plan::of`); `leaf` takes
-//! a piece of a segment's source to a `Part`, two parts side by side merge, and `Part::finish` gives the next source or the answer.
-//! `walk_tree` does all of this on one thread; `plan_laws.rt` says that it is the answer by stages, and that the jobs of a plan
-//! have the answers of their file.
+//! Stands on `job_meaning`, which says what the answer of a job is, on `job_language`, for jobs, on `trace` and
+//! `batch_eval`, for walks, and on `reduce_ops`, `slice_ops`, `find_ops` and `prefix_scan`, for what stages and
+//! terminals make of a walk. Used by whatever runs jobs.
+//! Begin with `specs/Plans.antt`. A job is cut into segments, and the earlier jobs that it names are found
+//! (`Plan::of`). `leaf` takes a piece of a segment's source to a `Part`, two parts side by side merge, and
+//! `Part::finish` gives the next source or the answer. `walk_tree` does all of this on one thread. `plan_laws.rt` says
+//! that this is the answer by stages, and that the jobs of a plan have the answers of their file.
 //! Not promised: that pieces are walked at the same time, or that a piece is walked no further than needed.
 #![tactic(auto)]
 
@@ -70,7 +70,7 @@ pub use ends::{Fold, Prefix, SegmentEnd};
 pub use fallback::Fallback;
 pub use fold_part::FoldPart;
 pub use given::GivenWalk;
-pub use job_meaning::{Answer, Values};
+pub use job_meaning::Answer;
 pub use leaves::{leaf, leaf_in_order, leaf_stored, leaf_until, leaf_with, unwalked};
 pub use outcome::Outcome;
 pub use part::Part;

@@ -18,7 +18,8 @@ fn likely_values(source: &PlainSource, before: &[JobPlan]) -> u64 {
     }
 }
 
-/// How many positions the first segment of a job has that is walked. No answer rests on it: it shares out nodes before a run.
+/// How many positions the first segment of a job has that is walked. No answer rests on it: it shares out nodes before
+/// a run.
 pub(crate) fn likely_size(
     sources: &[PlainSource],
     segments: &[Segment],

@@ -1,5 +1,5 @@
-//! A slice that comes after other stages, as a sink: what passes goes on at once, a batch at a time, through the stages after the
-//! slice and into the next sink. Nothing is kept.
+//! A slice that comes after other stages, as a sink: what passes goes on at once, a batch at a time, through the stages
+//! after the slice and into the next sink. Nothing is kept.
 
 ghost use Rattle.std.specs.Prelude.{◌≡◌, ◌-◌, ◌<◌, ◌≤◌, ◌^◌, ℕ, List, [], drop, length, map, take, ⊤};
 ghost use Rattle.lambda_values.specs.Earlier.{Numbers};
@@ -66,7 +66,7 @@ pub(crate) enum Passage {
 }
 
 impl Passage {
-    /// How a slice goes on of which this is left, after items that all went on.
+    /// The state of a slice after a batch whose items all passed. `rest` is what is left of the slice.
     pub(crate) fn of(rest: &SliceRest<'_>) -> Passage
         ensures { IsAfter fed.More end.Done (rest_of rest.now) result }
     {
@@ -97,7 +97,8 @@ pub(crate) struct Junction<'p, 'e> {
     pub(crate) env: &'e Env,
 }
 
-/// A sink that lets items pass as a slice does, and takes them through the stages of the next segment into the next sink.
+/// A sink that lets items pass as a slice does, and takes them through the stages of the next segment into the next
+/// sink.
 #[derive(Drop)]
 pub(crate) struct LinkSink<'p, 'e, K: LinkStart, S: Drop> {
     pub(crate) passing: Passing<'p, S>,
@@ -166,8 +167,8 @@ fn hand_on<I: BatchSource, S: BatchSink>(
     feed_at_once(line, &part, registers, sink)
 }
 
-/// Lets the items of a source, which have these values, pass as a slice does, and takes those that pass through the stages of the
-/// next segment.
+/// Lets the items of a source, which have these values, pass as a slice does, and takes those that pass through the
+/// stages of the next segment.
 fn pass<I: BatchSource, S: BatchSink + Drop>(
     passing: &mut Passing<'_, S>,
     junction: Junction,

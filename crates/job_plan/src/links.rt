@@ -73,7 +73,8 @@ fn ends_in_slice(end: &SegmentEnd) -> bool
 }
 
 impl<'c> JobPlan<'c> {
-    /// Whether the walk of the job's sources goes through slices that come after another stage, or that don't select positions.
+    /// Whether the walk of the job's sources goes through slices that come after another stage, or that don't select
+    /// positions.
     pub fn streams(&self) -> bool
         ensures { result ≡ plan_streams (plan_in self.now) }
     {
@@ -83,8 +84,8 @@ impl<'c> JobPlan<'c> {
         }
     }
 
-    /// The segments after these slices. `streamed` gives the part of the first of them; without such slices they are the
-    /// `later_segments`.
+    /// The segments after the slices that the walk of the job's sources goes through. `streamed` gives the part of the
+    /// first of them. If the walk goes through no slices, they are the `later_segments`.
     pub fn walked_segments(&self) -> &[Segment]
         ensures { segments_in result.now ≡ walked_segments (plan_in self.now) }
     {

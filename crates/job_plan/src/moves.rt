@@ -1,7 +1,7 @@
 //! Slices that come after maps alone.
 //!
-//! A map makes one item of each, so `limit` and `skip` after maps select positions of what the maps go over. They come first in
-//! the segments that are walked: no item is gathered for them, and the walk is cut among workers.
+//! A map makes one item of each, so `limit` and `skip` after maps select positions of what the maps go over. They come
+//! first in the segments that are walked: no item is gathered for them, and the walk is cut among workers.
 
 ghost use Rattle.std.specs.Prelude.{◌≡◌, ◌++◌, ◌∷◌, List, [], None, map, true, IfOk, OnOk};
 ghost use Rattle.trace.specs.Stages.{stage_of, stages_of};
@@ -40,7 +40,7 @@ pub(crate) fn all_keep(stages: &[Stage], faultless: bool) -> bool
     }
 }
 
-/// Whether the end of a segment is a slice that gives the same before the segment's stages.
+/// Whether a segment ends in a slice that may go before its stages and gives equal items there.
 fn comes_first(stages: &[Stage], end: &SegmentEnd) -> bool
     ensures { result ≡ comes_first (stages_of stages.now) (end_in end.now) }
 {
@@ -63,7 +63,7 @@ impl Held {
         }
     }
 
-    /// The maps, and stages after them. The number of the slice that stood between them goes to a map that changes nothing.
+    /// The maps, and stages after them. The number of the slice between them goes to a map that changes nothing.
     fn joined(self, later: Vec<Stage>) -> Result<Vec<Stage>, NoMemory>
         ensures { IfOk result (λ all. all.items ≡ self.stages.items ++ Stage.Map (LongExpr.Parameter 0) ∷ later.items) }
     {
@@ -206,9 +206,10 @@ impl<'c> JobPlan<'c> {
 }
 
 impl<'c> Plan<'c> {
-    /// The same jobs, in which `limit` after maps, and `skip` after maps that can't have a fault, come before these: they select
-    /// positions of the job's sources, so that a run gathers nothing for them and cuts what they leave. And `reduce` that keeps the
-    /// first value becomes `findFirst`, which ends there, if only maps and filters that can't have a fault come before it.
+    /// The jobs of the plan, with slices moved before maps: `limit`, and `skip` if the maps can't have a fault. So they
+    /// select positions of the job's sources, and a run gathers nothing for them and cuts what they leave. A `reduce`
+    /// that keeps the first value becomes `findFirst`, which ends there, if only maps and filters that can't have a
+    /// fault come before it.
     ///
     /// Stages keep their numbers. Takes time for each stage, and memory for each segment.
     pub fn with_slices_first(self, alloc: Global) -> Result<Plan<'c>, NoMemory>

@@ -27,8 +27,8 @@ impl JobPlan<'_> {
         has_array(&self.sources)
     }
 
-    /// The place of the job with this name, from 0, if it is among those that the job names. It compares the names from the first on;
-    /// those of the sources come first.
+    /// The place of the job with this name, from 0, among the jobs that the job names. It compares the names from the
+    /// first on; the names of the sources come first.
     pub fn job_named(&self, name: &[u8]) -> Option<usize>
         ensures { result ≡ place_in self.now.named.items name.now }
     {

@@ -60,7 +60,7 @@ fn push_long(alloc: Global, expr: &LongExpr, names: &mut Vec<Bytes>) -> Result<(
     }
 }
 
-/// The same of a boolean expression.
+/// Adds the names of a boolean expression. One call for each node.
 #[cycle(names)]
 fn push_truth(alloc: Global, expr: &BoolExpr, names: &mut Vec<Bytes>) -> Result<(), NoMemory>
     ensures { IfOk result (λ _. names.new.items ≡ names.old.items ++ truth_names (truth_of expr.now)) }

@@ -1,4 +1,4 @@
-//! A walk through several slices, each of which is a sink with the next one inside.
+//! A walk through several slices. Each of them is a sink with the next one inside.
 
 ghost use Rattle.std.specs.Prelude.{◌≡◌, ◌≤◌, ℕ, suc, [], ◌∷◌, IfOk, length};
 ghost use Rattle.slice_ops.specs.Rests.{rest_of};
@@ -21,10 +21,11 @@ use trace::{End, Fed, NoMemory};
 /// How many slices a walk goes through into one part.
 pub(crate) const DEEPEST: usize = 8;
 
-/// The sinks of as many slices, one inside the other.
+/// The sinks of `DEEPEST` slices, one inside the other.
 pub(crate) type Deepest = Next<Next<Next<Next<Next<Next<Next<Next<Zero>>>>>>>>;
 
-/// Sinks one inside the other, up to a number of them. A sink is a type of its own at each depth, so the number is a type too.
+/// Sinks one inside the other, up to a number of them. A sink is a type of its own at each depth, so the number is a
+/// type too.
 pub(crate) trait Nest {
     ghost depth: { ℕ };
 
@@ -93,7 +94,7 @@ struct LinkChain<'l, 'p> {
     last: &'l Link<'p>,
 }
 
-/// The same of links whose last one is apart.
+/// Feeds `chain.before` and wraps `sink` in `chain.last`.
 fn feed_link<'p, K: LinkStart, N: Nest, S: Closing>(
     alloc: Global,
     chain: LinkChain<'_, 'p>,

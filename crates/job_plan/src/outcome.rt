@@ -11,8 +11,8 @@ use trace::Fault;
 /// What a segment makes of its source.
 #[derive(Drop)]
 pub enum Outcome<'a> {
-    /// Of a segment that a slice or a prefix ends: the source of the next segment. Its items keep their places, and its fault
-    /// stands after them.
+    /// Of a segment that a slice or a prefix ends: the source of the next segment. Its items keep their places, and its
+    /// fault stands after them.
     Source(GivenWalk<'a>),
     /// Of the last segment: the answer of the job.
     Answer(Answer),

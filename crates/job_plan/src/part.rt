@@ -26,9 +26,9 @@ use trace::{Chunk, End, Fault, Item, NoMemory, SourceItems};
 
 /// What a piece of a segment's source gives to the end of the segment.
 ///
-/// A fold, an exact sum and a find have a constant size, `limit(n)` keeps `n` items at most, `takeWhile` those before the first at
-/// which its test isn't true. The other slices keep all items, and `toArray` all values. A prefix keeps all items, but borrows values of the
-/// sources if no stage comes before it.
+/// A fold, an exact sum and a find have a constant size. `limit(n)` keeps `n` items at most, and `takeWhile` the items
+/// before the first at which its test isn't true. The other slices keep all items, and `toArray` all values. A prefix
+/// keeps all items, but borrows values of the sources if no stage comes before it.
 #[derive(Drop)]
 pub enum Part<'p> {
     Slice(SlicePart<'p>),
@@ -130,8 +130,8 @@ impl<'p> Part<'p> {
 
     /// The part of two pieces side by side, of one segment. A fault of the left one ends both.
     ///
-    /// Only slices, arrays and prefixes may need memory; if the allocation fails, both parts come back. Parts of different
-    /// ends don't merge: the left one stays.
+    /// Only slices, arrays and prefixes may need memory; if the allocation fails, both parts come back. Parts of
+    /// different ends don't merge: the left one stays.
     pub fn merge(self, right: Part<'p>) -> Result<Part<'p>, (Part<'p>, Part<'p>)>
         ensures ok { IfOk result (λ part. (s : AbstractSegment) (env : Numbers) (a b : Trace) → StandsFor s env self.entry a
             → StandsFor s env right.entry b → StandsFor s env part (append a b)) }
@@ -141,8 +141,8 @@ impl<'p> Part<'p> {
         EndPart::merge(self, right)
     }
 
-    /// What the segment gives. `None` if the source has to be walked once more, in order. An array takes no memory: its pieces are
-    /// moved into the answer.
+    /// What the segment gives. `None` if the source has to be walked once more, in order. An array takes no memory: its
+    /// pieces are moved into the answer.
     pub fn finish(self, alloc: Global, env: &Env) -> Result<Option<Outcome<'p>>, NoMemory>
         ensures some { IfOk result (λ found. IfSome found (λ outcome. (s : AbstractSegment) (t : Trace) → StandsFor s env.now self.entry t
             → outcome ≡ outcome_of s env.now t)) }

@@ -20,8 +20,8 @@ use prefix_scan::{cut_to, fold_items, scan_values};
 use reduce_ops::{Op, Partial, operators_are_associative};
 
 impl<'a> FoldedPiece<'a> {
-    /// The fold of `start` and of the items at positions of the range; the first item has the position `first`. It goes over
-    /// the items only if some of them have such positions, and not all.
+    /// The fold of `start` and of the items at positions of the range; the first item has the position `first`. It goes
+    /// over the items only if some of their positions are in the range, and not all.
     pub(crate) fn fold_from(
         &self,
         op: Op,

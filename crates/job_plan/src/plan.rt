@@ -18,8 +18,9 @@ use std::mem;
 use trace::{NoMemory, Stage};
 
 impl<'c> Plan<'c> {
-    /// Cuts each job into segments, and finds the earlier jobs that it names. A name that no earlier job has is left out. The jobs are
-    /// moved; after a refused allocation they are dropped. Each name that is written is compared with those of the jobs before.
+    /// Cuts each job into segments, and finds the earlier jobs that it names. A name that no earlier job has is left
+    /// out. The jobs are moved; after a refused allocation they are dropped. Each name in a job is compared with the
+    /// names of the jobs before.
     pub fn of(alloc: Global, jobs: Vec<Job<'c>>) -> Result<Plan<'c>, NoMemory>
         ensures ok { IfOk result (λ plan. plans_in plan.jobs.items ≡ plans_of (jobs_of jobs.entry.items)) }
     {
@@ -83,7 +84,7 @@ impl Begun {
         }
     }
 
-    /// Takes the segment of the stages, which ends so, and begins the next one.
+    /// Takes the segment of the stages, with this end, and begins the next one.
     fn next_segment(&mut self, end: SegmentEnd) -> Segment
         requires few { self.old.first_stage + length self.old.stages.items ≤ 33 }
         ensures segment { segment_in result ≡ record { first = self.old.first_stage; stages = stages_of self.old.stages.items; ending = end_in end } }
@@ -100,7 +101,7 @@ impl Begun {
         }
     }
 
-    /// Adds the segment of the stages, which ends so.
+    /// Adds the segment of the stages, with this end.
     fn end(&mut self, end: SegmentEnd) -> Result<(), NoMemory>
         requires few { self.old.first_stage + length self.old.stages.items ≤ 33 }
         ensures segments { OnOk result (segments_in self.new.segments.items

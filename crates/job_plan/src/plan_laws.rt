@@ -25,8 +25,8 @@ pub fn later_segments_give_the_answers()
     ensures { (env : Numbers) (segments : List AbstractSegment) (t : Trace) → segments_answer (later_segments segments) env (selected_walk segments t) ≡ segments_answer segments env t }
 {}
 
-/// The segments after the slices that a walk goes through, over what those slices make of it, give the answer of the job, or the
-/// fault that its fallback replaces.
+/// The segments after the slices that a walk goes through, over what those slices make of it, give the answer of the
+/// job, or the fault that its fallback replaces.
 #[tactic(auto, using(crate::proofs::LinkLemmas::walked_answer))]
 pub fn walked_segments_give_the_answers()
     ensures { (env : Numbers) (plan : AbstractPlan) → instead_of_fault plan.fallback (segments_answer (walked_segments plan) env (walked_source env plan)) ≡ planned_answer env plan }

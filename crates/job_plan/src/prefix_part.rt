@@ -26,9 +26,9 @@ use trace::{Chunk, End, Fault, NoMemory, RangeItems, SourceItems};
 
 /// The items of a piece for a prefix, the stage with this number, and how the walk ended. Contracts see just that.
 ///
-/// The items lie in pieces of 4,096 at most, each with its fold; joining two parts moves the pieces and no item. Values of a
-/// source are lent if only cheap maps come before the prefix, which then go over them once more where they are read; of other
-/// items at places that count up the values alone are stored.
+/// The items lie in pieces of 4,096 at most, each with its fold; joining two parts moves the pieces and no item. Values
+/// of a source are lent if only cheap maps come before the prefix, which then go over them once more where they are
+/// read; of other items at places that count up the values alone are stored.
 #[derive(Drop)]
 pub struct PrefixPart<'a> {
     prefix: Prefix,
@@ -83,8 +83,8 @@ impl<'a> PrefixPart<'a> {
         }
     }
 
-    /// Adds what maps make of values of a source that stays as long as the job, at places that count up from this one. It copies
-    /// none of them.
+    /// Adds what maps make of values of a source that stays as long as the job, at places that count up from this one.
+    /// It copies none of them.
     pub(crate) fn push_lent(
         &mut self,
         maps: Maps<'a>,
@@ -128,9 +128,10 @@ impl<'a> PrefixPart<'a> {
         }
     }
 
-    /// Goes on with another part of the same prefix. It moves the pieces of `right` and no item.
+    /// Goes on with another part of the prefix. It moves the pieces of `right` and no item.
     ///
-    /// A part that ends in a fault stays as it is. If the allocation fails, `right` comes back and the part stays as it was.
+    /// A part that ends in a fault stays as it is. If the allocation fails, `right` comes back and the part stays as it
+    /// was.
     pub(crate) fn append(&mut self, mut right: PrefixPart<'a>) -> Result<(), PrefixPart<'a>>
         ensures ok { OnOk result (right.entry.op ≡ self.old.op → self.new ≡ scan_append self.old right.entry.walk) }
         ensures err { OnErr result (self.new ≡ self.old) }
@@ -149,7 +150,7 @@ impl<'a> PrefixPart<'a> {
         Ok(())
     }
 
-    /// The walk that the prefix gives. A fault stands in place of all items; so does that of a range that ends after the last.
+    /// The walk that the prefix gives. A fault leaves no items, and so does a range that ends after the last item.
     pub(crate) fn finish(self, alloc: Global) -> Result<GivenWalk<'a>, NoMemory>
         ensures { IfOk result (λ given. given ≡ prefixed (value_of self.entry.op) self.entry.range self.entry.stage self.entry.walk) }
     {

@@ -63,7 +63,7 @@ pub(crate) fn add_run(
     Ok(())
 }
 
-/// The same to the last piece, or `false` if it doesn't take them.
+/// Adds values at places that count up from this one to the last piece, or answers `false` if it doesn't take them.
 fn add_run_to_last(
     pieces: &mut Vec<FoldedPiece<'_>>,
     op: Op,
@@ -109,7 +109,7 @@ pub(crate) fn add_items<I: SourceItems>(
     Ok(())
 }
 
-/// The same to the last piece, or `false` if it doesn't take them.
+/// Adds the items of a source to the last piece, or answers `false` if it doesn't take them.
 fn add_to_last<I: SourceItems>(
     pieces: &mut Vec<FoldedPiece<'_>>,
     op: Op,

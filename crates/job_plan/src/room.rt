@@ -17,8 +17,8 @@ const MOST: u64 = 65_536;
 
 /// The part of no item, for these positions of a source.
 ///
-/// An array gets room for the values of all of them, if each item has one, so that it isn't copied as it grows. If that memory
-/// is refused, it grows as any other part does.
+/// An array gets room for the values of all of them, if each item has one, so that it isn't copied as it grows. If that
+/// memory is refused, it grows as any other part does.
 pub(crate) fn with_room<'p>(
     alloc: Global,
     segment: &'p Segment,
@@ -39,7 +39,7 @@ pub(crate) fn with_room<'p>(
     reserved(part, end.saturating_sub(window.from).min(MOST) as usize)
 }
 
-/// The same part. If it is that of an array, it has room for this many more values, if there is memory for it.
+/// The part. An array has room for this many more values, if there is memory for it.
 fn reserved(part: Part<'_>, values: usize) -> Part<'_>
     ensures { result ≡ part.entry }
 {

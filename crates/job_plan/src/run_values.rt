@@ -1,4 +1,5 @@
-//! Values side by side, which are stored, lent, or known from the first; those that are not stored may come out of maps.
+//! Values side by side, which are stored, lent, or known from the first; those that are not stored may come out of
+//! maps.
 
 ghost use Rattle.std.specs.Prelude.{◌≡◌, ◌+◌, ◌<◌, ◌≤◌, ℕ, pos, ◌+ℤ◌, FitsSigned, ◌++◌, length, take, true, Ok, IfSome};
 ghost use Rattle.std.specs.Int.{w64};
@@ -40,8 +41,8 @@ impl RunValues<'_> {
         }
     }
 
-    /// Adds values, if there are `count` before it, these are stored, and there are 4,096 at most after it, and answers whether it
-    /// does. If an allocation fails, the values stay as they were.
+    /// Adds values, if there are `count` before it, these are stored, and there are 4,096 at most after it, and answers
+    /// whether it does. If an allocation fails, the values stay as they were.
     pub(crate) fn add(&mut self, count: u64, values: &[i64]) -> Result<bool, NoMemory>
         requires few { length values.now ≤ 4096 }
         requires fits { Fits self.old }
@@ -89,7 +90,8 @@ impl RunValues<'_> {
     }
 }
 
-/// Adds values after stored ones, if there are `count` of these and there is space for more, and answers whether it does.
+/// Adds values after stored ones, if there are `count` of these and there is space for more, and answers whether it
+/// does.
 fn add_values(stored: &mut Vec<i64>, count: u64, values: &[i64]) -> Result<bool, NoMemory>
     requires { length values.now ≤ 4096 }
     ensures added { result ≡ Ok true → (length stored.old.items ≡ count) × (count + length values.now ≤ 4096) × (stored.new.items ≡ stored.old.items ++ values.now) }

@@ -12,7 +12,7 @@ use std::alloc::Global;
 use std::marker::Model;
 use trace::{End, NoMemory};
 
-/// Pieces of a walk, and for each of them the fold of what lies left of it. Contracts see the prefix of that walk.
+/// Pieces of a walk, each with the fold of what lies left of it. Contracts see the prefix of that walk.
 #[derive(Drop)]
 pub struct ScannedWalk<'a> {
     pub(crate) prefix: Prefix,
@@ -51,7 +51,7 @@ impl<'a> ScannedWalk<'a> {
         })
     }
 
-    /// How the walk ends: it is done, since a fault stands in place of such a walk.
+    /// How the walk ends: it is done. A walk that ends in a fault is never scanned.
     pub(crate) fn end(&self) -> End
         ensures { result ≡ self.now.ending }
     {

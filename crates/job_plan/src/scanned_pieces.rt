@@ -44,7 +44,8 @@ pub(crate) fn feed_given<S: BatchSink>(
     }
 }
 
-/// Takes the items at these positions of a walk that a prefix gave. It begins at the piece in which the first of them lies.
+/// Takes the items at these positions of a walk that a prefix gave. It begins at the piece in which the first of them
+/// lies.
 fn feed_scanned<S: BatchSink>(
     line: Pipeline<'_>,
     walk: &ScannedWalk<'_>,

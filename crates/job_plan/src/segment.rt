@@ -55,18 +55,19 @@ pub struct Named {
     pub job: usize,
 }
 
-/// A job in segments: the outcome of each one is the source of the next, and that of the last is the answer.
+/// A job in segments: the outcome of each segment is the source of the next, and the outcome of the last is the answer.
 #[derive(Drop)]
 pub struct JobPlan<'c> {
     pub name: Bytes,
-    /// The earlier jobs that it names, `result(NAME)` or `$NAME`, in order of writing, each as often as it is written.
+    /// The earlier jobs that it names, `result(NAME)` or `$NAME`, in order of writing, repeated where they are
+    /// repeated.
     pub named: Vec<Named>,
-    /// How many positions the first of its `later_segments` has, as far as it is known before a run: the array of an earlier job
-    /// counts with this number of that job. No answer rests on it.
+    /// How many positions the first of its `later_segments` has, as far as it is known before a run. For the array of
+    /// an earlier job it takes this number of that job. No answer depends on it.
     pub likely_size: u64,
     pub sources: Vec<PlainSource<'c>>,
     pub segments: Vec<Segment>,
-    /// What it gives in place of a fault, if anything.
+    /// What the job gives after a fault, if anything.
     pub fallback: Option<Fallback>,
 }
 
@@ -74,6 +75,7 @@ pub struct JobPlan<'c> {
 #[derive(Drop)]
 pub struct Plan<'c> {
     pub jobs: Vec<JobPlan<'c>>,
-    /// Whether a later job goes over the array of the job at a place. It is empty if none goes over any. No answer rests on it.
+    /// Whether a later job goes over the array of the job at a place. It is empty if no job goes over an array. No
+    /// answer depends on it.
     pub lent: Vec<bool>,
 }

@@ -11,7 +11,8 @@ use crate::sources::{PlainSources, total_size};
 use crate::spans::within;
 
 impl Source<'_, '_, '_> {
-    /// How many items the source has, or the greatest `u64` if there are more. It takes constant time after a given walk, else it goes over the sources.
+    /// How many items the source has, or the greatest `u64` if there are more. It takes constant time after a given
+    /// walk, else it goes over the sources.
     pub fn size(&self) -> u64
         ensures { result ≡ min (length (walk_in self.now).items) (2 ^ 64 - 1) }
     {

@@ -50,22 +50,23 @@ pub struct Walked<'g, 'a, 'c, 'e> {
 }
 
 impl<'g, 'a, 'c> Source<'g, 'a, 'c> {
-    /// The source of the first segment of a job, also if that only selects positions.
+    /// The source of the first segment of a job, even if that segment only selects positions.
     pub fn of_job(job: &'a JobPlan<'c>) -> Source<'g, 'a, 'c>
         ensures { walk_in result ≡ source_walk (plan_in job.now).sources }
     {
         Source::Plain(PlainSources::of(&job.sources))
     }
 
-    /// The source of the first of a job's `later_segments`: the positions of its sources that the slices before it select. It
-    /// takes no memory.
+    /// The source of the first of a job's `later_segments`: the positions of its sources that the slices before it
+    /// select. It takes no memory.
     pub fn of_selected(job: &'a JobPlan<'c>) -> Source<'g, 'a, 'c>
         ensures { walk_in result ≡ selected_source (plan_in job.now) }
     {
         Source::of_sources(&job.sources, job)
     }
 
-    /// The same with these sources in place of the job's own.
+    /// The source of a job's `later_segments`, as `of_selected` gives it, but over these sources instead of the job's
+    /// own.
     pub fn of_sources(sources: &'a [PlainSource<'c>], job: &JobPlan) -> Source<'g, 'a, 'c>
         ensures { walk_in result ≡ selected_walk (plan_in job.now).segments (source_walk (sources_of sources.now)) }
     {
@@ -133,7 +134,7 @@ pub(crate) fn piece_end(source: &Source, to: Option<u64>) -> End
     }
 }
 
-/// Takes the items at these positions of sources, of which the first item has the place `origin`.
+/// Takes the items at these positions of sources. The first item has the place `origin`.
 fn feed_plain<S: BatchSink>(
     line: Pipeline<'_>,
     sources: &[PlainSource],
@@ -215,7 +216,7 @@ fn feed_one<S: BatchSink>(
     }
 }
 
-/// Takes values, of which the first has the place `origin`.
+/// Takes values. The first one has the place `origin`.
 pub(crate) fn feed_values<S: BatchSink>(
     line: Pipeline<'_>,
     origin: u64,

@@ -1,5 +1,5 @@
-//! A walk through slices into the part of the segment after them: each item goes on as far as it comes, so what lies between isn't
-//! kept.
+//! A walk through slices into the part of the segment after them: each item goes on as far as it comes, so what lies
+//! between isn't kept.
 
 ghost use Rattle.std.specs.Prelude.{◌≡◌, ◌≤◌, false, IfOk, length};
 ghost use Rattle.trace.specs.Trace.{nothing};
@@ -21,9 +21,10 @@ use std::alloc::Global;
 use std::marker::{Brand, PhantomData};
 use trace::{Chunk, End, NoMemory};
 
-/// The part of a segment after slices: the whole walk of a source goes through the first of these segments, as far as they end in
-/// slices, and then through `last`. It stops when nothing more matters, and keeps nothing but the part: a batch of items at most
-/// lies between two slices. Only of more than eight slices, what passes every ninth one is kept, 16 bytes an item.
+/// The part of a segment after slices: the whole walk of a source goes through the first of these segments, as far as
+/// they end in slices, and then through `last`. It stops when nothing more matters, and keeps nothing but the part: a
+/// batch of items at most lies between two slices. Only of more than eight slices, what passes every ninth one is kept,
+/// 16 bytes an item.
 pub fn streamed<'p>(
     alloc: Global,
     segments: &'p [Segment],
@@ -37,7 +38,7 @@ pub fn streamed<'p>(
     streamed_from(alloc, none, segments, last, walked, registers)
 }
 
-/// The same, of a walk that never has to be done once more.
+/// The part that `streamed` gives, of a walk that is never walked again in order.
 pub fn streamed_in_order<'p>(
     alloc: Global,
     segments: &'p [Segment],
@@ -52,7 +53,7 @@ pub fn streamed_in_order<'p>(
     streamed_from(alloc, none, segments, last, walked, registers)
 }
 
-/// The same, from the part of no item.
+/// The part that `streamed` gives, begun from the part of no item.
 fn streamed_from<'p>(
     alloc: Global,
     none: Part<'p>,
@@ -70,7 +71,7 @@ fn streamed_from<'p>(
     through_links(alloc, none, &links, last, walked, registers)
 }
 
-/// The same, of a walk through these links.
+/// The part after a walk through these links.
 fn through_links<'p>(
     alloc: Global,
     none: Part<'p>,
@@ -137,7 +138,7 @@ fn through_few<'p>(
     nested::<Brand>(alloc, none, links, last, walked, registers)
 }
 
-/// The same, for an end that contracts can name.
+/// The part after up to eight links, for an end whose type contracts can name.
 fn nested<'p, K: Ending>(
     alloc: Global,
     none: Part<'p>,

@@ -19,7 +19,7 @@ use batch_eval::{BatchSink, Pipeline, Registers};
 use early_stop::Stop;
 use trace::{Fed, Flow, NoMemory};
 
-/// How many positions are walked before the next look for such a place.
+/// How many positions are walked before the next look for a place that decides.
 const STRETCH: u64 = 65_536;
 
 /// The end of the positions of a piece, as far as it is known.
@@ -42,8 +42,8 @@ fn is_past<W: Stop>(stop: &mut W, position: u64) -> bool
     place != u64::MAX && place <= position
 }
 
-/// Takes the items at these positions one after the other through the stages. `None` says that only those before a place
-/// were taken that is at or after one that decides; the sink wants more.
+/// Takes the items at these positions one after the other through the stages. `None` says that only those before a
+/// place were taken that is at or after one that decides; the sink wants more.
 pub(crate) fn feed_until<S: BatchSink, W: Stop>(
     source: &Source,
     line: Pipeline<'_>,

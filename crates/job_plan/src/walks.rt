@@ -59,7 +59,7 @@ pub fn walk(alloc: Global, job: &JobPlan, env: &Env) -> Result<Answer, NoMemory>
     walk_tree(alloc, job, &SplitTree::Leaf, env)
 }
 
-/// The answer of segments, the first of which has this source.
+/// The answer of segments. The first one has this source.
 fn walk_segments<'p>(
     alloc: Global,
     segments: &'p [Segment],

@@ -1,6 +1,6 @@
 //! Slices before every other stage of a job: the positions of its sources that they select.
 //!
-//! Such a slice keeps no items. The first segment after it goes over a window of the sources.
+//! These slices keep no items. The first segment after them goes over a window of the sources.
 
 ghost use Rattle.std.specs.Prelude.{◌≡◌, ◌<◌, ◌≤◌, ◌+◌, ◌-◌, ◌^◌, min, length, List, None, true};
 ghost use Rattle.trace.specs.declared.item.Item.{Item as item};
@@ -42,7 +42,7 @@ impl Window {
         }
     }
 
-    /// The same positions, counted after this number of elements.
+    /// The positions of the window, counted after this number of elements.
     pub(crate) fn after(self, size: u64) -> Window
         ensures from { result.from ≡ self.from - size }
         ensures to { result.to ≡ after self.to size }
@@ -138,8 +138,8 @@ pub(crate) fn selected_window(segments: &[Segment], window: Window) -> Window
 }
 
 impl<'c> JobPlan<'c> {
-    /// The segments that are walked: those after the first ones that select positions of the job's sources, and do nothing
-    /// else. `Source::of_selected` is what the first of them goes over. It takes constant time for each segment left out.
+    /// The segments that are walked, after the first ones that only select positions of the job's sources.
+    /// `Source::of_selected` is what the first of them goes over. It takes constant time for each segment left out.
     pub fn later_segments(&self) -> &[Segment]
         ensures { segments_in result.now ≡ later_segments (plan_in self.now).segments }
     {

@@ -80,7 +80,7 @@ module _ {A B X : Type 0} (stands : ℕ → ℕ → ℕ → ℕ → A → Type 0
   nothing_goes cut (Some (q, true)) = tt
   nothing_goes cut (Some (q, false)) = tt
 
-  -- at the top, the answer in place of a fault
+  -- at the top, the answer that the job gives after a fault
   pub answer_goes : (cut : CutPiece) (parent : Option (CutPiece × Bool)) (x : X) (a : B) → found x ≡ Caught a → parent ≡ None → answers cut.job a
       → Goes {T = CutPiece} {V = X} {F = Failure} (λ c side v. Fits stands faults answers found c side v) cut parent (Ok x)
   answer_goes cut parent x a caught top h =
@@ -105,7 +105,7 @@ module _ {A B X : Type 0} (stands : ℕ → ℕ → ℕ → ℕ → A → Type 0
       (handed_fault cut.job cut.segment cut.middle cut.to (Err d) f (λ i. Err ((some_same d e first ∙ is) i)) k)
   leftmost_fault among cut e f is within (Ok a, Ok b, first, l, k) = absurd (let z : None ≡ Some e = first in cc)
 
--- ---- what the job gives in place of a fault
+-- ---- what the job gives after a fault
 
 module _ {B : Type 0} (faults : ℕ → ℕ → ℕ → ℕ → Fault → Type 0) (answers : ℕ → B → Type 0) where
   pub instead_answers : (size : ℕ → ℕ → ℕ) (job segment from to : ℕ) (o : Option B) (a : B) (f : Fault) → o ≡ Some a → from ≡ 0 → to ≡ size job segment → IsInstead faults size answers job o → faults job segment from to f → answers job a

@@ -52,12 +52,12 @@ module _ {V K T : Type 0} {g : Ghosts K V T} {jobs : ℕ} {start : ℕ → ℕ} 
 
 module _ {V K T : Type 0} {g : Ghosts K V T} {id : TableId} {jobs : ℕ} {start : ℕ → ℕ} {keeps : ℕ → List ℕ} where
   -- a seat to which credit alone was joined has what it had
-  pub credit_joined : (credit : ℕ) (mine : List ℕ) (seat purse part later : Seat V K T g) → table_of later ≡ id → length (view_of purse).places ≡ 0 → view_of part ≡ part_view 0 0 credit [] (view_of purse)
+  pub credit_joined : (credit : ℕ) (mine : List ℕ) (seat spare part later : Seat V K T g) → table_of later ≡ id → length (view_of spare).places ≡ 0 → view_of part ≡ part_view 0 0 credit [] (view_of spare)
       → view_of later ≡ joined_view (view_of seat) (view_of part) → HasKept id jobs start keeps mine seat → HasKept id jobs start keeps mine later
-  credit_joined credit mine seat purse part later table none off is h =
+  credit_joined credit mine seat spare part later table none off is h =
       let v = view_of seat in
       let u = view_of part in
-      let placed : (view_of later).places ≡ v.places = ap (λ (w : View T). w.places) is ∙ no_more v.places u.places (part_unplaced credit purse part none off) in
+      let placed : (view_of later).places ≡ v.places = ap (λ (w : View T). w.places) is ∙ no_more v.places u.places (part_unplaced credit spare part none off) in
       let sides : (k : ℕ) → count k (view_of later).sides ≡ count k v.sides = λ k.
       (let a : count k (view_of later).sides ≡ count k (v.sides ++ u.sides) = ap (λ (w : View T). count k w.sides) is in let b = total-append (one_at k) v.sides u.sides in let d : count k u.sides ≡ 0 = ap (λ (w : View T). count k w.sides) off in omega arith) in
       record {

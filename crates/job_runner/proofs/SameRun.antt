@@ -1,4 +1,4 @@
--- The same run by other names for its sizes.
+-- One run by other names for its sizes.
 use Rattle.std.proofs.Common.{◌≡◌, ℕ, arith}
 use Rattle.job_runner.specs.Cuts.{IsPiece}
 

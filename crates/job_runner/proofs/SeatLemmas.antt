@@ -23,7 +23,7 @@ use Rattle.job_runner.specs.Starts.{nodes_below}
 use Rattle.job_runner.specs.declared.start.Waiting.{Waiting}
 use Rattle.job_runner.specs.Waits.{nodes_in}
 
--- where no side stands for an entry, none is kept
+-- where no side belongs to an entry, none is kept
 plain_side : (i : ℕ) (sides : List ℕ) → count (left_slot i) sides ≡ 0 → count (right_slot i) sides ≡ 0 → side_at i sides ≡ []
 plain_side i sides a b =
     ap (λ c. cond c (cond (eqb (count (right_slot i) sides) 0) [] (right_slot i ∷ [])) (left_slot i ∷ [])) (eq-eqb (count (left_slot i) sides) 0 a)
@@ -36,7 +36,7 @@ plain_sides (i ∷ is) sides plain =
     ap (λ l. l ++ sides_of is sides) (plain_side i sides here.0 here.1) ∙ plain_sides is sides (λ j h. plain j (omega arith))
 
 module _ {T : Type 0} {jobs : ℕ} {start : ℕ → ℕ} {keeps : ℕ → List ℕ} where
-  -- a seat with the same notes, and no more sides, knows the same
+  -- a seat with equal notes, and no more sides, knows what this one knows
   pub known_as : (v w : View T) → KnowsStarts jobs start keeps v → w.noted ≡ v.noted → w.noted_sides ≡ v.noted_sides → w.places ≡ v.places → ((k : ℕ) → count k w.sides ≤ count k v.sides) → KnowsStarts jobs start keeps w
   known_as v w h noted noted_sides places few = record {
     starts = h.starts;
@@ -46,7 +46,7 @@ module _ {T : Type 0} {jobs : ℕ} {start : ℕ → ℕ} {keeps : ℕ → List �
     rooted = subst (λ l. tree.Rooted l) (sym places) h.rooted;
   }
 
-  -- the halves of a fork know the same
+  -- the halves of a fork know what the seat knew
   pub known_forked : (at : Option (Place T)) (onward : List ℕ) (p : Place T) (v w : View T) → KnowsStarts jobs start keeps v → tree.KnowsTop at onward p v w → tree.Rooted w.places → KnowsStarts jobs start keeps w
   known_forked at onward p v w h k rooted = record {
     starts = h.starts;
@@ -96,7 +96,8 @@ module _ {V K T : Type 0} {g : Ghosts K V T} (start : ℕ → ℕ) where
   below_held (suc n) credit seat rest some h is = let same : suc n - 1 ≡ n = omega arith in
       λ i. subst (λ k. count i (nodes_below start k) ≤ count i (view_of rest).held) (sym same) (rest_held (start n) credit (nodes_below start n) seat rest h (is ∙ ap (λ k. rest_view (start k) 1 credit [] (view_of seat)) same) i)
 
-  -- the same by another name of the last one's start node
+  -- start nodes of the first jobs but the last one, at which the seat has arrivals, by another name of the last one's
+  -- node
   pub below_held_at : (n node credit : ℕ) (seat rest : Seat V K T g) → 0 < n → ((i : ℕ) → count i (nodes_below start n) ≤ count i (view_of seat).held) → node ≡ start (n - 1) → view_of rest ≡ rest_view node 1 credit [] (view_of seat) → (i : ℕ) → count i (nodes_below start (n - 1)) ≤ count i (view_of rest).held
   below_held_at n node credit seat rest some h named is = below_held n credit seat rest some h (is ∙ ap (λ k. rest_view k 1 credit [] (view_of seat)) named)
 

@@ -27,7 +27,7 @@ module _ {V K T : Type 0} {g : Ghosts K V T} {id : TableId} {jobs : ℕ} {start 
         tt,
       )
 
--- along such a path the arrival was the last, if any node was finished
+-- along a path of this kind the arrival was the last, if any node was finished
 pub last_along : {T S : Type 0} {nodes actor : ℕ} (node finished : ℕ) (v w : View T) → Propagates S nodes actor (node ∷ []) v w finished → finished ≢ 0 → (n : ℕ) × (n ≡ 1) × IsArrived S nodes actor node v n w
 last_along {S = S} {nodes = nodes} {actor = actor} node finished v w p some =
     let one : p.0 ≡ 1 = dite (ℕ_discrete p.0 1) (λ e. e) (λ n. absurd (some (p.3 n).0)) in

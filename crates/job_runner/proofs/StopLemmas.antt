@@ -1,4 +1,4 @@
--- Which word is that of a segment.
+-- Which word belongs to a segment.
 use Rattle.std.proofs.Common.{◌≡◌, ℕ, zero, suc, ◌+◌, ◌-◌, ◌<◌, ◌≤◌, Bool, true, false, cond, nat_lt, le-ltb, lt-ltb, sym, refl, ap, ◌∙◌, subst, arith}
 use Rattle.trace.specs.Trace.{Trace}
 use Rattle.early_stop.specs.Decisive.{IsDecisive, Decides}

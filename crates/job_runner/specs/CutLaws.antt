@@ -1,4 +1,4 @@
--- Condition: laws of parts that continuations of a tree need.
+-- Condition: laws of parts that the continuations of a tree need.
 use Rattle.std.proofs.Common.{◌≡◌, ℕ, subst, Option, Some, None}
 use Rattle.std.specs.Prelude.{Result}
 use Rattle.std.specs.Coded.{Π_prop}
@@ -18,7 +18,7 @@ module _ {A B X : Type 0} (stands : ℕ → ℕ → ℕ → ℕ → A → Type 0
   stands_whole size found v j k {a} {b} ea eb h =
       subst (λ z. ComesOf stands answers found j k 0 z v) eb (subst (λ z. ComesOf stands answers found j k z b v) ea h)
 
--- no two proofs of an answer in place of a fault differ, if none of being an answer do
+-- that a job answers after a fault has one proof at most, if each answer has
 pub one_instead : {B : Type 0} (faults : ℕ → ℕ → ℕ → ℕ → Fault → Type 0) (size : ℕ → ℕ → ℕ) (answers : ℕ → B → Type 0) → ((job : ℕ) (a : B) → IsProp (answers job a)) → (job : ℕ) (o : Option B) (P : Type 0) → IsProp (P → IsInstead faults size answers job o)
 one_instead {B = B} faults size answers one job o P = Π_prop (λ p. by o)
   where

@@ -1,10 +1,11 @@
--- Condition: which positions of a source stand for a side of a cut, and which pieces a run has.
-use Rattle.std.specs.Prelude.{◌≡◌, ℕ, ◌<◌, ◌≤◌, Bool, Option, Some, None, Result, Ok, Err, ⊤}
+-- Condition: which positions belong to a side of a cut, and which pieces a run has.
+use Rattle.std.specs.Prelude.{◌≡◌, ℕ, ◌-◌, ◌<◌, ◌≤◌, Bool, Option, Some, None, Result, Ok, Err, ⊤}
 use Rattle.trace.specs.declared.item.Fault.{Fault}
 use Rattle.completer_tree.specs.declared.part.Failure.{Failure}
 use Rattle.completer_tree.specs.declared.part.Failure.TheVariants as failure
 use Rattle.pending_count.specs.declared.place.Side.{Side}
 use Rattle.pending_count.specs.declared.place.Side.TheVariants.{Left, Right, Whole}
+use Rattle.pending_count.specs.declared.place.Place.{Place}
 use Rattle.pending_count.specs.Pairs.{side_of}
 use Rattle.job_runner.specs.declared.cut.CutPiece.{CutPiece}
 use Rattle.job_runner.specs.declared.cut.Merged.{Merged}
@@ -20,6 +21,10 @@ abbrev pub ends_at : CutPiece → Side → ℕ
 ends_at c Left = c.middle
 ends_at c Right = c.to
 ends_at c Whole = c.to
+
+-- how many positions the side of a place has
+abbrev pub positions_at : Place CutPiece → ℕ
+positions_at p = ends_at p.tag p.side - begins p.tag p.side
 
 -- the cut is of the positions of this side of the parent
 abbrev pub IsSideOf : CutPiece → CutPiece × Bool → Type 0
@@ -43,7 +48,8 @@ IfHanded value faults (Ok x) = value x
 IfHanded value faults (Err (failure.Fault f)) = faults f
 IfHanded value faults (Err failure.NoMemory) = ⊤
 
--- what is handed in at a side of a cut: the part of these positions, a fault among them that the job catches, or nothing
+-- what is handed in at a side of a cut: the part of these positions, a fault among them that the job catches, or
+-- nothing
 abbrev pub HandedIn : {A B X : Type 0} → (ℕ → ℕ → ℕ → ℕ → A → Type 0) → (ℕ → ℕ → ℕ → ℕ → Fault → Type 0) → (X → Merged A B) → ℕ → ℕ → ℕ → ℕ → Result X Failure → Type 0
 HandedIn stands faults found job segment from to v = IfHanded (λ x. IfMerged (stands job segment from to) (λ a. ⊥) (found x)) (faults job segment from to) v
 

@@ -36,8 +36,9 @@ nodes_below start zero = []
 nodes_below start (suc n) = start n ∷ nodes_below start n
 
 module _ {T : Type 0} where
-  -- The seat has one arrival at each of these start nodes, those for the jobs that wait, and one at END for each job that has no start
-  -- node yet. It has noted what these start nodes keep: arrivals at smaller nodes, one of them at END. It has noted no place of a tree.
+  -- The seat has one arrival at each of these start nodes, those for the jobs that wait, and one at END for each job
+  -- that has no start node yet. It has noted what these start nodes keep: arrivals at smaller nodes, one of them at
+  -- END. It has noted no place of a tree.
   pub record HasStarts (left : ℕ) (starts : List Start) (waiting : List ℕ) (v : View T) : Type 0 where
     pub held : (i : ℕ) → count i (start_nodes starts) + count i waiting + count i (copies left 0) ≤ count i v.held
     pub no_side : (k : ℕ) → count k v.sides ≡ 0

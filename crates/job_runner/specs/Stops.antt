@@ -1,4 +1,4 @@
--- Condition: the words of early stop of a run: which segment each is of.
+-- Condition: which segment each word of early stop is of.
 use Rattle.std.specs.Prelude.{ℕ, zero, suc, ◌+◌, ◌-◌, nat_lt, if◌then◌else◌}
 use Rattle.atomic_table.specs.Seated.{TableId}
 use Rattle.early_stop.specs.declared.cut.Cut.{Cut as StopWords}

@@ -113,8 +113,8 @@ fn arm_one<S: JobSegments>(
     Ok(Some(seat))
 }
 
-/// Claims and arms the start nodes of all jobs, the last job's first, so that what a node keeps has smaller numbers. `None` if there
-/// are too few nodes.
+/// Claims and arms the start nodes of all jobs, the last job's first, so that what a node keeps has smaller numbers.
+/// `None` if there are too few nodes.
 pub(crate) fn arm_all<S: JobSegments>(
     alloc: Global,
     jobs: &S,

@@ -33,7 +33,7 @@ pub(crate) fn split_spare<S: JobSegments, R: Running>(
 }
 
 impl<'a, S: JobSegments, R: Running> JobWork<'a, S, TablePart<S>, TableKept<S>, R> {
-    /// Gives a job the credit for one more tree, out of that of the worker that begins it.
+    /// Gives a job the credit for one more tree, out of the credit of the worker that begins it.
     pub(crate) fn pay(
         &self,
         begun: TableJobSeat<S, R>,
@@ -45,15 +45,15 @@ impl<'a, S: JobSegments, R: Running> JobWork<'a, S, TablePart<S>, TableKept<S>, 
     {
         let Some(
             Spare {
-                seat: purse,
+                seat: credit,
                 of: own,
             },
         ) = spare.take()
         else {
             return begun;
         };
-        let share = self.share.min(purse.credit());
-        let (rest, part) = self.counts.split(purse, END, 0, share);
+        let share = self.share.min(credit.credit());
+        let (rest, part) = self.counts.split(credit, END, 0, share);
         let rest = Spare {
             seat: rest,
             of: own,

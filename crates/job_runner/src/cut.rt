@@ -110,13 +110,13 @@ impl<S: JobSegments> PartValue for SegmentPart<S> {
     ghost result = { λ cut v. StandsWhole S.stands_for S.is_instead S.size_of cut.job cut.segment (λ x. x.found) v };
 }
 
-/// Merges the parts of the two sides of a cut. A fault on a side goes on to the parent; at the top what the job gives in its place is
-/// the tree's result.
+/// Merges the parts of the two sides of a cut. A fault on a side goes on to the parent; at the top of a tree it becomes
+/// what the job gives after a fault.
 #[derive(Drop)]
 pub struct Join<S: JobSegments> {
     pub(crate) cut: CutPiece,
     pub(crate) parent: Option<(CutPiece, bool)>,
-    /// At the top of a tree, what the job gives in place of a fault, if anything.
+    /// At the top of a tree, what the job gives after a fault, if anything.
     pub(crate) instead: Option<S::Instead>,
     pub(crate) of: PhantomData<S>,
     ghost piece: { IsPiece S.job_count S.last_of S.size_of cut.job cut.segment cut.from cut.to },

@@ -15,7 +15,7 @@ pub trait EarlierAnswers<A> {
         ensures { IfSome result (λ answer. is_answer job answer.now) };
 }
 
-/// The answers of earlier jobs that are there: those that tasks left in places, or those that a reader has.
+/// The answers of earlier jobs that are there: left by tasks in places, or worked out by a reader.
 #[derive(Drop)]
 pub struct Earlier<'a, S: JobSegments> {
     places: &'a [JobPlaces<S>],

@@ -1,20 +1,19 @@
 //! What happens when a segment is complete: the next one begins, or the job ends and those that wait for it begin.
-ghost use Rattle.std.specs.Prelude.{◌≡◌, ◌<◌, ◌≤◌, ◌+◌, ◌++◌, ◌∷◌, [], List, ℕ, drop, length, IfSome, IfOk};
+ghost use Rattle.std.specs.Prelude.{◌≡◌, ◌<◌, ◌≤◌, ◌+◌, IfSome, IfOk};
 ghost use Rattle.job_runner.specs.Cuts.{StandsWhole};
-ghost use Rattle.job_runner.specs.Tasks.{HasKept};
-ghost use Rattle.job_runner.specs.Waits.{nodes_in};
 
 use crate::NoMemory;
 use crate::busy::TableBusy;
-use crate::cut::{Merged, SegmentPart, TableKept, TablePart, TableSeat};
+use crate::cut::{Merged, SegmentPart, TableKept, TablePart};
 use crate::earlier::Earlier;
 use crate::piece::SegmentInput;
 use crate::places::{
     drop_source, hold_source, keep_answer, keep_given, keep_source, kept_given, size_of, source_in,
 };
 use crate::segments::{Begun, JobSegments};
-use crate::start::Waiting;
-use crate::task::{JobSeat, Running, TableJobSeat, TableTask, TableWhole, Task, Whole};
+use crate::task::{
+    FinishedSegment, JobSeat, Running, TableFinishedSegment, TableJobSeat, TableTask, Task,
+};
 use crate::work::{JobWork, TableWork};
 use worker_pool::{Gate, Spawn};
 
@@ -57,7 +56,7 @@ fn last_answer<S: JobSegments, R: Running>(
 }
 
 impl<'a, S: JobSegments, R: Running> JobWork<'a, S, TablePart<S>, TableKept<S>, R> {
-    /// Leaves what a job takes of earlier answers in its place, or its answer, if there is nothing to walk.
+    /// Leaves the job's inputs from earlier jobs in its place, or its answer, if there is nothing to walk.
     fn prepare<G: Gate>(&self, gate: &G, job: usize)
         requires { job < R.jobs }
     {
@@ -87,8 +86,8 @@ impl<'a, S: JobSegments, R: Running> JobWork<'a, S, TablePart<S>, TableKept<S>, 
         self.go_on(gate, whole, spawn, busy)
     }
 
-    /// Leaves what the part of a whole segment gives in its place, and frees what the segment went over. `Some` is the next segment, with
-    /// how many positions it has.
+    /// Leaves what the part of a whole segment gives in its place, and frees the source of the segment. `Some` is the
+    /// next segment, with its number of positions.
     fn leave_part<G: Gate>(
         &self,
         gate: &G,
@@ -144,12 +143,31 @@ impl<'a, S: JobSegments, R: Running> JobWork<'a, S, TablePart<S>, TableKept<S>, 
         }
     }
 
+    /// Ends a segment of which this worker has the last part, and begins the next one: `Ok` with that one, if this worker has its last
+    /// part too. `Err` if the job is over.
+    fn end_segment<G: Gate, P: Spawn<TableTask<S, R>>>(
+        &self,
+        gate: &G,
+        whole: TableFinishedSegment<S, R>,
+        spawn: &mut P,
+        busy: &mut TableBusy<'_, S, R>,
+    ) -> Result<Option<TableFinishedSegment<S, R>>, TableJobSeat<S, R>>
+        requires { StandsWhole S.stands_for S.is_instead S.size_of whole.job.job whole.segment (λ x. x.found) whole.part }
+        ensures { IfOk result (λ next. IfSome next (λ whole. StandsWhole S.stands_for S.is_instead S.size_of whole.job.job whole.segment (λ x. x.found) whole.part)) }
+    {
+        let FinishedSegment { job, segment, part } = whole;
+        match self.leave(gate, job.job, segment, part, &mut busy.scratch) {
+            Some((next, size)) => Ok(self.begin(gate, job, next, size, spawn, busy)),
+            None => Err(job),
+        }
+    }
+
     /// Ends one segment after the other, while this worker has the last part of one. Each is a later one of the same job. `Some` if the
     /// job is over.
     fn go_on<G: Gate, P: Spawn<TableTask<S, R>>>(
         &self,
         gate: &G,
-        first: Option<TableWhole<S, R>>,
+        first: Option<TableFinishedSegment<S, R>>,
         spawn: &mut P,
         busy: &mut TableBusy<'_, S, R>,
     ) -> Option<TableJobSeat<S, R>>
@@ -157,56 +175,18 @@ impl<'a, S: JobSegments, R: Running> JobWork<'a, S, TablePart<S>, TableKept<S>, 
     {
         let mut left = first;
         for _ in 0..u64::MAX {
-            let Whole { job, segment, part } = left.take()?;
-            let next = self.leave(gate, job.job, segment, part, &mut busy.scratch);
-            let Some((next, size)) = next else {
-                return Some(job);
-            };
-            left = self.begin(gate, job, next, size, spawn, busy);
+            match self.end_segment(gate, left.take()?, spawn, busy) {
+                Ok(next) => left = next,
+                Err(over) => return Some(over),
+            }
         }
         None
     }
 }
 
 impl<'a, S: JobSegments, R: Running> JobWork<'a, S, TablePart<S>, TableKept<S>, R> {
-    /// Arrives at the start node of a job that waits, with its part of the credit. `Some` if that job may begin.
-    fn free_one(
-        &self,
-        seat: TableSeat<S>,
-        waiting: Waiting,
-        parts: u64,
-    ) -> (TableSeat<S>, Option<TableJobSeat<S, R>>)
-        requires has { HasKept R.table R.jobs R.start R.keeps (waiting.node ∷ []) seat }
-        requires parts { 0 < parts }
-        ensures { (left : List ℕ) → HasKept R.table R.jobs R.start R.keeps (waiting.node ∷ left) seat → HasKept R.table R.jobs R.start R.keeps left result.0 }
-    {
-        let share = seat.credit() / parts;
-        if waiting.job >= self.starts.len() || self.start(waiting.job).node != waiting.node {
-            return (seat, None);
-        }
-        let (seat, part) = self.counts.split(seat, waiting.node, 1, share);
-        (seat, self.arrive_at(part, waiting.job))
-    }
-
-    /// The same for the one at this position of those that wait.
-    fn free_next(
-        &self,
-        seat: TableSeat<S>,
-        waiting: &[Waiting],
-        at: usize,
-    ) -> (TableSeat<S>, Option<TableJobSeat<S, R>>)
-        requires at { at < length waiting.now }
-        requires has { HasKept R.table R.jobs R.start R.keeps (nodes_in (drop at waiting.now) ++ 0 ∷ []) seat }
-        ensures { HasKept R.table R.jobs R.start R.keeps (nodes_in (drop (at + 1) waiting.now) ++ 0 ∷ []) result.0 }
-    {
-        let Some(next) = waiting.get(at) else {
-            return (seat, None);
-        };
-        self.free_one(seat, *next, (waiting.len() - at) as u64)
-    }
-
-    /// Arrives for a job that is over at the start nodes of the jobs that wait for it, and settles it. Of those that may begin now one
-    /// comes back, and the others go to the pool.
+    /// Arrives for a job that is over at the start nodes of the jobs that wait for it, and settles it. One of the jobs
+    /// that may begin now comes back, and the others go to the pool.
     #[cycle(over)]
     #[tactic(auto, using(crate::proofs::SeatLemmas::begin_waiting, crate::proofs::SeatLemmas::ends_kept))]
     fn end_job<G: Gate, P: Spawn<TableTask<S, R>>>(
@@ -234,7 +214,8 @@ impl<'a, S: JobSegments, R: Running> JobWork<'a, S, TablePart<S>, TableKept<S>, 
         next
     }
 
-    /// Gives a job that may begin to the pool. If the pool has no room it is run here; `depth` is how many more jobs may be.
+    /// Gives a job that may begin to the pool. If the pool has no room, it is run here; `depth` is how many more jobs
+    /// may be run so, one inside the other.
     #[cycle(over)]
     fn hand_over<G: Gate, P: Spawn<TableTask<S, R>>>(
         &self,

@@ -2,17 +2,18 @@
 //!
 //! `run_all` works out the jobs of a type that implements `JobSegments`, which says how many jobs there are, how a piece of a segment
 //! is walked, how two parts are merged, and what comes of a whole segment. Each job has a start node. A piece longer than the
-//! threshold, or with few nodes than an even share of all positions, is cut in two if a node can be claimed; parts climb in trees of
+//! threshold, and than one of 64 equal pieces for each worker, is cut in two if a node can be claimed; parts climb in trees of
 //! completers. Whoever gets the part of a whole segment leaves its outcome in a `OnceLock`, and begins the next segment or settles the
 //! job.
 //!
-//! Stands on `completer_tree`, `worker_pool` and `early_stop`, and on `run_settings` for what a run may use. Used by `job_table`, whose
-//! jobs are those of a plan.
-//! What it promises to its callers: `run_all`, clauses `count` and `each`: each answer is the answer of its job, in order, with any
-//! settings and in any schedule.
-//! Begin with `segments.rt`, then `run.rt`, `walking.rt` and `ending.rt`; docs/workers.md has a job's way through the threads.
-//! Not promised: that the call returns, that there is memory, that an answer comes from the tasks (else whoever reads it works it out),
-//! or speed.
+//! Stands on `completer_tree`, `worker_pool` and `early_stop`, and on `run_settings` for what a run may use. Used by
+//! `job_table`, whose jobs are the jobs of a plan.
+//! What it promises to its callers: `run_all`, clauses `count` and `each`: each answer is the answer of its job, in
+//! order, with any settings and in any schedule.
+//! Begin with `segments.rt`, then `run.rt`, `walking.rt` and `ending.rt`; docs/workers.md has a job's way through the
+//! threads.
+//! Not promised: that the call returns, that there is memory, that an answer comes from the tasks (else whoever reads
+//! it works it out), or speed.
 #![tactic(auto)]
 
 mod alone;
@@ -22,6 +23,7 @@ mod credit;
 mod cut;
 mod earlier;
 mod ending;
+mod freeing;
 mod nodes;
 mod opening;
 mod parts;
@@ -39,6 +41,7 @@ mod work;
 
 pub use cut::{CutPiece, Join, Merged, SegmentPart, TableCounts, TableKept, TablePart, TableSeat};
 pub use earlier::{Earlier, EarlierAnswers};
+pub use opening::{FreshCounts, TableFreshCounts};
 pub use piece::{Piece, SegmentInput};
 pub use places::{JobPlaces, KeptAnswer, KeptGiven, KeptSource};
 pub use run::run_all;
@@ -47,7 +50,7 @@ pub use start::{Start, Waiting};
 pub use std::alloc::AllocError as NoMemory;
 pub use stopping::{RunSegments, RunStops};
 pub use task::{
-    Idle, JobSeat, Purse, Running, SideTask, Spare, TableIdle, TableJobSeat, TablePurse,
-    TableSideTask, TableSpare, TableTask, TableWhole, Task, Whole,
+    FinishedSegment, Idle, JobSeat, Running, SideTask, Spare, TableFinishedSegment, TableIdle,
+    TableJobSeat, TableSideTask, TableSpare, TableTask, TableUnopenedJobs, Task, UnopenedJobs,
 };
-pub use work::{JobWork, Opened, TableOpened, TableWork};
+pub use work::{JobWork, TableWork};

@@ -5,48 +5,21 @@ ghost use Rattle.run_settings.specs.SettingsParts.{nodes_of, threshold_of};
 use crate::segments::JobSegments;
 use run_settings::Settings;
 
-/// How many nodes a run has at least, if the settings allow it and a job has later segments: these may have more items than the first
-/// ones, as `flatMap` makes them, and how many isn't known before they are walked.
-const LEAST_FOR_LATER: u64 = 4_096;
+/// How many pieces a segment is cut into for each worker, if its positions, the threshold and the nodes are enough. While the last
+/// pieces are walked some workers have nothing left, so there are many; each costs a node, so there aren't more.
+const PIECES_FOR_WORKER: u64 = 64;
 
-/// The most nodes that the pieces of a job can claim. A piece is cut if it has more positions than the threshold, so each side has at
-/// least half as many as that. A later segment counts with as many positions as the first one.
-fn most_cuts<S: JobSegments>(jobs: &S, job: usize, settings: Settings) -> u64
-    requires { job < S.job_count }
-{
-    let size = jobs.likely_size(job);
-    let threshold = settings.threshold();
-    if size <= threshold {
-        return 0;
-    }
-    let each = (size / threshold).saturating_mul(2).saturating_add(1);
-    let mut cuts = 0u64;
-    for segment in 0..=jobs.last_segment(job) {
-        if jobs.is_divided(job, segment) {
-            cuts = cuts.saturating_add(each);
-        }
-    }
-    cuts
+/// The most pieces that a segment is cut into before some of them are cut once more, since halves differ in length.
+pub(crate) fn pieces_of_segment(settings: Settings) -> u64 {
+    settings.workers().saturating_mul(PIECES_FOR_WORKER)
 }
 
-/// One start node for each job, and no more nodes for cuts than the settings allow and the jobs can use; 2^32 - 1 at most.
-pub(crate) fn node_count<S: JobSegments>(jobs: &S, settings: Settings) -> u32
-    ensures starts { min S.job_count (2 ^ 32 - 1) ≤ result }
-    ensures few { result ≤ S.job_count + nodes_of settings }
+/// The most positions of one of that many equal pieces.
+pub(crate) fn share_of(size: u64, pieces: u64) -> u64
+    ensures { 0 < result }
 {
-    let mut cuts = 0u64;
-    let mut least = 0;
-    for job in 0..jobs.jobs() {
-        cuts = cuts.saturating_add(most_cuts(jobs, job, settings));
-        if jobs.last_segment(job) > 0 {
-            least = LEAST_FOR_LATER;
-        }
-    }
-    let all = cuts
-        .max(least)
-        .min(settings.nodes())
-        .saturating_add(jobs.jobs() as u64);
-    all.min(u64::from(u32::MAX)) as u32
+    let before_last = size.saturating_sub(1).checked_div(pieces).unwrap_or(0);
+    before_last.saturating_add(1)
 }
 
 /// How many segments all jobs have together.
@@ -71,8 +44,8 @@ fn divided_positions<S: JobSegments>(jobs: &S) -> u64 {
     positions
 }
 
-/// The most nodes that a segment of this many positions uses, if pieces longer than `longest` are cut. Each cut leaves half of the
-/// positions at most, rounded up.
+/// The most nodes that a segment of this many positions uses, if pieces longer than `longest` are cut. Each cut leaves
+/// half of the positions at most, rounded up.
 fn cuts_within(size: u64, longest: u64) -> u64 {
     let mut length = size;
     let mut cuts = 0u64;
@@ -86,7 +59,8 @@ fn cuts_within(size: u64, longest: u64) -> u64 {
     cuts
 }
 
-/// The most nodes that the segments of a job use so. A later segment counts with as many positions as the first one.
+/// The most nodes that the segments of a job use if no piece is longer than this. A later segment is taken to have no
+/// more positions than the first one.
 fn cuts_of_job<S: JobSegments>(jobs: &S, job: usize, longest: u64) -> u64
     requires { job < S.job_count }
 {
@@ -109,6 +83,31 @@ fn cuts_of_all<S: JobSegments>(jobs: &S, longest: u64) -> u64 {
     cuts
 }
 
+/// How many segments of a job are walked in pieces, of those from this number on.
+fn divided_of_job<S: JobSegments>(jobs: &S, job: usize, from: usize) -> u64
+    requires { job < S.job_count }
+{
+    let mut count = 0u64;
+    for segment in from..=jobs.last_segment(job) {
+        if jobs.is_divided(job, segment) {
+            count = count.saturating_add(1);
+        }
+    }
+    count
+}
+
+/// The most nodes that the segments of all jobs use, of those from this number on in each job, whatever they go over.
+fn cuts_of_segments<S: JobSegments>(jobs: &S, settings: Settings, from: usize) -> u64 {
+    let longest = share_of(u64::MAX, pieces_of_segment(settings));
+    let each = cuts_within(u64::MAX, longest);
+    let mut cuts = 0u64;
+    for job in 0..jobs.jobs() {
+        let divided = divided_of_job(jobs, job, from);
+        cuts = cuts.saturating_add(divided.saturating_mul(each));
+    }
+    cuts
+}
+
 /// The most positions of a piece that isn't cut: the threshold, or more if there are too few nodes for pieces as short as that: an even
 /// share of all positions, doubled until there are nodes for all cuts, as long as something is cut. So no piece is left long because
 /// others were cut small before it, and the last of many jobs is cut as the first one is.
@@ -116,15 +115,30 @@ pub(crate) fn most_positions<S: JobSegments>(jobs: &S, settings: Settings) -> u6
     ensures some { 0 < result }
     ensures threshold { threshold_of settings ≤ result }
 {
-    let pieces = settings.nodes().saturating_add(jobs.jobs() as u64);
-    let length = divided_positions(jobs).checked_div(pieces).unwrap_or(0);
-    let mut longest = settings.threshold().max(length);
+    let nodes = cuts_of_segments(jobs, settings, 0).min(settings.nodes());
+    let pieces = nodes.saturating_add(jobs.jobs() as u64);
+    let share = share_of(divided_positions(jobs), pieces);
+    let mut longest = settings.threshold().max(share);
     for _doubled in 0..64 {
         let twice = longest.saturating_mul(2);
-        if cuts_of_all(jobs, longest) <= settings.nodes() || cuts_of_all(jobs, twice) == 0 {
+        if cuts_of_all(jobs, longest) <= nodes || cuts_of_all(jobs, twice) == 0 {
             break;
         }
         longest = twice;
     }
     longest
+}
+
+/// One start node for each job, and no more nodes for cuts than the settings allow and the jobs can use, if pieces longer than
+/// `longest` are cut; 2^32 - 1 at most. A later segment may have more positions than the first one, as `flatMap` makes them, and how
+/// many isn't known before it begins.
+pub(crate) fn node_count<S: JobSegments>(jobs: &S, settings: Settings, longest: u64) -> u32
+    ensures starts { min S.job_count (2 ^ 32 - 1) ≤ result }
+    ensures few { result ≤ S.job_count + nodes_of settings }
+{
+    let all = cuts_of_all(jobs, longest)
+        .max(cuts_of_segments(jobs, settings, 1))
+        .min(settings.nodes())
+        .saturating_add(jobs.jobs() as u64);
+    all.min(u64::from(u32::MAX)) as u32
 }

@@ -1,28 +1,93 @@
-//! The openings of the jobs, and the seats of the workers.
-ghost use Rattle.std.specs.Prelude.{◌≡◌, ◌<◌, ◌≤◌, ◌-◌, ℕ, length, IfOk, IfSome};
+//! The counts of a run, the openings of the jobs, and the seats of the workers.
+ghost use Rattle.std.specs.Prelude.{◌≡◌, ◌<◌, ◌≤◌, ◌-◌, ℕ, [], length, IfOk, IfSome};
+ghost use Rattle.pending_count.specs.Seats.{view_of, IsSeatOf};
 ghost use Rattle.completer_tree.specs.Trees.{table_id_of};
-ghost use Rattle.early_stop.specs.Seats.{table_of as stop_table_of};
+ghost use Rattle.early_stop.specs.Seats.{IsSeatOf as IsStopSeatOf, table_of as stop_table_of, segments_of, count_of};
+ghost use Rattle.job_runner.specs.Starts.{HasStarts};
 ghost use Rattle.job_runner.specs.Stops.{stop_id_of};
 ghost use Rattle.job_runner.specs.Tasks.{CanArrive};
 
 use crate::NoMemory;
+use crate::arming::arm_all;
 use crate::credit::split_spare;
-use crate::cut::{TableCounts, TableKept, TablePart, TableSeat};
+use crate::cut::{CutPiece, TableCounts, TableKept, TablePart, TableSeat};
+use crate::nodes::{most_positions, node_count, segment_count};
 use crate::segments::JobSegments;
-use crate::stopping::RunStops;
+use crate::start::Start;
+use crate::stopping::{RunSegments, RunStops};
 use crate::task::{
-    Idle, JobSeat, Purse, Running, TableIdle, TableJobSeat, TablePurse, TableSpare, TableTask, Task,
+    Idle, JobSeat, Running, TableIdle, TableJobSeat, TableSpare, TableTask, TableUnopenedJobs,
+    Task, UnopenedJobs,
 };
 use crate::work::{JobWork, TableWork};
 use completer_tree::Tree;
 use completion_core::END;
 use early_stop::CutSeat;
+use pending_count::{Counts, Fits, Seat};
+use run_settings::Settings;
 use std::alloc::Global;
 use std::marker::PhantomData;
 
+/// The counts of a run that hasn't begun, the start nodes of its jobs, and the seat that has an arrival at each of them.
+#[derive(Drop)]
+pub struct FreshCounts<S: JobSegments, V, K: Fits<V, Tag = CutPiece>> {
+    pub(crate) counts: Counts<V, K>,
+    pub(crate) seat: Seat<V, K>,
+    pub(crate) starts: Vec<Start>,
+    pub(crate) stops: RunStops<S>,
+    pub(crate) stop_seat: CutSeat,
+    /// The most positions of a piece that isn't cut.
+    pub(crate) longest: u64,
+    ghost seated: { IsSeatOf counts seat },
+    ghost started: { HasStarts 0 starts.items [] (view_of seat) },
+    ghost stop_seated: { IsStopSeatOf stops stop_seat },
+    ghost counted: { count_of stops ≡ (segments_of stops).count },
+    ghost splits: { 0 < longest },
+}
+
+pub type TableFreshCounts<S> = FreshCounts<S, TablePart<S>, TableKept<S>>;
+
+impl<S: JobSegments> FreshCounts<S, TablePart<S>, TableKept<S>> {
+    /// Makes the counts of a run, and no more nodes than its jobs can use. `None` if there can't be a node for each job.
+    pub fn new(
+        alloc: Global,
+        jobs: &S,
+        settings: Settings,
+    ) -> Result<Option<TableFreshCounts<S>>, NoMemory>
+        ensures { IfOk result (λ o. IfSome o (λ opened. length opened.starts.items ≡ S.job_count)) }
+    {
+        let longest = most_positions(jobs, settings);
+        let nodes = node_count(jobs, settings, longest);
+        let (stops, stop_seat) = stop_words(alloc, jobs)?;
+        let (counts, seat) = TableCounts::<S>::new(alloc, nodes, jobs.jobs() as u64)?;
+        let Some((seat, starts)) = arm_all(alloc, jobs, &counts, seat)? else {
+            return Ok(None);
+        };
+        Ok(Some(FreshCounts {
+            counts,
+            seat,
+            starts,
+            stops,
+            stop_seat,
+            longest,
+        }))
+    }
+}
+
+/// The words of early stop of a run, one for each segment.
+fn stop_words<S: JobSegments>(alloc: Global, jobs: &S) -> Result<(RunStops<S>, CutSeat), NoMemory>
+    ensures { IfOk result (λ made. IsStopSeatOf made.0 made.1 × (count_of made.0 ≡ (segments_of made.0).count)) }
+{
+    let segments = RunSegments::<S> {
+        count: segment_count(jobs).min(u64::from(u32::MAX)) as u32,
+        of: PhantomData,
+    };
+    RunStops::<S>::new(alloc, &segments)
+}
+
 impl<'a, S: JobSegments, R: Running> JobWork<'a, S, TablePart<S>, TableKept<S>, R> {
-    /// Arrives at the start node of a job, along the path of that node alone: the next one on the way is arrived at once the job has
-    /// left its answer. If it is the last arrival, the job may begin.
+    /// Arrives at the start node of a job, along the path of that node alone: the next one on the way is arrived at
+    /// once the job has left its answer. If it is the last arrival, the job may begin.
     pub(crate) fn arrive_at(&self, seat: TableSeat<S>, job: usize) -> Option<TableJobSeat<S, R>>
         requires job { job < R.jobs }
         requires can { CanArrive R.table R.jobs R.start R.keeps job seat }
@@ -42,15 +107,18 @@ impl<'a, S: JobSegments, R: Running> JobWork<'a, S, TablePart<S>, TableKept<S>, 
     }
 
     /// Opens the last job that isn't opened. `Some` if the job names no other one, so that it may begin.
-    fn open_one(&self, purse: TablePurse<S, R>) -> (TablePurse<S, R>, Option<TableJobSeat<S, R>>)
-        requires some_left { 0 < purse.jobs }
-        ensures { result.0.jobs ≡ purse.jobs - 1 }
+    fn open_one(
+        &self,
+        unopened: TableUnopenedJobs<S, R>,
+    ) -> (TableUnopenedJobs<S, R>, Option<TableJobSeat<S, R>>)
+        requires some_left { 0 < unopened.jobs }
+        ensures { result.0.jobs ≡ unopened.jobs - 1 }
     {
-        let Purse { seat, jobs, of } = purse;
+        let UnopenedJobs { seat, jobs, of } = unopened;
         let share = seat.credit() / jobs as u64;
         let job = jobs - 1;
         let (seat, part) = self.counts.split(seat, self.start(job).node, 1, share);
-        let rest = Purse {
+        let rest = UnopenedJobs {
             seat,
             jobs: job,
             of,
@@ -58,29 +126,30 @@ impl<'a, S: JobSegments, R: Running> JobWork<'a, S, TablePart<S>, TableKept<S>, 
         (rest, self.arrive_at(part, job))
     }
 
-    /// Tasks for the jobs that name no other one, the last job first, and an `Idle` with an equal part of the credit for each worker.
+    /// Tasks for the jobs that name no other one, the last job first, and an `Idle` with an equal part of the credit
+    /// for each worker.
     pub(crate) fn open_all(
         &self,
-        purse: TablePurse<S, R>,
+        unopened: TableUnopenedJobs<S, R>,
         spare: TableSpare<S, R>,
         stop_seat: CutSeat,
         workers: u64,
     ) -> Result<(Vec<TableTask<S, R>>, Vec<TableIdle<S, R>>), NoMemory>
         requires stops { stop_table_of stop_seat ≡ R.stops }
-        ensures tasks { IfOk result (λ made. length made.0.items ≤ purse.jobs) }
+        ensures tasks { IfOk result (λ made. length made.0.items ≤ unopened.jobs) }
         ensures idles { IfOk result (λ made. length made.1.items ≡ workers) }
     {
         let mut tasks = Vec::new(self.alloc);
-        let unopened = purse.jobs;
-        let mut purse = purse;
-        for _opened in 0..unopened {
-            let (rest, begun) = self.open_one(purse);
-            purse = rest;
+        let count = unopened.jobs;
+        let mut unopened = unopened;
+        for _opened in 0..count {
+            let (rest, begun) = self.open_one(unopened);
+            unopened = rest;
             if let Some(begun) = begun {
                 tasks.push(Task::Begin(begun))?;
             }
         }
-        let first = empty(self.alloc, self.jobs, purse, spare, stop_seat);
+        let first = empty(self.alloc, self.jobs, unopened, spare, stop_seat);
         let idles = idle_seats(
             self.alloc,
             self.jobs,
@@ -93,17 +162,17 @@ impl<'a, S: JobSegments, R: Running> JobWork<'a, S, TablePart<S>, TableKept<S>, 
     }
 }
 
-/// What is left of a purse whose jobs are opened, and the credit of all workers.
+/// The credit of all workers, once all jobs are opened.
 fn empty<S: JobSegments, R: Running>(
     alloc: Global,
     jobs: &S,
-    purse: TablePurse<S, R>,
+    unopened: TableUnopenedJobs<S, R>,
     spare: TableSpare<S, R>,
     stop_seat: CutSeat,
 ) -> TableIdle<S, R>
     requires stops { stop_table_of stop_seat ≡ R.stops }
 {
-    let Purse { seat, jobs: _, of } = purse;
+    let UnopenedJobs { seat, jobs: _, of } = unopened;
     Idle {
         seat,
         spare: Some(spare),

@@ -70,9 +70,9 @@ fn left_out<S: JobSegments, R: Running>(
     }
 }
 
-/// Enters the gate and walks a piece, unless a place at or before its first position decides what the segment gives: then the gate isn't
-/// entered. If the segment's source isn't there, or what the job takes of earlier answers, it is as if an allocation had failed: the
-/// part is missing.
+/// Enters the gate and walks a piece, unless a place at or before its first position decides what the segment gives:
+/// then the gate isn't entered. If the segment's source isn't there, or what the job takes of earlier answers, it is as
+/// if an allocation had failed: the part is missing.
 pub(crate) fn part_of<S: JobSegments, R: Running, G: Gate>(
     work: &TableWork<S, R>,
     gate: &G,

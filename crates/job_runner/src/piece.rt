@@ -25,7 +25,7 @@ impl Piece {
     }
 }
 
-/// What a segment of a job goes over, what the job takes of the answers that it names, and those answers.
+/// What a segment of a job goes over, the job's inputs from the answers that it names, and those answers.
 #[derive(Drop)]
 pub struct SegmentInput<'i, S, G, E> {
     pub source: &'i S,

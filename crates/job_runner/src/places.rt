@@ -22,7 +22,7 @@ pub struct KeptSource<S: JobSegments> {
 /// The place of a segment's source, while it is read.
 pub(crate) type HeldSource<'w, S> = RwLockReadGuard<'w, Option<KeptSource<S>>>;
 
-/// What a job takes of the answers that it names, with the number of the job.
+/// The inputs of a job from the answers that it names, with the number of the job.
 #[derive(Drop)]
 pub struct KeptGiven<S: JobSegments> {
     pub(crate) job: usize,
@@ -40,8 +40,9 @@ pub struct KeptAnswer<S: JobSegments> {
     ghost is: { S.is_answer job answer } by { S.one_answer job answer },
 }
 
-/// The places of one job: for what it takes of earlier answers, for the source of each segment but the first, and for the answer.
-/// `first` is the number of its first segment among all segments of the run. A source lies in its place until its segment has ended.
+/// The places of one job: for what it takes of earlier answers, for the source of each segment but the first, and for
+/// the answer. `first` is the number of its first segment among all segments of the run. A source lies in its place
+/// until its segment has ended.
 #[derive(Drop)]
 pub struct JobPlaces<S: JobSegments> {
     pub(crate) job: usize,
@@ -96,7 +97,7 @@ pub(crate) fn word_of<S: JobSegments>(places: &[JobPlaces<S>], job: usize, segme
     }
 }
 
-/// This number of words after the first one, if there may be such a word; else the greatest u32.
+/// The number of a word this far after the first one, if there may be one; else the greatest u32.
 fn word_after(first: u64, segment: usize) -> u32
     ensures { result < 2 ^ 32 - 1 → (result ≡ first + segment) × (first < 2 ^ 64 - 1) }
 {
@@ -157,8 +158,8 @@ pub(crate) fn keep_source<S: JobSegments>(
     }
 }
 
-/// Empties the place of a segment that has ended, and frees what lay there. If a reader holds the place, the source stays until the run
-/// ends.
+/// Empties the place of a segment that has ended, and frees what lay there. If a reader holds the place, the source
+/// stays until the run ends.
 pub(crate) fn drop_source<S: JobSegments>(places: &[JobPlaces<S>], job: usize, segment: usize) {
     let Some(place) = source_place(places, job, segment) else {
         return;

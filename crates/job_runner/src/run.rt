@@ -8,10 +8,11 @@ ghost use Rattle.job_runner.specs.Stops.{stop_id_of};
 use crate::NoMemory;
 use crate::alone::answer_alone;
 use crate::earlier::Earlier;
+use crate::opening::TableFreshCounts;
 use crate::places::{JobPlaces, answer_in, empty_places};
 use crate::segments::JobSegments;
 use crate::task::{Running, TableIdle, TableTask};
-use crate::work::{JobWork, TableOpened, TableWork};
+use crate::work::{JobWork, TableWork};
 use run_settings::Settings;
 use std::alloc::Global;
 use std::marker::Brand;
@@ -19,7 +20,7 @@ use std::sync::Wait;
 use std::thread::Threads;
 use worker_pool::{Gate, run_pool};
 
-/// The answer that lies in the job's place. If there is none, it is worked out, from those of the jobs before it.
+/// The answer that lies in the job's place. If there is none, it is worked out from the answers of the jobs before it.
 fn read_answer<S: JobSegments, G: Gate>(
     alloc: Global,
     gate: &G,
@@ -105,7 +106,7 @@ fn run_on<
     gate: &G,
     jobs: &S,
     settings: Settings,
-    opened: TableOpened<S>,
+    opened: TableFreshCounts<S>,
 ) -> Result<Vec<JobPlaces<S>>, NoMemory>
 where
     S::Part: Send,
@@ -125,10 +126,11 @@ where
     Ok(places_of(work))
 }
 
-/// The answers of all jobs, in their order, worked out by as many workers as the settings say.
+/// The answers of all jobs, in their order, worked out by the number of workers that the settings say.
 ///
-/// Each piece that is walked enters the gate first. An answer that no task left is worked out here, in the jobs' order, which enters the
-/// gate once, for all of the job's source. `NoMemory` says that a job couldn't be worked out here either.
+/// Each piece that is walked enters the gate first. An answer that no task left is worked out here, in the jobs' order,
+/// which enters the gate once, for all of the job's source. `NoMemory` says that a job couldn't be worked out here
+/// either.
 pub fn run_all<S: JobSegments + Send + Sync, H: Threads + Wait + Sync, G: Gate + Sync>(
     rt: &H,
     alloc: Global,
@@ -146,7 +148,7 @@ where
     ensures count { IfOk result (λ answers. length answers.items ≡ S.job_count) }
     ensures each { IfOk result (λ answers. AreAnswers S.is_answer 0 answers.items) }
 {
-    let places = match TableOpened::<S>::new(alloc, jobs, settings)? {
+    let places = match TableFreshCounts::<S>::new(alloc, jobs, settings)? {
         Some(opened) => run_on::<S, Brand, H, G>(rt, alloc, gate, jobs, settings, opened)?,
         None => Vec::new(alloc),
     };

@@ -23,9 +23,10 @@ pub enum Begun<G, A> {
     Known(A),
 }
 
-/// Jobs, each a chain of segments: the first segment goes over the job's source, each further one over what the segment before it
-/// gives, and the last one gives the job's answer. A segment is walked in pieces, ranges of positions of its source, in any order
-/// and on any thread; the parts that the pieces give are merged side by side. A job may name earlier jobs, whose answers it takes.
+/// Jobs, each a chain of segments: the first segment goes over the job's source, each further one over what the segment
+/// before it gives, and the last one gives the job's answer. A segment is walked in pieces, ranges of positions of its
+/// source, in any order and on any thread; the parts that the pieces give are merged side by side. A job may name
+/// earlier jobs, whose answers it takes.
 pub trait JobSegments {
     /// What a piece of a segment gives.
     type Part: Drop;
@@ -39,10 +40,10 @@ pub trait JobSegments {
     /// What a job takes of the answers of the jobs that it names.
     type Given: Drop;
 
-    /// What a worker keeps from one leaf to the next, such as room to compute in. No part depends on what it holds.
+    /// What a worker keeps from one leaf to the next, like room to compute in. No part depends on what it holds.
     type Scratch: Drop;
 
-    /// What a job gives in place of a fault, as it is kept while the job is walked. An answer is made of it.
+    /// What a job gives after a fault, as it is kept while the job is walked. An answer is made of it.
     type Instead: Copy;
 
     /// What a segment gives, to contracts. No value of it is made.
@@ -63,15 +64,16 @@ pub trait JobSegments {
     // What a job's segment would give for a walk.
     ghost gives: { ℕ → ℕ → Trace → Self.Outcome };
 
-    // The part is what a job's segment gives for the positions from the first up to, not with, the second; positions at or after a
-    // place that decides what the segment gives may be left out.
+    // The part is what a job's segment gives for the positions from the first up to, not with, the second; positions at
+    // or after a place that decides what the segment gives may be left out.
     ghost stands_for: { ℕ → ℕ → ℕ → ℕ → Self.Part → Type 0 };
 
-    // A piece of a job's last segment among the positions from the first up to, not with, the second ends in this fault, and the job
-    // gives an answer in place of a fault.
+    // A piece of a job's last segment, among the positions from the first up to, not with, the second, ends in this
+    // fault, and the job gives another answer instead of a fault.
     ghost faults_with: { ℕ → ℕ → ℕ → ℕ → Fault → Type 0 };
 
-    // A part of a job's segment ends in this fault, and the job gives an answer in its place: the fault is handed in, and not the part.
+    // A part of a job's segment ends in this fault, and the job gives an answer in its place: the fault is handed in,
+    // and not the part.
     ghost is_caught: { ℕ → ℕ → Self.Part → Fault → Type 0 };
 
     // It is what a job's segment goes over.
@@ -107,16 +109,17 @@ pub trait JobSegments {
         requires job { job < job_count }
         ensures { result ≡ last_of job };
 
-    /// The different jobs that a job names. It begins after them. No answer rests on this.
+    /// The different jobs that a job names. It begins after them. No answer depends on it.
     fn names(&self, alloc: Global, job: usize) -> Result<Vec<usize>, NoMemory>
         requires job { job < job_count };
 
-    /// How many positions the first segment of a job has, as far as that is known before the run. No answer rests on this.
+    /// How many positions the first segment of a job has, as far as that is known before the run. No answer depends on
+    /// it.
     fn likely_size(&self, job: usize) -> u64
         requires job { job < job_count };
 
-    /// What a job takes of the answers that it names, or its answer, if there is nothing to walk. `NoMemory` also if an answer that it
-    /// names isn't there.
+    /// The result is the job's inputs from earlier jobs, or its answer if nothing is to be walked. `NoMemory` also if
+    /// an answer that it names isn't there.
     fn given<E: EarlierAnswers<Self::Answer>>(
         &self,
         alloc: Global,
@@ -140,7 +143,8 @@ pub trait JobSegments {
         requires given { is_given job given.now }
         ensures { result ≡ size_of job segment };
 
-    /// Whether a segment is walked in pieces, side by side. If not, it is one piece, whatever the threshold is. No answer rests on this.
+    /// Whether a segment is walked in pieces, side by side. If not, it is one piece, whatever the threshold is. No
+    /// answer depends on it.
     fn is_divided(&self, job: usize, segment: usize) -> bool
         requires job { job < job_count }
         requires segment { segment ≤ last_of job };
@@ -171,7 +175,7 @@ pub trait JobSegments {
         requires fault { faults_with piece.job piece.segment piece.from piece.to fault }
         ensures { result ≡ true → Decides (gives piece.job piece.segment) (goes_over piece.job piece.segment) piece.to };
 
-    /// The fault that ends a piece, if the job gives an answer in its place.
+    /// The fault that ends a piece, if the job gives another answer after a fault.
     fn fault(&self, piece: Piece, given: &Self::Given, part: &Self::Part) -> Option<Fault>
         requires piece { IsPiece job_count last_of size_of piece.job piece.segment piece.from piece.to }
         requires given { is_given piece.job given.now }
@@ -179,17 +183,18 @@ pub trait JobSegments {
         ensures among { IfSome result (λ fault. faults_with piece.job piece.segment piece.from piece.to fault) }
         ensures caught { (fault : Fault) → is_caught piece.job piece.segment part.now fault → result ≡ Some fault };
 
-    /// What a job gives in place of a fault, if anything.
+    /// What a job gives after a fault, if anything.
     fn instead(&self, job: usize) -> Option<Self::Instead>
         requires job { job < job_count }
         ensures { IsInstead faults_with size_of is_instead job result };
 
-    /// The answer of a job that gives this in place of a fault.
+    /// The answer of a job that gives `instead` after a fault.
     fn answer_instead(&self, job: usize, instead: Self::Instead) -> Self::Answer
         requires instead { is_instead job instead }
         ensures { is_answer job result };
 
-    /// Walks a piece. It may stop at a place that `stop` names, or after it. `NoMemory` also if an answer that the job names isn't there.
+    /// Walks a piece. It may stop at a place that `stop` names, or after it. `NoMemory` also if an answer that the job
+    /// names isn't there.
     fn leaf<E: EarlierAnswers<Self::Answer>, W: Stop>(
         &self,
         alloc: Global,
@@ -228,8 +233,8 @@ pub trait JobSegments {
         requires part { stands_for job segment 0 (size_of job segment) part }
         ensures { IfOk result (λ source. is_source job (segment + 1) source) };
 
-    /// Makes the answer of a job of the part of its whole last segment, which may be walked once more for it. `NoMemory` also if an
-    /// answer that the job names isn't there.
+    /// Makes the answer of a job of the part of its whole last segment, which may be walked once more for it.
+    /// `NoMemory` also if an answer that the job names isn't there.
     fn answer<E: EarlierAnswers<Self::Answer>>(
         &self,
         alloc: Global,

@@ -17,7 +17,7 @@ pub struct Start {
     pub(crate) node: Node,
     /// What it keeps: an arrival at the start node of each job that waits for its job, and one at END.
     pub(crate) onward: Vec<Node>,
-    /// The jobs that wait for its job, in the same order.
+    /// The jobs that wait for its job, in file order.
     pub(crate) waiting: Vec<Waiting>,
     ghost same: { onward.items ≡ nodes_in waiting.items ++ 0 ∷ [] },
 }

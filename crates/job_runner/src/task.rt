@@ -16,8 +16,8 @@ use early_stop::CutSeat;
 use pending_count::{Fits, Seat};
 use std::marker::{Brand, PhantomData};
 
-/// The table of a run's counts, the start nodes of its jobs and what they keep, and the sizes of its jobs. The function that runs the
-/// jobs picks them.
+/// The table of a run's counts, the start nodes of its jobs and what they keep, and the sizes of its jobs. The function
+/// that runs the jobs picks them.
 pub trait Running {
     ghost table: { TableId };
 
@@ -90,8 +90,8 @@ pub struct Spare<V, K: Fits<V, Tag = CutPiece>, R: Running> {
     ghost unplaced: { length (view_of seat).places ≡ 0 },
 }
 
-/// A worker's right to ask how many jobs are left, its credit, its seat at the words of early stop, and what it keeps from one leaf to
-/// the next.
+/// A worker's right to ask how many jobs are left, its credit, its seat at the words of early stop, and what it keeps
+/// from one leaf to the next.
 #[derive(Drop)]
 pub struct Idle<V, K: Fits<V, Tag = CutPiece>, R: Running, T> {
     pub(crate) seat: Seat<V, K>,
@@ -103,9 +103,10 @@ pub struct Idle<V, K: Fits<V, Tag = CutPiece>, R: Running, T> {
     ghost stops: { stop_table_of stop_seat ≡ R.stops },
 }
 
-/// The seat from which the openings are split off. It has an arrival at the start node of each job that isn't opened yet: the first `jobs`.
+/// The seat from which the openings are split off. It has an arrival at the start node of each job that isn't opened
+/// yet: the first `jobs`.
 #[derive(Drop)]
-pub struct Purse<V, K: Fits<V, Tag = CutPiece>, R: Running> {
+pub struct UnopenedJobs<V, K: Fits<V, Tag = CutPiece>, R: Running> {
     pub(crate) seat: Seat<V, K>,
     pub(crate) jobs: usize,
     pub(crate) of: PhantomData<R>,
@@ -118,7 +119,7 @@ pub struct Purse<V, K: Fits<V, Tag = CutPiece>, R: Running> {
 
 /// A segment that was walked whole, with the right to end its job.
 #[derive(Drop)]
-pub struct Whole<V, K: Fits<V, Tag = CutPiece>, R: Running> {
+pub struct FinishedSegment<V, K: Fits<V, Tag = CutPiece>, R: Running> {
     pub(crate) job: JobSeat<V, K, R>,
     pub(crate) segment: usize,
     pub(crate) part: V,
@@ -135,6 +136,6 @@ pub type TableSpare<S, R> = Spare<TablePart<S>, TableKept<S>, R>;
 
 pub type TableIdle<S, R> = Idle<TablePart<S>, TableKept<S>, R, <S as JobSegments>::Scratch>;
 
-pub type TablePurse<S, R> = Purse<TablePart<S>, TableKept<S>, R>;
+pub type TableUnopenedJobs<S, R> = UnopenedJobs<TablePart<S>, TableKept<S>, R>;
 
-pub type TableWhole<S, R> = Whole<TablePart<S>, TableKept<S>, R>;
+pub type TableFinishedSegment<S, R> = FinishedSegment<TablePart<S>, TableKept<S>, R>;

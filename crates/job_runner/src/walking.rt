@@ -1,20 +1,19 @@
 //! Pieces: cut in two while they are long, and walked.
-ghost use Rattle.std.specs.Prelude.{◌≡◌, ◌<◌, ◌≤◌, ℕ, Some, IfOk, IfSome};
+ghost use Rattle.std.specs.Prelude.{◌≡◌, ◌+◌, ◌<◌, ◌≤◌, ℕ, Some, IfErr, IfOk, IfSome};
 ghost use Rattle.trace.specs.declared.item.Fault.{Fault};
-ghost use Rattle.completer_tree.specs.Trees.{CanHand};
-ghost use Rattle.pending_count.specs.Seats.{view_of};
-ghost use Rattle.job_runner.specs.Cuts.{HandedIn, IfMerged, IsPiece, StandsWhole, begins, ends_at};
-ghost use Rattle.job_runner.specs.Tasks.{KnowsStarts, KnowsTop};
+ghost use Rattle.job_runner.specs.Cuts.{HandedIn, IfMerged, IsPiece, StandsWhole, begins, ends_at, positions_at};
 
 use crate::NoMemory;
 use crate::busy::TableBusy;
 use crate::cut::{CutPiece, Join, SegmentPart, TableKept, TablePart, is_left, side_at};
+use crate::nodes::share_of;
 use crate::parts::part_of;
 use crate::piece::Piece;
-use crate::places::kept_given;
+use crate::places::{kept_given, size_of};
 use crate::segments::JobSegments;
 use crate::task::{
-    JobSeat, Running, SideTask, TableJobSeat, TableSideTask, TableTask, TableWhole, Task, Whole,
+    FinishedSegment, JobSeat, Running, SideTask, TableFinishedSegment, TableJobSeat, TableSideTask,
+    TableTask, Task,
 };
 use crate::watch::Watch;
 use crate::work::{JobWork, TableWork};
@@ -40,7 +39,8 @@ fn fault_of<S: JobSegments, R: Running>(
     }
 }
 
-/// Walks a piece. What is handed in for it: its part, or the fault that ends it, if the job gives an answer in its place.
+/// Walks a piece. What is handed in for it: its part, or the fault that ends it, if the job gives an answer in its
+/// place.
 fn handed<S: JobSegments, R: Running, G: Gate>(
     work: &TableWork<S, R>,
     gate: &G,
@@ -66,15 +66,12 @@ fn handed<S: JobSegments, R: Running, G: Gate>(
 fn leaf<S: JobSegments, R: Running, G: Gate>(
     work: &TableWork<S, R>,
     gate: &G,
-    half: Half<TablePart<S>, TableKept<S>>,
+    side: TableSideTask<S, R>,
     busy: &mut TableBusy<'_, S, R>,
-) -> Option<TableWhole<S, R>>
-    requires can { CanHand R.table half.place half.seat }
-    requires top { KnowsTop (R.keeps half.place.tag.job) half.place.root (view_of half.seat) }
-    requires knows { KnowsStarts R.jobs R.start R.keeps (view_of half.seat) }
-    requires piece { IsPiece R.jobs R.last R.size half.place.tag.job half.place.tag.segment (begins half.place.tag half.place.side) (ends_at half.place.tag half.place.side) }
+) -> Option<TableFinishedSegment<S, R>>
     ensures { IfSome result (λ whole. StandsWhole S.stands_for S.is_instead S.size_of whole.job.job whole.segment (λ x. x.found) whole.part) }
 {
+    let SideTask { half, of: _ } = side;
     let Half { seat, place } = half;
     let cut = place.tag;
     let value = handed(work, gate, side_at(&place), busy);
@@ -88,7 +85,7 @@ fn leaf<S: JobSegments, R: Running, G: Gate>(
         job: cut.job,
         of: PhantomData,
     };
-    Some(Whole {
+    Some(FinishedSegment {
         job: begun,
         segment: cut.segment,
         part,
@@ -103,25 +100,30 @@ fn is_left_out<S: JobSegments, R: Running>(watch: &mut Watch<'_, S, R>, piece: P
     watch.seen() <= piece.from
 }
 
+/// The most positions of a piece of a segment that isn't cut. A segment that turns out longer than it was counted with isn't cut into
+/// more pieces than others, so that no worker spends all nodes on its beginning.
+fn longest_of<S: JobSegments, R: Running>(work: &TableWork<S, R>, job: usize, segment: usize) -> u64
+    requires known { (job < S.job_count) × (segment ≤ S.last_of job) }
+    ensures { 0 < result }
+{
+    match size_of(work.jobs, &work.places, job, segment) {
+        Some(size) => work.threshold.max(share_of(size, work.pieces)),
+        None => work.threshold,
+    }
+}
+
 impl<'a, S: JobSegments, R: Running> JobWork<'a, S, TablePart<S>, TableKept<S>, R> {
-    /// Walks one side of a cut. While it has more positions than the threshold and a node can be claimed, it is cut in two, and the right
-    /// side goes to the pool. `Some` is the whole segment, if this was its last part.
-    #[cycle(walk)]
+    /// Cuts one side of a cut in two, if a node can be claimed. If not, the side comes back.
     #[tactic(auto, using(crate::proofs::SameRun::as_planned))]
-    pub(crate) fn walk<G: Gate, P: Spawn<TableTask<S, R>>>(
+    fn cut_side(
         &self,
-        gate: &G,
         side: TableSideTask<S, R>,
-        spawn: &mut P,
-        busy: &mut TableBusy<'_, S, R>,
-    ) -> Option<TableWhole<S, R>>
-        ensures { IfSome result (λ whole. StandsWhole S.stands_for S.is_instead S.size_of whole.job.job whole.segment (λ x. x.found) whole.part) }
+    ) -> Result<(TableSideTask<S, R>, TableSideTask<S, R>), TableSideTask<S, R>>
+        requires long { begins side.half.place.tag side.half.place.side + 1 < ends_at side.half.place.tag side.half.place.side }
+        ensures shorter { IfOk result (λ cut. (positions_at cut.0.half.place < positions_at side.half.place) × (positions_at cut.1.half.place < positions_at side.half.place)) }
     {
         let SideTask { half, of: _ } = side;
         let piece = side_at(&half.place);
-        if piece.to - piece.from <= self.threshold || is_left_out(&mut busy.watch, piece) {
-            return leaf(self, gate, half, busy);
-        }
         let Half { seat, place } = half;
         let run = Join {
             cut: CutPiece::halves(piece),
@@ -131,7 +133,13 @@ impl<'a, S: JobSegments, R: Running> JobWork<'a, S, TablePart<S>, TableKept<S>, 
         };
         let tree = Tree::new(&self.counts, &[]);
         match tree.fork(seat, Some(place), run) {
-            Forked::Whole(seat, _run) => leaf(self, gate, Half { seat, place }, busy),
+            Forked::Whole(seat, _run) => {
+                let whole = SideTask {
+                    half: Half { seat, place },
+                    of: PhantomData,
+                };
+                Err(whole)
+            }
             Forked::Split(left, right) => {
                 let own = SideTask {
                     half: left,
@@ -141,8 +149,32 @@ impl<'a, S: JobSegments, R: Running> JobWork<'a, S, TablePart<S>, TableKept<S>, 
                     half: right,
                     of: PhantomData,
                 };
-                self.walk_both(gate, own, other, spawn, busy)
+                Ok((own, other))
             }
+        }
+    }
+
+    /// Walks one side of a cut. While it has more positions than `longest_of` says and a node can be claimed, it is cut in two, and the
+    /// right side goes to the pool. `Some` is the whole segment, if this was its last part.
+    #[cycle(walk)]
+    #[tactic(auto, using(crate::proofs::SameRun::as_planned))]
+    pub(crate) fn walk<G: Gate, P: Spawn<TableTask<S, R>>>(
+        &self,
+        gate: &G,
+        side: TableSideTask<S, R>,
+        spawn: &mut P,
+        busy: &mut TableBusy<'_, S, R>,
+    ) -> Option<TableFinishedSegment<S, R>>
+        ensures { IfSome result (λ whole. StandsWhole S.stands_for S.is_instead S.size_of whole.job.job whole.segment (λ x. x.found) whole.part) }
+    {
+        let piece = side_at(&side.half.place);
+        let longest = longest_of(self, piece.job, piece.segment);
+        if piece.to - piece.from <= longest || is_left_out(&mut busy.watch, piece) {
+            return leaf(self, gate, side, busy);
+        }
+        match self.cut_side(side) {
+            Ok((own, other)) => self.walk_both(gate, own, other, spawn, busy),
+            Err(whole) => leaf(self, gate, whole, busy),
         }
     }
 
@@ -155,7 +187,7 @@ impl<'a, S: JobSegments, R: Running> JobWork<'a, S, TablePart<S>, TableKept<S>, 
         other: TableSideTask<S, R>,
         spawn: &mut P,
         busy: &mut TableBusy<'_, S, R>,
-    ) -> Option<TableWhole<S, R>>
+    ) -> Option<TableFinishedSegment<S, R>>
         ensures { IfSome result (λ whole. StandsWhole S.stands_for S.is_instead S.size_of whole.job.job whole.segment (λ x. x.found) whole.part) }
     {
         let pushed = spawn.push(Task::Walk(other));
@@ -177,7 +209,7 @@ fn walk_whole<S: JobSegments, R: Running, G: Gate>(
     segment: usize,
     size: u64,
     busy: &mut TableBusy<'_, S, R>,
-) -> TableWhole<S, R>
+) -> TableFinishedSegment<S, R>
     requires known { segment ≤ R.last job.job }
     requires size { size ≡ R.size job.job segment }
     ensures { StandsWhole S.stands_for S.is_instead S.size_of result.job.job result.segment (λ x. x.found) result.part }
@@ -188,30 +220,24 @@ fn walk_whole<S: JobSegments, R: Running, G: Gate>(
         Ok(part) => Ok(SegmentPart::of_part(part)),
         Err(_refused) => Err(Failure::NoMemory),
     };
-    Whole { job, segment, part }
+    FinishedSegment { job, segment, part }
 }
 
 impl<'a, S: JobSegments, R: Running> JobWork<'a, S, TablePart<S>, TableKept<S>, R> {
-    /// Begins the tree of a segment, for which this worker pays. `Some` is the whole segment, if no part of it is left to others.
+    /// Cuts a segment in two, at the top of its tree, if a node can be claimed. If not, the right to end the job comes back.
     #[tactic(auto, using(crate::proofs::SeatLemmas::can_keep, crate::proofs::SameRun::as_planned))]
-    pub(crate) fn begin<G: Gate, P: Spawn<TableTask<S, R>>>(
+    fn cut_segment(
         &self,
-        gate: &G,
         begun: TableJobSeat<S, R>,
         segment: usize,
         size: u64,
-        spawn: &mut P,
-        busy: &mut TableBusy<'_, S, R>,
-    ) -> Option<TableWhole<S, R>>
+    ) -> Result<(TableSideTask<S, R>, TableSideTask<S, R>), TableJobSeat<S, R>>
         requires known { segment ≤ R.last begun.job }
         requires size { size ≡ R.size begun.job segment }
-        ensures { IfSome result (λ whole. StandsWhole S.stands_for S.is_instead S.size_of whole.job.job whole.segment (λ x. x.found) whole.part) }
+        requires long { 1 < size }
+        ensures same { IfErr result (λ back. back.job ≡ begun.job) }
     {
-        let job = begun.job;
-        if size <= self.threshold || !self.jobs.is_divided(job, segment) {
-            return Some(walk_whole(self, gate, begun, segment, size, busy));
-        }
-        let JobSeat { seat, job: _, of } = self.pay(begun, &mut busy.spare);
+        let JobSeat { seat, job, of } = begun;
         let all = Piece::all(job, segment, size);
         let run = Join {
             cut: CutPiece::halves(all),
@@ -223,7 +249,7 @@ impl<'a, S: JobSegments, R: Running> JobWork<'a, S, TablePart<S>, TableKept<S>, 
         match tree.fork(seat, None, run) {
             Forked::Whole(seat, _run) => {
                 let whole = JobSeat { seat, job, of };
-                Some(walk_whole(self, gate, whole, segment, size, busy))
+                Err(whole)
             }
             Forked::Split(left, right) => {
                 let own = SideTask {
@@ -234,8 +260,32 @@ impl<'a, S: JobSegments, R: Running> JobWork<'a, S, TablePart<S>, TableKept<S>, 
                     half: right,
                     of: PhantomData,
                 };
-                self.walk_both(gate, own, other, spawn, busy)
+                Ok((own, other))
             }
+        }
+    }
+
+    /// Begins the tree of a segment, for which this worker pays. `Some` is the whole segment, if no part of it is left to others.
+    pub(crate) fn begin<G: Gate, P: Spawn<TableTask<S, R>>>(
+        &self,
+        gate: &G,
+        begun: TableJobSeat<S, R>,
+        segment: usize,
+        size: u64,
+        spawn: &mut P,
+        busy: &mut TableBusy<'_, S, R>,
+    ) -> Option<TableFinishedSegment<S, R>>
+        requires known { segment ≤ R.last begun.job }
+        requires size { size ≡ R.size begun.job segment }
+        ensures { IfSome result (λ whole. StandsWhole S.stands_for S.is_instead S.size_of whole.job.job whole.segment (λ x. x.found) whole.part) }
+    {
+        if size <= self.threshold || !self.jobs.is_divided(begun.job, segment) {
+            return Some(walk_whole(self, gate, begun, segment, size, busy));
+        }
+        let paid = self.pay(begun, &mut busy.spare);
+        match self.cut_segment(paid, segment, size) {
+            Ok((own, other)) => self.walk_both(gate, own, other, spawn, busy),
+            Err(begun) => Some(walk_whole(self, gate, begun, segment, size, busy)),
         }
     }
 }

@@ -65,7 +65,8 @@ impl<S: JobSegments, R: Running> Watch<'_, S, R> {
         }
     }
 
-    /// Lowers the word of the segment to the end of positions among which a piece has this fault, if it isn't the end of the source.
+    /// Lowers the word of the segment to the end of positions among which a piece has this fault, if it isn't the end
+    /// of the source.
     fn lower_after_fault(&mut self, from: u64, to: u64, fault: Fault)
         requires fault { S.faults_with self.old.job self.old.segment from to fault }
     {

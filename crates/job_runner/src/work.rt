@@ -1,27 +1,27 @@
 //! The jobs of a run as work for a pool.
 ghost use Rattle.std.specs.Prelude.{◌≡◌, ◌-◌, ◌<◌, ◌≤◌, ◌++◌, ◌∷◌, ℕ, Some, [], length, IfSome, IfOk};
 ghost use Rattle.run_settings.specs.SettingsParts.{workers_of};
-ghost use Rattle.pending_count.specs.Seats.{actor_of, view_of, IsSeatOf};
+ghost use Rattle.pending_count.specs.Seats.{actor_of, view_of};
 ghost use Rattle.completer_tree.specs.Trees.{table_id_of};
-ghost use Rattle.early_stop.specs.Seats.{IsSeatOf as IsStopSeatOf, table_of as stop_table_of, segments_of, count_of};
+ghost use Rattle.early_stop.specs.Seats.{table_of as stop_table_of, segments_of, count_of};
 ghost use Rattle.job_runner.specs.Stops.{stop_id_of};
-ghost use Rattle.job_runner.specs.Starts.{HasStarts, kept_at, node_at};
+ghost use Rattle.job_runner.specs.Starts.{kept_at, node_at};
 ghost use Rattle.job_runner.specs.Waits.{nodes_in};
 
 use crate::NoMemory;
-use crate::arming::arm_all;
 use crate::busy::Busy;
 use crate::cut::{CutPiece, TableCounts, TableKept, TablePart};
-use crate::nodes::{most_positions, node_count, segment_count};
+use crate::nodes::{pieces_of_segment, segment_count};
+use crate::opening::{FreshCounts, TableFreshCounts};
 use crate::places::{JobPlaces, empty_places, kept_answer};
 use crate::segments::JobSegments;
 use crate::start::{Start, Waiting};
-use crate::stopping::{RunSegments, RunStops};
-use crate::task::{Idle, Running, TableIdle, TablePurse, TableSpare, TableTask, Task};
+use crate::stopping::RunStops;
+use crate::task::{Idle, Running, TableIdle, TableSpare, TableTask, TableUnopenedJobs, Task};
 use crate::watch::Watch;
 use completion_core::END;
 use early_stop::CutSeat;
-use pending_count::{Counts, Fits, Seat};
+use pending_count::{Counts, Fits};
 use run_settings::Settings;
 use std::alloc::Global;
 use std::marker::PhantomData;
@@ -35,6 +35,8 @@ pub struct JobWork<'a, S: JobSegments, V, K: Fits<V, Tag = CutPiece>, R: Running
     pub(crate) counts: Counts<V, K>,
     pub(crate) jobs: &'a S,
     pub(crate) threshold: u64,
+    /// The most pieces of a segment that has more positions than it was counted with.
+    pub(crate) pieces: u64,
     /// What a worker pays for each tree that it begins.
     pub(crate) share: u64,
     pub(crate) places: Vec<JobPlaces<S>>,
@@ -53,65 +55,14 @@ pub struct JobWork<'a, S: JobSegments, V, K: Fits<V, Tag = CutPiece>, R: Running
 
 pub type TableWork<'a, S, R> = JobWork<'a, S, TablePart<S>, TableKept<S>, R>;
 
-/// The counts of a run that hasn't begun, the start nodes of its jobs, and the seat that has an arrival at each of them.
-#[derive(Drop)]
-pub struct Opened<S: JobSegments, V, K: Fits<V, Tag = CutPiece>> {
-    pub(crate) counts: Counts<V, K>,
-    pub(crate) seat: Seat<V, K>,
-    pub(crate) starts: Vec<Start>,
-    pub(crate) stops: RunStops<S>,
-    pub(crate) stop_seat: CutSeat,
-    ghost seated: { IsSeatOf counts seat },
-    ghost started: { HasStarts 0 starts.items [] (view_of seat) },
-    ghost stop_seated: { IsStopSeatOf stops stop_seat },
-    ghost counted: { count_of stops ≡ (segments_of stops).count },
-}
-
-pub type TableOpened<S> = Opened<S, TablePart<S>, TableKept<S>>;
-
-impl<S: JobSegments> Opened<S, TablePart<S>, TableKept<S>> {
-    /// Makes the counts of a run, and no more nodes than its jobs can use. `None` if there can't be a node for each job.
-    pub fn new(
-        alloc: Global,
-        jobs: &S,
-        settings: Settings,
-    ) -> Result<Option<TableOpened<S>>, NoMemory>
-        ensures { IfOk result (λ o. IfSome o (λ opened. length opened.starts.items ≡ S.job_count)) }
-    {
-        let nodes = node_count(jobs, settings);
-        let (stops, stop_seat) = stop_words(alloc, jobs)?;
-        let (counts, seat) = TableCounts::<S>::new(alloc, nodes, jobs.jobs() as u64)?;
-        let Some((seat, starts)) = arm_all(alloc, jobs, &counts, seat)? else {
-            return Ok(None);
-        };
-        Ok(Some(Opened {
-            counts,
-            seat,
-            starts,
-            stops,
-            stop_seat,
-        }))
-    }
-}
-
-/// The words of early stop of a run, one for each segment.
-fn stop_words<S: JobSegments>(alloc: Global, jobs: &S) -> Result<(RunStops<S>, CutSeat), NoMemory>
-    ensures { IfOk result (λ made. IsStopSeatOf made.0 made.1 × (count_of made.0 ≡ (segments_of made.0).count)) }
-{
-    let segments = RunSegments::<S> {
-        count: segment_count(jobs).min(u64::from(u32::MAX)) as u32,
-        of: PhantomData,
-    };
-    RunStops::<S>::new(alloc, &segments)
-}
-
 impl<'a, S: JobSegments, R: Running> JobWork<'a, S, TablePart<S>, TableKept<S>, R> {
-    /// The work of a run, with what a pool takes for it: a task for each job that names no other one, and an `Idle` for each worker.
+    /// The work of a run, with what a pool takes for it: a task for each job that names no other one, and an `Idle` for
+    /// each worker.
     pub fn new(
         alloc: Global,
         jobs: &'a S,
         settings: Settings,
-        opened: TableOpened<S>,
+        opened: TableFreshCounts<S>,
     ) -> Result<
         (
             TableWork<'a, S, R>,
@@ -128,12 +79,14 @@ impl<'a, S: JobSegments, R: Running> JobWork<'a, S, TablePart<S>, TableKept<S>, 
         ensures tasks { IfOk result (λ made. length made.1.items ≤ S.job_count) }
         ensures idles { IfOk result (λ made. length made.2.items ≡ workers_of settings) }
     {
-        let Opened {
+        let places = empty_places(alloc, jobs)?;
+        let FreshCounts {
             counts,
             seat,
             starts,
             stops,
             stop_seat,
+            longest,
         } = opened;
         let half = seat.credit() / 2;
         let (seat, other) = counts.split(seat, END, 0, half);
@@ -141,14 +94,15 @@ impl<'a, S: JobSegments, R: Running> JobWork<'a, S, TablePart<S>, TableKept<S>, 
             alloc,
             counts,
             jobs,
-            threshold: most_positions(jobs, settings),
+            threshold: longest,
+            pieces: pieces_of_segment(settings),
             share: half / settings.workers() / segment_count(jobs).max(1),
-            places: empty_places(alloc, jobs)?,
+            places,
             starts,
             stops,
             of: PhantomData,
         };
-        let purse = TablePurse::<S, R> {
+        let unopened = TableUnopenedJobs::<S, R> {
             seat,
             jobs: jobs.jobs(),
             of: PhantomData,
@@ -157,7 +111,7 @@ impl<'a, S: JobSegments, R: Running> JobWork<'a, S, TablePart<S>, TableKept<S>, 
             seat: other,
             of: PhantomData,
         };
-        let (tasks, idles) = work.open_all(purse, spare, stop_seat, settings.workers())?;
+        let (tasks, idles) = work.open_all(unopened, spare, stop_seat, settings.workers())?;
         Ok((work, tasks, idles))
     }
 

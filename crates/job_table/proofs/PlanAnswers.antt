@@ -34,7 +34,7 @@ module _ (env : Numbers) where
       later (given_walk (ended (scanning g r) n env w)) ∙ ap (λ (x : Outcome). answer_at (slice_get ss (slices_first ss)) (source_at env (slices_first ss) ss (given_walk x))) (sym o)
   ends_there e f same n w s ss t is later = sym (ap given_answer (is ∙ ap (λ d. ended d n env w) same))
 
-  -- the answer of segments is that of the first which doesn't end in a slice
+  -- the answer of segments is the answer of the first which doesn't end in a slice
   pub answer_there : (ss : List AbstractSegment) (t : Trace) → segments_answer ss env t ≡ answer_at (slice_get ss (slices_first ss)) (source_at env (slices_first ss) ss t)
   answer_there [] t = refl
   answer_there (s ∷ ss) t = ends_there s.ending s.ending refl (last_stage s) (walk_of s env t) s ss t refl (λ u. answer_there ss u)

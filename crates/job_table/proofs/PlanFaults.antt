@@ -103,7 +103,7 @@ right_joined w size from to h = by (to == size)
 left_long : (w : Trace) (m : ℕ) → m ≤ length w.items → 0 + length (piece_of 0 (Some m) w).items ≡ m
 left_long w m h = let a = length-take (m - 0) (drop 0 w.items) in let d = length_dropped 0 w.items in omega arith
 
--- a walk that stands for all of it, if one stands for a piece
+-- a walk that describes all of it, if one describes a piece
 whole_of : (decides : ℕ → Type 0) (w : Trace) (size from to : ℕ) (t : Trace) → from ≤ to → from ≤ length w.items → IsEnough decides from (piece_between size from to w) t
     → IsEnough decides 0 w (append (piece_of 0 (Some from) w) (append t (right_of size to w)))
 whole_of decides w size from to t h low enough =
@@ -203,7 +203,7 @@ catches_it plans job segment q f p same h =
       λ e. (let z : None ≡ Some h.of = sym e ∙ ap (λ (ss : List AbstractSegment). slice_get ss segment) (sym segments) ∙ h.there in cc),
     )
 
--- what a job gives in place of a fault
+-- what a job gives after a fault
 pub instead_is : (plans : List AbstractPlan) (job : ℕ) (o : Option Fallback) → option_map fallback_in o ≡ (plan_at plans job).fallback → IsInstead (λ job segment from to f. FaultAmong plans job segment from to f) (λ job segment. size_at (chain_at plans job) segment) (λ job b. fallback_in b ≡ answer_of plans job) job o
 instead_is plans job (Some b) e = λ segment f h. caught_answer plans job segment (size_at (chain_at plans job) segment) f (fallback_in b) (sym e) h
 instead_is plans job None e = λ segment f h. nothing_caught plans job segment (size_at (chain_at plans job) segment) f (sym e) h

@@ -1,4 +1,4 @@
--- Condition: faults of pieces that the jobs of a plan catch.
+-- Condition: faults that the jobs of a plan catch.
 use Rattle.std.specs.Prelude.{◌≡◌, ◌<◌, ◌≤◌, ℕ, List, length, Option, Some, None, slice_get}
 use Rattle.trace.specs.declared.item.Fault.{Fault}
 use Rattle.job_meaning.specs.declared.answer.Answer.{Answer}
@@ -8,8 +8,8 @@ use Rattle.job_plan.specs.PlannedAnswers.{first_unusable_at}
 use Rattle.job_plan.specs.Plans.{AbstractPlan, AbstractSegment}
 use Rattle.job_table.specs.PlanSegments.{PartStands, answers_before, chain_at, plan_at, size_at, slices_first}
 
--- a part of this segment of the job ends in this fault; the segment gives the job's answer, by a fold; and the job gives an answer
--- in place of a fault
+-- a part of this segment of the job ends in this fault; the segment gives the job's answer, by a fold; and the job
+-- gives another answer after a fault
 pub record IsCaught (plans : List AbstractPlan) (job segment : ℕ) (p : Part) (f : Fault) : Type 0 where
   pub instead : Answer
   pub gives : (plan_at plans job).fallback ≡ Some instead

@@ -1,4 +1,4 @@
--- Condition: a law of faults that the jobs of a plan catch.
+-- Condition: a law of caught faults.
 use Rattle.std.proofs.Common.{ℕ, ◌≤◌, List, le_trans}
 use Rattle.trace.specs.declared.item.Fault.{Fault}
 use Rattle.job_plan.specs.Plans.{AbstractPlan}

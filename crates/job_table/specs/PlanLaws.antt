@@ -1,4 +1,4 @@
--- Condition: facts about plans, of which no two proofs differ.
+-- Condition: facts about plans that have one proof at most.
 use Rattle.std.proofs.Common.{◌≡◌, List, []}
 use base.Stored.{Coded-set, coded_list}
 use mir.Syntax.{static}

@@ -1,4 +1,4 @@
--- Condition: the segments of a plan: what each goes over, and what parts of it stand for.
+-- Condition: the segments of a plan: what each goes over, and what its parts describe.
 use Rattle.std.specs.Prelude.{ℕ, zero, suc, pos, ◌-◌, ◌^◌, min, take, Bool, true, false, List, [], ◌∷◌, length, Option, Some, None, IfSome, slice_get, slice_index_or, if◌then◌else◌, ◌==◌}
 use Rattle.lambda_values.specs.Earlier.{Numbers}
 use Rattle.trace.specs.Trace.{Trace, nothing}
@@ -15,8 +15,9 @@ use Rattle.job_plan.specs.Plans.{AbstractEnd, AbstractSegment, AbstractPlan, giv
 use Rattle.slice_ops.specs.Slices.{AbstractSlice, limit, skip, take_while, drop_while}
 use Rattle.job_plan.specs.Links.{plan_streams, walked_segments, walked_source}
 
--- what a run walks of a job: the segments after the slices that select positions of its sources and those that a walk goes
--- through, what the first of them goes over, the numbers of the jobs that it names, and whether a walk goes through slices
+-- what a run walks of a job: the segments after the slices that select positions of its sources and those that a walk
+-- goes through, what the first of them goes over, the numbers of the jobs that it names, and whether a walk goes
+-- through slices
 pub record AbstractChain : Type 0 where
   pub segments : List AbstractSegment
   pub source : Trace
@@ -46,7 +47,7 @@ chain_at plans job = chain_of (numbers_at (answers_before plans job) (plan_at pl
 abbrev pub one_more : AbstractEnd → ℕ → ℕ
 one_more e n = if gives_walk e then suc n else 0
 
--- how many of the first segments end in such a stage: the number of the segment that gives the answer
+-- how many of the first segments end in a stage that gives a walk: the number of the segment that gives the answer
 abbrev pub slices_first : List AbstractSegment → ℕ
 slices_first [] = 0
 slices_first (s ∷ ss) = one_more s.ending (slices_first ss)
@@ -70,8 +71,8 @@ walk_at chain segment = source_at chain.numbers segment chain.segments chain.sou
 abbrev pub walk_size : Trace → ℕ
 walk_size t = min (length t.items) (2 ^ 64 - 1)
 
--- how many positions the source of the segment with this number has for a run. A walk that goes through slices is one piece
--- without positions
+-- how many positions the source of the segment with this number has for a run. A walk that goes through slices is one
+-- piece without positions
 abbrev pub size_at : AbstractChain → ℕ → ℕ
 size_at chain zero = if chain.streams then 0 else walk_size chain.source
 size_at chain (suc k) = walk_size (walk_at chain (suc k))
@@ -105,7 +106,7 @@ slice_divides (skip n) = true
 slice_divides (take_while p) = false
 slice_divides (drop_while p) = true
 
--- helper: the same of a slice, if there is one
+-- helper: whether the segment of a slice, if there is one, is walked in pieces
 abbrev pub some_divides : Option AbstractSlice → Bool
 some_divides None = true
 some_divides (Some d) = slice_divides d

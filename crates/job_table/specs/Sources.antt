@@ -1,4 +1,4 @@
--- Condition: what the segments of a plan are kept to go over.
+-- Condition: what the segments of a plan go over, as it is kept.
 use Rattle.std.specs.Prelude.{◌≡◌, ◌<◌, ℕ}
 use Rattle.std.specs.Coded.{×_prop}
 use Rattle.std.proofs.Props.{props}

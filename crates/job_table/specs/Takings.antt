@@ -1,4 +1,4 @@
--- Condition: what the jobs of a plan take of the answers of the jobs that they name.
+-- Condition: what the jobs of a plan take of earlier answers.
 use Rattle.std.specs.Prelude.{◌≡◌, ℕ, List, None}
 use Rattle.std.specs.Coded.{×_prop}
 use Rattle.std.proofs.Props.{props}

@@ -12,7 +12,7 @@ pub enum SegmentSource<'a> {
     Kept(GivenWalk<'a>),
 }
 
-/// What a job takes of the answers of the jobs that it names.
+/// The inputs of a job from the answers of the jobs that it names.
 #[derive(Drop)]
 pub struct Taken {
     /// The numbers of its `$` names.

@@ -59,8 +59,8 @@ fn push_number(
     Ok(())
 }
 
-/// The array of an answer, as a source: borrowed if it lies in one piece, as each one does that a run has made for later jobs,
-/// and else copied.
+/// The array of an answer, as a source: borrowed if it lies in one piece, as each one does that a run has made for
+/// later jobs, and else copied.
 fn array_source(alloc: Global, answer: &Answer) -> Result<PlainSource<'_>, NoMemory>
     ensures { IfOk result (λ source. source_of source ≡ values (array_of answer.now)) }
 {
@@ -118,8 +118,8 @@ impl<'a, 'c, P: Planned> PlanJobs<'a, 'c, P> {
         Ok(true)
     }
 
-    /// The numbers that a job takes of the jobs that it names. Its answer, if it can't be run because of the first of them, in order
-    /// of writing, whose answer can't be used.
+    /// The numbers that a job takes of the jobs that it names. Its answer, if it can't be run because of the first of
+    /// them, in order of writing, whose answer can't be used.
     pub(crate) fn numbers<E: EarlierAnswers<Answer>>(
         &self,
         alloc: Global,
@@ -164,7 +164,7 @@ impl<'a, 'c, P: Planned> PlanJobs<'a, 'c, P> {
         }
     }
 
-    /// A source, with the array in place of `result(NAME)`. Values are borrowed.
+    /// A source; `result(NAME)` becomes the array of that job. Values are borrowed.
     fn put_source<'x, E: EarlierAnswers<Answer>>(
         &self,
         alloc: Global,
@@ -192,7 +192,7 @@ impl<'a, 'c, P: Planned> PlanJobs<'a, 'c, P> {
         }
     }
 
-    /// The sources of a job, with the array in place of each `result(NAME)`.
+    /// The sources of a job; each `result(NAME)` becomes the array of that job.
     pub(crate) fn put_sources<'x, E: EarlierAnswers<Answer>>(
         &self,
         alloc: Global,
@@ -212,7 +212,8 @@ impl<'a, 'c, P: Planned> PlanJobs<'a, 'c, P> {
         Ok(sources)
     }
 
-    /// How many positions the first segment of a job has: none if its walk goes through slices, which makes it one piece.
+    /// How many positions the first segment of a job has: none if its walk goes through slices, which makes it one
+    /// piece.
     pub(crate) fn first_size<E: EarlierAnswers<Answer>>(
         &self,
         alloc: Global,

@@ -37,8 +37,8 @@ pub(crate) fn slices_first(segments: &[Segment]) -> usize
     }
 }
 
-/// Whether a segment with this end is walked in pieces: not if `limit` or `takeWhile` ends it, since pieces after the place at which it
-/// ends would keep items for nothing.
+/// Whether a segment with this end is walked in pieces: not if `limit` or `takeWhile` ends it, since pieces after the
+/// place at which it ends would keep items for nothing.
 fn end_divides(end: &SegmentEnd) -> bool
     ensures { result ≡ end_divides (end_in end.now) }
 {
@@ -105,7 +105,8 @@ pub(crate) fn lent_piece<'a, W: Stop>(
     leaf_until(alloc, of, walked, window, registers, stop)
 }
 
-/// The same, of a source that may be gone before the part is.
+/// Walks a piece of a segment, as far as it matters, into a part that borrows no value of the source: the source may go
+/// before the part. A segment that isn't there has a part that says nothing.
 pub(crate) fn stored_piece<'a, W: Stop>(
     alloc: Global,
     plan: &'a JobPlan,
@@ -129,8 +130,8 @@ pub(crate) fn stored_piece<'a, W: Stop>(
     leaf_stored(alloc, of, walked, window, registers, stop)
 }
 
-/// Walks all of a job's sources through the slices before its first segment, and through this. A segment that isn't there has a part
-/// that says nothing.
+/// Walks all of a job's sources through the slices before its first segment, and through this. A segment that isn't
+/// there has a part that says nothing.
 pub(crate) fn streamed_piece<'a>(
     alloc: Global,
     plan: &'a JobPlan,
@@ -165,8 +166,8 @@ pub(crate) fn next_walk<'a>(
     }
 }
 
-/// The part of a whole segment, whose source is walked in order, so that `last_answer` gives an answer. A segment that isn't there has a
-/// part that says nothing.
+/// The part of a whole segment, whose source is walked in order, so that `last_answer` gives an answer. A segment that
+/// isn't there has a part that says nothing.
 pub(crate) fn part_in_order<'a>(
     alloc: Global,
     plan: &'a JobPlan,
@@ -184,7 +185,7 @@ pub(crate) fn part_in_order<'a>(
     leaf_in_order(alloc, of, walked, registers)
 }
 
-/// The same of the first segment, if the walk of the job's sources goes through slices before it.
+/// The part of a whole first segment whose sources are walked in order through the slices before it.
 pub(crate) fn streamed_part<'a>(
     alloc: Global,
     plan: &'a JobPlan,
@@ -202,8 +203,8 @@ pub(crate) fn streamed_part<'a>(
     streamed_in_order(alloc, plan.later_segments(), first, walked, registers)
 }
 
-/// The answer that the part of the whole last segment of a job gives. It is 0 if there is no such segment. `None` if the source of the segment
-/// has to be walked once more, in order.
+/// The answer that the part of the whole last segment of a job gives. It is 0 if there is no last segment. `None` if
+/// the source of the segment has to be walked once more, in order.
 pub(crate) fn last_answer(
     alloc: Global,
     plan: &JobPlan,
@@ -229,7 +230,7 @@ pub(crate) fn last_answer(
     }
 }
 
-/// The answer of a job, of the part of its whole last segment, with what the job gives in place of a fault.
+/// The answer of a job, of the part of its whole last segment, or what the job gives after a fault.
 pub(crate) fn job_answer(
     alloc: Global,
     plan: &JobPlan,
@@ -247,7 +248,7 @@ pub(crate) fn job_answer(
     }
 }
 
-/// Whether this segment gives the answer of a job that gives an answer in place of a fault.
+/// Whether this segment gives the answer of a job that gives another answer after a fault.
 pub(crate) fn catches(plan: &JobPlan, segment: usize) -> bool
     ensures instead { result ≡ true → (plan_in plan.now).fallback ≢ None }
     ensures last { result ≡ true → segment ≡ slices_first (walked_segments (plan_in plan.now)) }

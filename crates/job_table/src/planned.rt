@@ -16,7 +16,8 @@ use std::sync::Wait;
 use std::thread::Threads;
 use worker_pool::Gate;
 
-/// The jobs that a run is over, as they are kept. Whoever makes `PlanJobs` picks them: `run_jobs`, or a caller with a pool of its own.
+/// The jobs that a run is over, as they are kept. Whoever makes `PlanJobs` picks them: `run_jobs`, or a caller with a
+/// pool of its own.
 pub trait Planned {
     ghost jobs: { List job_plan };
 }
@@ -52,7 +53,7 @@ impl<'a, 'c, P: Planned> PlanJobs<'a, 'c, P> {
         &self.plan.jobs[job]
     }
 
-    /// The same, borrowed for as long as these jobs are.
+    /// The job with this number, borrowed for as long as these jobs are.
     pub(crate) fn own(&self, job: usize) -> &JobPlan<'c>
         requires { job < length P.jobs }
         ensures { plan_in result.now ≡ plan_at (plans_in P.jobs) job }
@@ -60,8 +61,8 @@ impl<'a, 'c, P: Planned> PlanJobs<'a, 'c, P> {
         self.job(job)
     }
 
-    /// The answer of a job as it is kept: in one piece, if a later job goes over its array, so that each of that one's leaves reads it
-    /// in place.
+    /// The answer of a job as it is kept: in one piece, if a later job goes over its array, so that each of that one's
+    /// leaves reads it in place.
     pub(crate) fn for_later_jobs(
         &self,
         alloc: Global,
@@ -99,10 +100,11 @@ pub enum RunFault {
     NoMemory,
 }
 
-/// The answers of the jobs of a plan, in file order, worked out by as many workers as the settings say.
+/// The answers of the jobs of a plan, in file order, worked out by the number of workers that the settings say.
 ///
-/// Each leaf is entered at the gate. A piece of at most `threshold` items is never cut. An answer that no task left is worked out by the caller, which enters
-/// the gate once, for all of the job's source. A job begins when the jobs that it names have ended.
+/// Each leaf is entered at the gate. A piece of at most `threshold` items is never cut. An answer that no task left is
+/// worked out by the caller, which enters the gate once, for all of the job's source. A job begins when the jobs that
+/// it names have ended.
 pub fn run_jobs<H: Threads + Wait + Sync, G: Gate + Sync>(
     rt: &H,
     alloc: Global,

@@ -3,8 +3,8 @@ use Rattle.std.proofs.Common.{◌≡◌, ◌⊎◌, inl, inr, ℕ, ◌+◌, ◌�
 use Rattle.lambda_expr.specs.declared.want.Want.{Want}
 use Rattle.lambda_expr.specs.declared.want.Want.TheVariants as want
 use Rattle.lambda_expr.specs.declared.lexeme.Lexeme.{Lexeme}
-use Rattle.lambda_expr.specs.declared.parse.Stop.{Stop}
-use Rattle.lambda_expr.specs.declared.parse.Stop.TheVariants.{At, NoMemory}
+use Rattle.lambda_expr.specs.declared.parse.ParseStop.{ParseStop}
+use Rattle.lambda_expr.specs.declared.parse.ParseStop.TheVariants.{At, NoMemory}
 use Rattle.lambda_expr.specs.declared.source.Opened.{Opened}
 use Rattle.lambda_expr.specs.Codes.{IsStop}
 use Rattle.lambda_expr.specs.Grammar.{Shape, Expression, IsExpression}
@@ -81,7 +81,7 @@ by_front ws (Ok o) is = by_operands ws o is (each_operands o.source (drop o.coun
 
 -- ---- bodies that are an expression
 
--- every want but that of a stream
+-- every want but the want of a stream
 abbrev pub IsPlain : Want → Type 0
 IsPlain want.Stream = ⊥
 IsPlain w = Unit {0}
@@ -122,6 +122,6 @@ plain_of want.Bool h = tt
 plain_of want.Stream h = absurd (h refl)
 plain_of want.Pair h = tt
 
-pub plain_stop : (w : Want) (ws : List Lexeme) (stop : Stop) → IsPlain w → IsStop Expression ws stop → IsStop (ABody w) ws stop
+pub plain_stop : (w : Want) (ws : List Lexeme) (stop : ParseStop) → IsPlain w → IsStop Expression ws stop → IsStop (ABody w) ws stop
 plain_stop w ws (At n) p s = plain_stops w ws n p s
 plain_stop w ws NoMemory p s = tt

@@ -9,7 +9,7 @@ use Rattle.lambda_expr.specs.declared.fault.ReadFault.TheVariants as fault
 use Rattle.lambda_values.specs.declared.lambda.PairForm.{PairForm}
 use Rattle.lambda_expr.specs.declared.want.Want.{Want}
 use Rattle.lambda_expr.specs.declared.want.Want.TheVariants as want
-use Rattle.lambda_expr.specs.declared.source.Source.{Source}
+use Rattle.lambda_expr.specs.declared.source.StreamSource.{StreamSource}
 use Rattle.lambda_expr.specs.Checks.{depth, fit, literals, names_known}
 use Rattle.lambda_expr.specs.Heads.{ALambda, BodyShape, expression, operands, parameters}
 use Rattle.lambda_expr.specs.Lexemes.{Names, lexemes_of, names_in}
@@ -55,7 +55,7 @@ lambda_verdict : (g : Option Inner) → IsVerdict (lambda_of g)
 lambda_verdict None = tt
 lambda_verdict (Some g) = tt
 
-streamed_verdict : (s : Source) (o : Option (List Long)) → IsVerdict (streamed s o)
+streamed_verdict : (s : StreamSource) (o : Option (List Long)) → IsVerdict (streamed s o)
 streamed_verdict s None = tt
 streamed_verdict s (Some es) = lambda_verdict (stream_of s es)
 

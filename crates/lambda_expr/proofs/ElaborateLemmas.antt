@@ -1,8 +1,8 @@
 -- The terms of operands on a stack, and the term of an expression from its steps.
 use Rattle.std.proofs.Common.{◌≡◌, List, [], ◌∷◌, ◌++◌, refl, sym, ap, ◌∙◌, append_assoc}
-use Rattle.lambda_expr.specs.declared.elaborate.Operand.{Operand}
-use Rattle.lambda_expr.specs.declared.step.Step.{Step}
-use Rattle.lambda_expr.specs.declared.step.Step.TheVariants as step
+use Rattle.lambda_expr.specs.declared.elaborate.TypedOperand.{TypedOperand}
+use Rattle.lambda_expr.specs.declared.step.ParseStep.{ParseStep}
+use Rattle.lambda_expr.specs.declared.step.ParseStep.TheVariants as step
 use Rattle.lambda_expr.specs.declared.step.Opening.TheVariants.{Paren, Call}
 use Rattle.lambda_expr.specs.Elaborating.{operands_of, typed_of, typed_step, typed_steps, top_typed}
 use Rattle.lambda_expr.specs.Grammar.{Shape, name, number, truth, reference, constant, prefix, binary, ternary, enclosed, postfix}
@@ -11,25 +11,25 @@ use Rattle.lambda_expr.specs.Stacks.{below, stacked}
 use Rattle.lambda_expr.specs.Typing.{Typed, typed, untyped}
 use Rattle.lambda_expr.proofs.StackLemmas.{none_left, popped_rest, popped_top}
 
-pub operands_of_append : (os : List Operand) (o : Operand) → operands_of (os ++ o ∷ []) ≡ operands_of os ++ typed_of o ∷ []
+pub operands_of_append : (os : List TypedOperand) (o : TypedOperand) → operands_of (os ++ o ∷ []) ≡ operands_of os ++ typed_of o ∷ []
 operands_of_append [] o = refl
 operands_of_append (p ∷ os) o = ap (λ v. typed_of p ∷ v) (operands_of_append os o)
 
-pub popped : (old new : List Operand) (o : Operand) (ts : List Typed) → old ≡ new ++ o ∷ [] → operands_of old ≡ stacked ts → (typed_of o ≡ top_typed ts) × (operands_of new ≡ stacked (below ts))
+pub popped : (old new : List TypedOperand) (o : TypedOperand) (ts : List Typed) → old ≡ new ++ o ∷ [] → operands_of old ≡ stacked ts → (typed_of o ≡ top_typed ts) × (operands_of new ≡ stacked (below ts))
 popped old new o ts is h =
     let flat : operands_of new ++ typed_of o ∷ [] ≡ stacked ts = sym (operands_of_append new o) ∙ ap operands_of (sym is) ∙ h in
     (popped_top untyped (typed_of o) (operands_of new) ts flat, popped_rest (typed_of o) (operands_of new) ts flat)
 
-pub popped_none : (old : List Operand) (ts : List Typed) → old ≡ [] → operands_of old ≡ stacked ts → (untyped ≡ top_typed ts) × ([] ≡ stacked (below ts))
+pub popped_none : (old : List TypedOperand) (ts : List Typed) → old ≡ [] → operands_of old ≡ stacked ts → (untyped ≡ top_typed ts) × ([] ≡ stacked (below ts))
 popped_none old ts is h =
     let empty : ts ≡ [] = none_left ts (ap operands_of (sym is) ∙ h) in
     (ap top_typed (sym empty), ap (λ ts. stacked (below ts)) (sym empty))
 
-pub typed_append : (h : Names) (ts : List Typed) (ss : List Step) (s : Step) → typed_steps h ts (ss ++ s ∷ []) ≡ typed_step h s (typed_steps h ts ss)
+pub typed_append : (h : Names) (ts : List Typed) (ss : List ParseStep) (s : ParseStep) → typed_steps h ts (ss ++ s ∷ []) ≡ typed_step h s (typed_steps h ts ss)
 typed_append h ts [] s = refl
 typed_append h ts (x ∷ ss) s = typed_append h (typed_step h x ts) ss s
 
-pub by_steps : (h : Names) (e : Shape) (ts : List Typed) (ss : List Step) → typed_steps h ts (postfix e ++ ss) ≡ typed_steps h (typed h e ∷ ts) ss
+pub by_steps : (h : Names) (e : Shape) (ts : List Typed) (ss : List ParseStep) → typed_steps h ts (postfix e ++ ss) ≡ typed_steps h (typed h e ∷ ts) ss
 by_steps h (name i) ts ss = refl
 by_steps h (number i) ts ss = refl
 by_steps h (truth i) ts ss = refl

@@ -12,7 +12,7 @@ first_of ws = first_name None ws
 abbrev pub second_of : List Word → Option (List ℕ)
 second_of ws = first_name (first_of ws) ws
 
--- the first name of words and more is that of the words, or else that of those that follow
+-- the first name of words and more is the first name of the words, or else of the ones that follow
 or_later : (b : Bool) (v : List ℕ) (all front later : Option (List ℕ)) → all ≡ option_or front later → (if b then all else Some v) ≡ option_or (if b then front else Some v) later
 or_later true v all front later h = h
 or_later false v all front later h = refl
@@ -48,7 +48,7 @@ none_beside : (taken : Option (List ℕ)) (ws : List Word) → first_of ws ≡ N
 none_beside None ws h = h
 none_beside (Some x) ws h = none_left x ws h
 
--- the second name of words is the same beside the first name of these words with more
+-- the second name of words doesn't change if these words with more give the first name
 second_by : (first : Option (List ℕ)) (xs ys : List Word) → first_of xs ≡ first → first_name first xs ≡ first_name (first_of (xs ++ ys)) xs
 second_by (Some x) xs ys h = ap (λ o. first_name o xs) (sym (first_stays None xs ys x h))
 second_by None xs ys h = h ∙ sym (none_beside (first_of (xs ++ ys)) xs h)
@@ -74,7 +74,7 @@ second_stays xs ys v x plain other =
     let some = some_first (Some x) xs v free in
     some.1 ∙ sym (first_stays (Some x) (xs ++ named v ∷ []) ys some.0 some.1)
 
--- the order of the last name of words is the same beside the first two names of these words with more
+-- the order of the last name of words doesn't change if these words with more give the first two names
 order_by : (x v : List ℕ) (b : Bool) (second later : Option (List ℕ)) → is_named v x ≡ b → (is_named v x ≡ false → second ≡ later) → order_of (Some x) second v ≡ order_of (Some x) later v
 order_by x v true second later is same = rw is refl
 order_by x v false second later is same = ap (λ o. order_of (Some x) o v) (same is)

@@ -1,8 +1,8 @@
 -- Any words are a lambda, or stop at a place.
 use Rattle.std.proofs.Common.{◌≡◌, ◌≢◌, ◌⊎◌, inl, inr, ℕ, zero, suc, ◌+◌, ◌<◌, ◌≤◌, List, [], ◌∷◌, length, drop, Result, Ok, Err, Option, Some, None, refl, sym, ap, ◌∙◌, ⊎_elim, arith}
 use Rattle.std.proofs.str.Laws.{order}
-use Rattle.lambda_expr.specs.declared.head.Mark.{Mark}
-use Rattle.lambda_expr.specs.declared.head.Mark.TheVariants as mark
+use Rattle.lambda_expr.specs.declared.head.HeadMark.{HeadMark}
+use Rattle.lambda_expr.specs.declared.head.HeadMark.TheVariants as mark
 use Rattle.lambda_expr.specs.declared.want.Want.{Want}
 use Rattle.lambda_expr.specs.declared.lexeme.Lexeme.{Lexeme}
 use Rattle.lambda_expr.specs.HeadReading.{IsMatched, AreTried, first_of}
@@ -12,7 +12,7 @@ use Rattle.lambda_expr.proofs.Bodies.{each_body}
 use Rattle.lambda_expr.proofs.Lambdas.{lambda_of, stops_in_body, stops_in_head}
 
 -- marks by number, and back
-abbrev code : Mark → ℕ
+abbrev code : HeadMark → ℕ
 code mark.LowerLong = 0
 code mark.Open = 1
 code mark.Comma = 2
@@ -20,7 +20,7 @@ code mark.Close = 3
 code mark.Arrow = 4
 code (mark.Parameter n) = suc (suc (suc (suc (suc n))))
 
-abbrev coded : ℕ → Mark
+abbrev coded : ℕ → HeadMark
 coded zero = mark.LowerLong
 coded (suc zero) = mark.Open
 coded (suc (suc zero)) = mark.Comma
@@ -28,7 +28,7 @@ coded (suc (suc (suc zero))) = mark.Close
 coded (suc (suc (suc (suc zero)))) = mark.Arrow
 coded (suc (suc (suc (suc (suc n))))) = mark.Parameter n
 
-back : (m : Mark) → coded (code m) ≡ m
+back : (m : HeadMark) → coded (code m) ≡ m
 back mark.LowerLong = refl
 back mark.Open = refl
 back mark.Comma = refl
@@ -36,26 +36,26 @@ back mark.Close = refl
 back mark.Arrow = refl
 back (mark.Parameter n) = refl
 
-same_or_not : (m n : Mark) → (m ≡ n) ⊎ (m ≢ n)
+same_or_not : (m n : HeadMark) → (m ≡ n) ⊎ (m ≢ n)
 same_or_not m n =
     ⊎_elim (λ (lt : code m < code n). inr (λ e. let same = ap code e in absurd (omega arith)))
     (λ (ge : code n ≤ code m). ⊎_elim (λ (gt : code n < code m). inr (λ e. let same = ap code e in absurd (omega arith))) (λ (le : code m ≤ code n). let same : code m ≡ code n = omega arith in inl (sym (back m) ∙ ap coded same ∙ back n)) (order (code n) (code m)))
     (order (code m) (code n))
 
-is_mark : (o : Option Mark) (m : Mark) → (o ≡ Some m) ⊎ (o ≢ Some m)
+is_mark : (o : Option HeadMark) (m : HeadMark) → (o ≡ Some m) ⊎ (o ≢ Some m)
 is_mark None m = inr (λ e. cc)
 is_mark (Some n) m = ⊎_elim (λ (e : n ≡ m). inl (ap Some e)) (λ (d : n ≢ m). inr (λ e. d (let same : n ≡ m = cc in same))) (same_or_not n m)
 
-match_by : (m : Mark) (p : List Mark) (w : Lexeme) (ws : List Lexeme) → (mark_of w ≡ Some m) ⊎ (mark_of w ≢ Some m) → (n : ℕ) × IsMatched p ws n → (n : ℕ) × IsMatched (m ∷ p) (w ∷ ws) n
+match_by : (m : HeadMark) (p : List HeadMark) (w : Lexeme) (ws : List Lexeme) → (mark_of w ≡ Some m) ⊎ (mark_of w ≢ Some m) → (n : ℕ) × IsMatched p ws n → (n : ℕ) × IsMatched (m ∷ p) (w ∷ ws) n
 match_by m p w ws (inl e) later = (suc later.0, (e, later.1))
 match_by m p w ws (inr d) later = (zero, d)
 
-each_match : (p : List Mark) (ws : List Lexeme) → (n : ℕ) × IsMatched p ws n
+each_match : (p : List HeadMark) (ws : List Lexeme) → (n : ℕ) × IsMatched p ws n
 each_match [] ws = (0, refl)
 each_match (m ∷ p) [] = (0, refl)
 each_match (m ∷ p) (w ∷ ws) = match_by m p w ws (is_mark (mark_of w) m) (each_match p ws)
 
-each_trial : (ps : List (List Mark)) (ws : List Lexeme) → (r : Result ℕ ℕ) × AreTried ps ws r
+each_trial : (ps : List (List HeadMark)) (ws : List Lexeme) → (r : Result ℕ ℕ) × AreTried ps ws r
 each_trial [] ws = (Err 0, refl)
 each_trial (p ∷ ps) ws =
     let later = each_trial ps ws in

@@ -5,7 +5,7 @@ use Rattle.lambda_expr.specs.declared.check.Summary.{Summary}
 use Rattle.lambda_expr.specs.declared.fault.ReadFault.TheVariants as fault
 use Rattle.lambda_expr.specs.declared.want.Want.{Want}
 use Rattle.lambda_values.specs.declared.lambda.PairForm.{PairForm}
-use Rattle.lambda_expr.specs.declared.step.Step.{Step}
+use Rattle.lambda_expr.specs.declared.step.ParseStep.{ParseStep}
 use Rattle.lambda_expr.specs.Checks.{depth, fit, literals, names_known}
 use Rattle.lambda_expr.specs.Elaborating.{top_typed, typed_steps}
 use Rattle.lambda_expr.specs.Grammar.{Shape, postfix}
@@ -18,10 +18,10 @@ use Rattle.lambda_expr.specs.Typing.{Typed, typed}
 use Rattle.lambda_expr.proofs.ElaborateLemmas as elaborate
 use Rattle.lambda_expr.proofs.SummaryLemmas as check
 
-pub summary_is : (p : ℕ) (e : Shape) (steps : List Step) (s : Summary) → steps ≡ postfix e → s ≡ top_summary (summary_steps p [] steps) → s ≡ summary p e
+pub summary_is : (p : ℕ) (e : Shape) (steps : List ParseStep) (s : Summary) → steps ≡ postfix e → s ≡ top_summary (summary_steps p [] steps) → s ≡ summary p e
 summary_is p e steps s is found = found ∙ ap (λ v. top_summary (summary_steps p [] v)) (is ∙ sym (append-nil (postfix e))) ∙ ap top_summary (check.by_steps p e [] [])
 
-pub typed_is : (p : Names) (e : Shape) (steps : List Step) (t : Typed) → steps ≡ postfix e → t ≡ top_typed (typed_steps p [] steps) → t ≡ typed p e
+pub typed_is : (p : Names) (e : Shape) (steps : List ParseStep) (t : Typed) → steps ≡ postfix e → t ≡ top_typed (typed_steps p [] steps) → t ≡ typed p e
 typed_is p e steps t is found = found ∙ ap (λ v. top_typed (typed_steps p [] v)) (is ∙ sym (append-nil (postfix e))) ∙ ap top_typed (elaborate.by_steps p e [] [])
 
 deep : (n : ℕ) → 64 < min n 65 → nat_lt 64 n ≡ true

@@ -1,6 +1,6 @@
 -- Words are one lambda, or stop at one place.
 use Rattle.std.proofs.Common.{◌≡◌, inl, inr, ℕ, ◌+◌, List, [], ◌∷◌, ◌++◌, drop, Result, Ok, Err, refl, ap, subst, sym, ◌∙◌}
-use Rattle.lambda_expr.specs.declared.head.Mark.{Mark}
+use Rattle.lambda_expr.specs.declared.head.HeadMark.{HeadMark}
 use Rattle.lambda_expr.specs.declared.want.Want.{Want}
 use Rattle.lambda_expr.specs.declared.want.Want.TheVariants as want
 use Rattle.lambda_expr.specs.declared.lexeme.Lexeme.{Lexeme}
@@ -15,7 +15,7 @@ use Rattle.lambda_expr.proofs.OneStream.{one_stream}
 use Rattle.lambda_expr.proofs.Sequences.{stop_same}
 use Rattle.lambda_expr.proofs.SourceLemmas.{stream_begins}
 
-one_apart : (p q : List Mark) → IsOneOf p (heads want.Long) → IsOneOf q (heads want.Long) → (t : List Mark) × (q ≡ p ++ t) → p ≡ q
+one_apart : (p q : List HeadMark) → IsOneOf p (heads want.Long) → IsOneOf q (heads want.Long) → (t : List HeadMark) × (q ≡ p ++ t) → p ≡ q
 one_apart p q (inl a) (inl b) l = a ∙ sym b
 one_apart p q (inl a) (inr (inl b)) l = absurd cc
 one_apart p q (inl a) (inr (inr (inl b))) l = absurd cc
@@ -30,7 +30,7 @@ one_apart p q (inr (inr (inl a))) (inr (inr (inl b))) l = a ∙ sym b
 one_apart p q (inr (inr (inl a))) (inr (inr (inr x))) l = absurd x
 one_apart p q (inr (inr (inr x))) b l = absurd x
 
-two_apart : (p q : List Mark) → IsOneOf p (heads want.Pair) → IsOneOf q (heads want.Pair) → (t : List Mark) × (q ≡ p ++ t) → p ≡ q
+two_apart : (p q : List HeadMark) → IsOneOf p (heads want.Pair) → IsOneOf q (heads want.Pair) → (t : List HeadMark) × (q ≡ p ++ t) → p ≡ q
 two_apart p q (inl a) (inl b) l = a ∙ sym b
 two_apart p q (inl a) (inr (inl b)) l = absurd cc
 two_apart p q (inl a) (inr (inr x)) l = absurd x

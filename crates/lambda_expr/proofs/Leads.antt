@@ -1,6 +1,6 @@
 -- Each expression is read: where its words lead.
 use Rattle.std.proofs.Common.{◌≡◌, ℕ, suc, ◌≤◌, List, [], ◌∷◌, ◌++◌, Some, refl, sym, ap, ◌∙◌, arith}
-use Rattle.lambda_expr.specs.declared.lexeme.Owner.TheVariants.{Math, Long}
+use Rattle.lambda_expr.specs.declared.lexeme.ClassName.TheVariants.{Math, Long}
 use Rattle.lambda_expr.specs.declared.step.Opening.{Opening}
 use Rattle.lambda_expr.specs.declared.step.Opening.TheVariants.{Paren, Call}
 use Rattle.lambda_expr.specs.declared.lexeme.Lexeme.{Lexeme}

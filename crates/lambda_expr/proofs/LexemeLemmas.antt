@@ -3,8 +3,8 @@ use Rattle.std.proofs.Common.{◌≡◌, ℕ, suc, ◌+◌, ◌<◌, ◌≤◌, 
 use Rattle.std.proofs.lemmas.List.{drop_more, drop_all, take_more}
 use Rattle.lambda_expr.specs.declared.lexeme.Lexeme.{Lexeme}
 use Rattle.lambda_expr.specs.declared.lexeme.Lexeme.TheVariants as lexeme
-use Rattle.lambda_expr.specs.declared.lexeme.Name.TheVariants.{Plain, Owner, Truth, LowerLong, LongStream}
-use Rattle.lambda_expr.specs.declared.lexeme.Owner.TheVariants.{Math, Long}
+use Rattle.lambda_expr.specs.declared.lexeme.Name.TheVariants.{Plain, ClassName, Truth, LowerLong, LongStream}
+use Rattle.lambda_expr.specs.declared.lexeme.ClassName.TheVariants.{Math, Long}
 use Rattle.lambda_expr.specs.Members.{is_named, member_of}
 use Rattle.lambda_expr.specs.Lexemes.{first_name, lexeme_of, lexemes_from, lexemes_in, order_of}
 use Rattle.lambda_expr.specs.Words.{Word, named, numeral, quoted, referred, sign, bad}
@@ -24,9 +24,9 @@ lexemes_on first second ws at w goal front lt is h =
 abbrev lexeme_in : List Word → ℕ → Word → Lexeme
 lexeme_in ws at w = lexeme_of (first_of ws) (second_of ws) at w
 
--- that of the last word is the same beside the names of these words with more
+-- the lexeme of the last word doesn't change if these words with more give the names
 name_by : (a b c d e f : Bool) (v : List ℕ) (early late : ℕ) → ((a || b || c || d || e || f) ≡ false → early ≡ late)
-    → (let name = λ (n : ℕ). if a then Owner Math else (if b then Owner Long else (if c then LongStream else (if d then LowerLong else (if e then Truth true else (if f then Truth false else Plain (record { number = n; member = member_of v })))))) in name early ≡ name late)
+    → (let name = λ (n : ℕ). if a then ClassName Math else (if b then ClassName Long else (if c then LongStream else (if d then LowerLong else (if e then Truth true else (if f then Truth false else Plain (record { number = n; member = member_of v })))))) in name early ≡ name late)
 name_by true b c d e f v early late same = refl
 name_by false true c d e f v early late same = refl
 name_by false false true d e f v early late same = refl
@@ -48,7 +48,8 @@ lexeme_stays xs ys at (referred v) = refl
 lexeme_stays xs ys at (sign s) = refl
 lexeme_stays xs ys at bad = refl
 
--- a pass that has come to a place knows the first two names of the words before it, and has made the lexemes of these words
+-- a pass that has come to a place knows the first two names of the words before it, and has made the lexemes of these
+-- words
 pub record Pass (first second : Option (List ℕ)) (at : ℕ) (lexemes : List Lexeme) (ws : List Word) : Type 0 where
   pub knows_first : first ≡ first_of (take at ws)
   pub knows_second : second ≡ second_of (take at ws)
@@ -74,6 +75,6 @@ one_more first second here other at front ws w lt is pass met later =
           ∙ lexemes_on (first_of ws) (second_of ws) ws at w (lexemes_in ws) front lt is pass.makes;
     }
 
--- at the end it has made those of all words
+-- at the end it has made the lexemes of all words
 pub all_made : (first second : Option (List ℕ)) (at : ℕ) (lexemes : List Lexeme) (ws : List Word) → length ws ≤ at → Pass first second at lexemes ws → lexemes ≡ lexemes_in ws
 all_made first second at lexemes ws past pass = sym (append-nil lexemes) ∙ ap (λ v. lexemes ++ lexemes_from (first_of ws) (second_of ws) at v) (sym (drop_all at ws past)) ∙ pass.makes

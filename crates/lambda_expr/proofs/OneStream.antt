@@ -4,7 +4,7 @@ use Rattle.lambda_expr.specs.declared.lexeme.Lexeme.{Lexeme}
 use Rattle.lambda_expr.specs.declared.lexeme.Lexeme.TheVariants as word
 use Rattle.lambda_expr.specs.declared.lexeme.Name.TheVariants.{Plain, LongStream}
 use Rattle.lambda_expr.specs.declared.lexeme.PlainName.{PlainName}
-use Rattle.lambda_expr.specs.declared.source.Source.{Source}
+use Rattle.lambda_expr.specs.declared.source.StreamSource.{StreamSource}
 use Rattle.lambda_expr.specs.declared.source.Opened.{Opened}
 use Rattle.lambda_expr.specs.Grammar.{Shape}
 use Rattle.lambda_expr.specs.SourceReading.{dotted_at, named_at, opened_at, sourced_at, stream_at}
@@ -13,7 +13,7 @@ use Rattle.lambda_expr.proofs.OperandLemmas.{one_list}
 
 -- ---- the front, from what is read
 
-opened_ok : (n : ℕ) (s : Source) (ws : List Lexeme) (o : Opened) → opened_at n s ws ≡ Ok o → (o.source ≡ s) × (o.count ≡ n + 1) × ((es : List Shape) → AreOperands s es (drop 1 ws) → IsOpened s es ws)
+opened_ok : (n : ℕ) (s : StreamSource) (ws : List Lexeme) (o : Opened) → opened_at n s ws ≡ Ok o → (o.source ≡ s) × (o.count ≡ n + 1) × ((es : List Shape) → AreOperands s es (drop 1 ws) → IsOpened s es ws)
 opened_ok n s [] o h = absurd cc
 opened_ok n s (word.Open ∷ ws) o h = (cc, cc, λ es a. a)
 opened_ok n s (w ∷ ws) o h = absurd cc
@@ -21,7 +21,7 @@ opened_ok n s (w ∷ ws) o h = absurd cc
 abbrev IsNamedFront : ℕ → List Lexeme → Opened → Type 0
 IsNamedFront n ws o = (o.count ≡ n + 2) × ((es : List Shape) → AreOperands o.source es (drop 2 ws) → IsNamed o.source es ws)
 
-sourced_ok : (n : ℕ) (i : PlainName) (s : Option Source) (ws : List Lexeme) (o : Opened) → source_of i.member ≡ s → sourced_at n s ws ≡ Ok o → IsNamedFront n (word.Name (Plain i) ∷ ws) o
+sourced_ok : (n : ℕ) (i : PlainName) (s : Option StreamSource) (ws : List Lexeme) (o : Opened) → source_of i.member ≡ s → sourced_at n s ws ≡ Ok o → IsNamedFront n (word.Name (Plain i) ∷ ws) o
 sourced_ok n i None ws o is h = absurd cc
 sourced_ok n i (Some s) ws o is h =
     let k = opened_ok (n + 1) s ws o h in
@@ -49,25 +49,25 @@ stream_ok ws o es h a = let k = front_ok ws o h in k.2 es (subst (λ n. AreOpera
 
 -- ---- one front
 
-one_opened : (s t : Source) (es fs : List Shape) (ws : List Lexeme) → IsOpened s es ws → IsOpened t fs ws → es ≡ fs
+one_opened : (s t : StreamSource) (es fs : List Shape) (ws : List Lexeme) → IsOpened s es ws → IsOpened t fs ws → es ≡ fs
 one_opened s t es fs [] a b = absurd a
 one_opened s t es fs (word.Open ∷ ws) a b = one_list es fs a.bound b.bound (a.spelled ∙ sym b.spelled)
 one_opened s t es fs (w ∷ ws) a b = absurd a
 
-one_source : (s t : Source) (o : Option Source) → o ≡ Some s → o ≡ Some t → s ≡ t
+one_source : (s t : StreamSource) (o : Option StreamSource) → o ≡ Some s → o ≡ Some t → s ≡ t
 one_source s t o a b = cc
 
-one_named : (s t : Source) (es fs : List Shape) (ws : List Lexeme) → IsNamed s es ws → IsNamed t fs ws → (s ≡ t) × (es ≡ fs)
+one_named : (s t : StreamSource) (es fs : List Shape) (ws : List Lexeme) → IsNamed s es ws → IsNamed t fs ws → (s ≡ t) × (es ≡ fs)
 one_named s t es fs [] a b = absurd a
 one_named s t es fs (word.Name (Plain i) ∷ ws) a b = (one_source s t (source_of i.member) a.0 b.0, one_opened s t es fs ws a.1 b.1)
 one_named s t es fs (w ∷ ws) a b = absurd a
 
-one_dotted : (s t : Source) (es fs : List Shape) (ws : List Lexeme) → IsDotted s es ws → IsDotted t fs ws → (s ≡ t) × (es ≡ fs)
+one_dotted : (s t : StreamSource) (es fs : List Shape) (ws : List Lexeme) → IsDotted s es ws → IsDotted t fs ws → (s ≡ t) × (es ≡ fs)
 one_dotted s t es fs [] a b = absurd a
 one_dotted s t es fs (word.Dot ∷ ws) a b = one_named s t es fs ws a b
 one_dotted s t es fs (w ∷ ws) a b = absurd a
 
-pub one_stream : (s t : Source) (es fs : List Shape) (ws : List Lexeme) → IsStream s es ws → IsStream t fs ws → (s ≡ t) × (es ≡ fs)
+pub one_stream : (s t : StreamSource) (es fs : List Shape) (ws : List Lexeme) → IsStream s es ws → IsStream t fs ws → (s ≡ t) × (es ≡ fs)
 one_stream s t es fs [] a b = absurd a
 one_stream s t es fs (word.Name LongStream ∷ ws) a b = one_dotted s t es fs ws a b
 one_stream s t es fs (word.Name (Plain i) ∷ ws) a b = one_named s t es fs (word.Name (Plain i) ∷ ws) a b

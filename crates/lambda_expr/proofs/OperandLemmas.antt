@@ -4,8 +4,8 @@ use Rattle.std.proofs.lemmas.List.{take_all, take_more, take-append-drop}
 use Rattle.lambda_expr.specs.declared.lexeme.Lexeme.{Lexeme}
 use Rattle.lambda_expr.specs.declared.lexeme.Lexeme.TheVariants as word
 use Rattle.lambda_expr.specs.declared.sign.Sign.TheVariants as sign
-use Rattle.lambda_expr.specs.declared.source.Source.{Source}
-use Rattle.lambda_expr.specs.declared.source.Source.TheVariants as source
+use Rattle.lambda_expr.specs.declared.source.StreamSource.{StreamSource}
+use Rattle.lambda_expr.specs.declared.source.StreamSource.TheVariants as source
 use Rattle.lambda_expr.specs.Grammar.{Shape, number, spells, Binds, IsExpression, Expression}
 use Rattle.lambda_expr.specs.Reader.{wants, stuck, operates, shuts, reads, result_of}
 use Rattle.lambda_expr.specs.SourceReading.{IsNext, Next, TakesMore}
@@ -20,7 +20,7 @@ pub data Ends : Lexeme → Type 0 where
   comma : Ends (word.Sign sign.Comma)
   close : Ends word.Close
 
--- after an expression such a word is stuck
+-- after an expression a word that ends an operand is stuck
 ends_stuck : (e : Shape) (u : Lexeme) → Binds 1 e → Ends u → reads (wants []) (spells e ++ u ∷ []) ≡ stuck
 ends_stuck e u b comma =
     let l = leads e [] b in
@@ -78,20 +78,20 @@ zeros_length : (k : ℕ) → length (zeros k) ≡ k
 zeros_length zero = refl
 zeros_length (suc k) = ap suc (zeros_length k)
 
-more_yes : (s : Source) (n : ℕ) → TakesMore s n → (k : ℕ) × Takes s (n + suc k)
+more_yes : (s : StreamSource) (n : ℕ) → TakesMore s n → (k : ℕ) × Takes s (n + suc k)
 more_yes source.Range n h = (1 - n, omega arith)
 more_yes source.RangeClosed n h = (1 - n, omega arith)
 more_yes source.Of n h = (0, tt)
 more_yes source.Empty n h = absurd h
 
-pub more_no : (s : Source) (n k : ℕ) → (TakesMore s n → ⊥) → Takes s (n + suc k) → ⊥
+pub more_no : (s : StreamSource) (n k : ℕ) → (TakesMore s n → ⊥) → Takes s (n + suc k) → ⊥
 more_no source.Range n k h t = h (omega arith)
 more_no source.RangeClosed n k h t = h (omega arith)
 more_no source.Of n k h t = h tt
 more_no source.Empty n k h t = omega arith
 
 -- what begins an expression begins operands
-next_begins : (s : Source) (n : ℕ) (c : List Lexeme) → TakesMore s n → Begins Expression c → Begins (Next s n) c
+next_begins : (s : StreamSource) (n : ℕ) (c : List Lexeme) → TakesMore s n → Begins Expression c → Begins (Next s n) c
 next_begins s n c t b =
     let k = more_yes s n t in
     let es = zeros k.0 in (
@@ -115,46 +115,46 @@ pub record IsCut (c : List Lexeme) (w : Lexeme) : Type 0 where
   pub none : Begins Expression (c ++ w ∷ []) → ⊥
 
 -- nothing is an operand and its end there
-pub stops_cut : (s : Source) (n : ℕ) (c : List Lexeme) (w : Lexeme) (r : List Lexeme) → TakesMore s n → IsCut c w → ((e : Shape) (es : List Shape) (m : List Lexeme) → Takes s (n + suc (length es)) → IsExpression c e → further es ≡ w ∷ m → ⊥) → StopsAt (Next s n) (c ++ w ∷ r) (length c)
+pub stops_cut : (s : StreamSource) (n : ℕ) (c : List Lexeme) (w : Lexeme) (r : List Lexeme) → TakesMore s n → IsCut c w → ((e : Shape) (es : List Shape) (m : List Lexeme) → Takes s (n + suc (length es)) → IsExpression c e → further es ≡ w ∷ m → ⊥) → StopsAt (Next s n) (c ++ w ∷ r) (length c)
 stops_cut s n c w r t cut dead = stop_at (Next s n) c w r (next_begins s n c t cut.begins) (λ m x.
     let p = split x.0 x.1 c w m x.2.bound.0 cut.begins cut.none x.2.spelled in
     dead x.0 x.1 m x.2.count (record { binds = x.2.bound.0; spelled = p.0 }) p.1)
 
 -- the end of the words
-pub stops_open : (s : Source) (n : ℕ) (c : List Lexeme) → TakesMore s n → Begins Expression c → StopsAt (Next s n) c (length c)
+pub stops_open : (s : StreamSource) (n : ℕ) (c : List Lexeme) → TakesMore s n → Begins Expression c → StopsAt (Next s n) c (length c)
 stops_open s n c t b = stop_end (Next s n) c (next_begins s n c t b) (λ x.
     let f = further_ends x.1 in
     ends_none x.0 f.word f.rest x.2.bound.0 f.ends (subst (Begins Expression) (sym (ap (λ v. spells x.0 ++ v) (sym f.is) ∙ x.2.spelled)) b))
 
 -- after a comma
-comma_by : (s : Source) (n : ℕ) (e : Shape) (es : List Shape) (m : List Lexeme) → Takes s (n + suc (length es)) → AreBound es → further es ≡ word.Sign sign.Comma ∷ m → Next s (suc n) m
+comma_by : (s : StreamSource) (n : ℕ) (e : Shape) (es : List Shape) (m : List Lexeme) → Takes s (n + suc (length es)) → AreBound es → further es ≡ word.Sign sign.Comma ∷ m → Next s (suc n) m
 comma_by s n e [] m t b is = absurd cc
 comma_by s n e (f ∷ es) m t b is = (f, es, record { count = subst (Takes s) (omega arith) t; bound = b; spelled = let k : spells f ++ further es ≡ m = cc in k })
 
-comma_to : (s : Source) (n : ℕ) (c m : List Lexeme) → IsCut c (word.Sign sign.Comma) → Next s n (c ++ word.Sign sign.Comma ∷ m) → Next s (suc n) m
+comma_to : (s : StreamSource) (n : ℕ) (c m : List Lexeme) → IsCut c (word.Sign sign.Comma) → Next s n (c ++ word.Sign sign.Comma ∷ m) → Next s (suc n) m
 comma_to s n c m cut x =
     let p = split x.0 x.1 c (word.Sign sign.Comma) m x.2.bound.0 cut.begins cut.none x.2.spelled in
     comma_by s n x.0 x.1 m x.2.count x.2.bound.1 p.1
 
-pub comma_from : (s : Source) (n : ℕ) (c m : List Lexeme) (e f : Shape) (es : List Shape) → IsExpression c e → IsNext s (suc n) f es m → IsNext s n e (f ∷ es) (c ++ word.Sign sign.Comma ∷ m)
+pub comma_from : (s : StreamSource) (n : ℕ) (c m : List Lexeme) (e f : Shape) (es : List Shape) → IsExpression c e → IsNext s (suc n) f es m → IsNext s n e (f ∷ es) (c ++ word.Sign sign.Comma ∷ m)
 comma_from s n c m e f es x y = record {
   count = subst (Takes s) (omega arith) y.count;
   bound = (x.binds, y.bound);
   spelled = ap (λ v. v ++ word.Sign sign.Comma ∷ (spells f ++ further es)) x.spelled ∙ ap (λ v. c ++ word.Sign sign.Comma ∷ v) y.spelled;
 }
 
-pub stops_comma : (s : Source) (n : ℕ) (c : List Lexeme) (r : List Lexeme) (e : Shape) (q : ℕ) → IsCut c (word.Sign sign.Comma) → IsExpression c e → StopsAt (Next s (suc n)) r q → StopsAt (Next s n) ((c ++ word.Sign sign.Comma ∷ []) ++ r) (length (c ++ word.Sign sign.Comma ∷ []) + q)
+pub stops_comma : (s : StreamSource) (n : ℕ) (c : List Lexeme) (r : List Lexeme) (e : Shape) (q : ℕ) → IsCut c (word.Sign sign.Comma) → IsExpression c e → StopsAt (Next s (suc n)) r q → StopsAt (Next s n) ((c ++ word.Sign sign.Comma ∷ []) ++ r) (length (c ++ word.Sign sign.Comma ∷ []) + q)
 stops_comma s n c r e q cut x stops = stop_after_all (Next s n) (Next s (suc n)) (c ++ word.Sign sign.Comma ∷ []) r q (λ m y. comma_to s n c m cut (subst (Next s n) (append_assoc c (word.Sign sign.Comma ∷ []) m) y)) (λ m y. subst (Next s n) (sym (append_assoc c (word.Sign sign.Comma ∷ []) m)) (e, y.0 ∷ y.1, comma_from s n c m e y.0 y.1 x y.2)) stops
 
 -- after a parenthesis that closes
-pub whole_close : (s : Source) (n : ℕ) (c : List Lexeme) (e : Shape) → Takes s (n + 1) → IsExpression c e → IsNext s n e [] (c ++ word.Close ∷ [])
+pub whole_close : (s : StreamSource) (n : ℕ) (c : List Lexeme) (e : Shape) → Takes s (n + 1) → IsExpression c e → IsNext s n e [] (c ++ word.Close ∷ [])
 whole_close s n c e t x = record { count = t; bound = (x.binds, tt); spelled = ap (λ v. v ++ word.Close ∷ []) x.spelled }
 
 close_dead : (es : List Shape) (u : Lexeme) (m : List Lexeme) → further es ≡ word.Close ∷ (u ∷ m) → ⊥
 close_dead [] u m h = cc
 close_dead (e ∷ es) u m h = cc
 
-pub stops_close : (s : Source) (n : ℕ) (c : List Lexeme) (e : Shape) (u : Lexeme) (r : List Lexeme) → Takes s (n + 1) → IsCut c word.Close → IsExpression c e → StopsAt (Next s n) ((c ++ word.Close ∷ []) ++ u ∷ r) (length (c ++ word.Close ∷ []))
+pub stops_close : (s : StreamSource) (n : ℕ) (c : List Lexeme) (e : Shape) (u : Lexeme) (r : List Lexeme) → Takes s (n + 1) → IsCut c word.Close → IsExpression c e → StopsAt (Next s n) ((c ++ word.Close ∷ []) ++ u ∷ r) (length (c ++ word.Close ∷ []))
 stops_close s n c e u r t cut x = stop_at (Next s n) (c ++ word.Close ∷ []) u r ([], (e, [], subst (IsNext s n e []) (sym (append-nil (c ++ word.Close ∷ []))) (whole_close s n c e t x))) (λ m y.
     let p = split y.0 y.1 c word.Close (u ∷ m) y.2.bound.0 cut.begins cut.none (y.2.spelled ∙ append_assoc c (word.Close ∷ []) (u ∷ m)) in
     close_dead y.1 u m p.1)
@@ -235,11 +235,11 @@ pub at_place : (G : List Lexeme → Type 0) (ws : List Lexeme) (k : ℕ) (d : Le
 at_place G ws k d lt s = subst (StopsAt G ws) (long ws k (omega arith)) (subst (λ v. StopsAt G v (length (take k ws))) (in_words ws k d lt) s)
 
 -- the words in front of the place where an expression stops are none
-pub no_front : (ws : List Lexeme) (k : ℕ) (s : Source) (n : ℕ) → TakesMore s n → k < length ws → StopsAt Expression ws k → (Expression (take k ws) → ⊥) → StopsAt (Next s n) ws k
+pub no_front : (ws : List Lexeme) (k : ℕ) (s : StreamSource) (n : ℕ) → TakesMore s n → k < length ws → StopsAt Expression ws k → (Expression (take k ws) → ⊥) → StopsAt (Next s n) ws k
 no_front ws k s n t lt stops none = at_place (Next s n) ws k word.Open lt (stops_cut s n (take k ws) (get_or ws k word.Open) (drop (k + 1) ws) t (cut_at ws k word.Open stops lt) (λ e es m count x is. none (e, x)))
 
-pub no_end : (ws : List Lexeme) (k : ℕ) (s : Source) (n : ℕ) → TakesMore s n → length ws ≤ k → StopsAt Expression ws k → StopsAt (Next s n) ws (length ws)
+pub no_end : (ws : List Lexeme) (k : ℕ) (s : StreamSource) (n : ℕ) → TakesMore s n → length ws ≤ k → StopsAt Expression ws k → StopsAt (Next s n) ws (length ws)
 no_end ws k s n t le stops = stops_open s n ws t (subst (Begins Expression) (take_all k ws le) stops.begins)
 
-pub only_one : (ws : List Lexeme) (e : Shape) (s : Source) (n : ℕ) → TakesMore s n → IsExpression ws e → StopsAt (Next s n) ws (length ws)
+pub only_one : (ws : List Lexeme) (e : Shape) (s : StreamSource) (n : ℕ) → TakesMore s n → IsExpression ws e → StopsAt (Next s n) ws (length ws)
 only_one ws e s n t x = stops_open s n ws t ([], subst Expression (sym (append-nil ws)) (e, x))

@@ -5,14 +5,14 @@ use Rattle.std.specs.Global.{Vec}
 use Rattle.lambda_expr.specs.declared.lexeme.Lexeme.{Lexeme}
 use Rattle.lambda_expr.specs.declared.lexeme.Lexeme.TheVariants as word
 use Rattle.lambda_expr.specs.declared.sign.Sign.TheVariants as sign
-use Rattle.lambda_expr.specs.declared.source.Source.{Source}
-use Rattle.lambda_expr.specs.declared.step.Step.{Step}
+use Rattle.lambda_expr.specs.declared.source.StreamSource.{StreamSource}
+use Rattle.lambda_expr.specs.declared.step.ParseStep.{ParseStep}
 use Rattle.lambda_expr.specs.Grammar.{Shape, Expression, IsExpression, postfix}
 use Rattle.lambda_expr.specs.SourceReading.{IsNext, Next, TakesMore, each_postfix, steps_of}
 use Rattle.lambda_expr.specs.Stops.{StopsAt}
 use Rattle.lambda_expr.proofs.OperandLemmas.{IsCut, comma_from, cut_at, in_words, long, stops_comma}
 
-pub steps_more : (vs : List (Vec Step)) (v : Vec Step) → steps_of (vs ++ v ∷ []) ≡ steps_of vs ++ v.items ∷ []
+pub steps_more : (vs : List (Vec ParseStep)) (v : Vec ParseStep) → steps_of (vs ++ v ∷ []) ≡ steps_of vs ++ v.items ∷ []
 steps_more [] v = refl
 steps_more (u ∷ vs) v = ap (λ ss. u.items ∷ ss) (steps_more vs v)
 
@@ -21,13 +21,13 @@ postfix_more [] e = refl
 postfix_more (f ∷ es) e = ap (λ ss. postfix f ∷ ss) (postfix_more es e)
 
 -- these operands stand before a place, and what follows it goes on with them
-pub record IsPast (s : Source) (ws : List Lexeme) (at : ℕ) (front : List Shape) : Type 0 where
+pub record IsPast (s : StreamSource) (ws : List Lexeme) (at : ℕ) (front : List Shape) : Type 0 where
   pub within : at ≤ length ws
   pub more : TakesMore s (length front)
   pub stops : (q : ℕ) → StopsAt (Next s (length front)) (drop at ws) q → StopsAt (Next s 0) ws (at + q)
   pub goes : (e : Shape) (es : List Shape) → IsNext s (length front) e es (drop at ws) → (f : Shape) × (fs : List Shape) × (f ∷ fs ≡ front ++ e ∷ es) × IsNext s 0 f fs ws
 
-pub start : (s : Source) (ws : List Lexeme) → TakesMore s 0 → IsPast s ws 0 []
+pub start : (s : StreamSource) (ws : List Lexeme) → TakesMore s 0 → IsPast s ws 0 []
 start s ws t = record {
   within = omega arith;
   more = t;
@@ -36,7 +36,7 @@ start s ws t = record {
 }
 
 -- the words after a comma
-pub after_comma : (s : Source) (n : ℕ) (vs : List Lexeme) (k q : ℕ) (e : Shape) → k < length vs → get_or vs k word.Open ≡ word.Sign sign.Comma → StopsAt Expression vs k → IsExpression (take k vs) e → StopsAt (Next s (suc n)) (drop (k + 1) vs) q → StopsAt (Next s n) vs (k + 1 + q)
+pub after_comma : (s : StreamSource) (n : ℕ) (vs : List Lexeme) (k q : ℕ) (e : Shape) → k < length vs → get_or vs k word.Open ≡ word.Sign sign.Comma → StopsAt Expression vs k → IsExpression (take k vs) e → StopsAt (Next s (suc n)) (drop (k + 1) vs) q → StopsAt (Next s n) vs (k + 1 + q)
 after_comma s n vs k q e lt is stops x h =
     let c = take k vs in
     let cut = subst (IsCut c) is (cut_at vs k word.Open stops lt) in
@@ -45,13 +45,13 @@ after_comma s n vs k q e lt is stops x h =
     subst (λ m. StopsAt (Next s n) vs (m + q)) size (subst (λ v. StopsAt (Next s n) v (length (c ++ word.Sign sign.Comma ∷ []) + q)) all (stops_comma s n c (drop (k + 1) vs) e q cut x h))
 
 -- an operand, a comma and what follows it
-pub comma_at : (s : Source) (n : ℕ) (vs : List Lexeme) (k : ℕ) (e f : Shape) (es : List Shape) → k < length vs → get_or vs k word.Open ≡ word.Sign sign.Comma → IsExpression (take k vs) e → IsNext s (suc n) f es (drop (k + 1) vs) → IsNext s n e (f ∷ es) vs
+pub comma_at : (s : StreamSource) (n : ℕ) (vs : List Lexeme) (k : ℕ) (e f : Shape) (es : List Shape) → k < length vs → get_or vs k word.Open ≡ word.Sign sign.Comma → IsExpression (take k vs) e → IsNext s (suc n) f es (drop (k + 1) vs) → IsNext s n e (f ∷ es) vs
 comma_at s n vs k e f es lt is x y =
     let whole : take k vs ++ word.Sign sign.Comma ∷ drop (k + 1) vs ≡ vs = ap (λ w. take k vs ++ w ∷ drop (k + 1) vs) (sym is) ∙ in_words vs k word.Open lt in
     subst (IsNext s n e (f ∷ es)) whole (comma_from s n (take k vs) (drop (k + 1) vs) e f es x y)
 
 -- one more operand and a comma
-pub past_comma : (s : Source) (ws : List Lexeme) (at k : ℕ) (front : List Shape) (e : Shape) → IsPast s ws at front → k < length (drop at ws) → get_or (drop at ws) k word.Open ≡ word.Sign sign.Comma → StopsAt Expression (drop at ws) k → IsExpression (take k (drop at ws)) e → TakesMore s (suc (length front)) → IsPast s ws (at + (k + 1)) (front ++ e ∷ [])
+pub past_comma : (s : StreamSource) (ws : List Lexeme) (at k : ℕ) (front : List Shape) (e : Shape) → IsPast s ws at front → k < length (drop at ws) → get_or (drop at ws) k word.Open ≡ word.Sign sign.Comma → StopsAt Expression (drop at ws) k → IsExpression (take k (drop at ws)) e → TakesMore s (suc (length front)) → IsPast s ws (at + (k + 1)) (front ++ e ∷ [])
 past_comma s ws at k front e p lt is stops x more =
     let vs = drop at ws in
     let all = length-drop at ws in

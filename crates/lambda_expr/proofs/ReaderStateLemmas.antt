@@ -1,13 +1,13 @@
 -- What the reader keeps from word to word, and where words stop.
 use Rattle.std.proofs.Common.{◌≡◌, ◌≢◌, ℕ, ◌+◌, ◌<◌, ◌≤◌, Bool, true, false, List, [], ◌∷◌, ◌++◌, length, take, drop, Some, None, refl, sym, ap, subst, ◌∙◌, append_assoc, append-nil, arith}
 use Rattle.std.proofs.lemmas.List.{take_all, take-append-drop}
-use Rattle.lambda_expr.specs.declared.lexeme.Owner.{Owner as Class}
-use Rattle.lambda_expr.specs.declared.lexeme.Owner.TheVariants.{Math, Long}
+use Rattle.lambda_expr.specs.declared.lexeme.ClassName.{ClassName as Class}
+use Rattle.lambda_expr.specs.declared.lexeme.ClassName.TheVariants.{Math, Long}
 use Rattle.lambda_expr.specs.declared.step.Opening.TheVariants.{Call}
 use Rattle.lambda_expr.specs.declared.lexeme.Lexeme.{Lexeme}
 use Rattle.lambda_expr.specs.declared.lexeme.Lexeme.TheVariants as word
 use Rattle.lambda_expr.specs.declared.lexeme.Name.{Name}
-use Rattle.lambda_expr.specs.declared.lexeme.Name.TheVariants.{Plain, Owner, Truth, LowerLong, LongStream}
+use Rattle.lambda_expr.specs.declared.lexeme.Name.TheVariants.{Plain, ClassName, Truth, LowerLong, LongStream}
 use Rattle.lambda_expr.specs.Grammar.{Shape, number, constant, enclosed, opening, spells, Binds, IsExpression, Expression}
 use Rattle.lambda_expr.specs.Signs.{level, is_prefix}
 use Rattle.lambda_expr.specs.Stops.{Begins, StopsAt}
@@ -15,13 +15,13 @@ use Rattle.lambda_expr.specs.Reader.{Frame, opened, signed, left, question, colo
 use Rattle.lambda_expr.proofs.Frames.{before, wanted, Ordered, after, filled, spells_filled, binds_filled, wanted_high, binds_lower, level_high, Keeps, join_keeps, join_stops, not_two, taken}
 use Rattle.lambda_expr.proofs.Leads.{at_top, reads_back, stuck_begins_none}
 
--- what stands for these words
+-- which state belongs to these words
 abbrev pub Stands : List Lexeme → State → Type 0
 Stands ws (wants fs) = (before fs ≡ ws) × Ordered fs
 Stands ws (has fs e) = (before fs ++ spells e ≡ ws) × Ordered fs × Binds 13 e
-Stands ws (owns fs o) = (before fs ++ word.Name (Owner o) ∷ [] ≡ ws) × Ordered fs
-Stands ws (dots fs o) = (before fs ++ word.Name (Owner o) ∷ word.Dot ∷ [] ≡ ws) × Ordered fs
-Stands ws (calls fs o i) = (before fs ++ word.Name (Owner o) ∷ word.Dot ∷ word.Name i ∷ [] ≡ ws) × Ordered fs
+Stands ws (owns fs o) = (before fs ++ word.Name (ClassName o) ∷ [] ≡ ws) × Ordered fs
+Stands ws (dots fs o) = (before fs ++ word.Name (ClassName o) ∷ word.Dot ∷ [] ≡ ws) × Ordered fs
+Stands ws (calls fs o i) = (before fs ++ word.Name (ClassName o) ∷ word.Dot ∷ word.Name i ∷ [] ≡ ws) × Ordered fs
 Stands ws stuck = Unit {0}
 
 -- what stands can be completed
@@ -46,9 +46,9 @@ some_call o i = enclosed (Call o i) (number 0)
 pub begins_of : (ws : List Lexeme) (s : State) → s ≢ stuck → Stands ws s → Begins Expression ws
 begins_of ws (wants fs) n s = completes ws fs (number 0) [] (word.Number 0 ∷ []) (append-nil (before fs) ∙ s.0) refl s.1 tt
 begins_of ws (has fs e) n s = completes ws fs e (spells e) [] s.0 (sym (append-nil (spells e))) s.1 (let h = wanted_high fs in let k : wanted fs ≤ 13 = omega arith in binds_lower e 13 (wanted fs) k s.2)
-begins_of ws (owns fs o) n s = completes ws fs (some_call o LowerLong) (word.Name (Owner o) ∷ []) (word.Dot ∷ word.Name LowerLong ∷ word.Open ∷ word.Number 0 ∷ word.Close ∷ []) s.0 refl s.1 tt
-begins_of ws (dots fs o) n s = completes ws fs (some_call o LowerLong) (word.Name (Owner o) ∷ word.Dot ∷ []) (word.Name LowerLong ∷ word.Open ∷ word.Number 0 ∷ word.Close ∷ []) s.0 refl s.1 tt
-begins_of ws (calls fs o i) n s = completes ws fs (some_call o i) (word.Name (Owner o) ∷ word.Dot ∷ word.Name i ∷ []) (word.Open ∷ word.Number 0 ∷ word.Close ∷ []) s.0 refl s.1 tt
+begins_of ws (owns fs o) n s = completes ws fs (some_call o LowerLong) (word.Name (ClassName o) ∷ []) (word.Dot ∷ word.Name LowerLong ∷ word.Open ∷ word.Number 0 ∷ word.Close ∷ []) s.0 refl s.1 tt
+begins_of ws (dots fs o) n s = completes ws fs (some_call o LowerLong) (word.Name (ClassName o) ∷ word.Dot ∷ []) (word.Name LowerLong ∷ word.Open ∷ word.Number 0 ∷ word.Close ∷ []) s.0 refl s.1 tt
+begins_of ws (calls fs o i) n s = completes ws fs (some_call o i) (word.Name (ClassName o) ∷ word.Dot ∷ word.Name i ∷ []) (word.Open ∷ word.Number 0 ∷ word.Close ∷ []) s.0 refl s.1 tt
 begins_of ws stuck n s = absurd (n refl)
 
 when_stands : (ws : List Lexeme) (b : Bool) (s : State) → (b ≡ true → Stands ws s) → Stands ws (when b s)
@@ -118,7 +118,7 @@ followed ws fs e word.Other s = tt
 
 started : (ws : List Lexeme) (fs : List Frame) (w : Lexeme) → Stands ws (wants fs) → Stands (put ws w) (read (wants fs) w)
 started ws fs (word.Name (Plain i)) s = (ap (λ v. v ++ word.Name (Plain i) ∷ []) s.0, s.1, tt)
-started ws fs (word.Name (Owner o)) s = (ap (λ v. v ++ word.Name (Owner o) ∷ []) s.0, s.1)
+started ws fs (word.Name (ClassName o)) s = (ap (λ v. v ++ word.Name (ClassName o) ∷ []) s.0, s.1)
 started ws fs (word.Name (Truth b)) s = (ap (λ v. v ++ word.Name (Truth b) ∷ []) s.0, s.1, tt)
 started ws fs (word.Name LowerLong) s = tt
 started ws fs (word.Name LongStream) s = tt
@@ -134,7 +134,7 @@ started ws fs word.Colon s = tt
 started ws fs word.Other s = tt
 
 owned_on : (ws : List Lexeme) (fs : List Frame) (o : Class) (w : Lexeme) → Stands ws (owns fs o) → Stands (put ws w) (read (owns fs o) w)
-owned_on ws fs o word.Dot s = (more ws (word.Name (Owner o) ∷ []) word.Dot fs s.0, s.1)
+owned_on ws fs o word.Dot s = (more ws (word.Name (ClassName o) ∷ []) word.Dot fs s.0, s.1)
 owned_on ws fs o (word.Name i) s = tt
 owned_on ws fs o (word.Number i) s = tt
 owned_on ws fs o (word.Reference i) s = tt
@@ -147,7 +147,7 @@ owned_on ws fs o word.Colon s = tt
 owned_on ws fs o word.Other s = tt
 
 dotted_on : (ws : List Lexeme) (fs : List Frame) (o : Class) (w : Lexeme) → Stands ws (dots fs o) → Stands (put ws w) (read (dots fs o) w)
-dotted_on ws fs o (word.Name i) s = (more ws (word.Name (Owner o) ∷ word.Dot ∷ []) (word.Name i) fs s.0, s.1)
+dotted_on ws fs o (word.Name i) s = (more ws (word.Name (ClassName o) ∷ word.Dot ∷ []) (word.Name i) fs s.0, s.1)
 dotted_on ws fs o (word.Number i) s = tt
 dotted_on ws fs o (word.Reference i) s = tt
 dotted_on ws fs o (word.Sign x) s = tt
@@ -160,7 +160,7 @@ dotted_on ws fs o word.Colon s = tt
 dotted_on ws fs o word.Other s = tt
 
 called_on : (ws : List Lexeme) (fs : List Frame) (o : Class) (i : Name) (w : Lexeme) → Stands ws (calls fs o i) → Stands (put ws w) (called fs o i w)
-called_on ws fs o i word.Open s = (more ws (word.Name (Owner o) ∷ word.Dot ∷ word.Name i ∷ []) word.Open fs s.0, s.1)
+called_on ws fs o i word.Open s = (more ws (word.Name (ClassName o) ∷ word.Dot ∷ word.Name i ∷ []) word.Open fs s.0, s.1)
 called_on ws fs Long i (word.Name j) s = tt
 called_on ws fs Long i (word.Number j) s = tt
 called_on ws fs Long i (word.Reference j) s = tt
@@ -195,7 +195,7 @@ stands_from : (ws vs : List Lexeme) (s : State) → Stands ws s → Stands (ws +
 stands_from ws [] s h = subst (λ v. Stands v s) (sym (append-nil ws)) h
 stands_from ws (w ∷ vs) s h = subst (λ v. Stands v (reads (read s w) vs)) (append_assoc ws (w ∷ []) vs) (stands_from (put ws w) vs (read s w) (keeps ws s w h))
 
--- whatever the words are, what stands after them stands for them
+-- the state after words belongs to them, whatever they are
 pub stands : (ws : List Lexeme) → Stands ws (reads (wants []) ws)
 stands ws = stands_from [] ws (wants []) (refl, tt)
 

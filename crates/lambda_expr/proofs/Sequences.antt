@@ -37,7 +37,7 @@ stop_end G a begins dead = record {
   stops = λ lt x. absurd (omega arith);
 }
 
--- the same grammar under another name
+-- a grammar under another name
 pub stop_same : {W : Type 0} (G H : List W → Type 0) (ws : List W) (n : ℕ) → ((m : List W) → G m → H m) → ((m : List W) → H m → G m) → StopsAt G ws n → StopsAt H ws n
 stop_same G H ws n to from s = record {
   within = s.within;
@@ -76,7 +76,7 @@ levi_on : {W : Type 0} (x y : W) (a b c d : List W) → x ≡ y → ((u : List W
 levi_on x y a b c d one (inl p) = inl (p.0, let k = p.1 in cc, p.2)
 levi_on x y a b c d one (inr p) = inr (p.0, let k = p.1 in cc, p.2)
 
--- the same words in two parts each
+-- equal words in two parts each
 pub levi : {W : Type 0} (a b c d : List W) → a ++ b ≡ c ++ d → ((x : List W) × (a ≡ c ++ x) × (d ≡ x ++ b)) ⊎ ((y : List W) × (c ≡ a ++ y) × (b ≡ y ++ d))
 levi [] b c d h = inr (c, refl, h)
 levi (x ∷ a) b [] d h = inl (x ∷ a, refl, sym h)

@@ -5,8 +5,8 @@ use Rattle.lambda_expr.specs.declared.lexeme.Lexeme.TheVariants as word
 use Rattle.lambda_expr.specs.declared.lexeme.Name.TheVariants.{Plain, LongStream}
 use Rattle.lambda_expr.specs.declared.lexeme.PlainName.{PlainName}
 use Rattle.lambda_expr.specs.declared.table.Member.TheVariants as member
-use Rattle.lambda_expr.specs.declared.source.Source.{Source}
-use Rattle.lambda_expr.specs.declared.source.Source.TheVariants as source
+use Rattle.lambda_expr.specs.declared.source.StreamSource.{StreamSource}
+use Rattle.lambda_expr.specs.declared.source.StreamSource.TheVariants as source
 use Rattle.lambda_expr.specs.declared.source.Opened.{Opened}
 use Rattle.lambda_expr.specs.declared.sign.Sign.TheVariants.{Comma}
 use Rattle.lambda_expr.specs.Grammar.{Shape, number}
@@ -16,25 +16,25 @@ use Rattle.lambda_expr.specs.Stops.{Begins, StopsAt}
 use Rattle.lambda_expr.proofs.Sequences.{stop_after, stop_at, stop_end}
 
 abbrev pub AStream : List Lexeme → Type 0
-AStream ws = (s : Source) × (es : List Shape) × IsStream s es ws
+AStream ws = (s : StreamSource) × (es : List Shape) × IsStream s es ws
 
 abbrev ANamed : List Lexeme → Type 0
-ANamed ws = (s : Source) × (es : List Shape) × IsNamed s es ws
+ANamed ws = (s : StreamSource) × (es : List Shape) × IsNamed s es ws
 
 abbrev ADotted : List Lexeme → Type 0
-ADotted ws = (s : Source) × (es : List Shape) × IsDotted s es ws
+ADotted ws = (s : StreamSource) × (es : List Shape) × IsDotted s es ws
 
-abbrev AnOpened : Source → List Lexeme → Type 0
+abbrev AnOpened : StreamSource → List Lexeme → Type 0
 AnOpened s ws = (es : List Shape) × IsOpened s es ws
 
 -- a list of operands for each source
-pub some_list : (s : Source) → (us : List Lexeme) × Operands s us
+pub some_list : (s : StreamSource) → (us : List Lexeme) × Operands s us
 some_list source.Range = (word.Number 0 ∷ word.Sign Comma ∷ word.Number 0 ∷ word.Close ∷ [], (number 0 ∷ number 0 ∷ [], record { count = refl; bound = (tt, (tt, tt)); spelled = refl }))
 some_list source.RangeClosed = (word.Number 0 ∷ word.Sign Comma ∷ word.Number 0 ∷ word.Close ∷ [], (number 0 ∷ number 0 ∷ [], record { count = refl; bound = (tt, (tt, tt)); spelled = refl }))
 some_list source.Of = (word.Close ∷ [], ([], record { count = tt; bound = tt; spelled = refl }))
 some_list source.Empty = (word.Close ∷ [], ([], record { count = refl; bound = tt; spelled = refl }))
 
-opened_begins : (s : Source) → Begins (AnOpened s) []
+opened_begins : (s : StreamSource) → Begins (AnOpened s) []
 opened_begins s = let l = some_list s in (word.Open ∷ l.0, (l.1.0, l.1.1))
 
 abbrev empty_name : PlainName
@@ -62,10 +62,10 @@ after_one : (G H : List Lexeme → Type 0) (w : Lexeme) (n : ℕ) (ws : List Lex
 after_one G H w n ws (Err k) to from (m, is, h) = (suc m, omega arith, stop_after G H w ws m to from h)
 after_one G H w n ws (Ok o) to from (m, is, low, h) = (suc m, omega arith, omega arith, λ q s. let same : suc (m + q) ≡ suc m + q = omega arith in subst (StopsAt G (w ∷ ws)) same (stop_after G H w ws (m + q) to from (h q s)))
 
-same_source : (s t : Source) (o : Option Source) → o ≡ Some s → o ≡ Some t → t ≡ s
+same_source : (s t : StreamSource) (o : Option StreamSource) → o ≡ Some s → o ≡ Some t → t ≡ s
 same_source s t o a b = cc
 
-named_by : (n : ℕ) (i : PlainName) (s : Source) (ws : List Lexeme) (r : Result Opened ℕ) → source_of i.member ≡ Some s → IsFound (AnOpened s) (n + 1) ws r → IsFound ANamed n (word.Name (Plain i) ∷ ws) r
+named_by : (n : ℕ) (i : PlainName) (s : StreamSource) (ws : List Lexeme) (r : Result Opened ℕ) → source_of i.member ≡ Some s → IsFound (AnOpened s) (n + 1) ws r → IsFound ANamed n (word.Name (Plain i) ∷ ws) r
 named_by n i s ws r is h = after_one ANamed (AnOpened s) (word.Name (Plain i)) n ws r (λ m x. (x.1, subst (λ t. IsOpened t x.1 m) (same_source s x.0 (source_of i.member) is x.2.0) x.2.1)) (λ m x. (s, x.0, (is, x.1))) h
 
 renamed : (w : Lexeme) (ws : List Lexeme) (n : ℕ) → ((m : List Lexeme) → AStream (w ∷ m) → ANamed (w ∷ m)) → ((m : List Lexeme) → ANamed (w ∷ m) → AStream (w ∷ m)) → StopsAt ANamed (w ∷ ws) n → StopsAt AStream (w ∷ ws) n
@@ -88,12 +88,12 @@ as_named : (n : ℕ) (w : Lexeme) (ws : List Lexeme) (r : Result Opened ℕ) →
 as_named n w ws (Err k) to from (m, is, h) = (m, is, renamed w ws m to from h)
 as_named n w ws (Ok o) to from (m, is, low, h) = (m, is, low, λ q s. renamed w ws (m + q) to from (h q s))
 
-opened_found : (n : ℕ) (s : Source) (ws : List Lexeme) → IsFound (AnOpened s) n ws (opened_at n s ws)
+opened_found : (n : ℕ) (s : StreamSource) (ws : List Lexeme) → IsFound (AnOpened s) n ws (opened_at n s ws)
 opened_found n s [] = (0, omega arith, stop_end (AnOpened s) [] (opened_begins s) (λ x. x.1))
 opened_found n s (word.Open ∷ ws) = (1, refl, omega arith, λ q h. let same : suc q ≡ 1 + q = omega arith in subst (StopsAt (AnOpened s) (word.Open ∷ ws)) same (stop_after (AnOpened s) (Operands s) word.Open ws q (λ m x. x) (λ m x. x) h))
 opened_found n s (w ∷ ws) = (0, omega arith, stop_at (AnOpened s) [] w ws (opened_begins s) (λ m x. x.1))
 
-sourced_found : (n : ℕ) (i : PlainName) (o : Option Source) (ws : List Lexeme) → source_of i.member ≡ o → IsFound ANamed n (word.Name (Plain i) ∷ ws) (sourced_at n o ws)
+sourced_found : (n : ℕ) (i : PlainName) (o : Option StreamSource) (ws : List Lexeme) → source_of i.member ≡ o → IsFound ANamed n (word.Name (Plain i) ∷ ws) (sourced_at n o ws)
 sourced_found n i None ws is = (0, omega arith, stop_at ANamed [] (word.Name (Plain i)) ws named_begins (λ m x. let k = x.2.0 in cc))
 sourced_found n i (Some s) ws is = named_by n i s ws (opened_at (n + 1) s ws) is (opened_found (n + 1) s ws)
 

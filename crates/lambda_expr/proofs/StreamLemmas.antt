@@ -6,8 +6,8 @@ use Rattle.std.specs.Global.{Vec}
 use Rattle.std.specs.Prelude.{◌&&◌}
 use Rattle.lambda_values.specs.declared.expr.LongExpr.{LongExpr}
 use Rattle.lambda_expr.specs.declared.fault.ReadFault.TheVariants as fault
-use Rattle.lambda_expr.specs.declared.source.Source.{Source}
-use Rattle.lambda_expr.specs.declared.step.Step.{Step}
+use Rattle.lambda_expr.specs.declared.source.StreamSource.{StreamSource}
+use Rattle.lambda_expr.specs.declared.step.ParseStep.{ParseStep}
 use Rattle.lambda_expr.specs.declared.stream.Checks.{Checks}
 use Rattle.lambda_expr.specs.BodyReading.{after_numbers, and_found, found_in, no_operands, step_numbers}
 use Rattle.lambda_expr.specs.Checks.{depth, fit, literals, names_known}
@@ -55,7 +55,7 @@ found_at : (es : List Shape) (c : Checks) → c ≡ checks_of (all_fit es) (min 
 found_at es c is = record { fit = ap (λ (c : Checks). c.fit) is; depth = ap (λ (c : Checks). c.depth) is; known = ap (λ (c : Checks). c.known) is }
 
 -- what the checks of operands with these steps find
-pub found_is : (vs : List (Vec Step)) (es : List Shape) (c : Checks) → steps_of vs ≡ each_postfix es → c ≡ found_in no_operands (steps_of vs) → AreFound c es
+pub found_is : (vs : List (Vec ParseStep)) (es : List Shape) (c : Checks) → steps_of vs ≡ each_postfix es → c ≡ found_in no_operands (steps_of vs) → AreFound c es
 found_is vs es c is found =
     found_at es c (found ∙ ap (found_in no_operands) is ∙ found_by es no_operands ∙ same_checks _ _ _ _ _ _ refl (let k : max 0 (min (deepest es) 65) ≡ min (deepest es) 65 = omega arith in k) refl)
 
@@ -80,7 +80,7 @@ pub exprs_length : (es : List LongExpr) → length (exprs_of es) ≡ length es
 exprs_length [] = refl
 exprs_length (e ∷ es) = ap suc (exprs_length es)
 
-steps_length : (vs : List (Vec Step)) → length (steps_of vs) ≡ length vs
+steps_length : (vs : List (Vec ParseStep)) → length (steps_of vs) ≡ length vs
 steps_length [] = refl
 steps_length (v ∷ vs) = ap suc (steps_length vs)
 
@@ -88,7 +88,7 @@ postfix_length : (es : List Shape) → length (each_postfix es) ≡ length es
 postfix_length [] = refl
 postfix_length (e ∷ es) = ap suc (postfix_length es)
 
-pub same_length : (vs : List (Vec Step)) (es : List Shape) → steps_of vs ≡ each_postfix es → length vs ≡ length es
+pub same_length : (vs : List (Vec ParseStep)) (es : List Shape) → steps_of vs ≡ each_postfix es → length vs ≡ length es
 same_length vs es is = sym (steps_length vs) ∙ ap length is ∙ postfix_length es
 
 exprs_append : (es : List LongExpr) (e : LongExpr) → exprs_of (es ++ e ∷ []) ≡ exprs_of es ++ long_of e ∷ []
@@ -100,12 +100,12 @@ after_one es e None = refl
 after_one es e (Some fs) = ap Some (ap (λ v. v ++ fs) (exprs_append es e) ∙ append_assoc (exprs_of es) (long_of e ∷ []) fs)
 
 -- the operand at a place is one more number
-pub numbers_on : (h : Names) (vs : List (Vec Step)) (i : ℕ) (d v : Vec Step) (old new : List LongExpr) (e : LongExpr) → i < length vs → v ≡ get_or vs i d → top_typed (typed_steps h [] v.items) ≡ long (long_of e) → new ≡ old ++ e ∷ [] → after_numbers (exprs_of new) (step_numbers h (steps_of (drop (i + 1) vs))) ≡ after_numbers (exprs_of old) (step_numbers h (steps_of (drop i vs)))
+pub numbers_on : (h : Names) (vs : List (Vec ParseStep)) (i : ℕ) (d v : Vec ParseStep) (old new : List LongExpr) (e : LongExpr) → i < length vs → v ≡ get_or vs i d → top_typed (typed_steps h [] v.items) ≡ long (long_of e) → new ≡ old ++ e ∷ [] → after_numbers (exprs_of new) (step_numbers h (steps_of (drop (i + 1) vs))) ≡ after_numbers (exprs_of old) (step_numbers h (steps_of (drop i vs)))
 numbers_on h vs i d v old new e lt here type is =
     let rest = step_numbers h (steps_of (drop (i + 1) vs)) in
     ap (λ es. after_numbers (exprs_of es) rest) is
     ∙ after_one old e rest
-    ∙ ap (λ t. after_numbers (exprs_of old) (and_number t rest)) (sym type ∙ ap (λ (v : Vec Step). top_typed (typed_steps h [] v.items)) here)
+    ∙ ap (λ t. after_numbers (exprs_of old) (and_number t rest)) (sym type ∙ ap (λ (v : Vec ParseStep). top_typed (typed_steps h [] v.items)) here)
     ∙ ap (λ vs. after_numbers (exprs_of old) (step_numbers h (steps_of vs))) (sym (drop_more vs i d lt))
 
 -- ---- the verdict
@@ -116,14 +116,14 @@ over n h = grind (arith, common_steps)
 within : (n : ℕ) → n ≤ 64 → nat_lt 64 n ≡ false
 within n h = grind (arith, common_steps)
 
-pub too_large : (h : Names) (s : Source) (es : List Shape) → all_fit es ≡ false → stream_verdict h s es ≡ Err fault.LiteralTooLarge
+pub too_large : (h : Names) (s : StreamSource) (es : List Shape) → all_fit es ≡ false → stream_verdict h s es ≡ Err fault.LiteralTooLarge
 too_large h s es off = rw off refl
 
-pub too_deep : (h : Names) (s : Source) (es : List Shape) → all_fit es ≡ true → 64 < max (suc (deepest es)) (length es) → stream_verdict h s es ≡ Err fault.TooDeep
+pub too_deep : (h : Names) (s : StreamSource) (es : List Shape) → all_fit es ≡ true → 64 < max (suc (deepest es)) (length es) → stream_verdict h s es ≡ Err fault.TooDeep
 too_deep h s es on more = let k : nat_lt 64 (max (suc (deepest es)) (length es)) ≡ true = over _ more in rw (on, k) refl
 
-pub unknown : (h : Names) (s : Source) (es : List Shape) → all_fit es ≡ true → max (suc (deepest es)) (length es) ≤ 64 → all_known 1 es ≡ false → stream_verdict h s es ≡ Err fault.UnknownName
+pub unknown : (h : Names) (s : StreamSource) (es : List Shape) → all_fit es ≡ true → max (suc (deepest es)) (length es) ≤ 64 → all_known 1 es ≡ false → stream_verdict h s es ≡ Err fault.UnknownName
 unknown h s es on less off = let k : nat_lt 64 (max (suc (deepest es)) (length es)) ≡ false = within _ less in rw (on, k, off) refl
 
-pub by_numbers : (h : Names) (s : Source) (es : List Shape) (o : Option (List Long)) → all_fit es ≡ true → max (suc (deepest es)) (length es) ≤ 64 → all_known 1 es ≡ true → numbers h es ≡ o → stream_verdict h s es ≡ streamed s o
+pub by_numbers : (h : Names) (s : StreamSource) (es : List Shape) (o : Option (List Long)) → all_fit es ≡ true → max (suc (deepest es)) (length es) ≤ 64 → all_known 1 es ≡ true → numbers h es ≡ o → stream_verdict h s es ≡ streamed s o
 by_numbers h s es o on less known is = let k : nat_lt 64 (max (suc (deepest es)) (length es)) ≡ false = within _ less in rw (on, k, known) (ap (streamed s) is)

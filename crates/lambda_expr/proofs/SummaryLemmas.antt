@@ -3,9 +3,9 @@ use Rattle.std.proofs.Common.{◌≡◌, ℕ, suc, max, min, Bool, true, false, 
 use Rattle.std.specs.Prelude.{if◌then◌else◌}
 use Rattle.lambda_expr.specs.declared.check.Literals.{Literals}
 use Rattle.lambda_expr.specs.declared.check.Summary.{Summary}
-use Rattle.lambda_expr.specs.declared.check.Form.{Form}
-use Rattle.lambda_expr.specs.declared.step.Step.{Step}
-use Rattle.lambda_expr.specs.declared.step.Step.TheVariants as step
+use Rattle.lambda_expr.specs.declared.check.BodyForm.{BodyForm}
+use Rattle.lambda_expr.specs.declared.step.ParseStep.{ParseStep}
+use Rattle.lambda_expr.specs.declared.step.ParseStep.TheVariants as step
 use Rattle.lambda_expr.specs.Checks.{depth, is_comma}
 use Rattle.lambda_expr.specs.Grammar.{Shape, name, number, truth, reference, constant, prefix, binary, ternary, enclosed, postfix}
 use Rattle.lambda_expr.specs.Stacks.{below, stacked}
@@ -17,11 +17,11 @@ popped old new o ss is h =
     let flat : new ++ o ∷ [] ≡ stacked ss = sym is ∙ h in
     (popped_top nothing o new ss flat, popped_rest o new ss flat)
 
-pub summary_append : (p : ℕ) (ss : List Summary) (xs : List Step) (x : Step) → summary_steps p ss (xs ++ x ∷ []) ≡ summary_step p x (summary_steps p ss xs)
+pub summary_append : (p : ℕ) (ss : List Summary) (xs : List ParseStep) (x : ParseStep) → summary_steps p ss (xs ++ x ∷ []) ≡ summary_step p x (summary_steps p ss xs)
 summary_append p ss [] x = refl
 summary_append p ss (y ∷ xs) x = summary_append p (summary_step p y ss) xs x
 
-abbrev with_depth : Literals → Bool → Form → ℕ → Summary
+abbrev with_depth : Literals → Bool → BodyForm → ℕ → Summary
 with_depth l k f n = record { literals = l; depth = n; known = k; form = f }
 
 cut_depth : (b : Bool) (m n : ℕ) → (if b then max (min m 65) (min n 65) else deeper (max (min m 65) (min n 65))) ≡ min (if b then max m n else suc (max m n)) 65
@@ -40,7 +40,7 @@ cut_ternary p c q r = ap (with_depth _ _ _) (let e : min (suc (max (min (depth c
 cut_enclosed : (p : ℕ) (o : _) (a : Shape) → enclosed_summary o (summary p a) ≡ summary p (enclosed o a)
 cut_enclosed p o a = ap (with_depth _ _ _) (let e : min (suc (min (depth a) 65)) 65 ≡ min (suc (depth a)) 65 = omega arith in e)
 
-pub by_steps : (p : ℕ) (e : Shape) (ts : List Summary) (ss : List Step) → summary_steps p ts (postfix e ++ ss) ≡ summary_steps p (summary p e ∷ ts) ss
+pub by_steps : (p : ℕ) (e : Shape) (ts : List Summary) (ss : List ParseStep) → summary_steps p ts (postfix e ++ ss) ≡ summary_steps p (summary p e ∷ ts) ss
 by_steps p (name i) ts ss = refl
 by_steps p (number i) ts ss = refl
 by_steps p (truth i) ts ss = refl

@@ -5,7 +5,7 @@ use Rattle.lambda_expr.specs.declared.body.BodySteps.TheVariants as steps
 use Rattle.lambda_expr.specs.declared.check.Summary.{Summary}
 use Rattle.lambda_expr.specs.declared.want.Want.{Want}
 use Rattle.lambda_expr.specs.declared.lexeme.Lexeme.{Lexeme}
-use Rattle.lambda_expr.specs.declared.step.Step.{Step}
+use Rattle.lambda_expr.specs.declared.step.ParseStep.{ParseStep}
 use Rattle.lambda_expr.specs.declared.stream.Checks.{Checks}
 use Rattle.lambda_expr.specs.Checks.{fit}
 use Rattle.lambda_expr.specs.Elaborating.{top_typed, typed_steps}
@@ -36,12 +36,12 @@ and_found c s = record { fit = c.fit && fit s.literals; depth = max c.depth s.de
 abbrev pub no_operands : Checks
 no_operands = record { fit = true; depth = 0; known = true }
 
-abbrev pub found_in : Checks → List (List Step) → Checks
+abbrev pub found_in : Checks → List (List ParseStep) → Checks
 found_in c [] = c
 found_in c (s ∷ ss) = found_in (and_found c (top_summary (summary_steps 1 [] s))) ss
 
 -- the numbers of operands, from their steps
-abbrev pub step_numbers : Names → List (List Step) → Option (List Long)
+abbrev pub step_numbers : Names → List (List ParseStep) → Option (List Long)
 step_numbers h [] = Some []
 step_numbers h (s ∷ ss) = and_number (top_typed (typed_steps h [] s)) (step_numbers h ss)
 

@@ -3,18 +3,18 @@ use Rattle.std.specs.Prelude.{◌≡◌, ℕ, Bool, true, false, nat_lt, if◌th
 use Rattle.lambda_expr.specs.declared.lexeme.Lexeme.{Lexeme}
 use Rattle.lambda_expr.specs.declared.parse.Pending.{Pending}
 use Rattle.lambda_expr.specs.declared.parse.Pending.TheVariants as pending
-use Rattle.lambda_expr.specs.declared.step.Step.{Step}
-use Rattle.lambda_expr.specs.declared.step.Step.TheVariants as step
+use Rattle.lambda_expr.specs.declared.step.ParseStep.{ParseStep}
+use Rattle.lambda_expr.specs.declared.step.ParseStep.TheVariants as step
 use Rattle.lambda_expr.specs.declared.parse.Held.{Held}
 use Rattle.lambda_expr.specs.declared.parse.Held.TheVariants as held
-use Rattle.lambda_expr.specs.declared.parse.Stop.{Stop}
-use Rattle.lambda_expr.specs.declared.parse.Stop.TheVariants.{At, NoMemory}
+use Rattle.lambda_expr.specs.declared.parse.ParseStop.{ParseStop}
+use Rattle.lambda_expr.specs.declared.parse.ParseStop.TheVariants.{At, NoMemory}
 use Rattle.lambda_expr.specs.Grammar.{Shape, name, number, truth, reference, constant, prefix, binary, ternary, enclosed, postfix, IsExpression}
 use Rattle.lambda_expr.specs.Signs.{level}
 use Rattle.lambda_expr.specs.Stops.{StopsAt}
 use Rattle.lambda_expr.specs.Reader.{Frame, opened, signed, left, question, colon, Top, State, wants, has, owns, dots, calls, stuck, settled, result_of}
 
-abbrev pub reduced : ℕ → Pending → Option Step
+abbrev pub reduced : ℕ → Pending → Option ParseStep
 reduced n (pending.Opened o) = None
 reduced n (pending.Signed s) = Some (step.Prefix s)
 reduced n (pending.Left s) = if nat_lt (level s) n then None else Some (step.Binary s)
@@ -31,7 +31,7 @@ rest [] = []
 rest (a ∷ vs) = vs
 
 -- one step over shapes, the last first
-abbrev pub apply : Step → List Shape → List Shape
+abbrev pub apply : ParseStep → List Shape → List Shape
 apply (step.Name i) vs = name i ∷ vs
 apply (step.Number i) vs = number i ∷ vs
 apply (step.Truth i) vs = truth i ∷ vs
@@ -42,7 +42,7 @@ apply (step.Binary s) vs = binary s (shape_on (rest vs)) (shape_on vs) ∷ rest 
 apply step.Ternary vs = ternary (shape_on (rest (rest vs))) (shape_on (rest vs)) (shape_on vs) ∷ rest (rest (rest vs))
 apply (step.Enclose o) vs = enclosed o (shape_on vs) ∷ rest vs
 
-abbrev pub run : List Shape → List Step → List Shape
+abbrev pub run : List Shape → List ParseStep → List Shape
 run vs [] = vs
 run vs (s ∷ ss) = run (apply s vs) ss
 
@@ -57,16 +57,16 @@ frames_of (pending.Colon ∷ ps) vs = colon (shape_on (rest vs)) (shape_on vs) �
 
 abbrev pub state_on : List Pending → List Shape → Held → State
 state_on ps vs held.Nothing = wants (frames_of ps vs)
-state_on ps vs held.Whole = has (frames_of ps (rest vs)) (shape_on vs)
-state_on ps vs (held.Owner o) = owns (frames_of ps vs) o
+state_on ps vs held.Complete = has (frames_of ps (rest vs)) (shape_on vs)
+state_on ps vs (held.ClassName o) = owns (frames_of ps vs) o
 state_on ps vs (held.OwnerDot o) = dots (frames_of ps vs) o
 state_on ps vs (held.Callee o i) = calls (frames_of ps vs) o i
 
-abbrev pub state_of : List Pending → List Step → Held → State
+abbrev pub state_of : List Pending → List ParseStep → Held → State
 state_of ps ss h = state_on ps (run [] ss) h
 
 -- the steps of what waits
-abbrev pub coded : List Frame → List Step
+abbrev pub coded : List Frame → List ParseStep
 coded [] = []
 coded (opened o ∷ fs) = coded fs
 coded (signed s ∷ fs) = coded fs
@@ -74,7 +74,7 @@ coded (left a s ∷ fs) = coded fs ++ postfix a
 coded (question c ∷ fs) = coded fs ++ postfix c
 coded (colon c p ∷ fs) = coded fs ++ (postfix c ++ postfix p)
 
-abbrev pub code_of : State → List Step
+abbrev pub code_of : State → List ParseStep
 code_of (wants fs) = coded fs
 code_of (has fs e) = coded fs ++ postfix e
 code_of (owns fs o) = coded fs
@@ -83,36 +83,36 @@ code_of (calls fs o i) = coded fs
 code_of stuck = []
 
 -- the frames and the expression behind them
-abbrev pub top_of : List Pending → List Step → Top
+abbrev pub top_of : List Pending → List ParseStep → Top
 top_of ps ss = record { frames = frames_of ps (rest (run [] ss)); shape = shape_on (run [] ss) }
 
--- the steps are those of the shapes and no others
-abbrev pub IsCoded : List Pending → List Step → Held → Type 0
+-- the steps spell the shapes and no others
+abbrev pub IsCoded : List Pending → List ParseStep → Held → Type 0
 IsCoded ps ss h = code_of (state_of ps ss h) ≡ ss
 
--- the code is at this state, and its steps are those of its shapes and no others
-pub record IsAt (ps : List Pending) (ss : List Step) (h : Held) (s : State) : Type 0 where
+-- the code is at this state, and its steps spell its shapes and no others
+pub record IsAt (ps : List Pending) (ss : List ParseStep) (h : Held) (s : State) : Type 0 where
   pub state : state_of ps ss h ≡ s
   pub steps : code_of (state_of ps ss h) ≡ ss
 
 -- after one more word: where the code is, or the words begin nothing
-abbrev pub Turns : State → ℕ → List Pending → List Step → Result Held Stop → Type 0
+abbrev pub Turns : State → ℕ → List Pending → List ParseStep → Result Held ParseStop → Type 0
 Turns s at ps ss (Ok h) = IsAt ps ss h s
 Turns s at ps ss (Err (At n)) = (n ≡ at) × (s ≡ stuck)
 Turns s at ps ss (Err NoMemory) = Unit {0}
 
 -- the words are an expression of these steps
-abbrev pub ArePostfix : List Lexeme → List Step → Type 0
+abbrev pub ArePostfix : List Lexeme → List ParseStep → Type 0
 ArePostfix ws ss = (e : Shape) × IsExpression ws e × (ss ≡ postfix e)
 
 -- the words stop there, unless memory was refused
-abbrev pub IsStop : (List Lexeme → Type 0) → List Lexeme → Stop → Type 0
+abbrev pub IsStop : (List Lexeme → Type 0) → List Lexeme → ParseStop → Type 0
 IsStop G ws (At n) = StopsAt G ws n
 IsStop G ws NoMemory = Unit {0}
 
 -- whether an operand is held at the end, and then where the code is
-abbrev pub IsSettled : State → List Pending → List Step → Result Bool Stop → Type 0
-IsSettled s ps ss (Ok true) = IsAt ps ss held.Whole (settled s)
+abbrev pub IsSettled : State → List Pending → List ParseStep → Result Bool ParseStop → Type 0
+IsSettled s ps ss (Ok true) = IsAt ps ss held.Complete (settled s)
 IsSettled s ps ss (Ok false) = result_of s ≡ None
 IsSettled s ps ss (Err (At n)) = ⊥
 IsSettled s ps ss (Err NoMemory) = Unit {0}

@@ -1,10 +1,10 @@
 -- Condition: the term of an expression from its steps, with a stack of the terms of operands.
 use Rattle.std.specs.Prelude.{List, [], ◌∷◌, pos}
-use Rattle.lambda_expr.specs.declared.step.Step.{Step}
-use Rattle.lambda_expr.specs.declared.step.Step.TheVariants as step
+use Rattle.lambda_expr.specs.declared.step.ParseStep.{ParseStep}
+use Rattle.lambda_expr.specs.declared.step.ParseStep.TheVariants as step
 use Rattle.lambda_expr.specs.declared.step.Opening.TheVariants.{Paren, Call}
-use Rattle.lambda_expr.specs.declared.elaborate.Operand.{Operand}
-use Rattle.lambda_expr.specs.declared.elaborate.Operand.TheVariants as operand
+use Rattle.lambda_expr.specs.declared.elaborate.TypedOperand.{TypedOperand}
+use Rattle.lambda_expr.specs.declared.elaborate.TypedOperand.TheVariants as operand
 use Rattle.lambda_expr.specs.Lexemes.{Names}
 use Rattle.lambda_expr.specs.Stacks.{below, top_or}
 use Rattle.lambda_values.specs.Term as term
@@ -13,14 +13,14 @@ use Rattle.lambda_expr.specs.Typing.{Typed, long, boolean, longs, untyped, calle
 use Rattle.lambda_expr.specs.Signs.{operation_of}
 use Rattle.lambda_values.specs.Wrap.{wrap}
 
--- what an operand of the program stands for
-abbrev pub typed_of : Operand → Typed
+-- the typed expression that an operand of the program means
+abbrev pub typed_of : TypedOperand → Typed
 typed_of (operand.Long e) = long (long_of e)
 typed_of (operand.Truth e) = boolean (truth_of e)
 typed_of (operand.Longs a b) = longs (long_of a) (long_of b)
 typed_of operand.Untyped = untyped
 
-abbrev pub operands_of : List Operand → List Typed
+abbrev pub operands_of : List TypedOperand → List Typed
 operands_of [] = []
 operands_of (o ∷ os) = typed_of o ∷ operands_of os
 
@@ -28,7 +28,7 @@ abbrev pub top_typed : List Typed → Typed
 top_typed ts = top_or untyped ts
 
 -- one step over the terms of operands
-abbrev pub typed_step : Names → Step → List Typed → List Typed
+abbrev pub typed_step : Names → ParseStep → List Typed → List Typed
 typed_step h (step.Name i) ts = long (term.parameter i.number) ∷ ts
 typed_step h (step.Number n) ts = long (term.number (wrap (pos n))) ∷ ts
 typed_step h (step.Truth b) ts = boolean (term.literal b) ∷ ts
@@ -40,6 +40,6 @@ typed_step h step.Ternary ts = selected (top_typed (below (below ts))) (top_type
 typed_step h (step.Enclose Paren) ts = top_typed ts ∷ below ts
 typed_step h (step.Enclose (Call o n)) ts = called_with (function_of o n) (top_typed ts) ∷ below ts
 
-abbrev pub typed_steps : Names → List Typed → List Step → List Typed
+abbrev pub typed_steps : Names → List Typed → List ParseStep → List Typed
 typed_steps h ts [] = ts
 typed_steps h ts (s ∷ ss) = typed_steps h (typed_step h s ts) ss

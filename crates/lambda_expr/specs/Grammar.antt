@@ -1,16 +1,16 @@
 -- Meaning: the grammar of expressions, apart from any reader.
 use Rattle.std.specs.Prelude.{◌≡◌, ℕ, suc, ◌≤◌, Bool, true, List, [], ◌∷◌, ◌++◌}
 use Rattle.lambda_expr.specs.declared.sign.Sign.{Sign}
-use Rattle.lambda_expr.specs.declared.lexeme.Owner.TheVariants.{Long}
+use Rattle.lambda_expr.specs.declared.lexeme.ClassName.TheVariants.{Long}
 use Rattle.lambda_expr.specs.declared.step.Opening.{Opening}
 use Rattle.lambda_expr.specs.declared.step.Opening.TheVariants.{Paren, Call}
 use Rattle.lambda_expr.specs.declared.lexeme.Lexeme.{Lexeme}
 use Rattle.lambda_expr.specs.declared.lexeme.Lexeme.TheVariants as word
 use Rattle.lambda_expr.specs.declared.lexeme.Name.{Name}
 use Rattle.lambda_expr.specs.declared.lexeme.PlainName.{PlainName}
-use Rattle.lambda_expr.specs.declared.lexeme.Name.TheVariants.{Plain, Owner, Truth}
-use Rattle.lambda_expr.specs.declared.step.Step.{Step}
-use Rattle.lambda_expr.specs.declared.step.Step.TheVariants as step
+use Rattle.lambda_expr.specs.declared.lexeme.Name.TheVariants.{Plain, ClassName, Truth}
+use Rattle.lambda_expr.specs.declared.step.ParseStep.{ParseStep}
+use Rattle.lambda_expr.specs.declared.step.ParseStep.TheVariants as step
 use Rattle.lambda_expr.specs.Signs.{is_infix, is_prefix, level}
 
 -- an expression as it is written; operands of a call hang together by commas, and a reference is known by its place
@@ -28,7 +28,7 @@ pub data Shape : Type 0 where
 -- the words of an opening, and the level of what stands in it: commas stand in calls alone
 abbrev pub opening : Opening → List Lexeme
 opening Paren = word.Open ∷ []
-opening (Call o i) = word.Name (Owner o) ∷ word.Dot ∷ word.Name i ∷ word.Open ∷ []
+opening (Call o i) = word.Name (ClassName o) ∷ word.Dot ∷ word.Name i ∷ word.Open ∷ []
 
 abbrev pub inside : Opening → ℕ
 inside Paren = 1
@@ -40,7 +40,7 @@ spells (name i) = word.Name (Plain i) ∷ []
 spells (number i) = word.Number i ∷ []
 spells (truth i) = word.Name (Truth i) ∷ []
 spells (reference i) = word.Reference i ∷ []
-spells (constant i) = word.Name (Owner Long) ∷ word.Dot ∷ word.Name i ∷ []
+spells (constant i) = word.Name (ClassName Long) ∷ word.Dot ∷ word.Name i ∷ []
 spells (prefix s a) = word.Sign s ∷ spells a
 spells (binary s a b) = spells a ++ word.Sign s ∷ spells b
 spells (ternary c p q) = spells c ++ word.Question ∷ (spells p ++ word.Colon ∷ spells q)
@@ -67,7 +67,7 @@ abbrev pub Expression : List Lexeme → Type 0
 Expression ws = (e : Shape) × IsExpression ws e
 
 -- the steps of an expression, each operand before what it is an operand of
-abbrev pub postfix : Shape → List Step
+abbrev pub postfix : Shape → List ParseStep
 postfix (name i) = step.Name i ∷ []
 postfix (number i) = step.Number i ∷ []
 postfix (truth i) = step.Truth i ∷ []

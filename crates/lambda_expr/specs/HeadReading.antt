@@ -1,16 +1,16 @@
 -- Condition: how heads are read.
 use Rattle.std.specs.Prelude.{◌≡◌, ◌≢◌, ℕ, zero, suc, max, nat_eq, if◌then◌else◌, Bool, true, false, List, [], ◌∷◌, length, Result, Ok, Err, Some}
-use Rattle.lambda_expr.specs.declared.head.Mark.{Mark}
+use Rattle.lambda_expr.specs.declared.head.HeadMark.{HeadMark}
 use Rattle.lambda_expr.specs.declared.lexeme.Lexeme.{Lexeme}
 use Rattle.lambda_expr.specs.Heads.{mark_of}
 
 -- whether the word is what the mark wants
-abbrev pub IsFit : Bool → Mark → Lexeme → Type 0
+abbrev pub IsFit : Bool → HeadMark → Lexeme → Type 0
 IsFit true m w = mark_of w ≡ Some m
 IsFit false m w = mark_of w ≢ Some m
 
--- as many words are what their marks want, from the first on
-abbrev pub IsMatched : List Mark → List Lexeme → ℕ → Type 0
+-- the number of words, from the first on, that are what their marks want
+abbrev pub IsMatched : List HeadMark → List Lexeme → ℕ → Type 0
 IsMatched [] ws n = n ≡ 0
 IsMatched (m ∷ ms) [] n = n ≡ 0
 IsMatched (m ∷ ms) (w ∷ ws) zero = mark_of w ≢ Some m
@@ -24,10 +24,10 @@ further n (Err k) = Err (max n k)
 abbrev pub first_of : ℕ → ℕ → Result ℕ ℕ → Result ℕ ℕ
 first_of size n other = if nat_eq n size then Ok n else further n other
 
-abbrev pub IsTried : List Mark → List Lexeme → Result ℕ ℕ → Result ℕ ℕ → Type 0
+abbrev pub IsTried : List HeadMark → List Lexeme → Result ℕ ℕ → Result ℕ ℕ → Type 0
 IsTried p ws other r = (n : ℕ) × IsMatched p ws n × (r ≡ first_of (length p) n other)
 
 -- the length of the pattern that the words begin with, or how far they match one of these patterns
-abbrev pub AreTried : List (List Mark) → List Lexeme → Result ℕ ℕ → Type 0
+abbrev pub AreTried : List (List HeadMark) → List Lexeme → Result ℕ ℕ → Type 0
 AreTried [] ws r = r ≡ Err 0
 AreTried (p ∷ ps) ws r = (other : Result ℕ ℕ) × IsTried p ws other r × AreTried ps ws other

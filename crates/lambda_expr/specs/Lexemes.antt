@@ -7,8 +7,8 @@ use Rattle.lambda_expr.specs.declared.sign.Sign.{Sign}
 use Rattle.lambda_expr.specs.declared.lexeme.Lexeme.{Lexeme}
 use Rattle.lambda_expr.specs.declared.lexeme.Lexeme.TheVariants as lexeme
 use Rattle.lambda_expr.specs.declared.lexeme.Name.{Name}
-use Rattle.lambda_expr.specs.declared.lexeme.Name.TheVariants.{Plain, Owner, Truth, LowerLong, LongStream}
-use Rattle.lambda_expr.specs.declared.lexeme.Owner.TheVariants.{Math, Long}
+use Rattle.lambda_expr.specs.declared.lexeme.Name.TheVariants.{Plain, ClassName, Truth, LowerLong, LongStream}
+use Rattle.lambda_expr.specs.declared.lexeme.ClassName.TheVariants.{Math, Long}
 use Rattle.lambda_expr.specs.Members.{is_named, member_of}
 use Rattle.lambda_expr.specs.Signs.{sign_of}
 use Rattle.lambda_expr.specs.Words.{Word, named, numeral, quoted, referred, sign, bad, words_of}
@@ -45,8 +45,8 @@ order_of first second w = if is_that first w then 0 else (if is_that second w th
 -- a name of a text, if these are the first two that a parameter may have
 abbrev pub name_of : Option (List ℕ) → Option (List ℕ) → List ℕ → Name
 name_of first second w =
-    if is_named w (codes "Math") then Owner Math
-    else (if is_named w (codes "Long") then Owner Long
+    if is_named w (codes "Math") then ClassName Math
+    else (if is_named w (codes "Long") then ClassName Long
     else (if is_named w (codes "LongStream") then LongStream
     else (if is_named w (codes "long") then LowerLong
     else (if is_named w (codes "true") then Truth true
@@ -100,7 +100,7 @@ lexemes_in ws = let first = first_name None ws in lexemes_from first (first_name
 abbrev pub lexemes_of : List ℕ → List Token → List Lexeme
 lexemes_of text tokens = lexemes_in (words_of text tokens)
 
--- the name that a reference stands for, without its `$`
+-- the name of a reference, without its `$`
 abbrev pub reference_name : Word → List ℕ
 reference_name (referred w) = drop 1 w
 reference_name (named w) = []
@@ -109,7 +109,7 @@ reference_name (quoted w) = []
 reference_name (sign s) = []
 reference_name bad = []
 
--- the names that the references of a text stand for, by their places
+-- the names of the references of a text, by their places
 abbrev pub Names : Type 0
 Names = ℕ → List ℕ
 

@@ -5,7 +5,7 @@ use Rattle.std.specs.Cmp.Lexicographic.{pointwise}
 use Rattle.lambda_expr.specs.declared.operation.Function.TheVariants.{Unary, Binary}
 use Rattle.lambda_values.specs.declared.operator.UnaryOperator.TheVariants as unary_operator
 use Rattle.lambda_values.specs.declared.operator.BinaryOperator.TheVariants as binary_operator
-use Rattle.lambda_expr.specs.declared.source.Source.TheVariants as source
+use Rattle.lambda_expr.specs.declared.source.StreamSource.TheVariants as source
 use Rattle.lambda_expr.specs.declared.table.Member.{Member}
 use Rattle.lambda_expr.specs.declared.table.Member.TheVariants as member
 

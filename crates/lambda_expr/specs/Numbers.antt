@@ -1,4 +1,4 @@
--- Design: which tokens are a number, and what others are refused for.
+-- Design: which tokens are a number, and why others are refused.
 use Rattle.std.specs.Prelude.{◌≡◌, ℕ, ℤ, FitsSigned, true, List, [], ◌∷◌}
 use Rattle.std.specs.Int.{w64}
 use Rattle.stream_tokens.specs.declared.symbol.Symbol.TheVariants as symbol

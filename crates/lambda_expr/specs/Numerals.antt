@@ -2,7 +2,7 @@
 use Rattle.std.specs.Prelude.{ℕ, ◌+◌, ◌-◌, ◌*◌, Bool, true, false, not, ◌==◌, ◌&&◌, List, [], ◌∷◌, take_while, fold}
 use Rattle.std.specs.Char.{is_ascii_digit}
 
--- helper: the number that digits stand for, after a number that was read before them
+-- helper: the number that digits write, after a number that was read before them
 abbrev pub read_on : ℕ → List ℕ → ℕ
 read_on n ds = fold (λ n d. 10 * n + (d - 48)) n ds
 

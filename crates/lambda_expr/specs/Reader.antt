@@ -2,14 +2,14 @@
 use Rattle.std.specs.Prelude.{ℕ, Bool, true, false, nat_lt, if◌then◌else◌, List, [], ◌∷◌, Option, Some, None}
 use Rattle.lambda_expr.specs.declared.sign.Sign.{Sign}
 use Rattle.lambda_expr.specs.declared.sign.Sign.TheVariants as sign
-use Rattle.lambda_expr.specs.declared.lexeme.Owner.{Owner as Class}
-use Rattle.lambda_expr.specs.declared.lexeme.Owner.TheVariants.{Math, Long}
+use Rattle.lambda_expr.specs.declared.lexeme.ClassName.{ClassName as Class}
+use Rattle.lambda_expr.specs.declared.lexeme.ClassName.TheVariants.{Math, Long}
 use Rattle.lambda_expr.specs.declared.step.Opening.{Opening}
 use Rattle.lambda_expr.specs.declared.step.Opening.TheVariants.{Paren, Call}
 use Rattle.lambda_expr.specs.declared.lexeme.Lexeme.{Lexeme}
 use Rattle.lambda_expr.specs.declared.lexeme.Lexeme.TheVariants as word
 use Rattle.lambda_expr.specs.declared.lexeme.Name.{Name}
-use Rattle.lambda_expr.specs.declared.lexeme.Name.TheVariants.{Plain, Owner, Truth}
+use Rattle.lambda_expr.specs.declared.lexeme.Name.TheVariants.{Plain, ClassName, Truth}
 use Rattle.lambda_expr.specs.Grammar.{Shape, name, number, truth, reference, constant, prefix, binary, ternary, enclosed}
 use Rattle.lambda_expr.specs.Signs.{level, is_infix, is_prefix}
 
@@ -58,7 +58,7 @@ when false s = stuck
 
 abbrev pub starts : List Frame → Lexeme → State
 starts fs (word.Name (Plain i)) = has fs (name i)
-starts fs (word.Name (Owner o)) = owns fs o
+starts fs (word.Name (ClassName o)) = owns fs o
 starts fs (word.Name (Truth b)) = has fs (truth b)
 starts fs (word.Reference i) = has fs (reference i)
 starts fs (word.Number i) = has fs (number i)

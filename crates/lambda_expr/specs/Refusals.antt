@@ -9,7 +9,7 @@ use Rattle.lambda_expr.specs.declared.want.Want.{Want}
 use Rattle.lambda_expr.specs.declared.want.Want.TheVariants as want
 use Rattle.lambda_values.specs.declared.lambda.Lambda.{Lambda}
 use Rattle.lambda_values.specs.declared.lambda.PairForm.{PairForm}
-use Rattle.lambda_expr.specs.declared.source.Source.{Source}
+use Rattle.lambda_expr.specs.declared.source.StreamSource.{StreamSource}
 use Rattle.lambda_expr.specs.Checks.{depth, fit, literals, names_known}
 use Rattle.lambda_expr.specs.Grammar.{Shape}
 use Rattle.lambda_expr.specs.Heads.{ALambda, BodyShape, expression, operands, IsLambda, parameters}
@@ -30,7 +30,7 @@ wanted want.Bool (typing.boolean a) f = Ok (boolean a)
 wanted want.Pair (typing.long a) f = Ok (pair f)
 wanted w t f = Err fault.WrongType
 
--- what a lambda whose body is this expression gives, if its references stand for these names: the first that applies
+-- what a lambda whose body is this expression gives, if its references have these names: the first that applies
 abbrev pub expression_verdict : Want → Names → Shape → Result AbstractLambda ReadFault
 expression_verdict w h e =
     if not (fit (literals e)) then Err fault.LiteralTooLarge
@@ -44,13 +44,13 @@ lambda_of None = Err fault.WrongType
 lambda_of (Some g) = Ok (stream g)
 
 -- helper: the lambda of a source and the numbers that its operands are
-abbrev pub streamed : Source → Option (List Long) → Result AbstractLambda ReadFault
+abbrev pub streamed : StreamSource → Option (List Long) → Result AbstractLambda ReadFault
 streamed s None = Err fault.WrongType
 streamed s (Some es) = lambda_of (stream_of s es)
 
 -- what a lambda whose body is a source with these operands gives: the first that applies. The body is a call, so it is
 -- one deeper than its deepest operand, and it has at most 64 operands
-abbrev pub stream_verdict : Names → Source → List Shape → Result AbstractLambda ReadFault
+abbrev pub stream_verdict : Names → StreamSource → List Shape → Result AbstractLambda ReadFault
 stream_verdict h s es =
     if not (all_fit es) then Err fault.LiteralTooLarge
     else (if nat_lt 64 (max (suc (deepest es)) (length es)) then Err fault.TooDeep
@@ -94,7 +94,7 @@ pub record HasTooManyTokens (text : List ℕ) : Type 0 where
 abbrev pub SpellsLambda : List ℕ → Want → Lambda → Type 0
 SpellsLambda text w l = Judged text w (Ok (body_of l.body))
 
--- the text is refused for this; out of memory may stand in place of any answer
+-- the text is refused for this; out of memory may be the answer for any text
 abbrev pub IsRefused : List ℕ → Want → ReadFault → Type 0
 IsRefused text w (fault.Syntax at) = IsNoLambda text w at
 IsRefused text w fault.TooDeep = HasTooManyTokens text ⊎ Judged text w (Err fault.TooDeep)

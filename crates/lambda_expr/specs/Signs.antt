@@ -7,8 +7,8 @@ use Rattle.lambda_expr.specs.declared.sign.Sign.TheVariants as sign
 use Rattle.lambda_values.specs.declared.operator.BinaryOperator.TheVariants as binary_operator
 use Rattle.lambda_values.specs.declared.operator.Comparison.TheVariants as comparison
 use Rattle.lambda_values.specs.declared.operator.Connective.TheVariants as connective
-use Rattle.lambda_expr.specs.declared.operation.Operation.{Operation}
-use Rattle.lambda_expr.specs.declared.operation.Operation.TheVariants.{Compute, Compare, Connect, Separate, Nothing}
+use Rattle.lambda_expr.specs.declared.operation.SignOperation.{SignOperation}
+use Rattle.lambda_expr.specs.declared.operation.SignOperation.TheVariants.{Compute, Compare, Connect, Separate, Nothing}
 
 -- the sign that a symbol is
 abbrev pub sign_of : Symbol → Option Sign
@@ -36,7 +36,7 @@ sign_of symbol.Tilde = Some sign.Complement
 sign_of symbol.Bang = Some sign.Not
 sign_of s = None
 
--- how tightly a sign binds; level 0 is the comma's, level 1 that of `? :`
+-- how tightly a sign binds; the comma has level 0, and `? :` level 1
 abbrev pub level : Sign → ℕ
 level sign.Comma = 0
 level sign.Or = 2
@@ -95,7 +95,7 @@ is_prefix sign.Not = true
 is_prefix s = false
 
 -- what a sign does between two operands (JLS 17, 15.17 to 15.24)
-abbrev pub operation_of : Sign → Operation
+abbrev pub operation_of : Sign → SignOperation
 operation_of sign.Comma = Separate
 operation_of sign.Or = Connect connective.Or
 operation_of sign.And = Connect connective.And

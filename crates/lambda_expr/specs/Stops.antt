@@ -5,8 +5,8 @@ use Rattle.std.specs.Prelude.{ℕ, ◌+◌, ◌<◌, ◌≤◌, List, ◌++◌, 
 abbrev pub Begins : {W : Type 0} → (List W → Type 0) → List W → Type 0
 Begins {W} G ws = (more : List W) × G (ws ++ more)
 
--- the words are no text of a grammar, and n is the place of the first word such that no text of the grammar
--- begins with the words up to and with it; if there is no such word, n is the number of words
+-- the words are no text of a grammar, and n is the place of the first word where the words up to and with it begin no
+-- text of the grammar; if there is none, n is the number of words
 pub record StopsAt {W : Type 0} (G : List W → Type 0) (ws : List W) (n : ℕ) : Type 0 where
   pub within : n ≤ length ws
   pub outside : G ws → ⊥

@@ -1,7 +1,7 @@
 -- Meaning: what the operands of an inner stream are refused for, and the stream that they give.
 use Rattle.std.specs.Prelude.{ℕ, max, Bool, true, ◌&&◌, List, [], ◌∷◌, Option, Some, None}
-use Rattle.lambda_expr.specs.declared.source.Source.{Source}
-use Rattle.lambda_expr.specs.declared.source.Source.TheVariants as source
+use Rattle.lambda_expr.specs.declared.source.StreamSource.{StreamSource}
+use Rattle.lambda_expr.specs.declared.source.StreamSource.TheVariants as source
 use Rattle.lambda_expr.specs.Checks.{depth, fit, literals, names_known}
 use Rattle.lambda_expr.specs.Grammar.{Shape}
 use Rattle.lambda_expr.specs.Lexemes.{Names}
@@ -29,13 +29,13 @@ abbrev pub and_number : Typed → Option (List Long) → Option (List Long)
 and_number (long a) (Some es) = Some (a ∷ es)
 and_number t es = None
 
--- the numeric expressions that operands stand for, if each of them is one
+-- the numeric expressions that operands spell, if each of them spells one
 abbrev pub numbers : Names → List Shape → Option (List Long)
 numbers h [] = Some []
 numbers h (e ∷ es) = and_number (typed h e) (numbers h es)
 
--- the inner stream of a source and its operands, of which a range has two; `empty()` gives what `of()` gives
-abbrev pub stream_of : Source → List Long → Option Inner
+-- the inner stream of a source and its operands; a range has two, and `empty()` gives what `of()` gives
+abbrev pub stream_of : StreamSource → List Long → Option Inner
 stream_of source.Range (a ∷ b ∷ []) = Some (range a b)
 stream_of source.RangeClosed (a ∷ b ∷ []) = Some (range_closed a b)
 stream_of source.Of es = Some (values es)

@@ -1,16 +1,16 @@
--- Meaning: the term that an expression stands for, by the types of its operands.
+-- Meaning: the term that an expression means, by the types of its operands.
 use Rattle.std.specs.Prelude.{pos, ℤ, Option, Some, None}
 use Rattle.lambda_expr.specs.declared.sign.Sign.{Sign}
 use Rattle.lambda_expr.specs.declared.sign.Sign.TheVariants as sign
-use Rattle.lambda_expr.specs.declared.lexeme.Owner.{Owner as Class}
-use Rattle.lambda_expr.specs.declared.lexeme.Owner.TheVariants.{Math, Long as LongClass}
+use Rattle.lambda_expr.specs.declared.lexeme.ClassName.{ClassName as Class}
+use Rattle.lambda_expr.specs.declared.lexeme.ClassName.TheVariants.{Math, Long as LongClass}
 use Rattle.lambda_expr.specs.declared.table.Member.{Member}
 use Rattle.lambda_expr.specs.declared.table.Member.TheVariants as member
 use Rattle.lambda_expr.specs.declared.lexeme.Name.{Name}
 use Rattle.lambda_expr.specs.declared.lexeme.Name.TheVariants.{Plain}
 use Rattle.lambda_values.specs.declared.operator.UnaryOperator.TheVariants as unary_operator
-use Rattle.lambda_expr.specs.declared.operation.Operation.{Operation}
-use Rattle.lambda_expr.specs.declared.operation.Operation.TheVariants.{Compute, Compare, Connect, Separate}
+use Rattle.lambda_expr.specs.declared.operation.SignOperation.{SignOperation}
+use Rattle.lambda_expr.specs.declared.operation.SignOperation.TheVariants.{Compute, Compare, Connect, Separate}
 use Rattle.lambda_expr.specs.declared.operation.Function.{Function}
 use Rattle.lambda_expr.specs.declared.operation.Function.TheVariants.{Unary, Binary}
 use Rattle.lambda_expr.specs.declared.step.Opening.TheVariants.{Paren, Call}
@@ -58,7 +58,7 @@ prefixed sign.Not (boolean a) = boolean (term.opposite a)
 prefixed s t = untyped
 
 -- JLS 17, 15.17 to 15.24
-abbrev pub operated : Typed → Typed → Operation → Typed
+abbrev pub operated : Typed → Typed → SignOperation → Typed
 operated (long a) (long b) (Compute o) = long (term.binary o a b)
 operated (long a) (long b) (Compare o) = boolean (term.compare o a b)
 operated (long a) (long b) Separate = longs a b
@@ -81,7 +81,7 @@ abbrev pub constant_typed : Option ℤ → Typed
 constant_typed (Some z) = long (term.number z)
 constant_typed None = untyped
 
--- the expression of a lambda, if its references stand for these names
+-- the expression of a lambda, if its references have these names
 abbrev pub typed : Names → Shape → Typed
 typed h (name i) = long (term.parameter i.number)
 typed h (number n) = long (term.number (wrap (pos n)))

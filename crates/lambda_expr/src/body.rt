@@ -6,37 +6,41 @@ ghost use Rattle.lambda_expr.specs.Heads.{ABody};
 ghost use Rattle.std.specs.Prelude.{IfErr, IfOk};
 
 use super::lexeme::Lexeme;
-use super::parse::{Stop, parse};
-use super::source::{Source, parse_operands, parse_source};
-use super::step::Step;
+use super::parse::{ParseStop, parse};
+use super::source::{StreamSource, parse_operands, parse_source};
+use super::step::ParseStep;
 use super::want::Want;
 use std::alloc::Global;
 
 /// A body in steps.
 #[derive(Drop)]
 pub(crate) enum BodySteps {
-    Expression(Vec<Step>),
+    Expression(Vec<ParseStep>),
     /// A source, and the steps of each operand.
-    Stream(Source, Vec<Vec<Step>>),
+    Stream(StreamSource, Vec<Vec<ParseStep>>),
 }
 
 // Reads a body that gives a stream.
-fn parse_stream(alloc: Global, words: &[Lexeme]) -> Result<BodySteps, Stop>
+fn parse_stream(alloc: Global, words: &[Lexeme]) -> Result<BodySteps, ParseStop>
     ensures ok { IfOk result (λ body. IsBodyOf Want.Stream words.now body) }
     ensures stops { IfErr result (λ stop. IsStop (ABody Want.Stream) words.now stop) }
 {
     match parse_source(words) {
         Ok(opened) => match parse_operands(alloc, opened.source, &words[opened.count..]) {
             Ok(operands) => Ok(BodySteps::Stream(opened.source, operands)),
-            Err(Stop::At(place)) => Err(Stop::At(opened.count + place)),
-            Err(Stop::NoMemory) => Err(Stop::NoMemory),
+            Err(ParseStop::At(place)) => Err(ParseStop::At(opened.count + place)),
+            Err(ParseStop::NoMemory) => Err(ParseStop::NoMemory),
         },
-        Err(place) => Err(Stop::At(place)),
+        Err(place) => Err(ParseStop::At(place)),
     }
 }
 
 /// Reads a body that is wanted: its steps, or where its words stop.
-pub(crate) fn parse_body(alloc: Global, want: Want, words: &[Lexeme]) -> Result<BodySteps, Stop>
+pub(crate) fn parse_body(
+    alloc: Global,
+    want: Want,
+    words: &[Lexeme],
+) -> Result<BodySteps, ParseStop>
     ensures ok { IfOk result (λ body. IsBodyOf want words.now body) }
     ensures stops { IfErr result (λ stop. IsStop (ABody want) words.now stop) }
 {

@@ -9,7 +9,7 @@ ghost use Rattle.std.specs.Prelude.{◌≡◌, IfOk, List, [], ◌∷◌, ◌++�
 
 use super::operation::Function;
 use super::sign::Sign;
-use super::step::{Opening, Step};
+use super::step::{Opening, ParseStep};
 use super::table::{constant_of, function_of};
 use lambda_values::{BinaryOperator, PairForm};
 use std::alloc::{AllocError, Global};
@@ -31,10 +31,10 @@ pub(crate) enum Literals {
 
 /// What an expression is of two parameters.
 #[derive(Clone, Copy)]
-pub(crate) enum Form {
+pub(crate) enum BodyForm {
     /// The two of them as the operands of a call.
     Operands,
-    Whole(PairForm),
+    Single(PairForm),
 }
 
 /// What the checks find in an expression.
@@ -43,84 +43,84 @@ pub(crate) struct Summary {
     pub(crate) literals: Literals,
     /// At most 65.
     pub(crate) depth: u32,
-    /// Whether each name is that of a parameter, a method or a constant.
+    /// Whether each name is the name of a parameter, a method or a constant.
     pub(crate) known: bool,
-    pub(crate) form: Form,
+    pub(crate) form: BodyForm,
 }
 
 const NOTHING: Summary = Summary {
     literals: Literals::Fit(true),
     depth: 1,
     known: true,
-    form: Form::Whole(PairForm::Other),
+    form: BodyForm::Single(PairForm::Other),
 };
 
 // A name by itself.
-fn name_form(number: usize) -> Form
+fn name_form(number: usize) -> BodyForm
     ensures { result ≡ name_form number }
 {
     match number {
-        0 => Form::Whole(PairForm::First),
-        1 => Form::Whole(PairForm::Second),
-        _ => Form::Whole(PairForm::Other),
+        0 => BodyForm::Single(PairForm::First),
+        1 => BodyForm::Single(PairForm::Second),
+        _ => BodyForm::Single(PairForm::Other),
     }
 }
 
 // A sign between the two parameters.
-fn sign_form(sign: Sign) -> Form
+fn sign_form(sign: Sign) -> BodyForm
     ensures { result ≡ sign_form sign }
 {
     match sign {
-        Sign::Comma => Form::Operands,
-        Sign::Add => Form::Whole(PairForm::Sum),
-        Sign::Multiply => Form::Whole(PairForm::Product),
-        Sign::BitAnd => Form::Whole(PairForm::And),
-        Sign::BitOr => Form::Whole(PairForm::Or),
-        Sign::BitXor => Form::Whole(PairForm::Xor),
-        _ => Form::Whole(PairForm::Other),
+        Sign::Comma => BodyForm::Operands,
+        Sign::Add => BodyForm::Single(PairForm::Sum),
+        Sign::Multiply => BodyForm::Single(PairForm::Product),
+        Sign::BitAnd => BodyForm::Single(PairForm::And),
+        Sign::BitOr => BodyForm::Single(PairForm::Or),
+        Sign::BitXor => BodyForm::Single(PairForm::Xor),
+        _ => BodyForm::Single(PairForm::Other),
     }
 }
 
-fn binary_form(sign: Sign, left: Form, right: Form) -> Form
+fn binary_form(sign: Sign, left: BodyForm, right: BodyForm) -> BodyForm
     ensures { result ≡ binary_form sign left right }
 {
     match (left, right) {
-        (Form::Whole(PairForm::First), Form::Whole(PairForm::Second)) => sign_form(sign),
-        _ => Form::Whole(PairForm::Other),
+        (BodyForm::Single(PairForm::First), BodyForm::Single(PairForm::Second)) => sign_form(sign),
+        _ => BodyForm::Single(PairForm::Other),
     }
 }
 
 // A method of the two parameters.
-fn method_form(function: Option<Function>) -> Form
+fn method_form(function: Option<Function>) -> BodyForm
     ensures { result ≡ method_form function }
 {
     match function {
-        Some(Function::Binary(BinaryOperator::Add)) => Form::Whole(PairForm::Sum),
-        Some(Function::Binary(BinaryOperator::Min)) => Form::Whole(PairForm::Min),
-        Some(Function::Binary(BinaryOperator::Max)) => Form::Whole(PairForm::Max),
-        Some(Function::Binary(BinaryOperator::AddExact)) => Form::Whole(PairForm::ExactSum),
-        _ => Form::Whole(PairForm::Other),
+        Some(Function::Binary(BinaryOperator::Add)) => BodyForm::Single(PairForm::Sum),
+        Some(Function::Binary(BinaryOperator::Min)) => BodyForm::Single(PairForm::Min),
+        Some(Function::Binary(BinaryOperator::Max)) => BodyForm::Single(PairForm::Max),
+        Some(Function::Binary(BinaryOperator::AddExact)) => BodyForm::Single(PairForm::ExactSum),
+        _ => BodyForm::Single(PairForm::Other),
     }
 }
 
-fn enclosed_form(opening: Opening, operand: Form) -> Form
+fn enclosed_form(opening: Opening, operand: BodyForm) -> BodyForm
     ensures { result ≡ enclosed_form opening operand }
 {
     match (opening, operand) {
         (Opening::Paren, _) => operand,
-        (Opening::Call(owner, name), Form::Operands) => method_form(function_of(owner, name)),
-        (Opening::Call(_, _), Form::Whole(_)) => Form::Whole(PairForm::Other),
+        (Opening::Call(owner, name), BodyForm::Operands) => method_form(function_of(owner, name)),
+        (Opening::Call(_, _), BodyForm::Single(_)) => BodyForm::Single(PairForm::Other),
     }
 }
 
-impl Form {
+impl BodyForm {
     /// The form of an expression; operands alone are none.
     pub(crate) fn whole(self) -> PairForm
         ensures { result ≡ whole_form self }
     {
         match self {
-            Form::Operands => PairForm::Other,
-            Form::Whole(form) => form,
+            BodyForm::Operands => PairForm::Other,
+            BodyForm::Single(form) => form,
         }
     }
 }
@@ -171,7 +171,7 @@ fn prefix(sign: Sign, operand: Summary) -> Summary
         literals: operand.literals.signed(sign),
         depth: deeper(operand.depth),
         known: operand.known,
-        form: Form::Whole(PairForm::Other),
+        form: BodyForm::Single(PairForm::Other),
     }
 }
 
@@ -200,7 +200,7 @@ fn ternary(condition: Summary, chosen: Summary, other: Summary) -> Summary
         ),
         depth: deeper(condition.depth.max(chosen.depth.max(other.depth))),
         known: condition.known && (chosen.known && other.known),
-        form: Form::Whole(PairForm::Other),
+        form: BodyForm::Single(PairForm::Other),
     }
 }
 
@@ -226,38 +226,38 @@ fn enclose(opening: Opening, operand: Summary) -> Summary
 }
 
 // What a step makes of the operands on top.
-fn follow(stack: &mut Vec<Summary>, parameters: usize, step: Step) -> Summary
+fn follow(stack: &mut Vec<Summary>, parameters: usize, step: ParseStep) -> Summary
     ensures { (ss : List found) → stack.old.items ≡ stacked ss
         → stack.new.items ++ result ∷ [] ≡ stacked (summary_step parameters step ss) }
 {
     match step {
-        Step::Name(name) => Summary {
+        ParseStep::Name(name) => Summary {
             known: name.number < parameters,
             form: name_form(name.number),
             ..NOTHING
         },
-        Step::Number(value) => Summary {
+        ParseStep::Number(value) => Summary {
             literals: Literals::Number(value),
             ..NOTHING
         },
-        Step::Truth(_) | Step::Reference(_) => NOTHING,
-        Step::Constant(name) => Summary {
+        ParseStep::Truth(_) | ParseStep::Reference(_) => NOTHING,
+        ParseStep::Constant(name) => Summary {
             known: constant_of(name).is_some(),
             ..NOTHING
         },
-        Step::Prefix(sign) => prefix(sign, pop(stack)),
-        Step::Binary(sign) => {
+        ParseStep::Prefix(sign) => prefix(sign, pop(stack)),
+        ParseStep::Binary(sign) => {
             let right = pop(stack);
             let left = pop(stack);
             binary(sign, left, right)
         }
-        Step::Ternary => {
+        ParseStep::Ternary => {
             let other = pop(stack);
             let chosen = pop(stack);
             let condition = pop(stack);
             ternary(condition, chosen, other)
         }
-        Step::Enclose(opening) => enclose(opening, pop(stack)),
+        ParseStep::Enclose(opening) => enclose(opening, pop(stack)),
     }
 }
 
@@ -265,7 +265,7 @@ fn follow(stack: &mut Vec<Summary>, parameters: usize, step: Step) -> Summary
 pub(crate) fn summarize(
     alloc: Global,
     parameters: usize,
-    steps: &[Step],
+    steps: &[ParseStep],
 ) -> Result<Summary, AllocError>
     ensures { IfOk result (λ summary. summary ≡ top_summary (summary_steps parameters [] steps.now)) }
 {

@@ -12,9 +12,9 @@ use super::lexeme::Name;
 use super::making::{
     binary, choose_long, choose_truth, compare, connect, constant, number, reference, unary,
 };
-use super::operation::{Function, Operation};
+use super::operation::{Function, SignOperation};
 use super::sign::Sign;
-use super::step::{Opening, Step};
+use super::step::{Opening, ParseStep};
 use super::table::function_of;
 use lambda_values::{BoolExpr, LongExpr, UnaryOperator};
 use std::alloc::{AllocError, Global};
@@ -22,7 +22,7 @@ use stream_tokens::CutText;
 
 /// What the steps so far have made of an operand.
 #[derive(Drop)]
-pub(crate) enum Operand {
+pub(crate) enum TypedOperand {
     Long(LongExpr),
     Truth(BoolExpr),
     /// Two operands that a comma separates.
@@ -32,98 +32,98 @@ pub(crate) enum Operand {
 }
 
 // The operand on top, or none of any type.
-fn pop(stack: &mut Vec<Operand>) -> Operand
+fn pop(stack: &mut Vec<TypedOperand>) -> TypedOperand
     ensures { (ts : List shape_type) → operands_of stack.old.items ≡ stacked ts
         → (typed_of result ≡ top_typed ts) × (operands_of stack.new.items ≡ stacked (below ts)) }
 {
     match stack.pop() {
         Some(operand) => operand,
-        None => Operand::Untyped,
+        None => TypedOperand::Untyped,
     }
 }
 
 // A sign before an operand.
-fn prefix(alloc: Global, sign: Sign, operand: Operand) -> Result<Operand, AllocError>
+fn prefix(alloc: Global, sign: Sign, operand: TypedOperand) -> Result<TypedOperand, AllocError>
     ensures { IfOk result (λ o. typed_of o ≡ prefixed sign (typed_of operand)) }
 {
     match operand {
-        Operand::Long(operand) => match sign {
+        TypedOperand::Long(operand) => match sign {
             Sign::Subtract => unary(alloc, UnaryOperator::Negate, operand),
-            Sign::Add => Ok(Operand::Long(operand)),
+            Sign::Add => Ok(TypedOperand::Long(operand)),
             Sign::Complement => unary(alloc, UnaryOperator::Complement, operand),
-            _ => Ok(Operand::Untyped),
+            _ => Ok(TypedOperand::Untyped),
         },
-        Operand::Truth(operand) => match sign {
-            Sign::Not => Ok(Operand::Truth(BoolExpr::Not(Box::new(alloc, operand)?))),
-            _ => Ok(Operand::Untyped),
+        TypedOperand::Truth(operand) => match sign {
+            Sign::Not => Ok(TypedOperand::Truth(BoolExpr::Not(Box::new(alloc, operand)?))),
+            _ => Ok(TypedOperand::Untyped),
         },
-        _ => Ok(Operand::Untyped),
+        _ => Ok(TypedOperand::Untyped),
     }
 }
 
 // Two numbers, and what stands between them.
 fn operate_on_longs(
     alloc: Global,
-    operation: Operation,
+    operation: SignOperation,
     left: LongExpr,
     right: LongExpr,
-) -> Result<Operand, AllocError>
+) -> Result<TypedOperand, AllocError>
     ensures { IfOk result (λ o. typed_of o ≡ operated (long (long_of left)) (long (long_of right)) operation) }
 {
     match operation {
-        Operation::Compute(operator) => binary(alloc, operator, left, right),
-        Operation::Compare(comparison) => compare(alloc, comparison, left, right),
-        Operation::Separate => Ok(Operand::Longs(left, right)),
-        _ => Ok(Operand::Untyped),
+        SignOperation::Compute(operator) => binary(alloc, operator, left, right),
+        SignOperation::Compare(comparison) => compare(alloc, comparison, left, right),
+        SignOperation::Separate => Ok(TypedOperand::Longs(left, right)),
+        _ => Ok(TypedOperand::Untyped),
     }
 }
 
 // A number, what follows it, and another operand.
 fn operate_on_long(
     alloc: Global,
-    operation: Operation,
+    operation: SignOperation,
     left: LongExpr,
-    right: Operand,
-) -> Result<Operand, AllocError>
+    right: TypedOperand,
+) -> Result<TypedOperand, AllocError>
     ensures { IfOk result (λ o. typed_of o ≡ operated (long (long_of left)) (typed_of right) operation) }
 {
     match right {
-        Operand::Long(right) => operate_on_longs(alloc, operation, left, right),
-        _ => Ok(Operand::Untyped),
+        TypedOperand::Long(right) => operate_on_longs(alloc, operation, left, right),
+        _ => Ok(TypedOperand::Untyped),
     }
 }
 
 // A boolean, what follows it, and another operand.
 fn operate_on_truth(
     alloc: Global,
-    operation: Operation,
+    operation: SignOperation,
     left: BoolExpr,
-    right: Operand,
-) -> Result<Operand, AllocError>
+    right: TypedOperand,
+) -> Result<TypedOperand, AllocError>
     ensures { IfOk result (λ o. typed_of o ≡ operated (boolean (truth_of left)) (typed_of right) operation) }
 {
     match right {
-        Operand::Truth(right) => match operation {
-            Operation::Connect(connective) => connect(alloc, connective, left, right),
-            _ => Ok(Operand::Untyped),
+        TypedOperand::Truth(right) => match operation {
+            SignOperation::Connect(connective) => connect(alloc, connective, left, right),
+            _ => Ok(TypedOperand::Untyped),
         },
-        _ => Ok(Operand::Untyped),
+        _ => Ok(TypedOperand::Untyped),
     }
 }
 
 // Two operands, and what stands between them.
 fn operate(
     alloc: Global,
-    operation: Operation,
-    left: Operand,
-    right: Operand,
-) -> Result<Operand, AllocError>
+    operation: SignOperation,
+    left: TypedOperand,
+    right: TypedOperand,
+) -> Result<TypedOperand, AllocError>
     ensures { IfOk result (λ o. typed_of o ≡ operated (typed_of left) (typed_of right) operation) }
 {
     match left {
-        Operand::Long(left) => operate_on_long(alloc, operation, left, right),
-        Operand::Truth(left) => operate_on_truth(alloc, operation, left, right),
-        _ => Ok(Operand::Untyped),
+        TypedOperand::Long(left) => operate_on_long(alloc, operation, left, right),
+        TypedOperand::Truth(left) => operate_on_truth(alloc, operation, left, right),
+        _ => Ok(TypedOperand::Untyped),
     }
 }
 
@@ -132,13 +132,13 @@ fn select_long(
     alloc: Global,
     condition: BoolExpr,
     chosen: LongExpr,
-    other: Operand,
-) -> Result<Operand, AllocError>
+    other: TypedOperand,
+) -> Result<TypedOperand, AllocError>
     ensures { IfOk result (λ o. typed_of o ≡ selected (boolean (truth_of condition)) (long (long_of chosen)) (typed_of other)) }
 {
     match other {
-        Operand::Long(other) => choose_long(alloc, condition, chosen, other),
-        _ => Ok(Operand::Untyped),
+        TypedOperand::Long(other) => choose_long(alloc, condition, chosen, other),
+        _ => Ok(TypedOperand::Untyped),
     }
 }
 
@@ -147,47 +147,51 @@ fn select_truth(
     alloc: Global,
     condition: BoolExpr,
     chosen: BoolExpr,
-    other: Operand,
-) -> Result<Operand, AllocError>
+    other: TypedOperand,
+) -> Result<TypedOperand, AllocError>
     ensures { IfOk result (λ o. typed_of o ≡ selected (boolean (truth_of condition)) (boolean (truth_of chosen)) (typed_of other)) }
 {
     match other {
-        Operand::Truth(other) => choose_truth(alloc, condition, chosen, other),
-        _ => Ok(Operand::Untyped),
+        TypedOperand::Truth(other) => choose_truth(alloc, condition, chosen, other),
+        _ => Ok(TypedOperand::Untyped),
     }
 }
 
 // `c ? p : q`.
 fn select(
     alloc: Global,
-    condition: Operand,
-    chosen: Operand,
-    other: Operand,
-) -> Result<Operand, AllocError>
+    condition: TypedOperand,
+    chosen: TypedOperand,
+    other: TypedOperand,
+) -> Result<TypedOperand, AllocError>
     ensures { IfOk result (λ o. typed_of o ≡ selected (typed_of condition) (typed_of chosen) (typed_of other)) }
 {
-    let Operand::Truth(condition) = condition else {
-        return Ok(Operand::Untyped);
+    let TypedOperand::Truth(condition) = condition else {
+        return Ok(TypedOperand::Untyped);
     };
     match chosen {
-        Operand::Long(chosen) => select_long(alloc, condition, chosen, other),
-        Operand::Truth(chosen) => select_truth(alloc, condition, chosen, other),
-        _ => Ok(Operand::Untyped),
+        TypedOperand::Long(chosen) => select_long(alloc, condition, chosen, other),
+        TypedOperand::Truth(chosen) => select_truth(alloc, condition, chosen, other),
+        _ => Ok(TypedOperand::Untyped),
     }
 }
 
 // A method and its operands.
-fn call(alloc: Global, function: Option<Function>, operand: Operand) -> Result<Operand, AllocError>
+fn call(
+    alloc: Global,
+    function: Option<Function>,
+    operand: TypedOperand,
+) -> Result<TypedOperand, AllocError>
     ensures { IfOk result (λ o. typed_of o ≡ called_with function (typed_of operand)) }
 {
     match (function, operand) {
-        (Some(Function::Unary(operator)), Operand::Long(operand)) => unary(
+        (Some(Function::Unary(operator)), TypedOperand::Long(operand)) => unary(
             alloc, operator, operand,
         ),
-        (Some(Function::Binary(operator)), Operand::Longs(left, right)) => binary(
+        (Some(Function::Binary(operator)), TypedOperand::Longs(left, right)) => binary(
             alloc, operator, left, right,
         ),
-        _ => Ok(Operand::Untyped),
+        _ => Ok(TypedOperand::Untyped),
     }
 }
 
@@ -195,35 +199,35 @@ fn call(alloc: Global, function: Option<Function>, operand: Operand) -> Result<O
 fn follow(
     alloc: Global,
     text: &CutText,
-    stack: &mut Vec<Operand>,
-    step: Step,
-) -> Result<Operand, AllocError>
+    stack: &mut Vec<TypedOperand>,
+    step: ParseStep,
+) -> Result<TypedOperand, AllocError>
     ensures { (ts : List shape_type) → operands_of stack.old.items ≡ stacked ts
         → IfOk result (λ o. operands_of stack.new.items ++ typed_of o ∷ [] ≡ stacked (typed_step (names_in text.now.bytes text.now.tokens) step ts)) }
 {
     match step {
-        Step::Name(name) => Ok(Operand::Long(LongExpr::Parameter(name.number))),
-        Step::Reference(place) => reference(alloc, text, place),
-        Step::Number(value) => Ok(number(value)),
-        Step::Truth(value) => Ok(Operand::Truth(BoolExpr::Literal(value))),
-        Step::Constant(name) => Ok(constant(name)),
-        Step::Prefix(sign) => {
+        ParseStep::Name(name) => Ok(TypedOperand::Long(LongExpr::Parameter(name.number))),
+        ParseStep::Reference(place) => reference(alloc, text, place),
+        ParseStep::Number(value) => Ok(number(value)),
+        ParseStep::Truth(value) => Ok(TypedOperand::Truth(BoolExpr::Literal(value))),
+        ParseStep::Constant(name) => Ok(constant(name)),
+        ParseStep::Prefix(sign) => {
             let operand = pop(stack);
             prefix(alloc, sign, operand)
         }
-        Step::Binary(sign) => {
+        ParseStep::Binary(sign) => {
             let right = pop(stack);
             let left = pop(stack);
             operate(alloc, sign.operation(), left, right)
         }
-        Step::Ternary => {
+        ParseStep::Ternary => {
             let other = pop(stack);
             let chosen = pop(stack);
             let condition = pop(stack);
             select(alloc, condition, chosen, other)
         }
-        Step::Enclose(Opening::Paren) => Ok(pop(stack)),
-        Step::Enclose(Opening::Call(owner, name)) => {
+        ParseStep::Enclose(Opening::Paren) => Ok(pop(stack)),
+        ParseStep::Enclose(Opening::Call(owner, name)) => {
             let operand = pop(stack);
             call(alloc, function_of(owner, name), operand)
         }
@@ -234,8 +238,8 @@ fn follow(
 pub(crate) fn elaborate(
     alloc: Global,
     text: &CutText,
-    steps: &[Step],
-) -> Result<Operand, AllocError>
+    steps: &[ParseStep],
+) -> Result<TypedOperand, AllocError>
     ensures { IfOk result (λ o. typed_of o ≡ top_typed (typed_steps (names_in text.now.bytes text.now.tokens) [] steps.now)) }
 {
     let mut stack = Vec::new(alloc);

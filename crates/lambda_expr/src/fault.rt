@@ -1,4 +1,4 @@
-// Why a text is no lambda.
+//! Why a text is no lambda.
 
 ghost use Rattle.std.specs.Prelude.{◌≡◌};
 ghost use Rattle.lambda_expr.specs.declared.fault.ReadFault.TheVariants.{NoMemory};
@@ -8,8 +8,8 @@ use std::alloc::{AllocError, AllocFailed};
 /// Why a text is not read as a lambda of the want. Numbers 1 to 6, in this order.
 #[derive(Clone, Copy, Debug, PartialEq, Eq)]
 pub enum ReadFault {
-    /// The text is not in the grammar. The column is a byte position from 1: of the first token
-    /// such that no lambda begins with the tokens up to and with it, or one past the last byte.
+    /// The text is not in the grammar. The column is a byte position from 1: of the first token where the tokens up to
+    /// and with it begin no lambda, or one past the last byte.
     Syntax { column: usize },
     /// An operand of the wrong type, or a body that is not of the wanted type.
     WrongType,

@@ -10,7 +10,7 @@ use super::want::Want;
 
 /// What a word of a head has to be.
 #[derive(Clone, Copy, PartialEq, Eq)]
-pub(crate) enum Mark {
+pub(crate) enum HeadMark {
     Open,
     /// The parameter of this number, from 0.
     Parameter(usize),
@@ -21,58 +21,63 @@ pub(crate) enum Mark {
 }
 
 /// `x ->`
-const BARE: [Mark; 2] = [Mark::Parameter(0), Mark::Arrow];
+const BARE: [HeadMark; 2] = [HeadMark::Parameter(0), HeadMark::Arrow];
 
 /// `(x) ->`
-const ENCLOSED: [Mark; 4] = [Mark::Open, Mark::Parameter(0), Mark::Close, Mark::Arrow];
+const ENCLOSED: [HeadMark; 4] = [
+    HeadMark::Open,
+    HeadMark::Parameter(0),
+    HeadMark::Close,
+    HeadMark::Arrow,
+];
 
 /// `(long x) ->`
-const TYPED: [Mark; 5] = [
-    Mark::Open,
-    Mark::LowerLong,
-    Mark::Parameter(0),
-    Mark::Close,
-    Mark::Arrow,
+const TYPED: [HeadMark; 5] = [
+    HeadMark::Open,
+    HeadMark::LowerLong,
+    HeadMark::Parameter(0),
+    HeadMark::Close,
+    HeadMark::Arrow,
 ];
 
 /// `(a, b) ->`
-const PAIR: [Mark; 6] = [
-    Mark::Open,
-    Mark::Parameter(0),
-    Mark::Comma,
-    Mark::Parameter(1),
-    Mark::Close,
-    Mark::Arrow,
+const PAIR: [HeadMark; 6] = [
+    HeadMark::Open,
+    HeadMark::Parameter(0),
+    HeadMark::Comma,
+    HeadMark::Parameter(1),
+    HeadMark::Close,
+    HeadMark::Arrow,
 ];
 
 /// `(long a, long b) ->`
-const TYPED_PAIR: [Mark; 8] = [
-    Mark::Open,
-    Mark::LowerLong,
-    Mark::Parameter(0),
-    Mark::Comma,
-    Mark::LowerLong,
-    Mark::Parameter(1),
-    Mark::Close,
-    Mark::Arrow,
+const TYPED_PAIR: [HeadMark; 8] = [
+    HeadMark::Open,
+    HeadMark::LowerLong,
+    HeadMark::Parameter(0),
+    HeadMark::Comma,
+    HeadMark::LowerLong,
+    HeadMark::Parameter(1),
+    HeadMark::Close,
+    HeadMark::Arrow,
 ];
 
 // What a word is in a head: a name is a parameter by its number.
-fn mark_of(word: Lexeme) -> Option<Mark>
+fn mark_of(word: Lexeme) -> Option<HeadMark>
     ensures { result ≡ mark_of word }
 {
     match word {
-        Lexeme::Name(Name::Plain(name)) => Some(Mark::Parameter(name.number)),
-        Lexeme::Name(Name::LowerLong) => Some(Mark::LowerLong),
-        Lexeme::Open => Some(Mark::Open),
-        Lexeme::Sign(Sign::Comma) => Some(Mark::Comma),
-        Lexeme::Close => Some(Mark::Close),
-        Lexeme::Arrow => Some(Mark::Arrow),
+        Lexeme::Name(Name::Plain(name)) => Some(HeadMark::Parameter(name.number)),
+        Lexeme::Name(Name::LowerLong) => Some(HeadMark::LowerLong),
+        Lexeme::Open => Some(HeadMark::Open),
+        Lexeme::Sign(Sign::Comma) => Some(HeadMark::Comma),
+        Lexeme::Close => Some(HeadMark::Close),
+        Lexeme::Arrow => Some(HeadMark::Arrow),
         _ => None,
     }
 }
 
-impl Mark {
+impl HeadMark {
     // Whether the word is what this mark wants.
     fn fits(self, word: Lexeme) -> bool
         ensures { IsFit result self word }
@@ -95,7 +100,7 @@ pub(crate) fn parameters(want: Want) -> usize
 }
 
 // How many words fit the pattern, from the first on.
-fn matched(pattern: &[Mark], words: &[Lexeme]) -> usize
+fn matched(pattern: &[HeadMark], words: &[Lexeme]) -> usize
     ensures { IsMatched pattern.now words.now result }
 {
     for at in 0..pattern.len() {
@@ -110,7 +115,11 @@ fn matched(pattern: &[Mark], words: &[Lexeme]) -> usize
 }
 
 // The length of the pattern if the words begin with it, else what another one gives, at least as far.
-fn tried(pattern: &[Mark], words: &[Lexeme], other: Result<usize, usize>) -> Result<usize, usize>
+fn tried(
+    pattern: &[HeadMark],
+    words: &[Lexeme],
+    other: Result<usize, usize>,
+) -> Result<usize, usize>
     ensures { IsTried pattern.now words.now other result }
 {
     let count = matched(pattern, words);

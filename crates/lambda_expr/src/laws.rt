@@ -1,5 +1,5 @@
-// Laws of the definitions: each text has one answer. The functions do nothing; their contracts are
-// the laws.
+//! Laws of the definitions: each text has one answer. The functions do nothing; their contracts are
+//! the laws.
 
 ghost use Rattle.lambda_expr.specs.declared.fault.ReadFault.{ReadFault};
 ghost use Rattle.lambda_values.specs.declared.lambda.Lambda.{Lambda};

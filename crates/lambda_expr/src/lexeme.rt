@@ -12,7 +12,7 @@ use stream_tokens::{CutText, Symbol, TokenKind};
 
 /// A class whose methods and constants a lambda may name.
 #[derive(Clone, Copy)]
-pub(crate) enum Owner {
+pub(crate) enum ClassName {
     Math,
     Long,
 }
@@ -30,7 +30,7 @@ pub(crate) struct PlainName {
 #[derive(Clone, Copy)]
 pub(crate) enum Name {
     Plain(PlainName),
-    Owner(Owner),
+    ClassName(ClassName),
     /// `true` and `false`.
     Truth(bool),
     /// `long`.
@@ -74,9 +74,9 @@ fn name_of(first: Option<&[u8]>, second: Option<&[u8]>, name: &[u8]) -> Name
     ensures { result ≡ name_of (option_copied first.entry) (option_copied second.entry) name.now }
 {
     if name == b"Math".as_slice() {
-        Name::Owner(Owner::Math)
+        Name::ClassName(ClassName::Math)
     } else if name == b"Long".as_slice() {
-        Name::Owner(Owner::Long)
+        Name::ClassName(ClassName::Long)
     } else if name == b"LongStream".as_slice() {
         Name::LongStream
     } else if name == b"long".as_slice() {
@@ -165,8 +165,8 @@ fn is_taken(taken: Option<&[u8]>, name: &[u8]) -> bool
     is_reserved(name) || Some(name) == taken
 }
 
-// The name that a token is, if a parameter may have it and it is not the one that is taken. It is asked only until two names
-// are known; inlined it slows every other token of the pass.
+// The name that a token is, if a parameter may have it and it is not the one that is taken. It is asked only until two
+// names are known; inlined it slows every other token of the pass.
 #[inline(never)]
 fn free_name<'a>(taken: Option<&[u8]>, kind: TokenKind, bytes: &'a [u8]) -> Option<&'a [u8]>
     ensures { option_copied result ≡ first_name (option_copied taken.entry) (word_for kind bytes.now ∷ []) }
@@ -178,7 +178,8 @@ fn free_name<'a>(taken: Option<&[u8]>, kind: TokenKind, bytes: &'a [u8]) -> Opti
     }
 }
 
-// The first name that a parameter may have, apart from one that is taken, with one more token: what is known before, if anything is.
+// The first name that a parameter may have, apart from one that is taken, with one more token: what is known before, if
+// anything is.
 fn first_name<'a>(
     taken: Option<&[u8]>,
     known: Option<&'a [u8]>,
@@ -194,8 +195,8 @@ fn first_name<'a>(
     }
 }
 
-/// The lexemes of a text, in one pass over its tokens. Each name is compared with the first two of the text up to it: a name
-/// that a parameter may have is one of these, or both are known by then.
+/// The lexemes of a text, in one pass over its tokens. Each name is compared with the first two of the text up to it: a
+/// name that a parameter may have is one of these, or both are known by then.
 pub(crate) fn lexemes(alloc: Global, text: &CutText) -> Result<Vec<Lexeme>, AllocError>
     ensures { IfOk result (λ lexemes. lexemes.items ≡ lexemes_of text.now.bytes text.now.tokens) }
 {
@@ -221,7 +222,7 @@ fn after_first(bytes: &[u8]) -> &[u8]
     }
 }
 
-/// The name that the reference at a place stands for, without its `$`; no bytes if there is none.
+/// The name of the reference at a place, without its `$`; no bytes if there is none.
 pub(crate) fn reference_name<'a>(text: &CutText<'a>, place: usize) -> &'a [u8]
     ensures { result.now ≡ names_in text.now.bytes text.now.tokens place }
 {

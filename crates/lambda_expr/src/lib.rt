@@ -1,7 +1,7 @@
 //! Lambdas over numbers of 64 bits: reading them from texts.
 //!
 //! It stands on `stream_tokens`, which cuts a text into tokens, and on `lambda_values`, which has the
-//! expressions and their values; what `lambda_values` offers has its names here too. Its users:
+//! expressions and their values; the types of what is read have their names here too. Its users:
 //! - `job_language` reads lambdas by `read_lambda_of`, clauses `ok` and `refused`: a part of a text that
 //!   is cut already gives the lambda that it spells, or the first refusal that applies, a syntax fault
 //!   with its column. It reads numbers by `Numeral`.
@@ -36,12 +36,7 @@ mod table;
 mod want;
 
 pub use fault::ReadFault;
-pub use lambda_values::{
-    BinaryOperator, Body, BoolExpr, Comparison, Connective, Env, FaultKind, Faults, Inner,
-    InnerExpr, Lambda, ListedValues, LongExpr, NamedNumber, Operands, PairForm, Run, UnaryOperator,
-    bits_are_combined_place_by_place, division_rounds_toward_zero, references_decide,
-    wrap_is_the_remainder_in_64_bits,
-};
+pub use lambda_values::{BoolExpr, Env, FaultKind, Inner, InnerExpr, Lambda, LongExpr};
 pub use laws::{each_text_has_an_answer, one_answer, one_number, one_reading, one_stop};
 pub use number::{Numeral, may_stand, read_number};
 pub use read::{read_lambda, read_lambda_of};

@@ -9,7 +9,7 @@ ghost use Rattle.lambda_expr.specs.Typing.{long, boolean};
 ghost use Rattle.lambda_values.specs.Wrap.{wrap};
 ghost use Rattle.std.specs.Prelude.{◌≡◌, IfOk, pos};
 
-use super::elaborate::Operand;
+use super::elaborate::TypedOperand;
 use super::lexeme::{Name, reference_name};
 use super::table::constant_of;
 use lambda_values::{BinaryOperator, BoolExpr, Comparison, Connective, LongExpr, UnaryOperator};
@@ -21,10 +21,10 @@ pub(crate) fn unary(
     alloc: Global,
     operator: UnaryOperator,
     operand: LongExpr,
-) -> Result<Operand, AllocError>
+) -> Result<TypedOperand, AllocError>
     ensures { IfOk result (λ o. typed_of o ≡ long (term.unary operator (long_of operand))) }
 {
-    Ok(Operand::Long(LongExpr::Unary(operator, Box::new(alloc, operand)?)))
+    Ok(TypedOperand::Long(LongExpr::Unary(operator, Box::new(alloc, operand)?)))
 }
 
 /// An operator between two numbers, or a method of two.
@@ -33,12 +33,12 @@ pub(crate) fn binary(
     operator: BinaryOperator,
     left: LongExpr,
     right: LongExpr,
-) -> Result<Operand, AllocError>
+) -> Result<TypedOperand, AllocError>
     ensures { IfOk result (λ o. typed_of o ≡ long (term.binary operator (long_of left) (long_of right))) }
 {
     let left = Box::new(alloc, left)?;
     let right = Box::new(alloc, right)?;
-    Ok(Operand::Long(LongExpr::Binary(operator, left, right)))
+    Ok(TypedOperand::Long(LongExpr::Binary(operator, left, right)))
 }
 
 /// A comparison of two numbers.
@@ -47,12 +47,12 @@ pub(crate) fn compare(
     comparison: Comparison,
     left: LongExpr,
     right: LongExpr,
-) -> Result<Operand, AllocError>
+) -> Result<TypedOperand, AllocError>
     ensures { IfOk result (λ o. typed_of o ≡ boolean (term.compare comparison (long_of left) (long_of right))) }
 {
     let left = Box::new(alloc, left)?;
     let right = Box::new(alloc, right)?;
-    Ok(Operand::Truth(BoolExpr::Compare(comparison, left, right)))
+    Ok(TypedOperand::Truth(BoolExpr::Compare(comparison, left, right)))
 }
 
 /// `&&` or `||` between two booleans.
@@ -61,12 +61,12 @@ pub(crate) fn connect(
     connective: Connective,
     left: BoolExpr,
     right: BoolExpr,
-) -> Result<Operand, AllocError>
+) -> Result<TypedOperand, AllocError>
     ensures { IfOk result (λ o. typed_of o ≡ boolean (term.connect connective (truth_of left) (truth_of right))) }
 {
     let left = Box::new(alloc, left)?;
     let right = Box::new(alloc, right)?;
-    Ok(Operand::Truth(BoolExpr::Connect(connective, left, right)))
+    Ok(TypedOperand::Truth(BoolExpr::Connect(connective, left, right)))
 }
 
 /// `c ? p : q` for two numbers.
@@ -75,13 +75,13 @@ pub(crate) fn choose_long(
     condition: BoolExpr,
     chosen: LongExpr,
     other: LongExpr,
-) -> Result<Operand, AllocError>
+) -> Result<TypedOperand, AllocError>
     ensures { IfOk result (λ o. typed_of o ≡ long (term.choose (truth_of condition) (long_of chosen) (long_of other))) }
 {
     let condition = Box::new(alloc, condition)?;
     let chosen = Box::new(alloc, chosen)?;
     let other = Box::new(alloc, other)?;
-    Ok(Operand::Long(LongExpr::Choose(condition, chosen, other)))
+    Ok(TypedOperand::Long(LongExpr::Choose(condition, chosen, other)))
 }
 
 /// `c ? p : q` for two booleans.
@@ -90,36 +90,40 @@ pub(crate) fn choose_truth(
     condition: BoolExpr,
     chosen: BoolExpr,
     other: BoolExpr,
-) -> Result<Operand, AllocError>
+) -> Result<TypedOperand, AllocError>
     ensures { IfOk result (λ o. typed_of o ≡ boolean (term.choose_truth (truth_of condition) (truth_of chosen) (truth_of other))) }
 {
     let condition = Box::new(alloc, condition)?;
     let chosen = Box::new(alloc, chosen)?;
     let other = Box::new(alloc, other)?;
-    Ok(Operand::Truth(BoolExpr::Choose(condition, chosen, other)))
+    Ok(TypedOperand::Truth(BoolExpr::Choose(condition, chosen, other)))
 }
 
 /// A number that fits, or 2^63, which is its own negative in 64 bits.
-pub(crate) fn number(value: u64) -> Operand
+pub(crate) fn number(value: u64) -> TypedOperand
     ensures { typed_of result ≡ long (term.number (wrap (pos value))) }
 {
-    Operand::Long(LongExpr::Number(value.cast_signed()))
+    TypedOperand::Long(LongExpr::Number(value.cast_signed()))
 }
 
 /// A constant by its name; without a type if there is none of that name.
-pub(crate) fn constant(name: Name) -> Operand
+pub(crate) fn constant(name: Name) -> TypedOperand
     ensures { typed_of result ≡ constant_typed (constant_of name) }
 {
     match constant_of(name) {
-        Some(value) => Operand::Long(LongExpr::Number(value)),
-        None => Operand::Untyped,
+        Some(value) => TypedOperand::Long(LongExpr::Number(value)),
+        None => TypedOperand::Untyped,
     }
 }
 
 /// The reference at a place, by its name without the `$`.
-pub(crate) fn reference(alloc: Global, text: &CutText, place: usize) -> Result<Operand, AllocError>
+pub(crate) fn reference(
+    alloc: Global,
+    text: &CutText,
+    place: usize,
+) -> Result<TypedOperand, AllocError>
     ensures { IfOk result (λ o. typed_of o ≡ long (term.reference (names_in text.now.bytes text.now.tokens place))) }
 {
     let name = Vec::from_slice(alloc, reference_name(text, place))?;
-    Ok(Operand::Long(LongExpr::Reference(Bytes::from(name))))
+    Ok(TypedOperand::Long(LongExpr::Reference(Bytes::from(name))))
 }

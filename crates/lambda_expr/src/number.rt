@@ -1,4 +1,4 @@
-// Numbers as they are written, and the value of each.
+//! Numbers as they are written, and the value of each.
 
 ghost use Rattle.lambda_expr.specs.Numbers.{ANumber, IsNumber, IsNumberRefused, SpellsNumber};
 ghost use Rattle.lambda_expr.specs.NumberValues.{in_64_bits, number_value};
@@ -16,8 +16,8 @@ ghost use Rattle.stream_tokens.specs.Tokens.{StandInOrder};
 use super::fault::ReadFault;
 use stream_tokens::{Symbol, Token, TokenKind};
 
-/// Whether a number of these bytes may stand in a grammar: two or more digits don't begin with 0, since such numbers are
-/// octal in JLS 17, 3.10.1. It takes no memory.
+/// Whether a number of these bytes may be in a grammar: two or more digits don't begin with 0, since a number like that
+/// is octal in JLS 17, 3.10.1. It takes no memory.
 pub fn may_stand(number: &[u8]) -> bool
     ensures { result ≡ is_numeral number.now }
 {

@@ -1,10 +1,10 @@
-// What a sign and the name of a method stand for.
+//! What a sign means, and what the name of a method means.
 
 use lambda_values::{BinaryOperator, Comparison, Connective, UnaryOperator};
 
 /// What a sign between two operands does.
 #[derive(Clone, Copy)]
-pub(crate) enum Operation {
+pub(crate) enum SignOperation {
     Compute(BinaryOperator),
     Compare(Comparison),
     Connect(Connective),

@@ -1,19 +1,19 @@
 //! The reader of expressions: one turn for each lexeme, with a stack of what waits for its right operand.
 
 ghost use Rattle.std.specs.Prelude.{◌≡◌, ◌<◌, List, [], IfOk, IfErr};
-ghost use Rattle.lambda_expr.specs.declared.step.Step.{Step as step};
+ghost use Rattle.lambda_expr.specs.declared.step.ParseStep.{ParseStep as step};
 ghost use Rattle.lambda_expr.specs.declared.parse.Pending.{Pending as pending};
 ghost use Rattle.lambda_expr.specs.Grammar.{Expression};
 ghost use Rattle.lambda_expr.specs.Signs.{level};
 ghost use Rattle.lambda_expr.specs.Reader.{read, joins, starts, called};
 ghost use Rattle.lambda_expr.specs.Codes.{reduced, state_of, top_of, IsCoded, IsSettled, Turns, frames_of, run, ArePostfix, IsStop};
-ghost use Rattle.lambda_expr.specs.declared.parse.Stop.TheVariants.{NoMemory};
+ghost use Rattle.lambda_expr.specs.declared.parse.ParseStop.TheVariants.{NoMemory};
 
 use super::following::follow;
-use super::lexeme::{Lexeme, Name, Owner};
+use super::lexeme::{ClassName, Lexeme, Name};
 use super::sign::Sign;
 use super::stack::Stack;
-use super::step::{Opening, Step};
+use super::step::{Opening, ParseStep};
 use std::alloc::{AllocError, AllocFailed, Global};
 
 /// What waits for the operand to its right. Its other operands were written already.
@@ -30,61 +30,71 @@ pub(crate) enum Pending {
 #[derive(Clone, Copy)]
 pub(crate) enum Held {
     Nothing,
-    Whole,
-    Owner(Owner),
-    OwnerDot(Owner),
-    Callee(Owner, Name),
+    Complete,
+    ClassName(ClassName),
+    OwnerDot(ClassName),
+    Callee(ClassName, Name),
 }
 
 /// Why words were not read.
 #[derive(Clone, Copy)]
-pub(crate) enum Stop {
+pub(crate) enum ParseStop {
     /// They stop being the beginning of a text of the grammar at this place.
     At(usize),
     /// An allocation failed.
     NoMemory,
 }
 
-impl From<AllocError> for Stop {
+impl From<AllocError> for ParseStop {
     ghost from_gives = { λ _ e. e ≡ NoMemory };
 
-    fn from(_error: AllocError) -> Stop {
-        Stop::NoMemory
+    fn from(_error: AllocError) -> ParseStop {
+        ParseStop::NoMemory
     }
 }
 
-impl<T: Drop> From<AllocFailed<T>> for Stop {
+impl<T: Drop> From<AllocFailed<T>> for ParseStop {
     ghost from_gives = { λ _ e. e ≡ NoMemory };
 
-    fn from(_error: AllocFailed<T>) -> Stop {
-        Stop::NoMemory
+    fn from(_error: AllocFailed<T>) -> ParseStop {
+        ParseStop::NoMemory
     }
 }
 
 // The step that what waits becomes before a sign of this level, if it binds as tightly.
-fn reduced(least: u32, top: Pending) -> Option<Step>
+fn reduced(least: u32, top: Pending) -> Option<ParseStep>
     ensures { result ≡ reduced least top }
 {
     match top {
         Pending::Opened(_) | Pending::Question => None,
-        Pending::Signed(sign) => Some(Step::Prefix(sign)),
+        Pending::Signed(sign) => Some(ParseStep::Prefix(sign)),
         Pending::Left(sign) => {
             if sign.level() < least {
                 None
             } else {
-                Some(Step::Binary(sign))
+                Some(ParseStep::Binary(sign))
             }
         }
-        Pending::Colon => { if least > 1 { None } else { Some(Step::Ternary) } }
+        Pending::Colon => {
+            if least > 1 {
+                None
+            } else {
+                Some(ParseStep::Ternary)
+            }
+        }
     }
 }
 
 /// What is on top becomes a step, as far as it binds as tightly as `least`.
-pub(crate) fn join(stack: &mut Stack, steps: &mut Vec<Step>, least: u32) -> Result<(), Stop>
-    requires { IsCoded stack.old steps.old.items Held.Whole }
+pub(crate) fn join(
+    stack: &mut Stack,
+    steps: &mut Vec<ParseStep>,
+    least: u32,
+) -> Result<(), ParseStop>
+    requires { IsCoded stack.old steps.old.items Held.Complete }
     ensures joins { IfOk result (λ _. joins least (top_of stack.old steps.old.items) ≡ top_of stack.new steps.new.items) }
-    ensures coded { IfOk result (λ _. IsCoded stack.new steps.new.items Held.Whole) }
-    ensures refused { IfErr result (λ stop. stop ≡ Stop.NoMemory) }
+    ensures coded { IfOk result (λ _. IsCoded stack.new steps.new.items Held.Complete) }
+    ensures refused { IfErr result (λ stop. stop ≡ ParseStop.NoMemory) }
 {
     while let Some(top) = stack.innermost() {
         match reduced(least, top) {
@@ -99,63 +109,68 @@ pub(crate) fn join(stack: &mut Stack, steps: &mut Vec<Step>, least: u32) -> Resu
 }
 
 // A name where an operand is wanted.
-fn start_name(steps: &mut Vec<Step>, name: Name, at: usize) -> Result<Held, Stop>
+fn start_name(steps: &mut Vec<ParseStep>, name: Name, at: usize) -> Result<Held, ParseStop>
     ensures { (ps : List pending) → IsCoded ps steps.old.items Held.Nothing
         → Turns (starts (frames_of ps (run [] steps.old.items)) (Lexeme.Name name)) at ps steps.new.items result }
 {
     match name {
         Name::Plain(place) => {
-            steps.push(Step::Name(place))?;
-            Ok(Held::Whole)
+            steps.push(ParseStep::Name(place))?;
+            Ok(Held::Complete)
         }
         Name::Truth(value) => {
-            steps.push(Step::Truth(value))?;
-            Ok(Held::Whole)
+            steps.push(ParseStep::Truth(value))?;
+            Ok(Held::Complete)
         }
-        Name::Owner(owner) => Ok(Held::Owner(owner)),
-        Name::LowerLong | Name::LongStream => Err(Stop::At(at)),
+        Name::ClassName(owner) => Ok(Held::ClassName(owner)),
+        Name::LowerLong | Name::LongStream => Err(ParseStop::At(at)),
     }
 }
 
 // One more word where an operand is wanted.
-fn start(stack: &mut Stack, steps: &mut Vec<Step>, word: Lexeme, at: usize) -> Result<Held, Stop>
+fn start(
+    stack: &mut Stack,
+    steps: &mut Vec<ParseStep>,
+    word: Lexeme,
+    at: usize,
+) -> Result<Held, ParseStop>
     requires { IsCoded stack.old steps.old.items Held.Nothing }
     ensures { Turns (starts (frames_of stack.old (run [] steps.old.items)) word) at stack.new steps.new.items result }
 {
     match word {
         Lexeme::Name(name) => start_name(steps, name, at),
         Lexeme::Number(number) => {
-            steps.push(Step::Number(number))?;
-            Ok(Held::Whole)
+            steps.push(ParseStep::Number(number))?;
+            Ok(Held::Complete)
         }
         Lexeme::Reference(place) => {
-            steps.push(Step::Reference(place))?;
-            Ok(Held::Whole)
+            steps.push(ParseStep::Reference(place))?;
+            Ok(Held::Complete)
         }
         Lexeme::Sign(sign) => {
             if sign.is_prefix() {
                 stack.put(Pending::Signed(sign))?;
                 return Ok(Held::Nothing);
             }
-            Err(Stop::At(at))
+            Err(ParseStop::At(at))
         }
         Lexeme::Open => {
             stack.put(Pending::Opened(Opening::Paren))?;
             Ok(Held::Nothing)
         }
-        _ => Err(Stop::At(at)),
+        _ => Err(ParseStop::At(at)),
     }
 }
 
 // One more word after the name of a call or of a constant.
 fn call(
     stack: &mut Stack,
-    steps: &mut Vec<Step>,
-    owner: Owner,
+    steps: &mut Vec<ParseStep>,
+    owner: ClassName,
     name: Name,
     word: Lexeme,
     at: usize,
-) -> Result<Held, Stop>
+) -> Result<Held, ParseStop>
     requires { IsCoded stack.old steps.old.items (Held.Callee owner name) }
     ensures { Turns (called (frames_of stack.old (run [] steps.old.items)) owner name word) at stack.new steps.new.items result }
 {
@@ -165,9 +180,9 @@ fn call(
             Ok(Held::Nothing)
         }
         _ => match owner {
-            Owner::Math => Err(Stop::At(at)),
-            Owner::Long => {
-                steps.push(Step::Constant(name))?;
+            ClassName::Math => Err(ParseStop::At(at)),
+            ClassName::Long => {
+                steps.push(ParseStep::Constant(name))?;
                 follow(stack, steps, word, at)
             }
         },
@@ -177,40 +192,40 @@ fn call(
 // One more word.
 fn turn(
     stack: &mut Stack,
-    steps: &mut Vec<Step>,
+    steps: &mut Vec<ParseStep>,
     held: Held,
     word: Lexeme,
     at: usize,
-) -> Result<Held, Stop>
+) -> Result<Held, ParseStop>
     requires { IsCoded stack.old steps.old.items held }
     ensures { Turns (read (state_of stack.old steps.old.items held) word) at stack.new steps.new.items result }
 {
     match held {
         Held::Nothing => start(stack, steps, word, at),
-        Held::Whole => follow(stack, steps, word, at),
-        Held::Owner(owner) => match word {
+        Held::Complete => follow(stack, steps, word, at),
+        Held::ClassName(owner) => match word {
             Lexeme::Dot => Ok(Held::OwnerDot(owner)),
-            _ => Err(Stop::At(at)),
+            _ => Err(ParseStop::At(at)),
         },
         Held::OwnerDot(owner) => match word {
             Lexeme::Name(name) => Ok(Held::Callee(owner, name)),
-            _ => Err(Stop::At(at)),
+            _ => Err(ParseStop::At(at)),
         },
         Held::Callee(owner, name) => call(stack, steps, owner, name, word, at),
     }
 }
 
 // What stands after the last word, a constant made an operand.
-fn settle(stack: &Stack, steps: &mut Vec<Step>, held: Held) -> Result<bool, Stop>
+fn settle(stack: &Stack, steps: &mut Vec<ParseStep>, held: Held) -> Result<bool, ParseStop>
     requires { IsCoded stack.now steps.old.items held }
     ensures { IsSettled (state_of stack.now steps.old.items held) stack.now steps.new.items result }
 {
     match held {
-        Held::Whole => Ok(true),
+        Held::Complete => Ok(true),
         Held::Callee(owner, name) => match owner {
-            Owner::Math => Ok(false),
-            Owner::Long => {
-                steps.push(Step::Constant(name))?;
+            ClassName::Math => Ok(false),
+            ClassName::Long => {
+                steps.push(ParseStep::Constant(name))?;
                 Ok(true)
             }
         },
@@ -219,7 +234,7 @@ fn settle(stack: &Stack, steps: &mut Vec<Step>, held: Held) -> Result<bool, Stop
 }
 
 /// Reads an expression: its steps in postfix order, or where its words stop.
-pub(crate) fn parse(alloc: Global, words: &[Lexeme]) -> Result<Vec<Step>, Stop>
+pub(crate) fn parse(alloc: Global, words: &[Lexeme]) -> Result<Vec<ParseStep>, ParseStop>
     ensures ok { IfOk result (λ steps. ArePostfix words.now steps.items) }
     ensures stops { IfErr result (λ stop. IsStop Expression words.now stop) }
 {
@@ -233,11 +248,11 @@ pub(crate) fn parse(alloc: Global, words: &[Lexeme]) -> Result<Vec<Step>, Stop>
         }
     }
     if !settle(&stack, &mut steps, held)? {
-        return Err(Stop::At(words.len()));
+        return Err(ParseStop::At(words.len()));
     }
     join(&mut stack, &mut steps, 0)?;
     match stack.take() {
         None => Ok(steps),
-        Some(_) => Err(Stop::At(words.len())),
+        Some(_) => Err(ParseStop::At(words.len())),
     }
 }

@@ -14,12 +14,12 @@ ghost use Rattle.std.specs.Prelude.{◌≡◌, ◌≢◌, [], Err, IfErr, IfOk, 
 
 use super::body::{BodySteps, parse_body};
 use super::check::{MAX_DEPTH, summarize};
-use super::elaborate::{Operand, elaborate};
+use super::elaborate::{TypedOperand, elaborate};
 use super::fault::ReadFault;
 use super::head::{parameters, parse_head};
 use super::lexeme::{Lexeme, lexemes};
-use super::parse::Stop;
-use super::step::Step;
+use super::parse::ParseStop;
+use super::step::ParseStep;
 use super::stream::judge_stream;
 use super::want::Want;
 use lambda_values::{Body, Lambda, PairForm};
@@ -30,29 +30,29 @@ use stream_tokens::{CutText, cut};
 const MAX_TOKENS: usize = 4096;
 
 // Reads the words of a lambda: its body in steps, or where the words stop.
-fn parse_lambda(alloc: Global, words: &[Lexeme], want: Want) -> Result<BodySteps, Stop>
+fn parse_lambda(alloc: Global, words: &[Lexeme], want: Want) -> Result<BodySteps, ParseStop>
     ensures ok { IfOk result (λ body. IsWritten want words.now body) }
     ensures stops { IfErr result (λ stop. IsStop (ALambda want) words.now stop) }
 {
     match parse_head(want, words) {
         Ok(count) => match parse_body(alloc, want, &words[count..]) {
             Ok(body) => Ok(body),
-            Err(Stop::At(place)) => Err(Stop::At(count + place)),
-            Err(Stop::NoMemory) => Err(Stop::NoMemory),
+            Err(ParseStop::At(place)) => Err(ParseStop::At(count + place)),
+            Err(ParseStop::NoMemory) => Err(ParseStop::NoMemory),
         },
-        Err(place) => Err(Stop::At(place)),
+        Err(place) => Err(ParseStop::At(place)),
     }
 }
 
 // The lambda that is wanted, if the operand has its type.
-fn wanted(want: Want, operand: Operand, form: PairForm) -> Result<Lambda, ReadFault>
+fn wanted(want: Want, operand: TypedOperand, form: PairForm) -> Result<Lambda, ReadFault>
     ensures ok { IfOk result (λ lambda. specs_wanted want (typed_of operand) form ≡ Ok (body_of lambda.body)) }
     ensures refused { IfErr result (λ fault. (fault ≡ ReadFault.WrongType) × (specs_wanted want (typed_of operand) form ≡ Err ReadFault.WrongType)) }
 {
     let body = match (want, operand) {
-        (Want::Long, Operand::Long(expr)) => Body::Long(expr),
-        (Want::Bool, Operand::Truth(expr)) => Body::Bool(expr),
-        (Want::Pair, Operand::Long(_)) => Body::Pair(form),
+        (Want::Long, TypedOperand::Long(expr)) => Body::Long(expr),
+        (Want::Bool, TypedOperand::Truth(expr)) => Body::Bool(expr),
+        (Want::Pair, TypedOperand::Long(_)) => Body::Pair(form),
         _ => return Err(ReadFault::WrongType),
     };
     Ok(Lambda { body })
@@ -62,7 +62,7 @@ fn wanted(want: Want, operand: Operand, form: PairForm) -> Result<Lambda, ReadFa
 fn judge_expression(
     alloc: Global,
     text: &CutText,
-    steps: &[Step],
+    steps: &[ParseStep],
     want: Want,
 ) -> Result<Lambda, ReadFault>
     ensures { (e : Shape) → steps.now ≡ postfix e
@@ -109,19 +109,18 @@ pub fn read_lambda_of(alloc: Global, text: &CutText, want: Want) -> Result<Lambd
     let words = lexemes(alloc, text)?;
     match parse_lambda(alloc, &words, want) {
         Ok(body) => judge(alloc, text, &body, want),
-        Err(Stop::At(place)) => Err(ReadFault::Syntax {
+        Err(ParseStop::At(place)) => Err(ReadFault::Syntax {
             column: text.column(place),
         }),
-        Err(Stop::NoMemory) => Err(ReadFault::NoMemory),
+        Err(ParseStop::NoMemory) => Err(ReadFault::NoMemory),
     }
 }
 
 /// Reads a lambda of the wanted kind (JLS 17, 15.27).
 ///
-/// Refusals, the first that applies: `TooDeep` for more than 4,096 tokens, `Syntax`,
-/// `LiteralTooLarge`, `TooDeep` for a body deeper than 64 or a stream of more than 64 operands,
-/// `UnknownName`, `WrongType`. `NoMemory` may stand in place of any answer if an allocation failed; the
-/// empty text takes no memory.
+/// Refusals, the first that applies: `TooDeep` for more than 4,096 tokens, `Syntax`, `LiteralTooLarge`, `TooDeep` for a
+/// body deeper than 64 or a stream of more than 64 operands, `UnknownName`, `WrongType`. If an allocation failed, the
+/// answer may be `NoMemory`; the empty text takes no memory.
 ///
 /// For other programs: `streamrun` reads tokens that were cut before, by `read_lambda_of`.
 pub fn read_lambda(alloc: Global, text: &[u8], want: Want) -> Result<Lambda, ReadFault>

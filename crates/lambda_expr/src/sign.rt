@@ -4,7 +4,7 @@ ghost use Rattle.lambda_expr.specs.Checks.{is_comma};
 ghost use Rattle.lambda_expr.specs.Signs.{is_infix, is_prefix, level, operation_of, sign_of};
 ghost use Rattle.std.specs.Prelude.{◌≡◌};
 
-use super::operation::Operation;
+use super::operation::SignOperation;
 use lambda_values::{BinaryOperator, Comparison, Connective};
 use stream_tokens::Symbol;
 
@@ -105,31 +105,31 @@ impl Sign {
     }
 
     /// What the sign does between two operands.
-    pub(crate) fn operation(self) -> Operation
+    pub(crate) fn operation(self) -> SignOperation
         ensures { result ≡ operation_of self }
     {
         match self {
-            Sign::Comma => Operation::Separate,
-            Sign::Or => Operation::Connect(Connective::Or),
-            Sign::And => Operation::Connect(Connective::And),
-            Sign::BitOr => Operation::Compute(BinaryOperator::Or),
-            Sign::BitXor => Operation::Compute(BinaryOperator::Xor),
-            Sign::BitAnd => Operation::Compute(BinaryOperator::And),
-            Sign::Equal => Operation::Compare(Comparison::Equal),
-            Sign::NotEqual => Operation::Compare(Comparison::NotEqual),
-            Sign::Less => Operation::Compare(Comparison::Less),
-            Sign::LessOrEqual => Operation::Compare(Comparison::LessOrEqual),
-            Sign::Greater => Operation::Compare(Comparison::Greater),
-            Sign::GreaterOrEqual => Operation::Compare(Comparison::GreaterOrEqual),
-            Sign::ShiftLeft => Operation::Compute(BinaryOperator::ShiftLeft),
-            Sign::ShiftRight => Operation::Compute(BinaryOperator::ShiftRight),
-            Sign::ShiftRightUnsigned => Operation::Compute(BinaryOperator::ShiftRightUnsigned),
-            Sign::Add => Operation::Compute(BinaryOperator::Add),
-            Sign::Subtract => Operation::Compute(BinaryOperator::Subtract),
-            Sign::Multiply => Operation::Compute(BinaryOperator::Multiply),
-            Sign::Divide => Operation::Compute(BinaryOperator::Divide),
-            Sign::Remainder => Operation::Compute(BinaryOperator::Remainder),
-            Sign::Complement | Sign::Not => Operation::Nothing,
+            Sign::Comma => SignOperation::Separate,
+            Sign::Or => SignOperation::Connect(Connective::Or),
+            Sign::And => SignOperation::Connect(Connective::And),
+            Sign::BitOr => SignOperation::Compute(BinaryOperator::Or),
+            Sign::BitXor => SignOperation::Compute(BinaryOperator::Xor),
+            Sign::BitAnd => SignOperation::Compute(BinaryOperator::And),
+            Sign::Equal => SignOperation::Compare(Comparison::Equal),
+            Sign::NotEqual => SignOperation::Compare(Comparison::NotEqual),
+            Sign::Less => SignOperation::Compare(Comparison::Less),
+            Sign::LessOrEqual => SignOperation::Compare(Comparison::LessOrEqual),
+            Sign::Greater => SignOperation::Compare(Comparison::Greater),
+            Sign::GreaterOrEqual => SignOperation::Compare(Comparison::GreaterOrEqual),
+            Sign::ShiftLeft => SignOperation::Compute(BinaryOperator::ShiftLeft),
+            Sign::ShiftRight => SignOperation::Compute(BinaryOperator::ShiftRight),
+            Sign::ShiftRightUnsigned => SignOperation::Compute(BinaryOperator::ShiftRightUnsigned),
+            Sign::Add => SignOperation::Compute(BinaryOperator::Add),
+            Sign::Subtract => SignOperation::Compute(BinaryOperator::Subtract),
+            Sign::Multiply => SignOperation::Compute(BinaryOperator::Multiply),
+            Sign::Divide => SignOperation::Compute(BinaryOperator::Divide),
+            Sign::Remainder => SignOperation::Compute(BinaryOperator::Remainder),
+            Sign::Complement | Sign::Not => SignOperation::Nothing,
         }
     }
 

@@ -6,15 +6,15 @@ ghost use Rattle.lambda_expr.specs.Sources.{Takes, source_of};
 ghost use Rattle.std.specs.Prelude.{◌≡◌, ◌≤◌, IfErr, IfOk, option_map};
 
 use super::lexeme::{Lexeme, Name};
-use super::parse::{Stop, parse};
+use super::parse::{ParseStop, parse};
 use super::sign::Sign;
-use super::step::Step;
+use super::step::ParseStep;
 use super::table::Member;
 use std::alloc::Global;
 
 /// A method that gives a stream.
 #[derive(Clone, Copy)]
-pub(crate) enum Source {
+pub(crate) enum StreamSource {
     Range,
     RangeClosed,
     Of,
@@ -24,13 +24,13 @@ pub(crate) enum Source {
 /// The front of a body: a source and the parenthesis that opens.
 #[derive(Clone, Copy)]
 pub(crate) struct Opened {
-    pub(crate) source: Source,
+    pub(crate) source: StreamSource,
     /// How many words it has.
     pub(crate) count: usize,
 }
 
 // The source that a name is of.
-fn source_of(member: Member) -> Option<Source>
+fn source_of(member: Member) -> Option<StreamSource>
     ensures { result ≡ source_of member }
 {
     match member {
@@ -39,15 +39,15 @@ fn source_of(member: Member) -> Option<Source>
     }
 }
 
-impl Source {
+impl StreamSource {
     // Whether it has this number of operands.
     fn takes(self, count: usize) -> bool
         ensures { Says result (Takes self count) }
     {
         match self {
-            Source::Range | Source::RangeClosed => count == 2,
-            Source::Of => true,
-            Source::Empty => count == 0,
+            StreamSource::Range | StreamSource::RangeClosed => count == 2,
+            StreamSource::Of => true,
+            StreamSource::Empty => count == 0,
         }
     }
 
@@ -56,15 +56,15 @@ impl Source {
         ensures { Says result (TakesMore self count) }
     {
         match self {
-            Source::Range | Source::RangeClosed => count < 2,
-            Source::Of => true,
-            Source::Empty => false,
+            StreamSource::Range | StreamSource::RangeClosed => count < 2,
+            StreamSource::Of => true,
+            StreamSource::Empty => false,
         }
     }
 }
 
 // The parenthesis after the name of a source.
-fn parse_opening(words: &[Lexeme], source: Source, at: usize) -> Result<Opened, usize>
+fn parse_opening(words: &[Lexeme], source: StreamSource, at: usize) -> Result<Opened, usize>
     requires { at ≤ 3 }
     ensures { result ≡ opened_at at source words.now }
 {
@@ -113,34 +113,38 @@ pub(crate) fn parse_source(words: &[Lexeme]) -> Result<Opened, usize>
 
 /// An operand and the place of the word that ends it.
 #[derive(Drop)]
-struct Part {
-    steps: Vec<Step>,
+struct SourceOperand {
+    steps: Vec<ParseStep>,
     end: usize,
 }
 
 // The operand that words begin with.
-fn parse_part(alloc: Global, words: &[Lexeme]) -> Result<Part, Stop>
+fn parse_part(alloc: Global, words: &[Lexeme]) -> Result<SourceOperand, ParseStop>
     ensures ok { IfOk result (λ part. IsFront words.now part.steps.items part.end) }
     ensures stops { IfErr result (λ stop. IsNoNext words.now stop) }
 {
     match parse(alloc, words) {
-        Ok(_) => Err(Stop::At(words.len())),
-        Err(Stop::NoMemory) => Err(Stop::NoMemory),
-        Err(Stop::At(end)) => {
+        Ok(_) => Err(ParseStop::At(words.len())),
+        Err(ParseStop::NoMemory) => Err(ParseStop::NoMemory),
+        Err(ParseStop::At(end)) => {
             if end >= words.len() {
-                return Err(Stop::At(words.len()));
+                return Err(ParseStop::At(words.len()));
             }
             match parse(alloc, &words[..end]) {
-                Ok(steps) => Ok(Part { steps, end }),
-                Err(Stop::NoMemory) => Err(Stop::NoMemory),
-                Err(Stop::At(_)) => Err(Stop::At(end)),
+                Ok(steps) => Ok(SourceOperand { steps, end }),
+                Err(ParseStop::NoMemory) => Err(ParseStop::NoMemory),
+                Err(ParseStop::At(_)) => Err(ParseStop::At(end)),
             }
         }
     }
 }
 
 // The operands from the first one on, which is no parenthesis.
-fn parse_parts(alloc: Global, source: Source, words: &[Lexeme]) -> Result<Vec<Vec<Step>>, Stop>
+fn parse_parts(
+    alloc: Global,
+    source: StreamSource,
+    words: &[Lexeme],
+) -> Result<Vec<Vec<ParseStep>>, ParseStop>
     requires { TakesMore source 0 }
     ensures ok { IfOk result (λ parts. ArePosted source words.now parts.items) }
     ensures stops { IfErr result (λ stop. IsStop (Next source 0) words.now stop) }
@@ -150,31 +154,31 @@ fn parse_parts(alloc: Global, source: Source, words: &[Lexeme]) -> Result<Vec<Ve
     while at < words.len() {
         let part = match parse_part(alloc, &words[at..]) {
             Ok(part) => part,
-            Err(Stop::At(place)) => return Err(Stop::At(at + place)),
-            Err(Stop::NoMemory) => return Err(Stop::NoMemory),
+            Err(ParseStop::At(place)) => return Err(ParseStop::At(at + place)),
+            Err(ParseStop::NoMemory) => return Err(ParseStop::NoMemory),
         };
         let end = at + part.end;
         parts.push(part.steps)?;
         match words[end] {
             Lexeme::Sign(Sign::Comma) => {
                 if !source.takes_more(parts.len()) {
-                    return Err(Stop::At(end));
+                    return Err(ParseStop::At(end));
                 }
                 at = end + 1;
             }
             Lexeme::Close => {
                 if !source.takes(parts.len()) {
-                    return Err(Stop::At(end));
+                    return Err(ParseStop::At(end));
                 }
                 if end + 1 < words.len() {
-                    return Err(Stop::At(end + 1));
+                    return Err(ParseStop::At(end + 1));
                 }
                 return Ok(parts);
             }
-            _ => return Err(Stop::At(end)),
+            _ => return Err(ParseStop::At(end)),
         }
     }
-    Err(Stop::At(words.len()))
+    Err(ParseStop::At(words.len()))
 }
 
 // What follows the parenthesis that closes, if the words begin with it.
@@ -190,25 +194,25 @@ fn after_close(words: &[Lexeme]) -> Option<&[Lexeme]>
 /// Reads the operands of a source and the parenthesis that closes, or where the words stop.
 pub(crate) fn parse_operands(
     alloc: Global,
-    source: Source,
+    source: StreamSource,
     words: &[Lexeme],
-) -> Result<Vec<Vec<Step>>, Stop>
+) -> Result<Vec<Vec<ParseStep>>, ParseStop>
     ensures ok { IfOk result (λ parts. ArePosted source words.now parts.items) }
     ensures stops { IfErr result (λ stop. IsStop (Operands source) words.now stop) }
 {
     match after_close(words) {
         Some(rest) => {
             if !source.takes(0) {
-                return Err(Stop::At(0));
+                return Err(ParseStop::At(0));
             }
             if !rest.is_empty() {
-                return Err(Stop::At(1));
+                return Err(ParseStop::At(1));
             }
             Ok(Vec::new(alloc))
         }
         None => {
             if !source.takes_more(0) {
-                return Err(Stop::At(0));
+                return Err(ParseStop::At(0));
             }
             parse_parts(alloc, source, words)
         }

@@ -1,18 +1,18 @@
 //! Expressions in postfix order.
 
-use super::lexeme::{Name, Owner, PlainName};
+use super::lexeme::{ClassName, Name, PlainName};
 use super::sign::Sign;
 
 /// What a closing parenthesis ends.
 #[derive(Clone, Copy)]
 pub(crate) enum Opening {
     Paren,
-    Call(Owner, Name),
+    Call(ClassName, Name),
 }
 
 /// One step of an expression in postfix order: each operand before what it is an operand of.
 #[derive(Clone, Copy)]
-pub(crate) enum Step {
+pub(crate) enum ParseStep {
     Ternary,
     Name(PlainName),
     Number(u64),

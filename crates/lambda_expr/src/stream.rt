@@ -12,10 +12,10 @@ ghost use Rattle.lambda_values.specs.Streams.{exprs_of, inner_of};
 ghost use Rattle.std.specs.Prelude.{◌≡◌, ◌<◌, ◌≤◌, IfNone, IfOk, IfSome, List, Ok, length, option_map};
 
 use super::check::{MAX_DEPTH, Summary, summarize};
-use super::elaborate::{Operand, elaborate};
+use super::elaborate::{TypedOperand, elaborate};
 use super::fault::ReadFault;
-use super::source::Source;
-use super::step::Step;
+use super::source::StreamSource;
+use super::step::ParseStep;
 use lambda_values::{Body, InnerExpr, Lambda, LongExpr, Operands};
 use std::alloc::{AllocError, Global};
 use stream_tokens::CutText;
@@ -27,7 +27,7 @@ pub(crate) struct Checks {
     fit: bool,
     /// That of the deepest operand, at most 65.
     depth: u32,
-    /// Whether each name is that of the parameter, a method or a constant.
+    /// Whether each name is the name of the parameter, a method or a constant.
     known: bool,
 }
 
@@ -45,7 +45,7 @@ impl Checks {
 }
 
 // What the checks find in operands, from their steps.
-fn check(alloc: Global, operands: &[Vec<Step>]) -> Result<Checks, AllocError>
+fn check(alloc: Global, operands: &[Vec<ParseStep>]) -> Result<Checks, AllocError>
     ensures { IfOk result (λ checks. checks ≡ found_in no_operands (steps_of operands.now)) }
 {
     let mut checks = Checks {
@@ -63,7 +63,7 @@ fn check(alloc: Global, operands: &[Vec<Step>]) -> Result<Checks, AllocError>
 fn numbers(
     alloc: Global,
     text: &CutText,
-    operands: &[Vec<Step>],
+    operands: &[Vec<ParseStep>],
 ) -> Result<Option<Vec<LongExpr>>, AllocError>
     ensures { IfOk result (λ exprs. option_map (λ exprs. exprs_of exprs.items) exprs
         ≡ step_numbers (names_in text.now.bytes text.now.tokens) (steps_of operands.now)) }
@@ -71,7 +71,7 @@ fn numbers(
     let mut exprs = Vec::new(alloc);
     for operand in operands {
         match elaborate(alloc, text, operand)? {
-            Operand::Long(expr) => exprs.push(expr)?,
+            TypedOperand::Long(expr) => exprs.push(expr)?,
             _ => return Ok(None),
         }
     }
@@ -79,28 +79,28 @@ fn numbers(
 }
 
 // The stream of a source and its operands; none if there are more than 64.
-fn stream_of(source: Source, mut operands: Vec<LongExpr>) -> Option<InnerExpr>
+fn stream_of(source: StreamSource, mut operands: Vec<LongExpr>) -> Option<InnerExpr>
     ensures some { Takes source (length operands.items)
         → IfSome result (λ inner. Some (inner_of inner) ≡ stream_of source (exprs_of operands.items)) }
     ensures none { Takes source (length operands.items) → IfNone result (64 < length operands.items) }
 {
     match source {
-        Source::Range => {
+        StreamSource::Range => {
             let to = operands.pop()?;
             let from = operands.pop()?;
             Some(InnerExpr::Range(from, to))
         }
-        Source::RangeClosed => {
+        StreamSource::RangeClosed => {
             let to = operands.pop()?;
             let from = operands.pop()?;
             Some(InnerExpr::RangeClosed(from, to))
         }
-        Source::Of | Source::Empty => Some(InnerExpr::Of(Operands::new(operands)?)),
+        StreamSource::Of | StreamSource::Empty => Some(InnerExpr::Of(Operands::new(operands)?)),
     }
 }
 
 // The lambda of a source and its operands.
-fn streamed(source: Source, operands: Vec<LongExpr>) -> Result<Lambda, ReadFault>
+fn streamed(source: StreamSource, operands: Vec<LongExpr>) -> Result<Lambda, ReadFault>
     ensures { Takes source (length operands.items) → length operands.items ≤ 64
         → IsJudged (lambda_of (stream_of source (exprs_of operands.items))) result }
 {
@@ -116,8 +116,8 @@ fn streamed(source: Source, operands: Vec<LongExpr>) -> Result<Lambda, ReadFault
 pub(crate) fn judge_stream(
     alloc: Global,
     text: &CutText,
-    source: Source,
-    operands: &[Vec<Step>],
+    source: StreamSource,
+    operands: &[Vec<ParseStep>],
 ) -> Result<Lambda, ReadFault>
     ensures { (es : List Shape) → Takes source (length es) → steps_of operands.now ≡ each_postfix es
         → IsJudged (stream_verdict (names_in text.now.bytes text.now.tokens) source es) result }

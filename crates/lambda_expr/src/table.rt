@@ -4,9 +4,9 @@ ghost use Rattle.lambda_expr.specs.Members.{member_among, member_of, rows_in};
 ghost use Rattle.lambda_expr.specs.Typing.{constant_of, function_of};
 ghost use Rattle.std.specs.Prelude.{◌≡◌};
 
-use super::lexeme::{Name, Owner};
+use super::lexeme::{ClassName, Name};
 use super::operation::Function;
-use super::source::Source;
+use super::source::StreamSource;
 use lambda_values::{BinaryOperator, UnaryOperator};
 
 /// What a name is after `Math .`, `Long .` or `LongStream .`.
@@ -21,7 +21,7 @@ pub(crate) enum Member {
     /// A constant of `Long`.
     Constant(i64),
     /// What makes a stream.
-    Source(Source),
+    Source(StreamSource),
     Other,
 }
 
@@ -60,10 +60,10 @@ const ROWS: [(&'static str, Member); 16] = [
     ("sum", Member::InLong(Function::Binary(BinaryOperator::Add))),
     ("MAX_VALUE", Member::Constant(i64::MAX)),
     ("MIN_VALUE", Member::Constant(i64::MIN)),
-    ("empty", Member::Source(Source::Empty)),
-    ("of", Member::Source(Source::Of)),
-    ("range", Member::Source(Source::Range)),
-    ("rangeClosed", Member::Source(Source::RangeClosed)),
+    ("empty", Member::Source(StreamSource::Empty)),
+    ("of", Member::Source(StreamSource::Of)),
+    ("range", Member::Source(StreamSource::Range)),
+    ("rangeClosed", Member::Source(StreamSource::RangeClosed)),
 ];
 
 /// What the first of these rows with this name says.
@@ -86,20 +86,20 @@ pub(crate) fn member_of(name: &[u8]) -> Member
 }
 
 /// The method that a name after `Math .` or `Long .` calls.
-pub(crate) fn function_of(owner: Owner, name: Name) -> Option<Function>
+pub(crate) fn function_of(owner: ClassName, name: Name) -> Option<Function>
     ensures { result ≡ function_of owner name }
 {
     match name {
         Name::Plain(name) => match (owner, name.member) {
-            (Owner::Math, Member::InMath(function) | Member::InBoth(function)) => Some(function),
-            (Owner::Long, Member::InLong(function) | Member::InBoth(function)) => Some(function),
+            (ClassName::Math, Member::InMath(call) | Member::InBoth(call)) => Some(call),
+            (ClassName::Long, Member::InLong(call) | Member::InBoth(call)) => Some(call),
             _ => None,
         },
         _ => None,
     }
 }
 
-/// The constant of `Long` that a name stands for.
+/// The constant of `Long` with this name.
 pub(crate) fn constant_of(name: Name) -> Option<i64>
     ensures { result ≡ constant_of name }
 {

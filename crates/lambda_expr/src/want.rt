@@ -1,4 +1,4 @@
-// What a text is read as.
+//! What a text is read as.
 
 /// What kind of lambda a text has to be.
 #[derive(Clone, Copy, Debug, PartialEq, Eq)]

@@ -13,7 +13,7 @@ use Rattle.lambda_values.specs.Wrap.{wrap}
 one_multiple : (w z : ℤ) (j k : ℕ) → w +ℤ pos (j * 2 ^ 64) ≡ z +ℤ pos (k * 2 ^ 64) → (i : ℤ) × (w ≡ z +ℤ i *ℤ pos (2 ^ 64))
 one_multiple w z j k e = (pos k +ℤ neg_ℤ (pos j), omega (arith, ints))
 
--- the signed number that 64 bits stand for
+-- the signed number that 64 bits encode
 bits_differ : (n : ℕ) → n < 2 ^ 64 → (j : ℕ) × (cast_signed w64 n +ℤ pos (j * 2 ^ 64) ≡ pos n)
 bits_differ n h = ⊎_elim
     (λ (low : n < 2 ^ 63). (0, let same = to_z_pos w64 n low in omega (arith, ints, same)))

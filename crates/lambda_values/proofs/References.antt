@@ -1,4 +1,4 @@
--- An expression has the same value in environments that agree on its references.
+-- An expression has equal values in environments that agree on its references.
 use Rattle.std.proofs.Common.{◌≡◌, ℕ, ℤ, pos, List, [], ◌∷◌, ◌++◌, Ok, refl, ap, ◌∙◌, not}
 use Rattle.std.specs.Prelude.{unwrap_or}
 use Rattle.lambda_values.specs.Earlier.{Numbers}

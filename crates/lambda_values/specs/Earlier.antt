@@ -3,7 +3,7 @@ use Rattle.std.specs.Prelude.{ℕ, ℤ, nat_eq, if◌then◌else◌, List, [], �
 use Rattle.std.specs.Cmp.Lexicographic.{pointwise}
 use Rattle.lambda_values.specs.declared.env.NamedNumber.{NamedNumber}
 
--- the numbers that the `$` names of lambdas stand for
+-- the numbers under the `$` names of lambdas
 abbrev pub Numbers : Type 0
 Numbers = List NamedNumber
 

@@ -1,4 +1,4 @@
--- Meaning: what a lambda stands for.
+-- Meaning: what a lambda computes.
 use Rattle.lambda_values.specs.declared.lambda.PairForm.{PairForm}
 use Rattle.lambda_values.specs.declared.lambda.Body.{Body}
 use Rattle.lambda_values.specs.declared.lambda.Body.TheVariants as body
@@ -12,7 +12,7 @@ pub data AbstractLambda : Type 0 where
   stream : Inner → AbstractLambda
   pair : PairForm → AbstractLambda
 
--- what the body of a lambda of the program stands for
+-- what the body of a lambda of the program computes
 abbrev pub body_of : Body → AbstractLambda
 body_of (body.Long e) = long (long_of e)
 body_of (body.Bool e) = boolean (truth_of e)

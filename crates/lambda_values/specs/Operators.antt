@@ -126,15 +126,15 @@ binary_value o x y = binary_by (binary_rule o) x y
 abbrev pub quotient : ℤ → ℤ → Result ℤ FaultKind
 quotient x y = binary_value binary_operator.Divide x y
 
--- helper: the same of `%`
+-- helper: a remainder, by its name
 abbrev pub remainder : ℤ → ℤ → Result ℤ FaultKind
 remainder x y = binary_value binary_operator.Remainder x y
 
--- helper: the same of Math.floorDiv
+-- helper: the division of Math.floorDiv, by its name
 abbrev pub floor_quotient : ℤ → ℤ → Result ℤ FaultKind
 floor_quotient x y = binary_value binary_operator.FloorDivide x y
 
--- helper: the same of Math.floorMod
+-- helper: the remainder of Math.floorMod, by its name
 abbrev pub floor_remainder : ℤ → ℤ → Result ℤ FaultKind
 floor_remainder x y = binary_value binary_operator.FloorRemainder x y
 

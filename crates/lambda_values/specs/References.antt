@@ -22,25 +22,25 @@ abbrev mutual
   truth_names (connect o a b) = truth_names a ++ truth_names b
   truth_names (choose_truth c a b) = truth_names c ++ (truth_names a ++ truth_names b)
 
--- those of each expression of a list, one after the other
+-- the names in each expression of a list, one after the other
 abbrev pub each_names : List Long → List (List ℕ)
 each_names [] = []
 each_names (e ∷ es) = long_names e ++ each_names es
 
--- those of an inner stream, in order of writing
+-- the names in an inner stream, in order of writing
 abbrev pub inner_names : Inner → List (List ℕ)
 inner_names (range a b) = long_names a ++ long_names b
 inner_names (range_closed a b) = long_names a ++ long_names b
 inner_names (values es) = each_names es
 
--- those of a lambda; of one with two parameters only its form is kept
+-- the names in a lambda; of a lambda of two parameters only the form is kept
 abbrev pub names_of : AbstractLambda → List (List ℕ)
 names_of (long e) = long_names e
 names_of (boolean e) = truth_names e
 names_of (stream g) = inner_names g
 names_of (pair f) = []
 
--- two environments have the same number under each of these names, or both none
+-- two environments have equal numbers under each of these names, or both none
 abbrev pub Agree : List (List ℕ) → Numbers → Numbers → Type 0
 Agree [] a b = Unit {0}
 Agree (name ∷ names) a b = (number_under name a ≡ number_under name b) × Agree names a b

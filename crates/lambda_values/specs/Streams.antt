@@ -47,7 +47,7 @@ inner_value (range a b) x env = on (long_value a x env) (λ v. on (long_value b 
 inner_value (range_closed a b) x env = on (long_value a x env) (λ v. on (long_value b x env) (λ w. up_from v (through v w)))
 inner_value (values es) x env = each_value es x env
 
--- what expressions of the program stand for
+-- the terms that expressions of the program mean
 abbrev pub exprs_of : List LongExpr → List Long
 exprs_of [] = []
 exprs_of (e ∷ es) = long_of e ∷ exprs_of es

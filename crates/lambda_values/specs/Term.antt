@@ -27,7 +27,7 @@ mutual
     connect : Connective → Truth → Truth → Truth
     choose_truth : Truth → Truth → Truth → Truth
 
--- what an expression of the program stands for
+-- the term that an expression of the program means
 abbrev mutual
   pub long_of : LongExpr → Long
   long_of (long_expr.Number z) = number z

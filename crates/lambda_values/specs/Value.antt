@@ -17,7 +17,7 @@ abbrev pub connected : Connective → Bool → Result Bool FaultKind → Result 
 connected connective.And p right = chosen p right (Ok false)
 connected connective.Or p right = chosen p (Ok true) right
 
--- the value at the item x, with the numbers of earlier jobs that `$` names stand for (0 for a name that is not there);
+-- the value at the item x, with the numbers of earlier jobs under their `$` names (0 for a name that is not there);
 -- operands from left to right, and the first fault is the value (JLS 17, 15.7)
 abbrev mutual
   pub long_value : Long → ℤ → Numbers → Result ℤ FaultKind

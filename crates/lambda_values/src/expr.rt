@@ -38,9 +38,9 @@ pub enum BoolExpr {
 }
 
 impl LongExpr {
-    /// The value at the item `x`, or the first fault from left to right (JLS 17, 15.7). `env` holds
-    /// the numbers of the earlier jobs that `$` names stand for. One call for each node that is
-    /// evaluated, and for a reference a comparison with each name up to its own; it takes no memory.
+    /// The value at the item `x`, or the first fault from left to right (JLS 17, 15.7). `env` holds the numbers of
+    /// earlier jobs under their names. One call for each node that is evaluated, and for a reference a comparison with
+    /// each name up to its own; it takes no memory.
     #[cycle(eval)]
     pub fn eval(&self, x: i64, env: &Env) -> Result<i64, FaultKind>
         ensures { result ≡ long_value (long_of self.now) x env.now }

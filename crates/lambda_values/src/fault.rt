@@ -1,4 +1,4 @@
-// Why an expression has no value.
+//! Why an expression has no value.
 
 /// Why an expression has no value at an item, or a source no items.
 ///

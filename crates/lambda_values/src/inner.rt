@@ -102,8 +102,8 @@ impl InnerExpr {
         }
     }
 
-    /// The same for a caller that keeps a list from item to item: the integers in a row, or none if the values are in
-    /// the list.
+    /// The values at the item `x` for a caller that keeps a list from item to item: the integers in a row, or none if
+    /// the values are in the list.
     pub fn eval_into(
         &self,
         x: i64,

@@ -1,4 +1,4 @@
-// Lambdas as they are kept once they are read.
+//! Lambdas as they are kept once they are read.
 
 use super::expr::{BoolExpr, LongExpr};
 use super::inner::InnerExpr;

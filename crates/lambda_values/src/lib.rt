@@ -5,7 +5,7 @@
 //!   `InnerExpr::eval_into`: the value over unbounded integers, cut to 64 bits where Java does it
 //!   (JLS 17, chapter 15), or the first fault from left to right. `BinaryOperator::apply` and its
 //!   like are for what evaluates in another order, as `batch_eval`;
-//! - `lambda_expr` makes expressions out of texts, and names all of this crate's types as its own.
+//! - `lambda_expr` makes expressions out of texts, and gives out the types of what it reads.
 //!   `Lambda::names` lists the `$` names of one that is read.
 //!
 //! Begin with `specs/Operators.antt` and `specs/Value.antt`, then `expr.rt`.

@@ -95,9 +95,8 @@ impl InnerExpr {
 }
 
 impl Lambda {
-    /// The names that follow the `$` of its references, in order of writing, each as often as it is
-    /// written; none for a lambda of two parameters, of which only the form is kept. The one error is
-    /// that an allocation failed.
+    /// The names that follow the `$` of its references, in order of writing, repeated where they are repeated. A lambda
+    /// of two parameters has none, since only its form is kept. The one error is that an allocation failed.
     pub fn names(&self, alloc: Global) -> Result<Vec<Bytes>, AllocError>
         ensures { IfOk result (λ names. names.items ≡ names_of (body_of self.now.body)) }
     {

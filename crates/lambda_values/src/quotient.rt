@@ -1,4 +1,5 @@
-//! Quotients and remainders of two numbers, and their faults (JLS 17, 15.17.2 and 15.17.3, and `floorDiv` and `floorMod` of `java.lang.Math`).
+//! Quotients and remainders of two numbers, and their faults (JLS 17, 15.17.2 and 15.17.3, and `floorDiv` and
+//! `floorMod` of `java.lang.Math`).
 
 ghost use Rattle.lambda_values.specs.Operators.{floor_quotient, quotient, remainder};
 ghost use Rattle.lambda_values.specs.Operators.{floor_remainder, is_opposite, rounded_down};

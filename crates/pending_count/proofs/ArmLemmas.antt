@@ -37,7 +37,7 @@ module _ {S T : Type 0} (nodes : ℕ) (s : State S (View T)) (g : Graph) (r : Sh
   abbrev pub arr : ℕ → List Arrival
   arr = with_fresh node (p + 1) (Held id) keep
 
-  -- a weight of the arrivals at a node, of which some are fresh
+  -- a weight of the arrivals at a node, where some are fresh
   weighs : (f : Arrival → ℕ) (i : ℕ) → total f (arr i) ≡ total f (keep i) + total f (cond (eqb i node) (copies (p + 1) (Held id)) [])
   weighs f i = total-append f (keep i) (cond (eqb i node) (copies (p + 1) (Held id)) [])
 

@@ -1,4 +1,4 @@
--- What arming a node is to the sides of pairs: the node keeps those that stand for its entries.
+-- What arming a node is to the sides of pairs: the node keeps the sides that belong to its entries.
 use Rattle.std.proofs.Common.{◌≡◌, ◌≢◌, ℕ, ◌+◌, ◌<◌, ◌≤◌, eqb, cond, Bool, true, false, List, [], ◌∷◌, ◌++◌, set, sym, refl, ap, ◌∙◌, subst, arith, eq-eqb, ne_eqb, true≢false, Option, Some, None, ⊎_elim}
 use mathlib.Core.Logic.{dite}
 use mathlib.Core.Option.{some}
@@ -40,7 +40,7 @@ module _ {V K T : Type 0} (fits : T → Side → V → Type 0) (tag_of : K → T
   no_l : (k : ℕ) → p.side k ≡ Made → count k l ≡ 0
   no_l k e = dite (ℕ_discrete (count k l) 0) (λ z. z) (λ n. absurd (held_not_made id (p.side k) (in_l k (omega arith)) e))
 
-  -- the sides of a pair, of which the seat holds as many as it holds arrivals there
+  -- the sides of a pair, where the seat holds one side for each arrival that it holds there
   pair_held : (i : ℕ) (t : T) → p.tag i ≡ Some t → count i v.held ≡ count (left_slot i) v.sides + count (right_slot i) v.sides
   pair_held i t e = my_part nodes s g r id v at i ∙ p.sided.both i t e (one_same (Held id)) ∙ (let a = my_sides (left_slot i) in let b = my_sides (right_slot i) in omega arith)
 
@@ -138,7 +138,7 @@ module _ {V K T : Type 0} (fits : T → Side → V → Type 0) (tag_of : K → T
         (λ (z : (count k l ≡ 1) × (sent k ≡ Kept node) × (p.side k ≡ Held id)). let a = ap (one_same (Kept node)) z.1 in let b = z.0 in let c = self_kept node in omega arith)
         (moved_is p.side l id (Kept node) in_l once k)
 
-    -- for any sides after it of which none is kept by other nodes than these
+    -- for any sides after it that no other nodes than these keep
     pub side_keeping : (side' : ℕ → Arrival) → ((i k : ℕ) → one_same (Kept i) (side' k) ≡ one_same (Kept i) (sent k)) → SideKeeping views' armed' g.ran side'
     side_keeping side' same = record {
       records = λ i. dite (ℕ_discrete i node)

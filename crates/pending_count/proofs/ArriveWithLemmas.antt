@@ -244,7 +244,7 @@ module _ {V K T : Type 0} (fits : T → Side → V → Type 0) (tag_of : K → T
         (λ (z : (one_same (Kept node) (made k) ≡ 0) × (turned k ≡ made k)). sym (made_else k n) ∙ sym z.1 ∙ m)
         (case k)
 
-    -- the tags that the seat knows from now on are those that it knew, and that of the place
+    -- the tags that the seat knows from now on are the tags that it knew, and the tag of the place
     module _ (tags : List (ℕ × T)) (known : (i : ℕ) (c : T) → note_of i tags ≡ Some c → p.tag i ≡ Some c) where
       abbrev w2 : View T
       w2 = closed_view node t (given_by_all node s.views) kept_sides tags v

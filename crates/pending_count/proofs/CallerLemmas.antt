@@ -29,7 +29,7 @@ was_last zero e h = absurd (omega arith)
 was_last (suc zero) e h = refl
 was_last (suc (suc n)) e h = absurd (grind (arith, common_steps))
 
--- where no side is held, none stands for an entry
+-- where no side is held, none belongs to an entry
 pub no_sides_of : (onward sides : List ℕ) → ((k : ℕ) → count k sides ≡ 0) → sides_of onward sides ≡ []
 no_sides_of [] sides none_held = refl
 no_sides_of (i ∷ is) sides none_held =

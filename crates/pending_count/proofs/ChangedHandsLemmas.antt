@@ -1,4 +1,4 @@
--- Arrivals that change hands: all of one kind, or those of some slots.
+-- Arrivals that change hands: all of one kind, or the arrivals of some slots.
 use Rattle.std.proofs.Common.{◌≡◌, ◌≢◌, ℕ, zero, suc, ◌+◌, ◌<◌, ◌≤◌, eqb, cond, List, [], ◌∷◌, sym, refl, ap, ◌∙◌, subst, arith, eq-eqb, ne_eqb, ◌⊎◌, inl, inr, ⊎_elim}
 use mathlib.Core.Logic.{dite}
 use native.Mathlib.Decide.{ℕ_discrete}
@@ -83,7 +83,7 @@ module _ (side : ℕ → Arrival) (l : List ℕ) (a : ℕ) (z : Arrival) (in_l :
       (λ (p : (count k l ≡ 1) × (moved k ≡ z) × (side k ≡ Held a)). let c = p.0 in let f = ap (one_same (Held a)) p.1 in let h = ap (one_same (Held a)) p.2 in let s = self_held a in omega arith)
       (moved_is k)
 
--- the sides that stand for a list of nodes
+-- the sides that belong to a list of nodes
 count-side_at : (k n : ℕ) (sides : List ℕ) → 0 < count k (side_at n sides) → ((k ≡ left_slot n) ⊎ (k ≡ right_slot n)) × (0 < count k sides)
 count-side_at k n sides h = dite (ℕ_discrete (count (left_slot n) sides) 0)
     (λ e. let f : side_at n sides ≡ cond (eqb (count (right_slot n) sides) 0) [] (right_slot n ∷ []) = ap (λ b. cond b (cond (eqb (count (right_slot n) sides) 0) [] (right_slot n ∷ [])) (left_slot n ∷ [])) (eq-eqb _ 0 e) in
@@ -102,7 +102,7 @@ sides_within k (n ∷ ns) sides h = let a = total-append (one_at k) (side_at n s
     (λ e. sides_within k ns sides (omega arith))
     (λ m. (count-side_at k n sides (omega arith)).1)
 
--- at a node of which just one side is held, each entry stands for that one
+-- at a node where just one side is held, each entry has that side
 one_side_at : (n j : ℕ) (sides : List ℕ) → count (left_slot n) sides + count (right_slot n) sides ≡ 1 → count (left_slot n) (side_at j sides) + count (right_slot n) (side_at j sides) ≡ one_at n j
 one_side_at n j sides one = dite (ℕ_discrete j n)
     (λ e. subst (λ j. count (left_slot n) (side_at j sides) + count (right_slot n) (side_at j sides) ≡ one_at n j) (sym e) (here_at n sides one))

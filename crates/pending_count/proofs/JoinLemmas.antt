@@ -132,7 +132,7 @@ module _ {S T : Type 0} (nodes : ℕ) (s : State S (View T)) (g : Graph) (r : Sh
       ∙ (let x = more_there nodes s g r other id apart m join_fit i in let y = my_part nodes s g r id v at i in let z = m_is i in let q = total-append (one_at i) v.held u.held in omega arith) ∙ ap (λ k. amount (Held k) (renamed (Held other) (Held id) m g.arrivals i)) (sym e))
       (λ n'. ap (λ (w : View T). count i w.held) (else_is s.views id v at both a n') ∙ r.holding a i ∙ sym (same_else nodes s g r other id apart m join_fit a i n n')))
 
-  -- a part of a view: that of the joined ones, nothing, or as it was
+  -- a part of a view: the part of the joined ones, nothing, or as it was
   pub part_of : {A : Type 0} (p : View T → A) (a : ℕ) → (p (view_at views2 a) ≡ p both) ⊎ ((p (view_at views2 a) ≡ p blank) ⊎ (p (view_at views2 a) ≡ p (view_at s.views a)))
   part_of p a = dite (ℕ_discrete a other)
       (λ e. inr (inl (ap (λ k. p (view_at views2 k)) e ∙ ap p (here_is views1 other u at1 blank))))

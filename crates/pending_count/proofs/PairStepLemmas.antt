@@ -58,7 +58,7 @@ module _ {V K T : Type 0} (fits : T → Side → V → Type 0) (tag_of : K → T
   agrees : (v : View T) (l : List ℕ) → Agrees v (record v { taken = l })
   agrees v l = record { credit = refl; added = refl; held = refl; claims = refl; armed = refl; noted = refl; seen = refl; none_left = refl }
 
-  -- views of pairs beside those of plain nodes, with a slot out
+  -- views of pairs beside views of plain nodes, with a slot out
   agrees_paired : (node : ℕ) (onward : List ℕ) (tag : T) (place : Option (ℕ × (ℕ × (ℕ × T)))) (v : View T) → Agrees (armed_view node 1 onward (taken_view (kept_slot node) v)) (paired_view node onward tag place v)
   agrees_paired node onward tag place v = record { credit = refl; added = refl; held = refl; claims = refl; armed = refl; noted = refl; seen = refl; none_left = refl }
 
@@ -136,7 +136,7 @@ module _ {V K T : Type 0} (fits : T → Side → V → Type 0) (tag_of : K → T
     abbrev hand : Me (Option (Slot V K)) (View T)
     hand = (h, (side_slot node b, Some (Value x)) ∷ carried)
 
-    -- the tags that the seat knows after the last arrival are those of their nodes
+    -- the tags that the seat knows after the last arrival are the tags of their nodes
     known_after : (tag : ℕ → Option T) (place : Option (Place T)) (tags : List (ℕ × T)) → ((i : ℕ) (c : T) → note_of i tags ≡ Some c → tag i ≡ Some c) → ((pl : Place T) → place ≡ Some pl → tag pl.node ≡ Some pl.tag)
         → (i : ℕ) (c : T) → note_of i (tags_after place tags) ≡ Some c → tag i ≡ Some c
     known_after tag None tags before holds i c e = before i c e
@@ -247,7 +247,7 @@ module _ {V K T : Type 0} (fits : T → Side → V → Type 0) (tag_of : K → T
 pub taken_at : {S T : Type 0} (nodes nodes' actor actor' node slot slot' : ℕ) (v w : View T) → nodes ≡ nodes' → actor ≡ actor' → slot ≡ slot' → IsTaken S nodes actor node slot v w → IsTaken S nodes' actor' node slot' v (taken_view slot' v)
 taken_at {S = S} {T = T} nodes nodes' actor actor' node slot slot' v w e f h t = subst (λ (z : ℕ × (ℕ × (ℕ × View T))). IsTaken S z.0 z.1.0 node z.1.1.0 v z.1.1.1) (λ q. (e q, (f q, (h q, (t.view ∙ ap (λ s. taken_view s v) h) q)))) t
 
--- the same, if the key of the table has this number of nodes
+-- the load at which a slot was taken, if the key of the table has this number of nodes
 module _ {V K T : Type 0} (fits : T → Side → V → Type 0) (tag_of : K → T) (place_of : K → Option (Place T)) (key nodes : ℕ) (same_nodes : key ≡ nodes) where
   pub moves_allowed : (id : ℕ) (v : View T) → ((i : ℕ) → count i v.claims ≡ 0) → v.taken ≡ [] → Splits (Ruled fits tag_of place_of key) id v blank v
   moves_allowed id v spent free = subst (λ n. Splits (Ruled fits tag_of place_of n) id v blank v) (sym same_nodes) (moves_one fits tag_of place_of nodes id v spent free)

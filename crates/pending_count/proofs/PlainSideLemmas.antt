@@ -33,7 +33,7 @@ module _ {V K T : Type 0} (fits : T → Side → V → Type 0) (tag_of : K → T
   is_plain i have plain = by_option (p.tag i) (p.tag i ≡ None) (λ e. e)
       (λ t e. let b = p.sided.both i t e (one_same (Held id)) in let h = my_part nodes s g r id v at i in let x = my_sides (left_slot i) in let y = my_sides (right_slot i) in let c = plain.0 in let d = plain.1 in absurd (omega arith))
 
-  -- a step of this seat that moves no side and no slot, after which it notes the same of pairs
+  -- a step of this seat that moves no side and no slot, and changes no notes of pairs
   pub plain_stays : (w : View T) (arr : ℕ → List Arrival) → w.sides ≡ v.sides → w.taken ≡ v.taken → w.armed ≡ v.armed → w.armed_sides ≡ v.armed_sides → w.noted_sides ≡ v.noted_sides → w.tags ≡ v.tags → w.places ≡ v.places
       → ((i : ℕ) → 0 < count i v.claims → 0 < count i w.claims) → ((i : ℕ) (t : T) → p.tag i ≡ Some t → (f : Arrival → ℕ) → total f (arr i) ≡ total f (g.arrivals i))
       → Pairing fits tag_of place_of nodes s.homes (set s.views id w) arr g.armed g.ran

@@ -43,7 +43,7 @@ module _ {T : Type 0} (views : List (View T)) (id : ℕ) (v : View T) (at : get_
       (λ e. ap (λ k. count i (view_at (set views id w) k).held) e ∙ ap (λ (u : View T). count i u.held) (here_is w) ∙ own i ∙ ap (λ k. amount (Held k) (arr' i)) (sym e))
       (λ n. ap (λ (u : View T). count i u.held) (else_is w a n) ∙ h a i ∙ sym (others a i n))
 
--- the parts of the rule for other views, of which each says the same
+-- the parts of the rule for other views that say equal things
 module _ {T : Type 0} (views views' : List (View T)) where
   pub claiming_as : {drawn : ℕ} {claimer : ℕ → ℕ} {armed : ℕ → Bool} → ((a i : ℕ) → count i (view_at views' a).claims ≡ count i (view_at views a).claims) → Claiming views drawn claimer armed → Claiming views' drawn claimer armed
   claiming_as same r = record {

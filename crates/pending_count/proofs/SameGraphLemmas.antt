@@ -1,4 +1,4 @@
--- A view that changes in what it says of pairs alone shows the same graph.
+-- A view that changes in what it says of pairs alone shows one graph.
 use Rattle.std.proofs.Common.{◌≡◌, ℕ, zero, suc, ◌<◌, List, [], ◌∷◌, length, set, refl, ap, ◌∙◌, subst, arith}
 use mathlib.Core.Option.{none, some}
 use mathlib.Core.Option as mc
@@ -49,6 +49,6 @@ module _ {S T : Type 0} (nodes : ℕ) (words : List ℕ) (g : Graph) (id : ℕ) 
       kept : (i j : ℕ) → kept_at i j (set views id u) ≡ kept_at i j views
       kept i j = sum_stays views id v at (λ w. total (keeps_at i j) w.armed) u (ap (total (keeps_at i j)) same.armed)
 
-  -- a step of this seat to u in place of v, where the step to v is known
+  -- a step of this seat to u instead of v, where the step to v is known
   pub same_graph_step : (views : List (View T)) (homes homes' : List (mc.Option S)) (v u : View T) → id < length views → Agrees v u → Shows nodes (record { words = words; homes = homes; views = set views id v }) g → Shows nodes (record { words = words; homes = homes'; views = set views id u }) g
   same_graph_step views homes homes' v u low same r = subst (λ l. Shows nodes (record { words = words; homes = homes'; views = l }) g) (set-set views id v u) (same_graph (set views id v) homes homes' v u (set_here views id v low) same r)

@@ -299,7 +299,7 @@ module _ {V K T : Type 0} (fits : T → Side → V → Type 0) (tag_of : K → T
         subst (λ h. Pairing fits tag_of place_of nodes s.homes (set (set s.views id (joined_view v u)) other blank) h.arrivals h.armed h.ran) (sym (joining.after_gives other id apart u.held nodes g)) (given_sides.joins_sides fits tag_of place_of nodes s g r p id other apart v u at there' spent (λ j. ap (count j) free)),
       )
 
--- the same, if the key of the table has this number of nodes
+-- what a claim leaves as it was, if the key of the table has this number of nodes
 module _ {V K T : Type 0} (fits : T → Side → V → Type 0) (tag_of : K → T) (place_of : K → Option (Place T)) (key nodes : ℕ) (same_nodes : key ≡ nodes) where
   pub claims_allowed : (slots id actor i : ℕ) (me : Me (Option (Slot V K)) (View T)) → actor ≡ id → i ≡ nodes + 1 → 0 < me.0.credit → Allows (Ruled fits tag_of place_of key) slots id me i (λ n. (n + 1) % 2 ^ 64) (claimed nodes actor (step slots i 1 0 none) me)
   claims_allowed slots id actor i me h1 h2 h3 = subst (λ k. Allows (Ruled fits tag_of place_of k) slots id me i (λ n. (n + 1) % 2 ^ 64) (claimed nodes actor (step slots i 1 0 none) me)) (sym same_nodes) (claims_one fits tag_of place_of nodes slots id actor i me h1 h2 h3)

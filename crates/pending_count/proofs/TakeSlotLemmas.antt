@@ -103,7 +103,7 @@ module _ {V K T : Type 0} (fits : T → Side → V → Type 0) (tag_of : K → T
   pub side_is : (i : ℕ) (b : Bool) → 0 < count (side_slot i b) v.sides → p.side (side_slot i b) ≡ Held id
   side_is i b have = let m = plain.my_sides fits tag_of place_of nodes s g r p id v at (side_slot i b) in sym (one_is (Held id) (p.side (side_slot i b)) (omega arith))
 
-  -- the seat holds arrivals at a node of which it holds a side, which is a pair
+  -- the seat holds arrivals at a node where it holds a side: the node is a pair
   pub is_pair : (i : ℕ) (b : Bool) → 0 < count (side_slot i b) v.sides → (tg : T) × (p.tag i ≡ Some tg)
   is_pair i b have = by_option (p.tag i) ((tg : T) × (p.tag i ≡ Some tg))
       (λ e. absurd (held_not_made id (p.side (side_slot i b)) (side_is i b have) (p.sided.alone i b e)))

@@ -1,4 +1,4 @@
--- Condition: the seat that an arrival at a pair gives back, and what its last answer contains.
+-- Condition: the seat that an arrival at a pair gives back.
 use Rattle.std.specs.Prelude.{◌≡◌, ℕ, Bool, true, false, not, List, ◌∷◌, Option, Some, ⊤}
 use Rattle.completion_core.specs.declared.action.Reply.{Reply}
 use Rattle.completion_core.specs.declared.action.Reply.TheVariants.{Pending, Last}

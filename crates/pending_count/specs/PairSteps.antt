@@ -1,4 +1,4 @@
--- Condition: what arming a pair, and arriving at one with a value, means for the graph, and what the last of the two arrivals gets.
+-- Condition: what arming a pair, and arriving at it with a value, means for the graph.
 use Rattle.std.specs.Prelude.{◌≡◌, ◌≢◌, ℕ, ◌-◌, ◌<◌, List, [], ◌∷◌, Option, Some}
 use Rattle.completion_core.specs.declared.action.Action.TheVariants.{Arm}
 use Rattle.completion_core.specs.declared.action.Reply.TheVariants.{Done}
@@ -26,8 +26,9 @@ module _ {V K T : Type 0} (fits : T → Side → V → Type 0) (tag_of : K → T
     pub view : w ≡ paired_view node onward (tag_of kept) (noted_place (place_of kept)) v
     pub one_step : OneStep (Option (Slot V K)) nodes node 0 2 actor (taken_view (kept_slot node) v) w (Arm actor node 1 onward ∷ []) Done
 
-  -- What the last arrival at a pair with this tag gets: the kept value has the tag, and the place that it was armed with;
-  -- that place is at a smaller node and has the tag that the seat noted, and the node kept the arrival of that place alone.
+  -- What the last arrival at a pair with this tag gets: the kept value has the tag, and the place that it was armed
+  -- with; that place is at a smaller node and has the tag that the seat noted, and the node kept the arrival of that
+  -- place alone.
   pub record IsKept (node : ℕ) (tag : T) (v : View T) (k : K) (kept kept_sides : List ℕ) : Type 0 where
     pub same_tag : tag_of k ≡ tag
     pub place : (p : Place T) → place_of k ≡ Some p → ((j : ℕ) → count j kept ≡ count j (p.node ∷ [])) × ((j : ℕ) → count j kept_sides ≡ count j (slot_of p.node p.side ∷ []))

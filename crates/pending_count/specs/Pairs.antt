@@ -1,4 +1,4 @@
--- Condition: which seat holds the sides of pairs, and what the slots of their values contain.
+-- Condition: which seat holds the sides of pairs, and what their slots contain.
 use Rattle.std.specs.Prelude.{◌≡◌, ℕ, ◌+◌, ◌*◌, ◌<◌, ◌≤◌, Bool, true, false, List, [], ◌∷◌, length, Option, Some, None}
 use mathlib.Core.Option.{some}
 use mathlib.Core.Option as mc
@@ -66,7 +66,9 @@ module _ {T : Type 0} where
     pub placed : (a i : ℕ) (p : Option (ℕ × (ℕ × (ℕ × T)))) → note_of i (view_at views a).places ≡ Some p → armed i ≡ true
 
 module _ {V K T : Type 0} (fits : T → Side → V → Type 0) (tag_of : K → T) (place_of : K → Option (Place T)) where
-  -- the slots at home: a side's is empty until its arrival was made, and then has a value that fits; the kept value's is empty until the node is armed, and then has one with the pair's tag; if it has a place, the node keeps the arrival of that place alone
+  -- the slots at home: a side's is empty until its arrival was made, and then has a value that fits; the kept value's
+  -- is empty until the node is armed, and then has one with the pair's tag; if it has a place, the node keeps the
+  -- arrival of that place alone
   pub record Slotted (nodes : ℕ) (homes : List (mc.Option (Option (Slot V K)))) (views : List (View T)) (armed ran : ℕ → Bool) (tag : ℕ → Option T) (side : ℕ → Arrival) : Type 0 where
     pub room : length homes ≡ 3 * (nodes + 1)
     pub once : (a k : ℕ) → count k (view_at views a).taken ≤ 1

@@ -1,4 +1,4 @@
--- Condition: what contracts say of counts and of a seat, and of the answers in which seats come back.
+-- Condition: what contracts say of counts, of a seat, and of answers with seats.
 use Rattle.std.specs.Prelude.{◌≡◌, ℕ, Option, ⊤}
 use Rattle.atomic_table.specs.Seated.{TableId}
 use Rattle.completion_core.specs.declared.action.Reply.{Reply}
@@ -36,7 +36,7 @@ module _ {V K T : Type 0} {g : Ghosts K V T} where
   abbrev pub IsSeatOf : Counts V K T → Seat V K T g → Type 0
   IsSeatOf counts seat = table_of seat ≡ counts.table.shared.table_id
 
-  -- a seat of the same actor and table
+  -- a seat of one actor and one table
   abbrev pub IsSameSeat : Seat V K T g → Seat V K T g → Type 0
   IsSameSeat seat later = (table_of later ≡ table_of seat) × (actor_of later ≡ actor_of seat)
 

@@ -1,5 +1,5 @@
--- Design: when the words of a table and the views of its seats show a graph of completers.
--- Word i is that of the node i, word 0 that of END, and the claim word is the one after them. An actor is a seat, by its number.
+-- Design: when words and the views of seats show a graph of completers.
+-- Word i belongs to node i, word 0 to END, and the claim word comes after them. An actor is a seat, by its number.
 use Rattle.std.specs.Prelude.{◌≡◌, ℕ, ◌+◌, ◌<◌, ◌≤◌, min, Bool, true, false, List, [], length, slice_index, Some}
 use Rattle.atomic_table.specs.Table.{State}
 use Rattle.completion_core.specs.Graph.{Arrival, Held, Kept, total, amount, left, Graph}
@@ -29,7 +29,8 @@ module _ {T : Type 0} where
   abbrev pub additions : List (View T) → ℕ
   additions views = total (λ v. v.added) views
 
-  -- the words are the numbers of arrivals owed and not made, the claim word counts the claims; claims, credits and additions together are the whole credit
+  -- the words are the numbers of arrivals owed and not made, the claim word counts the claims; claims, credits and
+  -- additions together are the whole credit
   pub record Counting (nodes : ℕ) (words : List ℕ) (views : List (View T)) (drawn : ℕ) (arrivals : ℕ → List Arrival) : Type 0 where
     pub size : length words ≡ nodes + 2
     pub draws : drawn ≡ min (slice_index words (nodes + 1)) nodes

@@ -1,4 +1,4 @@
--- Condition: what each call of the counts means for the graph that words and views show.
+-- Condition: what each call of the counts means for the graph of completers.
 use Rattle.std.specs.Prelude.{◌≡◌, ◌≢◌, ℕ, zero, suc, ◌+◌, ◌-◌, ◌<◌, ◌≤◌, ◌==◌, List, [], ◌∷◌, ◌++◌, length, slice_set, slice_index, Option, Some, None, nat_lt, if◌then◌else◌, ⊤}
 use mathlib.Core.Option.{some}
 use lib.ListN.{get_elem?}
@@ -40,8 +40,9 @@ gives_all from to held zero = if count 0 held == 0 then [] else Give from to 0 (
 gives_all from to held (suc n) = if count (suc n) held == 0 then gives_all from to held n else Give from to (suc n) (count (suc n) held) ∷ gives_all from to held n
 
 module _ {T : Type 0} where
-  -- One atomic step of the actor's, on the word i, which had n and then has n'; the actor's view was v and then is w, and nothing else of words and views changed.
-  -- For every graph that was shown before, the actions are legal, the first of them answers `answer`, and the graph after them is shown after.
+  -- One atomic step of the actor's, on the word i, which had n and then has n'; the actor's view was v and then is w,
+  -- and nothing else of words and views changed. For every graph that was shown before, the actions are legal, the
+  -- first of them answers `answer`, and the graph after them is shown after.
   pub record OneStep (S : Type 0) (nodes i n n' : ℕ) (actor : ℕ) (v w : View T) (actions : List Action) (answer : Reply) : Type 0 where
     pub before : State S (View T)
     pub later : State S (View T)
@@ -53,7 +54,8 @@ module _ {T : Type 0} where
     pub shown : (g : Graph) → Shows nodes before g → LegalAll actions g × Answers actions g answer × Shows nodes later (after_all actions g)
     pub in_range : InRange nodes w
 
-  -- a claim, for which the claim word had n: the node that it may draw is larger than all that the seat has, and the seat has no side of it
+  -- a claim, for which the claim word had n: the node that it may draw is larger than all that the seat has, and the
+  -- seat has no side of it
   pub record IsClaimed (S : Type 0) (nodes actor : ℕ) (v : View T) (n : ℕ) (w : View T) : Type 0 where
     pub view : w ≡ claimed_view nodes n v
     pub larger : (i : ℕ) → 0 < count i v.held + count i v.claims → i ≤ n
@@ -95,7 +97,8 @@ module _ {T : Type 0} where
     pub one_step : OneStep S nodes 0 n n actor v w [] Done
     pub all : (g : Graph) → Shows nodes one_step.before g → left (g.arrivals 0) ≡ n
 
-  -- a look at the node's word, at which the seat takes the slot of a value that it brings; no action, and no word changes
+  -- a look at the node's word, at which the seat takes the slot of a value that it brings; no action, and no word
+  -- changes
   pub record IsTaken (S : Type 0) (nodes actor node slot : ℕ) (v w : View T) : Type 0 where
     pub view : w ≡ taken_view slot v
     pub found : ℕ
@@ -106,7 +109,8 @@ module _ {T : Type 0} where
   IsSplit S nodes node k v rest part = (s : State S (View T)) (g : Graph) (id : ℕ) → Shows nodes s g → get_elem? s.views id ≡ some v
       → Legal (Give id (length s.views) node k) g × Shows nodes (record { words = s.words; homes = s.homes; views = slice_set s.views id rest ++ part ∷ [] }) (after (Give id (length s.views) node k) g)
 
-  -- A second seat is joined into the first one, which changes no word: whatever the table shows, it is Give of all that the second holds.
+  -- A second seat is joined into the first one, which changes no word: whatever the table shows, it is Give of all that
+  -- the second holds.
   abbrev pub IsJoined : (S : Type 0) → ℕ → View T → View T → View T → Type 0
   IsJoined S nodes v u both = (s : State S (View T)) (g : Graph) (id other : ℕ) → Shows nodes s g → get_elem? s.views id ≡ some v → get_elem? s.views other ≡ some u → other ≢ id
       → LegalAll (gives_all other id u.held nodes) g × Shows nodes (record { words = s.words; homes = s.homes; views = slice_set (slice_set s.views id both) other blank }) (after_all (gives_all other id u.held nodes) g)

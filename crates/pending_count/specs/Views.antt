@@ -1,4 +1,4 @@
--- Design: what a seat knows, as lists in which an entry stands for one arrival, and how each call changes it.
+-- Design: what a seat knows, and how each call changes it.
 use Rattle.std.specs.Prelude.{◌≡◌, ℕ, ◌+◌, ◌-◌, ◌*◌, ◌^◌, ◌<◌, ◌≤◌, ◌==◌, min, true, false, List, [], ◌∷◌, ◌++◌, Option, Some, None, nat_lt, if◌then◌else◌, slice_index_or, ◌||◌, ◌⊎◌}
 use Rattle.completion_core.specs.Graph.{copies}
 use Rattle.completion_core.specs.Legal.{count}
@@ -23,7 +23,7 @@ side_at i sides =
     then (if count (right_slot i) sides == 0 then [] else right_slot i ∷ [])
     else left_slot i ∷ []
 
--- helper: the sides that stand for the entries of a list of nodes
+-- helper: the sides that belong to the entries of a list of nodes
 abbrev pub sides_of : List ℕ → List ℕ → List ℕ
 sides_of [] sides = []
 sides_of (i ∷ is) sides = side_at i sides ++ sides_of is sides
@@ -79,7 +79,7 @@ module _ {T : Type 0} where
   abbrev pub first_view : ℕ → View T
   first_view ends = record { credit = whole_credit; added = 0; held = copies ends 0; sides = []; taken = []; claims = []; armed = []; armed_sides = []; noted = []; noted_sides = []; tags = []; places = []; seen = Some ends; none_left = false; of = record {} }
 
-  -- the view of the actor a, among those of all seats
+  -- the view of the actor a, among the views of all seats
   abbrev pub view_at : List (View T) → ℕ → View T
   view_at views a = slice_index_or views a blank
 

@@ -10,7 +10,8 @@ use std::alloc::Global;
 
 pub(crate) type Words<V, K, T> = Table<Option<Slot<V, K>>, View<T>, Sizes, Rule<V, K>, Global>;
 
-/// The pending counts of many nodes, each in an atomic word of its own, and of END. Threads share it by `&`; what each of them may do stands in its `Seat`.
+/// The pending counts of many nodes, each in an atomic word of its own, and of END. Threads share it by `&`; what each
+/// of them may do stands in its `Seat`.
 #[derive(Drop)]
 pub struct Counts<V, K: Fits<V>> {
     pub(crate) table: Words<V, K, K::Tag>,

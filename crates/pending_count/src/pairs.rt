@@ -13,12 +13,13 @@ ghost use Rattle.pending_count.specs.declared.place.Side.TheVariants.{Whole};
 use crate::counts::Counts;
 use crate::place::{Fits, Place, Side, Slot};
 use crate::rule::{ArmPair, Arming, Hand, Handing, Parting, SplitArrivals, TakeKept, TakeSide};
-use crate::seat::{ArrivedPair, FinishPair, Seat, Token};
+use crate::seat::{ArrivedPair, FinishPair, Seat, SeatToken};
 use completion_core::Node;
 use std::marker::Brand;
 
 impl<V, K: Fits<V>> Counts<V, K> {
-    /// Arms a node that the seat drew as a pair, which owes two arrivals, a left and a right one. It keeps `kept` for the last of them. A load, and one store.
+    /// Arms a node that the seat drew as a pair, which owes two arrivals, a left and a right one. It keeps `kept` for
+    /// the last of them. A load, and one store.
     pub fn arm_pair(&self, seat: Seat<V, K>, node: Node, onward: &[Node], kept: K) -> Seat<V, K>
         requires table { IsSeatOf self.now seat }
         requires claimed { 0 < count node (view_of seat).claims }
@@ -60,7 +61,8 @@ impl<V, K: Fits<V>> Counts<V, K> {
         Seat { token, credit }
     }
 
-    /// One arrival at a pair, with the value for the place's side. The last of the two gets both values and what the node kept. A load, and one `fetch_sub`.
+    /// One arrival at a pair, with the value for the place's side. The last of the two gets both values and what the
+    /// node kept. A load, and one `fetch_sub`.
     pub fn arrive_with(&self, seat: Seat<V, K>, place: Place<K::Tag>, value: V) -> ArrivedPair<V, K>
         requires table { IsSeatOf self.now seat }
         requires have { 0 < count place.node (view_of seat).held }
@@ -79,7 +81,8 @@ impl<V, K: Fits<V>> Counts<V, K> {
         }
     }
 
-    /// A second seat with the arrival of one side of a pair, and some of this seat's credit. It knows what this one knows. One load.
+    /// A second seat with the arrival of one side of a pair, and some of this seat's credit. It knows what this one
+    /// knows. One load.
     pub fn split_side(
         &self,
         seat: Seat<V, K>,
@@ -165,10 +168,10 @@ impl<V, K: Fits<V>> Counts<V, K> {
     // Empties the slots that came to the token with the last arrival: the kept value's, the other side's, and its own.
     fn collect(
         &self,
-        mut token: Token<V, K, K::Tag>,
+        mut token: SeatToken<V, K, K::Tag>,
         node: Node,
         is_left: bool,
-    ) -> (Token<V, K, K::Tag>, FinishPair<V, K>)
+    ) -> (SeatToken<V, K, K::Tag>, FinishPair<V, K>)
         requires table { token.table_id ≡ self.now.table.shared.table_id }
         requires slots { (kept : K) × (theirs : V) × (ours : V) × HasAll node is_left kept theirs ours token.me.1 }
         ensures seat { (result.0.table_id ≡ token.table_id) × (result.0.id ≡ token.id) × (result.0.me.0 ≡ token.me.0) }

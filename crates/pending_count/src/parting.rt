@@ -35,7 +35,8 @@ impl<V, K: Fits<V>> Counts<V, K> {
         (Seat { token, credit }, found)
     }
 
-    /// A second seat with `k` of this seat's arrivals at the node, and some of its credit. It knows what this one knows. One load.
+    /// A second seat with `k` of this seat's arrivals at the node, and some of its credit. It knows what this seat
+    /// knows. One load.
     pub fn split(
         &self,
         seat: Seat<V, K>,

@@ -13,7 +13,8 @@ pub enum Side {
     Whole,
 }
 
-/// Where the value of a node goes: to one side of the pair at `node`, in the tree whose top is `root`. `tag` is that pair's.
+/// Where the value of a node goes: to one side of the pair at `node`, in the tree whose top is `root`. `tag` is that
+/// pair's.
 #[derive(Clone, Copy, Debug, PartialEq, Eq)]
 pub struct Place<T> {
     pub node: Node,
@@ -23,7 +24,8 @@ pub struct Place<T> {
 }
 
 impl<T> Place<T> {
-    /// The top node of the tree (Java: `CountedCompleter.getRoot`). For other programs: no climb of `streamrun` asks for it.
+    /// The top node of the tree (Java: `CountedCompleter.getRoot`). For other programs: no climb of `streamrun` asks
+    /// for it.
     pub fn root(&self) -> Node
         ensures { result ≡ self.now.root }
     {
@@ -31,10 +33,12 @@ impl<T> Place<T> {
     }
 }
 
-/// What is kept at a pair for the last of its two arrivals. It has the pair's tag, and the place to which the pair's own value goes.
+/// What is kept at a pair for the last of its two arrivals. It has the pair's tag, and the place to which the pair's
+/// own value goes.
 pub trait Fits<V> {
-    /// Distinguishes one pair from another, for example by the range of items that the pair covers. It has to be one struct of
-    /// plain fields without type parameters: the toolchain doesn't prove generic callers over a tuple or a generic struct here.
+    /// Distinguishes one pair from another, for example by the range of items that the pair covers. It has to be one
+    /// struct of plain fields without type parameters: the toolchain doesn't prove generic callers over a tuple or a
+    /// generic struct here.
     type Tag: Copy;
 
     // The fact about a tag, a side of its pair and a value that is handed in on that side.

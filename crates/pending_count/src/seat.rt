@@ -6,12 +6,13 @@ use crate::place::{Fits, Slot};
 use crate::view::View;
 use completion_core::Node;
 
-pub(crate) type Token<V, K, T> = atomic_table::Seat<Option<Slot<V, K>>, View<T>>;
+pub(crate) type SeatToken<V, K, T> = atomic_table::Seat<Option<Slot<V, K>>, View<T>>;
 
-/// A token that holds arrivals and credit. It is passed to each call of the counts and given back; no two threads have it at once.
+/// A token that holds arrivals and credit. It is passed to each call of the counts and given back; no two threads have
+/// it at once.
 #[derive(Drop)]
 pub struct Seat<V, K: Fits<V>> {
-    pub(crate) token: Token<V, K, K::Tag>,
+    pub(crate) token: SeatToken<V, K, K::Tag>,
     pub(crate) credit: u64,
     ghost paid: { (token.me.0.credit ≡ credit) × (credit ≤ 2 ^ 62) },
     ghost idle: { token.me.0.taken ≡ [] },

@@ -18,7 +18,9 @@ use std::marker::Brand;
 pub(crate) const CREDIT: u64 = 1 << 62;
 
 impl<V, K: Fits<V>> Counts<V, K> {
-    /// Counts of nodes 1 to `nodes`, none of which is drawn, and of END, which owes `ends` arrivals. The seat holds all of these, and a credit of 2^62. `Err` where memory is refused: 8 bytes for each word, and three slots a node.
+    /// Counts of nodes 1 to `nodes`, all still to be drawn, and of END, which owes `ends` arrivals. The seat holds all
+    /// of these arrivals, and a credit of 2^62. `Err` where memory is refused: 8 bytes for each word, and three slots a
+    /// node.
     pub fn new(
         alloc: Global,
         nodes: u32,
@@ -44,7 +46,8 @@ impl<V, K: Fits<V>> Counts<V, K> {
         self.nodes
     }
 
-    /// Draws the next node, for one credit: `None` where the credit is 0 or no node is left. The node is larger than all that the seat holds. One `fetch_add`; none without credit.
+    /// Draws the next node, for one credit: `None` where the credit is 0 or no node is left. The node is larger than
+    /// all that the seat holds. One `fetch_add`; none without credit.
     pub fn claim(&self, seat: Seat<V, K>) -> (Seat<V, K>, Option<Node>)
         requires table { IsSeatOf self.now seat }
         ensures seat { IsSameSeat seat result.0 }
@@ -78,7 +81,9 @@ impl<V, K: Fits<V>> Counts<V, K> {
         }
     }
 
-    /// Arms a node that the seat drew. It owes `pending + 1` arrivals from then on, which the seat has; and it keeps one arrival of the seat's for each entry of `onward`, all at smaller nodes, until it runs. One store. Java: `CountedCompleter.setPendingCount`.
+    /// Arms a node that the seat drew. It owes `pending + 1` arrivals from then on, which the seat has; and it keeps
+    /// one arrival of the seat's for each entry of `onward`, all at smaller nodes, until it runs. One store. Java:
+    /// `CountedCompleter.setPendingCount`.
     pub fn arm(&self, seat: Seat<V, K>, node: Node, pending: u32, onward: &[Node]) -> Seat<V, K>
         requires table { IsSeatOf self.now seat }
         requires claimed { 0 < count node (view_of seat).claims }
@@ -114,7 +119,8 @@ impl<V, K: Fits<V>> Counts<V, K> {
         Seat { token, credit }
     }
 
-    /// `d` more arrivals at a node of `arm` at which the seat holds one, for as much credit. `Err` where the credit is less; then nothing changes. One `fetch_add`. Java: `CountedCompleter.addToPendingCount`.
+    /// `d` more arrivals at a node of `arm` at which the seat holds one, for a credit of `d`. `Err` where the credit is
+    /// less; then nothing changes. One `fetch_add`. Java: `CountedCompleter.addToPendingCount`.
     pub fn add(&self, seat: Seat<V, K>, node: Node, d: u32) -> Result<Seat<V, K>, Seat<V, K>>
         requires table { IsSeatOf self.now seat }
         requires node { 0 < node }
@@ -156,7 +162,8 @@ impl<V, K: Fits<V>> Counts<V, K> {
         })
     }
 
-    /// One arrival at a node of `arm`. It is `Last` exactly where one was owed and not made. One `fetch_sub`. Java: the count that `CountedCompleter.tryComplete` lowers.
+    /// One arrival at a node of `arm`. It is `Last` exactly where one was owed and not made. One `fetch_sub`. It lowers
+    /// the count that Java's `CountedCompleter.tryComplete` lowers.
     pub fn arrive(&self, seat: Seat<V, K>, node: Node) -> Arrived<V, K>
         requires table { IsSeatOf self.now seat }
         requires node { 0 < node }

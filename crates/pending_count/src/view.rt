@@ -23,9 +23,9 @@ pub struct View<T> {
     pub ghost armed: { List (ℕ × List ℕ) },
     /// The sides among these arrivals.
     pub ghost armed_sides: { List (ℕ × List ℕ) },
-    /// Notes of such records, also of seats that it was split off from.
+    /// Notes of records that were armed, also from seats that it was split off from.
     pub ghost noted: { List (ℕ × List ℕ) },
-    /// Notes of the sides in such records.
+    /// Notes of the sides in records that were armed.
     pub ghost noted_sides: { List (ℕ × List ℕ) },
     /// The tags of pairs, each by its node.
     pub ghost tags: { List (ℕ × T) } by { coded_list (coded× coded_ℕ T.code) },

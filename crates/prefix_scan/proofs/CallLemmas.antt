@@ -12,7 +12,7 @@ use Rattle.prefix_scan.specs.Scans.{StandsFor, cut_to, fold_at, scan_at, selecte
 use Rattle.prefix_scan.proofs.BlockLemmas.{fold_selected}
 use Rattle.prefix_scan.proofs.ScanLemmas.{cut_within, scan_is, scan_more}
 
--- the same list at other positions, of which just the same are in the range
+-- a list at other positions that are in the range exactly where these are
 selected_as : (r : Range) (q : ℕ) (r' : Range) (q' : ℕ) (xs : List Item) → ((j : ℕ) → j < length xs → is_within r (q + j) ≡ is_within r' (q' + j)) → selected r q xs ≡ selected r' q' xs
 selected_as r q r' q' [] h = refl
 selected_as r q r' q' (x ∷ xs) h =

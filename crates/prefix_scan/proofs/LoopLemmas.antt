@@ -32,7 +32,7 @@ drop_past (suc i) [] h = refl
 drop_past zero (x ∷ xs) h = absurd (omega arith)
 drop_past (suc i) (x ∷ xs) h = drop_past i xs (omega arith)
 
--- none of this many positions, the first of which is q, is one of the range
+-- this many positions, from q on, are all outside the range
 abbrev pub Outside : Range → ℕ → ℕ → Type 0
 Outside r q count = (j : ℕ) → j < count → is_within r (q + j) ≡ false
 

@@ -11,7 +11,7 @@ use Rattle.prefix_scan.specs.Scans.{fold_at, scan_at, joined_value}
 use Rattle.prefix_scan.specs.Passes.{Pieces, piece, pair, whole, size, merged_value, merged_end, ups_end, ups, downs, then_down, two_passes, SplitTree, leaf, node, laid}
 use Rattle.prefix_scan.proofs.ScanLemmas.{fold_cut, scan_cut, fold_more, scan_more, fold_joined, scan_is}
 
--- a tree's end is that of its pieces joined
+-- a tree's end is the end of its pieces joined
 ends_is : (ps : Pieces) → ups_end ps ≡ (whole ps).ending
 ends_is (piece t) = refl
 ends_is (pair l r) = (λ i. merged_end (ends_is l i) (ends_is r i)) ∙ by_end (whole l).ending

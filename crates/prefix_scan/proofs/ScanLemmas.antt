@@ -37,7 +37,7 @@ cut_within (Some (from, to)) q count j h = dite (dec_le from (q + j))
     (λ a. within_before (min count (from - q)) (min count (to - q)) j (omega arith) ∙ sym (within_before from to (q + j) (omega arith)))
 
 module _ (f : ℤ → ℤ → ℤ) where
-  -- the same list at other positions, of which just the same are in the range
+  -- a list at other positions that are in the range exactly where these are
   pub fold_as : (r : Range) (q : ℕ) (r' : Range) (q' : ℕ) (start : Option ℤ) (xs : List Item) → ((j : ℕ) → j < length xs → is_within r (q + j) ≡ is_within r' (q' + j)) → fold_at f r q start xs ≡ fold_at f r' q' start xs
   fold_as r q r' q' start [] h = refl
   fold_as r q r' q' start (x ∷ xs) h =
@@ -80,7 +80,7 @@ module _ (f : ℤ → ℤ → ℤ) where
   length-scan_at r q start [] = refl
   length-scan_at r q start (x ∷ xs) = ap suc (length-scan_at r (suc q) (fold_on f (is_within r q) start x) xs)
 
-  -- without a range a fold is that of all items
+  -- without a range a fold is the fold of all items
   fold_all_from : (q : ℕ) (a : ℤ) (xs : List Item) → fold_at f None q (Some a) xs ≡ Some (fold_from f a xs)
   fold_all_from q a [] = refl
   fold_all_from q a (x ∷ xs) = fold_all_from (suc q) (f a x.value) xs

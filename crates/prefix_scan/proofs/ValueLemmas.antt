@@ -1,4 +1,4 @@
--- The same of values alone.
+-- Folds and scans of values alone.
 use Rattle.std.proofs.Common.{◌≡◌, ◌≢◌, ℕ, suc, ℤ, ◌+◌, ◌<◌, ◌≤◌, Bool, true, false, List, [], ◌∷◌, ◌++◌, length, map, take, drop, get_or, set, Option, Some, refl, sym, ap, ◌∙◌, append_assoc, arith}
 use Rattle.std.proofs.lemmas.List.{take-append-drop, drop-set-lt, length-drop, length-set, length-take}
 use Rattle.trace.specs.declared.item.Item.{Item}

@@ -30,8 +30,9 @@ abbrev pub put_on : (ℤ → ℤ → ℤ) → Option ℤ → ℤ → ℤ
 put_on f None v = v
 put_on f (Some a) v = f a v
 
--- each item at a position of the range becomes the left fold of the items at such positions before it and of itself; the
--- others stay. `before` are the items at such positions so far, and q is the position of the first of the list
+-- each item at a position of the range becomes the left fold of the items at positions of the range up to and with
+-- itself; the others stay. `before` are the items at positions of the range so far, and q is the position of the first
+-- of the list
 abbrev pub running : (ℤ → ℤ → ℤ) → Range → ℕ → List Item → List Item → List Item
 running f r q before [] = []
 running f r q before (x ∷ xs) =
@@ -47,7 +48,7 @@ out_of_array n = trace [] (end.Fault (record { kind = OutOfArray; stage = n; ori
 abbrev pub prefixed_items : (ℤ → ℤ → ℤ) → Range → ℕ → List Item → Trace
 prefixed_items f r n xs = if ends_after r (length xs) then out_of_array n else trace (running f r 0 [] xs) end.Done
 
--- helper: of a walk that ends so; a fault stands in place of all items
+-- helper: of a walk with this end; a fault leaves no items
 abbrev pub prefixed_to : (ℤ → ℤ → ℤ) → Range → ℕ → List Item → End → Trace
 prefixed_to f r n xs end.Done = prefixed_items f r n xs
 prefixed_to f r n xs (end.Fault g) = trace [] (end.Fault g)

@@ -21,12 +21,13 @@ abbrev pub fold_at : (ℤ → ℤ → ℤ) → Range → ℕ → Option ℤ → 
 fold_at f r q start [] = start
 fold_at f r q start (x ∷ xs) = fold_at f r (suc q) (fold_on f (is_within r q) start x) xs
 
--- each item at a position of the range becomes the fold of `start` and such items up to and with it
+-- each item at a position of the range becomes the fold of `start` and the items at positions of the range up to and
+-- with it
 abbrev pub scan_at : (ℤ → ℤ → ℤ) → Range → ℕ → Option ℤ → List Item → List Item
 scan_at f r q start [] = []
 scan_at f r q start (x ∷ xs) = item_on f (is_within r q) start x ∷ scan_at f r (suc q) (fold_on f (is_within r q) start x) xs
 
--- the same of values alone
+-- the fold of `start` and a value, if the flag says that its position is in the range
 abbrev pub fold_value_on : (ℤ → ℤ → ℤ) → Bool → Option ℤ → ℤ → Option ℤ
 fold_value_on f true start v = Some (put_on f start v)
 fold_value_on f false start v = start
@@ -43,7 +44,7 @@ abbrev pub scan_values_at : (ℤ → ℤ → ℤ) → Range → ℕ → Option �
 scan_values_at f r q start [] = []
 scan_values_at f r q start (v ∷ vs) = value_on f (is_within r q) start v ∷ scan_values_at f r (suc q) (fold_value_on f (is_within r q) start v) vs
 
--- among the positions before `count`, those of the range are the ones from `from` up to, not with, `to`
+-- among the positions before `count`, the range has the ones from `from` up to, not with, `to`
 pub record AreWithin (r : Range) (count from to : ℕ) : Type 0 where
   pub ordered : from ≤ to
   pub whole : to ≤ count
@@ -51,12 +52,12 @@ pub record AreWithin (r : Range) (count from to : ℕ) : Type 0 where
   pub inside : (j : ℕ) → from ≤ j → j < to → is_within r j ≡ true
   pub past : (j : ℕ) → to ≤ j → j < count → is_within r j ≡ false
 
--- a range in positions of a piece of this many items, the first of which has position q
+-- a range in positions of a piece of this many items, whose first one has position q
 abbrev pub cut_to : Range → ℕ → ℕ → Range
 cut_to None q count = None
 cut_to (Some (from, to)) q count = Some (min count (from - q), min count (to - q))
 
--- two folds side by side, each of which may be of no item
+-- the fold of two folds side by side; each may be of no item
 abbrev pub joined_value : (ℤ → ℤ → ℤ) → Option ℤ → Option ℤ → Option ℤ
 joined_value f a None = a
 joined_value f a (Some b) = Some (put_on f a b)
@@ -66,7 +67,7 @@ abbrev pub selected : Range → ℕ → List Item → List Item
 selected r q [] = []
 selected r q (x ∷ xs) = if is_within r q then x ∷ selected r (suc q) xs else selected r (suc q) xs
 
--- a block stands for a walk whose first item has position q: it has the fold of the items at positions of the range, if
+-- a block describes a walk whose first item has position q: it has the fold of the items at positions of the range, if
 -- there are any, and the end
 abbrev pub StandsFor : Range → ℕ → Partial → Trace → Type 0
 StandsFor r q b t = FoldStands b (trace (selected r q t.items) t.ending)

@@ -1,4 +1,5 @@
-// Blocks: what the up pass knows of pieces. The fold of the items at positions of a range, if there are any, and the end.
+//! Blocks: what the up pass knows of pieces. The fold of the items at positions of a range, if there are any, and the
+//! end.
 
 ghost use Rattle.std.specs.Prelude.{◌≡◌, ◌+◌, ◌<◌, ◌^◌, None, ℕ, List, length, flat_map};
 ghost use Rattle.trace.specs.Trace.{Trace, append, trace};
@@ -14,7 +15,8 @@ use crate::scan::{cut_to, fold_items};
 use reduce_ops::{Op, Partial};
 use trace::{Chunk, End, Item};
 
-/// The block of a piece: the fold of its items, with `at` of those at these positions alone, and its end. It takes no memory.
+/// The block of a piece: the fold of its items, with `at` of those at these positions alone, and its end. It takes no
+/// memory.
 ///
 /// For other programs: `streamrun` folds values that lie side by side, by the loops below this one.
 pub fn up(op: Op, at: Option<(u64, u64)>, chunk: &Chunk) -> Partial

@@ -1,4 +1,4 @@
-// The pass down over a chunk, where its items are stored.
+//! The pass down over a chunk, where its items are stored.
 
 ghost use Rattle.std.specs.Prelude.{◌≡◌, ◌+◌, ℕ, []};
 ghost use Rattle.trace.specs.Trace.{trace};
@@ -10,10 +10,11 @@ use crate::scan::scan_items;
 use reduce_ops::Op;
 use trace::{Chunk, Item, Rewrite};
 
-/// Each item of the chunk at a position of `at` becomes the fold of `start` and of such items up to and with it; the others and
-/// the end stay. Positions count from the first item of the chunk; without `at` they are all. It takes no memory.
+/// Replaces each item of the chunk whose position is in `at` by the fold of `start` and of all these items up to and
+/// with it; the others and the end stay. Positions count from the first item of the chunk; without `at` all count. It
+/// takes no memory.
 ///
-/// `start` is the fold of what lies left of the chunk, `None` if that is no item: what `up` and `merge` give of it.
+/// `start` is the fold of what lies left of the chunk, which `up` and `merge` give; `None` if nothing lies there.
 ///
 /// For other programs: `streamrun` scans values that lie side by side, by the loops below this one.
 pub fn down(op: Op, at: Option<(u64, u64)>, start: Option<i64>, chunk: &mut Chunk)
@@ -27,7 +28,8 @@ pub fn down(op: Op, at: Option<(u64, u64)>, start: Option<i64>, chunk: &mut Chun
     chunk.rewrite(&mut pass);
 }
 
-/// A pass down that has come so far: the range in positions from the next item on, and the fold of what lies left of it.
+/// A pass down that has come so far: the range in positions from the next item on, and the fold of what lies left of
+/// it.
 #[derive(Drop)]
 struct PassDown {
     op: Op,

@@ -1,4 +1,4 @@
-// Laws of the two passes. Each stands on a function that does nothing.
+//! Laws of the two passes. Each stands on a function that does nothing.
 
 ghost use Rattle.std.specs.Prelude.{◌≡◌, ◌++◌, ℕ, ℤ, false, List, Option, None, Ok, length};
 ghost use Rattle.trace.specs.Trace.{Trace, trace};
@@ -23,11 +23,11 @@ pub fn every_split_tree_gives_the_prefix()
     ensures { (f : ℤ → ℤ → ℤ) → IsAssociative f → (range : Range) (stage : ℕ) (tree : SplitTree) (t : Trace) → two_passes f range stage (laid tree t) ≡ prefixed f range stage t }
 {}
 
-/// How a caller of `up`, `merge` and `down` comes to the prefix of a walk, with a range or without. Each piece is taken up and
-/// down with the range cut to it. What `up` gives of it then has the positions that `merge` asks for (`up`), and what `down`
-/// makes of it is the scan at its own positions (`down`). If a piece begins with the fold that the block of all pieces left of
-/// it gives, the scans lie side by side (`on`), and those of all pieces are the prefix, unless the range ends after the last
-/// item (`prefix`).
+/// How a caller of `up`, `merge` and `down` comes to the prefix of a walk, with a range or without. Each piece is taken
+/// up and down with the range cut to it. What `up` gives of it then has the positions that `merge` asks for (`up`), and
+/// what `down` makes of it is the scan at its own positions (`down`). Let each piece begin with the fold of all pieces
+/// left of it. Then the scans lie side by side (`on`), and together they are the prefix, unless the range ends after
+/// the last item (`prefix`).
 pub fn calls_give_the_prefix()
     ensures up { (range : Range) (first : ℕ) (block : Partial) (t : Trace)
         → StandsFor (cut_to range first (length t.items)) 0 block t → StandsFor range first block t }

@@ -1,4 +1,4 @@
-// Folds and scans of the items of a piece: one loop each, compiled for each operator that is used often.
+//! Folds and scans of the items of a piece: one loop each, compiled for each operator that is used often.
 
 ghost use Rattle.std.specs.Prelude.{◌≡◌, List, map};
 ghost use Rattle.trace.specs.declared.item.Item.{Item as item};
@@ -9,7 +9,7 @@ ghost use Rattle.prefix_scan.specs.Scans.{AreWithin, cut_to, fold_at, fold_value
 use reduce_ops::Op;
 use trace::Item;
 
-/// A range in positions of a piece of this many items, the first of which has the position `first`.
+/// A range in positions of a piece of this many items. The first item of the piece has the position `first`.
 pub fn cut_to(range: Option<(u64, u64)>, first: u64, count: u64) -> Option<(u64, u64)>
     ensures { result ≡ cut_to range first count }
 {
@@ -61,7 +61,7 @@ pub fn fold_items(
     }
 }
 
-/// The same by one operator.
+/// The fold of `start` and of the items at positions of the range, by one operator.
 fn fold_by(op: Op, range: Option<(u64, u64)>, start: Option<i64>, items: &[Item]) -> Option<i64>
     ensures { result ≡ fold_at (value_of op) range 0 start items.now }
 {
@@ -76,8 +76,8 @@ fn fold_by(op: Op, range: Option<(u64, u64)>, start: Option<i64>, items: &[Item]
     Some(folded)
 }
 
-/// Each item at a position of the range becomes the fold of `start` and of such items up to and with it; the others stay. The
-/// answer is the fold of all. It takes no memory.
+/// Replaces each item at a position of the range by the fold of `start` and of all these items up to and with it; the
+/// others stay. The answer is the fold of all. It takes no memory.
 pub fn scan_items(
     op: Op,
     range: Option<(u64, u64)>,
@@ -96,7 +96,7 @@ pub fn scan_items(
     }
 }
 
-/// The same by one operator.
+/// Replaces the items at positions of the range by their running folds, by one operator, and answers the fold of all.
 fn scan_by(op: Op, range: Option<(u64, u64)>, start: Option<i64>, items: &mut [Item]) -> Option<i64>
     ensures items { items.new ≡ scan_at (value_of op) range 0 start items.old }
     ensures fold { result ≡ fold_at (value_of op) range 0 start items.old }
@@ -114,7 +114,8 @@ fn scan_by(op: Op, range: Option<(u64, u64)>, start: Option<i64>, items: &mut [I
     Some(running)
 }
 
-/// The same of values alone. It takes no memory.
+/// Replaces each value at a position of the range by the fold of `start` and of all these values up to and with it; the
+/// others stay. The answer is the fold of all. It takes no memory.
 pub fn scan_values(
     op: Op,
     range: Option<(u64, u64)>,
@@ -127,7 +128,7 @@ pub fn scan_values(
     scan_each_value(op, range, start, values)
 }
 
-/// The same without the items that have these values.
+/// Replaces the values at positions of the range by their running folds, and answers the fold of all.
 fn scan_each_value(
     op: Op,
     range: Option<(u64, u64)>,
@@ -146,7 +147,7 @@ fn scan_each_value(
     }
 }
 
-/// The same by one operator.
+/// Replaces the values at positions of the range by their running folds, by one operator, and answers the fold of all.
 fn scan_values_by(
     op: Op,
     range: Option<(u64, u64)>,

@@ -1,4 +1,4 @@
--- Affine maps modulo 2^32: the value of a composition stands for the composition, and grouping is free.
+-- Affine maps modulo 2^32: the value of a composition encodes the composition, and grouping is free.
 use Rattle.std.proofs.Common.{◌≡◌, ℕ, zero, ◌+◌, ◌*◌, ◌/◌, ◌%◌, ◌^◌, ◌<◌, ℤ, sym, ap, ◌∙◌, arith}
 use Rattle.std.proofs.Math.Nat.{mod-lt, mul_assoc, mul_comm, mod-add-mod, add-mod-mod, add-mul}
 use Rattle.std.proofs.lemmas.Nat.{mul-mod_first, mul-mod_second}

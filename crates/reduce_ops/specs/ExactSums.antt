@@ -13,8 +13,8 @@ abbrev pub exact_from : ℤ → List Item → Result ℤ Item
 exact_from z [] = Ok z
 exact_from z (x ∷ xs) = if is_long (z +ℤ x.value) then exact_from (z +ℤ x.value) xs else Err x
 
--- helper: a sum, or the fault that ended the walk; at an item after which the sum is outside 64 bits the terminal, the stage
--- with this number, has a fault, which comes before that of the end
+-- helper: a sum, or the fault that ended the walk; at an item after which the sum is outside 64 bits the terminal, the
+-- stage with this number, has a fault, which comes before the fault of the end
 abbrev pub exact_end : ℕ → End → Result ℤ Item → Result ℤ Fault
 exact_end n e (Ok z) = unless_faulted e z
 exact_end n e (Err x) = Err (record { kind = kind.Overflow; stage = n; origin = Some x.origin })

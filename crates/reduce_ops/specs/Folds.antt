@@ -39,7 +39,7 @@ abbrev pub total : List Item → ℤ
 total [] = pos 0
 total (x ∷ xs) = x.value +ℤ total xs
 
--- the same items, each with the value 1, as a count folds them
+-- these items, each with the value 1, as a count folds them
 abbrev pub ones : List Item → List Item
 ones [] = []
 ones (x ∷ xs) = record { origin = x.origin; value = pos 1 } ∷ ones xs

@@ -21,11 +21,11 @@ upper z = bits_of z / 2 ^ 32
 abbrev pub lower : ℤ → ℕ
 lower z = bits_of z % 2 ^ 32
 
--- the map modulo 2^32 that a value stands for
+-- the map modulo 2^32 that a value encodes
 abbrev pub map_of : ℤ → ℕ → ℕ
 map_of f y = (upper f * y + lower f) % 2 ^ 32
 
--- the value that stands for the map f and then the map g
+-- the value that encodes the map f and then the map g
 abbrev pub affine : ℤ → ℤ → ℤ
 affine f g = signed ((upper f * upper g) % 2 ^ 32 * 2 ^ 32 + (lower f * upper g + lower g) % 2 ^ 32)
 

@@ -1,4 +1,4 @@
--- Condition: what a partial fold stands for.
+-- Condition: which walk a partial fold describes.
 use Rattle.std.specs.Prelude.{◌≡◌}
 use Rattle.trace.specs.Trace.{Trace}
 use Rattle.reduce_ops.specs.declared.partial.Partial.{Partial}

@@ -1,4 +1,4 @@
--- Condition: how far the sums of a piece reach, and what the parts of exact sums stand for.
+-- Condition: the range of the sums of a piece, and which walks the parts of exact sums describe.
 use Rattle.std.specs.Prelude.{◌≡◌, ◌⊎◌, ℕ, ◌^◌, ℤ, pos, negsuc, ◌+ℤ◌, ◌-ℤ◌, ◌≤ℤ◌, neg_ℤ, Bool, true, false, is_err, List, map, Option, Some, None, Ok, Err, ⊤}
 use Rattle.std.specs.Int.{int_max, int_min}
 use Rattle.std.specs.List.{fold}
@@ -17,7 +17,7 @@ use Rattle.reduce_ops.specs.declared.sum_part.SumPart.{SumPart}
 use Rattle.reduce_ops.specs.declared.sum_part.SumPart.TheVariants as part
 use Rattle.reduce_ops.specs.ExactSums.{exact_from, exact_sum}
 
--- the sum of values, and the least and the greatest of the sums of the first ones; that of none, 0, is one of them
+-- the sum of values, and the least and the greatest of their running sums, 0 among them, which is the sum of none
 pub record AbstractReach : Type 0 where
   pub total : ℤ
   pub least : ℤ
@@ -75,7 +75,7 @@ abbrev pub IsReach : Option Reach → AbstractReach → Type 0
 IsReach (Some r) s = reach_in r ≡ s
 IsReach None s = IsWide s
 
--- it is the total of sums of which none is outside 64 bits; if there is none, one is outside
+-- it is the total of sums that are all in 64 bits; if there is none, one is outside
 abbrev pub IsSumOf : Option ℤ → AbstractReach → Type 0
 IsSumOf (Some z) r = (z ≡ r.total) × Holds (pos 0) r
 IsSumOf None r = r.total ≤ℤ r.greatest → Holds (pos 0) r → ⊥
@@ -84,7 +84,7 @@ IsSumOf None r = r.total ≤ℤ r.greatest → Holds (pos 0) r → ⊥
 abbrev pub IsOver : List Item → Type 0
 IsOver xs = (a : ℤ) → is_long a ≡ true → (x : Item) × (exact_from a xs ≡ Err x)
 
--- the part stands for a piece, wherever this begins
+-- the part describes a piece, wherever this begins
 abbrev pub IsPiece : ExactPart → Trace → Type 0
 IsPiece (piece.Within r e) t = (reach_in r ≡ reach_of (item_values t.items)) × (e ≡ t.ending)
 IsPiece piece.Over t = IsOver t.items
@@ -99,7 +99,7 @@ IsExact n t exact.Search = (x : Item) × (exact_from (pos 0) t.items ≡ Err x)
 abbrev pub IsRunning : ℕ → RunningSum → Trace → Type 0
 IsRunning n r t = r.sum ≡ exact_sum n t
 
--- a part stands for a walk, by the terminal with this number; of an unknown sum nothing is known
+-- a part describes a walk, by the terminal with this number; of an unknown sum nothing is known
 abbrev pub StandsFor : ℕ → SumPart → Trace → Type 0
 StandsFor n (part.Piece p) t = IsPiece p t
 StandsFor n (part.Running r) t = IsRunning n r t
@@ -126,7 +126,7 @@ is_running (part.Piece p) = false
 is_running (part.Running r) = true
 is_running part.Unknown = false
 
--- whether a part is that of a piece
+-- whether a part is the part of a piece
 abbrev pub is_piece : SumPart → Bool
 is_piece (part.Piece p) = true
 is_piece (part.Running r) = false

@@ -27,12 +27,12 @@ pub enum Exact {
     Sum(i64),
     /// The fault that ended the walk.
     Fault(Fault),
-    /// The sum is outside 64 bits after some item. A `RunningSum` finds the first such item.
+    /// Some running sum is outside 64 bits. A `RunningSum` finds the item at which that first happens.
     Search,
 }
 
 impl ExactPart {
-    /// The part of a piece without items that ended so.
+    /// The part of a piece without items, with this end.
     pub fn none(end: End) -> ExactPart
         ensures stands { IsPiece result (trace [] end) }
     {
@@ -69,7 +69,7 @@ impl ExactPart {
         *self = of_reach(reach_with(reach, values), End::Done);
     }
 
-    /// Ends the piece so, unless a fault has ended it.
+    /// Ends the piece as said, unless a fault has ended it.
     pub fn end_with(&mut self, end: End)
         ensures stands { (t : Trace) → IsPiece self.old t → IsPiece self.new (append t (trace [] end)) }
     {

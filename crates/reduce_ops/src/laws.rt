@@ -1,4 +1,4 @@
-// Laws of the operators and of folds. Each stands on a function that does nothing.
+//! Laws of the operators and of folds. Each stands on a function that does nothing.
 
 ghost use Rattle.std.specs.Prelude.{◌≡◌, ℕ, ℤ, pos, Some, List, ◌++◌, length};
 ghost use Rattle.lambda_values.specs.Wrap.{wrap};
@@ -19,7 +19,7 @@ pub fn identities_are_two_sided()
     ensures { (op : Op) (i : ℤ) → identity_of op ≡ Some i → IsIdentity (value_of op) i }
 {}
 
-/// `affine` is the composition of the maps that its operands stand for, the left one first.
+/// `affine` is the composition of the maps that its operands encode, the left one first.
 #[tactic(auto, using(crate::proofs::Affine::affine_composed))]
 pub fn affine_composes_maps()
     ensures { (f g : ℤ) (y : ℕ) → map_of (affine f g) y ≡ map_of g (map_of f y) }

@@ -1,13 +1,13 @@
 //! The operators of folds and prefixes, and folds of pieces that merge in encounter order.
 //!
-//! Stands on `trace`, for items and the fault that ends a walk. Used by whatever folds a stream: on one
-//! thread, or in pieces. What it promises to them: `Op::apply` is `value_of` of `specs/Operators.antt`, and
-//! `Partial::merge`, clause `stands`, gives the fold of two pieces side by side, where the first fault ends
-//! the whole. `laws.rt` says why: each operator is associative, and each identity works on both sides.
-//! An exact sum is a fold of another kind, since the order of its steps decides whether it has a fault. `ExactPart` keeps
-//! of a piece its total with the least and the greatest of its running sums (`Reach`), and merges in the same way;
-//! `finish` gives the sum, a fault, or `Search`: then `RunningSum` finds the first item at which a sum from the left
-//! overflows. `SumPart` is one or the other, as a walk needs it.
+//! Stands on `trace`, for items and the fault that ends a walk. Used by whatever folds a stream: on one thread, or in
+//! pieces. What it promises to them: `Op::apply` is `value_of` of `specs/Operators.antt`, and `Partial::merge`, clause
+//! `stands`, gives the fold of two pieces side by side, where the first fault ends the whole. `laws.rt` says why: each
+//! operator is associative, and each identity works on both sides.
+//! An exact sum is a fold of another kind, since the order of its steps decides whether it has a fault. `ExactPart`
+//! keeps the total of a piece with the least and the greatest of its running sums (`Reach`), and merges as `Partial`
+//! does; `finish` gives the sum, a fault, or `Search`: then `RunningSum` finds the first item at which a sum from the
+//! left overflows. `SumPart` is one or the other, as a walk needs it.
 //! Begin with `specs/Operators.antt` and `specs/Folds.antt`, then `op.rt` and `partial.rt`; for exact sums with
 //! `specs/ExactSums.antt` and `exact_part.rt`. No call takes memory.
 //! Not promised: that an operator is commutative; `affine`, `first` and `last` are not.

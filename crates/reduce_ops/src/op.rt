@@ -1,4 +1,4 @@
-// The operators with which a stream is folded.
+//! The operators with which a stream is folded.
 
 ghost use Rattle.std.specs.Prelude.{◌≡◌, ◌/◌, ◌%◌, ◌^◌};
 ghost use Rattle.reduce_ops.specs.Operators.{value_of, identity_of, affine, bits_of, upper, lower};
@@ -24,8 +24,7 @@ pub enum Op {
     Xor,
     /// The composition of two affine maps modulo 2^32, the left one first. Identity 2^32.
     ///
-    /// A value stands for the map from y to `a * y + b` modulo 2^32, where `a` is its upper 32 bits and
-    /// `b` its lower 32 bits.
+    /// A value encodes the map from y to `a * y + b` modulo 2^32: `a` is its upper 32 bits and `b` its lower 32 bits.
     Affine,
     /// The left value. It has no identity.
     First,

@@ -1,4 +1,4 @@
-// Folds of the pieces of a stream, and their merging in encounter order.
+//! Folds of the pieces of a stream, and their merging in encounter order.
 
 ghost use Rattle.std.specs.Prelude.{◌≡◌, Some, [], ◌∷◌, ◌++◌};
 ghost use Rattle.trace.specs.declared.item.End.TheVariants as end;
@@ -35,7 +35,7 @@ impl Partial {
         }
     }
 
-    /// The fold of a piece without items that ended so.
+    /// The fold of a piece without items, with this end.
     pub fn none(op: Op, end: End) -> Partial
         ensures op { result.op ≡ op }
         ensures stands { StandsFor result (trace [] end) }
@@ -57,7 +57,7 @@ impl Partial {
         self.value = fold_on(self.op, self.value, item.value);
     }
 
-    /// Ends the piece so, unless a fault has ended it.
+    /// Ends the piece as said, unless a fault has ended it.
     pub fn end_with(&mut self, end: End)
         ensures op { self.new.op ≡ self.old.op }
         ensures stands { (t : Trace) → StandsFor self.old t → StandsFor self.new (append t (trace [] end)) }
@@ -95,7 +95,7 @@ impl Partial {
         }
     }
 
-    /// The fault that ended the walk, or else the fold from a start, such as an identity of the operator.
+    /// The fault that ended the walk, or else the fold from a start, like an identity of the operator.
     pub fn finish_from(self, start: i64) -> Result<i64, Fault>
         ensures { (t : Trace) → StandsFor self t → result ≡ reduced_from (value_of self.op) start t }
     {

@@ -3,8 +3,8 @@
 ghost use Rattle.std.specs.Prelude.{◌≡◌, true, ◌^◌, ◌≤ℤ◌, pos, negsuc};
 ghost use Rattle.reduce_ops.specs.Reaches.{Covers, IsOneSided, IsReach, IsSumOf, no_reach, reach_beside, reach_in, reach_on};
 
-/// The sum of values, and the least and the greatest of the sums of the first ones; that of none, 0, is one of them. All differ by
-/// less than 2^64, so that there may be a start in 64 bits from which all sums are in 64 bits.
+/// The sum of values, and the least and the greatest of their running sums, 0 among them, which is the sum of none. All
+/// differ by less than 2^64, so that there may be a start in 64 bits from which all sums are in 64 bits.
 #[derive(Clone, Copy)]
 pub struct Reach {
     /// How far the least sum is below 0.

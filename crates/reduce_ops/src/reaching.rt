@@ -12,8 +12,8 @@ const SMALL: i64 = 562_949_953_421_312;
 /// As many small values as this have sums in 64 bits.
 const FEW: usize = 4_096;
 
-/// How far sums that reach so far before reach together with those of these values, which come after them. `None` if sums differ by
-/// 2^64 or more.
+/// The range of the running sums when `values` follow sums with the range `before`. `None` if sums differ by 2^64 or
+/// more.
 pub(crate) fn reach_with(before: Reach, values: &[i64]) -> Option<Reach>
     ensures { IsReach result (reach_beside (reach_in before) (reach_of values.now)) }
 {
@@ -37,8 +37,9 @@ fn are_small(values: &[i64]) -> bool
     least >= -SMALL && greatest <= SMALL
 }
 
-/// How far sums before reach together with those of a few small values. The sums one by one, which no loop can take several at a
-/// time, are wanted only if values are on both sides of 0 and may lead farther than all before.
+/// The range of the running sums when a few small values follow sums with the range `before`. No loop can take several
+/// of these sums at a time. So they are worked out one by one only if there are values on both sides of 0 that may lead
+/// beyond `before`.
 fn reach_with_small(before: Reach, values: &[i64]) -> Option<Reach>
     requires few { length values.now ≤ 4096 }
     requires small { All IsSmall values.now }
@@ -51,8 +52,8 @@ fn reach_with_small(before: Reach, values: &[i64]) -> Option<Reach>
     before.beside(reach_of_small(values))
 }
 
-/// How far the sums of a few small values could reach in any order: down to the sum of those below 0, up to that of those above.
-/// No answer rests on how far that is beyond their sums in this order.
+/// The range of the sums of a few small values in any order: from the sum of the values below 0 to the sum of the
+/// values above. It may be wider than the range of their sums in this order, and no answer depends on that.
 fn widest_of_small(values: &[i64]) -> Reach
     requires few { length values.now ≤ 4096 }
     requires small { All IsSmall values.now }

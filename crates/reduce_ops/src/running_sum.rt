@@ -9,8 +9,8 @@ ghost use Rattle.reduce_ops.specs.Reaches.{IsRunning};
 use lambda_values::FaultKind;
 use trace::{End, Fault, Item, SourceItems};
 
-/// The sum of the items so far, or the fault that ended it: at the first item after which it was outside 64 bits, or at the end of the
-/// walk.
+/// The sum of the items so far, or the fault that ended it: at the first item after which it was outside 64 bits, or at
+/// the end of the walk.
 #[derive(Clone, Copy)]
 pub struct RunningSum {
     sum: Result<i64, Fault>,
@@ -33,7 +33,8 @@ impl RunningSum {
         }
     }
 
-    /// Adds the items of a source, one after the other, unless a fault has ended the sum. The terminal is the stage with this number.
+    /// Adds the items of a source, one after the other, unless a fault has ended the sum. The terminal is the stage
+    /// with this number.
     pub fn push_all<I: SourceItems>(&mut self, stage: u32, source: &I)
         ensures stands { (t : Trace) → IsRunning stage self.old t → IsRunning stage self.new (append t (trace (I.items source.now) end.Done)) }
     {
@@ -42,7 +43,7 @@ impl RunningSum {
         }
     }
 
-    /// Ends the walk so, unless a fault has ended the sum.
+    /// Ends the walk as said, unless a fault has ended the sum.
     pub fn end_with(&mut self, end: End)
         ensures stands { (stage : ℕ) (t : Trace) → IsRunning stage self.old t → IsRunning stage self.new (append t (trace [] end)) }
     {

@@ -52,8 +52,8 @@ impl SumPart {
         }
     }
 
-    /// Adds the items of a source, which have these values, after the others, unless the part is settled. The terminal is the stage
-    /// with this number.
+    /// Adds the items of a source, which have these values, after the others, unless the part is settled. The terminal
+    /// is the stage with this number.
     pub fn push_all<I: SourceItems>(&mut self, stage: u32, source: &I, values: &[i64])
         requires values { item_values (I.items source.now) ≡ values.now }
         ensures stands { (t : Trace) → StandsFor stage self.old t → StandsFor stage self.new (append t (trace (I.items source.now) end.Done)) }
@@ -89,7 +89,8 @@ impl SumPart {
         }
     }
 
-    /// The sum of the whole stream from 0 on, or the fault that ended it. `None` if the stream has to be walked once more, in order.
+    /// The sum of the whole stream from 0 on, or the fault that ended it. `None` if the stream has to be walked once
+    /// more, in order.
     pub fn finish(self) -> Option<Result<i64, Fault>>
         ensures some { IfSome result (λ sum. (stage : ℕ) (t : Trace) → StandsFor stage self t → sum ≡ exact_sum stage t) }
         ensures none { IfNone result (is_running self ≡ false) }

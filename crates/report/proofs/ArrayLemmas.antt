@@ -42,7 +42,7 @@ array_object_is names name vs =
     let rest = codes ",\"name\":" ++ (compact_text (string name) ++ codes "}") in
     ap (λ t. codes "{\"array\":[" ++ (t ++ rest)) (array_items vs) ∙ ap (λ t. codes "{\"array\":[" ++ t) (append_assoc (parted Comma vs) (codes "]") rest)
 
--- the same of an answer that is an array
+-- an answer that is an array, in the object of its job
 pub array_answer : (names : List (List ℕ)) (name : List ℕ) (a : Answer) (vs values : List ℤ) → a ≡ answer.Array vs → values ≡ vs → compact_text (job_json names name a) ≡ array_object name values
 array_answer names name a vs values is same = rw (is, same) (array_object_is names name vs)
 

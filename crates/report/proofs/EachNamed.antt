@@ -1,6 +1,6 @@
 -- The answers of a file's jobs can be printed.
 use Rattle.std.proofs.Common.{◌≡◌, ℕ, ℤ, suc, ◌+◌, ◌<◌, Bool, true, false, List, [], ◌∷◌, ◌++◌, length, length-append, Option, Some, None, Result, Ok, Err, ap, refl, All, arith}
-use Rattle.std.specs.Prelude.{if◌then◌else◌, option_map}
+use Rattle.std.specs.Prelude.{if◌then◌else◌}
 use Rattle.std.specs.List.{AllByRecursion}
 use Rattle.std.proofs.lemmas.List.Elements.{All-from_recursion}
 use Rattle.lambda_values.specs.Earlier.{Numbers}
@@ -8,14 +8,14 @@ use Rattle.trace.specs.declared.item.End.{End}
 use Rattle.trace.specs.declared.item.End.TheVariants as end
 use Rattle.trace.specs.declared.item.Fault.{Fault}
 use Rattle.trace.specs.Trace.{Trace}
-use Rattle.find_ops.specs.Finds.{find_answer}
+use Rattle.find_ops.specs.Finds.{first, any_match, all_match, none_match, find_answer}
 use Rattle.find_ops.specs.declared.find_part.Found.{Found}
 use Rattle.find_ops.specs.declared.find_part.Found.TheVariants as found
-use Rattle.job_language.specs.Jobs.{AbstractTerminal, sum, find, exact_sum, AbstractJob, names_of}
+use Rattle.job_language.specs.Jobs.{AbstractTerminal, sum, count, min, max, to_array, reduce, reduce_from, find, exact_sum, AbstractJob, names_of}
 use Rattle.job_meaning.specs.declared.answer.Answer.{Answer}
 use Rattle.job_meaning.specs.declared.answer.Answer.TheVariants.{Unusable}
 use Rattle.job_meaning.specs.declared.answer.Answer.TheVariants as answer
-use Rattle.job_meaning.specs.Walks.{answer_of, exact_answer, found_answer, instead_of_fault, is_usable, number_as, unless_fault}
+use Rattle.job_meaning.specs.Walks.{answer_of, exact_answer, fallback_as, found_answer, instead_of_fault, is_usable, number_as, unless_fault}
 use Rattle.job_meaning.specs.FileAnswers.{NamedAnswer, answer_after, answers_after, first_unusable, found, found_later, meaning_of, numbers_named, or_else, unless_unusable, unusable_at}
 use Rattle.job_meaning.specs.Names.{names_in_job, same_name}
 use Rattle.report.specs.Named.{IsNamed}
@@ -38,17 +38,34 @@ usable n env (find d) t = usable_find (find_answer d n env t)
 usable n env exact_sum t = usable_exact _
 usable n env d t = usable_or_fault t.ending _ (λ i is. cc)
 
--- a number in place of a fault is no such answer either
-usable_number : (d : AbstractTerminal) (z : ℤ) (i : ℕ) → number_as d z ≡ Unusable i → ⊥
-usable_number sum z i is = cc
-usable_number d z i is = cc
+-- a number that is given after a fault is no answer of this kind either
+usable_number : (d : AbstractTerminal) (z : ℤ) (a : Answer) → number_as d z ≡ Some a → (i : ℕ) → a ≡ Unusable i → ⊥
+usable_number (find first) z a gives i is = let e = gives in cc
+usable_number (find (any_match p)) z a gives i is = let e = gives in cc
+usable_number (find (all_match p)) z a gives i is = let e = gives in cc
+usable_number (find (none_match p)) z a gives i is = let e = gives in cc
+usable_number sum z a gives i is = let e = gives in cc
+usable_number count z a gives i is = let e = gives in cc
+usable_number min z a gives i is = let e = gives in cc
+usable_number max z a gives i is = let e = gives in cc
+usable_number to_array z a gives i is = let e = gives in cc
+usable_number (reduce f) z a gives i is = let e = gives in cc
+usable_number (reduce_from b f) z a gives i is = let e = gives in cc
+usable_number exact_sum z a gives i is = let e = gives in cc
 
-usable_instead : (d : AbstractTerminal) (o : Option ℤ) (a : Answer) → ((i : ℕ) → a ≡ Unusable i → ⊥) → (i : ℕ) → instead_of_fault (option_map (number_as d) o) a ≡ Unusable i → ⊥
-usable_instead d None a other i is = other i is
-usable_instead d (Some z) (answer.Fault f) other i is = usable_number d z i is
-usable_instead d (Some z) a other i is = other i is
+usable_fallback : (d : AbstractTerminal) (o : Option ℤ) (a : Answer) → fallback_as d o ≡ Some a → (i : ℕ) → a ≡ Unusable i → ⊥
+usable_fallback d None a gives i is = let e = gives in cc
+usable_fallback d (Some z) a gives i is = usable_number d z a gives i is
 
--- ---- the place of a job that is named is that of an earlier one
+usable_either : (b : Option Answer) (a : Answer) → ((c : Answer) → b ≡ Some c → (i : ℕ) → c ≡ Unusable i → ⊥) → ((i : ℕ) → a ≡ Unusable i → ⊥) → (i : ℕ) → instead_of_fault b a ≡ Unusable i → ⊥
+usable_either None a one other i is = other i is
+usable_either (Some c) (answer.Fault f) one other i is = one c refl i is
+usable_either (Some c) a one other i is = other i is
+
+usable_instead : (d : AbstractTerminal) (o : Option ℤ) (a : Answer) → ((i : ℕ) → a ≡ Unusable i → ⊥) → (i : ℕ) → instead_of_fault (fallback_as d o) a ≡ Unusable i → ⊥
+usable_instead d o a other i is = usable_either (fallback_as d o) a (usable_fallback d o) other i is
+
+-- ---- the place of a job that is named is the place of an earlier one
 
 chosen_low : (b : Bool) (a : Answer) (o : Option (ℕ × Answer)) (n : ℕ) → ((f : ℕ × Answer) → o ≡ Some f → f.0 < n) → (f : ℕ × Answer) → (if b then Some (0, a) else found_later o) ≡ Some f → f.0 < suc n
 chosen_low true a o n low f is = let e : 0 ≡ f.0 = ap (λ (g : ℕ × Answer). g.0) (let z : (0, a) ≡ f = cc in z) in omega arith

@@ -11,7 +11,7 @@ pub signed_minus : (z : ℤ) → int_le (pos 0) z ≡ false → 45 ∷ decimal (
 signed_minus (pos n) negative = absurd (true≢false (sym (leb-zero n) ∙ negative))
 signed_minus (negsuc n) negative = refl
 
--- the text of numbers in a row is that of some, and then that of the others
+-- the text of numbers in a row is the text of some, and then the text of the others
 pub further-append : (separator : List ℕ) (xs ys : List ℤ) → further separator (xs ++ ys) ≡ further separator xs ++ further separator ys
 further-append separator [] ys = refl
 further-append separator (x ∷ xs) ys = ap (λ t. separator ++ signed_decimal x ++ t) (further-append separator xs ys) ∙ sym (append_assoc (separator ++ signed_decimal x) (further separator xs) (further separator ys))

@@ -7,7 +7,7 @@ use Rattle.report.specs.AnswerForms.{further}
 use Rattle.report.specs.Runs.{runs_in}
 use Rattle.report.proofs.NumberLemmas.{further-append}
 
--- the numbers of the runs up to one, and then those of that one
+-- the numbers of the runs up to one, and then the numbers of that one
 pub run_on : (runs : List (Bor (List ℤ))) (n : ℕ) (d : Bor (List ℤ)) → n < length runs → runs_in (take (n + 1) runs) ≡ runs_in (take n runs) ++ (get_or runs n d).now
 run_on runs n d below =
     ap runs_in (take_more runs n d below) ∙ flat_map-append (λ run. run.now) (take n runs) (get_or runs n d ∷ [])
@@ -17,7 +17,7 @@ run_on runs n d below =
 abbrev pub numbers_in : List (Vec (Bor (List ℤ)) Global) → List ℤ
 numbers_in groups = flat_map (λ group. runs_in group.items) groups
 
--- each text is that of the numbers of the group at its place
+-- each text is the text of the numbers of the group at its place
 abbrev pub AreTexts : List ℕ → List (Vec (Bor (List ℤ)) Global) → List (Vec ℕ Global) → Type 0
 AreTexts separator groups texts =
     (n : ℕ) (g : Vec (Bor (List ℤ)) Global) (t : Vec ℕ Global) → n < length groups → (get_or texts n t).items ≡ further separator (runs_in (get_or groups n g).items)

@@ -19,7 +19,7 @@ pieces_at (q ∷ pieces) (suc i) p below here =
     rw next (ap (λ t. q.items ++ t) (pieces_at pieces i p (omega arith) here)
     ∙ sym (append_assoc q.items (joined_bytes (take i pieces)) (p.items ++ joined_bytes (drop (i + 1) pieces))))
 
--- the same of a report's bytes
+-- a report's bytes: the pieces before one, that one, and the pieces after it
 report_at : (pieces : List (Vec ℕ Global)) (last : List ℕ) (i : ℕ) (p : Vec ℕ Global) → i < length pieces → p ≡ get_or pieces i p
     → bytes_of pieces last ≡ joined_bytes (take i pieces) ++ (p.items ++ (joined_bytes (drop (i + 1) pieces) ++ last))
 report_at pieces last i p below here =

@@ -1,4 +1,4 @@
--- Design: small files of jobs, in the terms of the definitions, whose reports are worked out.
+-- Design: small files of jobs, as terms of the definitions, and their reports.
 use Rattle.std.specs.Prelude.{ℕ, ℤ, pos, negsuc, List, [], ◌∷◌, codes, None, Some}
 use Rattle.lambda_values.specs.Term.{number, parameter, reference, binary, Truth, compare}
 use Rattle.lambda_values.specs.declared.operator.BinaryOperator.TheVariants.{Add, Divide, Subtract}
@@ -12,7 +12,7 @@ use Rattle.job_language.specs.Jobs.{AbstractPlainSource, range, values, Abstract
 abbrev pub job : List ℕ → AbstractPlainSource → List AbstractJobStage → AbstractTerminal → AbstractJob
 job name source stages terminal = record { name = name; sources = source ∷ []; stages = stages; terminal = terminal; on_fault = None }
 
--- helper: the same job, with a number in place of a fault
+-- helper: the job, with a number to give after a fault
 abbrev pub with_fallback : ℤ → AbstractJob → AbstractJob
 with_fallback z j = record { name = j.name; sources = j.sources; stages = j.stages; terminal = j.terminal; on_fault = Some z }
 

@@ -13,8 +13,8 @@ use stream_tokens::Bytes;
 
 /// The report of answers as JSON: an object per job, in the order given, and then a line feed.
 ///
-/// The names are texts in UTF-8, as those of every job file are. The numbers of an array are written as `text` writes
-/// them; of each other job the object is built first, and dropped when its text is written.
+/// The names are texts in UTF-8, as in every job file. The numbers of an array are written as `text` writes them. For
+/// every other job the object is built first, and dropped when its text is written.
 ///
 /// For other programs: `streamrun` makes long arrays on threads, by `json_by`.
 pub fn json(alloc: Global, names: &[Bytes], answers: &[Answer]) -> Result<Vec<u8>, NoMemory>

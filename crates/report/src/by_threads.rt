@@ -12,8 +12,8 @@ use std::alloc::Global;
 use std::thread;
 use std::thread::Threads;
 
-/// The text of the numbers after the first one, each after the separator: the others of its piece, and those of the pieces
-/// after that. Each text is that of `size` numbers, the last one of fewer, and is made on a thread of its own.
+/// The text of the numbers after the first one, each after the separator: the others of its piece, and the numbers of
+/// the pieces after that. Each text has `size` numbers, the last one perhaps fewer, and is made on a thread of its own.
 pub(crate) fn others_by<H: Threads + Sync>(
     rt: &H,
     alloc: Global,

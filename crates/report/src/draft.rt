@@ -44,8 +44,8 @@ impl Draft {
         Report::of_pieces(self.pieces, self.last)
     }
 
-    /// Adds the numbers of an array, parted by the separator. If they are many, the text of all but the first one is made in
-    /// pieces, on as many threads as there are workers.
+    /// Adds the numbers of an array, with the separator between them. If they are many, the text of all but the first
+    /// one is made in pieces, by a thread for each worker.
     pub(crate) fn add_numbers<H: Threads + Sync>(
         &mut self,
         rt: &H,
@@ -68,8 +68,8 @@ impl Draft {
         write_others(&mut self.last, separator, rest, pieces)
     }
 
-    /// Adds the numbers after the first one, each after the separator: made on a thread for each `size` of them, or on this one
-    /// if memory for that is refused.
+    /// Adds the numbers after the first one, each after the separator: made on a thread for each `size` of them, or on
+    /// this one if memory for that is refused.
     fn add_others<H: Threads + Sync>(
         &mut self,
         rt: &H,

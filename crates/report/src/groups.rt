@@ -1,4 +1,4 @@
-//! Numbers that lie in pieces, in groups of the same size, so that each thread has as many of them.
+//! Numbers that lie in pieces, in groups of one size, so that all threads have equally many.
 ghost use Rattle.std.specs.Prelude.{◌≡◌, ◌++◌, flat_map, IfOk, OnOk};
 ghost use Rattle.report.specs.Groups.{grouped};
 ghost use Rattle.report.specs.Runs.{runs_in};
@@ -18,7 +18,7 @@ pub(crate) struct Groups<'a> {
 }
 
 impl<'a> Groups<'a> {
-    /// These numbers, and then those of the pieces, in groups of `size` numbers; the last group has fewer.
+    /// These numbers, and then the numbers of the pieces, in groups of `size` numbers; the last group may have fewer.
     pub(crate) fn of(
         alloc: Global,
         rest: &'a [i64],

@@ -1,4 +1,4 @@
-//! The same report as JSON, in which several threads make the text of a long array.
+//! The report as JSON, in which several threads make the text of a long array.
 ghost use Rattle.report.specs.AnswerForms.{job_json};
 ghost use Rattle.report.specs.Json.{report_json};
 ghost use Rattle.report.specs.Named.{IsNamed, IsText};
@@ -18,8 +18,8 @@ use std::alloc::Global;
 use std::thread::Threads;
 use stream_tokens::Bytes;
 
-/// The same bytes as `json` gives. The text of a long array is made in pieces on as many threads as there are workers, as
-/// `text_by` makes it.
+/// The bytes that `json` gives. The text of a long array is made in pieces by a thread for each worker, as `text_by`
+/// makes it.
 pub fn json_by<H: Threads + Sync>(
     rt: &H,
     alloc: Global,

@@ -1,7 +1,7 @@
-//! The same report as text, in which several threads make the text of a long array.
+//! The report as text, in which several threads make the text of a long array.
 //!
-//! All that takes the time of a long array is the text of its numbers after the first one. Each thread makes that of a
-//! part of them, into a piece of its own.
+//! What takes time in a long array is the text of its numbers after the first one. Each thread makes the text of a part
+//! of them, into a piece of its own.
 ghost use Rattle.report.specs.AnswerForms.{array_text};
 ghost use Rattle.report.specs.Named.{IsNamed};
 ghost use Rattle.report.specs.Pieces.{draft_bytes};
@@ -18,10 +18,10 @@ use std::alloc::Global;
 use std::thread::Threads;
 use stream_tokens::Bytes;
 
-/// The same bytes as `text` gives. The text of a long array is made in pieces on as many threads as there are workers.
+/// The bytes that `text` gives. The text of a long array is made in pieces by a thread for each worker.
 ///
-/// The pieces aren't copied. With one worker, and for arrays of few numbers, no thread is started. If a thread, or memory for
-/// a piece, is refused, the text is made as `text` makes it.
+/// The pieces aren't copied. With one worker, and for arrays of few numbers, no thread is started. If a thread, or
+/// memory for a piece, is refused, the text is made as `text` makes it.
 pub fn text_by<H: Threads + Sync>(
     rt: &H,
     alloc: Global,

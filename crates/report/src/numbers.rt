@@ -40,7 +40,8 @@ pub(crate) fn write_numbers(
     write_others(text, separator, rest, pieces)
 }
 
-/// The first number of pieces, the others of its piece, and the pieces after that one. Pieces without numbers are skipped.
+/// The first number of pieces, the others of its piece, and the pieces after that one. Pieces without numbers are
+/// skipped.
 pub(crate) fn split_first(pieces: &[Vec<i64>]) -> Option<(i64, &[i64], &[Vec<i64>])>
     ensures some { IfSome result (λ found. flat_map (λ piece. piece.items) pieces.now
         ≡ found.0 ∷ (found.1.now ++ flat_map (λ piece. piece.items) found.2.now)) }
@@ -56,8 +57,8 @@ pub(crate) fn split_first(pieces: &[Vec<i64>]) -> Option<(i64, &[i64], &[Vec<i64
     None
 }
 
-/// Appends the numbers after the first one, each after the separator: the others of its piece, and those of the pieces after
-/// that.
+/// Appends the numbers after the first one, each after the separator: the others of its piece, and the numbers of the
+/// pieces after that.
 pub(crate) fn write_others(
     text: &mut Vec<u8>,
     separator: Separator,

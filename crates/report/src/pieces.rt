@@ -29,8 +29,8 @@ impl Model for Report {
 }
 
 impl Report {
-    /// A report of the pieces and of what comes after them, if a `u64` counts its bytes, as it does of all that fits into
-    /// a memory.
+    /// A report of the pieces and of what comes after them, if a `u64` counts its bytes, as it does of all that fits
+    /// into a memory.
     pub(crate) fn of_pieces(pieces: Vec<Vec<u8>>, last: Vec<u8>) -> Result<Report, NoMemory>
         ensures ok { IfOk result (λ report. report ≡ bytes_of pieces.items last.items) }
         ensures err { OnErr result (pieces.items ≢ []) }
@@ -72,7 +72,7 @@ pub fn write_report<W: CountedWrite>(writer: &mut W, report: &Report) -> Result<
     write_after(writer, &report.last, written)
 }
 
-/// Writes the bytes of a report of which this many have gone out.
+/// Writes the rest of the bytes of a report, after the first `written` ones.
 fn write_after<W: CountedWrite>(
     writer: &mut W,
     bytes: &[u8],

@@ -21,10 +21,11 @@ pub fn worked_reports()
         report_text (names_of jobs) (meaning_of jobs) ≡ codes "w = -9223372036854775808\nq = [-1, -1]\n" }
 {}
 
-/// What they give for small files of the other kinds of jobs. A prefix of positions leaves the other items, and positions past
-/// the last item are a fault of the stage. A job is unusable because of the first bad job that it names. An exact sum has its
-/// fault at the item that takes it out of 64 bits, before a later fault of the walk. A number for a fault is an answer like
-/// others, and an empty optional stays. A slice that has ended meets no later fault; an item that is skipped still has one.
+/// What the definitions give for small files of the other kinds of jobs. A prefix of positions leaves the other items,
+/// and positions past the last item are a fault of the stage. A job is unusable because of the first bad job that it
+/// names. An exact sum has its fault at the item that takes it out of 64 bits, before a later fault of the walk. A
+/// number for a fault is an answer like others, and an empty optional stays. A slice that has ended meets no later
+/// fault; an item that is skipped still has one.
 pub fn worked_reports_of_each_kind()
     ensures prefixes { report_text (names_of adds_up) (meaning_of adds_up)
         ≡ codes "p = [10, 1, 3, 6, 4]\no = fault out-of-array stage 1 item -\na = [10, 11, 13, 16, 20]\n" }
@@ -38,8 +39,8 @@ pub fn worked_reports_of_each_kind()
         ≡ codes "l = [-1, -1, -2, -2, -3, -5, -10]\nh = fault divide-by-zero stage 1 item 7\nk = fault divide-by-zero stage 1 item 2\nt = [4, 5]\nw = [-5, -10]\n" }
 {}
 
-/// What they give for the version of a file and for the texts of its jobs: `version 2` says it in the first line that isn't
-/// skipped, and is a job's text elsewhere.
+/// What the definitions give for the version of a file and for the texts of its jobs: `version 2` says it in the first
+/// line that isn't skipped, and is a job's text elsewhere.
 pub fn worked_versions()
     ensures two { version_of file_of_version_two ≡ 2 }
     ensures two_texts { job_texts_of file_of_version_two

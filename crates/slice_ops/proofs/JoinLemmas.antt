@@ -153,7 +153,7 @@ module _ (n : ℕ) (env : Numbers) (a b : Trace) where
   done_joined : (c : Trace) → a.ending ≡ end.Done → append a c ≡ trace (a.items ++ c.items) c.ending
   done_joined c h = ap (λ (e : End). then_on a.items e c) h
 
-  -- the parts of two pieces, of which the left one goes on
+  -- the parts of two pieces, where the left one goes on
   pub limits_join : (k : ℕ) → a.ending ≡ end.Done → limited k (append a (limited k b)) ≡ limited k (append a b)
   limits_join k done = ap (limited k) (done_joined (limited k b) done) ∙ by_size k a.items b (nat_lt (length b.items) k) refl ∙ sym (ap (limited k) (done_joined b done))
 

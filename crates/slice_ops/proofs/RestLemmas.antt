@@ -73,7 +73,7 @@ skip_on : (k : ℕ) (xs : List Item) (e : End) (later : Trace) → skipped k (th
 skip_on k xs end.Done later = ap (λ (ys : List Item). trace ys later.ending) (drop_over k xs later.items)
 skip_on k xs (end.Fault f) later = refl
 
--- as many items are still dropped
+-- the number of items that are still dropped
 pub skip_goes_on : (k : ℕ) (a later : Trace) → skipped k (append a later) ≡ append (skipped k a) (skipped (k - length a.items) later)
 skip_goes_on k a later = skip_on k a.items a.ending later
 

@@ -1,4 +1,4 @@
--- Condition: what the part of a slice stands for.
+-- Condition: which walk the part of a slice describes.
 use Rattle.std.specs.Prelude.{◌≡◌, ℕ, Bool, true, false, not, nat_lt, List, [], ◌∷◌, ◌++◌, length, Option, Some, None, is_some}
 use Rattle.lambda_values.specs.Earlier.{Numbers}
 use Rattle.trace.specs.declared.item.Item.{Item}
@@ -37,7 +37,7 @@ IsJoined (skip k) t right_stops kept joined_stops = (kept ≡ t) × (joined_stop
 IsJoined (take_while p) t right_stops kept joined_stops = (kept ≡ t) × (joined_stops ≡ right_stops)
 IsJoined (drop_while p) t right_stops kept joined_stops = (kept ≡ t) × (joined_stops ≡ right_stops)
 
--- whether nothing after a piece matters, of which the chunk ends so
+-- whether nothing after a piece matters; its chunk has this end
 abbrev pub is_settled_by : End → Bool → Bool
 is_settled_by end.Done stopped = stopped
 is_settled_by (end.Fault f) stopped = true
@@ -70,7 +70,7 @@ abbrev pub before_stop : Option (ℕ × End) → List Item → ℕ
 before_stop None xs = length xs
 before_stop (Some p) xs = p.0
 
--- as many of the items come before the first one at which the test of a `takeWhile` isn't true; the other slices ask nothing
+-- the number of items before the first one at which the test of a `takeWhile` isn't true; the other slices ask nothing
 abbrev pub IsFront : AbstractSlice → ℕ → Numbers → List Item → ℕ → Type 0
 IsFront (limit k) n env xs front = Unit {0}
 IsFront (skip k) n env xs front = Unit {0}

@@ -17,14 +17,14 @@ rest_of (rest.Skip k) = skip k
 rest_of (rest.TakeWhile p) = take_while (truth_of p.now)
 rest_of (rest.DropWhile p) = drop_while (truth_of p.now)
 
--- as many of the items come before the first one at which the test of the slice isn't true; `limit` and `skip` ask nothing
+-- the number of items before the first one at which the test of the slice isn't true; `limit` and `skip` ask nothing
 abbrev pub IsTested : AbstractSlice → ℕ → Numbers → List Item → ℕ → Type 0
 IsTested (limit k) n env xs front = Unit {0}
 IsTested (skip k) n env xs front = Unit {0}
 IsTested (take_while p) n env xs front = front ≡ before_stop (stop_at (front_ends p n env) xs) xs
 IsTested (drop_while p) n env xs front = front ≡ before_stop (stop_at (front_ends p n env) xs) xs
 
--- the front ends so after as many items, if it ends
+-- the front has this many items and then ends as said, if it ends
 abbrev pub stop_after : ℕ → Option End → Option (ℕ × End)
 stop_after front None = None
 stop_after front (Some e) = Some (front, e)

@@ -19,7 +19,7 @@ pub data AbstractSlice : Type 0 where
   take_while : Truth → AbstractSlice
   drop_while : Truth → AbstractSlice
 
--- what a stage of the program stands for
+-- the slice that a stage of the program means
 abbrev pub slice_of : Slice → AbstractSlice
 slice_of (slice.Limit k) = limit k
 slice_of (slice.Skip k) = skip k

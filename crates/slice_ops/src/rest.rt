@@ -1,4 +1,4 @@
-// What slices do with a walk that comes in parts, one after the other.
+//! What slices do with a walk that comes in parts, one after the other.
 
 ghost use Rattle.std.specs.Prelude.{◌≡◌, ◌≤◌, ◌-◌, ℕ, [], true, length, take, drop};
 ghost use Rattle.lambda_values.specs.Earlier.{Numbers};
@@ -10,7 +10,7 @@ ghost use Rattle.slice_ops.specs.Parts.{before_stop};
 ghost use Rattle.slice_ops.specs.Rests.{IsTested, rest_of, stop_after};
 ghost use Rattle.slice_ops.specs.Slices.{dropped, front_ends, slice_of, sliced, taken};
 
-use super::shorten::Front;
+use super::shorten::FrontTest;
 use super::slice_part::Slice;
 use lambda_values::{BoolExpr, Env};
 use trace::{End, EndTest, SourceItems};
@@ -53,8 +53,8 @@ impl<'a> SliceRest<'a> {
         }
     }
 
-    /// What the slice makes of the items of a source. Of `takeWhile` and `dropWhile`, `front` is how many of them come before the
-    /// first one at which the test isn't true; the test is evaluated at that one alone. It takes no memory.
+    /// What the slice makes of the items of a source. Of `takeWhile` and `dropWhile`, `front` is how many of them come
+    /// before the first one at which the test isn't true; the test is evaluated at that one alone. It takes no memory.
     ///
     /// The slice is the stage with this number.
     pub fn cut<I: SourceItems>(self, stage: u32, env: &Env, source: &I, front: u64) -> SliceCut<'a>
@@ -83,7 +83,7 @@ impl<'a> SliceRest<'a> {
         }
     }
 
-    /// How a walk ends after the slice that ends so with no further item.
+    /// How a walk ends after the slice, if it ends as said with no further item.
     pub fn end_after(&self, end: End) -> End
         ensures { (stage : ℕ) (env : Numbers) → sliced (rest_of self.now) stage env (trace [] end) ≡ trace [] result }
     {
@@ -180,7 +180,7 @@ fn cut_before<'a, I: SourceItems>(
     }
 }
 
-/// How the front of a source's items ends, of which as many come before its end: `None` if it is all of them.
+/// How the front of a source's items ends, if `front` items come before its end: `None` if the front is all of them.
 fn stop_in<I: SourceItems>(
     test: &BoolExpr,
     stage: u32,
@@ -194,6 +194,6 @@ fn stop_in<I: SourceItems>(
     if front == source.count() {
         return None;
     }
-    let first = Front { stage, test, env };
+    let first = FrontTest { stage, test, env };
     first.end_before(source.item_at(front))
 }

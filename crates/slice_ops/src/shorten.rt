@@ -1,4 +1,4 @@
-// Chunks that such a stage shortens in place.
+//! Chunks that a slice shortens in place.
 
 ghost use Rattle.std.specs.Prelude.{◌≡◌, length, nat_lt, not, is_some};
 ghost use Rattle.lambda_values.specs.Term.{truth_of};
@@ -34,25 +34,25 @@ pub fn take_while(chunk: &mut Chunk, stage: u32, test: &BoolExpr, env: &Env) -> 
     ensures kept { chunk.new ≡ taken (truth_of test.now) stage env.now chunk.old }
     ensures enough { result ≡ is_some (stop_at (front_ends (truth_of test.now) stage env.now) chunk.old.items) }
 {
-    chunk.keep_until(&Front { stage, test, env })
+    chunk.keep_until(&FrontTest { stage, test, env })
 }
 
 /// Keeps the items from the first one on at which the test is false, or a fault of the test alone.
 pub fn drop_while(chunk: &mut Chunk, stage: u32, test: &BoolExpr, env: &Env)
     ensures { chunk.new ≡ dropped (truth_of test.now) stage env.now chunk.old }
 {
-    chunk.keep_from(&Front { stage, test, env });
+    chunk.keep_from(&FrontTest { stage, test, env });
 }
 
 /// The front of a walk, which ends before the first item at which the test isn't true.
 #[derive(Clone, Copy)]
-pub(super) struct Front<'a> {
+pub(super) struct FrontTest<'a> {
     pub(super) stage: u32,
     pub(super) test: &'a BoolExpr,
     pub(super) env: &'a Env,
 }
 
-impl EndTest for Front<'_> {
+impl EndTest for FrontTest<'_> {
     ghost stops = { λ front. front_ends (truth_of front.test.now) front.stage front.env.now };
 
     fn end_before(&self, item: Item) -> Option<End> {

@@ -1,4 +1,4 @@
-// What a slice keeps of the pieces of a stream, and how the pieces join in encounter order.
+//! What a slice keeps of the pieces of a stream, and how the pieces join in encounter order.
 
 ghost use Rattle.std.specs.Prelude.{◌≡◌, ◌≢◌, ◌<◌, ℕ, false, [], ◌∷◌, IfOk, IfErr, OnOk, OnErr, is_some, length};
 ghost use Rattle.lambda_values.specs.Earlier.{Numbers};
@@ -9,7 +9,7 @@ ghost use Rattle.trace.specs.declared.item.End.TheVariants as end;
 ghost use Rattle.slice_ops.specs.Parts.{AreAdded, IsAdded, IsFront, IsJoined, IsKept, StandsFor, before_stop, is_settled};
 ghost use Rattle.slice_ops.specs.Slices.{AbstractSlice, front_ends, slice_of, sliced, taken};
 
-use super::shorten::{Front, drop_while, limit, skip, take_while};
+use super::shorten::{FrontTest, drop_while, limit, skip, take_while};
 use lambda_values::{BoolExpr, Env};
 use trace::{Chunk, End, EndTest, Item, NoMemory, SourceItems};
 
@@ -68,8 +68,8 @@ impl<'a> SlicePart<'a> {
         Ok(())
     }
 
-    /// The part of the piece and the items of a source after it. Of `takeWhile`, `front` is how many of them come before
-    /// the first one at which the test isn't true; the test is evaluated at that one alone.
+    /// The part of the piece and the items of a source after it. Of `takeWhile`, `front` is how many of them come
+    /// before the first one at which the test isn't true; the test is evaluated at that one alone.
     ///
     /// If the allocation fails, the part stays as it was. Without items it takes no memory.
     pub fn push_all<I: SourceItems>(
@@ -96,7 +96,7 @@ impl<'a> SlicePart<'a> {
         self.slice
     }
 
-    /// The part of the piece if it ends so. It takes no memory.
+    /// Ends the piece as said. It takes no memory.
     pub fn end_with(&mut self, end: End)
         ensures { (d : AbstractSlice) (stage : ℕ) (env : Numbers) (t : Trace) → StandsFor d stage env self.old t
             → StandsFor d stage env self.new (append t (trace [] end)) }
@@ -118,8 +118,8 @@ impl<'a> SlicePart<'a> {
 
     /// The part of two pieces that lie side by side.
     ///
-    /// If the allocation fails, both parts come back. It takes no memory if nothing matters after the left piece, or if the
-    /// right one keeps no item.
+    /// If the allocation fails, both parts come back. It takes no memory if nothing matters after the left piece, or if
+    /// the right one keeps no item.
     pub fn join(
         mut self,
         right: SlicePart<'a>,
@@ -208,7 +208,7 @@ fn add_to(
             Ok(false)
         }
         Slice::TakeWhile(test) => {
-            let front = Front { stage, test, env };
+            let front = FrontTest { stage, test, env };
             if let Some(end) = front.end_before(item) {
                 chunk.end_with(end);
                 return Ok(true);
@@ -247,8 +247,7 @@ fn add_all<I: SourceItems>(
     }
 }
 
-/// Adds the items before the first one at which the test isn't true, of which `front` is the position. The answer says
-/// whether there is one.
+/// Adds items `0..front`; `front` is the first item that fails the test. The answer says whether there is one.
 fn add_front<I: SourceItems>(
     stage: u32,
     test: &BoolExpr,
@@ -268,7 +267,7 @@ fn add_front<I: SourceItems>(
     if front == source.count() {
         return Ok(false);
     }
-    let first = Front { stage, test, env };
+    let first = FrontTest { stage, test, env };
     if let Some(end) = first.end_before(source.item_at(front)) {
         chunk.end_with(end);
     }

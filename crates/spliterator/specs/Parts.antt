@@ -1,4 +1,4 @@
--- Condition: the values and items that the spliterators have left.
+-- Condition: what the spliterators have left.
 use Rattle.std.specs.Prelude.{ℤ, ◌+ℤ◌, pos, ◌-◌, ◌/◌, List, [], ◌∷◌, ◌++◌, length, take}
 use Rattle.trace.specs.declared.item.Item.{Item}
 use Rattle.trace.specs.Cover.{counted, placed}
@@ -27,8 +27,8 @@ front_before [] others later = others
 front_before (v ∷ vs) others [] = take (length (v ∷ vs) / 2) (v ∷ vs)
 front_before (v ∷ vs) others (w ∷ ws) = v ∷ vs
 
--- the values that a split of these parts hands out: the first part with values, whole, if a later part has some too; otherwise
--- the first half of it
+-- the values that a split of these parts hands out: the first part with values, whole, if a later part has some too;
+-- otherwise the first half of it
 abbrev pub front_of : List PlainSplit → List ℤ
 front_of [] = []
 front_of (p ∷ ps) = front_before (plain_values p) (front_of ps) (all_values ps)

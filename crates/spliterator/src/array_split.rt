@@ -1,4 +1,4 @@
-// Values in a slice.
+//! Values in a slice.
 
 ghost use Rattle.std.specs.Prelude.{◌≡◌, ◌+◌, ◌/◌, ◌^◌, ◌<◌, ◌≤◌, length, IfSome, IfNone};
 ghost use Rattle.trace.specs.Cover.{placed};

@@ -1,4 +1,4 @@
-// The flags of characteristics, with the values of `java.util.Spliterator` (Java SE 17).
+//! The flags of characteristics, with the values of `java.util.Spliterator` (Java SE 17).
 
 /// No value comes twice.
 pub const DISTINCT: u32 = 0x1;

@@ -1,4 +1,4 @@
-// Sources one after the other.
+//! Sources one after the other.
 
 ghost use Rattle.std.specs.Prelude.{◌≡◌, ℕ, ◌+◌, ◌^◌, ◌<◌, ◌≤◌, length, ◌++◌, [], ◌∷◌, IfSome, IfNone};
 ghost use Rattle.trace.specs.Cover.{placed};

@@ -1,4 +1,4 @@
-// What every spliterator owes its callers.
+//! What every spliterator owes its callers.
 
 ghost use Rattle.std.specs.Prelude.{◌≡◌, ◌<◌, ℕ, List, [], ◌∷◌, length, IfSome, IfNone, MatchOption};
 ghost use Rattle.trace.specs.declared.item.Item.{Item};

@@ -1,4 +1,4 @@
-// Sources that aren't concatenations.
+//! Sources that aren't concatenations.
 
 ghost use Rattle.std.specs.Prelude.{◌≡◌, ◌/◌, ◌<◌, List, length, IfSome, IfNone};
 ghost use Rattle.trace.specs.declared.item.Item.{Item};

@@ -1,4 +1,4 @@
-// Integers that count up by 1.
+//! Integers that count up by 1.
 
 ghost use Rattle.std.specs.Prelude.{◌≡◌, ℕ, ◌+◌, ◌-◌, ◌/◌, ◌^◌, ◌<◌, ◌≤◌, pos, ◌+ℤ◌, length, FitsSigned, IfSome, IfNone, MatchOption, [], ◌∷◌};
 ghost use Rattle.std.specs.Int.{w64};

@@ -99,7 +99,7 @@ begins_solid text t f =
     let here : slice_index (drop t.from text) 0 ≡ slice_index text t.from = get_or-drop t.from text 0 0 ∙ ap (slice_index text) (let e : t.from + 0 ≡ t.from = omega arith in e) in
     (omega (arith, some.0, some.1, size), omega (arith, some.0, some.1, size), λ blank. first_solid (drop t.from text) t.kind (t.to - t.from) f (ap is_blank here ∙ blank))
 
--- a token of one list begins no later than that of another one
+-- a token of one list begins no later than a token of another one
 no_later : (text : List ℕ) (a : ℕ) (t : Token) (b : ℕ) → a ≤ t.from → IsFirstToken (drop t.from text) t.kind (t.to - t.from) → AreBlank text a b → t.from < b → ⊥
 no_later text a t b low f blank high =
     let s = begins_solid text t f in

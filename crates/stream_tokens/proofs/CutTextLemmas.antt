@@ -12,7 +12,7 @@ use Rattle.stream_tokens.specs.CutTexts.{TokenizedText, shifted, column, part, b
 use Rattle.stream_tokens.specs.CutFields.{tokenized, IsCut}
 use Rattle.stream_tokens.specs.declared.cut_text.CutText.TheInside.{Inside}
 
--- the first token of a text is that of each front that holds it
+-- the first token of a text is the first token of each front that holds it
 shorter : (text : List ℕ) (kind : TokenKind) (n m : ℕ) → n ≤ m → IsFirstToken text kind n → IsFirstToken (take m text) kind n
 shorter text kind n m h (inl f) = inl (record {
   within = let e = length-take m text in let w = f.within in omega arith;
@@ -162,7 +162,7 @@ pub shifted_part : (a x : ℕ) (ts : List Token) (i j : ℕ) → a ≤ x → shi
 shifted_part a x ts i j h =
     ap (shifted (x - a)) (ap (take (j - i)) (shifted_drop a i ts) ∙ shifted_take a (j - i) (drop i ts)) ∙ shifted_twice a x (slice_range ts i j) h
 
--- fields and value have as many tokens
+-- fields and value have equally many tokens
 pub same_length : (c : Inside) (t : TokenizedText) → tokenized c ≡ t → length c.tokens.now ≡ length t.tokens
 same_length c t h = sym (length_shifted c.from c.tokens.now) ∙ ap (λ (t : TokenizedText). length t.tokens) h
 

@@ -7,7 +7,7 @@ use Rattle.stream_tokens.specs.declared.line.LineKind.TheVariants.{Skipped, Cont
 use Rattle.stream_tokens.specs.JobTexts.{NumberedLine, begun, joined, jobs_after, kind_of}
 use Rattle.stream_tokens.specs.TextsLeft.{Texts, HasText}
 
--- the texts that were given and those that are left, or the fault in place of them
+-- the texts that were given and the texts that are left, or a fault and no texts
 abbrev pub with_front : List JobText → Texts → Texts
 with_front texts (Ok more) = Ok (texts ++ more)
 with_front texts (Err fault) = Err fault

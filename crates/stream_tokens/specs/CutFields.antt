@@ -1,4 +1,4 @@
--- Condition: how the fields of a cut text stand for the text and its tokens.
+-- Condition: which text and which tokens the fields of a cut text mean.
 use Rattle.std.specs.Prelude.{◌≤◌, length, slice_range}
 use Rattle.stream_tokens.specs.declared.cut_text.CutText.TheInside.{Inside}
 use Rattle.stream_tokens.specs.Tokens.{CutBetween}
@@ -8,7 +8,7 @@ use Rattle.stream_tokens.specs.CutTexts.{TokenizedText, shifted}
 abbrev pub tokenized : Inside → TokenizedText
 tokenized c = record { bytes = slice_range c.text.now c.from c.to; tokens = shifted c.from c.tokens.now }
 
--- the tokens are those of these bytes
+-- the tokens belong to these bytes
 pub record IsCut (c : Inside) : Type 0 where
   pub within : c.to ≤ length c.text.now
   pub in_order : c.from ≤ c.to

@@ -1,4 +1,4 @@
--- Meaning: the forms of tokens. They are those of Java for ASCII (JLS 17, 3.8 to 3.12), but for what each line says.
+-- Meaning: the forms of tokens, as in Java for ASCII (JLS 17, 3.8 to 3.12), but for what each line says.
 use Rattle.std.specs.Prelude.{◌≡◌, ℕ, ◌<◌, true, not, List, [], ◌∷◌, ◌++◌, length}
 use Rattle.std.specs.List.{list_all}
 use Rattle.std.specs.Char.{is_ascii_digit}

@@ -25,7 +25,7 @@ pub record NumberedLine : Type 0 where
   pub number : ℕ
   pub bytes : List ℕ
 
--- lines with their numbers, of which n is the first
+-- lines with their numbers, where the first one has n
 abbrev pub numbered : ℕ → List (List ℕ) → List NumberedLine
 numbered n [] = []
 numbered n (line ∷ lines) = record { number = n; bytes = line } ∷ numbered (n + 1) lines

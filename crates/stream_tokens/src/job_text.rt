@@ -48,8 +48,8 @@ impl<T: Drop> From<AllocFailed<T>> for TextFault {
     }
 }
 
-/// The texts of the jobs of a file, one after the other. To contracts they are the texts that are left, or
-/// the fault that stands in place of all of them.
+/// The texts of the jobs of a file, one after the other. To contracts they are the texts that are left, or one fault
+/// and no texts.
 #[derive(Drop)]
 pub struct JobTexts<'a> {
     lines: LinesLeft<'a>,

@@ -1,20 +1,19 @@
 //! The tokens of a text, and the texts of the jobs of a file.
 //!
-//! A text of a job or of a lambda is cut into names, numbers, strings, references and symbols, from
-//! left to right and the longest first (`cut`); a file of jobs is taken apart into the texts of its
-//! jobs, each with the number of its line, all at once (`job_texts`) or one by one (`JobTexts`), and
-//! has a version of the language (`version_of`). Each takes every byte string.
+//! A text of a job or of a lambda is cut into names, numbers, strings, references and symbols, from left to right and
+//! the longest first (`cut`). A file of jobs is taken apart into the texts of its jobs, each with the number of its
+//! line, all at once (`job_texts`) or one by one (`JobTexts`), and has a version of the language (`version_of`). Each
+//! takes every byte string.
 //!
-//! Stands on std alone. The readers of lambdas and of jobs stand on it: `cut`, clause `tokens`, gives
-//! them the one list of tokens that a text has (`one_cut`), and `JobTexts::next_text`, clause `gives`,
-//! the next text.
-//! They match on `TokenKind` and `Symbol`, and read a token's bytes by `Token::text`. `CutText` is a text
-//! with its tokens, or the part of one between two tokens: it is cut once, and columns count from the part.
+//! Stands on std alone. The readers of lambdas and of jobs stand on it: `cut`, clause `tokens`, gives them the one list
+//! of tokens that a text has (`one_cut`), and `JobTexts::next_text`, clause `gives`, the next text. They match on
+//! `TokenKind` and `Symbol`, and read a token's bytes by `Token::text`. `CutText` is a text with its tokens, or the
+//! part of one between two tokens: it is cut once, and columns count from the part.
 //!
 //! Begin with `specs/Tokens.antt`, then `scanner.rt`; for lines with `specs/JobTexts.antt`, then `job_text.rt`.
 //!
-//! Not promised: that a token stands in some grammar. A bad byte, `++`, `--` and a number such as `007`
-//! are cut like all others, and the readers refuse them.
+//! Not promised: that a token is part of some grammar. A bad byte, `++`, `--` and a number like `007` are cut like all
+//! others, and the readers refuse them.
 #![tactic(auto)]
 
 mod bytes;

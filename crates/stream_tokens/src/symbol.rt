@@ -3,7 +3,7 @@ ghost use Rattle.std.specs.Prelude.{◌≡◌, ◌<◌, length};
 ghost use Rattle.stream_tokens.specs.Symbols.{spelling_of};
 ghost use Rattle.stream_tokens.specs.Scanning.{pair_of, single_of, symbol_at};
 
-/// A symbol, named by what it looks like or stands for in an expression.
+/// A symbol, named by its shape or by its meaning in an expression.
 #[derive(Clone, Copy, Debug, PartialEq, Eq)]
 pub enum Symbol {
     /// `->`

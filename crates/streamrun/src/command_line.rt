@@ -69,8 +69,8 @@ fn columns_file<'a>(alloc: Global) -> Arg<'a> {
         .action(ArgAction::Set)
 }
 
-/// An option for a number, with the one that stands for it if it is left out. The name of its value is its
-/// limits, so that each refusal that names an option says them; a negative number is a value too, which is refused as one.
+/// An option for a number, with its default. The name of its value is its limits, so that each refusal that names an
+/// option says them; a negative number is a value too, which is refused as one.
 fn number<'a>(
     alloc: Global,
     name: &'a str,

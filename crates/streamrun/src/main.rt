@@ -44,7 +44,7 @@ fn main(rt: HostRuntime) -> ExitCode {
 
 /// What a run is given: open files, and its settings.
 #[derive(Drop)]
-struct Given {
+struct GivenFiles {
     columns: Option<Counted<File>>,
     jobs: Counted<File>,
     settings: Settings,
@@ -53,7 +53,7 @@ struct Given {
 /// What a command line asks for.
 #[derive(Drop)]
 enum Asked {
-    Run(Given),
+    Run(GivenFiles),
     /// Nothing more: all was said, and this is the exit status.
     End(u8),
 }
@@ -71,7 +71,7 @@ fn read_command_line(rt: &HostRuntime) -> Result<Asked, AllocError> {
     read_words(rt, &given)
 }
 
-/// The same of the words themselves.
+/// Reads the words after the name of the program, and opens the files that they name.
 fn read_words(rt: &HostRuntime, given: &[String]) -> Result<Asked, AllocError> {
     let words: Vec<&str> = given.iter().map(|word| word.as_str()).collect(rt.alloc())?;
     match read_arguments(rt.alloc(), &words) {
@@ -99,7 +99,7 @@ fn opened_by(rt: &HostRuntime, arguments: &Arguments<'_>) -> Result<Asked, Alloc
         None => None,
     };
     match opened(rt, arguments.jobs, "jobs")? {
-        Some(jobs) => Ok(Asked::Run(Given {
+        Some(jobs) => Ok(Asked::Run(GivenFiles {
             columns,
             jobs: counted(jobs),
             settings,
@@ -126,20 +126,19 @@ fn counted(file: File) -> Counted<File> {
     Counted::with_likely_size(file, usize::try_from(size).unwrap_or(0))
 }
 
-/// Runs the jobs of an open file over the columns of another one, and answers the exit status. If standard error is a terminal, a line
-/// there says how far a long run is, on a thread of its own; without that thread there is no line.
+/// Runs the jobs of an open file over the columns of another one, and answers the exit status. If standard error is a
+/// terminal, a line there says how far a long run is, on a thread of its own; without that thread there is no line.
 ///
-/// It takes the runtime twice, for files and for threads: what may wait is proved for any handle that can start threads, and only
-/// `main` may name the one that it has. Whatever calls such a function is proved anew for the handle, with all below it, which takes
-/// minutes: so `main` calls this one directly.
-fn watched_run<H: Threads + Wait + Sync>(rt: &HostRuntime, threads: &H, given: Given) -> u8 {
+/// `rt` opens files. `threads` is the same handle, generic: the prover proves callees again for each concrete handle
+/// type, which takes minutes, and `main` alone may name its type. So `main` calls this function directly.
+fn watched_run<H: Threads + Wait + Sync>(rt: &HostRuntime, threads: &H, given: GivenFiles) -> u8 {
     let progress = Progress::new(rt, threads);
     let progress = &progress;
     thread::scope(thread::scope_env(), threads, move |scope| -> u8 {
         if progress.is_counted() {
             let _ = scope.spawn(move || progress.keep_shown());
         }
-        let Given {
+        let GivenFiles {
             mut columns,
             mut jobs,
             settings,

@@ -1,5 +1,5 @@
-//! How far a long run is: one line on standard error, if that is a terminal. It has at most 39 characters: a line that is
-//! longer than the terminal is wide can't be wiped, and the width can't be asked for.
+//! How far a long run is: one line on standard error, if that is a terminal. It has at most 39 characters: a line that
+//! is longer than the terminal is wide can't be wiped, and the width can't be asked for.
 
 use engine::RunGate;
 use std::io::{IsTerminal, Write};
@@ -20,25 +20,25 @@ const STEP: u64 = 250;
 struct JobProgress {
     /// How many items its first walk goes over, as far as that was known before the jobs ran.
     items: AtomicU64,
-    /// How many positions its pieces have that were entered, those of later walks among them.
+    /// How many positions of its pieces were entered, later walks included.
     entered: AtomicU64,
 }
 
 /// The state of the line.
 #[derive(Drop)]
-struct Line {
+struct ShownLine {
     is_shown: bool,
     is_over: bool,
 }
 
 /// What all jobs together have reached.
 #[derive(Drop)]
-struct Reached {
+struct ReachedWork {
     items: u64,
     entered: u64,
 }
 
-impl Reached {
+impl ReachedWork {
     /// How many thousandths of the items were entered; at most 999, since the run goes on as long as a line is shown.
     fn thousandths(&self) -> u64 {
         let share = if self.items < 1_000_000 {
@@ -72,7 +72,7 @@ pub struct Progress<'a, H> {
     known: AtomicU64,
     /// How many jobs have answers.
     answered: AtomicU64,
-    line: Mutex<Line>,
+    line: Mutex<ShownLine>,
     ended: AtomicU64,
 }
 
@@ -98,7 +98,7 @@ impl<'a, H> Progress<'a, H> {
             jobs,
             known: AtomicU64::new(0),
             answered: AtomicU64::new(0),
-            line: Mutex::new(Line {
+            line: Mutex::new(ShownLine {
                 is_shown: false,
                 is_over: false,
             }),
@@ -146,9 +146,10 @@ impl<'a, H> Progress<'a, H> {
         };
     }
 
-    /// What all jobs have reached. A job counts as many positions as its first walk has items, since its later walks enter positions too.
-    fn reached(&self) -> Reached {
-        let mut reached = Reached {
+    /// What all jobs have reached. A job counts only the items of its first walk, since its later walks enter positions
+    /// too.
+    fn reached(&self) -> ReachedWork {
+        let mut reached = ReachedWork {
             items: 0,
             entered: 0,
         };

@@ -34,7 +34,7 @@ pub(crate) type Plain = Counts<(), NoPair>;
 
 pub(crate) type PlainSeat = Seat<(), NoPair>;
 
-// Two nodes, of which the second keeps an arrival at the first, and the first one at END: what each step answered.
+// Two nodes: the second keeps an arrival at the first, and the first one at END. What each step answered.
 fn two_nodes(counts: &Plain, seat: PlainSeat) -> Option<([Node; 2], u64, [Node; 2], u64)>
     requires table { IsSeatOf counts.now seat }
     requires first { view_of seat ≡ first_view 1 }

@@ -1,7 +1,7 @@
 //! Where a part of a list of numbers is cut in two. It stands outside the tests, since definitions of theirs name it.
 ghost use Rattle.std.specs.Prelude.{◌≡◌, ◌+◌, ◌<◌};
 
-/// The numbers of a node: those of its left side are the ones before `middle`.
+/// The numbers of a node. Its left side has the numbers before `middle`.
 #[derive(Clone, Copy)]
 pub struct NumberCut {
     pub from: usize,

@@ -1,7 +1,8 @@
-//! Tests of the public calls of `completion_core`, `pending_count` and `completer_tree`, and callers of them that are proved.
+//! Tests of the public calls of `completion_core`, `pending_count` and `completer_tree`, and callers of them that are
+//! proved.
 //!
-//! Nothing stands on this crate, and it promises nothing. Begin with `counting.rt` and `trees.rt`, the callers that docs/library.md
-//! shows.
+//! Nothing stands on this crate, and it promises nothing. Begin with `counting.rt` and `trees.rt`, the callers that
+//! docs/library.md shows.
 #![tactic(auto)]
 
 #[cfg(test)]

@@ -139,12 +139,13 @@ fn nodes_stand_in_ascending_order(rt: HostRuntime) -> Result<(), Fail> {
     Ok(())
 }
 
-// All but the last four rows were printed by Java 17's own `CountedCompleter` for the same trees, by
+// Java 17's own `CountedCompleter` printed all but the last four rows for these trees, by
 // `java reference/completers/CompleterCalls.java`.
 #[test]
 fn scripts_give_their_replies_as_javas_calls_do(rt: HostRuntime) -> Result<(), Fail> {
     let rows = [
-        // left.tryComplete() leaves top with pending 0; after right.tryComplete() top is done, and left, right, top ran.
+        // left.tryComplete() leaves top with pending 0; after right.tryComplete() top is done, and left, right, top
+        // ran.
         [
             "claim 0; arm 0 1 1 0; claim 0; arm 0 2 0 1; claim 0; arm 0 3 0 1; arrive 0 2; run 0 2; arrive 0 1; arrive 0 3; run 0 3; arrive 0 1; run 0 1; settle 0",
             "node 1; done; node 2; done; node 3; done; last; done; pending 0; last; done; last; done; done",
@@ -156,7 +157,8 @@ fn scripts_give_their_replies_as_javas_calls_do(rt: HostRuntime) -> Result<(), F
             "node 1; done; node 2; done; node 3; done; last; done; pending 0; last; done; last; done; done",
             "3 2 1",
         ],
-        // addToPendingCount(2) makes pending 0 to 2; three times firstComplete() leaves 1, then 0, then answers the task.
+        // addToPendingCount(2) makes pending 0 to 2; three times firstComplete() leaves 1, then 0, then answers the
+        // task.
         [
             "claim 0; arm 0 1 0 0; add 0 1 2; arrive 0 1; arrive 0 1; arrive 0 1",
             "node 1; done; done; pending 1; pending 0; last",
@@ -197,8 +199,9 @@ fn scripts_give_their_replies_as_javas_calls_do(rt: HostRuntime) -> Result<(), F
 
 #[test]
 fn the_first_reason_that_applies_is_given(rt: HostRuntime) -> Result<(), Fail> {
-    // Neither END nor a node that wasn't drawn can be armed, added to, arrived at or run; END's arrivals can be given. What isn't held
-    // comes before an onward node that isn't smaller; a node stands in the list once for each arrival there. Made arrivals count too.
+    // Neither END nor a node that wasn't drawn can be armed, added to, arrived at or run; END's arrivals can be given.
+    // What isn't held comes before an onward node that isn't smaller; a node stands in the list once for each arrival
+    // there. Made arrivals count too.
     let scripts =
         "arm 0 0 0|claim 0; arm 0 2 0|add 0 0 1|arrive 0 0|run 0 0|give 0 1 0 1; give 0 1 1 0|claim 0; arm 1 1 0 9|claim 0; arm 0 1 0; arm 0 1 0 9|claim 0; arm 0 1 0 0 0|claim 0; arm 0 1 0 1 0|claim 0; arm 0 1 0; arrive 1 1|claim 0; arm 0 1 0; add 1 1 18446744073709551615|claim 0; arm 0 1 0; give 0 0 1 2|settle 0; settle 0|claim 0; arm 0 1 1; give 0 1 1 1; arrive 0 1; arrive 1 1; run 1 1; arrive 0 1|\
 claim 0; arm 0 1 0 0; claim 0; arm 0 2 1 1; arrive 0 2; arrive 0 2; run 0 2; arrive 0 1; run 0 1; settle 0; settle 0|\

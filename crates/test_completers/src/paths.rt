@@ -35,7 +35,7 @@ fn first_of(path: &[Node]) -> &[Node]
     if path.is_empty() { path } else { &path[..1] }
 }
 
-// What a path of three nodes with these pending counts answers; the first count is that of the path's first node.
+// What a path of three nodes with these pending counts answers; the first count is for the path's first node.
 fn finished(counts: &Plain, seat: PlainSeat, pending: [u32; 3]) -> Option<usize>
     requires table { IsSeatOf counts.now seat }
     requires plain { (k : ℕ) → count k (view_of seat).sides ≡ 0 }

@@ -15,7 +15,8 @@ use std::thread::Threads;
 
 const NODES: Node = 10_000;
 
-// Where a node keeps an arrival: END for the first node, a smaller one, picked by a multiplicative hash, for each other.
+// Where a node keeps an arrival: END for the first node, a smaller one, picked by a multiplicative hash, for each
+// other.
 fn parent_of(node: Node) -> Node
     ensures { result ≡ parent node }
 {
@@ -57,7 +58,8 @@ fn grow_one(counts: &Plain, seat: PlainSeat, node: Node) -> Option<PlainSeat>
     Some(counts.arm(seat, node, 0, &[parent]))
 }
 
-// Arms all nodes in order, on one seat. Each then owes one arrival for itself, and one for each node whose parent it is.
+// Arms all nodes in order, on one seat. Each then owes one arrival for itself, and one for each node whose parent it
+// is.
 fn grow(counts: &Plain, seat: PlainSeat) -> Option<PlainSeat>
     requires table { IsSeatOf counts.now seat }
     requires first { view_of seat ≡ first_view 1 }
@@ -70,7 +72,8 @@ fn grow(counts: &Plain, seat: PlainSeat) -> Option<PlainSeat>
     Some(seat)
 }
 
-// Arrives at the node, and where that is the last arrival, at what the node kept, and so on up to END. `entered` gets each node that may run.
+// Arrives at the node, and where that is the last arrival, at what the node kept, and so on up to END. `entered` gets
+// each node that may run.
 fn climb(
     counts: &Plain,
     seat: PlainSeat,
@@ -114,7 +117,8 @@ fn climb_all(
     Ok(entered)
 }
 
-// A second seat for the nodes from `middle` on: their arrivals are split off one by one, and each is joined to that seat.
+// A second seat for the nodes from `middle` on: their arrivals are split off one by one, and each is joined to that
+// seat.
 fn hand_over(
     counts: &Plain,
     seat: PlainSeat,
@@ -143,7 +147,7 @@ struct NodeRange {
     to: Node,
 }
 
-// The same on 2^`levels` threads.
+// Climbs from each node of the range, on 2^`levels` threads: the nodes that it entered.
 #[cycle(halves)]
 fn on_threads<R: Threads + Sync>(
     rt: &R,

@@ -1,4 +1,4 @@
-//! Runs of such trees over all numbers.
+//! Runs of trees over all numbers.
 ghost use Rattle.std.specs.Prelude.{◌≡◌, IfSome, length};
 ghost use Rattle.test_completers.specs.Walks.{Walked};
 
@@ -27,7 +27,8 @@ fn walk_as<P: Planned + Send + Sync, R: Threads + Sync>(
     }
 }
 
-/// What the walk of all numbers gives, over a tree of at most `nodes` nodes, whose sides are walked on up to 2^`levels` threads.
+/// What the walk of all numbers gives, over a tree of at most `nodes` nodes, whose sides are walked on up to 2^`levels`
+/// threads.
 pub(crate) fn walk_numbers<R: Threads + Sync>(
     rt: &R,
     alloc: Global,

@@ -71,7 +71,8 @@ fn numbers(alloc: Global, count: u16, bad: &[u16]) -> Result<Vec<i64>, AllocErro
     Ok(numbers)
 }
 
-// Whether the walk gives these numbers, or a fault at the place, over trees of any number of nodes on 1, 2 and 8 threads.
+// Whether the walk gives these numbers, or a fault at the place, over trees of any number of nodes on 1, 2 and 8
+// threads.
 fn gives<R: Threads + Sync>(rt: &R, alloc: Global, numbers: &[i64], fault: Option<u64>) -> bool {
     for nodes in [0, 1, 2, 3, 4096] {
         for levels in [0, 1, 3] {
@@ -159,7 +160,8 @@ fn a_failure_lets_the_other_side_s_value_go(rt: HostRuntime) -> Result<(), Fail>
     Ok(())
 }
 
-// Hands 8 in on the right and then 7 on the left: the top of the tree, the pending count after the first step, and what the last one finds.
+// Hands 8 in on the right and then 7 on the left: the top of the tree, the pending count after the first step, and what
+// the last one finds.
 fn right_side_first(alloc: Global, seven: Shared, eight: Shared) -> Option<(Node, u64, u8)> {
     let (counts, seat) = TreeCounts::<Shared, First>::new(alloc, 1, 0).ok()?;
     let tree = Tree::new(&counts, &[]);

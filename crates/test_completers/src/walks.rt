@@ -46,7 +46,7 @@ impl<P: Planned> PartValue for Items<P> {
     ghost result = { λ _ v. Walked (λ x. x.items.items) P.source 0 (length P.source) v };
 }
 
-/// Puts the numbers of the right side after those of the left one.
+/// Puts the numbers of the right side after the numbers of the left side.
 #[derive(Drop)]
 pub(crate) struct Append<P: Planned> {
     pub(crate) cut: NumberCut,

@@ -1,4 +1,4 @@
--- Condition: that two lists of numbers are the same is a fact.
+-- Condition: that two lists of numbers are equal is a fact.
 use Rattle.std.proofs.Common.{◌≡◌, ℤ, List}
 use Rattle.std.proofs.Props.{props}
 

@@ -7,7 +7,8 @@ ghost use Rattle.job_runner.specs.Stops.{stop_id_of};
 use crate::shown::{columns_of, plan_of};
 use crate::worked::{COLUMNS, FILES};
 use job_plan::{Form, Plan, Settings};
-use job_table::{JobSegments, NoMemory, PlanJobs, Running, TableOpened, TableWork};
+use job_runner::{JobSegments, NoMemory, Running, TableFreshCounts, TableWork};
+use job_table::PlanJobs;
 use std::alloc::{AllocError, Global};
 use std::marker::Brand;
 use std::sync::Wait;
@@ -43,7 +44,8 @@ impl Gate for Open {
     fn at_leaf(&self, _job: usize, _from: u64, _to: u64) {}
 }
 
-/// Runs tasks here, one after the other, with the first of what workers keep, and a `Spawn` that drops the first `drops`.
+/// Runs tasks here, one after the other, with the first of what workers keep, and a `Spawn` that drops the first
+/// `drops`.
 fn run_here<W: Work, H: Wait>(
     rt: &H,
     work: &W,
@@ -70,7 +72,7 @@ fn answers_found<S: JobSegments + Send + Sync, R: Running + Send + Sync, H: Wait
     alloc: Global,
     jobs: &S,
     settings: Settings,
-    opened: TableOpened<S>,
+    opened: TableFreshCounts<S>,
     drops: u64,
 ) -> Result<usize, NoMemory>
 where
@@ -97,7 +99,7 @@ where
     Ok(count)
 }
 
-/// How many answers of these jobs are found after such a run.
+/// How many answers of these jobs are found after a run whose tasks are dropped.
 fn found<S: JobSegments + Send + Sync, H: Wait>(
     rt: &H,
     alloc: Global,
@@ -113,7 +115,7 @@ where
     S::Instead: Send,
     S::Scratch: Send,
 {
-    match TableOpened::<S>::new(alloc, jobs, settings)? {
+    match TableFreshCounts::<S>::new(alloc, jobs, settings)? {
         Some(opened) => answers_found::<S, Brand, H>(rt, alloc, jobs, settings, opened, drops),
         None => Ok(0),
     }
@@ -132,7 +134,7 @@ fn plan_found_as<P: job_table::Planned + Send + Sync, H: Wait>(
     found(rt, alloc, &jobs, settings, drops)
 }
 
-/// How many answers of a plan are found after such a run.
+/// How many answers of a plan are found after a run whose tasks are dropped.
 fn plan_found<H: Wait>(
     rt: &H,
     alloc: Global,
@@ -177,8 +179,8 @@ const DRIVEN: [(&str, u64, u64, u64, usize); 5] = [
     ("s = of(1, 2).sum()", 1, 4096, 1, 0),
 ];
 
-/// The first file of which another number of answers is found: of those of the table, and of each worked one, all of whose answers
-/// are found on any number of nodes.
+/// The first file whose number of found answers isn't the one that the table says. All answers of each worked file are
+/// found, on any number of nodes.
 fn first_other<H: Wait>(rt: &H, alloc: Global) -> Result<Option<&'static str>, AllocError> {
     for (file, threshold, nodes, drops, answers) in DRIVEN {
         if found_of(rt, alloc, file, threshold, nodes, drops)? != answers {

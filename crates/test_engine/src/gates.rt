@@ -19,8 +19,8 @@ pub(crate) enum Holds {
     Number(u64),
 }
 
-/// Counts the leaves, keeps the length of the longest, and may hold one: `turns` says how long, `TURNS` if no leaf was held, or none
-/// let it go.
+/// Counts the leaves, keeps the length of the longest, and may hold one: `turns` says how long, `TURNS` if no leaf was
+/// held, or none let it go.
 #[derive(Drop)]
 pub(crate) struct Watching {
     holds: Holds,
@@ -42,7 +42,7 @@ impl Watching {
         }
     }
 
-    /// Waits until another leaf is entered, or for as many turns as there may be.
+    /// Waits until another leaf is entered, at most this many turns.
     fn hold(&self, turns: u64) {
         for turn in 0..turns {
             if self.entered.load(SeqCst) {

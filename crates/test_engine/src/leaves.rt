@@ -12,12 +12,13 @@ use std::sync::atomic::Ordering::SeqCst;
 use std::test::Fail;
 use std::thread::Threads;
 
-/// How a job is run, and how it is walked: workers, threshold and nodes, the least and the greatest number of leaves, and the greatest
-/// length of one; then the job, and its answer. With `held` the leaf at position 0 is held until another one is entered. `chain` is a
-/// file of 256 jobs. `worked` are the files of worked answers: each is run as often as it has leaves, with one after the other held for
-/// 1,000 turns, and the numbers are of all that were held. The answers and the numbers were worked out by hand. No clause says that a
-/// piece is walked by a task of its own, that a piece after the place that decides is left out, that two workers walk at once, that the
-/// longest pieces are cut first, or that there is credit, or a node, for the last job of a chain.
+/// How a job is run, and how it is walked: workers, threshold and nodes, the least and the greatest number of leaves,
+/// and the greatest length of one; then the job, and its answer. With `held` the leaf at position 0 is held until
+/// another one is entered. `chain` is a file of 256 jobs. `worked` are the files of worked answers: each is run as
+/// often as it has leaves, with one after the other held for 1,000 turns, and the numbers are of all that were held.
+/// The answers and the numbers were worked out by hand. No clause says that a piece is walked by a task of its own,
+/// that a piece after the place that decides is left out, that two workers walk at once, that the longest pieces are
+/// cut first, or that there is credit, or a node, for the last job of a chain.
 const CASES: &str = "\
 1 1000 4096 1 1 1000 => s = range(0, 1000).sum() => 499500
 1 1000 4096 2 2 1000 => s = range(0, 1001).sum() => 500500
@@ -54,7 +55,7 @@ const CASES: &str = "\
 64 1 2 70 400 1 => worked
 64 1 3 80 400 1 => worked";
 
-/// 256 jobs over 64 positions, each of which names the one before it, with their answers.
+/// 256 jobs over 64 positions, with their answers. Each job names the one before it.
 fn chain(alloc: Global) -> Result<String, AllocError> {
     let mut text = String::new(alloc);
     text.push_str("j0 = range(0, 64).count() => 64\n")?;
@@ -157,7 +158,7 @@ fn numbers_of(case: &str) -> [u64; 6] {
     numbers
 }
 
-/// Whether these leaves are those of a case.
+/// Whether the leaves are as a case says.
 fn are_leaves(gate: &Watching, least: u64, greatest: u64, longest: u64) -> bool {
     let leaves = gate.leaves.load(SeqCst);
     least <= leaves && leaves <= greatest && gate.longest.load(SeqCst) <= longest && gate.let_go()

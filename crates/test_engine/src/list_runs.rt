@@ -22,7 +22,8 @@ fn lists(alloc: Global) -> Result<Vec<Vec<i64>>, Fail> {
     Ok(lists)
 }
 
-/// How many leaves a run has whose first leaves are refused memory: `None` if its answers aren't the lists, or it is refused.
+/// How many leaves a run has whose first leaves are refused memory: `None` if its answers aren't the lists, or it is
+/// refused.
 fn leaves<H: Threads + Wait + Sync>(
     rt: &H,
     alloc: Global,

@@ -7,7 +7,7 @@ ghost use Rattle.test_engine.specs.ListLaws.{one_list};
 
 use early_stop::Stop;
 use job_plan::Settings;
-use job_table::{
+use job_runner::{
     Begun, CutPiece, EarlierAnswers, JobSegments, NoMemory, Piece, SegmentInput, run_all,
 };
 use std::alloc::Global;
@@ -41,7 +41,8 @@ pub enum ListSource {
     Kept(Vec<i64>),
 }
 
-/// Jobs, each with a list of numbers. Each segment of a job copies the list; the job with the number k has k % 3 + 1 of them.
+/// Jobs, each with a list of numbers. Each segment of a job copies the list; the job with the number k has k % 3 + 1 of
+/// them.
 #[derive(Drop)]
 pub struct Lists<'a, P: JobNumbers> {
     pub(crate) lists: &'a [Vec<i64>],

@@ -50,8 +50,9 @@ fn has_segments(alloc: Global, job: &JobPlan, segments: &str) -> Result<bool, Al
     Ok(shown.as_str() == segments)
 }
 
-/// Jobs, each with its answer, with how many segments are walked after it, and the number of the first stage of the first of them; worked
-/// out by hand. Slices that stand before every other stage select positions of the source, so they are not walked.
+/// Jobs, each with its answer, with how many segments are walked after it, and the number of the first stage of the
+/// first of them; worked out by hand. Slices that stand before every other stage select positions of the source, so
+/// they are not walked.
 const WALKED: &str = "\
 range(0, 9).sum() => 36, 1 from 1
 range(0, 9).skip(1).sum() => 36, 1 from 2

@@ -1,14 +1,14 @@
 //! Calls that are refused memory: what they leave, and that they succeed if they are made again.
 //!
-//! `scripts/refused_growths` runs this test with one allocation after the other refused.
+//! `tests/refused_growths` runs this test with one allocation after the other refused.
 ghost use Rattle.std.specs.Prelude.{◌≡◌, IfOk, IfSome};
 ghost use Rattle.trace.specs.declared.item.End.TheVariants as end;
 
 use columns::Columns;
 use job_language::{Job, read_jobs};
 use job_plan::Plan;
-use lambda_expr::{Body, Lambda, ReadFault, Want, read_lambda};
-use lambda_values::Env;
+use lambda_expr::{Lambda, ReadFault, Want, read_lambda};
+use lambda_values::{Body, Env};
 use std::alloc::Global;
 use std::test::Fail;
 use stream_tokens::{JobText, TextFault, job_texts};
@@ -29,7 +29,7 @@ fn made_once(alloc: Global, values: [i64; 2]) -> Result<Chunk, NoMemory>
     Ok(chunk)
 }
 
-/// The same, made once more if an allocation fails.
+/// A chunk of two values, made once more if an allocation fails.
 fn two(alloc: Global, values: [i64; 2]) -> Option<Chunk>
     ensures { IfSome result (λ chunk. chunk.ending ≡ end.Done) }
 {
@@ -45,8 +45,8 @@ fn has(chunk: &Chunk, values: &[i64]) -> bool {
     found.map(|item| item.value).eq(values.iter().copied()) && chunk.end() == End::Done
 }
 
-// Each of the following makes a call, and once more if it is refused. It says whether it was, and nothing if what the call left or gave
-// is wrong.
+// Each of the following makes a call, and once more if it is refused. It says whether it was, and nothing if what the
+// call left or gave is wrong.
 
 fn pushes(alloc: Global) -> Option<bool> {
     let mut chunk = Chunk::ending(alloc, End::Done);

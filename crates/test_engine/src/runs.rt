@@ -49,8 +49,8 @@ impl Gate for OpenGate {
 
 impl RunGate for OpenGate {}
 
-/// Runs `JOBS` over `TABLE` from two readers, each of which fails at this call, into a writer with room for this many bytes: the
-/// answer, and what the writer holds.
+/// Runs `JOBS` over `TABLE` from two readers, which both fail at this call, into a writer with room for this many
+/// bytes: the answer, and what the writer holds.
 fn run_from<H: AllocGlobal + Threads + Wait + Sync>(
     rt: &H,
     columns_fail_in: usize,
@@ -81,7 +81,7 @@ fn run_from<H: AllocGlobal + Threads + Wait + Sync>(
     (answer, writer.into_inner().held)
 }
 
-/// What such a run has to answer, and how many bytes of the report it has to write.
+/// What a run of `run_from` has to answer, and how many bytes of the report it has to write.
 fn wanted(
     columns_fail_in: usize,
     jobs_fail_in: usize,

@@ -2,7 +2,8 @@
 
 use columns::{Columns, Counted, read_columns};
 use job_language::read_jobs;
-use job_plan::{Answer, Plan, Values};
+use job_meaning::Values;
+use job_plan::{Answer, Plan};
 use lambda_values::FaultKind;
 use std::alloc::{AllocError, Global};
 use trace::Fault;

@@ -1,4 +1,4 @@
-//! The worked answers of bench/soak/worked.py, written by bench/soak/worked_jobs.
+//! The worked answers of tests/soak/worked.py, written by tests/soak/worked_jobs.
 
 /// The column file that the jobs are read with.
 pub(crate) const COLUMNS: &str = "\

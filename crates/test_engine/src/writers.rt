@@ -16,7 +16,7 @@ pub(crate) struct Tight {
 }
 
 impl Tight {
-    /// Such a writer, which holds nothing.
+    /// A writer that is interrupted and takes bytes as these numbers say, and holds nothing.
     pub(crate) fn new(alloc: Global, a_call: usize, room: usize, interruptions: u64) -> Tight {
         Tight {
             held: Vec::new(alloc),

@@ -6,7 +6,8 @@ use crate::random::{any_stage, any_values, next};
 use batch_eval::{
     Batch, BatchSink, BatchSource, Pipeline, PlacedValues, Registers, accept_each, feed_batches,
 };
-use lambda_expr::{Body, Env, InnerExpr, LongExpr, Want, read_lambda};
+use lambda_expr::{Env, InnerExpr, LongExpr, Want, read_lambda};
+use lambda_values::Body;
 use std::alloc::{AllocError, Global};
 use std::test::Fail;
 use trace::{Fed, Flow, Item, LongSink, NoMemory, Stage, feed_all};
@@ -109,7 +110,7 @@ pub(crate) fn line_of<'a>(stages: &'a [Stage], env: &'a Env) -> Pipeline<'a>
     }
 }
 
-/// Whether all ways give the same items and the same end.
+/// Whether all ways give equal items and ends.
 fn agree<I: BatchSource>(
     alloc: Global,
     stages: &[Stage],
@@ -131,7 +132,7 @@ fn agree<I: BatchSource>(
     Ok(true)
 }
 
-/// The same of values that lie in a slice, at the places from 7 on.
+/// Whether all ways give equal items and ends for values that lie in a slice, at the places from 7 on.
 fn agree_in_place(
     alloc: Global,
     stages: &[Stage],
@@ -145,7 +146,8 @@ fn agree_in_place(
     agree(alloc, stages, &source, registers)
 }
 
-/// Whether three stages that a seed chooses give the same by batches and item by item: over items, and over values in a slice.
+/// Whether three stages that a seed chooses give equal items and ends by batches and item by item: over items, and over
+/// values in a slice.
 fn agree_by_seed(
     alloc: Global,
     seed: u64,

@@ -68,7 +68,7 @@ fn drop_a_deque(alloc: Global, drops: &AtomicU64) -> Result<u64, Fail> {
     Ok(drops.load(SeqCst))
 }
 
-// The same of an inbox, which has one end to take from.
+// Drops an inbox, which has one end to take from, and counts its tasks.
 fn drop_an_inbox<R: Wait>(rt: &R, alloc: Global, drops: &AtomicU64) -> Result<u64, Fail> {
     let (inbox, mut pass) = Inbox::new(alloc)?;
     for _ in 0..100 {

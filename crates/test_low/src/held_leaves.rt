@@ -12,7 +12,8 @@ use worker_pool::{Gate, Spawn, Work, run_pool};
 
 const TURNS: u64 = 100_000_000;
 
-/// Holds leaf 1 until leaf 2 is entered, and keeps how many turns that took: the greatest number if leaf 1 wasn't entered.
+/// Holds leaf 1 until leaf 2 is entered, and keeps how many turns that took: the greatest number if leaf 1 wasn't
+/// entered.
 #[derive(Drop)]
 struct Holding {
     entered: AtomicBool,

@@ -1,16 +1,16 @@
-//! Tests of the public calls of the crates below jobs, but for completers: what no clause says, and what no
-//! run of the program shows.
+//! Tests of the public calls of the crates below jobs, but for completers: what no clause says, and what no run of the
+//! program shows.
 //!
-//! A crate with tests is proved twice, so the tests of crates that others stand on are here, above them. What a lambda, an
-//! operator, a slice, a find or a column file gives is shown by the files of `examples/`, which `scripts/examples` runs.
-//! Here is what only a caller sees: sinks and readers of one's own, memory that is not copied, sources that split, tasks
-//! that are dropped, run once or held.
+//! A crate with tests is proved twice, so the tests of crates that others stand on are here, above them. What a lambda,
+//! an operator, a slice, a find or a column file gives is shown by the files of `examples/`, which `tests/examples`
+//! runs. Here is what only a caller sees: sinks and readers of one's own, memory that is not copied, sources that
+//! split, tasks that are dropped, run once or held.
 //!
-//! `calls.rt` has a call of each kind that the program doesn't make, of `stream_tokens` up to `prefix_scan`, and `words.rt` those of
-//! `early_stop`. `lambdas.rt` is for `lambda_expr`, `walks.rt` for `trace`, `batches.rt` with `random.rt`, and `full_sinks.rt`, for
-//! `batch_eval`, `values.rt` for `job_meaning`, `splits.rt` for `spliterator`,
-//! `pieces.rt` and `readers.rt` for `columns`, `handles.rt` for `deques`; `sums.rt`, a small `Work` of one's own,
-//! `held_leaves.rt` and `small_works.rt` for `worker_pool`.
+//! `calls.rt` has a call of each kind that the program doesn't make, from `stream_tokens` to `prefix_scan`; `words.rt`
+//! calls `early_stop`. `lambdas.rt` is for `lambda_expr`, `walks.rt` for `trace`, `batches.rt` with `random.rt`, and
+//! `full_sinks.rt`, for `batch_eval`, `values.rt` for `job_meaning`, `splits.rt` for `spliterator`, `pieces.rt` and
+//! `readers.rt` for `columns`, `handles.rt` for `deques`; `sums.rt`, a small `Work` of one's own, `held_leaves.rt` and
+//! `small_works.rt` for `worker_pool`.
 //!
 //! Nothing stands on this crate, and it promises nothing.
 #![tactic(auto)]

@@ -30,8 +30,8 @@ fn in_pieces<H: Threads + Sync>(
 
 #[test]
 fn pieces_of_any_size_give_the_columns(rt: HostRuntime) {
-    // Rows of two cells, quoted ones, quoted ones alone; all kinds of line ends and empty lines; blanks, signs and zeros; numbers
-    // that are quoted in part; a header with a line feed; a quote that is left open; no row.
+    // Rows of two cells, quoted ones, quoted ones alone; all kinds of line ends and empty lines; blanks, signs and
+    // zeros; numbers that are quoted in part; a header with a line feed; a quote that is left open; no row.
     let files =
         "b,a\n10,3\n20,0\n30,-5\n40,7\n50,12|\"b\",\"a\"\n\"10\",\"3\"\n\"20\",\"0\"\n|a\n\"3\"\n0\n\"-5\"\n7\n|\
 a,b\r\n3,1\r\n0,2\r\n-5,3\r\n|b,a\r1,3\r2,0\r3,-5\r|\n\r\na\n\n3\n\r\n\r\n0\n\n-5\r\r7|\u{feff}a\n +3 \n\t-0\n-005\n7\t\n0012\n|\
@@ -68,7 +68,7 @@ const BYTES: &[u8; 16] = b"0123456789\n\n\n\n\r-";
 /// What one in eight is taken from.
 const MARKS: &[u8; 8] = b"\"\" \t+,\"\r";
 
-/// A column of random text: a header and some rows, most of which are numbers.
+/// A column of random text: a header and some rows, mostly of numbers.
 fn random_text(alloc: Global, seed: u64) -> Result<Vec<u8>, AllocError> {
     let mut text = Vec::from_slice(alloc, b"a\n0123456789012345678901234567890123456789")?;
     let mut state = seed.wrapping_mul(0x9e37_79b9_7f4a_7c15);

@@ -6,7 +6,7 @@ use std::alloc::Global;
 use std::test::Fail;
 use trace::{Item, NoMemory};
 
-/// The items of all pieces, in order, after as many splits as there are.
+/// The items of all pieces, in order, after all splits that succeed.
 fn items_in_pieces<S: LongSpliterator + Drop>(
     mut split: S,
     items: &mut Vec<Item>,
@@ -80,7 +80,7 @@ fn a_range_splits_in_the_middle_and_a_concatenation_between_its_parts(
     Ok(())
 }
 
-/// Whether the pieces of a source, after as many splits as there are, have these values at the places 0, 1, 2, ..
+/// Whether the pieces of a source, after all splits that succeed, have these values at the places 0, 1, 2, ..
 fn splits_to<S: LongSpliterator + Drop>(
     alloc: Global,
     split: S,

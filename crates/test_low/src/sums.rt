@@ -17,8 +17,8 @@ struct Part {
     to: u64,
 }
 
-/// Adds up numbers in pieces of at most ten. Counts how often each number was added, and the tasks that another worker's
-/// `Idle` came with.
+/// Adds up numbers in pieces of at most ten. Counts how often each number was added, and the tasks that another
+/// worker's `Idle` came with.
 #[derive(Drop)]
 struct Sum {
     total: AtomicU64,
@@ -104,7 +104,7 @@ impl Work for Sum {
 }
 
 // The sum of the numbers below 1,000 by this many workers, and whether each number was added once, each worker kept its
-// own `Idle`, and that of worker 0 came back.
+// own `Idle`, and the `Idle` of worker 0 came back.
 fn sum_by<R: Threads + Wait + Sync>(
     rt: &R,
     alloc: Global,

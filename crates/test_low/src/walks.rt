@@ -60,7 +60,8 @@ impl LongSink for Few {
     }
 }
 
-/// What a walk through `flatMap(x -> range(0, x))` answers, into a sink that wants three items, and how many it wants then.
+/// What a walk through `flatMap(x -> range(0, x))` answers, into a sink that wants three items, and how many it wants
+/// then.
 fn into_few(alloc: Global, items: &Vec<Item>, room: u64) -> (Result<Fed, NoMemory>, u64) {
     let stages = [Stage::FlatMap(InnerExpr::Range(LongExpr::Number(0), LongExpr::Parameter(0)))];
     let mut sink = Few {

@@ -53,7 +53,7 @@ pipe_append n (g ∷ gs) env a b =
     let f : Item → Trace = of_item n g env in
     ap (pipe (suc n) gs env) (each_append f a b) ∙ pipe_append (suc n) gs env (each f a.items a.ending) (each f b.items b.ending)
 
--- the same of one list of items, cut anywhere
+-- the stages keep one list of items joined, cut anywhere
 pub pipe_more : (n : ℕ) (gs : List AbstractStage) (env : Numbers) (xs ys : List Item) (e : End) → pipe n gs env (trace (xs ++ ys) e) ≡ append (pipe n gs env (trace xs end.Done)) (pipe n gs env (trace ys e))
 pipe_more n gs env xs ys e = pipe_append n gs env (trace xs end.Done) (trace ys e)
 
@@ -62,7 +62,7 @@ pub pipe_faulted : (n : ℕ) (gs : List AbstractStage) (env : Numbers) (a b : Tr
 pipe_faulted n gs env a b f h = pipe_append n gs env a b ∙ append_faulted (pipe n gs env a) (pipe n gs env b) f h
 
 -- what the stages make of the whole, one stage after the other, is joined of what they make of each item: a walk that
--- takes each item through all stages before the next one gives the same
+-- takes each item through all stages before the next one gives it too
 pub pipe_each : (n : ℕ) (gs : List AbstractStage) (env : Numbers) (xs : List Item) (e : End) → pipe n gs env (trace xs e) ≡ each (λ (x : Item). pipe n gs env (trace (x ∷ []) end.Done)) xs e
 pipe_each n gs env [] e = pipe_ended n gs env e
 pipe_each n gs env (x ∷ xs) e =

@@ -17,7 +17,7 @@ last_grows f (z ∷ w ∷ xs) zero x y more last is = absurd (omega (arith, last
 last_grows f (z ∷ w ∷ xs) (suc i) x y more last is =
     ap (λ rest. f z ++ rest) (last_grows f (w ∷ xs) i x y more (omega (arith, last)) is) ∙ sym (append_assoc (f z) (flat_map f (w ∷ xs)) more)
 
--- the same of a piece that was read at the end
+-- the last piece grows by what was read
 pub read_grows : {X A : Type 0} (f : X → List A) (xs : List X) (i : ℕ) (x y : X) (more : List A) → suc i ≡ length xs → x ≡ get_or xs i x → f y ≡ f x ++ more → flat_map f (set xs i y) ≡ flat_map f xs ++ more
 read_grows f xs i x y more last here is = last_grows f xs i x y more last (is ∙ ap (λ z. f z ++ more) here)
 
@@ -25,7 +25,7 @@ read_grows f xs i x y more last here is = last_grows f xs i x y more last (is �
 pub read_stays : {X A : Type 0} (f : X → List A) (xs : List X) (i : ℕ) (x y : X) → suc i ≡ length xs → x ≡ get_or xs i x → f y ≡ f x → flat_map f (set xs i y) ≡ flat_map f xs
 read_stays f xs i x y last here is = read_grows f xs i x y [] last here (is ∙ sym (append-nil (f x))) ∙ append-nil (flat_map f xs)
 
--- pieces of which none is empty have an item
+-- pieces that all have items have an item
 pub some_item : {X A : Type 0} (f : X → List A) (xs : List X) → All (λ x. f x ≢ []) xs → 0 < length xs → flat_map f xs ≡ [] → ⊥
 some_item f [] full some_piece e = absurd (omega (arith, some_piece))
 some_item f (x ∷ xs) full some_piece e = All-head (λ y. f y ≢ []) x xs full (front_empty (f x) (flat_map f xs) e)

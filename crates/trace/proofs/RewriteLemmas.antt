@@ -22,7 +22,7 @@ piece_changed f before after xs i x y within here next =
     let e : i + 1 ≡ suc i = omega arith in
     (λ j. flat_map f (take (e j) (set xs i y)) ++ after (flat_map f (drop (e j) (set xs i y)))) ∙ changed f before after xs i x y within here next
 
--- as many items are none only if there were none
+-- a list of this length is empty only if the old one was
 pub as_many : {A : Type 0} (old new : List A) → length new ≡ length old → old ≢ [] → new ≢ []
 as_many [] new same some_item none = some_item refl
 as_many (a ∷ old) [] same some_item none = absurd (omega (arith, same))

@@ -68,7 +68,7 @@ module _ {S : Type 0} (h : S → List Item → Type 0) where
   IsFed_ended n gs env xs ys zs e r s stopped p =
       subst (λ (t : Trace). IsFed h xs t r s) (sym (pipe_more n gs env ys zs e)) (IsFed_stopped xs (pipe n gs env (trace ys end.Done)) (pipe n gs env (trace zs e)) r s stopped p)
 
-  -- the same of the items of a list, by their position
+  -- a walk of the items of a list, by their position, that was stopped at one of them is the walk of them all
   pub IsFed_next : (n : ℕ) (gs : List AbstractStage) (env : Numbers) (xs items : List Item) (i : ℕ) (y : Item) (r : Result Fed AllocError) (s s' : S) → slice_get items i ≡ Some y → IsFed h xs (pipe n gs env (trace (take i items) end.Done)) (Ok fed.More) s → ((vs : List Item) → h s vs → IsFed h vs (pipe n gs env (trace (y ∷ []) end.Done)) r s') → IsFed h xs (pipe n gs env (trace (take (i + 1) items) end.Done)) r s'
   IsFed_next n gs env xs items i y r s s' here before one =
       let more : take (i + 1) items ≡ take i items ++ y ∷ [] = take_more items i y (slice_get_within items i y here) ∙ ap (λ (z : Item). take i items ++ z ∷ []) (get_or_from_slice_get items i y y here) in

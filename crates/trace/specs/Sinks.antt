@@ -1,4 +1,4 @@
--- Design: what a walk leaves in the sink that takes its items.
+-- Design: what a walk leaves in its sink.
 use Rattle.std.specs.Prelude.{◌≡◌, ℕ, suc, ◌<◌, List, ◌++◌, length, take, Result, Ok, Err}
 use Rattle.std.specs.declared.alloc.AllocError.{AllocError}
 use Rattle.trace.specs.declared.item.Item.{Item}

@@ -63,7 +63,7 @@ stage_of (stage.Map e) = map (long_of e)
 stage_of (stage.Filter p) = filter (truth_of p)
 stage_of (stage.FlatMap g) = flat_map (inner_of g)
 
--- helper: those of several stages
+-- helper: each of several stages
 abbrev pub stages_of : List Stage → List AbstractStage
 stages_of [] = []
 stages_of (g ∷ gs) = stage_of g ∷ stages_of gs

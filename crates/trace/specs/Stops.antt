@@ -25,12 +25,12 @@ abbrev pub kept_before : Option (ℕ × End) → Trace → Trace
 kept_before None t = t
 kept_before (Some p) t = trace (take p.0 t.items) p.1
 
--- helper: a fault there stands in place of all items
+-- helper: a fault there leaves no items
 abbrev pub kept_at : ℕ → End → Trace → Trace
 kept_at n end.Done t = trace (drop n t.items) t.ending
 kept_at n (end.Fault f) t = trace [] (end.Fault f)
 
--- the items from that position on; a fault there stands in place of them
+-- the items from that position on; a fault there leaves none
 abbrev pub kept_from : Option (ℕ × End) → Trace → Trace
 kept_from None t = trace [] t.ending
 kept_from (Some p) t = kept_at p.0 p.1 t

@@ -40,7 +40,7 @@ impl Model for Chunk {
 }
 
 impl Chunk {
-    /// A chunk without items that ends so. It takes no memory.
+    /// A chunk without items, with this end. It takes no memory.
     pub fn ending(alloc: Global, end: End) -> Chunk
         ensures { result ≡ trace [] end }
     {
@@ -114,7 +114,7 @@ impl Chunk {
         Ok(())
     }
 
-    /// Ends so, unless a fault has ended the chunk. It takes no memory.
+    /// Ends the chunk as said, unless a fault has ended it. It takes no memory.
     pub fn end_with(&mut self, end: End)
         ensures { self.new ≡ append self.old (trace [] end) }
     {
@@ -123,7 +123,7 @@ impl Chunk {
         }
     }
 
-    /// The pieces: the items of the first, then those of the second, and so on.
+    /// The pieces: the items of the first, then the items of the second, and so on.
     pub fn pieces(&self) -> &[Vec<Item>]
         ensures { flat_map (λ piece. piece.items) result.now ≡ self.now.items }
     {
@@ -132,7 +132,8 @@ impl Chunk {
 
     /// The values of a walk that is done, in encounter order, each copied once.
     ///
-    /// If the allocation fails, the chunk comes back. For other programs: `streamrun` gathers the values of arrays in `job_plan`.
+    /// If the allocation fails, the chunk comes back. For other programs: `streamrun` gathers the values of arrays in
+    /// `job_plan`.
     pub fn into_values(self, alloc: Global) -> Result<Vec<i64>, Chunk>
         requires { self.ending ≡ End.Done }
         ensures ok { IfOk result (λ values. values.items ≡ map (λ x. x.value) self.items) }

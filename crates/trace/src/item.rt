@@ -16,7 +16,7 @@ pub struct Fault {
     pub kind: FaultKind,
     /// 0 for the source, then the stages from 1; the terminal is the stage after the last.
     pub stage: u32,
-    /// The place of the item at which the fault was met, or none.
+    /// The place of the item at which the fault happened, or none.
     pub origin: Option<u64>,
 }
 

@@ -22,10 +22,10 @@ pub fn nothing_is_the_unit()
     ensures right { (a : Trace) → append a nothing ≡ a }
 {}
 
-/// Stages that look at one item at a time give for joined pieces what they give for each piece,
-/// joined. So a walk through them may be cut anywhere, and a fault in a piece ends the whole.
+/// Stages that look at one item at a time give for joined pieces what they give for each piece, joined. So a walk
+/// through them may be cut anywhere, and a fault in a piece ends the whole.
 ///
-/// A stage that looks at the whole walk, such as `limit`, has no such law.
+/// A stage that looks at the whole walk, like `limit`, has no law of this kind.
 #[tactic(auto, using(crate::proofs::JoinLemmas::each_append, crate::proofs::JoinLemmas::pipe_append, crate::proofs::JoinLemmas::pipe_faulted))]
 pub fn stages_keep_joining()
     ensures one_stage { (f : Item → Trace) (a b : Trace) → each f (append a b).items (append a b).ending
@@ -36,9 +36,8 @@ pub fn stages_keep_joining()
         → (pipe n gs env a).ending ≡ end.Fault f → pipe n gs env (append a b) ≡ pipe n gs env a }
 {}
 
-/// A walk that takes each item through all stages before the next item gives the same items and the
-/// same fault as the stages one after the other, each over all items. This too holds of stages that
-/// look at one item at a time.
+/// A walk that takes each item through all stages before the next item gives the items and the fault that the stages
+/// give one after the other, each over all items. It holds for stages that look at one item at a time.
 #[tactic(auto, using(crate::proofs::JoinLemmas::pipe_each))]
 pub fn stages_go_item_by_item()
     ensures { (n : ℕ) (gs : List AbstractStage) (env : Numbers) (xs : List Item) (e : End)

@@ -30,7 +30,8 @@ pub trait SourceItems {
         ensures { slice_get (items self.now) position ≡ Some result };
 }
 
-/// Integers counted up by 1, at places that count up from `origin`: the items of `LongStream.range`, or a piece of them.
+/// Integers counted up by 1, at places that count up from `origin`: the items of `LongStream.range`, or a piece of
+/// them.
 #[derive(Drop)]
 pub struct RangeItems {
     pub origin: u64,
@@ -41,7 +42,8 @@ pub struct RangeItems {
 }
 
 impl RangeItems {
-    /// The integers from `from` up to, not with, `to`, at the places 0, 1, 2 and so on; `None` if there are more than 2^62.
+    /// The integers from `from` up to, not with, `to`, at the places 0, 1, 2 and so on; `None` if there are more than
+    /// 2^62.
     pub fn between(from: i64, to: i64) -> Option<RangeItems>
         ensures origin { IfSome result (λ source. source.origin ≡ 0) }
         ensures some { IfSome result (λ source. cover (range from to) ≡ trace (placed 0 (counted source.first source.count)) end.Done) }
@@ -74,7 +76,8 @@ impl SourceItems for RangeItems {
     }
 }
 
-/// Values in a slice, at places that count up from `origin`: the items of `LongStream.of` or of an array, or a piece of them.
+/// Values in a slice, at places that count up from `origin`: the items of `LongStream.of` or of an array, or a piece of
+/// them.
 #[derive(Clone, Copy)]
 pub struct PlacedValues<'a> {
     pub origin: u64,
@@ -85,7 +88,7 @@ pub struct PlacedValues<'a> {
 impl<'a> PlacedValues<'a> {
     /// The items of these values, at the places 0, 1, 2 and so on; `None` if there are more than 2^62.
     ///
-    /// For other programs: the sources of `streamrun` are those of `job_plan`.
+    /// For other programs: `streamrun` uses the sources of `job_plan`.
     pub fn of(values: &'a [i64]) -> Option<PlacedValues<'a>>
         ensures origin { IfSome result (λ source. source.origin ≡ 0) }
         ensures some { IfSome result (λ source. (source.values.now ≡ values.now) × (cover (listed values.now) ≡ trace (placed 0 values.now) end.Done)) }

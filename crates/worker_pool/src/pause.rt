@@ -5,8 +5,8 @@ use std::sync::atomic::AtomicU64;
 use std::sync::atomic::Ordering::SeqCst;
 use std::time::Duration;
 
-// How often a worker spins or yields before it sleeps: about 100 microseconds. A shorter wait costs time where tasks are
-// small; bench/pool has figures.
+// How often a worker spins or yields before it sleeps: about 100 microseconds. A shorter wait costs time where tasks
+// are small; bench/pool has figures.
 const PATIENCE: u32 = 256;
 
 // How long a worker sleeps that nothing wakes, in milliseconds.
@@ -81,8 +81,8 @@ impl<'a> Pause<'a> {
         self.rounds = 0;
     }
 
-    /// Waits for a bounded time. A worker counts as a sleeper before it looks for a task for the last time, so that each task
-    /// that this look misses wakes it.
+    /// Waits for a bounded time. A worker counts as a sleeper before it looks for a task for the last time, so that
+    /// each task that this look misses wakes it.
     pub fn wait<R: Wait>(&mut self, rt: &R) {
         if self.rounds < PATIENCE {
             self.rounds += 1;

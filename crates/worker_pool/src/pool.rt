@@ -77,8 +77,9 @@ where
     )
 }
 
-/// Runs the tasks of `first`, and those that they push, with one worker for each `Idle`. The caller is worker 0, whose
-/// `Idle` comes back once nothing is left. What can't be made, a thread, a deque or the inbox, is done without.
+/// Runs the tasks of `first`, and the tasks that they push, with one worker for each `Idle`. The caller is worker 0,
+/// whose `Idle` comes back once nothing is left. If a thread, a deque or the inbox can't be made, the run goes on
+/// without it.
 pub fn run_pool<R: Threads + Wait + Sync, W: Work, G: Gate + Sync>(
     rt: &R,
     alloc: Global,

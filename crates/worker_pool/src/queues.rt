@@ -9,8 +9,8 @@ use deques::{Inbox, Owner, Thief};
 use std::alloc::Global;
 use std::sync::Wait;
 
-/// Where a worker finds tasks. Threads are started for a type parameter with this bound, since a closure that is sent to
-/// a thread can't capture a deque whose task type is an associated type.
+/// Where a worker finds tasks. Threads are started for a type parameter with this bound, since a closure that is sent
+/// to a thread can't capture a deque whose task type is an associated type.
 pub trait TaskFinder<T>: Spawn<T> {
     fn find<R: Wait>(&mut self, rt: &R) -> Option<T>;
 
@@ -142,7 +142,7 @@ fn thieves<T: Drop>(alloc: Global, owners: &[Owner<T>], worker: usize) -> Vec<Th
     thieves
 }
 
-// The queues of as many workers as there is memory for, without deques of their own.
+// The queues of `workers` workers, or of fewer if memory is refused, without deques of their own.
 fn shared_queues<'a, T: Drop>(
     alloc: Global,
     owners: &[Owner<T>],
@@ -165,7 +165,7 @@ fn shared_queues<'a, T: Drop>(
     all
 }
 
-/// The queues of as many workers as there is memory for.
+/// The queues of `workers` workers, or of fewer if memory is refused.
 pub fn queues_of<'a, T: Drop>(
     alloc: Global,
     workers: usize,

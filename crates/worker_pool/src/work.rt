@@ -29,7 +29,7 @@ pub trait Work: Sync {
         ensures over { result.1 ≡ 0 → is_over self.now result.0 }
         ensures same { owner_of result.0 ≡ owner_of idle };
 
-    /// Runs a task, and also those tasks that `push` hands back. `worker` is 0 for the caller of the pool.
+    /// Runs a task, and also the tasks that `push` hands back. `worker` is 0 for the caller of the pool.
     fn run<R: Wait, G: Gate, S: Spawn<Self::Task>>(
         &self,
         rt: &R,

@@ -1,10 +1,10 @@
-use Rattle.std.proofs.Common.{◌≡◌, ◌-◌, ◌∙◌, ◌<◌, ℕ, ℤ, Bool, Result, Ok, length, ap, sym, subst, eqb-true, rules, arith, w64, to_z, of_z}
+use Rattle.std.proofs.Common.{◌≡◌, ◌-◌, ℕ, ℤ, Bool, Result, length, ap, sym, subst, eqb-true, rules, arith}
 use Rattle.lambda_values.specs.declared.fault.FaultKind.{FaultKind}
 use Rattle.lambda_values.specs.Term.{truth_of}
 use Rattle.lambda_values.specs.Value.{truth_value}
 use Rattle.batch_eval.specs.declared.register.Operand.{Operand}
 use Rattle.batch_eval.specs.Choices.{operand_value}
-use Rattle.batch_eval.specs.Lanes.{at}
+use Rattle.batch_eval.specs.Lanes.{at, branch_at}
 use Rattle.batch_eval.specs.Rooms.{FitsOperand}
 use Rattle.batch_eval.proofs.ChoiceLemmas.{by_flag_ones, chosen_everywhere, chosen_reaches, parted_reaches}
 use Rattle.batch_eval.proofs.+register.Goals as goal
@@ -25,29 +25,27 @@ choice::eval_chosen-returns-then-eval_both m c =
     let value : Operand → ℕ → Result ℤ FaultKind = λ e k. operand_value e (at xs k) env in
     rw (c.after.ensures, c.all.ensures) (chosen_everywhere t (value c.args.a) (value c.args.b) c.eval_bool-tested.new.out c.eval_both.new.out c.args.inputs.live c.eval_bool-tested.result c.eval_bool-tested.ensures (c.eval_both.ensures c.if-eval_both.true))
 
-pub choice::eval_both-returns-in-Some : goal.choice::eval_both-returns-in-Some
-choice::eval_both-returns-in-Some m c = λ is k below.
-    let within : k < c.eval_operand-first.result.live = subst (λ (m : ℕ). k < m) (sym (eqb-true c.eval_operand-first.result.live c.args.inputs.live is)) below in
-    let env = c.args.inputs.env.now in
-    let x = at c.args.inputs.xs.now k in
-    let same : to_z w64 (of_z w64 c.in-Some.number) ≡ c.in-Some.number = search rules in
-    by_flag_ones (at c.args.flags.now k) (at c.eval_operand-first.new.out k) (to_z w64 (of_z w64 c.in-Some.number)) (at c.select.new.out k) (operand_value c.args.a x env) (operand_value c.args.b x env) (c.select.ensures k below) (c.eval_operand-first.ensures.values k within) (c.in-Some.ensures x env ∙ ap Ok (sym same))
-
-pub choice::eval_both-returns-in-Some-number_of : goal.choice::eval_both-returns-in-Some-number_of
-choice::eval_both-returns-in-Some-number_of m c = λ is k below.
-    let within : k < c.eval_operand-second.result.live = subst (λ (m : ℕ). k < m) (sym (eqb-true c.eval_operand-second.result.live c.args.inputs.live is)) below in
-    let env = c.args.inputs.env.now in
-    let x = at c.args.inputs.xs.now k in
-    let same : to_z w64 (of_z w64 c.in-Some-number_of.number) ≡ c.in-Some-number_of.number = search rules in
-    by_flag_ones (at c.args.flags.now k) (to_z w64 (of_z w64 c.in-Some-number_of.number)) (at c.eval_operand-second.new.out k) (at c.select-in-Some-number_of.new.out k) (operand_value c.args.a x env) (operand_value c.args.b x env) (c.select-in-Some-number_of.ensures k below) (c.in-Some-number_of.ensures x env ∙ ap Ok (sym same)) (c.eval_operand-second.ensures.values k within)
-
 pub choice::eval_both-returns-then-first-inputs : goal.choice::eval_both-returns-then-first-inputs
 choice::eval_both-returns-then-first-inputs m c = λ is k below.
-    let within : k < c.eval_operand-second.result.live = subst (λ (m : ℕ). k < m) (sym (eqb-true c.eval_operand-second.result.live c.args.inputs.live is)) below in
     let env = c.args.inputs.env.now in
     let x = at c.args.inputs.xs.now k in
-    let all = c.if-first-inputs.true in
-    by_flag_ones (at c.args.flags.now k) (at c.eval_operand-first-2.new.out k) (at c.eval_operand-second.new.out k) (at c.select-2.new.out k) (operand_value c.args.a x env) (operand_value c.args.b x env) (c.select-2.ensures k below) (c.eval_operand-first-2.ensures.values k (omega (arith, all))) (c.eval_operand-second.ensures.values k within)
+    let one = c.eval_branch.result in
+    let other = c.eval_branch-2.result in
+    let all : one.1.live ≡ c.args.inputs.live = c.if-first-inputs.true in
+    let both : other.1.live ≡ c.args.inputs.live = eqb-true other.1.live c.args.inputs.live is in
+    by_flag_ones (at c.args.flags.now k) (branch_at one.0 k) (branch_at other.0 k) (at c.blend.new.out k) (operand_value c.args.a x env) (operand_value c.args.b x env) (c.blend.ensures k below) (c.eval_branch.ensures.reached.values k (omega (arith, all, below))) (c.eval_branch-2.ensures.reached.values k (omega (arith, both, below)))
+
+pub choice::eval_both-eval_branch-requires : goal.choice::eval_both-eval_branch-requires
+choice::eval_both-eval_branch-requires t c =
+    let d = c.decreases in
+    let len : length c.split_at_mut-others.result.1.now ≡ length c.args.room.now - 3072 = search rules in
+    (omega (arith, d), (c.requires.lanes, (c.requires.xs, (search rules, subst (λ (m : ℕ). FitsOperand c.args.a m) (sym len) c.requires.room.1))))
+
+pub choice::eval_both-eval_branch-requires-2 : goal.choice::eval_both-eval_branch-requires-2
+choice::eval_both-eval_branch-requires-2 t c =
+    let d = c.decreases in
+    let len : length c.eval_branch.new.room ≡ length c.args.room.now - 3072 = search rules in
+    (omega (arith, d), (c.requires.lanes, (c.requires.xs, (search rules, subst (λ (m : ℕ). FitsOperand c.args.b m) (sym len) c.requires.room.2))))
 
 pub choice::eval_parted-returns : goal.choice::eval_parted-returns
 choice::eval_parted-returns m c =

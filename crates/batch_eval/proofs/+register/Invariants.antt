@@ -27,6 +27,9 @@ decreases-register::eval_before_number l = 4 * size-LongExpr l.a.now + 2
 abbrev pub decreases-register::eval_operand : goal.decreases-register::eval_operand
 decreases-register::eval_operand l = 4 * size l.operand + 1
 
+abbrev pub decreases-register::eval_branch : goal.decreases-register::eval_branch
+decreases-register::eval_branch l = 4 * size l.operand + 1
+
 abbrev pub decreases-register::eval_between : goal.decreases-register::eval_between
 decreases-register::eval_between l = 4 * max (size-LongExpr l.a.now) (size-LongExpr l.b.now) + 3
 

@@ -21,9 +21,9 @@ pub trait EndTest {
 }
 
 impl Chunk {
-    /// Keeps the items before the first one that ends the walk, and ends so. It takes no memory.
+    /// Keeps the items before the first one that ends the walk, and ends as that item says. It takes no memory.
     ///
-    /// The answer says whether there is such an item; if not, the chunk stays as it is.
+    /// The answer says whether an item ends the walk; if not, the chunk stays as it is.
     pub fn keep_until<S: EndTest>(&mut self, stop: &S) -> bool
         ensures kept { self.new ≡ kept_before (stop_at (S.stops stop.now) self.old.items) self.old }
         ensures found { result ≡ is_some (stop_at (S.stops stop.now) self.old.items) }

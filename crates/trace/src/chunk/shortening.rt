@@ -16,7 +16,7 @@ impl Chunk {
         cut_at(&self.pieces, n).is_some()
     }
 
-    /// Keeps the first `n` items, or all if there are fewer, and ends so. It takes no memory.
+    /// Keeps the first `n` items, or all if there are fewer, and ends the chunk as said. It takes no memory.
     pub fn cut_to(&mut self, n: u64, end: End)
         ensures { self.new ≡ trace (take n self.old.items) end }
     {

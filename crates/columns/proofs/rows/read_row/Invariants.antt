@@ -4,7 +4,8 @@ use Rattle.columns.specs.Refusals.{cell_fault}
 use Rattle.columns.specs.TableOfColumns.{named, with_row}
 use Rattle.columns.proofs.rows.read_row.Given as goal
 
--- the cells so far are numbers and stand in their columns; what is left of the row is still to be put under the columns that are left
+-- the cells so far are numbers and stand in their columns; what is left of the row is still to be put under the columns
+-- that are left
 abbrev pub invariant-loop-place : goal.invariant-loop-place
 invariant-loop-place l =
     let fields = fields_of l.row in

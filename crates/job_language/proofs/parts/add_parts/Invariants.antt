@@ -1,9 +1,10 @@
 use Rattle.std.proofs.Common.{drop, Result}
 use Rattle.job_language.specs.declared.fault.Cause.{Cause}
-use Rattle.job_language.specs.Jobs.{AbstractJob, job_of}
+use Rattle.job_language.specs.Jobs.{AbstractJob}
 use Rattle.job_language.specs.Splitting.{words_in}
 use Rattle.job_language.specs.Shapes.{all_placed}
 use Rattle.job_language.specs.Scopes.{scope_of}
+use Rattle.job_language.specs.Parts.{begun_of}
 use Rattle.job_language.specs.Verdicts.{AreRead}
 use Rattle.job_language.proofs.parts.add_parts.Given as goal
 
@@ -11,5 +12,5 @@ use Rattle.job_language.proofs.parts.add_parts.Given as goal
 abbrev pub invariant-loop-call : goal.invariant-loop-call
 invariant-loop-call l =
     (r : Result AbstractJob Cause)
-    → AreRead (scope_of l.scope) l.text (job_of l.job) (all_placed (words_in l.words) (drop l.call-index l.calls)) r
-    → AreRead (scope_of l.scope) l.text (job_of l.initial.job) (all_placed (words_in l.words) l.calls) r
+    → AreRead (scope_of l.scope) l.text (begun_of l.job) (all_placed (words_in l.words) (drop l.call-index l.calls)) r
+    → AreRead (scope_of l.scope) l.text (begun_of l.initial.job) (all_placed (words_in l.words) l.calls) r

@@ -4,10 +4,9 @@ use Rattle.job_language.specs.Table.{role_of}
 use Rattle.job_language.specs.Splitting.{words_in}
 use Rattle.job_language.specs.Scopes.{scope_of}
 use Rattle.job_language.specs.Shapes.{placed_in}
-use Rattle.job_language.specs.Jobs.{job_of}
 use Rattle.job_language.specs.Causes.{stage_cause}
 use Rattle.job_language.specs.Verdicts.{IsReadInTurn}
-use Rattle.job_language.specs.Parts.{part_in}
+use Rattle.job_language.specs.Parts.{part_in, begun_of}
 use Rattle.job_language.proofs.CallTurnLemmas.{length_stages, next_read, next_refused}
 use Rattle.job_language.proofs.parts.read_next_call.Goals as goal
 
@@ -21,7 +20,7 @@ returns-in_err-part c =
     let p = err_from_is_err_and c.from_residual.result c.from_residual.ensures.1 in
     let said = c.len.ensures in
     let count : c.len.result ≡ length job.stages.items = omega (arith, job.stages.ok.0) in
-    rw (p.1, p.2) (λ other. next_refused (job_of job) s t k c.in_err-part.field-0.0
+    rw (p.1, p.2) (λ other. next_refused (begun_of job) s t k c.in_err-part.field-0.0
     (subst (λ n. IsReadInTurn (stage_cause n (role_of x.operation)) s t k (Err c.in_err-part.field-0.0)) (count ∙ sym (length_stages job.stages.items)) (c.in_err-part.ensures other)))
 
 pub returns : goal.returns
@@ -34,5 +33,5 @@ returns c =
     let g = part_in c.in_ok-part.part in
     let said = c.len.ensures in
     let count : c.len.result ≡ length job.stages.items = omega (arith, job.stages.ok.0) in
-    next_read (job_of job) s t k g c.below_terminal.result
+    next_read (begun_of job) s t k g c.below_terminal.result
     (subst (λ n. IsReadInTurn (stage_cause n (role_of x.operation)) s t k (Ok g)) (count ∙ sym (length_stages job.stages.items)) c.in_ok-part.ensures) c.below_terminal.ensures

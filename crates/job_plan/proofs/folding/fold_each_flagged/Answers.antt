@@ -1,9 +1,9 @@
-use Rattle.std.proofs.Common.{◌≡◌, ◌+◌, ℕ, ℤ, FitsSigned, w64, Some, ◌<◌, to_z, of_z, true, false, length, sym, ap, subst, ◌∙◌, arith, rules}
+use Rattle.std.proofs.Common.{◌≡◌, ℕ, ℤ, FitsSigned, w64, Some, ◌<◌, to_z, of_z, true, false, length, sym, ap, subst, ◌∙◌, arith, rules}
 use Rattle.reduce_ops.specs.Operators.{value_of}
 use Rattle.batch_eval.specs.Lanes.{at, is_set}
 use Rattle.batch_eval.specs.Batches.{flagged_values}
 use Rattle.job_plan.specs.Batches.{each_one, folded_values}
-use Rattle.job_plan.proofs.FlaggedFolds.{AllFit, fit_set, flagged_folded, folded_from, folded_set, folded_unset, passed_set, values_unset}
+use Rattle.job_plan.proofs.FlaggedFolds.{AllFit, fit_set, flagged_folded, folded_from, folded_set, folded_unset, none_folded, passed_set, values_unset}
 use Rattle.job_plan.proofs.folding.fold_each_flagged.Goals.{then-passes, else-passes, then-passes-2, else-passes-2}
 use Rattle.job_plan.proofs.folding.fold_each_flagged.Goals as goal
 
@@ -23,18 +23,17 @@ loop-lane-preserved c =
     let is = c.requires.identity ∙ ap Some (sym identity_fits) in
     let so_far_fits : FitsSigned w64 (to_z w64 c.loop-lane.folded-bits) = search rules in
     record {
-      passed = elim c.if-passes.branch [
+      missed = elim c.if-passes.branch [
         | then-passes w ↦
             let set : is_set (at flags n) ≡ true = sym flag ∙ w.if-passes.true in
-            ap (λ (k : ℕ). c.loop-lane.passed + k) w.passed-is ∙ ap (λ (k : ℕ). k + 1) so_far.passed ∙ sym (passed_set values flags n set)
+            omega (arith, w.missed-is, so_far.missed, passed_set values flags n set)
         | else-passes w ↦
             let unset : is_set (at flags n) ≡ false = sym flag ∙ w.if-passes.false in
-            let same : c.loop-lane.passed + c.if-passes.passed ≡ c.loop-lane.passed = omega (arith, w.passed-is) in
-            same ∙ so_far.passed ∙ ap length (sym (values_unset values flags n unset))
+            omega (arith, w.missed-is, so_far.missed, ap length (values_unset values flags n unset))
       ];
       within = elim c.if-passes.branch [
-        | then-passes w ↦ omega (arith, w.passed-is, so_far.within)
-        | else-passes w ↦ omega (arith, w.passed-is, so_far.within)
+        | then-passes w ↦ omega (arith, w.missed-is, so_far.within)
+        | else-passes w ↦ omega (arith, w.missed-is, so_far.within)
       ];
       fits = elim c.if-passes.branch [
         | then-passes w ↦
@@ -59,8 +58,17 @@ loop-lane-preserved c =
       ];
     }
 
-pub returns-else-passed-eq0 : goal.returns-else-passed-eq0
-returns-else-passed-eq0 c =
+pub returns-then-missed-flags : goal.returns-then-missed-flags
+returns-then-missed-flags c =
+    let values = c.args.values.now in
+    let flags = c.args.flags.now in
+    let n = c.loop-lane.lane in
+    let whole : n ≡ length flags = omega (arith, c.loop-lane-test.false, c.loop-lane.auto.lane-end) in
+    let none : 0 ≡ length (flagged_values values flags n) = omega (arith, whole, c.loop-lane.invariant.missed, c.if-missed-flags.true) in
+    none_folded values flags c.args.op c.args.counts (to_z w64 (of_z w64 c.args.identity)) (flagged_values values flags n) none ∙ ap (λ (m : ℕ). folded_values (value_of c.args.op) c.args.counts (flagged_values values flags m)) whole
+
+pub returns-else-missed-flags : goal.returns-else-missed-flags
+returns-else-missed-flags c =
     let values = c.args.values.now in
     let flags = c.args.flags.now in
     let n = c.loop-lane.lane in
@@ -70,5 +78,5 @@ returns-else-passed-eq0 c =
     let identity_fits : to_z w64 (of_z w64 c.args.identity) ≡ c.args.identity = search rules in
     let is = c.requires.identity ∙ ap Some (sym identity_fits) in
     let whole : n ≡ length flags = omega (arith, c.loop-lane-test.false, c.loop-lane.auto.lane-end) in
-    let some : 0 < length (flagged_values values flags n) = omega (arith, c.loop-lane.invariant.passed, c.if-passed-eq0.false) in
+    let some : 0 < length (flagged_values values flags n) = omega (arith, whole, c.loop-lane.invariant.missed, c.if-missed-flags.false) in
     ap Some c.loop-lane.invariant.folded ∙ flagged_folded values flags op counts identity is n c.loop-lane.invariant.fits some ∙ ap (λ (m : ℕ). folded_values (value_of op) counts (flagged_values values flags m)) whole

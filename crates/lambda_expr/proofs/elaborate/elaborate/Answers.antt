@@ -1,6 +1,6 @@
 use Rattle.std.proofs.Common.{[], ap, get_or, sym, take, ◌∙◌}
 use Rattle.std.proofs.lemmas.List.{take_more}
-use Rattle.lambda_expr.specs.declared.step.Step.TheVariants.{Ternary}
+use Rattle.lambda_expr.specs.declared.step.ParseStep.TheVariants.{Ternary}
 use Rattle.lambda_expr.specs.Elaborating.{operands_of, typed_steps}
 use Rattle.lambda_expr.specs.Lexemes.{names_in}
 use Rattle.lambda_expr.specs.Stacks.{stacked}

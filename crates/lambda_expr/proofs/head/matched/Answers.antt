@@ -1,5 +1,5 @@
 use Rattle.std.proofs.Common.{◌<◌, arith, get_or, length, subst}
-use Rattle.lambda_expr.specs.declared.head.Mark.TheVariants as mark
+use Rattle.lambda_expr.specs.declared.head.HeadMark.TheVariants as mark
 use Rattle.lambda_expr.specs.declared.lexeme.Lexeme.TheVariants as word
 use Rattle.lambda_expr.specs.HeadReading.{IsFit}
 use Rattle.lambda_expr.proofs.HeadLemmas.{matched_on, matched_stop, matched_whole, matched_words}

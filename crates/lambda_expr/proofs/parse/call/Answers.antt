@@ -1,5 +1,5 @@
 use Rattle.std.proofs.Common.{[], refl, sym, ap, subst, ◌∙◌}
-use Rattle.lambda_expr.specs.declared.step.Step.TheVariants as step
+use Rattle.lambda_expr.specs.declared.step.ParseStep.TheVariants as step
 use Rattle.lambda_expr.specs.Grammar.{constant}
 use Rattle.lambda_expr.specs.Reader.{follows, alone}
 use Rattle.lambda_expr.specs.Codes.{Turns, frames_of, run}

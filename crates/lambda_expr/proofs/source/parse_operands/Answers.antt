@@ -3,10 +3,10 @@ use Rattle.std.specs.Prelude.{IfErr, ◌==◌}
 use Rattle.std.specs.Global.{Vec}
 use Rattle.lambda_expr.specs.declared.lexeme.Lexeme.{Lexeme}
 use Rattle.lambda_expr.specs.declared.lexeme.Lexeme.TheVariants as word
-use Rattle.lambda_expr.specs.declared.parse.Stop.{Stop}
-use Rattle.lambda_expr.specs.declared.parse.Stop.TheVariants.{At, NoMemory}
-use Rattle.lambda_expr.specs.declared.source.Source.{Source}
-use Rattle.lambda_expr.specs.declared.step.Step.{Step}
+use Rattle.lambda_expr.specs.declared.parse.ParseStop.{ParseStop}
+use Rattle.lambda_expr.specs.declared.parse.ParseStop.TheVariants.{At, NoMemory}
+use Rattle.lambda_expr.specs.declared.source.StreamSource.{StreamSource}
+use Rattle.lambda_expr.specs.declared.step.ParseStep.{ParseStep}
 use Rattle.lambda_expr.specs.Codes.{IsStop}
 use Rattle.lambda_expr.specs.SourceReading.{Next, Operands, TakesMore, after_close}
 use Rattle.lambda_expr.specs.Sources.{Takes}
@@ -14,11 +14,11 @@ use Rattle.lambda_expr.specs.Stops.{StopsAt}
 use Rattle.lambda_expr.proofs.EachBody.{IsNotClosed, closed_front, few_stop, late_stop, none_stop, not_closed, operands_stop}
 use Rattle.lambda_expr.proofs.source.parse_operands.Goals as goal
 
-late_by : (s : Source) (ws : List Lexeme) (b : Bool) → Takes s 0 → b ≡ (length ws == 0) → b ≡ false → StopsAt (Operands s) (word.Close ∷ ws) 1
+late_by : (s : StreamSource) (ws : List Lexeme) (b : Bool) → Takes s 0 → b ≡ (length ws == 0) → b ≡ false → StopsAt (Operands s) (word.Close ∷ ws) 1
 late_by s [] b count is off = let e : (0 == 0) ≡ false = sym is ∙ off in absurd cc
 late_by s (w ∷ ws) b count is off = late_stop s w ws count
 
-lifted : (s : Source) (ws : List Lexeme) (r : Result (Vec (Vec Step)) Stop) → IsNotClosed ws → IfErr r (λ stop. IsStop (Next s 0) ws stop) → IfErr r (λ stop. IsStop (Operands s) ws stop)
+lifted : (s : StreamSource) (ws : List Lexeme) (r : Result (Vec (Vec ParseStep)) ParseStop) → IsNotClosed ws → IfErr r (λ stop. IsStop (Next s 0) ws stop) → IfErr r (λ stop. IsStop (Operands s) ws stop)
 lifted s ws (Ok v) never h = tt
 lifted s ws (Err (At n)) never h = operands_stop s ws n never h
 lifted s ws (Err NoMemory) never h = tt

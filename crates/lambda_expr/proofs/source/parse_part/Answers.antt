@@ -1,9 +1,9 @@
 use Rattle.std.proofs.Common.{◌≡◌, ℕ, List, Result, subst, sym, take}
 use Rattle.std.specs.Prelude.{IfErr}
 use Rattle.lambda_expr.specs.declared.lexeme.Lexeme.{Lexeme}
-use Rattle.lambda_expr.specs.declared.parse.Stop.{Stop}
-use Rattle.lambda_expr.specs.declared.parse.Stop.TheVariants.{At}
-use Rattle.lambda_expr.specs.declared.source.Part.{Part}
+use Rattle.lambda_expr.specs.declared.parse.ParseStop.{ParseStop}
+use Rattle.lambda_expr.specs.declared.parse.ParseStop.TheVariants.{At}
+use Rattle.lambda_expr.specs.declared.source.SourceOperand.{SourceOperand}
 use Rattle.lambda_expr.specs.SourceReading.{IsNoNext}
 use Rattle.lambda_expr.specs.Codes.{IsStop}
 use Rattle.lambda_expr.specs.Grammar.{Expression}
@@ -12,10 +12,10 @@ use Rattle.lambda_expr.proofs.OperandLemmas.{no_end, no_front, only_one}
 use Rattle.lambda_expr.proofs.source.parse_part.Goals.{in-Ok, in-Err-NoMemory, in-Err-At+else-end-words+in-Ok-parse, in-Err-At+else-end-words+in-Err-NoMemory-parse, in-Err-At+else-end-words+in-Err-At-parse}
 use Rattle.lambda_expr.proofs.source.parse_part.Goals as goal
 
-answered : (ws : List Lexeme) (r q : Result Part Stop) → r ≡ q → IfErr q (λ stop. IsNoNext ws stop) → IfErr r (λ stop. IsNoNext ws stop)
+answered : (ws : List Lexeme) (r q : Result SourceOperand ParseStop) → r ≡ q → IfErr q (λ stop. IsNoNext ws stop) → IfErr r (λ stop. IsNoNext ws stop)
 answered ws r q is h = subst (λ r. IfErr r (λ stop. IsNoNext ws stop)) (sym is) h
 
-stopping : (ws : List Lexeme) (stop : Stop) (n : ℕ) → IsStop Expression ws stop → stop ≡ At n → StopsAt Expression ws n
+stopping : (ws : List Lexeme) (stop : ParseStop) (n : ℕ) → IsStop Expression ws stop → stop ≡ At n → StopsAt Expression ws n
 stopping ws stop n h is = subst (IsStop Expression ws) is h
 
 pub returns-then-end-words-clause-stops : goal.returns-then-end-words-clause-stops

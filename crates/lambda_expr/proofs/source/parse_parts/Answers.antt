@@ -3,7 +3,7 @@ use Rattle.std.proofs.lemmas.List.{length-append, take_rest}
 use Rattle.std.specs.Global.{Vec}
 use Rattle.lambda_expr.specs.declared.lexeme.Lexeme.TheVariants as word
 use Rattle.lambda_expr.specs.declared.sign.Sign.TheVariants as sign
-use Rattle.lambda_expr.specs.declared.step.Step.{Step}
+use Rattle.lambda_expr.specs.declared.step.ParseStep.{ParseStep}
 use Rattle.lambda_expr.specs.SourceReading.{ArePosted, IsFront, IsNoNext, Next, TakesMore, steps_of}
 use Rattle.lambda_expr.specs.Sources.{Takes}
 use Rattle.lambda_expr.specs.Stops.{StopsAt}
@@ -13,7 +13,7 @@ use Rattle.lambda_expr.proofs.source.parse_parts.Goals.{in_default-via-in-Sign+i
 use Rattle.lambda_expr.proofs.source.parse_parts.Goals as goal
 
 -- how many there are with one more
-one_more : (new old : List (Vec Step)) (v : Vec Step) (n count : ℕ) → new ≡ old ++ v ∷ [] → length old ≡ n → count ≡ length new → count ≡ suc n
+one_more : (new old : List (Vec ParseStep)) (v : Vec ParseStep) (n count : ℕ) → new ≡ old ++ v ∷ [] → length old ≡ n → count ≡ length new → count ≡ suc n
 one_more new old v n count is same at =
     let size = length-append old (v ∷ []) in
     let all : length new ≡ length (old ++ v ∷ []) = ap length is in

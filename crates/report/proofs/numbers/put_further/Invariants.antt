@@ -3,7 +3,7 @@ use Rattle.report.specs.AnswerForms.{further}
 use Rattle.report.specs.Numbers.{separator_bytes}
 use Rattle.report.proofs.numbers.put_further.Given as goal
 
--- the text from `start` on is that of the numbers from `left` on, and the others have room before it
+-- the text from `start` on is the text of the numbers from `left` on, and the others have room before it
 abbrev pub invariant-loop-left : goal.invariant-loop-left
 invariant-loop-left l =
     (l.left ≤ length l.values) × (22 * l.left ≤ l.start) × (l.start ≤ length l.room) × (drop l.start l.room ≡ further (separator_bytes l.separator) (drop l.left l.values))

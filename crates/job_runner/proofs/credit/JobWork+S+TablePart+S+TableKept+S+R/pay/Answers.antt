@@ -6,11 +6,11 @@ use Rattle.job_runner.proofs.credit.JobWork+S+TablePart+S+TableKept+S+R.pay.Goal
 pub invariant_of-result : goal.invariant_of-result
 invariant_of-result g c =
     let b = c.args.begun in
-    let purse = c.in-Some.field-0 in
+    let spare = c.in-Some.field-0 in
     let j = c.join-seat.ensures in
-    let none : length (view_of purse.seat).places ≡ 0 = purse.unplaced in
+    let none : length (view_of spare.seat).places ≡ 0 = spare.unplaced in
     record {
-      has = credit_joined _ (g.R.Running.keeps b.job) b.seat purse.seat c.split-rest.result.1 c.join-seat.result (j.seat.0 ∙ b.has.table) none c.split-rest.ensures.parts.1 j.both b.has;
+      has = credit_joined _ (g.R.Running.keeps b.job) b.seat spare.seat c.split-rest.result.1 c.join-seat.result (j.seat.0 ∙ b.has.table) none c.split-rest.ensures.parts.1 j.both b.has;
       known = b.known;
     }
 

@@ -6,18 +6,18 @@ use Rattle.job_runner.proofs.opening.JobWork+S+TablePart+S+TableKept+S+R.open_on
 
 pub split-seat-requires-clause-have : goal.split-seat-requires-clause-have
 split-seat-requires-clause-have g c =
-    let p = c.args.purse in
+    let p = c.args.unopened in
     subst (λ k. 0 < count k (view_of p.seat).held) (sym c.start.ensures.0) (below_has g.R.Running.start p.jobs p.seat c.requires.some_left p.held)
 
 pub arrive_at-requires-clause-can : goal.arrive_at-requires-clause-can
 arrive_at-requires-clause-can g c =
-    let p = c.args.purse in
+    let p = c.args.unopened in
     let s = c.split-seat.ensures in
     part_arrives (p.jobs - 1) c.start.result.now.node _ p.seat _ c.start.ensures.0 p.knows (s.seat.1 ∙ p.table) s.parts.1
 
 pub invariant_of-rest : goal.invariant_of-rest
 invariant_of-rest g c =
-    let p = c.args.purse in
+    let p = c.args.unopened in
     let s = c.split-seat.ensures in
     let f = p.few in
     let few : p.jobs - 1 ≤ g.R.Running.jobs = omega arith in

@@ -6,8 +6,8 @@ use Rattle.job_runner.proofs.ArmLemmas.{all_below, starts_known}
 use Rattle.job_runner.proofs.CreditLemmas.{credit_rest, part_unplaced}
 use Rattle.job_runner.proofs.work.JobWork+S+TablePart+S+TableKept+S+R.new.Goals as goal
 
-pub invariant_of-purse : goal.invariant_of-purse
-invariant_of-purse g c =
+pub invariant_of-unopened : goal.invariant_of-unopened
+invariant_of-unopened g c =
     let o = c.args.opened in
     let ss = o.starts.items in
     let n = c.jobs.result in

@@ -1,0 +1,138 @@
+"""The tasks of the parts peers, cores and tables: their jobs, their table, and the same tasks for tools of tables."""
+import pathlib
+
+ROWS = 1_000_000
+
+MAP_FILTER_SUM = "map(x -> x * 3 + 1).filter(x -> (x & 4) == 0).sum()"
+FIFTEEN = "((((x * 31 + 7) ^ (x >>> 3)) * 13 - 5 ^ (x << 2)) + (x & 255)) * 3 - (x ^ 85) + x | 1"
+
+
+def twelve(b, c, d, e):
+    """Twelve aggregations over these columns."""
+    return f'''\
+j1 = column("{b}").sum()
+j2 = column("{b}").filter(x -> x > 0).count()
+j3 = column("{b}").min()
+j4 = column("{b}").max()
+j5 = column("{c}").map(x -> x % 1000).sum()
+j6 = column("{c}").filter(x -> x % 2 == 0).map(x -> x / 2).sum()
+j7 = column("{c}").anyMatch(x -> x < 0)
+j8 = column("{d}").map(x -> x * x).sum()
+j9 = column("{d}").reduce((x, y) -> Math.max(x, y))
+j10 = column("{d}").allMatch(x -> x >= 0)
+j11 = column("{e}").filter(x -> x > 5000).max()
+j12 = column("{e}").map(x -> x < 0 ? -x : x).sum()
+'''
+
+
+SMALL = "".join(f"j{i} = range(0, 100).map(x -> x * {i}).filter(x -> x % 3 == 0).sum()\n" for i in range(256))
+
+# Each job waits for the one before it.
+CHAIN = "j0 = range(0, 100).sum()\n" + "".join(f"j{i} = range(0, 100).map(x -> x ^ $j{i - 1}).sum()\n" for i in range(1, 256))
+
+JOBS = {
+    "one_sum": 's = column("b").sum()\n',
+    "twelve": twelve(*"bcde"),
+    "map_filter_sum": f"s = range(0, 100000000).{MAP_FILTER_SUM}\n",
+    "fifteen": f"s = range(0, 100000000).map(x -> {FIFTEEN}).sum()\n",
+    "to_array": "a = range(0, 1000000).map(x -> x * 7).toArray()\n",
+    "to_array_10": "a = range(0, 10000000).map(x -> x * 7).toArray()\n",
+    "small_jobs": SMALL,
+    "chain": CHAIN,
+    "shallow_find": "f = range(0, 4611686018427387904).filter(x -> x % 1001 == 1000).findFirst()\n",
+}
+
+# The tasks that read the table, and those of few milliseconds.
+OF_COLUMNS = ("one_sum", "twelve")
+SHORT = ("small_jobs", "chain", "shallow_find")
+# The tasks that the part cores times.
+OF_CORES = ("map_filter_sum", "fifteen", "twelve", "small_jobs", "to_array_10")
+
+MAWK = {
+    "one_sum": 'NR > 1 { s += $2 } END { printf "s = %.0f\\n", s }',
+    "twelve": r"""NR > 1 {
+    s1 += $2; if ($2 > 0) n2++; if (NR == 2 || $2 < m3) m3 = $2; if (NR == 2 || $2 > m4) m4 = $2
+    s5 += $3 % 1000; if ($3 % 2 == 0) s6 += $3 / 2; if ($3 < 0) any = 1
+    s8 += $4 * $4; if (NR == 2 || $4 > m9) m9 = $4; if ($4 < 0) some = 1
+    if ($5 > 5000 && (n11++ == 0 || $5 > m11)) m11 = $5; s12 += $5 < 0 ? -$5 : $5
+} END {
+    printf "j1 = %.0f\nj2 = %d\nj3 = OptionalLong[%.0f]\nj4 = OptionalLong[%.0f]\n", s1, n2, m3, m4
+    printf "j5 = %.0f\nj6 = %.0f\nj7 = %s\nj8 = %.0f\n", s5, s6, any ? "true" : "false", s8
+    printf "j9 = OptionalLong[%.0f]\nj10 = %s\nj11 = OptionalLong[%.0f]\nj12 = %.0f\n", m9, some ? "false" : "true", m11, s12
+}""",
+}
+
+SQL = {
+    "one_sum": "select 's = ' || sum(b) from t;",
+    "twelve": """\
+select 'j1 = ' || sum(b), 'j2 = ' || sum(b > 0), 'j3 = OptionalLong[' || min(b) || ']', 'j4 = OptionalLong[' || max(b) || ']',
+'j5 = ' || sum(c % 1000), 'j6 = ' || sum(case when c % 2 = 0 then c / 2 else 0 end),
+'j7 = ' || case when max(c < 0) then 'true' else 'false' end, 'j8 = ' || sum(d * d), 'j9 = OptionalLong[' || max(d) || ']',
+'j10 = ' || case when min(d >= 0) then 'true' else 'false' end,
+'j11 = OptionalLong[' || max(case when e > 5000 then e end) || ']', 'j12 = ' || sum(abs(e)) from t;""",
+}
+
+# What numpy does for a task; `table(..)` reads columns of the table. The shallow find would want an array of 2^62 numbers.
+NUMPY = {
+    "one_sum": """\
+b, = table(1)
+print("s =", b.sum())""",
+    "twelve": """\
+b, c, d, e = table(1, 2, 3, 4)
+print("j1 =", b.sum(), "j2 =", (b > 0).sum(), f"j3 = OptionalLong[{b.min()}] j4 = OptionalLong[{b.max()}]")
+print("j5 =", (c % 1000).sum(), "j6 =", (c[c % 2 == 0] // 2).sum(), "j7 =", str((c < 0).any()).lower())
+print("j8 =", (d * d).sum(), f"j9 = OptionalLong[{d.max()}] j10 =", str((d >= 0).all()).lower())
+print(f"j11 = OptionalLong[{e[e > 5000].max()}] j12 =", np.abs(e).sum())""",
+    "map_filter_sum": """\
+x = np.arange(100_000_000) * 3 + 1
+print("s =", x[(x & 4) == 0].sum())""",
+    "fifteen": """\
+x = np.arange(100_000_000)
+shifted = (x.view(np.uint64) >> np.uint64(3)).view(np.int64)
+print("s =", (((((x * 31 + 7) ^ shifted) * 13 - 5 ^ (x << 2)) + (x & 255)) * 3 - (x ^ 85) + x | 1).sum())""",
+    "to_array": 'print("a = [" + ", ".join(map(str, (np.arange(1_000_000) * 7).tolist())) + "]")',
+    "to_array_10": 'print("a = [" + ", ".join(map(str, (np.arange(10_000_000) * 7).tolist())) + "]")',
+    "small_jobs": """\
+for i in range(256):
+    x = np.arange(100) * i
+    print(f"j{i} =", x[x % 3 == 0].sum())""",
+}
+
+NUMPY_HEAD = """\
+import sys
+import numpy as np
+def table(*columns):
+    return np.loadtxt(sys.argv[1], delimiter=",", skiprows=1, usecols=columns, dtype=np.int64, unpack=True, ndmin=2)
+"""
+
+
+def sqlite(table, query):
+    create = "create table t(a integer, b integer, c integer, d integer, e integer, f integer, g integer, h integer);"
+    return ["sqlite3", ":memory:", "-cmd", create, "-cmd", ".mode csv", "-cmd", f".import --skip 1 {table} t", "-cmd",
+            ".mode list", "-cmd", '.separator "\\n"', query]
+
+
+def sums_of(table):
+    """The commands of mawk and sqlite3 that sum the column c0 of a table, whose cells may stand in quotes."""
+    return {"mawk": ["mawk", "-F,", 'NR > 1 { gsub(/"/, "", $1); s += $1 } END { printf "s = %.0f\\n", s }', table],
+            "sqlite3": ["sqlite3", ":memory:", ".mode csv", f".import {table} t", ".mode list", "select 's = ' || sum(cast(c0 as integer)) from t;"]}
+
+
+def write_table(path):
+    """Eight columns of a million rows; the values of a linear congruence."""
+    state = 12345
+    with open(path, "w", encoding="ascii") as out:
+        out.write("a,b,c,d,e,f,g,h\n")
+        for row in range(1, ROWS + 1):
+            state = (state * 1103515245 + 12345) % 2147483648
+            other = (state * 69069 + 1) % 2147483648
+            out.write(f"{row},{state - 1073741824},{other},{state % 100},{other % 20001 - 10000},{state % 7},{other % 1000},{row % 13}\n")
+
+
+def write_all(folder):
+    """The table, and a file of jobs for each task, in a folder."""
+    write_table(f"{folder}/table.csv")
+    for task, jobs in JOBS.items():
+        pathlib.Path(f"{folder}/{task}.jobs").write_text(jobs, encoding="ascii")
+    for task, script in NUMPY.items():
+        pathlib.Path(f"{folder}/{task}.py").write_text(f"{NUMPY_HEAD}{script}\n", encoding="ascii")

@@ -1,0 +1,83 @@
+"""The lists of files in docs/adding.md: which files an operation that is there has touched. `scripts/pages --write` writes them.
+
+An operation's files are those that say its name, in code, in definitions or in a proof.
+"""
+import itertools
+import os
+import re
+
+from page_layout import wrapped
+from page_text import files_below, is_text, read
+
+# The words of one operation of each kind.
+OPERATIONS = {
+    'flatMap': r'\b(?:FlatMap|flatMap|flat_map)\b',
+    'floorMod': r'\b(?:floorMod|FloorMod|FloorRemainder\w*|\w*floor_remainder)\b',
+    'findFirst': r'\b(?:findFirst|FindFirst|find_first)(?:_\w+)?\b',
+}
+# The files of an operation that another one of its kind doesn't need, and what they are for.
+APART = {
+    'floorMod': (r'dispatch\.rt|power|Power|reciprocal|Reciprocal', 'For the speed of divisions by numbers alone'),
+}
+# Each column of a list, with the folders whose files it names.
+FOLDERS = {'src': ('src',), 'specs': ('specs',), 'proofs': ('proofs',), 'wrong bodies': ('must-fail', 'wrong-bodies')}
+ELSEWHERE = ('editors', 'python/streamrun_language', 'scripts', 'tests')
+
+
+def says(path, pattern):
+    return is_text(path) and re.search(pattern, read(path)) is not None
+
+
+def files_that_say(base, pattern):
+    """The files below a folder that name an operation, by their places in it."""
+    return [os.path.relpath(path, base) for path in files_below(base) if says(path, pattern)]
+
+
+def bases(top, crate, folders):
+    return [os.path.join(top, 'crates', crate, folder) for folder in folders]
+
+
+def crates_in_order(top):
+    """The crates, lowest first, as crates.txt has them."""
+    return re.findall(r'^(\w+)[^#\n]*:', read(os.path.join(top, 'crates.txt')), re.M)
+
+
+def rows(top, pattern, apart):
+    """A row for each crate, without the files that stand apart."""
+    for crate in crates_in_order(top):
+        cells = []
+        for folders in FOLDERS.values():
+            found = [name for base in bases(top, crate, folders) for name in files_that_say(base, pattern)]
+            found = [name for name in found if not (apart and re.search(apart, name))]
+            cells.append(', '.join(f'`{name}`' for name in found))
+        if any(cells):
+            yield f'| `{crate}` | ' + ' | '.join(cells) + ' |'
+
+
+def files_apart(top, pattern, apart):
+    """The files that stand apart, by their places."""
+    for crate in crates_in_order(top):
+        for base in bases(top, crate, itertools.chain.from_iterable(FOLDERS.values())):
+            for name in files_that_say(base, pattern):
+                if re.search(apart, name):
+                    yield os.path.relpath(os.path.join(base, name), os.path.join(top, 'crates'))
+
+
+def list_of(top, name, pattern):
+    apart, purpose = APART.get(name, (None, ''))
+    lines = ['| crate | ' + ' | '.join(FOLDERS) + ' |', '|---' * (len(FOLDERS) + 1) + '|', *rows(top, pattern, apart)]
+    if apart:
+        there = ', '.join(f'`{path}`' for path in files_apart(top, pattern, apart))
+        lines += ['', *wrapped([f'{purpose}: {there}.'])]
+    found = [os.path.relpath(path, top) for folder in ELSEWHERE for path in files_below(os.path.join(top, folder))
+             if not path.endswith('/page_adding.py') and says(path, pattern)]
+    return '\n'.join([*lines, '', *wrapped(['Elsewhere: ' + ', '.join(f'`{name}`' for name in found) + '.'])])
+
+
+def page_with_lists(top, page):
+    """The page with the present list between the two comments of each operation."""
+    for name, pattern in OPERATIONS.items():
+        begin, end = f'<!-- files of {name}: made by scripts/pages --write -->\n', f'<!-- end of {name} -->'
+        before, _, rest = page.partition(begin)
+        page = before + begin + list_of(top, name, pattern) + '\n' + end + rest.partition(end)[2]
+    return page

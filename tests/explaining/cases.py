@@ -1,0 +1,174 @@
+"""Explanations of refused files, and the command, with what they have to say."""
+import json
+import os
+import re
+import shutil
+import sys
+import tempfile
+
+from running import TOP, run as ran
+from streamrun_language import explain
+
+from . import mistakes, tables
+
+TOOL = os.path.join(TOP, 'tools', 'explain')
+MARK = mistakes.MARK.encode()
+BYTE_ORDER_MARK = b'\xef\xbb\xbf'
+MEANT = 'There is no .zum(): did you mean .sum?'
+KEYS = ['file', 'line', 'column', 'cause', 'hint', 'text']
+# A command of a hint that makes an accepted table of one that is refused, and the program that it wants.
+CURE = re.compile(r'`((mlr|iconv|sed|grep|tr) [^`]*)`')
+
+
+def unmarked(text):
+    """The bytes of a text without its mark, and the line and the column of the mark: bytes after the line's start, a byte
+    order mark not counted."""
+    before, after = text.encode().split(MARK)
+    line = before.replace(b'\r\n', b'\n').replace(b'\r', b'\n').count(b'\n') + 1
+    start = max(before.rfind(b'\n'), before.rfind(b'\r')) + 1
+    start += len(BYTE_ORDER_MARK) if start == 0 and before.startswith(BYTE_ORDER_MARK) else 0
+    return before + after, line, len(before) - start + 1
+
+
+def line_of(data, number):
+    """A line of a file of jobs, without its end."""
+    lines = data[len(BYTE_ORDER_MARK):].split(b'\n') if data.startswith(BYTE_ORDER_MARK) else data.split(b'\n')
+    line = lines[number - 1]
+    return line[:-1] if line.endswith(b'\r') and number < len(lines) else line
+
+
+def has_caret(found):
+    """Whether the caret stands below the character of the column, or one past the end."""
+    _, above, caret, *_ = str(found).split('\n')
+    at = len(caret) - 1
+    wanted = found.text[found.column - 1:].decode('utf-8', 'replace')[:1]
+    is_shown = wanted.isprintable() and wanted.isascii() and wanted
+    return caret.strip() == '^' and above[at:at + 1] == (wanted if is_shown else above[at:at + 1])
+
+
+def all_mistakes():
+    """(a row, its table) of each mistake."""
+    return [(row, mistakes.TABLE) for row in mistakes.MISTAKES] + [(row, None) for row in mistakes.WITHOUT_TABLE]
+
+
+def wrong_mistakes(rows=None):
+    """What is wrong with the explanations of job files that are written by hand."""
+    for (text, words), columns in all_mistakes() if rows is None else rows:
+        data, line, column = unmarked(text)
+        found = explain.explain_jobs(data, columns)
+        if found is None:
+            yield f'{text!r} is accepted'
+        elif (found.line, found.column) != (line, column):
+            yield f'{text!r}: line {found.line}, column {found.column}'
+        elif not all(word in found.hint for word in words) or not found.hint.endswith(('.', '?')):
+            yield f'{text!r}: {found.hint}'
+        elif not has_caret(found):
+            yield f'{text!r}: {found}'
+
+
+def wrong_tables():
+    """What is wrong with the explanations of tables that are written by hand."""
+    for text, cell, words in tables.ROWS:
+        data, line, column = unmarked(text)
+        found = explain.explain_jobs(b'', data)
+        if found is None:
+            yield f'{text!r} is accepted'
+        elif (found.line, found.column, found.cell and tuple(vars(found.cell).values())) != (line, column, cell):
+            yield f'{text!r}: line {found.line}, column {found.column}, {found.cell}'
+        elif not all(word in found.hint for word in words) or not has_caret(found):
+            yield f'{text[-80:]!r}: {found}'
+
+
+def wrong_files():
+    """What is wrong with the explanations of files that are no text."""
+    for data, words, is_table in [*((*it, False) for it in mistakes.FILES), *((*it, True) for it in tables.FILES)]:
+        found = explain.explain_jobs(b'', data) if is_table else explain.explain_jobs(data)
+        if not found or not all(word in found.hint for word in words):
+            yield f'{data!r}: {found}'
+
+
+def wrong_cures():
+    """Tables that are refused after the command of their hint, too. Miller ends no lines by CR, and a command has no name of
+    two lines."""
+    samples = [unmarked(text)[0] for text, _, _ in tables.ROWS] + [data for data, _ in tables.FILES]
+    for data in samples:
+        found = CURE.search(explain.explain_jobs(b'', data).hint)
+        if found and shutil.which(found[2]) and b'\r' not in data and not data.startswith(b'"'):
+            with tempfile.NamedTemporaryFile() as file:
+                file.write(data)
+                file.flush()
+                done = ran(['sh', '-c', found[1].replace('FILE', file.name)])
+            if done.status or not done.out or explain.explain_jobs(b'', done.out):
+                yield f'{data[-80:]!r}: {found[1]} gives {done.out[:80]!r} {done.err[:80]!r}'
+
+
+def wrong_refusals(cases):
+    """Refusals that differ from what was worked out by hand, the cases being (jobs, columns, form, (out, err, status))."""
+    for jobs, columns, _, (_, err, status) in cases:
+        found = explain.explain_jobs(jobs.encode(), columns)
+        if (f'streamrun: {found.cause}\n' if found else '') != err or bool(found) != bool(status):
+            yield f'{jobs[:100]!r}: {found and found.cause}, wanted {err}'
+
+
+def wrong_place(data, columns):
+    """What is wrong with the place of a refusal, or nothing."""
+    found = explain.explain_jobs(data, columns, 'jobs', 'columns')
+    if found is None:
+        return ''
+    is_whole = found.file == 'columns' or found.text == line_of(data, found.line)
+    if is_whole and 1 <= found.column <= len(found.text) + 1 and found.hint.endswith(('.', '?')) and has_caret(found):
+        return ''
+    return f'{data[:100]!r}: {found.line}, {found.column}: {found}'
+
+
+def run(*arguments):
+    """What the command gives."""
+    return tuple(ran([sys.executable, TOOL, *arguments], text=True))
+
+
+def wrong_commands():
+    """What is wrong with the command: its statuses, lines and the object for editors."""
+    with tempfile.TemporaryDirectory() as folder:
+        def write(name, text):
+            path = os.path.join(folder, name)
+            with open(path, 'w', encoding='utf-8') as file:
+                file.write(text)
+            return path
+        good, bad = write('good.jobs', 'a = of(1).sum()\n'), write('bad.jobs', 'a = of(1)\n .zum()\n')
+        table = write('t.csv', 'a\nx\n')
+        shown = f'streamrun: jobs: line 1: syntax\n\n{bad}, line 2, column 3:\n     .zum()\n      ^\n{MEANT}\n'
+        cell = f'streamrun: columns: bad number in row 1 column 1\n\n{table}, line 2, column 1, row 1 of "a":\n    x\n    ^\n'
+        for arguments, wanted in [
+                ([good], ('accepted\n', '', 0)), ([good, '--json'], ('{}\n', '', 0)), ([bad], (shown, '', 1)),
+                (['nowhere'], ('', 'streamrun: cannot open jobs\n', 4)), ([folder], ('', 'streamrun: jobs: read failed\n', 4)),
+                (['nowhere', '--columns', 'nowhere'], ('', 'streamrun: cannot open columns\n', 4)),
+                ([good, '--columns', folder], ('', 'streamrun: columns: read failed\n', 4))]:
+            if run(*arguments) != wanted:
+                yield f'{arguments}: {run(*arguments)}'
+        if not run(bad, '--columns', table)[0].startswith(cell) or run()[2] != 2:
+            yield f'{run(bad, "--columns", table)}'
+        first, second = (json.loads(run(*it, '--json')[0]) for it in ([bad], [bad, '--columns', table]))
+        if list(first) != KEYS or list(first.values()) != [bad, 2, 3, 'jobs: line 1: syntax', MEANT, ' .zum()']:
+            yield f'{first}'
+        if list(second) != [*KEYS, 'row', 'name', 'cell'] or list(second.values())[6:] != [1, 'a', 'x']:
+            yield f'{second}'
+        yield from wrong_editors(bad)
+
+
+def wrong_editors(bad):
+    """What vim's errorformat and the problem matcher of VS Code make of an explanation."""
+    with open(os.path.join(TOP, 'editors', 'vscode', 'package.json'), encoding='utf-8') as file:
+        pattern = json.load(file)['contributes']['problemMatchers'][0]['pattern']
+    matched = re.search(pattern['regexp'], run(bad, '--json')[0])
+    got = matched and tuple(matched[pattern[it]] for it in ('file', 'line', 'column', 'message'))
+    if got != (bad, '2', '3', MEANT):
+        yield f'problem matcher: {got}'
+    if shutil.which('vim'):
+        steps = [f'set runtimepath+={os.path.join(TOP, "editors", "vim")}', 'compiler streamrun', 'silent make',
+                 f'redir! > {bad}.list', 'clist', 'redir END', 'qall!']
+        words = [word for step in steps for word in ('-c', step)]
+        ran(['vim', '-Nu', 'NONE', '-es', *words, bad])
+        with open(bad + '.list', encoding='utf-8') as file:
+            listed = file.read()
+        if '2 col 3' not in listed or MEANT not in listed:
+            yield f'vim: {listed!r}'

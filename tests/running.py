@@ -1,0 +1,134 @@
+"""What tests over the built program have in common: their command lines, their job files, their runs, and the count of these."""
+import argparse
+import collections
+import concurrent.futures
+import functools
+import glob
+import os
+import resource
+import shutil
+import subprocess
+import sys
+import tempfile
+
+TESTS = os.path.dirname(os.path.realpath(__file__))
+TOP = os.path.dirname(TESTS)
+sys.path += [TESTS, *(os.path.join(TOP, *path) for path in (('tests', 'soak'), ('python',), ('tools',), ('reference',)))]
+PROGRAM = os.path.join(TOP, 'crates', 'streamrun', 'out', 'streamrun')
+OUT_OF_MEMORY = (b'', b'streamrun: out of memory\n', 3)
+KB, MB = 2 ** 10, 2 ** 20
+NOBODY = 65534
+# The folders with job files that have a report or a refusal beside them.
+FOLDERS = ['examples', 'examples/gallery', 'examples/tables', 'examples/tutorial', 'tests/answers', 'tests/messages']
+
+Run = collections.namedtuple('Run', 'out err status')
+
+
+def options_of(page, at=PROGRAM, **defaults):
+    """The options of a script, by the page at its head: each default gives one its kind. The program is `at` if none is given; with
+    None there is no program."""
+    first, rest = page.replace('%', '%%').split('\n\n', 1)
+    parser = argparse.ArgumentParser(description=first, usage=rest.strip(), formatter_class=argparse.RawDescriptionHelpFormatter)
+    for name, default in defaults.items():
+        kind = {'action': 'store_true'} if default is False else {'default': default, 'type': type(default)}
+        if isinstance(default, list):
+            kind['type'] = lambda text: text.split(',')
+        parser.add_argument('--' + name.replace('_', '-'), **kind)
+    if at is None:
+        return parser.parse_args()
+    parser.add_argument('program', nargs='?', default=at)
+    options = parser.parse_args()
+    found = options.program and shutil.which(options.program)
+    if found is None:
+        parser.exit(2, f'{parser.prog}: no program at {options.program}\n')
+    options.program = found and os.path.abspath(found)
+    return options
+
+
+def read(path):
+    with open(path, 'rb') as file:
+        return file.read()
+
+
+def write(path, data):
+    """Writes bytes, or a text as it is, and gives the path."""
+    with open(path, 'wb') as file:
+        file.write(data if isinstance(data, bytes) else data.encode())
+    return path
+
+
+@functools.lru_cache(maxsize=None)
+def counted():
+    """A folder, as long as the script runs, with the job files of reference/counted."""
+    folder = tempfile.TemporaryDirectory()
+    subprocess.run([os.path.join(TOP, 'reference', 'counted'), folder.name], check=True)
+    return folder
+
+
+def job_files():
+    """(path of a job file, the columns that it is run over or None) of all that have a report or a refusal beside them."""
+    folders = [*(os.path.join(TOP, folder) for folder in FOLDERS), counted().name]
+    for path in sorted(path for folder in folders for path in glob.glob(os.path.join(folder, '*.jobs'))):
+        folder, name = os.path.split(path[:-len('.jobs')])
+        tables = [os.path.join(folder, table + '.csv') for table in (name, name.split('.')[0])]
+        yield path, next(filter(os.path.exists, tables), None)
+
+
+def sets(user=None, **limits):
+    """What a new process does before the program is loaded. Limits have the names of `resource`, without RLIMIT_."""
+    def limit():
+        for name, value in limits.items():
+            resource.setrlimit(getattr(resource, f'RLIMIT_{name}'), (value, value))
+        if user is not None:
+            os.setgroups([])
+            os.setgid(user)
+            os.setuid(user)
+    return limit
+
+
+def run(command, limit=None, seconds=None, **more):
+    """A run of a command; its status is None if its time was up."""
+    try:
+        ended = subprocess.run(command, **{'stdin': subprocess.DEVNULL, 'stdout': subprocess.PIPE, 'stderr': subprocess.PIPE, **more},
+                               preexec_fn=limit, timeout=seconds, check=False)
+        nothing = '' if more.get('text') else b''
+        return Run(ended.stdout or nothing, ended.stderr or nothing, ended.returncode)
+    except subprocess.TimeoutExpired as late:
+        return Run(late.stdout or b'', late.stderr or b'', None)
+
+
+def side_by_side(function, items):
+    """What a function gives for each item, in their order; as many run at a time as there are processors."""
+    with concurrent.futures.ThreadPoolExecutor(len(os.sched_getaffinity(0))) as pool:
+        yield from pool.map(function, items)
+
+
+class Tally:
+    """How many cases passed and failed; the first ones that fail have a line each."""
+
+    def __init__(self, title, shown=40):
+        self.title, self.shown, self.passed, self.failed = title, shown, 0, 0
+
+    def expect(self, name, is_right, got=''):
+        """Counts a case, with what to say of it if it isn't right: a text, or (standard output, standard error, status)."""
+        self.passed += bool(is_right)
+        self.failed += not is_right
+        if not is_right and self.failed <= self.shown:
+            said = f'status {got[2]}, {got[0][:200]!r}, {got[1][:400]!r}' if isinstance(got, tuple) else got
+            print(f'{name}: {said}', flush=True)
+
+    def compare(self, name, got, wanted):
+        """Counts a run by what it has to give."""
+        self.expect(name, tuple(got[:3]) == tuple(wanted), tuple(got))
+
+    def all_right(self, wrong, count):
+        """Counts so many cases, of which these are wrong."""
+        wrong = list(wrong)
+        self.passed += count - len(wrong)
+        for said in wrong:
+            self.expect(self.title, False, said)
+
+    def end(self, more=''):
+        """Prints the last line, and gives the exit status."""
+        print(f'{self.title}: {self.passed} passed, {self.failed} failed{more}')
+        return 0 if self.passed and not self.failed else 1

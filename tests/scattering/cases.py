@@ -1,0 +1,248 @@
+"""Refusals, lines and commands of tools/scatter with what they have to say. Each is worked out by hand from the rules of
+docs/beyond-one-machine.md and docs/job-language.md."""
+import os
+import re
+import shutil
+import sys
+import tempfile
+from unittest import mock
+
+from running import TOP, read, run as ran
+from scatter_lib import tables
+
+from .by_parts import TOOL, one_run, run, write
+
+TABLE = b'a,b\n1,10\n0,20\n-5,30\n7,0\n'
+
+# A job file that isn't mergeable, and what its line says after 'scatter: jobs: line '.
+UNMERGEABLE = [
+    ('s = column("a").limit(3).sum()', '1: s isn\'t mergeable: limit(3) beside column("a")'),
+    ('t = column("a").sum()\ns = column("a").map(x -> x + 1).skip( 2 ).sum()', '2: s isn\'t mergeable: skip( 2 ) beside column("a")'),
+    ('s = column("b").takeWhile(x -> x < 9).count()', '1: s isn\'t mergeable: takeWhile(x -> x < 9) beside column("b")'),
+    ('s = column("b")\n  .dropWhile(x -> x < 9).count()', '1: s isn\'t mergeable: dropWhile(x -> x < 9) beside column("b")'),
+    ('s = column("a").prefix(Long::sum).max()', '1: s isn\'t mergeable: prefix(Long::sum) beside column("a")'),
+    ('s = column("a").reduce(0, Math::addExact)', '1: s isn\'t mergeable: reduce(0, Math::addExact) beside column("a")'),
+    ('version 2\nt = of(1).sum().onFault(7)\ns = column("a").sum().onFault(0)', '3: s isn\'t mergeable: onFault(0) beside column("a")'),
+    ('s = column("a").prefix(1, 2, max).max()', '1: s isn\'t mergeable: prefix(1, 2, max) beside column("a")'),
+    ('s = concat(range(0, 3), column("a")).sum()', '1: s isn\'t mergeable: concat with range(0, 3) beside column("a")'),
+    ('s = concat(column("a"), column("b")).sum()', '1: s isn\'t mergeable: concat beside column("a")'),
+    ('p = column("a").toArray()\ns = concat(of(1), concat(result(p), of(2))).sum()',
+     '2: s isn\'t mergeable: concat with of(1) beside result(p)'),
+    ('p = column("a").toArray()\nq = result(p).map(x -> x).toArray()\ns = result(q).limit(1).sum()',
+     '3: s isn\'t mergeable: limit(1) beside result(q)'),
+    ('s = column("a").limit(3).sum()\nt = column("a").map(x -> x + $s).sum()\nu = column("a").skip(1).min()',
+     '1: s isn\'t mergeable: limit(3) beside column("a")\nscatter: jobs: line 2: t isn\'t mergeable: it names s\n'
+     'scatter: jobs: line 3: u isn\'t mergeable: skip(1) beside column("a")'),
+]
+
+# Table, job file, number of parts, status, line: what one run says by docs/job-language.md.
+REFUSED = [
+    (b'', b'a = of(1).sum()', 3, 1, 'streamrun: columns: no header'),
+    (b'\xef\xbb\xbf\n\r\n', b'a = of(1).sum()', 3, 1, 'streamrun: columns: no header'),
+    (b'a,b,a\n1,2,3\n', b'a = of(1).sum()', 3, 1, 'streamrun: columns: same name'),
+    (b',' * 256 + b'\n', b'a = of(1).sum()', 3, 1, 'streamrun: columns: more than 256 columns'),
+    (b'a\n1\n2\n3\n4\n5\n6\nx\n8\ny\n', b's = column("a").sum()', 4, 1, 'streamrun: columns: bad number in row 7 column 1'),
+    (b'a\n1\n\n2\n\n\n"3\n4"\n5\n6\n', b's = column("a").sum()', 9, 1, 'streamrun: columns: bad number in row 3 column 1'),
+    (b'a,b\n1,1\n2,2\n3,3\n4\nx,5\n', b's = column("a").sum()', 5, 1, 'streamrun: columns: wrong length of row 4'),
+    (b'a,b\n1,1\n2,2\n3,3\n4\nx,5\n', b'not a job', 5, 1, 'streamrun: columns: wrong length of row 4'),
+    (b'a\n1\n2\n', b'\n# c\ns = column("a").sum()\nt = column("b").sum()', 2, 1, 'streamrun: jobs: line 4: unknown column'),
+    (b'a\n1\n2\n', b's = column("a").sum()\r', 2, 1, 'streamrun: jobs: line 1: syntax'),
+    (b'a\n1\n2\n', b's = column("a").sum()\nt = result(s).sum()', 2, 1, 'streamrun: jobs: line 2: not an array'),
+    (b'a\n1\n2\n', b's = column("a").map(x -> x +).sum()', 2, 1, 'streamrun: jobs: line 1: expression syntax at column 9'),
+]
+
+# Job file, rows, reports of the parts, report of the whole as text.
+MERGED = [
+    ('s = column("a").sum()', '1,1', ['[{"name":"s","number":9223372036854775807}]', '[{"name":"s","number":1}]'],
+     's = -9223372036854775808'),
+    ('s = column("a").reduce(4294967296, affine)', '1,1',
+     ['[{"name":"s","number":8589934595}]', '[{"name":"s","number":21474836487}]'], 's = 42949672982'),
+    ('s = column("a").reduce((p, q) -> (q))', '2,0,2',
+     ['[{"name":"s","optional":5}]', '[{"name":"s","optional":null}]', '[{"name":"s","optional":7}]'], 's = OptionalLong[7]'),
+    ('s = column("a").min()', '0,0', ['[{"name":"s","optional":null}]'] * 2, 's = OptionalLong.empty'),
+    ('s = column("a").map(x -> 1 / x).toArray()', '3,2',
+     ['[{"array":[1,0,0],"name":"s"}]', '[{"fault":"divide-by-zero","item":1,"name":"s","stage":1}]'],
+     's = fault divide-by-zero stage 1 item 4'),
+    ('s = column("a").toArray()', '2,0,1', ['[{"array":[1,-2],"name":"s"}]', '[{"array":[],"name":"s"}]', '[{"array":[3],"name":"s"}]'],
+     's = [1, -2, 3]'),
+    ('s = column("a").map(x -> 1 / x).findFirst()', '2,2',
+     ['[{"name":"s","optional":1}]', '[{"fault":"divide-by-zero","item":0,"name":"s","stage":1}]'], 's = OptionalLong[1]'),
+    ('s = column("a").filter(x -> 1 / x > 5).findFirst()', '2,2',
+     ['[{"name":"s","optional":null}]', '[{"fault":"divide-by-zero","item":0,"name":"s","stage":1}]'],
+     's = fault divide-by-zero stage 1 item 2'),
+    ('s = column("a").anyMatch(x -> 1 / x > 5)', '2,2,1',
+     ['[{"name":"s","truth":false}]', '[{"name":"s","truth":true}]', '[{"fault":"divide-by-zero","item":0,"name":"s","stage":1}]'],
+     's = true'),
+    ('s = column("a").allMatch(x -> x > 5)', '2,2', ['[{"name":"s","truth":true}]', '[{"name":"s","truth":false}]'], 's = false'),
+    ('s = column("a").noneMatch(x -> x > 5)', '2,2', ['[{"name":"s","truth":true}]'] * 2, 's = true'),
+    ('p = column("a").filter(x -> x > 1).toArray()\ns = result(p).map(x -> 1 / (x - 9)).sum()', '9,9',
+     ['[{"array":[5,6],"name":"p"},{"name":"s","number":0}]',
+      '[{"array":[7,9],"name":"p"},{"fault":"divide-by-zero","item":1,"name":"s","stage":1}]'],
+     'p = [5, 6, 7, 9]\ns = fault divide-by-zero stage 1 item 3'),
+    ('p = column("a").map(x -> 1 / x).toArray()\ns = result(p).sum()', '1,1',
+     ['[{"array":[1],"name":"p"},{"name":"s","number":1}]',
+      '[{"fault":"divide-by-zero","item":0,"name":"p","stage":1},{"name":"s","unusable":"p"}]'],
+     'p = fault divide-by-zero stage 1 item 1\ns = unusable p'),
+    ('s = range(0, 9).limit(2).sum()', '5,5', ['[{"name":"s","number":1}]'] * 2, 's = 1'),
+]
+
+# Job file, rows, reports, status, and a word of the line.
+NOT_MERGED = [
+    ('s = column("a").sum()', '1', ['[{"name":"s","number":1}]'] * 2, 2, '2 reports want 2 numbers'),
+    ('s = column("a").sum()', '1,x', ['[{"name":"s","number":1}]'] * 2, 2, '2 reports want 2 numbers'),
+    ('s = column("a").sum()', '1,1', ['[{"name":"s","number":1}]', '[{"name":"t","number":1}]'], 1, 'other jobs'),
+    ('s = column("a").sum()', '1,1', ['[{"name":"s","number":1}]', '[{"name":"s","optional":1}]'], 1, 'another kind'),
+    ('s = column("a").sum()', '1,1', ['[{"name":"s","number":1}]', '[{"name":"s","number":1}'], 1, 'no report'),
+    ('s = column("a").sum()', '1,1', ['[{"name":"s","number":1}]', 's = 1'], 1, 'no report'),
+    ('s = of(1).sum()', '1,1', ['[{"name":"s","number":1}]', '[{"name":"s","number":2}]'], 1, 'different answers'),
+]
+
+PLAN = '''total = column("a").sum()
+near = column("b").filter(x -> x > $total).toArray()
+inner = result(near).max()
+same = range(0, 9).map(x -> x * $inner).limit(3).toArray()
+any = column("a").anyMatch(x -> x > 5)
+'''
+PLANNED = '''total: round 1: sums added, wrapped to 64 bits
+near: round 2: arrays joined
+inner: round 2: the greatest
+same: round 3: the same in every part
+any: round 1: the first part that decides or faults
+'''
+
+
+def lines_of(outcome):
+    return outcome[1].decode().rstrip('\n')
+
+
+def refusals(test, folder):
+    columns = write(folder, 'table.csv', TABLE)
+    for text, line in UNMERGEABLE:
+        jobs = write(folder, 'jobs', text.encode())
+        # The program isn't there: nothing runs before the refusal.
+        for got in (run('run', '--parts', 2, '--program', '/none', '--columns', columns, jobs), run('jobs', jobs)):
+            test.expect(text, got == (b'', f'scatter: jobs: line {line}\n'.encode(), 1), got)
+        test.expect(text, real('plan', jobs)[1:] == (f'scatter: jobs: line {line}\n'.encode(), 1), real('plan', jobs))
+    for table, text, count, status, line in REFUSED:
+        columns, jobs = write(folder, 'table.csv', table), write(folder, 'jobs', text)
+        got = run('run', '--parts', count, '--program', test.program, '--columns', columns, jobs)
+        test.expect(line, got == (b'', line.encode() + b'\n', status), got)
+
+
+def merges(test, folder):
+    for text, rows, reports, report in MERGED:
+        got = merge_of(folder, text, rows, reports)
+        test.expect(text, got == (report.encode() + b'\n', b'', 0), got)
+    for text, rows, reports, status, word in NOT_MERGED:
+        got = merge_of(folder, text, rows, reports)
+        test.expect(f'{text} {reports}', got[2] == status and word in lines_of(got) and not got[0], got)
+
+
+def merge_of(folder, text, rows, reports):
+    jobs = write(folder, 'jobs', text.encode())
+    paths = [write(folder, f'{number}.json', report.encode() + b'\n') for number, report in enumerate(reports)]
+    return run('merge', '--rows', rows, jobs, *paths)
+
+
+def real(*arguments, **more):
+    """What the tool gives as a process of its own."""
+    return one_run(sys.executable, TOOL, *map(str, arguments), **more)
+
+
+def processes(test, folder):
+    """Files that aren't there, programs that aren't or that die, and the command line itself."""
+    columns, jobs = write(folder, 'table.csv', TABLE), write(folder, 'jobs', b's = column("a").sum()\n')
+    other = write(folder, 'other.csv', b'a,c\n1,2\n')
+    begin = ['run', '--parts', 2, '--program', test.program, '--columns']
+    parts = os.path.join(folder, 'parts')
+    test.expect('cut', real('cut', '--parts', 3, columns, parts) == (b'2,1,1\n', b'', 0), os.listdir(parts))
+    for name, arguments, status, line in [
+            ('no table', [*begin, '/none', jobs], 4, 'streamrun: cannot open columns'),
+            ('neither file', [*begin, '/none', '/none'], 4, 'streamrun: cannot open columns'),
+            ('no job file', [*begin, columns, '/none'], 4, 'streamrun: cannot open jobs'),
+            ('a folder', [*begin, folder, jobs], 4, 'streamrun: columns: read failed'),
+            ('a folder of jobs', [*begin, columns, folder], 4, 'streamrun: jobs: read failed'),
+            ('another header', [*begin, columns, other, jobs], 1, f'scatter: {other}: another header than {columns}'),
+            ('no program', ['run', '--program', '/none', '--columns', columns, jobs], 4, 'scatter: no program /none'),
+            ('another program', ['run', '--program', '/bin/true', '--columns', columns, jobs], 4, 'scatter: /bin/true is no streamrun'),
+            ('a folder with parts', ['cut', '--parts', 2, columns, parts], 1, f'scatter: {parts} has a part of another cut, part-3.csv'),
+            ('no such round', ['jobs', '--round', 2, jobs], 2, 'scatter: there is no round 2: this job file has 1'),
+            ('no job at all', ['plan', write(folder, 'bad', b'x\n')], 1,
+             'scatter: jobs: line 1: this is no job; streamrun says why')]:
+        got = real(*arguments)
+        test.expect(name, got == (b'', line.encode() + b'\n', status), got)
+    for name, arguments in (('no command', []), ('no job file', [*begin, columns]), ('no parts', ['run', '--parts', 0])):
+        got = real(*arguments)
+        test.expect(name, got[2] == 2 and not got[0] and b'usage' in got[1], got)
+    with open('/dev/full', 'wb') as full:
+        got = real(*begin, columns, jobs, stdout=full)
+    test.expect('a full disk', got == (b'', b'scatter: write failed after 0 bytes\n', 4), got)
+    got = real('plan', write(folder, 'plan', PLAN.encode()))
+    test.expect('plan', got == (PLANNED.encode(), b'', 0), got)
+
+
+def dying(test, folder):
+    """A part whose program is killed is run again; one that is killed each time ends the run."""
+    columns, jobs = write(folder, 'table.csv', TABLE), write(folder, 'jobs', b's = column("a").sum()\n')
+    mark = os.path.join(folder, 'mark')
+    once = write(folder, 'once', f'#!/bin/sh\nif mkdir {mark} 2> {folder}/err; then kill -9 $$; fi\nexec {test.program} "$@"\n'.encode())
+    always = write(folder, 'always', b'#!/bin/sh\nkill -9 $$\n')
+    for path in (once, always):
+        os.chmod(path, 0o755)
+    got = run('run', '--parts', 3, '--program', once, '--columns', columns, jobs)
+    test.expect('a program that is killed once', got == (b's = 3\n', b'', 0) and os.path.isdir(mark), got)
+    got = run('run', '--parts', 3, '--program', always, '--columns', columns, jobs)
+    test.expect('a program that is killed each time', got[2] == 3 and b'part 1 of 1: ended by signal 9' in got[1], got)
+    with open(columns, 'rb') as table:
+        got = real('run', '--parts', 3, '--program', test.program, '--columns', '/dev/stdin', jobs, stdin=table)
+    test.expect('a table from standard input', got == (b's = 3\n', b'', 0), got)
+    piped = f'cat {columns} | {sys.executable} {TOOL} run --parts 3 --program {test.program} --columns /dev/stdin {jobs}'
+    got = one_run('sh', '-c', piped)
+    test.expect('a table from a pipe', got == (b's = 3\n', b'', 0), got)
+
+
+# Bytes of a table, and how many rows they have.
+COUNTED = [(b'a', 0), (b'a\n', 0), (b'a\n1', 1), (b'\n\na\n\n1\n\n', 1), (b'a\r\n1\r\n\r\n2\r3\n\r4', 4), (b'a\n \n\t\n', 2),
+           (b'a\n"1\n\n2"\n3\n', 2), (b'"a\n"\n"1"\n\n"', 2), (b'\xef\xbb\xbf"a"\n1\n22222222\n333333333333\n', 3)]
+
+
+def counts(test, folder):
+    """Rows are counted piece by piece, and a piece may end anywhere."""
+    for data, rows in COUNTED:
+        path = write(folder, 'table.csv', data)
+        for size in (1, 2, 3, 5, 8, 2 ** 24):
+            with mock.patch.object(tables, 'CHUNK', size):
+                got = run('rows', path)
+            test.expect(f'rows of {data} in pieces of {size}', got == (b'%d\n' % rows, b'', 0), got)
+
+
+def blocks_of(text):
+    """(commands, what they write or None) of a page: a block of commands, and a listing that stands one paragraph below."""
+    parts = re.split(r'^```(.*)\n', text, flags=re.M)  # prose, 'sh', commands, '', prose, 'text', listing, '', prose, ..
+    for at in range(1, len(parts) - 1, 4):
+        if parts[at] == 'sh':
+            is_written = parts[at + 4:at + 5] == ['text'] and parts[at + 3].strip().count('\n\n') == 0
+            yield parts[at + 1], parts[at + 5] if is_written else None
+
+
+def page(test, folder):
+    """The commands of the page, as printed, in a folder with the examples; the commands of a cluster aside."""
+    os.mkdir(os.path.join(folder, 'bin'))
+    os.symlink(test.program, os.path.join(folder, 'bin', 'streamrun'))
+    for name in ('examples', 'tools'):
+        os.symlink(os.path.join(TOP, name), os.path.join(folder, name))
+    blocks = blocks_of(read(os.path.join(TOP, 'docs', 'beyond-one-machine.md')).decode())
+    outside = ['dask', *([] if shutil.which('parallel') else ['parallel'])]
+    here = [block for block in blocks if not any(word in block[0] for word in outside)]
+    test.expect('the page', len(here) >= 5 and any(block[1] for block in here), here)
+    for commands, written in here:
+        environment = {**os.environ, 'PATH': os.path.join(folder, 'bin') + ':' + os.environ['PATH']}
+        done = ran(['sh', '-e', '-c', commands], cwd=folder, env=environment)
+        is_right = done.status == 0 and (not written or done.out.decode() == written)
+        test.expect('the page', is_right, f'{commands}: {done}')
+
+
+def all_cases(test):
+    for cases in (counts, refusals, merges, processes, dying, page):
+        with tempfile.TemporaryDirectory() as folder:
+            cases(test, folder)

@@ -1,0 +1,337 @@
+"""Answers that were worked out by hand from the definitions of the language, or are those of Java 17; the model has to
+give them, and those of examples/."""
+import os
+import re
+
+from running import TESTS, Tally, job_files, read
+
+REFUSED_TEXTS = os.path.join(TESTS, 'soak', 'refused.txt')
+COLUMNS = b'a,b\n3,10\n0,20\n-5,30\n'
+DIVISION = 'fault divide-by-zero stage {} item {}'.format
+
+# (what stands after 'j = ', the answer)
+ANSWERS = [
+    ('column("a").sum()', '-2'),
+    ('range(5, 5).toArray()', '[]'),
+    ('range(5, 5).min()', 'OptionalLong.empty'),
+    ('range(0, 10).map(x -> 10 / (x - 7)).limit(7).toArray()', '[-1, -1, -2, -2, -3, -5, -10]'),
+    ('range(0, 10).map(x -> 10 / (x - 7)).limit(8).toArray()', DIVISION(1, 7)),
+    ('of(1, 0).map(x -> 1 / x).map(x -> 1 / (x - 1)).toArray()', DIVISION(2, 0)),
+    ('of(2, 1, 0, 3).prefix(Long::sum).toArray()', '[2, 3, 3, 6]'),
+    ('of(1, 0).map(x -> 1 / x).findFirst()', 'OptionalLong[1]'),
+    ('of(1, 0).map(x -> 1 / x).prefix(Long::sum).findFirst()', DIVISION(1, 1)),
+    ('of(9223372036854775807, 1).sum()', '-9223372036854775808'),
+    ('of(-9223372036854775808).map(x -> x / -1).toArray()', '[-9223372036854775808]'),
+    ('of(8589934595, 21474836487).reduce(4294967296, affine)', '42949672982'),
+    ('range(0, 5).reduce((a, b) -> b)', 'OptionalLong[4]'),
+    ('of(1, 3, 0).takeWhile(x -> 6 / x > 2).toArray()', '[1]'),
+    ('of(1, 2, 0, 3).takeWhile(x -> 6 / x > 2).toArray()', DIVISION(1, 2)),
+    ('concat(range(0, 3), of(7, 8)).skip(2).toArray()', '[2, 7, 8]'),
+    ('of(2, 0, 3).flatMap(x -> range(0, x)).toArray()', '[0, 1, 0, 1, 2]'),
+    ('of(1, 2, 3, 4).prefix(1, 3, Long::sum).toArray()', '[1, 2, 5, 4]'),
+    ('of(1, 2, 3, 4).prefix(1, 5, Long::sum).toArray()', 'fault out-of-array stage 1 item -'),
+    ('of(0).map(x -> 1 / x).limit(0).toArray()', '[]'),
+    ('of(0, 1).map(x -> 1 / x).skip(1).toArray()', DIVISION(1, 0)),
+    ('of(5, 0).anyMatch(x -> 10 / x > 1)', 'true'),
+    ('of(0, 5).anyMatch(x -> 10 / x > 1)', DIVISION(1, 0)),
+    ('range(-9223372036854775808, 9223372036854775807).count()', 'fault source-too-long stage 0 item -'),
+    ('of(2, 1).flatMap(x -> range(0, x)).map(x -> 1 / (1 - x)).toArray()', DIVISION(2, 0)),
+    ('of(-7).map(x -> Math.floorMod(x, 3) * 100 + x % 3 + (x >>> 62)).toArray()', '[202]'),
+    ('of(1).map(x -> x << 65).sum()', '2'),
+    ('of(9223372036854775807).map(x -> Math.addExact(x, 1)).sum()', 'fault overflow stage 1 item 0'),
+    ('empty().anyMatch(x -> true)', 'false'),
+    ('empty().allMatch(x -> false)', 'true'),
+    ('empty().noneMatch(x -> true)', 'true'),
+    ('of(3, 1, 4).dropWhile(x -> x > 2).toArray()', '[1, 4]'),
+    ('of(1, 2).toArray()', '[1, 2]'),
+    ('of(1, 0).map(x -> 1 / x).limit(5).map(x -> 1 / (x - 1)).toArray()', DIVISION(3, 0)),
+    ('of(1, 0).skip(0).map(x -> 1 / x).limit(1).toArray()', '[1]'),
+    ('of(3, 4, 5).skip(1).limit(1).findFirst()', 'OptionalLong[4]'),
+    ('of(8589934595, 21474836487).prefix(affine).toArray()', '[8589934595, 42949672982]'),
+    ('of(4, 5, 6).prefix(first).toArray()', '[4, 4, 4]'),
+    ('empty().prefix(0, 0, Long::sum).toArray()', '[]'),
+    ('of(2, 1, 0).prefix(Long::sum).map(x -> 1 / (x - 3)).toArray()', DIVISION(2, 1)),
+    ('of(1, 0).map(x -> 1 / x).prefix(0, 9, Long::sum).count()', DIVISION(1, 1)),
+    ('range(0, 1000).findFirst()', 'OptionalLong[0]'),
+    ('of(5, 0, 7).dropWhile(x -> 10 / x > 3).toArray()', '[5, 0, 7]'),
+    ('range(0, 100000).filter(x -> x % 3 == 0).prefix(Long::sum).skip(33333).toArray()', '[1666683333]'),
+    # Walks that ask for little.
+    ('range(Long.MIN_VALUE, Long.MAX_VALUE).limit(0).sum()', '0'),
+    ('range(Long.MIN_VALUE, Long.MAX_VALUE).limit(5).skip(5).limit(0).sum()', '0'),
+    ('range(Long.MIN_VALUE, Long.MAX_VALUE).limit(5).skip(5).sum()', 'fault source-too-long stage 0 item -'),
+    ('of(0).map(x -> 1 / x).prefix(sum).limit(0).toArray()', '[]'),
+    ('of(1).prefix(0, 9, sum).limit(0).count()', '0'),
+    ('range(0, 4611686018427387904).map(x -> x * 2).skip(3).findFirst()', 'OptionalLong[6]'),
+    ('range(0, 4611686018427387904).skip(4611686018427387903).toArray()', '[4611686018427387903]'),
+    ('range(0, 4611686018427387905).skip(9).toArray()', 'fault source-too-long stage 0 item -'),
+    ('concat(range(0, 4611686018427387904), of(7)).findFirst()', 'fault source-too-long stage 0 item -'),
+    ('of(0, 1).flatMap(x -> range(0, 4611686018427387904 + x)).skip(1).findFirst()', 'OptionalLong[1]'),
+    ('of(1).flatMap(x -> range(0, 4611686018427387904 + x)).findFirst()', 'fault source-too-long stage 1 item 0'),
+    ('of(7, 0).flatMap(x -> of(x, 14 / x)).limit(2).toArray()', '[7, 2]'),
+    ('of(7, 0).flatMap(x -> of(x, 14 / x)).limit(3).toArray()', DIVISION(1, 1)),
+    # Values.
+    ('of(-9223372036854775808).map(x -> x % -1 + Math.abs(x) + Math.floorMod(x, -1)).sum()', '-9223372036854775808'),
+    ('of(-7).map(x -> Math.floorDiv(x, 2) * 100 + x / 2).sum()', '-403'),
+    ('of(-16).map(x -> (x >> 2) * 100 + (x >>> 60)).sum()', '-385'),
+    ('of(12).map(x -> x & 10 | x ^ 3).sum()', '15'),
+    ('of(5).map(x -> x > 3 ? x > 4 ? 1 : 2 : 3).sum()', '1'),
+    ('of(0).filter(x -> x == 0 || 1 / x > 0).count()', '1'),
+    ('of(-9223372036854775808).map(x -> Math.negateExact(x)).sum()', 'fault overflow stage 1 item 0'),
+    ('of(3).map(x -> - 9223372036854775808 + x).sum()', '-9223372036854775805'),
+    ('of(6, 3).reduce(-1, (long a, long b) -> ((a) & (b)))', '2'),
+    ('of(6, 3).reduce((a, b) -> Math.max(a, b))', 'OptionalLong[6]'),
+    # Exact sums.
+    ('of(-5, 9223372036854775807, 3).reduce(0, Math::addExact)', '9223372036854775805'),
+    ('of(9223372036854775807, 1, -5).reduce(0, Math::addExact)', 'fault overflow stage 1 item 1'),
+    ('of(9223372036854775807, 2).flatMap(x -> of(x, 1)).reduce(0, Math::addExact)', 'fault overflow stage 2 item 0'),
+    ('of(1, 0).map(x -> 1 / x).reduce(0, Math::addExact)', DIVISION(1, 1)),
+    ('of(9223372036854775807, 1, 0).filter(x -> 1 / x > -1).reduce(0, (u, v) -> (Math.addExact(u, (v))))',
+     'fault overflow stage 2 item 1'),
+    ('empty().reduce(0, Math::addExact)', '0'),
+]
+
+# (a job file, its report)
+REPORTS = [
+    ('true = of(1).anyMatch(range -> range > 0)\nlong = of(1).allMatch(x -> x > 1)\n', 'true = true\nlong = false\n'),
+    ('', ''),
+    ('\ufeff# squares\r\ns = LongStream.rangeClosed(1, 4)\r\n  .map((x) -> x * x)\r\n  .sum();\r\n', 's = 30\n'),
+    ('t = column("a").sum()\nu = column("b").map(x -> x / $t).toArray()\n', 't = -2\nu = [-5, -10, -15]\n'),
+    ('z = of(0).map(x -> 1 / x).sum()\ny = of(1).map(x -> x + $z).sum()\n',
+     'z = fault divide-by-zero stage 1 item 0\ny = unusable z\n'),
+    ('a = of(2).sum()\nb = of(1).map(x -> x + $a).sum()\nc = of(1).map(x -> x * $a + $b + $a).sum()\n',
+     'a = 2\nb = 3\nc = 7\n'),
+    ('p = of(1, 2).toArray()\nq = result(p).map(x -> x * 2).sum()\n', 'p = [1, 2]\nq = 6\n'),
+    ('z = of(0).map(x -> 1 / x).sum()\nm = of().min()\nu = of(1).map(x -> $m + $z).sum()\n'
+     'v = empty().map(x -> x + $u).sum()\n',
+     'z = fault divide-by-zero stage 1 item 0\nm = OptionalLong.empty\nu = unusable m\nv = unusable u\n'),
+    ('z = of(0).map(x -> 1 / x).toArray()\nr = concat(of(1), result(z)).limit(0).count()\n',
+     'z = fault divide-by-zero stage 1 item 0\nr = unusable z\n'),
+    ('true = of(2).sum()\nlong = of(3).filter(x -> x > $true).count()\n', 'true = 2\nlong = 1\n'),
+    ('version 2\nz = of(0).map(x -> 1 / x).sum().onFault(-1)\ny = of(1).map(x -> x + $z).sum()\n'
+     'm = of(1, 0).map(x -> 1 / x).max().onFault(9)\nn = empty().min().onFault(9)\n',
+     'z = -1\ny = 0\nm = OptionalLong[9]\nn = OptionalLong.empty\n'),
+    ('\ufeff# c\n version\t2 \nq = of(0).map(x -> 1 / x).sum()\nu = of(1).map(x -> x + $q).sum()\n.onFault(7);\n',
+     'q = fault divide-by-zero stage 1 item 0\nu = unusable q\n'),
+    ('version 2\nr = of(0).map(x -> 1 / x).reduce(1, product).onFault(2)\ns = of(0).map(x -> 1 / x).reduce(product).onFault(3)\n'
+     'f = of(0).map(x -> 1 / x).findFirst().onFault(4)\ne = of(9223372036854775807, 1).reduce(0, Math::addExact).onFault(5)\n'
+     'l = range(Long.MIN_VALUE, 1).count().onFault(6)\nversion = of(1).prefix(0, 9, sum).min().onFault(7)\n',
+     'r = 2\ns = OptionalLong[3]\nf = OptionalLong[4]\ne = 5\nl = 6\nversion = OptionalLong[7]\n'),
+    ('version 2', ''),
+    ('j0 = of(1).sum()\n' + ''.join(f'j{it} = of(1).map(x -> x + $j{it - 1}).sum()\n' for it in range(1, 256)),
+     ''.join(f'j{it} = {it + 1}\n' for it in range(256))),
+]
+
+JSON = [
+    ('s = of(1, 2).toArray()\nm = of().min()\n', '[{"array":[1,2],"name":"s"},{"name":"m","optional":null}]\n'),
+    ('s = of(1, 2).toArray()\n', '[{"array":[1,2],"name":"s"}]\n'),
+    ('s = of(-2).sum()\nj = of(1).anyMatch(x -> x > 0)\nm = of(5).max()\nq = of(0).map(x -> 1 / x).sum()\n'
+     'n = range(Long.MIN_VALUE, 1).count()\ny = of(1).map(x -> $q).sum()\n',
+     '[{"name":"s","number":-2},{"name":"j","truth":true},{"name":"m","optional":5},'
+     '{"fault":"divide-by-zero","item":0,"name":"q","stage":1},'
+     '{"fault":"source-too-long","item":null,"name":"n","stage":0},{"name":"y","unusable":"q"}]\n'),
+    ('', '[]\n'),
+]
+
+# (what stands after 'j = ', the cause)
+REFUSED = [
+    ('range(0, 5).reduce(1, Long::sum)', 'not identity'),
+    ('range(0, 5).limit(-1).sum()', 'negative count'),
+    ('range(0, 5).', 'syntax'),
+    ('range(0, 5).reduce((a, b) -> a - b)', 'operator not listed'),
+    ('of(9223372036854775808).sum()', 'literal too large'),
+    ('of(1).map(x -> x +).sum()', 'expression syntax at column 9'),
+    ('of(1).map(x -> x > 1).sum()', 'wrong type'),
+    ('of(1).reduce(0, last)', 'no identity'),
+    ('of(1).map(x -> x ++ 1).sum()', 'syntax'),
+    ('of(1).map(x -> 007).sum()', 'syntax'),
+    ('of(1).map(x -> x # 1).sum()', 'syntax'),
+    ('of(1).map(x -> Math.abs()).sum()', 'expression syntax at column 15'),
+    ('of(1).map(x -> Math.abs(1, 2)).sum()', 'wrong type'),
+    ('of(1).map(x -> -(9223372036854775808)).sum()', 'literal too large'),
+    ('of(1).map(x -> -+9223372036854775808).sum()', 'literal too large'),
+    ('of(1).map(x -> 5 -9223372036854775808).sum()', 'literal too large'),
+    ('of(1).map(x -> Math.PI).sum()', 'expression syntax at column 13'),
+    ('of(1).map(x -> Long.PI).sum()', 'unknown name'),
+    ('of(1).map(x -> Long.MAX_VALUE(1)).sum()', 'unknown name'),
+    ('of(1).map(x -> Long.sum).sum()', 'unknown name'),
+    ('of(1).map(x -> Math.true(x)).sum()', 'unknown name'),
+    ('of(1).map(x -> Long.long).sum()', 'unknown name'),
+    ('of(1).map(x -> long).sum()', 'expression syntax at column 6'),
+    ('of(1).flatMap(x -> x).sum()', 'expression syntax at column 6'),
+    ('of(1).flatMap(x -> (of(x))).sum()', 'expression syntax at column 6'),
+    ('of(1).flatMap(x -> range(x)).sum()', 'expression syntax at column 13'),
+    ('of(1).reduce((a, a) -> a)', 'expression syntax at column 5'),
+    ('of(1).reduce((long a, b) -> a)', 'expression syntax at column 10'),
+    ('of(1).reduce((a, long b) -> a)', 'expression syntax at column 5'),
+    ('of(1).map(x -> x + ).sum()', 'expression syntax at column 10'),
+    ('of(1).prefix(1, sum).sum()', 'syntax'),
+    ('of(1).prefix(x, 2, sum).sum()', 'syntax'),
+    ('of(1).reduce(x, sum)', 'syntax'),
+    ('of(1).map((x), y).sum()', 'syntax'),
+    ('of(1).map(x -> (x).sum()', 'syntax'),
+    ('of(1).prefix(1).sum()', 'expression syntax at column 1'),
+    ('of(1).reduce(0)', 'expression syntax at column 1'),
+    ('of(1).reduce(long)', 'operator not listed'),
+    ('of(1).reduce(true)', 'operator not listed'),
+    ('of(1).reduce((sum))', 'expression syntax at column 5'),
+    ('of(1).reduce((a, b) -> a + $none)', 'operator not listed'),
+    ('of(+1).sum()', 'syntax'),
+    ('of(-Long.MAX_VALUE).sum()', 'syntax'),
+    ('of(Long.SIZE).sum()', 'syntax'),
+    ('of(1).reduce(9223372036854775808, avg)', 'literal too large'),
+    ('of(1).reduce(1, avg)', 'operator not listed'),
+    ('of(1).reduce(1, first)', 'no identity'),
+    ('of(1).prefix(3, 2, avg).sum()', 'bad range'),
+    ('of(1).prefix(3, 9223372036854775808, avg).sum()', 'literal too large'),
+    ('sum(0)', 'syntax'),
+    ('of(1).sum(0)', 'syntax'),
+    ('of(007).sum()', 'syntax'),
+    ('of(1).map(x -> x + $none).sum()', 'unknown job'),
+    ('of(1).map(x -> x + $j).sum()', 'unknown job'),
+    ('result(none).sum()', 'unknown job'),
+    ('column("z").sum()', 'unknown column'),
+    ('of(1, 2', 'syntax'),
+    ('of(1).map(x -> ' + '(' * 64 + 'x' + ')' * 64 + ').sum()', 'too deep'),
+    ('of(1)' + '.skip(0)' * 33 + '.sum()', 'too long'),
+    ('concat(' + ', '.join(['of(1)'] * 9) + ').sum()', 'too long'),
+    ('concat(of(1)).sum()', 'syntax'),
+    ('of(1).sum().sum()', 'syntax'),
+    ('of(1).sum();;', 'syntax'),
+    ('of(1).reduce(1, Math::addExact)', 'not identity'),
+    ('of(1).reduce(Math::addExact)', 'operator not listed'),
+    ('of(1).reduce((a, b) -> Math.addExact(a, b))', 'operator not listed'),
+    ('of(1).prefix(Math::addExact).sum()', 'operator not listed'),
+    ('of(1).reduce(0, (a, b) -> Math.addExact(b, a))', 'operator not listed'),
+    ('of(1).reduce(0, Long::addExact)', 'operator not listed'),
+    ('of(1).reduce(0, addExact)', 'operator not listed'),
+    ('of(1).reduce(9223372036854775808, Math::addExact)', 'literal too large'),
+    ('of(1).sum().onFault(0)', 'syntax'),
+]
+
+# (a job file, the line and the cause)
+REFUSED_FILES = [
+    ('.sum()', '1: syntax'),
+    ('# c\n\n .sum()\na = of(1).sum()', '3: syntax'),
+    ('a = of(1).sum()\nb = of(1).sum()\na = of(2).sum()\n', '3: same name'),
+    ('a = of(1).toArray()\nb = of(1).map(x -> $a).sum()\n', '2: not a number'),
+    ('a = of(1).sum()\nb = result(a).sum()\n', '2: not an array'),
+    ('\n' + 'n' * 65 + ' = of(1).sum()\n', '2: too long'),
+    (''.join(f'j{it} = of(1).sum()\n' for it in range(257)), '257: too long'),
+    ('a = of(1).map(x -> Math\n# c\n .abs(x) +).sum()\n', '1: expression syntax at column 21'),
+    ('a = of(1).map(x -> x\n  +).sum()\n', '1: syntax'),
+    ('a = of(1).sum()\r', '1: syntax'),
+    ('version 2;\na = of(1).sum()\n', '1: syntax'),
+    ('version 3\na = of(1).sum()\n', '1: syntax'),
+    ('version 2\n# c\n.sum()\n', '3: syntax'),
+    ('version 2\nversion 2\n', '2: syntax'),
+    ('a = of(1).sum()\nversion 2\n', '2: syntax'),
+    ('version 2\nt = of(1).toArray().onFault(0)\n', '2: not scalar'),
+    ('version 2\nt = of(1).anyMatch(x -> x > 1).onFault(0)\n', '2: not scalar'),
+    ('version 2\nt = of(1).toArray().onFault(9223372036854775808)\n', '2: literal too large'),
+    ('version 2\nt = of(1).sum().onFault(0).onFault(0)\n', '2: syntax'),
+    ('version 2\nt = of(1).onFault(0)\n', '2: syntax'),
+    ('version 2\nt = of(1).sum().onFault()\n', '2: syntax'),
+    # A part past its limit is too long before any other cause, and so is one job more than 256; an earlier fault comes first.
+    ('n' * 65 + ' = of(9223372036854775808).sum()', '1: too long'),
+    ('s = of(9223372036854775808' + ',1' * 1024 + ').sum()', '1: too long'),
+    ('s = of()' + '.map(x->x)' * 32 + '.map(x->y).sum()', '1: too long'),
+    ('s = of()' + '.map(x->x)' * 32 + '.prefix(3, 2, sum).sum()', '1: too long'),
+    ('s = of()' + '.map(x->x)' * 31 + '.limit(-1).skip(-1).sum()', '1: negative count'),
+    ('s = of()' + '.map(x->x)' * 32 + '.reduce(9223372036854775808, sum)', '1: literal too large'),
+    ('s = concat(of(9223372036854775808)' + ',empty()' * 8 + ').sum()', '1: too long'),
+    ('s = concat(column("z")' + ', of()' * 7 + ').sum()', '1: unknown column'),
+    ('s = concat(column("z"), LongStream.concat(of(), of())' + ', of()' * 6 + ').sum()', '1: too long'),
+    ('s = of().sum()\ns = concat(of()' + ', of()' * 8 + ').sum()', '2: same name'),
+    ('s = of().sum(0)' + ' ' * 65522, '1: too long'),
+    (''.join(f'j{it} = of().sum()\n' for it in range(256)) + 'more (\n', '257: too long'),
+    (''.join(f'j{it} = of().sum()\n' for it in range(255)) + 'j0 = of().sum()\nmore (\n', '256: same name'),
+    # Operands of an inner stream.
+    ('s = of(1).flatMap(x -> of(x' + ', y' * 64 + ')).sum()', '1: too deep'),
+    ('s = of(1).flatMap(x -> of(x' + ', 9223372036854775808' * 64 + ')).sum()', '1: literal too large'),
+    ('s = of(1).flatMap(x -> of(x, ' + '+ ' * 63 + 'y)).sum()', '1: too deep'),
+]
+
+# (a column file, what stands on standard error)
+REFUSED_COLUMNS = [
+    (b'', 'no header'), (b'\xef\xbb\xbf', 'no header'), (b'\r\n\n', 'no header'),
+    (b'a,b\n3\n', 'wrong length of row 1'), (b'a\n3.0\n', 'bad number in row 1 column 1'), (b'a,a\n', 'same name'),
+    (b'a,b\n1,2\n3,- 5\n', 'bad number in row 2 column 2'), (b'a\n \n', 'bad number in row 1 column 1'),
+    (b'a\n9223372036854775808\n', 'bad number in row 1 column 1'), (b'a,b,a\n', 'same name'), (b',' * 256, 'more than 256 columns'),
+    (b'a,b\n1,2\n3,4,5\nx,y\n', 'wrong length of row 2'), (b'a,b\n1,2\n3,-\n', 'bad number in row 2 column 2'),
+    (b'a,b\n1,x\n1\n', 'bad number in row 1 column 2'), (b'a\n"1\n"\n', 'bad number in row 1 column 1'),
+    (','.join(f'c{it}' for it in range(257)).encode(), 'more than 256 columns'),
+]
+
+# (a column file, a source, its values)
+CELLS = [
+    (b'\xef\xbb\xbfa\n +007 \n', 'column("a")', '[7]'), (b'a\n\n1\r2\r\n\n"3"\n', 'column("a")', '[1, 2, 3]'),
+    (b'"a b",\n-9223372036854775808,\t-0\n', 'column("")', '[0]'), (b'a,b\n', 'column("b")', '[]'),
+    (b'x\n' + b'0' * 40 + b'5', 'column("x")', '[5]'),
+]
+
+
+def refused_texts():
+    """(a job file, a column file or None, the line and the cause) of each row of refused.txt"""
+    front, columns = '', None
+    for row in read(REFUSED_TEXTS).decode().splitlines():
+        word, _, text = row.partition(' => ')
+        # In a text `\\n` and others stand for what they stand for in Python.
+        if row.startswith('front:'):
+            front, columns = unescaped(row[len('front: '):]), None
+        elif row.startswith('columns: '):
+            columns = unescaped(row[len('columns: '):]).encode()
+        elif text and not row.startswith('#'):
+            line, _, cause = word.partition(' ') if word[0].isdigit() else (front.count('\n') + 1, '', word)
+            yield front + unescaped(text), columns, f'{line}: {cause}'
+
+
+def unescaped(text):
+    return text.encode('ascii').decode('unicode_escape')
+
+
+def of_both_versions(files):
+    """These files, each with what it has to give, and each that is of version 1 once more as one of version 2: it gives the same."""
+    for jobs, wanted in files:
+        yield jobs, wanted
+        if not re.match(r'\ufeff?(?:[ \t]*(?:#.*)?\r?\n)*[ \t]*version[ \t]+2[ \t]*\r?(?:\n|$)', jobs):
+            mark, text = ('\ufeff', jobs[1:]) if jobs.startswith('\ufeff') else ('', jobs)
+            yield f'{mark}version 2\n{text}', wanted
+
+
+def cases():
+    """(a job file, a column file or None, 'text' or 'json', and the wanted standard output, standard error and status)"""
+    for jobs, text in of_both_versions([(f'j = {job}\n', f'j = {answer}\n') for job, answer in ANSWERS] + REPORTS):
+        yield jobs, COLUMNS, 'text', (text, '', 0)
+    for jobs, text in of_both_versions(JSON):
+        yield jobs, None, 'json', (text, '', 0)
+    for job, cause in REFUSED:
+        yield f'j = {job}', None, 'text', ('', f'streamrun: jobs: line 1: {cause}\n', 1)
+    for jobs, cause in REFUSED_FILES:
+        yield jobs, None, 'text', ('', f'streamrun: jobs: line {cause}\n', 1)
+    for jobs, columns, cause in refused_texts():
+        yield jobs, columns, 'text', ('', f'streamrun: jobs: line {cause}\n', 1)
+    for columns, cause in REFUSED_COLUMNS:
+        # The job file is not read at all.
+        yield 'junk', columns, 'text', ('', f'streamrun: columns: {cause}\n', 1)
+    for columns, source, values in CELLS:
+        yield f'j = {source}.toArray()', columns, 'text', (f'j = {values}\n', '', 0)
+
+
+def examples():
+    for jobs, table in job_files():
+        name, text, columns = jobs[:-len('.jobs')], read(jobs).decode(), None if table is None else read(table)
+        if os.path.exists(name + '.report'):
+            yield text, columns, 'text', (read(name + '.report').decode(), '', 0)
+        else:
+            yield text, columns, 'text', ('', read(name + '.fault').decode(), 1)
+        if os.path.exists(name + '.json'):
+            yield text, columns, 'json', (read(name + '.json').decode(), '', 0)
+
+
+def compare_all(outcome_of):
+    """Compares outcome_of, which is called as the model's `outcome` is, with all answers."""
+    tally = Tally('worked answers')
+    for jobs, columns, form, wanted in [*cases(), *examples()]:
+        out, err, status = outcome_of(jobs.encode(), columns, form)
+        tally.compare(f'{jobs[:200]!r}', (out.decode(), err.decode(), status), wanted)
+    return tally.end()
