@@ -4,7 +4,7 @@ use Rattle.trace.specs.Stages.{AbstractStage}
 use Rattle.trace.specs.Trace.{Trace, trace}
 use Rattle.slice_ops.specs.Slices.{AbstractSlice, limit, skip, take_while, drop_while, limited, skipped}
 use Rattle.job_plan.specs.Pieces.{elements}
-use Rattle.job_plan.specs.Plans.{AbstractEnd, AbstractSegment, AbstractPlan, slice_in}
+use Rattle.job_plan.specs.Plans.{AbstractEnd, AbstractSegment, AbstractPlan, gives_walk, slice_in}
 use Rattle.job_meaning.specs.Walks.{source_walk}
 
 -- whether a stage selects positions, and leaves the end of the walk over a job's sources as it is: `skip`, and `limit`
@@ -29,10 +29,32 @@ abbrev pub selects : List AbstractStage → AbstractEnd → Bool
 selects [] e = end_selects e
 selects (g ∷ gs) e = false
 
--- the segments after the first ones that select positions
+-- whether a stage is `limit(0)`, which asks for no item and takes every fault away
+abbrev pub slice_closes : AbstractSlice → Bool
+slice_closes (limit zero) = true
+slice_closes (limit (suc n)) = false
+slice_closes (skip n) = false
+slice_closes (take_while p) = false
+slice_closes (drop_while p) = false
+
+-- helper: whether such a stage is there, and is
+abbrev pub some_closes : Option AbstractSlice → Bool
+some_closes None = false
+some_closes (Some d) = slice_closes d
+
+-- whether one of these segments ends in `limit(0)`, and those before it give walks
+abbrev pub closes : List AbstractSegment → Bool
+closes [] = false
+closes (s ∷ ss) = if some_closes (slice_in s.ending) then true else if gives_walk s.ending then closes ss else false
+
+-- whether it doesn't matter what a segment gives, since `limit(0)` comes after it
+abbrev pub is_unasked : AbstractEnd → List AbstractSegment → Bool
+is_unasked e later = if gives_walk e then closes later else false
+
+-- the segments after the first ones that select positions, or from the last `limit(0)` on
 abbrev pub later_segments : List AbstractSegment → List AbstractSegment
 later_segments [] = []
-later_segments (s ∷ ss) = if selects s.stages s.ending then later_segments ss else s ∷ ss
+later_segments (s ∷ ss) = if is_unasked s.ending ss then later_segments ss else if selects s.stages s.ending then later_segments ss else s ∷ ss
 
 -- what a segment that ends in this slice makes of a walk
 abbrev pub slice_selected : AbstractSlice → Trace → Trace
@@ -52,7 +74,7 @@ end_selected e t = some_selected (slice_in e) t
 -- what the first ones, one after the other, make of a walk
 abbrev pub selected_walk : List AbstractSegment → Trace → Trace
 selected_walk [] t = t
-selected_walk (s ∷ ss) t = if selects s.stages s.ending then selected_walk ss (end_selected s.ending t) else t
+selected_walk (s ∷ ss) t = if is_unasked s.ending ss then selected_walk ss t else if selects s.stages s.ending then selected_walk ss (end_selected s.ending t) else t
 
 -- what the first of the later segments of a job goes over
 abbrev pub selected_source : AbstractPlan → Trace

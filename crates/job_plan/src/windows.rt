@@ -10,7 +10,8 @@ ghost use Rattle.job_plan.specs.Parts.{end_in, plan_in, segment_in, segments_in}
 ghost use Rattle.job_plan.specs.Pieces.{elements};
 ghost use Rattle.job_plan.specs.Spans.{after, earlier, moved};
 ghost use Rattle.job_meaning.specs.Walks.{source_walk};
-ghost use Rattle.job_plan.specs.Windows.{end_selected, end_selects, later_segments, selected_walk, selects, slice_selected, slice_selects, windowed};
+ghost use Rattle.job_plan.specs.Plans.{slice_in};
+ghost use Rattle.job_plan.specs.Windows.{closes, end_selected, end_selects, is_unasked, later_segments, selected_walk, selects, slice_selected, slice_selects, some_closes, windowed};
 
 use crate::ends::SegmentEnd;
 use crate::segment::{JobPlan, Segment};
@@ -108,13 +109,43 @@ fn slice_selects(slice: &Slice) -> bool
     }
 }
 
-/// The segments after the first ones that select positions.
+/// Whether the end of a segment is `limit(0)`.
+fn end_closes(end: &SegmentEnd) -> bool
+    ensures { result ≡ some_closes (slice_in (end_in end.now)) }
+{
+    match end.slice() {
+        Some(Slice::Limit(count)) => *count == 0,
+        Some(Slice::Skip(_) | Slice::TakeWhile(_) | Slice::DropWhile(_)) | None => false,
+    }
+}
+
+/// Whether one of these segments ends in `limit(0)`, and those before it give walks.
+fn closes(segments: &[Segment]) -> bool
+    ensures { result ≡ closes (segments_in segments.now) }
+{
+    let Some((segment, later)) = segments.split_first() else {
+        return false;
+    };
+    end_closes(&segment.end) || (segment.end.gives_walk() && closes(later))
+}
+
+/// Whether it doesn't matter what a segment with this end gives, since `limit(0)` comes after it.
+fn is_unasked(end: &SegmentEnd, later: &[Segment]) -> bool
+    ensures { result ≡ is_unasked (end_in end.now) (segments_in later.now) }
+{
+    end.gives_walk() && closes(later)
+}
+
+/// The segments after the first ones that select positions, or from the last `limit(0)` on.
 fn later_segments(segments: &[Segment]) -> &[Segment]
     ensures { segments_in result.now ≡ later_segments (segments_in segments.now) }
 {
     let Some((segment, later)) = segments.split_first() else {
         return segments;
     };
+    if is_unasked(&segment.end, later) {
+        return later_segments(later);
+    }
     if selects(segment) {
         later_segments(later)
     } else {
@@ -130,6 +161,9 @@ pub(crate) fn selected_window(segments: &[Segment], window: Window) -> Window
     let Some((segment, later)) = segments.split_first() else {
         return window;
     };
+    if is_unasked(&segment.end, later) {
+        return selected_window(later, window);
+    }
     if selects(segment) {
         selected_window(later, window.selected(&segment.end))
     } else {
@@ -138,8 +172,9 @@ pub(crate) fn selected_window(segments: &[Segment], window: Window) -> Window
 }
 
 impl<'c> JobPlan<'c> {
-    /// The segments that are walked, after the first ones that only select positions of the job's sources.
-    /// `Source::of_selected` is what the first of them goes over. It takes constant time for each segment left out.
+    /// The segments that are walked. The first ones that only select positions of the job's sources are left out;
+    /// `Source::of_selected` is what the first of the others goes over. All before the last `limit(0)` are left out too,
+    /// since nothing is walked for it.
     pub fn later_segments(&self) -> &[Segment]
         ensures { segments_in result.now ≡ later_segments (plan_in self.now).segments }
     {

@@ -175,7 +175,7 @@ impl<'a, S: JobSegments, R: Running> JobWork<'a, S, TablePart<S>, TableKept<S>, 
     {
         let mut left = first;
         for _ in 0..u64::MAX {
-            match self.end_segment(gate, left.take()?, spawn, busy) {
+            match self.end_segment(gate, left?, spawn, busy) {
                 Ok(next) => left = next,
                 Err(over) => return Some(over),
             }

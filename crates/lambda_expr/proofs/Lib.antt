@@ -15,6 +15,7 @@ pub mod Lambdas
 pub mod Leads
 pub mod LexemeLemmas
 pub mod NumberLaws
+pub mod NumberReads
 pub mod NumberStops
 pub mod OneAnswer
 pub mod OneStop

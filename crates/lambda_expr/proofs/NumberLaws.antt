@@ -1,30 +1,21 @@
 -- Tokens have one answer as a number.
-use Rattle.std.proofs.Common.{◌≡◌, ℕ, ℤ, List, refl, sym, ap, subst, ◌∙◌, FitsSigned, w64}
+use Rattle.std.proofs.Common.{◌≡◌, ℕ, ℤ, List, Some, None, refl, sym, ap, ◌∙◌}
 use Rattle.stream_tokens.specs.declared.token.Token.{Token}
 use Rattle.lambda_expr.specs.declared.fault.ReadFault.{ReadFault}
 use Rattle.lambda_expr.specs.declared.fault.ReadFault.TheVariants as fault
-use Rattle.lambda_expr.specs.Words.{Word, words_of}
+use Rattle.lambda_expr.specs.Words.{words_of}
 use Rattle.lambda_expr.specs.Refusals.{column}
-use Rattle.lambda_expr.specs.Numbers.{IsNumber, ANumber, SpellsNumber, IsTooLarge, StopsAtColumn, IsNumberRefused}
-use Rattle.lambda_expr.specs.NumberValues.{Number, plain, negative, number_value}
+use Rattle.lambda_expr.specs.Numbers.{ANumber, SpellsNumber, IsTooLarge, StopsAtColumn, IsNumberRefused}
 use Rattle.lambda_expr.proofs.OneStop.{one_place}
 
-same_written : (ws : List Word) (m n : Number) → IsNumber ws m → IsNumber ws n → m ≡ n
-same_written ws (plain v) (plain w) s t = let e = s.1 ∙ sym t.1 in let f : v ≡ w = cc in ap plain f
-same_written ws (plain v) (negative w) s t = let e = s.1 ∙ sym t.1 in absurd cc
-same_written ws (negative v) (plain w) s t = let e = s.1 ∙ sym t.1 in absurd cc
-same_written ws (negative v) (negative w) s t = let e = s.1 ∙ sym t.1 in let f : v ≡ w = cc in ap negative f
-
 pub same_number : (text : List ℕ) (ts : List Token) (y z : ℤ) → SpellsNumber text ts y → SpellsNumber text ts z → y ≡ z
-same_number text ts y z s t = s.value ∙ ap number_value (same_written (words_of text ts) s.number t.number s.spelled t.spelled) ∙ sym t.value
+same_number text ts y z s t = let e : Some y ≡ Some z = sym s.value ∙ t.value in cc
 
 large_or_fits : (text : List ℕ) (ts : List Token) (z : ℤ) → SpellsNumber text ts z → IsTooLarge text ts → ⊥
-large_or_fits text ts z s t =
-    let same = s.value ∙ ap number_value (same_written (words_of text ts) s.number t.number s.spelled t.spelled) in
-    t.outside (subst (FitsSigned w64) same s.fits)
+large_or_fits text ts z s t = let e : Some z ≡ None = sym s.value ∙ t.outside in cc
 
 large_or_stops : (text : List ℕ) (ts : List Token) (at : ℕ) → IsTooLarge text ts → StopsAtColumn text ts at → ⊥
-large_or_stops text ts at t s = s.stops.outside (t.number, t.spelled)
+large_or_stops text ts at t s = s.stops.outside t.number
 
 pub same_fault : (text : List ℕ) (ts : List Token) (f g : ReadFault) → IsNumberRefused text ts f → IsNumberRefused text ts g → f ≡ g
 same_fault text ts (fault.Syntax at) (fault.Syntax to) h k =
@@ -43,7 +34,7 @@ same_fault text ts fault.TooDeep g h k = absurd h
 same_fault text ts fault.NoMemory g h k = absurd h
 
 pub never_both : (text : List ℕ) (ts : List Token) (z : ℤ) (f : ReadFault) → SpellsNumber text ts z → IsNumberRefused text ts f → ⊥
-never_both text ts z (fault.Syntax at) s h = h.stops.outside (s.number, s.spelled)
+never_both text ts z (fault.Syntax at) s h = h.stops.outside s.number
 never_both text ts z fault.LiteralTooLarge s h = large_or_fits text ts z s h
 never_both text ts z fault.WrongType s h = h
 never_both text ts z fault.UnknownName s h = h

@@ -1,6 +1,7 @@
 -- Condition: the files of this crate's definitions; the first line of each says what it is.
 pub mod Checks
 pub mod BodyReading
+pub mod CodeWords
 pub mod Codes
 pub mod Elaborating
 pub mod Grammar
@@ -11,6 +12,7 @@ pub mod Lexemes
 pub mod Members
 pub mod NumberReading
 pub mod NumberValues
+pub mod NumberWords
 pub mod Numbers
 pub mod Numerals
 pub mod PairForms

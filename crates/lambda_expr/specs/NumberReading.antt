@@ -1,25 +1,20 @@
 -- Condition: what the reader of numbers keeps.
-use Rattle.std.specs.Prelude.{◌≡◌, ℕ, ◌<◌, Bool, true, false, List, length, slice_index_or}
-use Rattle.stream_tokens.specs.declared.symbol.Symbol.TheVariants as symbol
-use Rattle.lambda_expr.specs.Words.{Word, numeral, sign, bad}
-use Rattle.lambda_expr.specs.Numerals.{is_numeral}
+use Rattle.std.specs.Prelude.{ℕ, Bool, true, false, if◌then◌else◌, List}
+use Rattle.lambda_expr.specs.Words.{Word}
 use Rattle.lambda_expr.specs.NumberValues.{Number, plain, negative}
+use Rattle.lambda_expr.specs.NumberWords.{is_digits, is_minus, is_dot, is_owner, is_limit}
 
 abbrev pub number_of : Bool → List ℕ → Number
 number_of true w = negative w
 number_of false w = plain w
 
--- whether the words begin with a minus
-abbrev pub HasSign : List Word → Bool → Type 0
-HasSign ws true = slice_index_or ws 0 bad ≡ sign symbol.Minus
-HasSign ws false = slice_index_or ws 0 bad ≡ sign symbol.Minus → ⊥
+-- helper: how many words of a constant stand there, if its first one does
+abbrev pub front_of_constant : Word → Word → ℕ
+front_of_constant b c = if is_dot b then (if is_limit c then 3 else 2) else 1
 
--- the word at this place is a numeral
-pub record HasNumeral (ws : List Word) (place : ℕ) (w : List ℕ) : Type 0 where
-  pub within : place < length ws
-  pub word : slice_index_or ws place bad ≡ numeral w
-  pub stands : is_numeral w ≡ true
-
--- no numeral stands at this place
-abbrev pub IsNoNumeral : List Word → ℕ → Type 0
-IsNoNumeral ws place = (w : List ℕ) → HasNumeral ws place w → ⊥
+-- how many of three words some number begins with; a bad word is one that isn't there
+abbrev pub front : Word → Word → Word → ℕ
+front a b c =
+    if is_digits a then 1
+    else (if is_minus a then (if is_digits b then 2 else 1)
+    else (if is_owner a then front_of_constant b c else 0))

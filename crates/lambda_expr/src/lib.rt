@@ -34,6 +34,7 @@ mod step;
 mod stream;
 mod table;
 mod want;
+mod word;
 
 pub use fault::ReadFault;
 pub use lambda_values::{BoolExpr, Env, FaultKind, Inner, InnerExpr, Lambda, LongExpr};

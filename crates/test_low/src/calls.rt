@@ -60,8 +60,16 @@ fn are_read(alloc: Global) -> Result<bool, NoMemory> {
     let tokens = cut(alloc, text)?;
     let places = tokens.iter().map(|token| (token.from, token.to));
     let are_tokens = places.eq([(1, 2), (4, 7)]) && read_number(text, &tokens) == Ok(-12);
+    let least = b"Long .MIN_VALUE";
+    let is_least = read_number(least, &cut(alloc, least)?) == Ok(i64::MIN);
     let bytes = Bytes::from(Vec::from_slice(alloc, text)?);
-    Ok(version == 2 && are_texts && are_tokens && bytes.into_vec().as_slice() == text.as_slice())
+    Ok(
+        version == 2
+            && are_texts
+            && are_tokens
+            && is_least
+            && bytes.into_vec().as_slice() == text.as_slice(),
+    )
 }
 
 /// An inner stream by its lambda.
