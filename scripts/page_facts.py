@@ -28,7 +28,7 @@ def recipes(top):
 # Where the texts of messages stand, and how each is found there.
 MESSAGES = [
     ('job_language/src/fault.rt', r'=> \{?\s*write!\(f, "([^"]+)"\)'),
-    ('columns/src/fault.rt', r'#\[error\("([^"]+)"\)\]'),
+    ('columns/src/fault.rt', r'(?:write_str\(|write!\(f, )"([^"]+)"'),
     ('engine/src/running.rt', r'#\[error\("([^"]+)"\)\]'),
     ('report/src/answer_forms.rt', r'=> "([^"]+)"'),
     ('streamrun/src/main.rt', r'"streamrun: ([^"]+)"'),

@@ -61,8 +61,6 @@ ANSWERS = [
     ('range(Long.MIN_VALUE, Long.MAX_VALUE).limit(5).skip(5).sum()', 'fault source-too-long stage 0 item -'),
     ('of(0).map(x -> 1 / x).prefix(sum).limit(0).toArray()', '[]'),
     ('of(1).prefix(0, 9, sum).limit(0).count()', '0'),
-    ('range(0, 4611686018427387904).prefix(sum).limit(0).count()', '0'),
-    ('of(1).flatMap(x -> range(0, 4611686018427387904)).prefix(max).map(x -> 1 / x).limit(0).toArray()', '[]'),
     ('range(0, 4611686018427387904).map(x -> x * 2).skip(3).findFirst()', 'OptionalLong[6]'),
     ('range(0, 4611686018427387904).skip(4611686018427387903).toArray()', '[4611686018427387903]'),
     ('range(0, 4611686018427387905).skip(9).toArray()', 'fault source-too-long stage 0 item -'),

@@ -1,34 +1,30 @@
 //! Why a column file is refused.
-ghost use Rattle.std.specs.Prelude.{◌≡◌};
+ghost use Rattle.std.specs.Prelude.{◌≡◌, Some};
+ghost use Rattle.columns.specs.FaultTexts.{fault_text};
 ghost use Rattle.columns.specs.Refusals.{number_of_fault};
 ghost use Rattle.columns.specs.declared.fault.ColumnFault.TheVariants.{NoMemory};
 
 use std::alloc::AllocError;
-use thiserror::Error;
+use std::error::Error;
+use std::fmt;
+use std::fmt::{Display, Formatter, Write};
 
 /// Why a column file gives no columns. Rows and columns count from 1; the header isn't counted.
-#[derive(Clone, Copy, Debug, PartialEq, Eq, Error)]
+#[derive(Clone, Copy, Debug, PartialEq, Eq)]
 pub enum ColumnFault {
     /// The file has no record at all.
-    #[error("columns: no header")]
     NoHeader,
     /// Two names of the header are equal.
-    #[error("columns: same name")]
     SameName,
     /// The row's leftmost cell that spells no number of 64 bits.
-    #[error("columns: bad number in row {row} column {column}")]
     BadNumber { row: usize, column: usize },
     /// The row has more or fewer cells than the header has names.
-    #[error("columns: wrong length of row {row}")]
     RowLength { row: usize },
     /// The header has more than 256 names.
-    #[error("columns: more than 256 columns")]
     TooManyColumns,
     /// The file couldn't be read to its end.
-    #[error("columns: read failed")]
     Read,
     /// The memory for the file or its columns was refused.
-    #[error("out of memory")]
     NoMemory,
 }
 
@@ -48,6 +44,26 @@ impl ColumnFault {
         }
     }
 }
+
+impl Display for ColumnFault {
+    ghost output = { λ fault. Some (fault_text fault) };
+
+    fn fmt<W: Write>(&self, f: &mut Formatter<W>) -> fmt::Result {
+        match self {
+            ColumnFault::NoHeader => f.write_str("columns: no header"),
+            ColumnFault::SameName => f.write_str("columns: same name"),
+            ColumnFault::BadNumber { row, column } => {
+                write!(f, "columns: bad number in row {row} column {column}")
+            }
+            ColumnFault::RowLength { row } => write!(f, "columns: wrong length of row {row}"),
+            ColumnFault::TooManyColumns => f.write_str("columns: more than 256 columns"),
+            ColumnFault::Read => f.write_str("columns: read failed"),
+            ColumnFault::NoMemory => f.write_str("out of memory"),
+        }
+    }
+}
+
+impl Error for ColumnFault {}
 
 impl From<AllocError> for ColumnFault {
     ghost from_gives = { λ _ fault. fault ≡ NoMemory };

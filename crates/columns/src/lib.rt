@@ -1,7 +1,7 @@
 //! Column files: text files of integer columns, read into their columns or refused.
 //!
-//! Stands on `csv`, whose own definition of the records of a text is cited here, on `counted_io`, whose readers it
-//! gives out, and on `thiserror`. It is for the job reader, which takes a job's cells from `Columns::get`, and for the
+//! Stands on `csv`, whose own definition of the records of a text is cited here, and on `counted_io`, whose readers
+//! it gives out. It is for the job reader, which takes a job's cells from `Columns::get`, and for the
 //! program. What it promises to them: `read_columns` and, on threads, `read_columns_by`, clause `cells`: the columns
 //! that the bytes give, names and cells in order, or the first fault with its row and column; clause `read`: a failed
 //! read is reported only if one was counted.

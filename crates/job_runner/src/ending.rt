@@ -245,7 +245,7 @@ impl<'a, S: JobSegments, R: Running> JobWork<'a, S, TablePart<S>, TableKept<S>, 
     ) {
         let mut left = over;
         for _ in 0..u64::MAX {
-            let Some(over) = left.take() else {
+            let Some(over) = left else {
                 break;
             };
             let Some(next) = self.end_job(gate, over, spawn, busy, depth) else {

@@ -107,7 +107,7 @@ w5 = range(Long.MIN_VALUE, Long.MAX_VALUE).limit(5).skip(5).limit(0).sum()
 w6 = range(Long.MIN_VALUE, Long.MAX_VALUE).limit(5).skip(5).sum()
 w7 = of(0).map(x -> 1 / x).prefix(sum).limit(0).toArray()
 w8 = of(1).prefix(0, 9, sum).limit(0).count()
-w9 = range(0, 4611686018427387904).prefix(sum).limit(0).count()
+w9 = range(0, 4611686018427387904).map(x -> x * 2).skip(3).findFirst()
 =>
 fault divide-by-zero stage 1 item 1
 OptionalLong[0]
@@ -118,21 +118,19 @@ OptionalLong[0]
 fault source-too-long stage 0 item -
 []
 0
-0
---
-w0 = of(1).flatMap(x -> range(0, 4611686018427387904)).prefix(max).map(x -> 1 / x).limit(0).toArray()
-w1 = range(0, 4611686018427387904).map(x -> x * 2).skip(3).findFirst()
-w2 = range(0, 4611686018427387904).skip(4611686018427387903).toArray()
-w3 = range(0, 4611686018427387905).skip(9).toArray()
-w4 = concat(range(0, 4611686018427387904), of(7)).findFirst()
-w5 = of(0, 1).flatMap(x -> range(0, 4611686018427387904 + x)).skip(1).findFirst()
-w6 = of(1).flatMap(x -> range(0, 4611686018427387904 + x)).findFirst()
-w7 = of(7, 0).flatMap(x -> of(x, 14 / x)).limit(2).toArray()
-w8 = of(7, 0).flatMap(x -> of(x, 14 / x)).limit(3).toArray()
-w9 = of(-9223372036854775808).map(x -> x % -1 + Math.abs(x) + Math.floorMod(x, -1)).sum()
-=>
-[]
 OptionalLong[6]
+--
+w0 = range(0, 4611686018427387904).skip(4611686018427387903).toArray()
+w1 = range(0, 4611686018427387905).skip(9).toArray()
+w2 = concat(range(0, 4611686018427387904), of(7)).findFirst()
+w3 = of(0, 1).flatMap(x -> range(0, 4611686018427387904 + x)).skip(1).findFirst()
+w4 = of(1).flatMap(x -> range(0, 4611686018427387904 + x)).findFirst()
+w5 = of(7, 0).flatMap(x -> of(x, 14 / x)).limit(2).toArray()
+w6 = of(7, 0).flatMap(x -> of(x, 14 / x)).limit(3).toArray()
+w7 = of(-9223372036854775808).map(x -> x % -1 + Math.abs(x) + Math.floorMod(x, -1)).sum()
+w8 = of(-7).map(x -> Math.floorDiv(x, 2) * 100 + x / 2).sum()
+w9 = of(-16).map(x -> (x >> 2) * 100 + (x >>> 60)).sum()
+=>
 [4611686018427387903]
 fault source-too-long stage 0 item -
 fault source-too-long stage 0 item -
@@ -141,20 +139,20 @@ fault source-too-long stage 1 item 0
 [7, 2]
 fault divide-by-zero stage 1 item 1
 -9223372036854775808
---
-w0 = of(-7).map(x -> Math.floorDiv(x, 2) * 100 + x / 2).sum()
-w1 = of(-16).map(x -> (x >> 2) * 100 + (x >>> 60)).sum()
-w2 = of(12).map(x -> x & 10 | x ^ 3).sum()
-w3 = of(5).map(x -> x > 3 ? x > 4 ? 1 : 2 : 3).sum()
-w4 = of(0).filter(x -> x == 0 || 1 / x > 0).count()
-w5 = of(-9223372036854775808).map(x -> Math.negateExact(x)).sum()
-w6 = of(3).map(x -> - 9223372036854775808 + x).sum()
-w7 = of(6, 3).reduce(-1, (long a, long b) -> ((a) & (b)))
-w8 = of(6, 3).reduce((a, b) -> Math.max(a, b))
-w9 = of(-5, 9223372036854775807, 3).reduce(0, Math::addExact)
-=>
 -403
 -385
+--
+w0 = of(12).map(x -> x & 10 | x ^ 3).sum()
+w1 = of(5).map(x -> x > 3 ? x > 4 ? 1 : 2 : 3).sum()
+w2 = of(0).filter(x -> x == 0 || 1 / x > 0).count()
+w3 = of(-9223372036854775808).map(x -> Math.negateExact(x)).sum()
+w4 = of(3).map(x -> - 9223372036854775808 + x).sum()
+w5 = of(6, 3).reduce(-1, (long a, long b) -> ((a) & (b)))
+w6 = of(6, 3).reduce((a, b) -> Math.max(a, b))
+w7 = of(-5, 9223372036854775807, 3).reduce(0, Math::addExact)
+w8 = of(9223372036854775807, 1, -5).reduce(0, Math::addExact)
+w9 = of(9223372036854775807, 2).flatMap(x -> of(x, 1)).reduce(0, Math::addExact)
+=>
 15
 1
 1
@@ -163,15 +161,13 @@ fault overflow stage 1 item 0
 2
 OptionalLong[6]
 9223372036854775805
---
-w0 = of(9223372036854775807, 1, -5).reduce(0, Math::addExact)
-w1 = of(9223372036854775807, 2).flatMap(x -> of(x, 1)).reduce(0, Math::addExact)
-w2 = of(1, 0).map(x -> 1 / x).reduce(0, Math::addExact)
-w3 = of(9223372036854775807, 1, 0).filter(x -> 1 / x > -1).reduce(0, (u, v) -> (Math.addExact(u, (v))))
-w4 = empty().reduce(0, Math::addExact)
-=>
 fault overflow stage 1 item 1
 fault overflow stage 2 item 0
+--
+w0 = of(1, 0).map(x -> 1 / x).reduce(0, Math::addExact)
+w1 = of(9223372036854775807, 1, 0).filter(x -> 1 / x > -1).reduce(0, (u, v) -> (Math.addExact(u, (v))))
+w2 = empty().reduce(0, Math::addExact)
+=>
 fault divide-by-zero stage 1 item 1
 fault overflow stage 2 item 1
 0
