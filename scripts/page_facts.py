@@ -6,7 +6,7 @@ import re
 import subprocess
 
 from page_commands import commands_of
-from page_text import TICKED, contracts_of, read, without_blocks
+from page_text import TICKED, contracts_of, pages_of, read, without_blocks
 
 
 def recipes(top):
@@ -119,8 +119,42 @@ def others(top):
                 yield f'{crate}: the comment of {name or "lib.rt"} does not say "for other programs"'
 
 
+# What is in backquotes and looks like a path, or like the name of a file.
+A_PATH = re.compile(r'(?=.*[A-Za-z])[\w.+-]+(?:/[\w.+-]+)+/?|[\w+-]+\.(?:rt|antt|edit|jobs|csv|py|md)')
+
+
+def ends_of_paths(top):
+    """Each path of the repository, and what is left of it without its first folders: pages name files as short as they can."""
+    found = set()
+    for folder, folders, files in os.walk(top):
+        folders[:] = [name for name in folders if name not in ('.git', 'out')]
+        for name in folders + files:
+            parts = os.path.relpath(os.path.join(folder, name), top).split(os.sep)
+            found.update('/'.join(parts[first:]) for first in range(len(parts)))
+    return found
+
+
+def is_there(top, known, path):
+    """Whether a path is one of the repository, or names a wrong body by its crate."""
+    crate, _, edit = path.partition('/')
+    folders = [os.path.join(top, 'crates', crate, kind, edit + '.edit') for kind in ('must-fail', 'wrong-bodies')]
+    return path in known or any(map(os.path.exists, folders))
+
+
+def missing_paths(top):
+    """Paths and names of files in backquotes that aren't there. A word in capitals is a placeholder."""
+    known = ends_of_paths(top)
+    for page in pages_of(top) + [os.path.join(top, 'CONTRIBUTING.md')]:
+        for number, line in enumerate(without_blocks(read(page)).splitlines(), 1):
+            for word in ' '.join(TICKED.findall(line)).split():
+                path = word.strip(',;').rstrip('/')
+                if A_PATH.fullmatch(path) and not re.search(r'\b[A-Z]{2,}\b', path) and not is_there(top, known, path):
+                    yield f'{os.path.basename(page)}:{number}: {path} is not there'
+
+
 def paths(top):
-    """Rows of the path of a job, in architecture.md, whose file or function isn't there."""
+    """Paths in backquotes, and rows of the path of a job in architecture.md, whose file or function isn't there."""
+    yield from missing_paths(top)
     page = read(os.path.join(top, 'docs', 'architecture.md'))
     block = re.search(r'^The files and functions on that path.*?^```\n(.*?)^```$', page, re.M | re.S)[1]
     for path, functions in re.findall(r'^ *(\w+/src/\w+\.rt) +(\w[\w:]*(?:, \w+)*)', block, re.M):
