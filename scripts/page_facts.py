@@ -145,11 +145,6 @@ def worked(top):
     yield from lines_of_script(top, 'tests/soak/worked_jobs', '--check', top)
 
 
-def adding(top):
-    """Lists of files of docs/adding.md that aren't the present ones."""
-    yield from lines_of_script(top, 'scripts/adding', '--check', top)
-
-
 def shell(top):
     """Completions, and options and statuses of the man page, that aren't what the tables of completions/ say."""
     yield from lines_of_script(top, 'scripts/shell_files', '--check', top)

@@ -5,8 +5,8 @@ Each list stands between a comment that names it and `<!-- end -->`.
 import glob
 import os
 import re
-import subprocess
 
+from page_adding import page_with_lists
 from page_clauses import exported_by, public_heads, words_brought
 from page_definitions import CLOSURE, reached_from, specs_of
 from page_facts import crates_of
@@ -90,9 +90,16 @@ def lists(top):
             yield f'{path}: a list is not the present one; run scripts/pages --write'
 
 
+def adding(top):
+    """Lists of files of docs/adding.md that aren't the present ones."""
+    page = read(os.path.join(top, 'docs', 'adding.md'))
+    if page_with_lists(top, page) != page:
+        yield 'docs/adding.md: a list of files is not the present one; run scripts/pages --write'
+
+
 def write_lists(top):
-    """Writes these lists, and those of docs/adding.md, which scripts/adding makes."""
-    for path, page in pages_with_lists(top):
+    """Writes these lists, and those of docs/adding.md."""
+    adding_page = 'docs/adding.md'
+    for path, page in [*pages_with_lists(top), (adding_page, page_with_lists(top, read(os.path.join(top, adding_page))))]:
         with open(os.path.join(top, path), 'w', encoding='utf-8') as file:
             file.write(page)
-    subprocess.run([os.path.join(top, 'scripts', 'adding'), top], check=True)

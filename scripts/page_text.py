@@ -22,6 +22,10 @@ def read(path):
         return file.read()
 
 
+def files_below(folder):
+    return sorted(path for path in glob.glob(os.path.join(folder, '**', '*'), recursive=True) if os.path.isfile(path))
+
+
 def pages_of(top):
     return [os.path.join(top, 'README.md'), *sorted(glob.glob(os.path.join(top, 'docs', '*.md')))]
 

@@ -1,20 +1,13 @@
-#!/usr/bin/env python3
-"""Writes the lists of files in docs/adding.md: which files an operation that is there has touched.
+"""The lists of files in docs/adding.md: which files an operation that is there has touched. `scripts/pages --write` writes them.
 
-    scripts/adding [--check] [FOLDER]      FOLDER: the repository, if not given
-
-An operation's files are those that say its name, in code, in definitions or in a proof. With --check nothing is written:
-if a list isn't the present one, a line says so, and the status is 1.
+An operation's files are those that say its name, in code, in definitions or in a proof.
 """
-import glob
 import itertools
 import os
 import re
-import sys
 
-sys.dont_write_bytecode = True
-sys.path.insert(0, os.path.dirname(os.path.abspath(__file__)))
-from page_layout import wrapped  # noqa: E402
+from page_layout import wrapped
+from page_text import files_below, is_text, read
 
 # The words of one operation of each kind.
 OPERATIONS = {
@@ -32,15 +25,7 @@ ELSEWHERE = ('editors', 'python/streamrun_language', 'scripts', 'tests')
 
 
 def says(path, pattern):
-    try:
-        with open(path, encoding='utf-8') as file:
-            return re.search(pattern, file.read()) is not None
-    except UnicodeDecodeError:
-        return False
-
-
-def files_below(folder):
-    return sorted(path for path in glob.glob(os.path.join(folder, '**', '*'), recursive=True) if os.path.isfile(path))
+    return is_text(path) and re.search(pattern, read(path)) is not None
 
 
 def files_that_say(base, pattern):
@@ -54,8 +39,7 @@ def bases(top, crate, folders):
 
 def crates_in_order(top):
     """The crates, lowest first, as crates.txt has them."""
-    with open(os.path.join(top, 'crates.txt'), encoding='utf-8') as file:
-        return [line.split(':')[0].split()[0] for line in file if re.match(r'\w[^#]*:', line)]
+    return re.findall(r'^(\w+)[^#\n]*:', read(os.path.join(top, 'crates.txt')), re.M)
 
 
 def rows(top, pattern, apart):
@@ -86,36 +70,14 @@ def list_of(top, name, pattern):
         there = ', '.join(f'`{path}`' for path in files_apart(top, pattern, apart))
         lines += ['', *wrapped([f'{purpose}: {there}.'])]
     found = [os.path.relpath(path, top) for folder in ELSEWHERE for path in files_below(os.path.join(top, folder))
-             if not path.endswith('/adding') and says(path, pattern)]
+             if not path.endswith('/page_adding.py') and says(path, pattern)]
     return '\n'.join([*lines, '', *wrapped(['Elsewhere: ' + ', '.join(f'`{name}`' for name in found) + '.'])])
 
 
 def page_with_lists(top, page):
     """The page with the present list between the two comments of each operation."""
     for name, pattern in OPERATIONS.items():
-        begin, end = f'<!-- files of {name}: made by scripts/adding -->\n', f'<!-- end of {name} -->'
+        begin, end = f'<!-- files of {name}: made by scripts/pages --write -->\n', f'<!-- end of {name} -->'
         before, _, rest = page.partition(begin)
         page = before + begin + list_of(top, name, pattern) + '\n' + end + rest.partition(end)[2]
     return page
-
-
-def main():
-    given = sys.argv[1:]
-    checks = given[:1] == ['--check']
-    given = given[1:] if checks else given
-    top = os.path.abspath(given[0] if given else os.path.join(os.path.dirname(os.path.abspath(__file__)), '..'))
-    path = os.path.join(top, 'docs', 'adding.md')
-    with open(path, encoding='utf-8') as file:
-        page = file.read()
-    new = page_with_lists(top, page)
-    if new != page and checks:
-        print('docs/adding.md: a list of files is not the present one; run scripts/adding')
-        return 1
-    if new != page:
-        with open(path, 'w', encoding='utf-8') as file:
-            file.write(new)
-    return 0
-
-
-if __name__ == '__main__':
-    sys.exit(print(__doc__) if sys.argv[1:] in (['-h'], ['--help']) else main())
