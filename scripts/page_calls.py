@@ -1,26 +1,15 @@
 """What scripts/pages checks of calls, tests and wrong bodies: that each public call is made, and that what promises.md says is
 shown by tests, or refused, is."""
 import glob
-import importlib.machinery
-import importlib.util
 import os
 import re
 
+from loading import script
 from page_text import TICKED, read
 
-SCRIPTS = os.path.dirname(os.path.abspath(__file__))
 COMMENT = re.compile(r'//.*$')
-
-
-def budget():
-    """scripts/gate_budget, which knows the functions of a source."""
-    loader = importlib.machinery.SourceFileLoader('gate_budget', os.path.join(SCRIPTS, 'gate_budget'))
-    module = importlib.util.module_from_spec(importlib.util.spec_from_loader('gate_budget', loader))
-    loader.exec_module(module)
-    return module
-
-
-BUDGET = budget()
+# It knows the functions of a source.
+BUDGET = script('scripts', 'gate_budget')
 
 
 def block_of(lines, place):

@@ -5,8 +5,6 @@ negative, zero, and the least and greatest ones that both tools and the recipe's
 reference/gallery works out from the table, and each number that the other tool prints has to stand in it.
 """
 import collections
-import importlib.machinery
-import importlib.util
 import os
 import pathlib
 import random
@@ -14,6 +12,7 @@ import re
 import shutil
 import tempfile
 
+from loading import script
 from page_commands import commands_of, folder_for, missing_tools, printed_by
 
 ROWS, TABLES = 1000, 4
@@ -104,12 +103,9 @@ def write(path, header, rows):
     path.write_text('\n'.join(','.join(map(str, row)) for row in [header, *rows]) + '\n', encoding='utf-8')
 
 
-def answers_over(top, folder):
+def answers_over(folder):
     """The script that works out reports, over the tables of this folder."""
-    path = os.path.join(top, 'reference', 'gallery')
-    loader = importlib.machinery.SourceFileLoader('gallery_answers', path)
-    module = importlib.util.module_from_spec(importlib.util.spec_from_loader('gallery_answers', loader))
-    loader.exec_module(module)
+    module = script('reference', 'gallery')
     module.GALLERY = folder
     return module
 
@@ -151,7 +147,7 @@ def random_recipes(top, page, program):
         os.remove(os.path.join(folder, 'examples'))
         os.mkdir(os.path.join(folder, 'examples'))
         os.symlink(gallery, os.path.join(folder, 'examples', 'gallery'))
-        answers = answers_over(top, gallery)
+        answers = answers_over(gallery)
         for title, name, ours, others in recipes:
             missing = {tool for command in others for tool in missing_tools(command)}
             if missing:

@@ -1,28 +1,21 @@
 """A run over parts in each way that there is, and one run to compare with. An outcome is (standard output, standard
 error, status), and files lie in a folder of the test's own."""
 import os
-import subprocess
 
+import running
+from running import TOP, read
 from scatter_lib import command
 from scatter_lib.jobs import read_jobs
 from scatter_lib.reports import read_report
 
 from .random_files import PartsWriter
 
-TOOL = os.path.join(os.path.dirname(os.path.realpath(__file__)), '..', '..', 'tools', 'scatter')
+TOOL = os.path.join(TOP, 'tools', 'scatter')
 WAYS = ['run', 'files', 'merge']
 
 
 def write(folder, name, data):
-    path = os.path.join(folder, name)
-    with open(path, 'wb') as file:
-        file.write(data)
-    return path
-
-
-def read(path):
-    with open(path, 'rb') as file:
-        return file.read()
+    return running.write(os.path.join(folder, name), data)
 
 
 def run(*arguments):
@@ -31,9 +24,8 @@ def run(*arguments):
     return out, lines.encode() + b'\n' * bool(lines), status
 
 
-def one_run(program, *arguments, stdin=subprocess.DEVNULL):
-    done = subprocess.run([program, *arguments], stdin=stdin, capture_output=True, check=False)
-    return done.stdout, done.stderr, done.returncode
+def one_run(program, *arguments, **more):
+    return tuple(running.run([program, *arguments], **more))
 
 
 class ByHand:

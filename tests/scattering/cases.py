@@ -3,16 +3,15 @@ docs/beyond-one-machine.md and docs/job-language.md."""
 import os
 import re
 import shutil
-import subprocess
 import sys
 import tempfile
 from unittest import mock
 
+from running import TOP, read, run as ran
 from scatter_lib import tables
 
-from .by_parts import TOOL, one_run, read, run, write
+from .by_parts import TOOL, one_run, run, write
 
-TOP = os.path.dirname(os.path.dirname(TOOL))
 TABLE = b'a,b\n1,10\n0,20\n-5,30\n7,0\n'
 
 # A job file that isn't mergeable, and what its line says after 'scatter: jobs: line '.
@@ -176,8 +175,8 @@ def processes(test, folder):
         got = real(*arguments)
         test.expect(name, got[2] == 2 and not got[0] and b'usage' in got[1], got)
     with open('/dev/full', 'wb') as full:
-        done = subprocess.run([sys.executable, TOOL, *map(str, begin), columns, jobs], stdout=full, stderr=subprocess.PIPE, check=False)
-    test.expect('a full disk', (done.stderr, done.returncode) == (b'scatter: write failed after 0 bytes\n', 4), done)
+        got = real(*begin, columns, jobs, stdout=full)
+    test.expect('a full disk', got == (b'', b'scatter: write failed after 0 bytes\n', 4), got)
     got = real('plan', write(folder, 'plan', PLAN.encode()))
     test.expect('plan', got == (PLANNED.encode(), b'', 0), got)
 
@@ -238,8 +237,8 @@ def page(test, folder):
     test.expect('the page', len(here) >= 5 and any(block[1] for block in here), here)
     for commands, written in here:
         environment = {**os.environ, 'PATH': os.path.join(folder, 'bin') + ':' + os.environ['PATH']}
-        done = subprocess.run(['sh', '-e', '-c', commands], cwd=folder, env=environment, capture_output=True, check=False)
-        is_right = done.returncode == 0 and (not written or done.stdout.decode() == written)
+        done = ran(['sh', '-e', '-c', commands], cwd=folder, env=environment)
+        is_right = done.status == 0 and (not written or done.out.decode() == written)
         test.expect('the page', is_right, f'{commands}: {done}')
 
 
