@@ -6,34 +6,9 @@ import java.util.stream.LongStream;
 
 /** What Java does otherwise, for docs/from-java.md: {@code java reference/FromJava.java NAME..} runs the parts of these names. */
 public final class FromJava {
-    public static void main(String[] names) {
+    public static void main(String[] names) throws Exception {
         for (String name : names) {
-            run(name);
-        }
-    }
-
-    private static void run(String name) {
-        switch (name) {
-            case "AnyIdentity" -> anyIdentity();
-            case "Arguments" -> arguments();
-            case "BooleanOperators" -> booleanOperators();
-            case "Comments" -> comments();
-            case "ConcatStages" -> concatStages();
-            case "CountSkipsStages" -> countSkipsStages();
-            case "EmptyOptional" -> emptyOptional();
-            case "ExactSum" -> exactSum();
-            case "FaultEndsAll" -> faultEndsAll();
-            case "InnerStages" -> print("products", range(1, 4).flatMap(x -> range(0, x).map(y -> x * y)).sum());
-            case "LeftOut" -> leftOut();
-            case "LineEnds" -> lineEnds();
-            case "Literals" -> literals();
-            case "LongSource" -> System.out.println(range(Long.MIN_VALUE, Long.MAX_VALUE).findFirst());
-            case "OrElse" -> orElse();
-            case "OtherMethods" -> otherMethods();
-            case "RunningTotals" -> runningTotals();
-            case "SpelledOperators" -> spelledOperators();
-            case "StreamOnce" -> streamOnce();
-            default -> throw new IllegalArgumentException(name);
+            FromJava.class.getDeclaredMethod(name.substring(0, 1).toLowerCase() + name.substring(1)).invoke(null);
         }
     }
 
@@ -119,6 +94,11 @@ public final class FromJava {
         });
     }
 
+    /** An inner stream has stages, and its lambdas see the outer parameter. */
+    private static void innerStages() {
+        print("products", range(1, 4).flatMap(x -> range(0, x).map(y -> x * y)).sum());
+    }
+
     /** A line may end anywhere between two tokens. */
     private static void lineEnds() {
         long lines =
@@ -136,6 +116,11 @@ public final class FromJava {
         System.out.println(product + " " + written + " " + (1 << 40));
         System.out.println(010 + " " + 0x10 + " " + 1_000);
         fault(false, () -> System.out.println(Math.addExact(2147483647, 1)));
+    }
+
+    /** A source may have up to 2^64 - 1 values. */
+    private static void longSource() {
+        System.out.println(range(Long.MIN_VALUE, Long.MAX_VALUE).findFirst());
     }
 
     /** An optional is asked for its value, or for another one if it is empty. */

@@ -71,34 +71,24 @@ final class Walk {
         return LongStream.rangeClosed(start, last);
     }
 
+    private <T> T guarded(int stage, Supplier<T> call) {
+        try {
+            return call.get();
+        } catch (ArithmeticException thrown) {
+            throw fault(thrown, stage);
+        }
+    }
+
     LongUnaryOperator at(int stage, LongUnaryOperator function) {
-        return value -> {
-            try {
-                return function.applyAsLong(value);
-            } catch (ArithmeticException thrown) {
-                throw fault(thrown, stage);
-            }
-        };
+        return value -> guarded(stage, () -> function.applyAsLong(value));
     }
 
     LongPredicate testAt(int stage, LongPredicate test) {
-        return value -> {
-            try {
-                return test.test(value);
-            } catch (ArithmeticException thrown) {
-                throw fault(thrown, stage);
-            }
-        };
+        return value -> guarded(stage, () -> test.test(value));
     }
 
     LongFunction<LongStream> streamAt(int stage, LongFunction<LongStream> function) {
-        return value -> {
-            try {
-                return function.apply(value).peek(inner -> look());
-            } catch (ArithmeticException thrown) {
-                throw fault(thrown, stage);
-            }
-        };
+        return value -> guarded(stage, () -> function.apply(value).peek(inner -> look()));
     }
 
     /** `Arrays.parallelPrefix` over the items, when the first one after it is asked for. */
@@ -112,8 +102,9 @@ final class Walk {
 
     private LongStream scanned(int stage, LongStream items, long[] range, LongBinaryOperator operator) {
         return LongStream.of(0).flatMap(once -> {
-            Places places = new Places();
-            long[] values = items.peek(value -> places.add(place)).toArray();
+            LongStream.Builder met = LongStream.builder();
+            long[] values = items.peek(value -> met.add(place)).toArray();
+            long[] places = met.build().toArray();
             if (range == null) {
                 Arrays.parallelPrefix(values, operator);
             } else {
@@ -124,7 +115,7 @@ final class Walk {
                 }
             }
             return LongStream.range(0, values.length).map(at -> {
-                place = places.at((int) at);
+                place = places[(int) at];
                 return values[(int) at];
             });
         });
@@ -170,22 +161,5 @@ final class Walk {
 
     private static String text(Object answer) {
         return answer instanceof long[] ? Arrays.toString((long[]) answer) : String.valueOf(answer);
-    }
-
-    /** A list of integers. */
-    private static final class Places {
-        private long[] items = new long[16];
-        private int count;
-
-        void add(long item) {
-            if (count == items.length) {
-                items = Arrays.copyOf(items, count * 2);
-            }
-            items[count++] = item;
-        }
-
-        long at(int index) {
-            return items[index];
-        }
     }
 }

@@ -1,7 +1,7 @@
 """Jobs in Java: the same stages, one after the other in Java's spelling, on Java's sequential LongStream, with Arrays.parallelPrefix
 for a prefix and a loop over BigInteger for an exact sum (Walk.java).
 
-    report_of(folder, jobs, columns)    the line that Java prints for each job; the jobs are (name, parts of its text)
+    report_of(folder, jobs, columns, seconds)    the line that Java prints for each job; the jobs are (name, parts of its text)
 
 A job's parts are the texts of its source, of each stage and of its terminal. Java has no answer to a job in time if its inner
 streams, skips or arrays are too long: its line ends in ' = ?' then.
@@ -14,7 +14,6 @@ import subprocess
 from streamrun_language.lambdas import Argument
 from streamrun_language.operators import read_operator
 
-SECONDS = 1
 # A method of Java has at most 64 KB.
 JOBS_OF_A_METHOD = 500
 OPERATORS = {'sum': 'Long::sum', 'product': '(f, g) -> f * g', 'min': 'Math::min', 'max': 'Math::max', 'and': '(f, g) -> f & g',
@@ -106,11 +105,11 @@ def terminal_in_java(walk, stage, name, inner):
     return f'{walk}.filter(value -> true).count()' if name == 'count' else f'{walk}.{name}()'
 
 
-def report_of(folder, jobs, columns=None):
+def report_of(folder, jobs, columns=None, seconds=1):
     """The line that Java prints for each job (name, parts), by classes in this folder."""
     members = [f'    static final long[] {name} = {{{", ".join(f"{cell}L" for cell in cells)}}};\n' for name, cells in (columns or {}).items()]
     members += [f'    static Object j{at}(Walk walk) {{\n        return {job_in_java(parts)};\n    }}\n' for at, (_, parts) in enumerate(jobs)]
-    calls = [f'        Walk.run("{name}", Jobs::j{at}, {SECONDS});\n' for at, (name, _) in enumerate(jobs)]
+    calls = [f'        Walk.run("{name}", Jobs::j{at}, {seconds});\n' for at, (name, _) in enumerate(jobs)]
     groups = range(0, len(calls), JOBS_OF_A_METHOD)
     members += [f'    static void from{first}() {{\n{"".join(calls[first:first + JOBS_OF_A_METHOD])}    }}\n' for first in groups]
     with open(os.path.join(folder, 'Jobs.java'), 'w', encoding='utf-8') as file:
