@@ -15,7 +15,7 @@
 //! writing exactly when the text is a job; `one_job` says that words are one job at most.
 //!
 //! Begin with `specs/Grammar.antt` and `specs/Verdicts.antt`, then `read.rt`, `parts.rt` and `argument.rt`; for
-//! the grammar `shape.rt`. Which texts are refused, and why, is tested over the program (`bench/soak/refused.txt`).
+//! the grammar `shape.rt`. Which texts are refused, and why, is tested over the program (`tests/soak/refused.txt`).
 //!
 //! Not promised: that memory is there.
 #![tactic(auto)]

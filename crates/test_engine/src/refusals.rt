@@ -1,6 +1,6 @@
 //! Calls that are refused memory: what they leave, and that they succeed if they are made again.
 //!
-//! `scripts/refused_growths` runs this test with one allocation after the other refused.
+//! `tests/refused_growths` runs this test with one allocation after the other refused.
 ghost use Rattle.std.specs.Prelude.{◌≡◌, IfOk, IfSome};
 ghost use Rattle.trace.specs.declared.item.End.TheVariants as end;
 

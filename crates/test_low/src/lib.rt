@@ -2,7 +2,7 @@
 //! run of the program shows.
 //!
 //! A crate with tests is proved twice, so the tests of crates that others stand on are here, above them. What a lambda, an
-//! operator, a slice, a find or a column file gives is shown by the files of `examples/`, which `scripts/examples` runs.
+//! operator, a slice, a find or a column file gives is shown by the files of `examples/`, which `tests/examples` runs.
 //! Here is what only a caller sees: sinks and readers of one's own, memory that is not copied, sources that split, tasks
 //! that are dropped, run once or held.
 //!
