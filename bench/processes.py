@@ -47,7 +47,7 @@ class Jobs:
     def command(self, command, stream):
         cost = least_of(self.turns, command)
         if self.answers.setdefault(stream, cost.printed) != cost.printed:
-            sys.exit(f'{command}: {cost.printed!r} in place of {self.answers[stream]!r}')
+            sys.exit(f'{command}: {cost.printed!r} instead of {self.answers[stream]!r}')
         return cost
 
 

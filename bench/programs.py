@@ -99,7 +99,7 @@ def read_jobs():
     bench/run read_jobs [--lines N]
 
     long       256 jobs of 65,536 bytes each, which are read
-    junk       N lines (10000000), of which the first 256 are jobs and the others are not: the 257th is refused
+    junk       N lines (10000000): the first 256 are jobs and the others are not: the 257th is refused
     comments   N lines of comments before one job
     continued  one job on N lines, which is too long
     """

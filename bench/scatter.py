@@ -57,7 +57,7 @@ def kill_a_worker(client):
 
 def scatter():
     """Times one run of the program over a table beside runs over its parts: by processes, by a Dask cluster of four processes on this
-    machine, and by such a cluster of which a worker is killed in the middle. Each has to write the same bytes.
+    machine, and by a cluster whose worker is killed in the middle. Each has to write the same bytes.
 
     bench/run scatter [--rows N] [--parts N] [PROGRAM]
 

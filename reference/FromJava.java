@@ -4,7 +4,7 @@ import java.util.Arrays;
 import java.util.OptionalLong;
 import java.util.stream.LongStream;
 
-/** What Java does otherwise, for docs/from-java.md: {@code java reference/FromJava.java NAME..} runs the parts of these names. */
+/** What Java does otherwise, for docs/from-java.md: {@code java reference/FromJava.java NAME..}, with names such as LeftOut for leftOut. */
 public final class FromJava {
     public static void main(String[] names) throws Exception {
         for (String name : names) {

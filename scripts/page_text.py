@@ -3,7 +3,7 @@ import glob
 import os
 import re
 
-from page_layout import too_long, torn as torn_lines
+from page_layout import page_wrapped, too_long, torn as torn_lines
 
 MOST_WORDS_OF_THE_README, MOST_WORDS_OF_A_PAGE = 1000, 6500
 TICKED = re.compile(r'`([^`]+)`')
@@ -214,9 +214,25 @@ def links(top):
                 yield f'{os.path.basename(page)}: a link to {target}#{anchor}, a heading that is not there'
 
 
+def wrapped_pages(top):
+    return pages_of(top) + [os.path.join(top, name) for name in ('CONTRIBUTING.md', 'CHANGELOG.md')]
+
+
+def wrap_pages(pages):
+    """Lays out anew the paragraphs of pages that have a longer line."""
+    for page in pages:
+        old = read(page)
+        new = page_wrapped(old)
+        if new != old:
+            with open(page, 'w', encoding='utf-8') as file:
+                file.write(new)
+            print(f'wrapped {os.path.relpath(page)}')
+    return 0
+
+
 def length(top):
     """Pages with too many words."""
-    for page in pages_of(top) + [os.path.join(top, name) for name in ('CONTRIBUTING.md', 'CHANGELOG.md')]:
+    for page in wrapped_pages(top):
         name, count = os.path.basename(page), len(read(page).split())
         most = MOST_WORDS_OF_THE_README if name == 'README.md' else MOST_WORDS_OF_A_PAGE
         if count > most:
@@ -225,13 +241,13 @@ def length(top):
 
 def torn(top):
     """Lines of paragraphs that begin as an item of a list would."""
-    for page in pages_of(top) + [os.path.join(top, name) for name in ('CONTRIBUTING.md', 'CHANGELOG.md')]:
+    for page in wrapped_pages(top):
         for number in torn_lines(read(page)):
             yield f'{os.path.basename(page)}:{number}: a paragraph goes on with a number and a point; put other words there'
 
 
 def width(top):
-    """Lines of text beyond 100 columns, which scripts/wrap lays out anew."""
-    for page in pages_of(top) + [os.path.join(top, name) for name in ('CONTRIBUTING.md', 'CHANGELOG.md')]:
+    """Lines of text beyond 100 columns, which `scripts/pages --wrap` lays out anew."""
+    for page in wrapped_pages(top):
         for number in too_long(read(page)):
-            yield f'{os.path.basename(page)}:{number}: longer than 100 columns; run scripts/wrap'
+            yield f'{os.path.basename(page)}:{number}: longer than 100 columns; run scripts/pages --wrap'
