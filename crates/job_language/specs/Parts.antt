@@ -33,7 +33,7 @@ part_in (code_part.Stage g) = stage (job_stage_of g)
 part_in (code_part.Terminal d) = terminal (terminal_of d)
 part_in (code_part.Fallback z) = fallback z
 
--- what a job of which not all calls were read stands for
+-- the abstract form of a job that is being read
 abbrev pub begun_of : begun.BegunJob → BegunJob
 begun_of j = record { name = j.name; sources = sources_of j.sources.items; stages = job_stages_of j.stages.items; terminal = option_map terminal_of j.terminal; on_fault = j.on_fault }
 

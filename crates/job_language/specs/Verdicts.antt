@@ -37,7 +37,7 @@ abbrev pub IsReadInTurn : Option Cause → Scope → TokenizedText → PlacedCal
 IsReadInTurn (Some e) scope t c r = Err e ≡ r
 IsReadInTurn None scope t c r = IsCallRead scope t c r
 
--- a job of which not all calls were read: it has a terminal once that was read
+-- a job that is being read: it has a terminal once its terminal was read
 pub record BegunJob : Type 0 where
   pub name : List ℕ
   pub sources : List AbstractPlainSource
@@ -65,7 +65,7 @@ abbrev pub fallback_for : Gives → ℤ → Result AbstractCall Cause
 fallback_for gives.Number z = Ok (fallback z)
 fallback_for g z = Err cause.NotScalar
 
--- a number above a terminal stands in place of nothing
+-- a number to give after a fault is refused if no terminal comes before it
 abbrev pub fallback_below : Option AbstractTerminal → ℤ → Result AbstractCall Cause
 fallback_below None z = Err cause.NotScalar
 fallback_below (Some d) z = fallback_for (given_by d) z

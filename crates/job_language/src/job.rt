@@ -53,7 +53,7 @@ pub struct Job<'c> {
     ghost few: { length stages.items ≤ 32 },
 }
 
-/// A job of which not all calls were read. It has a terminal once that was read.
+/// A job that is being read. It has a terminal once its terminal was read.
 #[derive(Drop)]
 pub(crate) struct BegunJob<'c> {
     pub(crate) name: Bytes,

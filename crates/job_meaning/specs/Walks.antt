@@ -82,8 +82,8 @@ answer_of n env (reduce_from a f) t = unless_fault t.ending (answer.Number (fold
 answer_of n env (find d) t = found_answer (find_answer d n env t)
 answer_of n env exact_sum t = exact_answer (exactly_summed n t)
 
--- a number as a terminal gives it, in place of a fault: `sum`, `count` and `reduce` from a number give a number, `min`, `max`, `reduce` and
--- `findFirst` an optional; an array and a match give none, and the reader refuses `onFault` after them
+-- the answer that a terminal makes of the number after a fault: `sum`, `count` and `reduce` from a number make a number, `min`, `max`,
+-- `reduce` and `findFirst` an optional; an array and a match make none, and the reader refuses `onFault` after them
 abbrev pub number_as : AbstractTerminal → ℤ → Option Answer
 number_as sum z = Some (answer.Number z)
 number_as count z = Some (answer.Number z)

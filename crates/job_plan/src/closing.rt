@@ -8,7 +8,7 @@ ghost use Rattle.job_plan.specs.Parts.{GoesOnFrom, end_in, flow_of};
 
 use crate::end_part::EndPart;
 use crate::part::Part;
-use crate::part_sink::{Ending, PartSink};
+use crate::part_sink::{EndBrand, PartSink};
 use batch_eval::BatchSink;
 use trace::{End, Flow, NoMemory};
 
@@ -31,7 +31,7 @@ pub(crate) trait Closing: BatchSink + Drop {
         ensures enough { IfOk result (λ made. Self.flow self ≡ Flow.Enough → (xs : List Item) (later : Trace) → Self.has_taken self xs → Self.stands made (append (trace xs end.Done) later)) };
 }
 
-impl<'p, K: Ending> Closing for PartSink<'p, '_, K> {
+impl<'p, K: EndBrand> Closing for PartSink<'p, '_, K> {
     type Made = Part<'p>;
 
     ghost stands = { GoesOnFrom (end_in K.last) K.stage K.env K.begun };

@@ -11,7 +11,7 @@ use crate::counted_part::counted_part;
 use crate::end_part::EndPart;
 use crate::lent_part::lent_part;
 use crate::part::Part;
-use crate::part_sink::{Ending, PartSink};
+use crate::part_sink::{EndBrand, PartSink};
 use crate::room::with_room;
 use crate::segment::Segment;
 use crate::source::{Walked, piece_end};
@@ -115,7 +115,7 @@ pub(crate) fn leaf_from<'p>(
 
 /// The part of the items of a given part and then of the items at these positions, for an end whose type contracts can
 /// name.
-fn leaf_as<'p, K: Ending>(
+fn leaf_as<'p, K: EndBrand>(
     part: Part<'p>,
     segment: &'p Segment,
     walked: Walked,
@@ -191,7 +191,7 @@ pub fn leaf_stored<'p, W: Stop>(
 }
 
 /// The part that `leaf_until` gives, after a given part, for an end whose type contracts can name.
-fn leaf_until_as<'p, K: Ending, W: Stop>(
+fn leaf_until_as<'p, K: EndBrand, W: Stop>(
     part: Part<'p>,
     segment: &'p Segment,
     walked: Walked,

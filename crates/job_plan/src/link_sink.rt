@@ -32,7 +32,7 @@ use trace::{End, Fed, Flow, Item, LongSink, NoMemory, SourceItems, feed_all};
 const FEW_ITEMS: u64 = 8;
 
 /// How a link of a walk began, and what comes after it, as contracts see it. No value has this type.
-pub(crate) trait LinkStart {
+pub(crate) trait LinkBrand {
     ghost rest: { AbstractSlice };
 
     ghost stage: { ℕ };
@@ -42,7 +42,7 @@ pub(crate) trait LinkStart {
     ghost env: { Numbers };
 }
 
-impl LinkStart for Brand {
+impl LinkBrand for Brand {
     ghost rest = { limit 0 };
 
     ghost stage = { 0 };
@@ -100,7 +100,7 @@ pub(crate) struct Junction<'p, 'e> {
 /// A sink that lets items pass as a slice does, and takes them through the stages of the next segment into the next
 /// sink.
 #[derive(Drop)]
-pub(crate) struct LinkSink<'p, 'e, K: LinkStart, S: Drop> {
+pub(crate) struct LinkSink<'p, 'e, K: LinkBrand, S: Drop> {
     pub(crate) passing: Passing<'p, S>,
     pub(crate) junction: Junction<'p, 'e>,
     pub(crate) registers: Registers,
@@ -207,7 +207,7 @@ fn pass<I: BatchSource, S: BatchSink + Drop>(
     Ok(answer(passage))
 }
 
-impl<K: LinkStart, S: Closing> LongSink for LinkSink<'_, '_, K, S> {
+impl<K: LinkBrand, S: Closing> LongSink for LinkSink<'_, '_, K, S> {
     ghost has_taken = { λ sink items. (segment_in sink.junction.next.now ≡ K.next) × (sink.junction.stage ≡ K.stage) × (sink.junction.env.now ≡ K.env)
         × HasPassed S.has_taken S.flow K.rest K.stage K.next K.env (rest_of sink.passing.rest) sink.passing.passage sink.passing.inner items };
 
@@ -231,7 +231,7 @@ impl<K: LinkStart, S: Closing> LongSink for LinkSink<'_, '_, K, S> {
     }
 }
 
-impl<K: LinkStart, S: Closing> BatchSink for LinkSink<'_, '_, K, S> {
+impl<K: LinkBrand, S: Closing> BatchSink for LinkSink<'_, '_, K, S> {
     fn accept_batch(&mut self, batch: &Batch, room: &mut [i64]) -> Result<Fed, NoMemory> {
         let values = batch.values();
         pass(
@@ -260,7 +260,7 @@ impl<K: LinkStart, S: Closing> BatchSink for LinkSink<'_, '_, K, S> {
     }
 }
 
-impl<K: LinkStart, S: Closing> Closing for LinkSink<'_, '_, K, S> {
+impl<K: LinkBrand, S: Closing> Closing for LinkSink<'_, '_, K, S> {
     type Made = S::Made;
 
     ghost stands = { λ made t. S.stands made (through_link K.rest K.stage K.next K.env t) };

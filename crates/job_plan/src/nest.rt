@@ -7,7 +7,7 @@ ghost use Rattle.job_plan.specs.Parts.{segment_in, walk_in};
 ghost use Rattle.job_plan.specs.Plans.{last_stage, walk_of};
 
 use crate::closing::Closing;
-use crate::link_sink::{Junction, LinkSink, LinkStart, Passage, Passing};
+use crate::link_sink::{Junction, LinkBrand, LinkSink, Passage, Passing};
 use crate::links::Link;
 use crate::segment::Segment;
 use crate::source::Walked;
@@ -95,7 +95,7 @@ struct LinkChain<'l, 'p> {
 }
 
 /// Feeds `chain.before` and wraps `sink` in `chain.last`.
-fn feed_link<'p, K: LinkStart, N: Nest, S: Closing>(
+fn feed_link<'p, K: LinkBrand, N: Nest, S: Closing>(
     alloc: Global,
     chain: LinkChain<'_, 'p>,
     next: &'p Segment,

@@ -22,7 +22,7 @@ use std::marker::{Brand, PhantomData};
 use trace::{Fed, Flow, Item, LongSink, NoMemory, SourceItems};
 
 /// The end of a walk, as contracts see it. No value has this type.
-pub(crate) trait Ending {
+pub(crate) trait EndBrand {
     ghost last: { SegmentEnd };
 
     ghost stage: { ℕ };
@@ -33,7 +33,7 @@ pub(crate) trait Ending {
     ghost begun: { part_kept };
 }
 
-impl Ending for Brand {
+impl EndBrand for Brand {
     ghost last = { ends.Array };
 
     ghost stage = { 0 };
@@ -45,7 +45,7 @@ impl Ending for Brand {
 
 /// A sink that puts each item into a part, until nothing more matters.
 #[derive(Drop)]
-pub(crate) struct PartSink<'p, 'e, K: Ending> {
+pub(crate) struct PartSink<'p, 'e, K: EndBrand> {
     pub(crate) part: Part<'p>,
     pub(crate) segment: &'p Segment,
     pub(crate) stage: u32,
@@ -54,7 +54,7 @@ pub(crate) struct PartSink<'p, 'e, K: Ending> {
     ghost kind: { keeps_items part ≡ keeps_items K.begun },
 }
 
-impl<K: Ending> LongSink for PartSink<'_, '_, K> {
+impl<K: EndBrand> LongSink for PartSink<'_, '_, K> {
     ghost has_taken = { λ sink items. (sink.segment.now.end ≡ K.last) × (sink.stage ≡ K.stage) × (sink.env.now ≡ K.env)
         × HasTaken (end_in K.last) K.stage K.env K.begun sink.part items };
 
@@ -76,7 +76,7 @@ impl<K: Ending> LongSink for PartSink<'_, '_, K> {
     }
 }
 
-impl<K: Ending> BatchSink for PartSink<'_, '_, K> {
+impl<K: EndBrand> BatchSink for PartSink<'_, '_, K> {
     fn accept_batch(&mut self, batch: &Batch, room: &mut [i64]) -> Result<Fed, NoMemory> {
         let values = batch.values();
         let last = LastStage {

@@ -13,7 +13,7 @@ use crate::links::{Link, push_links};
 use crate::nest::{DEEPEST, Deepest, Nest};
 use crate::outcome::Outcome;
 use crate::part::Part;
-use crate::part_sink::{Ending, PartSink};
+use crate::part_sink::{EndBrand, PartSink};
 use crate::segment::Segment;
 use crate::source::{Source, Walked};
 use batch_eval::Registers;
@@ -139,7 +139,7 @@ fn through_few<'p>(
 }
 
 /// The part after up to eight links, for an end whose type contracts can name.
-fn nested<'p, K: Ending>(
+fn nested<'p, K: EndBrand>(
     alloc: Global,
     none: Part<'p>,
     links: &[Link<'p>],

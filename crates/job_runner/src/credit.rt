@@ -5,13 +5,13 @@ ghost use Rattle.completer_tree.specs.Trees.{table_id_of};
 
 use crate::cut::{TableCounts, TableKept, TablePart};
 use crate::segments::JobSegments;
-use crate::task::{JobSeat, Running, Spare, TableJobSeat, TableSpare};
+use crate::task::{JobSeat, RunBrand, Spare, TableJobSeat, TableSpare};
 use crate::work::JobWork;
 use completion_core::END;
 use std::marker::PhantomData;
 
 /// Splits an equal part off a worker's credit, if that many parts are to be made of it.
-pub(crate) fn split_spare<S: JobSegments, R: Running>(
+pub(crate) fn split_spare<S: JobSegments, R: RunBrand>(
     counts: &TableCounts<S>,
     spare: Option<TableSpare<S, R>>,
     parts: u64,
@@ -32,7 +32,7 @@ pub(crate) fn split_spare<S: JobSegments, R: Running>(
     (Some(rest), Some(part))
 }
 
-impl<'a, S: JobSegments, R: Running> JobWork<'a, S, TablePart<S>, TableKept<S>, R> {
+impl<'a, S: JobSegments, R: RunBrand> JobWork<'a, S, TablePart<S>, TableKept<S>, R> {
     /// Gives a job the credit for one more tree, out of the credit of the worker that begins it.
     pub(crate) fn pay(
         &self,

@@ -3,7 +3,6 @@ ghost use Rattle.std.specs.Prelude.{◌≡◌, ◌<◌, ◌≤◌, ◌+◌, IfSo
 ghost use Rattle.job_runner.specs.Cuts.{StandsWhole};
 
 use crate::NoMemory;
-use crate::busy::TableBusy;
 use crate::cut::{Merged, SegmentPart, TableKept, TablePart};
 use crate::earlier::Earlier;
 use crate::piece::SegmentInput;
@@ -12,13 +11,14 @@ use crate::places::{
 };
 use crate::segments::{Begun, JobSegments};
 use crate::task::{
-    FinishedSegment, JobSeat, Running, TableFinishedSegment, TableJobSeat, TableTask, Task,
+    FinishedSegment, JobSeat, RunBrand, TableFinishedSegment, TableJobSeat, TableTask, Task,
 };
+use crate::tools::TableTools;
 use crate::work::{JobWork, TableWork};
 use worker_pool::{Gate, Spawn};
 
 /// The answer of a job, of the part of its whole last segment.
-fn last_answer<S: JobSegments, R: Running>(
+fn last_answer<S: JobSegments, R: RunBrand>(
     work: &TableWork<S, R>,
     job: usize,
     segment: usize,
@@ -55,7 +55,7 @@ fn last_answer<S: JobSegments, R: Running>(
     work.jobs.answer(work.alloc, job, part, input, scratch)
 }
 
-impl<'a, S: JobSegments, R: Running> JobWork<'a, S, TablePart<S>, TableKept<S>, R> {
+impl<'a, S: JobSegments, R: RunBrand> JobWork<'a, S, TablePart<S>, TableKept<S>, R> {
     /// Leaves the job's inputs from earlier jobs in its place, or its answer, if there is nothing to walk.
     fn prepare<G: Gate>(&self, gate: &G, job: usize)
         requires { job < R.jobs }
@@ -76,14 +76,14 @@ impl<'a, S: JobSegments, R: Running> JobWork<'a, S, TablePart<S>, TableKept<S>, 
         gate: &G,
         begun: TableJobSeat<S, R>,
         spawn: &mut P,
-        busy: &mut TableBusy<'_, S, R>,
+        tools: &mut TableTools<'_, S, R>,
     ) -> Option<TableJobSeat<S, R>> {
         self.prepare(gate, begun.job);
         let Some(size) = size_of(self.jobs, &self.places, begun.job, 0) else {
             return Some(begun);
         };
-        let whole = self.begin(gate, begun, 0, size, spawn, busy);
-        self.go_on(gate, whole, spawn, busy)
+        let whole = self.begin(gate, begun, 0, size, spawn, tools);
+        self.go_on(gate, whole, spawn, tools)
     }
 
     /// Leaves what the part of a whole segment gives in its place, and frees the source of the segment. `Some` is the
@@ -143,21 +143,21 @@ impl<'a, S: JobSegments, R: Running> JobWork<'a, S, TablePart<S>, TableKept<S>, 
         }
     }
 
-    /// Ends a segment of which this worker has the last part, and begins the next one: `Ok` with that one, if this worker has its last
-    /// part too. `Err` if the job is over.
+    /// Ends a segment whose last part this worker has, and begins the next one: `Ok` with the next segment if this
+    /// worker has its last part too, `Err` if the job is over.
     fn end_segment<G: Gate, P: Spawn<TableTask<S, R>>>(
         &self,
         gate: &G,
         whole: TableFinishedSegment<S, R>,
         spawn: &mut P,
-        busy: &mut TableBusy<'_, S, R>,
+        tools: &mut TableTools<'_, S, R>,
     ) -> Result<Option<TableFinishedSegment<S, R>>, TableJobSeat<S, R>>
         requires { StandsWhole S.stands_for S.is_instead S.size_of whole.job.job whole.segment (λ x. x.found) whole.part }
         ensures { IfOk result (λ next. IfSome next (λ whole. StandsWhole S.stands_for S.is_instead S.size_of whole.job.job whole.segment (λ x. x.found) whole.part)) }
     {
         let FinishedSegment { job, segment, part } = whole;
-        match self.leave(gate, job.job, segment, part, &mut busy.scratch) {
-            Some((next, size)) => Ok(self.begin(gate, job, next, size, spawn, busy)),
+        match self.leave(gate, job.job, segment, part, &mut tools.scratch) {
+            Some((next, size)) => Ok(self.begin(gate, job, next, size, spawn, tools)),
             None => Err(job),
         }
     }
@@ -169,13 +169,13 @@ impl<'a, S: JobSegments, R: Running> JobWork<'a, S, TablePart<S>, TableKept<S>, 
         gate: &G,
         first: Option<TableFinishedSegment<S, R>>,
         spawn: &mut P,
-        busy: &mut TableBusy<'_, S, R>,
+        tools: &mut TableTools<'_, S, R>,
     ) -> Option<TableJobSeat<S, R>>
         requires { IfSome first (λ whole. StandsWhole S.stands_for S.is_instead S.size_of whole.job.job whole.segment (λ x. x.found) whole.part) }
     {
         let mut left = first;
         for _ in 0..u64::MAX {
-            match self.end_segment(gate, left?, spawn, busy) {
+            match self.end_segment(gate, left?, spawn, tools) {
                 Ok(next) => left = next,
                 Err(over) => return Some(over),
             }
@@ -184,7 +184,7 @@ impl<'a, S: JobSegments, R: Running> JobWork<'a, S, TablePart<S>, TableKept<S>, 
     }
 }
 
-impl<'a, S: JobSegments, R: Running> JobWork<'a, S, TablePart<S>, TableKept<S>, R> {
+impl<'a, S: JobSegments, R: RunBrand> JobWork<'a, S, TablePart<S>, TableKept<S>, R> {
     /// Arrives for a job that is over at the start nodes of the jobs that wait for it, and settles it. One of the jobs
     /// that may begin now comes back, and the others go to the pool.
     #[cycle(over)]
@@ -194,7 +194,7 @@ impl<'a, S: JobSegments, R: Running> JobWork<'a, S, TablePart<S>, TableKept<S>, 
         gate: &G,
         over: TableJobSeat<S, R>,
         spawn: &mut P,
-        busy: &mut TableBusy<'_, S, R>,
+        tools: &mut TableTools<'_, S, R>,
         depth: usize,
     ) -> Option<TableJobSeat<S, R>> {
         let JobSeat { seat, job, of: _ } = over;
@@ -206,7 +206,7 @@ impl<'a, S: JobSegments, R: Running> JobWork<'a, S, TablePart<S>, TableKept<S>, 
             seat = rest;
             if let Some(freed) = freed {
                 if let Some(other) = next.replace(freed) {
-                    self.hand_over(gate, other, spawn, busy, depth);
+                    self.hand_over(gate, other, spawn, tools, depth);
                 }
             }
         }
@@ -222,13 +222,13 @@ impl<'a, S: JobSegments, R: Running> JobWork<'a, S, TablePart<S>, TableKept<S>, 
         gate: &G,
         begun: TableJobSeat<S, R>,
         spawn: &mut P,
-        busy: &mut TableBusy<'_, S, R>,
+        tools: &mut TableTools<'_, S, R>,
         depth: usize,
     ) {
         if let Err(Task::Begin(begun)) = spawn.push(Task::Begin(begun)) {
             if let Some(depth) = depth.checked_sub(1) {
-                let over = self.run_job(gate, begun, spawn, busy);
-                self.finish(gate, over, spawn, busy, depth);
+                let over = self.run_job(gate, begun, spawn, tools);
+                self.finish(gate, over, spawn, tools, depth);
             }
         }
     }
@@ -240,7 +240,7 @@ impl<'a, S: JobSegments, R: Running> JobWork<'a, S, TablePart<S>, TableKept<S>, 
         gate: &G,
         over: Option<TableJobSeat<S, R>>,
         spawn: &mut P,
-        busy: &mut TableBusy<'_, S, R>,
+        tools: &mut TableTools<'_, S, R>,
         depth: usize,
     ) {
         let mut left = over;
@@ -248,10 +248,10 @@ impl<'a, S: JobSegments, R: Running> JobWork<'a, S, TablePart<S>, TableKept<S>, 
             let Some(over) = left else {
                 break;
             };
-            let Some(next) = self.end_job(gate, over, spawn, busy, depth) else {
+            let Some(next) = self.end_job(gate, over, spawn, tools, depth) else {
                 break;
             };
-            left = self.run_job(gate, next, spawn, busy);
+            left = self.run_job(gate, next, spawn, tools);
         }
     }
 
@@ -261,15 +261,15 @@ impl<'a, S: JobSegments, R: Running> JobWork<'a, S, TablePart<S>, TableKept<S>, 
         gate: &G,
         task: TableTask<S, R>,
         spawn: &mut P,
-        busy: &mut TableBusy<'_, S, R>,
+        tools: &mut TableTools<'_, S, R>,
     ) {
         let over = match task {
-            Task::Begin(begun) => self.run_job(gate, begun, spawn, busy),
+            Task::Begin(begun) => self.run_job(gate, begun, spawn, tools),
             Task::Walk(side) => {
-                let whole = self.walk(gate, side, spawn, busy);
-                self.go_on(gate, whole, spawn, busy)
+                let whole = self.walk(gate, side, spawn, tools);
+                self.go_on(gate, whole, spawn, tools)
             }
         };
-        self.finish(gate, over, spawn, busy, self.starts.len());
+        self.finish(gate, over, spawn, tools, self.starts.len());
     }
 }

@@ -6,10 +6,10 @@ ghost use Rattle.job_runner.specs.Waits.{nodes_in};
 use crate::cut::{TableKept, TablePart, TableSeat};
 use crate::segments::JobSegments;
 use crate::start::Waiting;
-use crate::task::{Running, TableJobSeat};
+use crate::task::{RunBrand, TableJobSeat};
 use crate::work::JobWork;
 
-impl<'a, S: JobSegments, R: Running> JobWork<'a, S, TablePart<S>, TableKept<S>, R> {
+impl<'a, S: JobSegments, R: RunBrand> JobWork<'a, S, TablePart<S>, TableKept<S>, R> {
     /// Arrives at the start node of a job that waits, with its part of the credit. `Some` if that job may begin.
     fn free_one(
         &self,

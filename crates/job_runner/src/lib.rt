@@ -18,7 +18,6 @@
 
 mod alone;
 mod arming;
-mod busy;
 mod credit;
 mod cut;
 mod earlier;
@@ -34,6 +33,7 @@ mod segments;
 mod start;
 mod stopping;
 mod task;
+mod tools;
 mod walking;
 mod watch;
 mod watching;
@@ -50,7 +50,7 @@ pub use start::{Start, Waiting};
 pub use std::alloc::AllocError as NoMemory;
 pub use stopping::{RunSegments, RunStops};
 pub use task::{
-    FinishedSegment, Idle, JobSeat, Running, SideTask, Spare, TableFinishedSegment, TableIdle,
+    FinishedSegment, Idle, JobSeat, RunBrand, SideTask, Spare, TableFinishedSegment, TableIdle,
     TableJobSeat, TableSideTask, TableSpare, TableTask, TableUnopenedJobs, Task, UnopenedJobs,
 };
 pub use work::{JobWork, TableWork};

@@ -16,7 +16,7 @@ use crate::segments::JobSegments;
 use crate::start::Start;
 use crate::stopping::{RunSegments, RunStops};
 use crate::task::{
-    Idle, JobSeat, Running, TableIdle, TableJobSeat, TableSpare, TableTask, TableUnopenedJobs,
+    Idle, JobSeat, RunBrand, TableIdle, TableJobSeat, TableSpare, TableTask, TableUnopenedJobs,
     Task, UnopenedJobs,
 };
 use crate::work::{JobWork, TableWork};
@@ -85,7 +85,7 @@ fn stop_words<S: JobSegments>(alloc: Global, jobs: &S) -> Result<(RunStops<S>, C
     RunStops::<S>::new(alloc, &segments)
 }
 
-impl<'a, S: JobSegments, R: Running> JobWork<'a, S, TablePart<S>, TableKept<S>, R> {
+impl<'a, S: JobSegments, R: RunBrand> JobWork<'a, S, TablePart<S>, TableKept<S>, R> {
     /// Arrives at the start node of a job, along the path of that node alone: the next one on the way is arrived at
     /// once the job has left its answer. If it is the last arrival, the job may begin.
     pub(crate) fn arrive_at(&self, seat: TableSeat<S>, job: usize) -> Option<TableJobSeat<S, R>>
@@ -163,7 +163,7 @@ impl<'a, S: JobSegments, R: Running> JobWork<'a, S, TablePart<S>, TableKept<S>, 
 }
 
 /// The credit of all workers, once all jobs are opened.
-fn empty<S: JobSegments, R: Running>(
+fn empty<S: JobSegments, R: RunBrand>(
     alloc: Global,
     jobs: &S,
     unopened: TableUnopenedJobs<S, R>,
@@ -183,7 +183,7 @@ fn empty<S: JobSegments, R: Running>(
 }
 
 /// This many `Idle`s, split off the first one, each with an equal part of its credit.
-fn idle_seats<S: JobSegments, R: Running>(
+fn idle_seats<S: JobSegments, R: RunBrand>(
     alloc: Global,
     jobs: &S,
     counts: &TableCounts<S>,
@@ -206,7 +206,7 @@ fn idle_seats<S: JobSegments, R: Running>(
 }
 
 /// One `Idle` with one of that many equal parts of the credit, and the one that it was split off from.
-fn idle_one<S: JobSegments, R: Running>(
+fn idle_one<S: JobSegments, R: RunBrand>(
     alloc: Global,
     jobs: &S,
     counts: &TableCounts<S>,

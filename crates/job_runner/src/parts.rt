@@ -4,22 +4,22 @@ ghost use Rattle.early_stop.specs.Decisive.{Decides};
 ghost use Rattle.job_runner.specs.Cuts.{IsPiece};
 
 use crate::NoMemory;
-use crate::busy::TableBusy;
 use crate::earlier::Earlier;
 use crate::piece::{Piece, SegmentInput};
 use crate::places::{hold_source, kept_given, source_in};
 use crate::segments::JobSegments;
-use crate::task::Running;
+use crate::task::RunBrand;
+use crate::tools::TableTools;
 use crate::work::TableWork;
 use worker_pool::Gate;
 
 /// Walks a piece with what the job takes of earlier answers.
-fn walked<S: JobSegments, R: Running>(
+fn walked<S: JobSegments, R: RunBrand>(
     work: &TableWork<S, R>,
     piece: Piece,
-    busy: &mut TableBusy<'_, S, R>,
+    tools: &mut TableTools<'_, S, R>,
 ) -> Result<S::Part, NoMemory>
-    requires watched { (busy.old.watch.job ≡ piece.job) × (busy.old.watch.segment ≡ piece.segment) }
+    requires watched { (tools.old.watch.job ≡ piece.job) × (tools.old.watch.segment ≡ piece.segment) }
     requires piece { IsPiece S.job_count S.last_of S.size_of piece.job piece.segment piece.from piece.to }
     ensures { IfOk result (λ part. S.stands_for piece.job piece.segment piece.from piece.to part) }
 {
@@ -27,8 +27,8 @@ fn walked<S: JobSegments, R: Running>(
         return Err(NoMemory);
     };
     let earlier = Earlier::in_places(&work.places);
-    let scratch = &mut busy.scratch;
-    let watch = &mut busy.watch;
+    let scratch = &mut tools.scratch;
+    let watch = &mut tools.watch;
     if piece.segment == 0 {
         let first = Piece {
             segment: 0,
@@ -56,7 +56,7 @@ fn walked<S: JobSegments, R: Running>(
 }
 
 /// The part of a piece that isn't walked, since a place at or before its first position decides.
-fn left_out<S: JobSegments, R: Running>(
+fn left_out<S: JobSegments, R: RunBrand>(
     work: &TableWork<S, R>,
     piece: Piece,
 ) -> Result<S::Part, NoMemory>
@@ -73,20 +73,20 @@ fn left_out<S: JobSegments, R: Running>(
 /// Enters the gate and walks a piece, unless a place at or before its first position decides what the segment gives:
 /// then the gate isn't entered. If the segment's source isn't there, or what the job takes of earlier answers, it is as
 /// if an allocation had failed: the part is missing.
-pub(crate) fn part_of<S: JobSegments, R: Running, G: Gate>(
+pub(crate) fn part_of<S: JobSegments, R: RunBrand, G: Gate>(
     work: &TableWork<S, R>,
     gate: &G,
     piece: Piece,
-    busy: &mut TableBusy<'_, S, R>,
+    tools: &mut TableTools<'_, S, R>,
 ) -> Result<S::Part, NoMemory>
     requires piece { IsPiece S.job_count S.last_of S.size_of piece.job piece.segment piece.from piece.to }
     ensures { IfOk result (λ part. S.stands_for piece.job piece.segment piece.from piece.to part) }
 {
-    busy.watch.aim(piece.job, piece.segment);
-    let seen = busy.watch.seen();
+    tools.watch.aim(piece.job, piece.segment);
+    let seen = tools.watch.seen();
     if seen <= piece.from && seen != u64::MAX {
         return left_out(work, piece);
     }
     gate.at_leaf(piece.job, piece.from, piece.to);
-    walked(work, piece, busy)
+    walked(work, piece, tools)
 }

@@ -11,7 +11,7 @@ use crate::earlier::Earlier;
 use crate::opening::TableFreshCounts;
 use crate::places::{JobPlaces, answer_in, empty_places};
 use crate::segments::JobSegments;
-use crate::task::{Running, TableIdle, TableTask};
+use crate::task::{RunBrand, TableIdle, TableTask};
 use crate::work::{JobWork, TableWork};
 use run_settings::Settings;
 use std::alloc::Global;
@@ -64,7 +64,7 @@ fn read_answers<S: JobSegments, G: Gate>(
 /// Has workers run the tasks, if there are workers.
 fn run_tasks<
     S: JobSegments + Send + Sync,
-    R: Running + Send + Sync,
+    R: RunBrand + Send + Sync,
     H: Threads + Wait + Sync,
     G: Gate + Sync,
 >(
@@ -89,7 +89,7 @@ where
 }
 
 /// The places of jobs that were run.
-fn places_of<S: JobSegments, R: Running>(work: TableWork<'_, S, R>) -> Vec<JobPlaces<S>> {
+fn places_of<S: JobSegments, R: RunBrand>(work: TableWork<'_, S, R>) -> Vec<JobPlaces<S>> {
     let JobWork { places, .. } = work;
     places
 }
@@ -97,7 +97,7 @@ fn places_of<S: JobSegments, R: Running>(work: TableWork<'_, S, R>) -> Vec<JobPl
 /// Runs the jobs over one table of counts, and gives back their places.
 fn run_on<
     S: JobSegments + Send + Sync,
-    R: Running + Send + Sync,
+    R: RunBrand + Send + Sync,
     H: Threads + Wait + Sync,
     G: Gate + Sync,
 >(

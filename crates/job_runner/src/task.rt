@@ -18,7 +18,7 @@ use std::marker::{Brand, PhantomData};
 
 /// The table of a run's counts, the start nodes of its jobs and what they keep, and the sizes of its jobs. The function
 /// that runs the jobs picks them.
-pub trait Running {
+pub trait RunBrand {
     ghost table: { TableId };
 
     ghost jobs: { ℕ };
@@ -35,7 +35,7 @@ pub trait Running {
     ghost stops: { TableId };
 }
 
-impl Running for Brand {
+impl RunBrand for Brand {
     ghost table = { record { words = 0; slots = 0; views_name = 0; atom = 0; block = 0; offset = 0; slot_names = [] } };
 
     ghost jobs = { 0 };
@@ -53,7 +53,7 @@ impl Running for Brand {
 
 /// The right to end a job: the seat has what the start node of the job kept.
 #[derive(Drop)]
-pub struct JobSeat<V, K: Fits<V, Tag = CutPiece>, R: Running> {
+pub struct JobSeat<V, K: Fits<V, Tag = CutPiece>, R: RunBrand> {
     pub(crate) seat: Seat<V, K>,
     pub(crate) job: usize,
     pub(crate) of: PhantomData<R>,
@@ -63,7 +63,7 @@ pub struct JobSeat<V, K: Fits<V, Tag = CutPiece>, R: Running> {
 
 /// One side of a cut that is still to be handed in, with the seat that does it.
 #[derive(Drop)]
-pub struct SideTask<V, K: Fits<V, Tag = CutPiece>, R: Running> {
+pub struct SideTask<V, K: Fits<V, Tag = CutPiece>, R: RunBrand> {
     pub(crate) half: Half<V, K>,
     pub(crate) of: PhantomData<R>,
     ghost can: { CanFork R.table half.place half.seat },
@@ -74,7 +74,7 @@ pub struct SideTask<V, K: Fits<V, Tag = CutPiece>, R: Running> {
 
 /// What a worker takes.
 #[derive(Drop)]
-pub enum Task<V, K: Fits<V, Tag = CutPiece>, R: Running> {
+pub enum Task<V, K: Fits<V, Tag = CutPiece>, R: RunBrand> {
     /// Begin a job: the jobs that it names have ended.
     Begin(JobSeat<V, K, R>),
     /// Walk one side of a cut.
@@ -83,7 +83,7 @@ pub enum Task<V, K: Fits<V, Tag = CutPiece>, R: Running> {
 
 /// The credit of a worker, for the trees that it begins. Its seat has noted no place of a tree.
 #[derive(Drop)]
-pub struct Spare<V, K: Fits<V, Tag = CutPiece>, R: Running> {
+pub struct Spare<V, K: Fits<V, Tag = CutPiece>, R: RunBrand> {
     pub(crate) seat: Seat<V, K>,
     pub(crate) of: PhantomData<R>,
     ghost table: { table_of seat ≡ R.table },
@@ -93,7 +93,7 @@ pub struct Spare<V, K: Fits<V, Tag = CutPiece>, R: Running> {
 /// A worker's right to ask how many jobs are left, its credit, its seat at the words of early stop, and what it keeps
 /// from one leaf to the next.
 #[derive(Drop)]
-pub struct Idle<V, K: Fits<V, Tag = CutPiece>, R: Running, T> {
+pub struct Idle<V, K: Fits<V, Tag = CutPiece>, R: RunBrand, T> {
     pub(crate) seat: Seat<V, K>,
     pub(crate) spare: Option<Spare<V, K, R>>,
     pub(crate) stop_seat: CutSeat,
@@ -106,7 +106,7 @@ pub struct Idle<V, K: Fits<V, Tag = CutPiece>, R: Running, T> {
 /// The seat from which the openings are split off. It has an arrival at the start node of each job that isn't opened
 /// yet: the first `jobs`.
 #[derive(Drop)]
-pub struct UnopenedJobs<V, K: Fits<V, Tag = CutPiece>, R: Running> {
+pub struct UnopenedJobs<V, K: Fits<V, Tag = CutPiece>, R: RunBrand> {
     pub(crate) seat: Seat<V, K>,
     pub(crate) jobs: usize,
     pub(crate) of: PhantomData<R>,
@@ -119,7 +119,7 @@ pub struct UnopenedJobs<V, K: Fits<V, Tag = CutPiece>, R: Running> {
 
 /// A segment that was walked whole, with the right to end its job.
 #[derive(Drop)]
-pub struct FinishedSegment<V, K: Fits<V, Tag = CutPiece>, R: Running> {
+pub struct FinishedSegment<V, K: Fits<V, Tag = CutPiece>, R: RunBrand> {
     pub(crate) job: JobSeat<V, K, R>,
     pub(crate) segment: usize,
     pub(crate) part: V,

@@ -4,7 +4,6 @@ ghost use Rattle.trace.specs.declared.item.Fault.{Fault};
 ghost use Rattle.job_runner.specs.Cuts.{HandedIn, IfMerged, IsPiece, StandsWhole, begins, ends_at, positions_at};
 
 use crate::NoMemory;
-use crate::busy::TableBusy;
 use crate::cut::{CutPiece, Join, SegmentPart, TableKept, TablePart, is_left, side_at};
 use crate::nodes::share_of;
 use crate::parts::part_of;
@@ -12,9 +11,10 @@ use crate::piece::Piece;
 use crate::places::{kept_given, size_of};
 use crate::segments::JobSegments;
 use crate::task::{
-    FinishedSegment, JobSeat, Running, SideTask, TableFinishedSegment, TableJobSeat, TableSideTask,
-    TableTask, Task,
+    FinishedSegment, JobSeat, RunBrand, SideTask, TableFinishedSegment, TableJobSeat,
+    TableSideTask, TableTask, Task,
 };
+use crate::tools::TableTools;
 use crate::watch::Watch;
 use crate::work::{JobWork, TableWork};
 use completer_tree::{Failure, Forked, Half, Tree};
@@ -23,7 +23,7 @@ use trace::Fault;
 use worker_pool::{Gate, Spawn};
 
 /// The fault that ends a piece, if the job gives an answer in its place.
-fn fault_of<S: JobSegments, R: Running>(
+fn fault_of<S: JobSegments, R: RunBrand>(
     work: &TableWork<S, R>,
     piece: Piece,
     part: &S::Part,
@@ -41,17 +41,17 @@ fn fault_of<S: JobSegments, R: Running>(
 
 /// Walks a piece. What is handed in for it: its part, or the fault that ends it, if the job gives an answer in its
 /// place.
-fn handed<S: JobSegments, R: Running, G: Gate>(
+fn handed<S: JobSegments, R: RunBrand, G: Gate>(
     work: &TableWork<S, R>,
     gate: &G,
     piece: Piece,
-    busy: &mut TableBusy<'_, S, R>,
+    tools: &mut TableTools<'_, S, R>,
 ) -> TablePart<S>
     requires piece { IsPiece S.job_count S.last_of S.size_of piece.job piece.segment piece.from piece.to }
     ensures handed { HandedIn S.stands_for S.faults_with (λ x. x.found) piece.job piece.segment piece.from piece.to result }
     ensures caught { IfOk result (λ x. IfMerged (λ part. (fault : Fault) → S.is_caught piece.job piece.segment part fault → ⊥) (λ answer. ⊥) x.found) }
 {
-    let Ok(part) = part_of(work, gate, piece, busy) else {
+    let Ok(part) = part_of(work, gate, piece, tools) else {
         return Err(Failure::NoMemory);
     };
     match fault_of(work, piece, &part) {
@@ -63,20 +63,20 @@ fn handed<S: JobSegments, R: Running, G: Gate>(
 
 /// Walks one side of a cut as one piece, and hands its part in.
 #[tactic(auto, using(crate::proofs::SameRun::as_planned))]
-fn leaf<S: JobSegments, R: Running, G: Gate>(
+fn leaf<S: JobSegments, R: RunBrand, G: Gate>(
     work: &TableWork<S, R>,
     gate: &G,
     side: TableSideTask<S, R>,
-    busy: &mut TableBusy<'_, S, R>,
+    tools: &mut TableTools<'_, S, R>,
 ) -> Option<TableFinishedSegment<S, R>>
     ensures { IfSome result (λ whole. StandsWhole S.stands_for S.is_instead S.size_of whole.job.job whole.segment (λ x. x.found) whole.part) }
 {
     let SideTask { half, of: _ } = side;
     let Half { seat, place } = half;
     let cut = place.tag;
-    let value = handed(work, gate, side_at(&place), busy);
+    let value = handed(work, gate, side_at(&place), tools);
     let tree = Tree::new(&work.counts, &[]);
-    let watch = &mut busy.watch;
+    let watch = &mut tools.watch;
     watch.aim(cut.job, cut.segment);
     let (seat, found) = tree.try_complete_with(seat, Some(place), value, watch);
     let part = found?;
@@ -93,7 +93,7 @@ fn leaf<S: JobSegments, R: Running, G: Gate>(
 }
 
 /// Whether a place at or before the first position of a piece is known to decide what the segment gives.
-fn is_left_out<S: JobSegments, R: Running>(watch: &mut Watch<'_, S, R>, piece: Piece) -> bool
+fn is_left_out<S: JobSegments, R: RunBrand>(watch: &mut Watch<'_, S, R>, piece: Piece) -> bool
     requires known { (piece.job < S.job_count) × (piece.segment ≤ S.last_of piece.job) }
 {
     watch.aim(piece.job, piece.segment);
@@ -102,7 +102,11 @@ fn is_left_out<S: JobSegments, R: Running>(watch: &mut Watch<'_, S, R>, piece: P
 
 /// The most positions of a piece of a segment that isn't cut. A segment that turns out longer than it was counted with isn't cut into
 /// more pieces than others, so that no worker spends all nodes on its beginning.
-fn longest_of<S: JobSegments, R: Running>(work: &TableWork<S, R>, job: usize, segment: usize) -> u64
+fn longest_of<S: JobSegments, R: RunBrand>(
+    work: &TableWork<S, R>,
+    job: usize,
+    segment: usize,
+) -> u64
     requires known { (job < S.job_count) × (segment ≤ S.last_of job) }
     ensures { 0 < result }
 {
@@ -112,7 +116,7 @@ fn longest_of<S: JobSegments, R: Running>(work: &TableWork<S, R>, job: usize, se
     }
 }
 
-impl<'a, S: JobSegments, R: Running> JobWork<'a, S, TablePart<S>, TableKept<S>, R> {
+impl<'a, S: JobSegments, R: RunBrand> JobWork<'a, S, TablePart<S>, TableKept<S>, R> {
     /// Cuts one side of a cut in two, if a node can be claimed. If not, the side comes back.
     #[tactic(auto, using(crate::proofs::SameRun::as_planned))]
     fn cut_side(
@@ -163,18 +167,18 @@ impl<'a, S: JobSegments, R: Running> JobWork<'a, S, TablePart<S>, TableKept<S>, 
         gate: &G,
         side: TableSideTask<S, R>,
         spawn: &mut P,
-        busy: &mut TableBusy<'_, S, R>,
+        tools: &mut TableTools<'_, S, R>,
     ) -> Option<TableFinishedSegment<S, R>>
         ensures { IfSome result (λ whole. StandsWhole S.stands_for S.is_instead S.size_of whole.job.job whole.segment (λ x. x.found) whole.part) }
     {
         let piece = side_at(&side.half.place);
         let longest = longest_of(self, piece.job, piece.segment);
-        if piece.to - piece.from <= longest || is_left_out(&mut busy.watch, piece) {
-            return leaf(self, gate, side, busy);
+        if piece.to - piece.from <= longest || is_left_out(&mut tools.watch, piece) {
+            return leaf(self, gate, side, tools);
         }
         match self.cut_side(side) {
-            Ok((own, other)) => self.walk_both(gate, own, other, spawn, busy),
-            Err(whole) => leaf(self, gate, whole, busy),
+            Ok((own, other)) => self.walk_both(gate, own, other, spawn, tools),
+            Err(whole) => leaf(self, gate, whole, tools),
         }
     }
 
@@ -186,36 +190,36 @@ impl<'a, S: JobSegments, R: Running> JobWork<'a, S, TablePart<S>, TableKept<S>, 
         own: TableSideTask<S, R>,
         other: TableSideTask<S, R>,
         spawn: &mut P,
-        busy: &mut TableBusy<'_, S, R>,
+        tools: &mut TableTools<'_, S, R>,
     ) -> Option<TableFinishedSegment<S, R>>
         ensures { IfSome result (λ whole. StandsWhole S.stands_for S.is_instead S.size_of whole.job.job whole.segment (λ x. x.found) whole.part) }
     {
         let pushed = spawn.push(Task::Walk(other));
-        let first = self.walk(gate, own, spawn, busy);
+        let first = self.walk(gate, own, spawn, tools);
         let Err(Task::Walk(other)) = pushed else {
             return first;
         };
-        let second = self.walk(gate, other, spawn, busy);
+        let second = self.walk(gate, other, spawn, tools);
         if first.is_some() { first } else { second }
     }
 }
 
 /// Walks a segment as one piece.
 #[tactic(auto, using(crate::proofs::SameRun::as_planned))]
-fn walk_whole<S: JobSegments, R: Running, G: Gate>(
+fn walk_whole<S: JobSegments, R: RunBrand, G: Gate>(
     work: &TableWork<S, R>,
     gate: &G,
     job: TableJobSeat<S, R>,
     segment: usize,
     size: u64,
-    busy: &mut TableBusy<'_, S, R>,
+    tools: &mut TableTools<'_, S, R>,
 ) -> TableFinishedSegment<S, R>
     requires known { segment ≤ R.last job.job }
     requires size { size ≡ R.size job.job segment }
     ensures { StandsWhole S.stands_for S.is_instead S.size_of result.job.job result.segment (λ x. x.found) result.part }
 {
     let all = Piece::all(job.job, segment, size);
-    let walked = part_of(work, gate, all, busy);
+    let walked = part_of(work, gate, all, tools);
     let part = match walked {
         Ok(part) => Ok(SegmentPart::of_part(part)),
         Err(_refused) => Err(Failure::NoMemory),
@@ -223,7 +227,7 @@ fn walk_whole<S: JobSegments, R: Running, G: Gate>(
     FinishedSegment { job, segment, part }
 }
 
-impl<'a, S: JobSegments, R: Running> JobWork<'a, S, TablePart<S>, TableKept<S>, R> {
+impl<'a, S: JobSegments, R: RunBrand> JobWork<'a, S, TablePart<S>, TableKept<S>, R> {
     /// Cuts a segment in two, at the top of its tree, if a node can be claimed. If not, the right to end the job comes back.
     #[tactic(auto, using(crate::proofs::SeatLemmas::can_keep, crate::proofs::SameRun::as_planned))]
     fn cut_segment(
@@ -273,19 +277,19 @@ impl<'a, S: JobSegments, R: Running> JobWork<'a, S, TablePart<S>, TableKept<S>, 
         segment: usize,
         size: u64,
         spawn: &mut P,
-        busy: &mut TableBusy<'_, S, R>,
+        tools: &mut TableTools<'_, S, R>,
     ) -> Option<TableFinishedSegment<S, R>>
         requires known { segment ≤ R.last begun.job }
         requires size { size ≡ R.size begun.job segment }
         ensures { IfSome result (λ whole. StandsWhole S.stands_for S.is_instead S.size_of whole.job.job whole.segment (λ x. x.found) whole.part) }
     {
         if size <= self.threshold || !self.jobs.is_divided(begun.job, segment) {
-            return Some(walk_whole(self, gate, begun, segment, size, busy));
+            return Some(walk_whole(self, gate, begun, segment, size, tools));
         }
-        let paid = self.pay(begun, &mut busy.spare);
+        let paid = self.pay(begun, &mut tools.spare);
         match self.cut_segment(paid, segment, size) {
-            Ok((own, other)) => self.walk_both(gate, own, other, spawn, busy),
-            Err(begun) => Some(walk_whole(self, gate, begun, segment, size, busy)),
+            Ok((own, other)) => self.walk_both(gate, own, other, spawn, tools),
+            Err(begun) => Some(walk_whole(self, gate, begun, segment, size, tools)),
         }
     }
 }

@@ -6,13 +6,13 @@ ghost use Rattle.job_runner.specs.Stops.{pair_at, stop_id_of};
 use crate::places::JobPlaces;
 use crate::segments::JobSegments;
 use crate::stopping::RunStops;
-use crate::task::Running;
+use crate::task::RunBrand;
 use early_stop::CutSeat;
 use std::marker::PhantomData;
 
 /// A worker's seat at the words of early stop, and the segment that it asks about.
 #[derive(Drop)]
-pub struct Watch<'w, S: JobSegments, R: Running> {
+pub struct Watch<'w, S: JobSegments, R: RunBrand> {
     pub(crate) jobs: &'w S,
     pub(crate) places: &'w [JobPlaces<S>],
     pub(crate) stops: &'w RunStops<S>,

@@ -7,7 +7,7 @@ use crate::cut::{CutPiece, Merged, SegmentPart, TablePart, side_at};
 use crate::piece::Piece;
 use crate::places::{size_of, word_of};
 use crate::segments::JobSegments;
-use crate::task::Running;
+use crate::task::RunBrand;
 use crate::watch::Watch;
 use completer_tree::{Failure, Looker};
 use early_stop::Stop;
@@ -15,7 +15,7 @@ use pending_count::{Place, Side};
 use std::thread::yield_now;
 use trace::Fault;
 
-impl<S: JobSegments, R: Running> Watch<'_, S, R> {
+impl<S: JobSegments, R: RunBrand> Watch<'_, S, R> {
     /// From here on the segment is asked about.
     pub(crate) fn aim(&mut self, job: usize, segment: usize)
         requires known { (job < S.job_count) × (segment ≤ S.last_of job) }
@@ -85,7 +85,7 @@ impl<S: JobSegments, R: Running> Watch<'_, S, R> {
     }
 }
 
-impl<S: JobSegments, R: Running> Stop for Watch<'_, S, R> {
+impl<S: JobSegments, R: RunBrand> Stop for Watch<'_, S, R> {
     ghost decides = { λ w c. Decides (S.gives w.job w.segment) (S.goes_over w.job w.segment) c };
 
     fn place(&mut self) -> u64 {
@@ -95,7 +95,7 @@ impl<S: JobSegments, R: Running> Stop for Watch<'_, S, R> {
     }
 }
 
-impl<S: JobSegments, R: Running> Looker<SegmentPart<S>> for Watch<'_, S, R> {
+impl<S: JobSegments, R: RunBrand> Looker<SegmentPart<S>> for Watch<'_, S, R> {
     fn look(&mut self, at: &Place<CutPiece>, value: &TablePart<S>) {
         if at.side == Side::Whole || at.tag.job != self.job || at.tag.segment != self.segment {
             return;

@@ -9,7 +9,6 @@ ghost use Rattle.job_runner.specs.Starts.{kept_at, node_at};
 ghost use Rattle.job_runner.specs.Waits.{nodes_in};
 
 use crate::NoMemory;
-use crate::busy::Busy;
 use crate::cut::{CutPiece, TableCounts, TableKept, TablePart};
 use crate::nodes::{pieces_of_segment, segment_count};
 use crate::opening::{FreshCounts, TableFreshCounts};
@@ -17,7 +16,8 @@ use crate::places::{JobPlaces, empty_places, kept_answer};
 use crate::segments::JobSegments;
 use crate::start::{Start, Waiting};
 use crate::stopping::RunStops;
-use crate::task::{Idle, Running, TableIdle, TableSpare, TableTask, TableUnopenedJobs, Task};
+use crate::task::{Idle, RunBrand, TableIdle, TableSpare, TableTask, TableUnopenedJobs, Task};
+use crate::tools::Tools;
 use crate::watch::Watch;
 use completion_core::END;
 use early_stop::CutSeat;
@@ -30,7 +30,7 @@ use worker_pool::{Gate, Spawn, Work};
 
 /// All jobs of a run, over one table of counts.
 #[derive(Drop)]
-pub struct JobWork<'a, S: JobSegments, V, K: Fits<V, Tag = CutPiece>, R: Running> {
+pub struct JobWork<'a, S: JobSegments, V, K: Fits<V, Tag = CutPiece>, R: RunBrand> {
     pub(crate) alloc: Global,
     pub(crate) counts: Counts<V, K>,
     pub(crate) jobs: &'a S,
@@ -55,7 +55,7 @@ pub struct JobWork<'a, S: JobSegments, V, K: Fits<V, Tag = CutPiece>, R: Running
 
 pub type TableWork<'a, S, R> = JobWork<'a, S, TablePart<S>, TableKept<S>, R>;
 
-impl<'a, S: JobSegments, R: Running> JobWork<'a, S, TablePart<S>, TableKept<S>, R> {
+impl<'a, S: JobSegments, R: RunBrand> JobWork<'a, S, TablePart<S>, TableKept<S>, R> {
     /// The work of a run, with what a pool takes for it: a task for each job that names no other one, and an `Idle` for
     /// each worker.
     pub fn new(
@@ -157,7 +157,7 @@ impl<'a, S: JobSegments, R: Running> JobWork<'a, S, TablePart<S>, TableKept<S>, 
 }
 
 /// The job of a task.
-fn task_job<S: JobSegments, R: Running>(task: &TableTask<S, R>) -> usize
+fn task_job<S: JobSegments, R: RunBrand>(task: &TableTask<S, R>) -> usize
     ensures { result < R.jobs }
 {
     match task {
@@ -166,7 +166,7 @@ fn task_job<S: JobSegments, R: Running>(task: &TableTask<S, R>) -> usize
     }
 }
 
-impl<'a, S: JobSegments + Send + Sync, R: Running + Send + Sync> Work
+impl<'a, S: JobSegments + Send + Sync, R: RunBrand + Send + Sync> Work
     for JobWork<'a, S, TablePart<S>, TableKept<S>, R>
 where
     S::Part: Send,
@@ -222,17 +222,17 @@ where
             of,
         } = idle;
         let watch = self.watch(task_job(&task), stop_seat);
-        let mut busy = Busy {
+        let mut tools = Tools {
             scratch,
             watch,
             spare,
         };
-        self.take(gate, task, spawn, &mut busy);
-        let Busy {
+        self.take(gate, task, spawn, &mut tools);
+        let Tools {
             scratch,
             watch,
             spare,
-        } = busy;
+        } = tools;
         let Watch {
             seat: stop_seat,
             ..

@@ -8,14 +8,14 @@ ghost use Rattle.job_table.specs.Takings.{IsTaken};
 
 use crate::kept::{SegmentSource, Taken};
 use crate::plan_parts::{part_in_order, slices_first, streamed_part};
-use crate::planned::{PlanJobs, Planned};
+use crate::planned::{PlanBrand, PlanJobs};
 use batch_eval::Registers;
 use job_meaning::Answer;
 use job_plan::{Part, Source, Walked};
 use job_runner::{EarlierAnswers, NoMemory, SegmentInput};
 use std::alloc::Global;
 
-impl<'a, 'c, P: Planned> PlanJobs<'a, 'c, P> {
+impl<'a, 'c, P: PlanBrand> PlanJobs<'a, 'c, P> {
     /// The part of the last segment of a job, whose source is walked in order.
     pub(crate) fn in_order<E: EarlierAnswers<Answer>>(
         &self,

@@ -19,4 +19,4 @@ mod plan_segments;
 mod planned;
 
 pub use job_runner::{Idle, JobWork, Task};
-pub use planned::{PlanJobs, Planned, RunFault, run_jobs};
+pub use planned::{PlanBrand, PlanJobs, RunFault, run_jobs};

@@ -10,7 +10,7 @@ ghost use Rattle.job_meaning.specs.declared.answer.Answer.TheVariants as answer;
 ghost use Rattle.job_runner.specs.Begins.{IsBegun};
 ghost use Rattle.job_table.specs.PlanSegments.{answer_of, answers_before, chain_at, plan_at, size_at};
 
-use crate::planned::{PlanJobs, Planned};
+use crate::planned::{PlanBrand, PlanJobs};
 use job_language::PlainSource;
 use job_meaning::Answer;
 use job_plan::{JobPlan, Named, Source};
@@ -73,7 +73,7 @@ fn array_source(alloc: Global, answer: &Answer) -> Result<PlainSource<'_>, NoMem
     }
 }
 
-impl<'a, 'c, P: Planned> PlanJobs<'a, 'c, P> {
+impl<'a, 'c, P: PlanBrand> PlanJobs<'a, 'c, P> {
     /// The answer of a job that another one names, if it comes before that one.
     fn named_answer<'e, E: EarlierAnswers<Answer>>(
         &self,

@@ -17,7 +17,7 @@ use crate::plan_parts::{
     catches, is_divided, job_answer, left_out, lent_piece, next_walk, slices_first, stored_piece,
     streamed_piece,
 };
-use crate::planned::{PlanJobs, Planned};
+use crate::planned::{PlanBrand, PlanJobs};
 use batch_eval::Registers;
 use early_stop::Stop;
 use job_meaning::Answer;
@@ -26,7 +26,7 @@ use job_runner::{Begun, CutPiece, EarlierAnswers, JobSegments, NoMemory, Piece, 
 use std::alloc::Global;
 use trace::Fault;
 
-impl<'a, 'c, P: Planned> JobSegments for PlanJobs<'a, 'c, P> {
+impl<'a, 'c, P: PlanBrand> JobSegments for PlanJobs<'a, 'c, P> {
     type Part = Part<'a>;
 
     type Source = SegmentSource<'a>;

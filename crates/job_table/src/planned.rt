@@ -18,23 +18,23 @@ use worker_pool::Gate;
 
 /// The jobs that a run is over, as they are kept. Whoever makes `PlanJobs` picks them: `run_jobs`, or a caller with a
 /// pool of its own.
-pub trait Planned {
+pub trait PlanBrand {
     ghost jobs: { List job_plan };
 }
 
-impl Planned for Brand {
+impl PlanBrand for Brand {
     ghost jobs = { [] };
 }
 
 /// The jobs of a plan, as a run takes them.
 #[derive(Drop)]
-pub struct PlanJobs<'a, 'c, P: Planned> {
+pub struct PlanJobs<'a, 'c, P: PlanBrand> {
     pub(crate) plan: &'a Plan<'c>,
     of: PhantomData<P>,
     ghost planned: { plan.now.jobs.items ≡ P.jobs } by { one_plan plan.now.jobs.items P.jobs },
 }
 
-impl<'a, 'c, P: Planned> PlanJobs<'a, 'c, P> {
+impl<'a, 'c, P: PlanBrand> PlanJobs<'a, 'c, P> {
     /// The jobs of this plan. It takes no memory.
     pub fn of(plan: &'a Plan<'c>) -> PlanJobs<'a, 'c, P>
         requires planned { plan.now.jobs.items ≡ P.jobs }
@@ -79,7 +79,7 @@ impl<'a, 'c, P: Planned> PlanJobs<'a, 'c, P> {
 }
 
 /// The answers of the jobs of a plan, by a run whose types know of the plan.
-fn run_as<P: Planned + Send + Sync, H: Threads + Wait + Sync, G: Gate + Sync>(
+fn run_as<P: PlanBrand + Send + Sync, H: Threads + Wait + Sync, G: Gate + Sync>(
     rt: &H,
     alloc: Global,
     plan: &Plan<'_>,

@@ -7,7 +7,7 @@ ghost use Rattle.job_runner.specs.Stops.{stop_id_of};
 use crate::shown::{columns_of, plan_of};
 use crate::worked::{COLUMNS, FILES};
 use job_plan::{Form, Plan, Settings};
-use job_runner::{JobSegments, NoMemory, Running, TableFreshCounts, TableWork};
+use job_runner::{JobSegments, NoMemory, RunBrand, TableFreshCounts, TableWork};
 use job_table::PlanJobs;
 use std::alloc::{AllocError, Global};
 use std::marker::Brand;
@@ -67,7 +67,7 @@ where
 }
 
 /// How many answers are found after all tasks were run here, with a `Spawn` that drops the first `drops`.
-fn answers_found<S: JobSegments + Send + Sync, R: Running + Send + Sync, H: Wait>(
+fn answers_found<S: JobSegments + Send + Sync, R: RunBrand + Send + Sync, H: Wait>(
     rt: &H,
     alloc: Global,
     jobs: &S,
@@ -121,7 +121,7 @@ where
     }
 }
 
-fn plan_found_as<P: job_table::Planned + Send + Sync, H: Wait>(
+fn plan_found_as<P: job_table::PlanBrand + Send + Sync, H: Wait>(
     rt: &H,
     alloc: Global,
     plan: &Plan<'_>,

@@ -13,9 +13,9 @@ const HELD_TURNS: u64 = 1000;
 #[derive(Clone, Copy)]
 pub(crate) enum Holds {
     Nothing,
-    /// That at position 0, until another leaf is entered.
+    /// The leaf at position 0, until another leaf is entered.
     First,
-    /// That of this number, in the order in which leaves are entered, for 1,000 turns.
+    /// The leaf with this number, in the order in which leaves are entered, for 1,000 turns.
     Number(u64),
 }
 

@@ -7,7 +7,7 @@ use Rattle.job_plan.proofs.nest.feed_link.Goals as goal
 
 pub feed-requires-clause-begun : goal.feed-requires-clause-begun
 feed-requires-clause-begun g c =
-    let k = g.K.LinkStart in
+    let k = g.K.LinkBrand in
     let h = g.S.LongSink.has_taken in
     let f = g.S.LongSink.flow in
     let segment = c.args.chain.last.now.segment.now in

@@ -11,16 +11,16 @@ use Rattle.job_table.proofs.SharedPlanLemmas.{jobs_send, jobs_sync, part_send, s
 use Rattle.job_table.proofs.planned.run_as.Goals as goal
 
 pub returns : goal.returns
-returns g c = planned_jobs (λ (v : Vec Answer Global). v.items) c.args.plan.now.jobs.items g.P.Planned.jobs c.requires.planned c.run_all.result c.run_all.ensures.count c.run_all.ensures.each
+returns g c = planned_jobs (λ (v : Vec Answer Global). v.items) c.args.plan.now.jobs.items g.P.PlanBrand.jobs c.requires.planned c.run_all.result c.run_all.ensures.count c.run_all.ensures.each
 
 pub run_all-requires-send-S : goal.run_all-requires-send-S
 run_all-requires-send-S g c = λ κs within.
-    param_send 0 _ (arg_send _ no (plan_jobs.the_row _ _ (param 0 g.row.P) g.P.Planned)
+    param_send 0 _ (arg_send _ no (plan_jobs.the_row _ _ (param 0 g.row.P) g.P.PlanBrand)
     (jobs_send _ _ _ _ (param_send 0 _ c.type_bounds.send-P)))
 
 pub run_all-requires-sync-S : goal.run_all-requires-sync-S
 run_all-requires-sync-S g c = λ κs within.
-    param_sync 0 _ (arg_sync _ no (plan_jobs.the_row _ _ (param 0 g.row.P) g.P.Planned)
+    param_sync 0 _ (arg_sync _ no (plan_jobs.the_row _ _ (param 0 g.row.P) g.P.PlanBrand)
     (jobs_sync _ _ _ _ (param_sync 0 _ c.type_bounds.sync-P)))
 
 pub run_all-requires-send-S-Part : goal.run_all-requires-send-S-Part

@@ -10,12 +10,12 @@ use Rattle.test_engine.proofs.driven.plan_found_as.Goals as goal
 
 pub found-requires-send-S : goal.found-requires-send-S
 found-requires-send-S g c = λ κs within.
-    param_send 0 _ (arg_send _ no (plan_jobs.the_row _ _ (param 0 g.row.P) g.P.Planned)
+    param_send 0 _ (arg_send _ no (plan_jobs.the_row _ _ (param 0 g.row.P) g.P.PlanBrand)
     (jobs_send _ _ _ _ (param_send 0 _ c.type_bounds.send-P)))
 
 pub found-requires-sync-S : goal.found-requires-sync-S
 found-requires-sync-S g c = λ κs within.
-    param_sync 0 _ (arg_sync _ no (plan_jobs.the_row _ _ (param 0 g.row.P) g.P.Planned)
+    param_sync 0 _ (arg_sync _ no (plan_jobs.the_row _ _ (param 0 g.row.P) g.P.PlanBrand)
     (jobs_sync _ _ _ _ (param_sync 0 _ c.type_bounds.sync-P)))
 
 pub found-requires-send-S-Part : goal.found-requires-send-S-Part

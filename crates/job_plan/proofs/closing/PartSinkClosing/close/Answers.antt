@@ -8,9 +8,9 @@ use Rattle.job_plan.proofs.closing.PartSinkClosing.close.Goals as goal
 
 pub returns-then-is_settled-clause-enough : goal.returns-then-is_settled-clause-enough
 returns-then-is_settled-clause-enough g c = λ enough xs later took.
-    let e = end_in g.K.Ending.last in
-    let n = g.K.Ending.stage in
-    let env = g.K.Ending.env in
+    let e = end_in g.K.EndBrand.last in
+    let n = g.K.EndBrand.stage in
+    let env = g.K.EndBrand.env in
     let p = c.args.self.part in
     let is = sym c.is_settled.ensures ∙ c.if-is_settled.true in (
       λ t h. subst (EndsFor e n env p) (append_grouped t (trace xs end.Done) later) (settled e n env p (append t (trace xs end.Done)) later is (took.3.0 t h)),

@@ -8,7 +8,7 @@ use Rattle.job_plan.proofs.link_sink.LinkSinkClosing.close.Goals as goal
 
 pub returns-in-Open-clause-closed : goal.returns-in-Open-clause-closed
 returns-in-Open-clause-closed g c =
-    let k = g.K.LinkStart in
+    let k = g.K.LinkBrand in
     let p = c.args.self.passing in
     let h = g.S.LongSink.has_taken in
     let f = g.S.LongSink.flow in
@@ -20,7 +20,7 @@ returns-in-Open-clause-closed g c =
 
 pub returns-in-Enough-clause-closed : goal.returns-in-Enough-clause-closed
 returns-in-Enough-clause-closed g c =
-    let k = g.K.LinkStart in
+    let k = g.K.LinkBrand in
     let p = c.args.self.passing in
     let h = g.S.LongSink.has_taken in
     let f = g.S.LongSink.flow in
@@ -32,7 +32,7 @@ returns-in-Enough-clause-closed g c =
 
 pub returns-in-Enough-clause-enough : goal.returns-in-Enough-clause-enough
 returns-in-Enough-clause-enough g c =
-    let k = g.K.LinkStart in
+    let k = g.K.LinkBrand in
     let p = c.args.self.passing in
     let h = g.S.LongSink.has_taken in
     let f = g.S.LongSink.flow in
@@ -44,7 +44,7 @@ returns-in-Enough-clause-enough g c =
 
 pub returns-in-Ended-clause-closed : goal.returns-in-Ended-clause-closed
 returns-in-Ended-clause-closed g c =
-    let k = g.K.LinkStart in
+    let k = g.K.LinkBrand in
     let p = c.args.self.passing in
     let h = g.S.LongSink.has_taken in
     let f = g.S.LongSink.flow in

@@ -10,15 +10,15 @@ use Rattle.job_plan.proofs.part_sink.PartSinkBatchSink.accept_flagged.Goals as g
 pub returns-then-push_flagged-clause-fed : goal.returns-then-push_flagged-clause-fed
 returns-then-push_flagged-clause-fed g c = λ xs took.
     let l = c.args.lanes in
-    let e = end_in g.K.Ending.last in
+    let e = end_in g.K.EndBrand.last in
     let items = flagged_items l.start l.origins.now l.values.now l.flags.now in
     let same = values_flagged l.start l.origins.now l.values.now l.flags.now in (
       (
         took.0,
         took.1,
         took.2,
-        taken_on e g.K.Ending.stage g.K.Ending.env g.K.Ending.begun c.args.self.now.part c.push_flagged.new.self xs items took.3
-            (λ (t : Trace) h. c.push_flagged.ensures.taken c.if-push_flagged.true e g.K.Ending.stage g.K.Ending.env t items same h) c.push_flagged.ensures.kind,
+        taken_on e g.K.EndBrand.stage g.K.EndBrand.env g.K.EndBrand.begun c.args.self.now.part c.push_flagged.new.self xs items took.3
+            (λ (t : Trace) h. c.push_flagged.ensures.taken c.if-push_flagged.true e g.K.EndBrand.stage g.K.EndBrand.env t items same h) c.push_flagged.ensures.kind,
       ),
       refl,
     )
@@ -27,4 +27,4 @@ pub returns-clause-fed : goal.returns-clause-fed
 returns-clause-fed g c = λ xs took.
     let same = c.push_flagged.ensures.other c.if-push_flagged.false in
     c.accept_each_flagged.ensures.fed xs
-    (took.0, took.1, took.2, subst (λ (p : Part). HasTaken (end_in g.K.Ending.last) g.K.Ending.stage g.K.Ending.env g.K.Ending.begun p xs) (sym same) took.3)
+    (took.0, took.1, took.2, subst (λ (p : Part). HasTaken (end_in g.K.EndBrand.last) g.K.EndBrand.stage g.K.EndBrand.env g.K.EndBrand.begun p xs) (sym same) took.3)

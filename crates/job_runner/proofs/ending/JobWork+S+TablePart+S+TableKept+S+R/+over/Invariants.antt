@@ -13,4 +13,4 @@ abbrev pub decreases-finish : goal.decreases-finish
 decreases-finish g l = 3 * l.depth + 2
 
 abbrev pub invariant-end_job-loop-at : goal.invariant-end_job-loop-at
-invariant-end_job-loop-at g l = HasKept g.R.Running.table g.R.Running.jobs g.R.Running.start g.R.Running.keeps (nodes_in (drop l.at l.waiting) ++ 0 ∷ []) l.seat
+invariant-end_job-loop-at g l = HasKept g.R.RunBrand.table g.R.RunBrand.jobs g.R.RunBrand.start g.R.RunBrand.keeps (nodes_in (drop l.at l.waiting) ++ 0 ∷ []) l.seat

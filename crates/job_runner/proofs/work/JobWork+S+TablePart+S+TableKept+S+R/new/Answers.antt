@@ -15,10 +15,10 @@ invariant_of-unopened g c =
     let many = c.requires.count in
     let planned = c.requires.planned.0 in
     let all : length ss ≡ n = omega arith in
-    let each : length ss ≡ g.R.Running.jobs = omega arith in
+    let each : length ss ≡ g.R.RunBrand.jobs = omega arith in
     let s = c.split-seat.ensures in
-    let known = starts_known g.R.Running.jobs g.R.Running.start g.R.Running.keeps 0 ss [] (view_of o.seat) each c.requires.started o.started in
-    let below = all_below g.R.Running.start ss n all (λ k low. (c.requires.started k).0 ∙ ap (node_at ss) (let e : g.R.Running.jobs - 1 - k ≡ n - 1 - k = omega arith in e)) in
+    let known = starts_known g.R.RunBrand.jobs g.R.RunBrand.start g.R.RunBrand.keeps 0 ss [] (view_of o.seat) each c.requires.started o.started in
+    let below = all_below g.R.RunBrand.start ss n all (λ k low. (c.requires.started k).0 ∙ ap (node_at ss) (let e : g.R.RunBrand.jobs - 1 - k ≡ n - 1 - k = omega arith in e)) in
     let rest = credit_rest _ o.seat c.split-seat.result.0 known o.started.no_side s.parts.0 in
     record {
       table = s.seat.0.0 ∙ o.seated ∙ c.requires.table;

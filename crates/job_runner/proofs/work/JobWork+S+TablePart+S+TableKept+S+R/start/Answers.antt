@@ -10,6 +10,6 @@ returns g c =
     let l = c.len.ensures in
     let low : c.len.result - 1 - c.args.job < length ss = omega (arith, c.requires) in
     let got = start_got ss (c.len.result - 1 - c.args.job) c.index.result.now low c.index.ensures in
-    let at : c.len.result - 1 - c.args.job ≡ g.R.Running.jobs - 1 - c.args.job = omega arith in
+    let at : c.len.result - 1 - c.args.job ≡ g.R.RunBrand.jobs - 1 - c.args.job = omega arith in
     let is = c.args.self.now.started c.args.job in
     (got.0 ∙ ap (node_at ss) at ∙ sym is.0, got.1 ∙ ap (kept_at ss) at ∙ sym is.1)

@@ -8,7 +8,7 @@ use Rattle.job_table.proofs.plan_segments.PlanJobsJobSegments.answer.Goals as go
 
 pub returns-in-Some : goal.returns-in-Some
 returns-in-Some g c =
-    let js = g.P.Planned.jobs in
+    let js = g.P.PlanBrand.jobs in
     let l = plans_length js in
     let low : c.args.job < length (plans_in js) = omega (arith, c.requires.job, l) in
     let taken = c.requires.given in
@@ -20,7 +20,7 @@ returns-in-Some g c =
 
 pub returns-in-Some-2 : goal.returns-in-Some-2
 returns-in-Some-2 g c =
-    let js = g.P.Planned.jobs in
+    let js = g.P.PlanBrand.jobs in
     let l = plans_length js in
     let low : c.args.job < length (plans_in js) = omega (arith, c.requires.job, l) in
     let taken = c.requires.given in

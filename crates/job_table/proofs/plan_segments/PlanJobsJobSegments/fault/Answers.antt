@@ -6,7 +6,7 @@ use Rattle.job_table.proofs.plan_segments.PlanJobsJobSegments.fault.Goals as goa
 
 pub returns-then-catches-clause-among : goal.returns-then-catches-clause-among
 returns-then-catches-clause-among g c =
-    let js = g.P.Planned.jobs in
+    let js = g.P.PlanBrand.jobs in
     let l = plans_length js in
     let piece = c.requires.piece in
     let known = piece.known in
@@ -20,5 +20,5 @@ returns-then-catches-clause-caught g c = λ fault caught. c.fold_fault.ensures �
 
 pub returns-else-catches-clause-caught : goal.returns-else-catches-clause-caught
 returns-else-catches-clause-caught g c = λ fault caught.
-    let it = catches_it (plans_in g.P.Planned.jobs) c.args.piece.job c.args.piece.segment c.args.part.now fault (plan_in c.job.result.now) c.job.ensures caught in
+    let it = catches_it (plans_in g.P.PlanBrand.jobs) c.args.piece.job c.args.piece.segment c.args.part.now fault (plan_in c.job.result.now) c.job.ensures caught in
     absurd (let z : false ≡ true = sym c.if-catches.false ∙ c.catches.ensures.all it.0 it.1 it.2 in cc)

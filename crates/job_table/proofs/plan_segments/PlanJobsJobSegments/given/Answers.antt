@@ -10,7 +10,7 @@ use Rattle.job_table.proofs.plan_segments.PlanJobsJobSegments.given.Goals as goa
 
 pub returns-in-Known : goal.returns-in-Known
 returns-in-Known g c =
-    let js = g.P.Planned.jobs in
+    let js = g.P.PlanBrand.jobs in
     let l = plans_length js in
     let low : c.args.job < length (plans_in js) = omega (arith, c.requires.job, l) in
     let before = answers_before (plans_in js) c.args.job in

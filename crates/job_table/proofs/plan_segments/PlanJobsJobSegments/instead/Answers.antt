@@ -5,4 +5,4 @@ use Rattle.job_table.proofs.PlanFaults.{instead_is}
 use Rattle.job_table.proofs.plan_segments.PlanJobsJobSegments.instead.Goals as goal
 
 pub returns : goal.returns
-returns g c = instead_is (plans_in g.P.Planned.jobs) c.args.job c.job.result.now.fallback (ap (λ (q : AbstractPlan). q.fallback) c.job.ensures)
+returns g c = instead_is (plans_in g.P.PlanBrand.jobs) c.args.job c.job.result.now.fallback (ap (λ (q : AbstractPlan). q.fallback) c.job.ensures)

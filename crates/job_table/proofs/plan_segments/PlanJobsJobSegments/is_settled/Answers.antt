@@ -7,4 +7,4 @@ use Rattle.job_table.proofs.plan_segments.PlanJobsJobSegments.is_settled.Goals a
 pub returns : goal.returns
 returns g c = λ yes.
     let both = settles_both c.args.part.now (sym c.settles.ensures ∙ yes) in
-    part_decides (chain_at (plans_in g.P.Planned.jobs) c.args._piece.job) c.args._piece.segment c.args._piece.from c.args._piece.to c.args.part.now c.requires.within.0 c.requires.within.1 both.0 both.1 c.requires.part
+    part_decides (chain_at (plans_in g.P.PlanBrand.jobs) c.args._piece.job) c.args._piece.segment c.args._piece.from c.args._piece.to c.args.part.now c.requires.within.0 c.requires.within.1 both.0 both.1 c.requires.part

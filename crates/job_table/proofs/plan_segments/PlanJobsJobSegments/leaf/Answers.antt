@@ -13,7 +13,7 @@ use Rattle.job_table.proofs.plan_segments.PlanJobsJobSegments.leaf.Goals as goal
 
 pub returns-else-streams : goal.returns-else-streams
 returns-else-streams g c =
-    let plans = plans_in g.P.Planned.jobs in
+    let plans = plans_in g.P.PlanBrand.jobs in
     let job = c.args.piece.job in
     let k = c.args.piece.segment in
     let chain = chain_at plans job in
@@ -26,7 +26,7 @@ returns-else-streams g c =
 
 pub returns-else-streams-2 : goal.returns-else-streams-2
 returns-else-streams-2 g c =
-    let plans = plans_in g.P.Planned.jobs in
+    let plans = plans_in g.P.PlanBrand.jobs in
     let job = c.args.piece.job in
     let k = c.args.piece.segment in
     let chain = chain_at plans job in
@@ -39,7 +39,7 @@ returns-else-streams-2 g c =
 
 pub returns-in-Kept : goal.returns-in-Kept
 returns-in-Kept g c =
-    let plans = plans_in g.P.Planned.jobs in
+    let plans = plans_in g.P.PlanBrand.jobs in
     let job = c.args.piece.job in
     let k = c.args.piece.segment in
     let chain = chain_at plans job in
@@ -49,7 +49,7 @@ returns-in-Kept g c =
 
 pub returns-then-streams : goal.returns-then-streams
 returns-then-streams g c =
-    let plans = plans_in g.P.Planned.jobs in
+    let plans = plans_in g.P.PlanBrand.jobs in
     let job = c.args.piece.job in
     let k = c.args.piece.segment in
     let chain = chain_at plans job in
@@ -69,7 +69,7 @@ returns-then-streams g c =
 
 pub returns-then-streams-2 : goal.returns-then-streams-2
 returns-then-streams-2 g c =
-    let plans = plans_in g.P.Planned.jobs in
+    let plans = plans_in g.P.PlanBrand.jobs in
     let job = c.args.piece.job in
     let k = c.args.piece.segment in
     let chain = chain_at plans job in

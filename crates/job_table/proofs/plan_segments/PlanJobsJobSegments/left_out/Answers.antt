@@ -10,7 +10,7 @@ use Rattle.job_table.proofs.plan_segments.PlanJobsJobSegments.left_out.Goals as 
 
 pub returns : goal.returns
 returns g c =
-    let numbers : c.args.given.now.numbers ≡ (chain_at (plans_in g.P.Planned.jobs) c.args.piece.job).numbers = c.requires.given.1.0 in
-    left_stands (chain_at (plans_in g.P.Planned.jobs) c.args.piece.job) c.args.piece.segment c.args.piece.from c.args.piece.to c.left_out.result c.requires.decided.0 c.requires.decided.1 c.requires.decided.2
-    (subst (λ (e : Numbers). IfSome (slice_get (chain_at (plans_in g.P.Planned.jobs) c.args.piece.job).segments c.args.piece.segment) (λ s. StandsFor s e c.left_out.result nothing)) numbers
+    let numbers : c.args.given.now.numbers ≡ (chain_at (plans_in g.P.PlanBrand.jobs) c.args.piece.job).numbers = c.requires.given.1.0 in
+    left_stands (chain_at (plans_in g.P.PlanBrand.jobs) c.args.piece.job) c.args.piece.segment c.args.piece.from c.args.piece.to c.left_out.result c.requires.decided.0 c.requires.decided.1 c.requires.decided.2
+    (subst (λ (e : Numbers). IfSome (slice_get (chain_at (plans_in g.P.PlanBrand.jobs) c.args.piece.job).segments c.args.piece.segment) (λ s. StandsFor s e c.left_out.result nothing)) numbers
     (subst (λ p. IfSome (slice_get (walked_segments p) c.args.piece.segment) (λ s. StandsFor s c.args.given.now.numbers c.left_out.result nothing)) c.job.ensures c.left_out.ensures))

@@ -13,7 +13,7 @@ use Rattle.job_table.proofs.planned.PlanJobs.in_order.Goals as goal
 
 pub returns-else-streams : goal.returns-else-streams
 returns-else-streams g c =
-    let plans = plans_in g.P.Planned.jobs in
+    let plans = plans_in g.P.PlanBrand.jobs in
     let job = c.args.job in
     let chain = chain_at plans job in
     let last = slices_first chain.segments in
@@ -30,7 +30,7 @@ returns-else-streams g c =
 
 pub returns-else-streams-2 : goal.returns-else-streams-2
 returns-else-streams-2 g c =
-    let plans = plans_in g.P.Planned.jobs in
+    let plans = plans_in g.P.PlanBrand.jobs in
     let job = c.args.job in
     let chain = chain_at plans job in
     let last = slices_first chain.segments in
@@ -47,7 +47,7 @@ returns-else-streams-2 g c =
 
 pub returns-in-Kept : goal.returns-in-Kept
 returns-in-Kept g c =
-    let plans = plans_in g.P.Planned.jobs in
+    let plans = plans_in g.P.PlanBrand.jobs in
     let job = c.args.job in
     let chain = chain_at plans job in
     let last = slices_first chain.segments in
@@ -63,7 +63,7 @@ returns-in-Kept g c =
 
 pub returns-then-streams : goal.returns-then-streams
 returns-then-streams g c =
-    let plans = plans_in g.P.Planned.jobs in
+    let plans = plans_in g.P.PlanBrand.jobs in
     let job = c.args.job in
     let chain = chain_at plans job in
     let last = slices_first chain.segments in
@@ -85,7 +85,7 @@ returns-then-streams g c =
 
 pub returns-then-streams-2 : goal.returns-then-streams-2
 returns-then-streams-2 g c =
-    let plans = plans_in g.P.Planned.jobs in
+    let plans = plans_in g.P.PlanBrand.jobs in
     let job = c.args.job in
     let chain = chain_at plans job in
     let last = slices_first chain.segments in

@@ -8,7 +8,7 @@ use Rattle.job_table.proofs.planned.PlanJobs.job.Goals as goal
 pub returns : goal.returns
 returns g c =
     let js = c.args.self.now.plan.now.jobs.items in
-    let same : js ≡ g.P.Planned.jobs = c.args.self.now.planned in
+    let same : js ≡ g.P.PlanBrand.jobs = c.args.self.now.planned in
     let l = ap length same in
     let low : c.args.job < length js = omega (arith, c.requires) in
     plan_got js c.args.job c.index.result.now low c.index.ensures ∙ ap (λ (xs : List JobPlan). plan_at (plans_in xs) c.args.job) same

@@ -6,7 +6,7 @@ use Rattle.job_table.proofs.planned.PlanJobs.named_answer.Goals as goal
 
 pub returns-in-Some : goal.returns-in-Some
 returns-in-Some g c =
-    let js = g.P.Planned.jobs in
+    let js = g.P.PlanBrand.jobs in
     let l = plans_length js in
     let low : c.args.job < length (plans_in js) = omega (arith, c.requires.job, l) in
     let earlier : c.args.named < c.args.job = omega (arith, c.if-named-job.false) in

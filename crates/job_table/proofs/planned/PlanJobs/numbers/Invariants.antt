@@ -7,5 +7,5 @@ use Rattle.job_table.proofs.planned.PlanJobs.numbers.Given as goal
 -- none so far is unusable; the numbers so far, and the numbers of the names that are left
 abbrev pub invariant-loop-name : goal.invariant-loop-name
 invariant-loop-name g l =
-    (first_unusable_at (answers_before (plans_in g.P.Planned.jobs) l.job) (drop l.name-index l.named) ≡ first_unusable_at (answers_before (plans_in g.P.Planned.jobs) l.job) l.named)
-    × (l.numbers ++ numbers_at (answers_before (plans_in g.P.Planned.jobs) l.job) (drop l.name-index l.named) ≡ numbers_at (answers_before (plans_in g.P.Planned.jobs) l.job) l.named)
+    (first_unusable_at (answers_before (plans_in g.P.PlanBrand.jobs) l.job) (drop l.name-index l.named) ≡ first_unusable_at (answers_before (plans_in g.P.PlanBrand.jobs) l.job) l.named)
+    × (l.numbers ++ numbers_at (answers_before (plans_in g.P.PlanBrand.jobs) l.job) (drop l.name-index l.named) ≡ numbers_at (answers_before (plans_in g.P.PlanBrand.jobs) l.job) l.named)

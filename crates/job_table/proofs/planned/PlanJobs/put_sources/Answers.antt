@@ -7,7 +7,7 @@ use Rattle.job_table.proofs.planned.PlanJobs.put_sources.Goals as goal
 
 pub loop-source-preserved : goal.loop-source-preserved
 loop-source-preserved g c =
-    let before = answers_before (plans_in g.P.Planned.jobs) c.args.job in
+    let before = answers_before (plans_in g.P.PlanBrand.jobs) c.args.job in
     let plan = c.args.plan.now in
     put_more before plan.named.items c.deref-source-items.result.now c.loop-source.source-index c.source-item.result c.in_ok-put.put c.loop-source.sources.items c.push.new.self.items
     (all_put_at before plan.named.items (sources_of plan.sources.items)) c.loop-source-test.true c.source-item.is c.in_ok-put.ensures c.in_ok-push.ensures.items c.loop-source.invariant

@@ -2,15 +2,15 @@
 
 use crate::cut::{CutPiece, TableKept, TablePart};
 use crate::segments::JobSegments;
-use crate::task::{Running, Spare};
+use crate::task::{RunBrand, Spare};
 use crate::watch::Watch;
 use pending_count::Fits;
 
 /// What a worker keeps from one leaf to the next, what it asks the words of early stop with, and its credit.
-pub(crate) struct Busy<'w, S: JobSegments, V, K: Fits<V, Tag = CutPiece>, R: Running> {
+pub(crate) struct Tools<'w, S: JobSegments, V, K: Fits<V, Tag = CutPiece>, R: RunBrand> {
     pub(crate) scratch: S::Scratch,
     pub(crate) watch: Watch<'w, S, R>,
     pub(crate) spare: Option<Spare<V, K, R>>,
 }
 
-pub(crate) type TableBusy<'w, S, R> = Busy<'w, S, TablePart<S>, TableKept<S>, R>;
+pub(crate) type TableTools<'w, S, R> = Tools<'w, S, TablePart<S>, TableKept<S>, R>;
