@@ -14,6 +14,8 @@ sys.path += [os.path.join(TOP, 'tests')]
 # Where Debian's packages librust-..-dev put their crates.
 CARGO = '[source.crates-io]\nreplace-with = "debian"\n[source.debian]\ndirectory = "/usr/share/cargo/registry"\n'
 
+# (title, cells) of each row that the running part has shown.
+SHOWN = []
 # Least wall time and processor time in milliseconds, most memory in bytes, and what the last run printed.
 Cost = collections.namedtuple('Cost', 'wall processor memory printed')
 
@@ -136,5 +138,6 @@ def peer(work, path, *flags):
 
 
 def row(title, cells, width=24):
-    """Prints a line of a table: a title, and cells of ten columns."""
+    """Shows a line of a table: a title, and cells of ten columns."""
+    SHOWN.append((title.strip(), cells))
     print(f'{title:{width}}' + ''.join(f'{cell:>10.2f}' if isinstance(cell, float) else f'{cell:>10}' for cell in cells), flush=True)

@@ -10,18 +10,24 @@ import tasks
 
 ITEMS, COUNT, ALL = 50_000_000, 100_000_000, f'range(0, {2 ** 62})'
 MAP, FILTER, FAULTY = 'map(x -> x * 3 + 1)', 'filter(x -> (x & 7) != 5)', 'map(x -> 9 / (x + 1))'
-# A job without slices, and what stands in it with them.
-SLICES = [('sum()', ['skip(1).sum()', 'takeWhile(x -> x >= 0).sum()', 'dropWhile(x -> x < 9).sum()', 'dropWhile(x -> x >= 0).sum()']),
-          (f'{MAP}.sum()', [f'{MAP}.skip(1).sum()', f'{MAP}.limit({ITEMS - 1}).sum()', f'{MAP}.takeWhile(x -> x > 0).sum()',
-                            f'{MAP}.dropWhile(x -> x < 9).sum()', f'{MAP}.' + 'skip(1).limit(40000000).' * 4 + 'sum()']),
-          (f'{FAULTY}.sum()', [f'{FAULTY}.skip(1).sum()', f'{FAULTY}.limit({ITEMS - 1}).sum()']),
-          (f'{FILTER}.sum()', [f'{FILTER}.skip(1).sum()', f'{FILTER}.limit({ITEMS}).sum()', f'{FILTER}.takeWhile(x -> x >= 0).sum()',
-                               f'{FILTER}.dropWhile(x -> x < 9).sum()', f'{FILTER}.' + 'skip(1).' * 8 + 'sum()']),
-          (f'{FILTER}.' * 8 + 'sum()', [f'{FILTER}.skip(1).' * 8 + 'sum()'])]
+SLICES = ['sum()', 'skip(1).sum()', 'takeWhile(x -> x >= 0).sum()', 'dropWhile(x -> x < 9).sum()', 'dropWhile(x -> x >= 0).sum()',
+          f'{MAP}.sum()', f'{MAP}.skip(1).sum()', f'{MAP}.limit({ITEMS - 1}).sum()', f'{MAP}.takeWhile(x -> x > 0).sum()',
+          f'{MAP}.dropWhile(x -> x < 9).sum()', f'{MAP}.' + 'skip(1).limit(40000000).' * 4 + 'sum()',
+          f'{FAULTY}.sum()', f'{FAULTY}.skip(1).sum()', f'{FAULTY}.limit({ITEMS - 1}).sum()',
+          f'{FILTER}.sum()', f'{FILTER}.skip(1).sum()', f'{FILTER}.limit({ITEMS}).sum()', f'{FILTER}.takeWhile(x -> x >= 0).sum()',
+          f'{FILTER}.dropWhile(x -> x < 9).sum()', f'{FILTER}.' + 'skip(1).' * 8 + 'sum()',
+          f'{FILTER}.' * 8 + 'sum()', f'{FILTER}.skip(1).' * 8 + 'sum()']
 PREFIXES = [('sum', f'range(0, {COUNT}).prefix(Long::sum).sum()'), ('max', f'range(0, {COUNT}).prefix(max).sum()'),
             ('affine', f'range(0, {COUNT}).prefix(affine).sum()'),
             ('map, sum (a tenth)', f'range(0, {COUNT // 10}).map(x -> x * 3 + 1).prefix(Long::sum).sum()'),
             ('filter, sum (a tenth kept)', f'range(0, {COUNT // 5}).filter(x -> x % 2 == 0).prefix(Long::sum).sum()')]
+# A loop of lanes/loops.c, and the stages that do its work before a sum.
+OPERATORS = [('map_filter_sum', 'map(x -> x * 3 + 1).filter(x -> (x & 4) == 0)'), ('fifteen_operators', f'map(x -> {tasks.FIFTEEN})'),
+             ('add', 'map(x -> x + 5)'), ('multiply', 'map(x -> x * x)'), ('exact', 'map(x -> Math.addExact(x, 5))'),
+             ('choice', 'map(x -> (x & 4) == 0 ? x * 3 : x + 1)'), ('divide', 'map(x -> x / 7)'), ('remainder', 'map(x -> x % 7)'),
+             ('divide_power', 'map(x -> x / 8)'), ('floor_mod_power', 'map(x -> Math.floorMod(x, 8))'), ('less', 'filter(x -> x < 25000)'),
+             ('even', 'filter(x -> x % 2 == 0)'), ('flat_map', 'flatMap(x -> range(0, x & 3))'), ('flat_map_pair', 'flatMap(x -> of(x, x))')]
+LOOP_ITEMS = 50_000
 FINDS = {'findFirst': 'range(0, 100000000).filter(x -> x == 90000000).findFirst()',
          'anyMatch': 'range(0, 100000000).anyMatch(x -> x == 90000000)',
          'noneMatch': 'range(0, 100000000).noneMatch(x -> x == 90000000)'}
@@ -37,12 +43,21 @@ class Jobs:
     """Times single jobs. An answer that differs from the first one of its job ends the script."""
 
     def __init__(self, options, folder):
-        self.program, self.turns, self.folder, self.answers = options.program, options.turns, folder, {}
+        self.program, self.turns, self.folder, self.answers, self.start = options.program, options.turns, folder, {}, None
 
     def cost(self, stream, workers, threshold=None, nodes=None):
         more = [] if threshold is None else ['--threshold', str(threshold), '--nodes', str(nodes)]
         jobs = write(os.path.join(self.folder, 'one.jobs'), f'q = {stream}\n')
         return self.command([self.program, '--workers', str(workers), *more, jobs], stream)
+
+    def per_item(self, stream):
+        """Nanoseconds for an item of a long range, without the start of the program: processor time of one worker and wall time of
+        four; and the most memory that a run held, in MB."""
+        if self.start is None:
+            self.start = self.cost('range(0, 1).sum()', 1).processor, self.cost('range(0, 1).sum()', 4).wall
+        alone, four = (self.cost(f'range(0, {ITEMS}).{stream}', workers) for workers in (1, 4))
+        taken = alone.processor - self.start[0], four.wall - self.start[1]
+        return [*(max(it, 0) / ITEMS * 1e6 for it in taken), max(alone.memory, four.memory) / 1e6]
 
     def command(self, command, stream):
         cost = least_of(self.turns, command)
@@ -51,30 +66,41 @@ class Jobs:
         return cost
 
 
+def operators():
+    """Times stages over a range before a sum, beside their loops in C by gcc -O2, which have to give the answers.
+
+    bench/run operators [--turns N] [PROGRAM]
+
+    It prints nanoseconds per item on one worker (processor time) and on four (wall time), without the start of the program, and of
+    the best of 40 loops over 50,000 numbers on one thread.
+    """
+    options = options_of(operators.__doc__, turns=5)
+    with tempfile.TemporaryDirectory() as folder:
+        jobs, loops, best = Jobs(options, folder), peer(folder, 'lanes/loops.c'), {}
+        for name, _, nanos, result in map(str.split, ran(loops).printed.splitlines() if loops else []):
+            best[name] = min([int(nanos) / LOOP_ITEMS, *best.get(name, ())[:1]]), result
+        row('ns per item', ['1 worker', '4 workers', 'C'], 60)
+        for name, stages in OPERATORS:
+            if best and jobs.cost(f'range(0, {LOOP_ITEMS}).{stages}.sum()', 1).printed != f'q = {best[name][1]}\n':
+                sys.exit(f'{stages}: C gives {best[name][1]}')
+            shown = stages.replace(tasks.FIFTEEN, 'fifteen operators')
+            row(shown, [*jobs.per_item(f'{stages}.sum()')[:2], best[name][0] if best else '-'], 60)
+
+
 def slices():
     """Times limit, skip, takeWhile and dropWhile after other stages, beside the same job without them.
 
     bench/run slices [--turns N] [PROGRAM]
 
-    It prints nanoseconds per item on one worker (processor time) and on four (wall time), without the start of the program; how much
-    more that is than without slices; and the most memory that a run held, in MB.
+    It prints nanoseconds per item on one worker (processor time) and on four (wall time), without the start of the program, and the
+    most memory that a run held, in MB.
     """
     options = options_of(slices.__doc__, turns=5)
     with tempfile.TemporaryDirectory() as folder:
         jobs = Jobs(options, folder)
-        start = jobs.cost('range(0, 1).sum()', 1).processor, jobs.cost('range(0, 1).sum()', 4).wall
-
-        def costs(stream):
-            alone, four = (jobs.cost(f'range(0, {ITEMS}).{stream}', workers) for workers in (1, 4))
-            return [max(alone.processor - start[0], 0) / ITEMS * 1e6, max(four.wall - start[1], 0) / ITEMS * 1e6,
-                    max(alone.memory, four.memory) / 1e6]
-        row('ns per item', ['1 worker', 'more', '4 workers', 'more', 'MB'])
-        for plain, streams in SLICES:
-            base = costs(plain)
-            for stream in [plain, *streams]:
-                one, four, memory = costs(stream) if stream != plain else base
-                shown = stream.replace(FILTER, 'filter').replace(MAP, 'map').replace(FAULTY, 'map with a fault')
-                row('', [one, one - base[0], four, four - base[1], memory, '  ' + shown])
+        row('ns per item', ['1 worker', '4 workers', 'MB'], 60)
+        for stream in SLICES:
+            row(stream.replace(FILTER, 'filter').replace(MAP, 'map').replace(FAULTY, 'map with a fault'), jobs.per_item(stream), 60)
 
 
 def prefixes():
@@ -166,7 +192,7 @@ def peers():
         java, table = peer(folder, 'peers/Tasks.java'), os.path.join(folder, 'table.csv')
         for task in [options.only] if options.only else tasks.JOBS:
             words = [*(['--columns', table] if task in tasks.OF_COLUMNS else []), os.path.join(folder, f'{task}.jobs')]
-            found = {'streamrun': [options.program, *words], 'streamrun, 1 worker': [options.program, '--workers', '1', *words]}
+            found = {'here': [options.program, *words], '1 worker': [options.program, '--workers', '1', *words]}
             found |= {f'Java, {mode}': [*java, mode, task, table] for mode in ('parallel', 'sequential') if java}
             if tools['mawk'] and task in tasks.MAWK:
                 found['mawk'] = ['mawk', '-F,', tasks.MAWK[task], table]
@@ -174,8 +200,8 @@ def peers():
                 found['sqlite3'] = tasks.sqlite(table, tasks.SQL[task])
             if tools['numpy'] and task in tasks.NUMPY:
                 found['numpy'] = [tools['numpy'], os.path.join(folder, f'{task}.py'), table]
-            print(task)
-            show_turns(options.turns * (10 if task in tasks.SHORT else 1), found, 'streamrun')
+            row(tasks.TITLES[task], [])
+            show_turns(options.turns * (10 if task in tasks.SHORT else 1), found, 'here')
 
 
 def tables():
@@ -209,7 +235,7 @@ def tables():
                     found |= {name: command for name, command in tasks.sums_of(table).items() if tools[name]}
                 if options.from_disk:
                     found = {name: ['sh', '-c', 'echo 3 > /proc/sys/vm/drop_caches; exec "$@"', 'sh', *it] for name, it in found.items()}
-                print(f'{task}: {rows} rows of {columns} columns, {shape}, {os.path.getsize(table)} bytes')
+                row(f'{task}: {rows} rows of {columns} columns, {shape}', [])
                 show_turns(options.turns, found, 'here 4')
 
 

@@ -109,13 +109,13 @@ def read_jobs():
              'continued': lambda: ['a = of(1)\n', '    .skip(0)\n' * lines, '    .sum()\n']}
     with tempfile.TemporaryDirectory() as folder:
         program = built(folder, 'read_jobs', 'columns job_language', [write(os.path.join(folder, 'jobs'), '')])
+        row('ms', ['bytes', 'read', 'copy', '  result'])
         for name, parts in files.items():
             path = write(os.path.join(folder, 'jobs'), ''.join(parts()))
             words = ran([program, path]).printed.split()
             said = dict(zip(words[::2], map(int, words[1::2])))
             how = f'refused in line {said["line"]}' if said['line'] else f'read: {said["jobs"]} jobs'
-            print(f'{name:10} {said["bytes"]:10} bytes, {how}\n{"":10} {said["read_ns"] / 1e6:10.2f} ms; '
-                  f'a copy of the bytes takes {said["copy_ns"] / 1e6:.2f} ms', flush=True)
+            row(name, [said['bytes'], said['read_ns'] / 1e6, said['copy_ns'] / 1e6, f'  {how}'])
 
 
 def columns():

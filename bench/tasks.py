@@ -42,6 +42,18 @@ JOBS = {
     "shallow_find": "f = range(0, 4611686018427387904).filter(x -> x % 1001 == 1000).findFirst()\n",
 }
 
+TITLES = {
+    "one_sum": "the sum of a column of 10^6 rows",
+    "twelve": "twelve aggregations over columns of 10^6 rows",
+    "map_filter_sum": "`map`, `filter`, `sum` over 10^8 numbers",
+    "fifteen": "fifteen operators and `sum` over 10^8 numbers",
+    "to_array": "`toArray` of 10^6 numbers, printed",
+    "to_array_10": "`toArray` of 10^7 numbers, printed",
+    "small_jobs": "256 jobs over 100 numbers each",
+    "chain": "256 jobs, each of which names the one above",
+    "shallow_find": "a find after 1,000 of 2^62 numbers",
+}
+
 # The tasks that read the table, and those of few milliseconds.
 OF_COLUMNS = ("one_sum", "twelve")
 SHORT = ("small_jobs", "chain", "shallow_find")

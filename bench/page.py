@@ -1,0 +1,84 @@
+"""The part that makes the tables of the README and of docs/benchmarks.md."""
+import datetime
+import functools
+import os
+import re
+import sys
+
+import lib
+import processes
+import programs
+from running import TOP, options_of, read, write
+
+PAGES = ['README.md', 'docs/benchmarks.md']
+COMMAND = re.compile(r'`bench/run (\w+)((?: [^`]+)?)`')
+
+
+def machine():
+    """The processor, their number, the memory and the day."""
+    with open('/proc/cpuinfo', encoding='utf-8') as file:
+        name = re.search(r'model name\s*: (.*)', file.read())[1]
+    memory = os.sysconf('SC_PAGE_SIZE') * os.sysconf('SC_PHYS_PAGES') / 1e9
+    return f'Machine: {os.cpu_count()} processors, {name}, {memory:.0f} GB; {datetime.date.today()}.'
+
+
+@functools.lru_cache(maxsize=None)
+def figures(part, words, program):
+    """What a part shows, by the titles and the heads of its tables. A row without cells begins a table whose rows are the columns."""
+    lib.SHOWN.clear()
+    of_program = hasattr(processes, part)
+    sys.argv = [part, *words.split(), *([program] if of_program else [])]
+    getattr(processes if of_program else programs, part)()
+    found, heads, group = {}, [], None
+    for title, cells in lib.SHOWN:
+        if not cells:
+            group = found.setdefault(title, {})
+        elif all(isinstance(it, str) for it in cells):
+            heads, group = cells, None
+        elif group is None:
+            found[title] = dict(zip(heads, cells))
+        else:
+            group[title] = cells[0]
+    return found
+
+
+def shown(figure):
+    return f'{figure:.{0 if figure >= 100 else 1 if figure >= 10 else 2}f}' if isinstance(figure, float) else figure
+
+
+def filled(text, program):
+    """The lines of a page with new figures. The command that begins a paragraph is that of the table below it."""
+    command, heads = None, None
+    for line in text.splitlines():
+        begun = COMMAND.match(line)
+        if begun:
+            command, heads = begun.groups(), None
+        elif line.startswith('#'):
+            command = None
+        elif line.startswith('Machine: '):
+            line = machine()
+        elif command and line.startswith('|'):
+            cells = [it.strip() for it in line.strip('|').split('|')]
+            if heads is None:
+                heads = cells
+            elif not line.startswith('|---'):
+                found, title = figures(*command, program), cells[0]
+                of_row = next(found[it] for it in (title, title.strip('`'), title.split(':')[0]) if it in found)
+                line = f'| {" | ".join([cells[0], *(shown(of_row.get(head, "-")) for head in heads[1:])])} |'
+        yield line
+
+
+def page():
+    """Makes the tables of the README and of docs/benchmarks.md: runs the command that begins the paragraph above each of them.
+
+    bench/run page [--write] [PROGRAM]
+
+    A table keeps its rows and columns: a figure is what the command shows for the row's title, which is the first cell or stands
+    before its colon, below the column's head. `-` is a peer that doesn't do the task, or isn't installed. The line that begins with
+    `Machine:` says where and when. Without --write the pages are printed. All takes some five minutes, on a machine without other work.
+    """
+    options = options_of(page.__doc__, write=False)
+    for name in PAGES:
+        path = os.path.join(TOP, name)
+        text = '\n'.join(filled(read(path).decode(), options.program)) + '\n'
+        write(path, text) if options.write else print(text)
