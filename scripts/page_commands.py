@@ -8,7 +8,8 @@ Answers in the text are run too, all answers of a page as one file over examples
 number, and `NAME = JOB` gives `NAME = ANSWER`. The recipes are run over random tables too (page_recipes.py).
 
 A command that names a tool of TOOLS that isn't installed, a script that runs Java, or a program of Python that imports what
-isn't installed, is skipped, and counted. python3 is one that has pandas, if there is one.
+isn't installed, is skipped, and counted, and so is each later one that wants a file which it would have written. python3 is one
+that has pandas, if there is one.
 """
 import functools
 import os
@@ -92,6 +93,21 @@ def missing_tools(command, top='.'):
     return sorted(missing | {module for module in modules - {'streamrun'} if not imports(page_python(), module)})
 
 
+def written_by(command):
+    """The files that a command writes into its folder."""
+    return re.findall(r'(?:>|\btee)\s*([\w-]+\.\w+)', command)
+
+
+def names(command, file, top):
+    """Whether a command names a file of its folder, or names one of the repository that does."""
+    texts = [command]
+    for word in re.findall(r'[\w./-]+', command):
+        if os.path.isfile(os.path.join(top, word)):
+            with open(os.path.join(top, word), encoding='utf-8', errors='replace') as source:
+                texts.append(source.read())
+    return any(re.search(rf'(?<![\w./-]){re.escape(file)}(?!\w)', text) for text in texts)
+
+
 @functools.lru_cache(maxsize=None)
 def imports(python, module):
     """Whether a Python has a module."""
@@ -160,8 +176,10 @@ def run_pages(top, pages, program):
             for number, wrong in answers:
                 print(f'commands: {os.path.relpath(page, top)}:{number}: {wrong}')
             folder, environment = folder_for(top, work, program)
+            unwritten = {}
             for number, command, printed in commands_of(text):
-                missing = missing_tools(command, top)
+                missing = missing_tools(command, top) or next((tools for file, tools in unwritten.items() if names(command, file, top)), [])
+                unwritten.update(dict.fromkeys(written_by(command), missing) if missing else {})
                 wrong = None if missing else wrong_with(command, printed, folder, environment)
                 for tool in missing:
                     skipped[tool] = skipped.get(tool, 0) + 1
