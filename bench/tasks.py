@@ -50,7 +50,7 @@ TITLES = {
     "to_array": "`toArray` of 10^6 numbers, printed",
     "to_array_10": "`toArray` of 10^7 numbers, printed",
     "small_jobs": "256 jobs over 100 numbers each",
-    "chain": "256 jobs, each of which names the one above",
+    "chain": "256 jobs, each naming the one above",
     "shallow_find": "a find after 1,000 of 2^62 numbers",
 }
 
