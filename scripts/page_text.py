@@ -5,7 +5,7 @@ import re
 
 from page_layout import page_wrapped, too_long, torn as torn_lines
 
-MOST_WORDS_OF_THE_README, MOST_WORDS_OF_A_PAGE = 1000, 6500
+MOST_WORDS_OF_THE_README, MOST_WORDS_OF_A_PAGE, MOST_WORDS = 1000, 6500, 46_000
 TICKED = re.compile(r'`([^`]+)`')
 CITED = re.compile(r'^[a-z_0-9]+(?:::[A-Za-z_0-9]+)+$')
 NAME = re.compile(r'^[a-z_0-9]+$')
@@ -231,9 +231,12 @@ def wrap_pages(pages):
 
 
 def length(top):
-    """Pages with too many words."""
-    for page in wrapped_pages(top):
-        name, count = os.path.basename(page), len(read(page).split())
+    """Pages with too many words, and too many in all of them."""
+    counts = {page: len(read(page).split()) for page in wrapped_pages(top)}
+    if sum(counts.values()) > MOST_WORDS:
+        yield f'the pages have {sum(counts.values())} words, at most {MOST_WORDS}'
+    for page, count in counts.items():
+        name = os.path.basename(page)
         most = MOST_WORDS_OF_THE_README if name == 'README.md' else MOST_WORDS_OF_A_PAGE
         if count > most:
             yield f'{name} has {count} words, at most {most}'
