@@ -10,12 +10,12 @@ use Rattle.lambda_expr.specs.declared.fault.ReadFault.{ReadFault}
 use Rattle.lambda_expr.specs.declared.fault.ReadFault.TheVariants as fault
 use Rattle.lambda_expr.specs.declared.want.Want.{Want}
 use Rattle.reduce_ops.specs.declared.op.Op.{Op}
-use Rattle.job_language.specs.declared.word.Word as code
+use Rattle.lambda_expr.specs.declared.word.Word as code
 use Rattle.job_language.specs.declared.operation.Operation.{Operation}
 use Rattle.job_language.specs.declared.fault.Cause.{Cause}
 use Rattle.job_language.specs.declared.fault.Cause.TheVariants as cause
 use Rattle.job_language.specs.Table.{param_of}
-use Rattle.job_language.specs.Splitting.{word_of, words_in}
+use Rattle.lambda_expr.specs.CodeWords.{word_of, words_in}
 use Rattle.job_language.specs.FaultCauses.{cause_of}
 use Rattle.job_language.specs.Causes.{Scope, number_in, numbers_of}
 use Rattle.job_language.specs.Operators.{is_add_exact, op_name, op_among, spelled_op}

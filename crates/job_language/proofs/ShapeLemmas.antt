@@ -10,8 +10,8 @@ use Rattle.job_language.specs.declared.mode.Mode.TheVariants as mode
 use Rattle.job_language.specs.declared.shape.Reader as code
 use Rattle.job_language.specs.declared.piece.WrittenCall as written
 use Rattle.job_language.specs.declared.piece.Mark.TheVariants as mark
-use Rattle.job_language.specs.declared.word.Word as coded_word
-use Rattle.job_language.specs.Splitting.{word_of, words_in}
+use Rattle.lambda_expr.specs.declared.word.Word as coded_word
+use Rattle.lambda_expr.specs.CodeWords.{word_of, words_in}
 use Rattle.job_language.specs.Calls.{Call}
 use Rattle.job_language.specs.Grammar.{Source, Sources, plain, concat, two, more, Job, Piece, call, begin_concat, owner, comma, close, dot, semicolon, piece_words, pieces_words, source_pieces, sources_pieces, steps_pieces, ending, fallback_pieces, fallback_calls, job_pieces, IsSource, AreSources, AreStages, IsFallback, IsSpelled, IsNoJob, is_sound, calls_of, plain_sources}
 use Rattle.job_language.specs.Reading.{Place, State, wants, owns, bare, has, asks, staged, ended, falls, replaced, finished, stuck, read, reads, begins, coded, moves, moved, mark_of, ArePieces}

@@ -38,7 +38,7 @@ use Rattle.job_language.specs.declared.operation.Params.{Params}
 use Rattle.job_language.specs.declared.operation.Params.TheVariants as params
 use Rattle.job_language.specs.declared.terminal.Gives.{Gives}
 use Rattle.job_language.specs.declared.terminal.Gives.TheVariants as gives
-use Rattle.job_language.specs.Numbers.{number_read}
+use Rattle.lambda_expr.specs.NumberWords.{number_read}
 use Rattle.job_language.specs.Rows.{Argument, nothing, column, job, number, test, stream, operator, exact, source, stage, terminal, fallback, Takes, of_nothing, of_bounds, of_values, of_number, of_count, of_column, of_job, of_long, of_test, of_stream, of_positions, of_identity, Row, as_source, as_concat, as_stage, as_terminal, as_fallback, params_taken, params_in, taken, from_identity, made, built_by}
 use Rattle.job_language.specs.Table.{row, params_of, allowed, param_at, param_of, fits, is_text, is_name}
 use Rattle.job_language.specs.Calls.{Call, FitFrom, IsCall}

@@ -2,9 +2,9 @@
 use Rattle.std.proofs.Common.{◌≡◌, ℕ, zero, suc, ◌-◌, ◌<◌, ◌≤◌, true, false, List, [], ◌∷◌, length, take, drop, get_or, refl, ap, ◌∙◌, arith}
 use Rattle.std.specs.Prelude.{slice_range}
 use Rattle.lambda_expr.specs.Words.{Word, named, quoted, bad}
-use Rattle.job_language.specs.Table.{is_number, is_text, is_name, is_some}
-use Rattle.job_language.specs.declared.word.Word as code
-use Rattle.job_language.specs.Splitting.{word_of, words_in}
+use Rattle.job_language.specs.Table.{is_text, is_name, is_some}
+use Rattle.lambda_expr.specs.declared.word.Word as code
+use Rattle.lambda_expr.specs.CodeWords.{word_of, words_in}
 
 pub length_words : (ws : List code.Word) → length (words_in ws) ≡ length ws
 length_words [] = refl
@@ -29,13 +29,6 @@ pub words_slice : (ws : List code.Word) (a b : ℕ) → words_in (slice_range ws
 words_slice ws a b = words_take (b - a) (drop a ws) ∙ ap (take (b - a)) (words_drop a ws)
 
 -- words too many for a part that isn't a lambda
-pub no_number : (ws : List code.Word) → 4 ≤ length ws → false ≡ is_number (words_in ws)
-no_number [] h = refl
-no_number (a ∷ []) h = absurd (omega arith)
-no_number (a ∷ b ∷ []) h = absurd (omega arith)
-no_number (a ∷ b ∷ c ∷ []) h = absurd (omega arith)
-no_number (a ∷ b ∷ c ∷ d ∷ ws) h = refl
-
 no_text_for : (a b : Word) (ws : List Word) → false ≡ is_text (a ∷ b ∷ ws)
 no_text_for (quoted w) b ws = refl
 no_text_for a b ws = refl

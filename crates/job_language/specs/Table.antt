@@ -1,9 +1,9 @@
 -- Meaning: the operations of jobs, one row each: where it stands, what a call of it takes between its parentheses, and
 -- what it builds.
-use Rattle.std.specs.Prelude.{ℕ, ◌+◌, ℤ, Bool, true, false, ◌==◌, ◌||◌, ◌&&◌, nat_eq, nat_lt, List, [], ◌∷◌, codes, if◌then◌else◌, Option, Some, None, Result}
+use Rattle.std.specs.Prelude.{ℕ, ◌+◌, ℤ, Bool, true, false, ◌==◌, ◌||◌, nat_eq, nat_lt, List, [], ◌∷◌, codes, if◌then◌else◌, Option, Some, None, Result}
 use Rattle.std.specs.Cmp.Lexicographic.{pointwise}
-use Rattle.stream_tokens.specs.declared.symbol.Symbol.TheVariants as symbol
-use Rattle.lambda_expr.specs.Words.{Word, named, numeral, quoted, sign}
+use Rattle.lambda_expr.specs.NumberWords.{is_number}
+use Rattle.lambda_expr.specs.Words.{Word, named, quoted}
 use Rattle.trace.specs.Stages.{map, filter, flat_map}
 use Rattle.slice_ops.specs.Slices.{limit, skip, take_while, drop_while}
 use Rattle.find_ops.specs.Finds as find
@@ -137,34 +137,6 @@ param_at params.Sources n i = param.Number
 
 abbrev pub param_of : Operation → ℕ → ℕ → Param
 param_of o n i = param_at (params_of o) n i
-
--- the words of a number: digits, a minus, and the constants of `Long`
-abbrev pub is_digits : Word → Bool
-is_digits (numeral w) = true
-is_digits w = false
-
-abbrev pub is_minus : Word → Bool
-is_minus (sign symbol.Minus) = true
-is_minus w = false
-
-abbrev pub is_dot : Word → Bool
-is_dot (sign symbol.Dot) = true
-is_dot w = false
-
-abbrev pub is_owner : Word → Bool
-is_owner (named w) = pointwise nat_eq w (codes "Long")
-is_owner w = false
-
-abbrev pub is_limit : Word → Bool
-is_limit (named w) = pointwise nat_eq w (codes "MAX_VALUE") || pointwise nat_eq w (codes "MIN_VALUE")
-is_limit w = false
-
--- a number: digits, a minus and digits, `Long.MAX_VALUE` or `Long.MIN_VALUE`
-abbrev pub is_number : List Word → Bool
-is_number (w ∷ []) = is_digits w
-is_number (m ∷ w ∷ []) = is_minus m && is_digits w
-is_number (o ∷ d ∷ w ∷ []) = is_owner o && is_dot d && is_limit w
-is_number ws = false
 
 -- a string
 abbrev pub is_text : List Word → Bool

@@ -1,9 +1,9 @@
 //! The operators of `prefix` and `reduce`: the table of how they are written.
 ghost use Rattle.std.specs.Prelude.{◌≡◌, ◌∷◌, []};
 ghost use Rattle.job_language.specs.Operators.{op_name, op_named, op_method, in_math, in_long, is_add_exact, spelled_op};
-ghost use Rattle.job_language.specs.Splitting.{word_of, words_in};
+ghost use Rattle.lambda_expr.specs.CodeWords.{word_of, words_in};
 
-use crate::word::Word;
+use lambda_expr::Word;
 use reduce_ops::Op;
 use stream_tokens::Symbol;
 
