@@ -35,9 +35,6 @@ pub record FileSoFar (version : ℕ) (columns : List NamedColumn) (all left : Te
   pub goes : (r : Result (List AbstractJob) JobFault) → AreJobsLeft version columns jobs left r → AreJobsLeft version columns [] all r
   pub here : HasText left → HasText all
 
-pub file_none : (version : ℕ) (columns : List NamedColumn) (all left : Texts) (jobs : List AbstractJob) → left ≡ all → jobs ≡ [] → FileSoFar version columns all left jobs
-file_none version columns all left jobs same none_yet = record { goes = λ r h. rw (none_yet, same) at h; here = λ h. rw same at h }
-
 pub file_more : (version : ℕ) (columns : List NamedColumn) (all left next : Texts) (more : List JobText) (jobs js : List AbstractJob) (t : JobText) → left ≡ Ok (t ∷ more) → next ≡ Ok more
     → FileSoFar version columns all left jobs → IsNextJob version columns jobs t js → FileSoFar version columns all next js
 file_more version columns all left next more jobs js t before after h step = record {
@@ -54,14 +51,6 @@ file_refused version columns all left more jobs t fault before h next =
     let same : fault ≡ fault_at t fault.cause = ap (λ (l : ℕ). record { line = l; cause = fault.cause }) next.at in
     let here : AreJobsRead version columns jobs (t ∷ more) (Err fault) = inl (fault.cause, next.read, ap (λ (f : JobFault). Err f) same) in
     h.goes (Err fault) (rw before here)
-
-pub file_stops : (version : ℕ) (columns : List NamedColumn) (all left : Texts) (jobs : List AbstractJob) (fault : TextFault) → left ≡ Err fault → (fault_of fault).cause ≢ NoMemory
-    → FileSoFar version columns all left jobs → AreJobsLeft version columns [] all (Err (fault_of fault))
-file_stops version columns all left jobs (text.Syntax line) stops solid h = h.goes (Err (fault_of (text.Syntax line))) (rw stops refl)
-file_stops version columns all left jobs text.NoMemory stops solid h = absurd (solid refl)
-
-pub file_all : (version : ℕ) (columns : List NamedColumn) (all left : Texts) (jobs : List AbstractJob) → left ≡ Ok [] → FileSoFar version columns all left jobs → AreJobsLeft version columns [] all (Ok jobs)
-file_all version columns all left jobs ends h = h.goes (Ok jobs) (rw ends refl)
 
 -- ---- one text
 

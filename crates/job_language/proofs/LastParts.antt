@@ -12,10 +12,6 @@ use Rattle.job_language.specs.Arguments.{last_param, last_part, before_last, no_
 use Rattle.job_language.proofs.PieceReads.{length_slice}
 use Rattle.job_language.proofs.CauseLemmas.{length_parts, ends_at}
 
-pub last_none : (o : Operation) (ws : List Word) (a : ℕ) (es : List ℕ) → length es ≡ 0 → param.Number ≡ last_param o (pieces ws a es)
-last_none o ws a [] h = refl
-last_none o ws a (e ∷ es) h = absurd (omega arith)
-
 pub last_some : (o : Operation) (ws : List Word) (a : ℕ) (es : List ℕ) → 0 < length es → param_of o (length es) (length es - 1) ≡ last_param o (pieces ws a es)
 last_some o ws a [] h = absurd (omega arith)
 last_some o ws a (e ∷ es) h =
@@ -29,10 +25,6 @@ last_at (a ∷ []) h = refl
 last_at (a ∷ b ∷ xs) h =
     let k : length (a ∷ b ∷ xs) - 1 ≡ suc (length (b ∷ xs) - 1) = omega arith in
     ap (λ n. get_or (a ∷ b ∷ xs) n []) k ∙ last_at (b ∷ xs) (omega arith)
-
-pub no_last : (ws : List Word) (a : ℕ) (es : List ℕ) → length es ≡ 0 → [] ≡ last_part (pieces ws a es)
-no_last ws a [] h = refl
-no_last ws a (e ∷ es) h = absurd (omega arith)
 
 start_step : (a e f : ℕ) (es : List ℕ) → start_before (e + 1) (f ∷ es) (length (f ∷ es) - 1) ≡ start_before a (e ∷ f ∷ es) (length (e ∷ f ∷ es) - 1)
 start_step a e f [] = refl

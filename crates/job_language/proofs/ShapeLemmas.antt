@@ -289,14 +289,6 @@ calls_more ws (c ∷ cs) ds = ap (λ v. placed_in ws c ∷ v) (calls_more ws cs 
 pub one_placed : (ws : List Word) (n : ℕ) (m : Mark) (c : written.WrittenCall) → c.opened ≡ suc n → placed_in ws c ∷ [] ≡ placed n (piece_from ws m (Some c) ∷ [])
 one_placed ws n m c h = ap (λ k. record { opened = k; call = call_in ws c } ∷ []) h
 
-pub sign_calls : (n : ℕ) (m : Mark) → placed n (sign_piece m ∷ []) ≡ []
-sign_calls n (mark.Call r) = refl
-sign_calls n mark.Owner = refl
-sign_calls n mark.Comma = refl
-sign_calls n mark.Close = refl
-sign_calls n mark.Dot = refl
-sign_calls n mark.Semicolon = refl
-
 pub no_job_in : (ws : List coded_word.Word) → length ws < 2 → false ≡ begins_job (words_in ws)
 no_job_in [] h = refl
 no_job_in (a ∷ []) h = no_job_for (word_of a)
@@ -340,9 +332,6 @@ no_unsound_job ws h j k = let e : true ≡ false = sym k.sound ∙ h in absurd c
 
 pub no_unspelled_job : (ws : List Word) → IsNotSpelled ws → IsNoJob ws
 no_unspelled_job ws h j k = h j k.spelled
-
-pub sound_calls : (ws : List Word) (cs : List PlacedCall) → list_all is_sound ws ≡ true → AreCallsOf ws cs → AreCallsIn ws cs
-sound_calls ws cs h a = record { job = a.job; is = record { sound = h; spelled = a.spelled }; calls = a.calls }
 
 pub stand_more : (ws : List Word) (cs : List written.WrittenCall) (c : written.WrittenCall) → StandIn ws cs → StandsIn ws c → StandIn ws (cs ++ c ∷ [])
 stand_more ws [] c h k = (k, tt)

@@ -31,14 +31,3 @@ digits_end n xs i lt other =
     let rest = take_while is_ascii_digit (drop (i + 1) xs) in
     let front : take_while is_ascii_digit (drop i xs) ≡ [] = ap (take_while is_ascii_digit) (drop_more xs i 0 lt) ∙ take_while-cons is_ascii_digit (get_or xs i 0) (drop (i + 1) xs) ∙ ap (λ t. cond t (get_or xs i 0 ∷ rest) []) other in
     ap (read_on n) front
-
-pub digits_all : (n : ℕ) (xs : List ℕ) (i : ℕ) → length xs ≤ i → read_on n (take_while is_ascii_digit (drop i xs)) ≡ n
-digits_all n xs i h = ap (λ ys. read_on n (take_while is_ascii_digit ys)) (drop_all i xs h)
-
--- a number of at most 2^63, as 64 bits keep it
-pub wrap_of_value : (n : ℕ) → n ≤ 2 ^ 63 → cast_signed w64 (min n (2 ^ 64 - 1)) ≡ wrap (pos n)
-unfolding int_wrap
-wrap_of_value n h =
-    let below : n < 2 ^ 64 = omega arith in
-    let same : min n (2 ^ 64 - 1) ≡ n = omega arith in
-    ap (cast_signed w64) (same ∙ sym (mod-eq_of_lt below))
