@@ -1,19 +1,16 @@
 -- Texts of jobs, read one after the other.
-use Rattle.std.proofs.Common.{◌≡◌, ◌≢◌, ℕ, ◌+◌, ◌<◌, ◌≤◌, List, [], ◌∷◌, ◌++◌, Result, Ok, Err, IfOk, IfErr, inl, inr, length, refl, sym, ap, ◌∙◌, suc, subst}
+use Rattle.std.proofs.Common.{◌≡◌, ℕ, ◌+◌, ◌<◌, ◌≤◌, List, [], ◌∷◌, ◌++◌, Result, Ok, Err, IfOk, IfErr, inl, inr, length, refl, sym, ap, ◌∙◌, suc, subst}
 use Rattle.std.specs.Prelude.{All}
 use Rattle.std.proofs.lemmas.List.Elements.{All-append, All-from_recursion}
 use Rattle.stream_tokens.specs.declared.job_text.JobText.{JobText}
-use Rattle.stream_tokens.specs.declared.job_text.TextFault.{TextFault}
-use Rattle.stream_tokens.specs.declared.job_text.TextFault.TheVariants as text
 use Rattle.stream_tokens.specs.TextsLeft.{Texts, HasText}
 use Rattle.columns.specs.Table.{NamedColumn}
 use Rattle.job_language.specs.declared.fault.Cause.{Cause}
-use Rattle.job_language.specs.declared.fault.Cause.TheVariants.{TooLong, NoMemory}
+use Rattle.job_language.specs.declared.fault.Cause.TheVariants.{TooLong}
 use Rattle.job_language.specs.Verdicts.{IsRead}
 use Rattle.stream_tokens.specs.Forms.{IsName}
 use Rattle.job_language.specs.declared.fault.JobFault.{JobFault}
 use Rattle.job_language.specs.declared.job.Job.{Job}
-use Rattle.job_language.specs.FaultCauses.{fault_of}
 use Rattle.job_language.specs.Files.{AreJobsLeft, AreJobsRead, IsNext, fault_at, scope_below}
 use Rattle.job_language.specs.FileSteps.{IsNextJob, IsNextFault}
 use Rattle.job_language.specs.Jobs.{AbstractJob, job_of, jobs_of, names_of}

@@ -9,14 +9,12 @@ use Rattle.job_language.specs.declared.mode.Mode.{Mode}
 use Rattle.job_language.specs.declared.mode.Mode.TheVariants as mode
 use Rattle.job_language.specs.declared.shape.Reader as code
 use Rattle.job_language.specs.declared.piece.WrittenCall as written
-use Rattle.job_language.specs.declared.piece.Mark.TheVariants as mark
 use Rattle.lambda_expr.specs.declared.word.Word as coded_word
 use Rattle.lambda_expr.specs.CodeWords.{word_of, words_in}
 use Rattle.job_language.specs.Calls.{Call}
 use Rattle.job_language.specs.Grammar.{Source, Sources, plain, concat, two, more, Job, Piece, call, begin_concat, owner, comma, close, dot, semicolon, piece_words, pieces_words, source_pieces, sources_pieces, steps_pieces, ending, fallback_pieces, fallback_calls, job_pieces, IsSource, AreSources, AreStages, IsFallback, IsSpelled, IsNoJob, is_sound, calls_of, plain_sources}
 use Rattle.job_language.specs.Reading.{Place, State, wants, owns, bare, has, asks, staged, ended, falls, replaced, finished, stuck, read, reads, begins, coded, moves, moved, mark_of, ArePieces}
-use Rattle.job_language.specs.Shapes.{begins_job, IsNotSpelled, AreCallsOf, AreCallsIn, IsNoPiece, Begins, is_last, call_in, all_placed, placed_in, piece_from, sign_piece, IsReading, StandIn, StandsIn}
-use Rattle.job_language.specs.Arguments.{PlacedCall}
+use Rattle.job_language.specs.Shapes.{begins_job, IsNotSpelled, AreCallsOf, IsNoPiece, Begins, is_last, call_in, all_placed, placed_in, piece_from, IsReading, StandIn, StandsIn}
 use Rattle.job_language.specs.Verdicts.{placed}
 use Rattle.job_language.proofs.JobReaderLemmas.{Stands, keeps, reads_append, reads_job, stuck_stays, follows, last_after, last_state}
 use Rattle.job_language.proofs.PieceLemmas.{pieces_append, calls_append, are_append, next_piece, no_pieces}

@@ -1,6 +1,6 @@
 -- What a whole text is read as.
 use Rattle.std.proofs.Common.{◌≡◌, ◌≢◌, ℕ, ◌≤◌, List, length, None, Result, Ok, Err, sym, ap, subst, ◌∙◌}
-use Rattle.std.specs.Prelude.{IfOk, IfErr}
+use Rattle.std.specs.Prelude.{IfErr}
 use Rattle.stream_tokens.specs.Tokens.{AreTokensOf}
 use Rattle.stream_tokens.specs.CutTexts.{TokenizedText}
 use Rattle.lambda_expr.specs.Words.{Word, words_of}

@@ -1,5 +1,5 @@
 //! Calls: an operation, and the parts between its parentheses.
-ghost use Rattle.std.specs.Prelude.{◌≡◌, ◌≤◌, ◌<◌, ◌↔◌, IsTrue, ℕ, List, length, IfOk, MatchOption};
+ghost use Rattle.std.specs.Prelude.{◌≡◌, ◌<◌, List, length, IfOk, MatchOption};
 ghost use Rattle.lambda_expr.specs.Words.{Word as meant};
 ghost use Rattle.job_language.specs.declared.operation.Operation.{Operation as operation};
 ghost use Rattle.job_language.specs.Calls.{Call as call};

@@ -1,5 +1,5 @@
 //! Whole files of jobs.
-ghost use Rattle.std.specs.Prelude.{◌≡◌, ◌≢◌, ◌≤◌, All, Ok, Err, IfOk, IfErr, OnOk, length};
+ghost use Rattle.std.specs.Prelude.{◌≡◌, ◌≢◌, All, Ok, Err, IfOk, IfErr, OnOk};
 ghost use Rattle.stream_tokens.specs.Forms.{IsName};
 ghost use Rattle.stream_tokens.specs.JobTexts.{job_texts_of};
 ghost use Rattle.stream_tokens.specs.TextsLeft.{HasText};

@@ -1,5 +1,5 @@
 //! The numbers of a call, and what they are refused for.
-ghost use Rattle.std.specs.Prelude.{◌≡◌, ◌≢◌, ◌∷◌, ◌++◌, [], length, IfErr, IfOk, None, Some};
+ghost use Rattle.std.specs.Prelude.{◌≡◌, ◌≢◌, ◌++◌, length, IfErr, IfOk, None, Some};
 ghost use Rattle.job_language.specs.declared.fault.Cause.TheVariants.{NoMemory};
 ghost use Rattle.job_language.specs.Table.{params_of};
 ghost use Rattle.lambda_expr.specs.CodeWords.{words_in};

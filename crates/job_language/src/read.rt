@@ -1,5 +1,5 @@
 //! One job, read from its text.
-ghost use Rattle.std.specs.Prelude.{◌≡◌, ◌≢◌, ◌+◌, ◌<◌, ◌≤◌, ◌∷◌, ◌++◌, ◌&&◌, [], List, IfErr, IfOk, Ok, Err, length, nat_lt};
+ghost use Rattle.std.specs.Prelude.{◌≡◌, ◌≢◌, ◌+◌, ◌<◌, ◌≤◌, ◌&&◌, [], List, IfErr, IfOk, Ok, Err, length, nat_lt};
 ghost use Rattle.stream_tokens.specs.Tokens.{AreTokensOf};
 ghost use Rattle.lambda_expr.specs.Words.{Word as meant, words_of};
 ghost use Rattle.job_language.specs.declared.fault.Cause.TheVariants.{NoMemory};

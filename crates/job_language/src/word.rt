@@ -1,5 +1,5 @@
 //! The words of a job: what its tokens are to the grammar.
-ghost use Rattle.std.specs.Prelude.{◌≡◌, ◌≤◌, ◌<◌, ◌+◌, ℕ, length, get_or, drop, slice_range, IfSome, IfOk, IfSome, MatchOption, option_map, ◌∷◌, []};
+ghost use Rattle.std.specs.Prelude.{◌≡◌, ◌≤◌, ◌<◌, ◌+◌, length, get_or, drop, slice_range, IfSome, IfSome, option_map, ◌∷◌, []};
 ghost use Rattle.lambda_expr.specs.NumberWords.{is_number};
 ghost use Rattle.lambda_expr.specs.Words.{bad};
 ghost use Rattle.job_language.specs.Table.{fits, is_text, is_name, is_some};

@@ -1,5 +1,5 @@
 -- Any words are a body, or stop at a place; bodies from their fronts.
-use Rattle.std.proofs.Common.{◌≡◌, ◌⊎◌, inl, inr, ℕ, ◌+◌, ◌≤◌, List, drop, length, Result, Ok, Err, refl, sym, ap, subst, ◌∙◌, arith}
+use Rattle.std.proofs.Common.{◌≡◌, ◌⊎◌, inl, inr, ℕ, ◌+◌, List, drop, Result, Ok, Err, refl, sym, ap, subst, ◌∙◌, arith}
 use Rattle.lambda_expr.specs.declared.want.Want.{Want}
 use Rattle.lambda_expr.specs.declared.want.Want.TheVariants as want
 use Rattle.lambda_expr.specs.declared.lexeme.Lexeme.{Lexeme}

@@ -9,7 +9,7 @@ use Rattle.lambda_expr.specs.Grammar.{Shape, name, number, truth, reference, con
 use Rattle.lambda_expr.specs.Lexemes.{Names}
 use Rattle.lambda_expr.specs.Stacks.{below, stacked}
 use Rattle.lambda_expr.specs.Typing.{Typed, typed, untyped}
-use Rattle.lambda_expr.proofs.StackLemmas.{none_left, popped_rest, popped_top}
+use Rattle.lambda_expr.proofs.StackLemmas.{popped_rest, popped_top}
 
 pub operands_of_append : (os : List TypedOperand) (o : TypedOperand) → operands_of (os ++ o ∷ []) ≡ operands_of os ++ typed_of o ∷ []
 operands_of_append [] o = refl

@@ -1,13 +1,10 @@
 -- The values of numbers as they are read, digit by digit.
-use Rattle.std.proofs.Common.{◌≡◌, ℕ, ◌+◌, ◌-◌, ◌*◌, ◌^◌, ◌<◌, ◌≤◌, min, cond, true, false, List, [], ◌∷◌, length, drop, get_or, sym, ap, ◌∙◌, arith, pos, w64}
-use Rattle.std.proofs.Math.Nat.{mod-eq_of_lt}
+use Rattle.std.proofs.Common.{◌≡◌, ℕ, ◌+◌, ◌-◌, ◌*◌, ◌<◌, min, cond, true, false, List, [], ◌∷◌, length, drop, get_or, sym, ap, ◌∙◌, arith}
 use Rattle.std.specs.Prelude.{take_while}
 use Rattle.std.specs.Char.{is_ascii_digit}
-use Rattle.std.specs.Int.{int_wrap, cast_signed}
-use Rattle.std.proofs.lemmas.List.{drop_more, drop_all}
+use Rattle.std.proofs.lemmas.List.{drop_more}
 use Rattle.std.proofs.lemmas.List.Sums.{take_while-cons}
 use Rattle.lambda_expr.specs.Numerals.{read_on}
-use Rattle.lambda_values.specs.Wrap.{wrap}
 
 -- the digits on, from a number that was cut at m
 pub read_on-min : (m n : ℕ) (ds : List ℕ) → min (read_on (min n m) ds) m ≡ min (read_on n ds) m

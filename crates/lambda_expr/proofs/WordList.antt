@@ -1,12 +1,12 @@
 -- The words of a list of tokens, place by place.
-use Rattle.std.proofs.Common.{◌≡◌, ℕ, zero, suc, ◌<◌, ◌≤◌, List, [], ◌∷◌, length, drop, get_or, refl, sym, ap, ◌∙◌, arith}
+use Rattle.std.proofs.Common.{◌≡◌, ℕ, zero, suc, ◌<◌, ◌≤◌, List, [], ◌∷◌, length, get_or, refl, sym, ap, ◌∙◌, arith}
 use Rattle.stream_tokens.specs.declared.token.Token.{Token}
 use Rattle.stream_tokens.specs.declared.token.TokenKind.{TokenKind}
 use Rattle.stream_tokens.specs.declared.token.TokenKind.TheVariants as kind
 use Rattle.stream_tokens.specs.declared.symbol.Symbol.{Symbol}
 use Rattle.stream_tokens.specs.Tokens.{token_text}
 use Rattle.lambda_expr.specs.Lexemes.{reference_name}
-use Rattle.lambda_expr.specs.Words.{named, numeral, sign, bad, word_of, words_of, word_for}
+use Rattle.lambda_expr.specs.Words.{named, bad, word_of, words_of, word_for}
 use Rattle.lambda_expr.specs.Refusals.{column}
 
 pub length-words_of : (text : List ℕ) (ts : List Token) → length (words_of text ts) ≡ length ts

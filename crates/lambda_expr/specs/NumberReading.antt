@@ -1,5 +1,5 @@
 -- Condition: where the reader of numbers stops.
-use Rattle.std.specs.Prelude.{ℕ, Bool, true, false, is_some, if◌then◌else◌}
+use Rattle.std.specs.Prelude.{ℕ, Bool, false, is_some, if◌then◌else◌}
 use Rattle.lambda_expr.specs.Words.{Word}
 use Rattle.lambda_expr.specs.NumberWords.{digits_value, is_dot, is_minus, is_owner, limit_value}
 

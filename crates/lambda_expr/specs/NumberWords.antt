@@ -1,21 +1,21 @@
 -- Meaning: which words are a number, and its value.
-use Rattle.std.specs.Prelude.{ℕ, ◌^◌, ℤ, pos, negsuc, neg_ℤ, Bool, true, false, nat_lt, ◌&&◌, if◌then◌else◌, List, [], ◌∷◌, codes, Option, Some, None, is_some, option_map, option_and_then}
+use Rattle.std.specs.Prelude.{ℕ, ◌^◌, ℤ, pos, negsuc, neg_ℤ, Bool, true, false, nat_lt, ◌&&◌, if◌then◌else◌, List, [], ◌∷◌, codes, Option, Some, None, is_some, option_and_then}
 use Rattle.stream_tokens.specs.declared.symbol.Symbol.TheVariants as symbol
 use Rattle.lambda_expr.specs.Members.{is_named}
 use Rattle.lambda_expr.specs.Words.{Word, named, numeral, sign}
 use Rattle.lambda_expr.specs.Numerals.{is_numeral, numeral_value}
 
--- helper: the words before the digits or the name of a number
+-- helper: a minus
 abbrev pub is_minus : Word → Bool
 is_minus (sign symbol.Minus) = true
 is_minus w = false
 
--- helper
+-- helper: the class that the constants are of
 abbrev pub is_owner : Word → Bool
 is_owner (named w) = is_named w (codes "Long")
 is_owner w = false
 
--- helper
+-- helper: a dot
 abbrev pub is_dot : Word → Bool
 is_dot (sign symbol.Dot) = true
 is_dot w = false
