@@ -14,12 +14,12 @@ use Rattle.lambda_expr.specs.declared.word.Word as code
 use Rattle.job_language.specs.declared.operation.Operation.{Operation}
 use Rattle.job_language.specs.declared.fault.Cause.{Cause}
 use Rattle.job_language.specs.declared.fault.Cause.TheVariants as cause
-use Rattle.job_language.specs.Table.{param_of}
+use Rattle.job_language.specs.Table.{name_in, param_of, string_in}
 use Rattle.lambda_expr.specs.CodeWords.{word_of, words_in}
 use Rattle.job_language.specs.FaultCauses.{cause_of}
 use Rattle.job_language.specs.Causes.{Scope, number_in, numbers_of}
 use Rattle.job_language.specs.Operators.{is_add_exact, op_name, op_among, spelled_op}
-use Rattle.job_language.specs.Arguments.{string_in, name_in, IsLambdaRead}
+use Rattle.job_language.specs.Arguments.{IsLambdaRead}
 
 -- an operator with another name is skipped
 pub op_more : (os : List Op) (i : ℕ) (w : List ℕ) (d : Op) → i < length os → pointwise nat_eq w (op_name (get_or os i d)) ≡ false → op_among (drop i os) w ≡ op_among (drop (i + 1) os) w

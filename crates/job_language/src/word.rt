@@ -1,9 +1,8 @@
 //! The words of a job: what its tokens are to the grammar.
-ghost use Rattle.std.specs.Prelude.{◌≡◌, ◌≤◌, ◌<◌, ◌+◌, length, get_or, drop, slice_range, IfSome, IfSome, option_map, ◌∷◌, []};
+ghost use Rattle.std.specs.Prelude.{◌≡◌, ◌≤◌, ◌<◌, ◌+◌, length, get_or, drop, slice_range, IfSome, IfSome, is_some, option_map, ◌∷◌, []};
 ghost use Rattle.lambda_expr.specs.NumberWords.{is_number};
 ghost use Rattle.lambda_expr.specs.Words.{bad};
-ghost use Rattle.job_language.specs.Table.{fits, is_text, is_name, is_some};
-ghost use Rattle.job_language.specs.Arguments.{string_in, name_in};
+ghost use Rattle.job_language.specs.Table.{fits, has_words, name_in, string_in};
 ghost use Rattle.job_language.specs.Calls.{bracket_of, nest};
 ghost use Rattle.lambda_expr.specs.CodeWords.{word_of, words_in};
 
@@ -79,25 +78,19 @@ fn is_number(words: &[Word]) -> bool
 }
 
 fn is_text(words: &[Word]) -> bool
-    ensures { result ≡ is_text (words_in words.now) }
+    ensures { result ≡ is_some (string_in (words_in words.now)) }
 {
-    match words {
-        [word] => matches!(word, Word::Text(_)),
-        _ => false,
-    }
+    string_in(words).is_some()
 }
 
 fn is_name(words: &[Word]) -> bool
-    ensures { result ≡ is_name (words_in words.now) }
+    ensures { result ≡ is_some (name_in (words_in words.now)) }
 {
-    match words {
-        [word] => matches!(word, Word::Name(_)),
-        _ => false,
-    }
+    name_in(words).is_some()
 }
 
-fn is_some(words: &[Word]) -> bool
-    ensures { result ≡ is_some (words_in words.now) }
+fn has_words(words: &[Word]) -> bool
+    ensures { result ≡ has_words (words_in words.now) }
 {
     match words {
         [] => false,
@@ -113,7 +106,7 @@ pub fn fits(param: Param, words: &[Word]) -> bool
         Param::Number => is_number(words),
         Param::Text => is_text(words),
         Param::Name => is_name(words),
-        Param::Long | Param::Bool | Param::Stream | Param::Operator => is_some(words),
+        Param::Long | Param::Bool | Param::Stream | Param::Operator => has_words(words),
     }
 }
 
