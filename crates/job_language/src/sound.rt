@@ -40,7 +40,7 @@ pub fn sound_words<'a>(
         IfOk result (λ found. MatchOption found (list_all is_sound ws ≡ false)
         (λ words. (words_in words.items ≡ ws) × (list_all is_sound ws ≡ true))) }
 {
-    let mut words = Vec::new(alloc);
+    let mut words = Vec::with_capacity(alloc, text.len())?;
     for place in 0..text.len() {
         let word = word_at(text, place);
         if !is_sound(word) {
