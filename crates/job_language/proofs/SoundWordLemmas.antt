@@ -18,9 +18,6 @@ pub record AreRead (ws : List Word) (n : ℕ) (vs : List code.Word) : Type 0 whe
   pub words : words_in vs ≡ take n ws
   pub sound : list_all is_sound (take n ws) ≡ true
 
-pub none_read : (ws : List Word) → AreRead ws 0 []
-none_read ws = record { words = refl; sound = refl }
-
 pub read_on : (ws : List Word) (n : ℕ) (vs us : List code.Word) (w : code.Word) → n < length ws → word_of w ≡ get_or ws n bad → is_sound (word_of w) ≡ true → us ≡ vs ++ w ∷ [] → AreRead ws n vs → AreRead ws (n + 1) us
 read_on ws n vs us w lt is sound more h =
     let next : take (n + 1) ws ≡ take n ws ++ word_of w ∷ [] = take_more ws n bad lt ∙ ap (λ v. take n ws ++ v ∷ []) (sym is) in

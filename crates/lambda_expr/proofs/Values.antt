@@ -1,5 +1,5 @@
 -- The values of numbers as they are read, digit by digit.
-use Rattle.std.proofs.Common.{◌≡◌, ℕ, ◌+◌, ◌-◌, ◌*◌, ◌<◌, min, cond, true, false, List, [], ◌∷◌, length, drop, get_or, sym, ap, ◌∙◌, arith}
+use Rattle.std.proofs.Common.{◌≡◌, ℕ, ◌+◌, ◌-◌, ◌*◌, ◌<◌, min, cond, true, List, [], ◌∷◌, length, drop, get_or, sym, ap, ◌∙◌, arith}
 use Rattle.std.specs.Prelude.{take_while}
 use Rattle.std.specs.Char.{is_ascii_digit}
 use Rattle.std.proofs.lemmas.List.{drop_more}
@@ -21,10 +21,3 @@ digits_more m n new xs i lt digit is =
     let rest = take_while is_ascii_digit (drop (i + 1) xs) in
     let front : take_while is_ascii_digit (drop i xs) ≡ get_or xs i 0 ∷ rest = ap (take_while is_ascii_digit) (drop_more xs i 0 lt) ∙ take_while-cons is_ascii_digit (get_or xs i 0) (drop (i + 1) xs) ∙ ap (λ t. cond t (get_or xs i 0 ∷ rest) []) digit in
     ap (λ k. min (read_on k rest) m) is ∙ read_on-min m (10 * n + (get_or xs i 0 - 48)) rest ∙ ap (λ ds. min (read_on n ds) m) (sym front)
-
--- no digit more
-pub digits_end : (n : ℕ) (xs : List ℕ) (i : ℕ) → i < length xs → is_ascii_digit (get_or xs i 0) ≡ false → read_on n (take_while is_ascii_digit (drop i xs)) ≡ n
-digits_end n xs i lt other =
-    let rest = take_while is_ascii_digit (drop (i + 1) xs) in
-    let front : take_while is_ascii_digit (drop i xs) ≡ [] = ap (take_while is_ascii_digit) (drop_more xs i 0 lt) ∙ take_while-cons is_ascii_digit (get_or xs i 0) (drop (i + 1) xs) ∙ ap (λ t. cond t (get_or xs i 0 ∷ rest) []) other in
-    ap (read_on n) front
