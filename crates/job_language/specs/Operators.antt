@@ -1,10 +1,12 @@
 -- Meaning: the operators of `prefix` and `reduce`, by how they are written.
-use Rattle.std.specs.Prelude.{ℕ, Bool, true, false, ◌&&◌, if◌then◌else◌, List, [], ◌∷◌, codes, Option, Some, None}
+use Rattle.std.specs.Prelude.{ℕ, Bool, true, false, ◌&&◌, if◌then◌else◌, List, [], ◌∷◌, codes, Option, Some, None, option_map}
+use Rattle.std.specs.Option.{option_map_or, option_or}
 use Rattle.stream_tokens.specs.declared.symbol.Symbol.TheVariants as symbol
 use Rattle.lambda_expr.specs.Members.{is_named}
 use Rattle.lambda_expr.specs.Words.{Word, named, sign}
 use Rattle.reduce_ops.specs.declared.op.Op.{Op}
 use Rattle.reduce_ops.specs.declared.op.Op.TheVariants as op
+use Rattle.job_language.specs.Table.{name_in}
 
 -- the name of an operator
 abbrev pub op_name : Op → List ℕ
@@ -55,13 +57,15 @@ op_method owner name =
     else (if is_named owner (codes "Math") then only_if in_math (op_named name)
     else None)
 
+-- the owner and the name of a method `OWNER::NAME`
+abbrev pub method_in : List Word → Option (List ℕ × List ℕ)
+method_in (named o ∷ sign symbol.DoubleColon ∷ named w ∷ []) = Some (o, w)
+method_in ws = None
+
 -- the operator that words name, if they are a name or a method
 abbrev pub spelled_op : List Word → Option (Option Op)
-spelled_op (named w ∷ []) = Some (op_named w)
-spelled_op (named o ∷ sign symbol.DoubleColon ∷ named w ∷ []) = Some (op_method o w)
-spelled_op ws = None
+spelled_op ws = option_or (option_map op_named (name_in ws)) (option_map (λ m. op_method m.0 m.1) (method_in ws))
 
 -- whether words are `Math::addExact`
 abbrev pub is_add_exact : List Word → Bool
-is_add_exact (named o ∷ sign symbol.DoubleColon ∷ named w ∷ []) = is_named o (codes "Math") && is_named w (codes "addExact")
-is_add_exact ws = false
+is_add_exact ws = option_map_or (λ m. is_named m.0 (codes "Math") && is_named m.1 (codes "addExact")) (method_in ws) false
