@@ -1,17 +1,14 @@
 -- Causes, part by part.
-use Rattle.std.proofs.Common.{◌≡◌, ℕ, zero, suc, ◌+◌, ◌-◌, ◌<◌, ◌≤◌, true, false, List, [], ◌∷◌, ◌++◌, length, drop, get_or, Option, Some, None, refl, ap, ◌∙◌, arith}
-use Rattle.std.specs.Prelude.{slice_range, nat_eq, if◌then◌else◌}
-use Rattle.std.specs.Cmp.Lexicographic.{pointwise}
+use Rattle.std.proofs.Common.{◌≡◌, ℕ, zero, suc, ◌+◌, ◌-◌, ◌<◌, ◌≤◌, List, [], ◌∷◌, ◌++◌, length, drop, get_or, Option, Some, None, refl, ap, ◌∙◌, arith}
+use Rattle.std.specs.Prelude.{slice_range}
 use Rattle.std.proofs.lemmas.List.{drop_more}
 use Rattle.lambda_expr.specs.Words.{Word}
 use Rattle.job_language.specs.declared.operation.Operation.{Operation}
 use Rattle.job_language.specs.declared.fault.Cause.{Cause}
-use Rattle.job_language.specs.declared.scope.EarlierJob as job
 use Rattle.job_language.specs.Table.{param_of}
 use Rattle.job_language.specs.Splitting.{pieces, AreEnds}
 use Rattle.job_language.specs.Shapes.{start_before}
-use Rattle.job_language.specs.Causes.{given, first_cause, number_cause, number_causes}
-use Rattle.job_language.specs.Scopes.{jobs_of}
+use Rattle.job_language.specs.Causes.{first_cause, number_cause, number_causes}
 
 -- the causes of two lists, one after the other
 pub first_append : (cs ds : List (Option Cause)) → first_cause cs ≡ None → first_cause (cs ++ ds) ≡ first_cause ds
@@ -24,11 +21,6 @@ first_stays [] ds c h = absurd cc
 first_stays (None ∷ cs) ds c h = first_stays cs ds c h
 first_stays (Some d ∷ cs) ds c h = h
 
-pub jobs_drop : (n : ℕ) (js : List job.EarlierJob) → jobs_of (drop n js) ≡ drop n (jobs_of js)
-jobs_drop zero js = refl
-jobs_drop (suc n) [] = refl
-jobs_drop (suc n) (j ∷ js) = jobs_drop n js
-
 pub piece_at : (ws : List Word) (a : ℕ) (es : List ℕ) (i : ℕ) → i < length es → get_or (pieces ws a es) i [] ≡ slice_range ws (start_before a es i) (get_or es i 0)
 piece_at ws a [] i lt = absurd (omega arith)
 piece_at ws a (e ∷ es) zero lt = refl
@@ -40,17 +32,6 @@ ends_at a [] n i lt h = absurd (omega arith)
 ends_at a (e ∷ es) n zero lt h = (h.0, h.1)
 ends_at a (e ∷ es) n (suc zero) lt h = ends_at (e + 1) es n zero (omega arith) h.2
 ends_at a (e ∷ es) n (suc (suc i)) lt h = ends_at (e + 1) es n (suc i) (omega arith) h.2
-
-pub start_is : (es : List ℕ) (i : ℕ) → 0 < i → start_before 0 es i ≡ get_or es (i - 1) 0 + 1
-start_is es zero h = absurd (omega arith)
-start_is es (suc i) h = let e : i ≡ suc i - 1 = omega arith in ap (λ n. get_or es n 0 + 1) e
-
--- the jobs from a place on decide, if no job before it has the name
-pub given_more : (js : List job.EarlierJob) (i : ℕ) (w : List ℕ) (d : job.EarlierJob) → i < length js → pointwise nat_eq w (get_or js i d).name.now ≡ false → given (jobs_of (drop i js)) w ≡ given (jobs_of (drop (i + 1) js)) w
-given_more js i w d lt other = ap (λ v. given (jobs_of v) w) (drop_more js i d lt) ∙ ap (λ b. if b then Some (get_or js i d).gives else given (jobs_of (drop (i + 1) js)) w) other
-
-pub given_here : (js : List job.EarlierJob) (i : ℕ) (w : List ℕ) (d : job.EarlierJob) → i < length js → pointwise nat_eq w (get_or js i d).name.now ≡ true → given (jobs_of (drop i js)) w ≡ Some (get_or js i d).gives
-given_here js i w d lt this = ap (λ v. given (jobs_of v) w) (drop_more js i d lt) ∙ ap (λ b. if b then Some (get_or js i d).gives else given (jobs_of (drop (i + 1) js)) w) this
 
 -- the numbers of a call, from a part on
 pub numbers_more : (o : Operation) (n i : ℕ) (xs : List (List Word)) → i < length xs → number_cause (param_of o n i) (get_or xs i []) ≡ None → first_cause (number_causes o n i (drop i xs)) ≡ first_cause (number_causes o n (i + 1) (drop (i + 1) xs))

@@ -1,5 +1,5 @@
 -- What is collected of a call: its numbers, its last part.
-use Rattle.std.proofs.Common.{◌≡◌, ◌≢◌, ℕ, suc, ◌+◌, ◌<◌, ◌≤◌, false, List, [], ◌∷◌, ◌++◌, length, drop, get_or, Some, None, Err, refl, sym, ap, ◌∙◌, arith}
+use Rattle.std.proofs.Common.{◌≡◌, ◌≢◌, ℕ, suc, ◌+◌, ◌<◌, false, List, [], ◌∷◌, ◌++◌, length, drop, get_or, Some, None, Err, refl, sym, ap, ◌∙◌, arith}
 use Rattle.std.specs.Prelude.{nat_eq, if◌then◌else◌}
 use Rattle.std.specs.Cmp.Lexicographic.{pointwise}
 use Rattle.std.proofs.lemmas.List.{drop_more}
@@ -10,16 +10,16 @@ use Rattle.lambda_expr.specs.declared.fault.ReadFault.{ReadFault}
 use Rattle.lambda_expr.specs.declared.fault.ReadFault.TheVariants as fault
 use Rattle.lambda_expr.specs.declared.want.Want.{Want}
 use Rattle.reduce_ops.specs.declared.op.Op.{Op}
-use Rattle.job_language.specs.declared.word.Word as code
+use Rattle.lambda_expr.specs.declared.word.Word as code
 use Rattle.job_language.specs.declared.operation.Operation.{Operation}
 use Rattle.job_language.specs.declared.fault.Cause.{Cause}
 use Rattle.job_language.specs.declared.fault.Cause.TheVariants as cause
-use Rattle.job_language.specs.Table.{param_of}
-use Rattle.job_language.specs.Splitting.{word_of, words_in}
+use Rattle.job_language.specs.Table.{name_in, param_of, string_in}
+use Rattle.lambda_expr.specs.CodeWords.{word_of, words_in}
 use Rattle.job_language.specs.FaultCauses.{cause_of}
 use Rattle.job_language.specs.Causes.{Scope, number_in, numbers_of}
-use Rattle.job_language.specs.Operators.{is_add_exact, op_name, op_among, spelled_op}
-use Rattle.job_language.specs.Arguments.{string_in, name_in, IsLambdaRead}
+use Rattle.job_language.specs.Operators.{method_in, op_name, op_among}
+use Rattle.job_language.specs.Arguments.{IsLambdaRead}
 
 -- an operator with another name is skipped
 pub op_more : (os : List Op) (i : ℕ) (w : List ℕ) (d : Op) → i < length os → pointwise nat_eq w (op_name (get_or os i d)) ≡ false → op_among (drop i os) w ≡ op_among (drop (i + 1) os) w
@@ -56,58 +56,28 @@ no_name [] h = refl
 no_name (a ∷ []) h = absurd (h refl)
 no_name (a ∷ b ∷ ws) h = no_name_for (word_of a) (word_of b) (words_in ws)
 
-no_two_for : (a b : Word) → None ≡ spelled_op (a ∷ b ∷ [])
-no_two_for (named v) (sign symbol.DoubleColon) = refl
-no_two_for (named v) b = refl
-no_two_for a b = refl
+-- words too few or too many for a method
+no_method_one : (a : Word) → None ≡ method_in (a ∷ [])
+no_method_one (named v) = refl
+no_method_one a = refl
 
-pub no_spelled_two : (ws : List code.Word) → 2 ≤ length ws → length ws < 3 → None ≡ spelled_op (words_in ws)
-no_spelled_two [] h k = refl
-no_spelled_two (a ∷ []) h k = absurd (omega arith)
-no_spelled_two (a ∷ b ∷ []) h k = no_two_for (word_of a) (word_of b)
-no_spelled_two (a ∷ b ∷ c ∷ ws) h k = absurd (omega arith)
+no_method_two : (a b : Word) → None ≡ method_in (a ∷ b ∷ [])
+no_method_two (named v) (sign symbol.DoubleColon) = refl
+no_method_two (named v) b = refl
+no_method_two a b = refl
 
-no_more_for : (a b c d : Word) (ws : List Word) → None ≡ spelled_op (a ∷ b ∷ c ∷ d ∷ ws)
-no_more_for (named v) (sign symbol.DoubleColon) (named w) d ws = refl
-no_more_for (named v) (sign symbol.DoubleColon) c d ws = refl
-no_more_for (named v) b c d ws = refl
-no_more_for a b c d ws = refl
+no_method_for : (a b c d : Word) (ws : List Word) → None ≡ method_in (a ∷ b ∷ c ∷ d ∷ ws)
+no_method_for (named v) (sign symbol.DoubleColon) (named w) d ws = refl
+no_method_for (named v) (sign symbol.DoubleColon) c d ws = refl
+no_method_for (named v) b c d ws = refl
+no_method_for a b c d ws = refl
 
-pub no_spelled : (ws : List code.Word) → 4 ≤ length ws → None ≡ spelled_op (words_in ws)
-no_spelled [] h = refl
-no_spelled (a ∷ []) h = absurd (omega arith)
-no_spelled (a ∷ b ∷ []) h = absurd (omega arith)
-no_spelled (a ∷ b ∷ c ∷ []) h = absurd (omega arith)
-no_spelled (a ∷ b ∷ c ∷ d ∷ ws) h = no_more_for (word_of a) (word_of b) (word_of c) (word_of d) (words_in ws)
-
--- fewer than three words are no `Math::addExact`
-no_exact_two : (a b : Word) → false ≡ is_add_exact (a ∷ b ∷ [])
-no_exact_two (named v) (sign symbol.DoubleColon) = refl
-no_exact_two (named v) b = refl
-no_exact_two a b = refl
-
-no_exact_for : (a b c d : Word) (ws : List Word) → false ≡ is_add_exact (a ∷ b ∷ c ∷ d ∷ ws)
-no_exact_for (named v) (sign symbol.DoubleColon) (named w) d ws = refl
-no_exact_for (named v) (sign symbol.DoubleColon) c d ws = refl
-no_exact_for (named v) b c d ws = refl
-no_exact_for a b c d ws = refl
-
-no_exact_one : (a : Word) → false ≡ is_add_exact (a ∷ [])
-no_exact_one (named v) = refl
-no_exact_one a = refl
-
-pub no_exact_few : (ws : List code.Word) → length ws < 3 → false ≡ is_add_exact (words_in ws)
-no_exact_few [] h = refl
-no_exact_few (a ∷ []) h = no_exact_one (word_of a)
-no_exact_few (a ∷ b ∷ []) h = no_exact_two (word_of a) (word_of b)
-no_exact_few (a ∷ b ∷ c ∷ ws) h = absurd (omega arith)
-
-pub no_exact_many : (ws : List code.Word) → 4 ≤ length ws → false ≡ is_add_exact (words_in ws)
-no_exact_many [] h = refl
-no_exact_many (a ∷ []) h = absurd (omega arith)
-no_exact_many (a ∷ b ∷ []) h = absurd (omega arith)
-no_exact_many (a ∷ b ∷ c ∷ []) h = absurd (omega arith)
-no_exact_many (a ∷ b ∷ c ∷ d ∷ ws) h = no_exact_for (word_of a) (word_of b) (word_of c) (word_of d) (words_in ws)
+pub no_method : (ws : List code.Word) → (length ws ≡ 3 → ⊥) → None ≡ method_in (words_in ws)
+no_method [] h = refl
+no_method (a ∷ []) h = no_method_one (word_of a)
+no_method (a ∷ b ∷ []) h = no_method_two (word_of a) (word_of b)
+no_method (a ∷ b ∷ c ∷ []) h = absurd (h refl)
+no_method (a ∷ b ∷ c ∷ d ∷ ws) h = no_method_for (word_of a) (word_of b) (word_of c) (word_of d) (words_in ws)
 
 -- a lambda that is refused
 pub lambda_refused : (s : Scope) (text : List ℕ) (w : Want) (f : ReadFault) (e : Cause) → IsRefused text w f → e ≡ cause_of f → e ≢ cause.NoMemory → IsLambdaRead s text w (Err e)

@@ -18,12 +18,12 @@ use Rattle.job_language.specs.declared.fault.Cause.TheVariants as cause
 use Rattle.job_language.specs.declared.operation.Param.{Param}
 use Rattle.job_language.specs.declared.operation.Param.TheVariants as param
 use Rattle.job_language.specs.Rows.{AbstractCall, Argument, nothing, exact}
-use Rattle.job_language.specs.Table.{role_of}
+use Rattle.job_language.specs.Table.{name_in, role_of, string_in}
 use Rattle.job_language.specs.Grammar.{Job, IsJob, IsNoJob}
 use Rattle.job_language.specs.Jobs.{AbstractJob}
 use Rattle.job_language.specs.Causes.{Scope, first_cause, stage_cause, early_causes, numbers_of}
 use Rattle.job_language.specs.Operators.{is_add_exact, spelled_op}
-use Rattle.job_language.specs.Arguments.{PlacedCall, IsOutcome, lambda_answer, IsLambdaRead, IsOperatorRead, IsReadBy, IsArgumentRead, last_param, last_part, argument_text, listed, name_answer, name_in, string_in, text_answer}
+use Rattle.job_language.specs.Arguments.{PlacedCall, IsOutcome, lambda_answer, IsLambdaRead, IsOperatorRead, IsReadBy, IsArgumentRead, last_param, last_part, argument_text, listed, name_answer, text_answer}
 use Rattle.job_language.specs.Verdicts.{BegunJob, call_answer, added, below_terminal, finished, IsNextCall, job_named, placed_calls, IsReadAfter, IsReadInTurn, AreRead, IsJobRead, IsRead}
 use Rattle.job_language.specs.Verdicts as verdict
 use Rattle.job_language.specs.Parts.{causes_before}

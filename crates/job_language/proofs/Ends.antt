@@ -30,7 +30,7 @@ none_slice ws a = ap (λ n. take n (drop a ws)) (let e : a - a ≡ 0 = omega ari
 next : (ws : List Word) (at d : ℕ) (es : List ℕ) → at < length ws → IsAt ws at d es → reads start (take (at + 1) ws) ≡ goes (pieces ws 0 es) (slice_range ws (start_of 0 es) at) (get_or ws at bad) (bracket_of (get_or ws at bad)) (nest d (bracket_of (get_or ws at bad)))
 next ws at d es lt s = ap (reads start) (take_more ws at bad lt) ∙ reads_append start (take at ws) (get_or ws at bad ∷ []) ∙ ap (λ s. read s (get_or ws at bad)) s.state
 
-wider : (a : ℕ) (es : List ℕ) (n m : ℕ) → n ≤ m → AreEnds a es n → AreEnds a es m
+pub wider : (a : ℕ) (es : List ℕ) (n m : ℕ) → n ≤ m → AreEnds a es n → AreEnds a es m
 wider a [] n m h k = tt
 wider a (e ∷ es) n m h k = (k.0, (let l = k.1 in omega arith), wider (e + 1) es n m h k.2)
 

@@ -1,27 +1,19 @@
 -- Texts of jobs, read one after the other.
-use Rattle.std.proofs.Common.{◌≡◌, ◌≢◌, ℕ, ◌+◌, ◌<◌, ◌≤◌, List, [], ◌∷◌, ◌++◌, Result, Ok, Err, IfOk, IfErr, inl, inr, length, map, take, get_or, refl, sym, ap, ◌∙◌, suc, subst}
+use Rattle.std.proofs.Common.{◌≡◌, ℕ, ◌+◌, ◌<◌, ◌≤◌, List, [], ◌∷◌, ◌++◌, Result, Ok, Err, IfOk, IfErr, inl, inr, length, refl, sym, ap, ◌∙◌, suc, subst}
 use Rattle.std.specs.Prelude.{All}
-use Rattle.std.proofs.lemmas.List.{take_more}
 use Rattle.std.proofs.lemmas.List.Elements.{All-append, All-from_recursion}
 use Rattle.stream_tokens.specs.declared.job_text.JobText.{JobText}
-use Rattle.stream_tokens.specs.declared.job_text.TextFault.{TextFault}
-use Rattle.stream_tokens.specs.declared.job_text.TextFault.TheVariants as text
 use Rattle.stream_tokens.specs.TextsLeft.{Texts, HasText}
 use Rattle.columns.specs.Table.{NamedColumn}
 use Rattle.job_language.specs.declared.fault.Cause.{Cause}
-use Rattle.job_language.specs.declared.fault.Cause.TheVariants.{TooLong, NoMemory}
-use Rattle.job_language.specs.Causes.{Earlier}
-use Rattle.job_language.specs.Verdicts.{IsRead, earlier_of}
+use Rattle.job_language.specs.declared.fault.Cause.TheVariants.{TooLong}
+use Rattle.job_language.specs.Verdicts.{IsRead}
 use Rattle.stream_tokens.specs.Forms.{IsName}
 use Rattle.job_language.specs.declared.fault.JobFault.{JobFault}
 use Rattle.job_language.specs.declared.job.Job.{Job}
-use Rattle.job_language.specs.FaultCauses.{fault_of}
-use Rattle.job_language.specs.Files.{AreJobsLeft, AreJobsRead, IsNext, fault_at}
+use Rattle.job_language.specs.Files.{AreJobsLeft, AreJobsRead, IsNext, fault_at, scope_below}
 use Rattle.job_language.specs.FileSteps.{IsNextJob, IsNextFault}
-use Rattle.job_language.specs.declared.scope.EarlierJob as code
-use Rattle.job_language.specs.declared.terminal.Gives.{Gives}
-use Rattle.job_language.specs.Jobs.{AbstractJob, given_by, job_of, jobs_of, names_of, terminal_of}
-use Rattle.job_language.specs.Scopes as scopes
+use Rattle.job_language.specs.Jobs.{AbstractJob, job_of, jobs_of, names_of}
 
 pub jobs_length : (jobs : List Job) → length (jobs_of jobs) ≡ length jobs
 jobs_length [] = refl
@@ -40,9 +32,6 @@ pub record FileSoFar (version : ℕ) (columns : List NamedColumn) (all left : Te
   pub goes : (r : Result (List AbstractJob) JobFault) → AreJobsLeft version columns jobs left r → AreJobsLeft version columns [] all r
   pub here : HasText left → HasText all
 
-pub file_none : (version : ℕ) (columns : List NamedColumn) (all left : Texts) (jobs : List AbstractJob) → left ≡ all → jobs ≡ [] → FileSoFar version columns all left jobs
-file_none version columns all left jobs same none_yet = record { goes = λ r h. rw (none_yet, same) at h; here = λ h. rw same at h }
-
 pub file_more : (version : ℕ) (columns : List NamedColumn) (all left next : Texts) (more : List JobText) (jobs js : List AbstractJob) (t : JobText) → left ≡ Ok (t ∷ more) → next ≡ Ok more
     → FileSoFar version columns all left jobs → IsNextJob version columns jobs t js → FileSoFar version columns all next js
 file_more version columns all left next more jobs js t before after h step = record {
@@ -60,23 +49,13 @@ file_refused version columns all left more jobs t fault before h next =
     let here : AreJobsRead version columns jobs (t ∷ more) (Err fault) = inl (fault.cause, next.read, ap (λ (f : JobFault). Err f) same) in
     h.goes (Err fault) (rw before here)
 
-pub file_stops : (version : ℕ) (columns : List NamedColumn) (all left : Texts) (jobs : List AbstractJob) (fault : TextFault) → left ≡ Err fault → (fault_of fault).cause ≢ NoMemory
-    → FileSoFar version columns all left jobs → AreJobsLeft version columns [] all (Err (fault_of fault))
-file_stops version columns all left jobs (text.Syntax line) stops solid h = h.goes (Err (fault_of (text.Syntax line))) (rw stops refl)
-file_stops version columns all left jobs text.NoMemory stops solid h = absurd (solid refl)
-
-pub file_all : (version : ℕ) (columns : List NamedColumn) (all left : Texts) (jobs : List AbstractJob) → left ≡ Ok [] → FileSoFar version columns all left jobs → AreJobsLeft version columns [] all (Ok jobs)
-file_all version columns all left jobs ends h = h.goes (Ok jobs) (rw ends refl)
-
 -- ---- one text
 
 pub one_too_many : (version : ℕ) (columns : List NamedColumn) (jobs : List Job) (text : List ℕ) → 256 ≤ length jobs → IsNext version columns (jobs_of jobs) text (Err TooLong)
 one_too_many version columns jobs text many = inl (subst (λ (n : ℕ). 256 ≤ n) (sym (jobs_length jobs)) many, refl)
 
-pub read_there : (version : ℕ) (columns : List NamedColumn) (jobs : List Job) (earlier : List Earlier) (text : List ℕ) (r : Result AbstractJob Cause) → earlier ≡ map earlier_of (jobs_of jobs) → length jobs < 256
-    → IsRead (record { version = version; jobs = earlier; columns = columns }) text r → IsNext version columns (jobs_of jobs) text r
-read_there version columns jobs earlier text r same few read =
-    inr (subst (λ (n : ℕ). n < 256) (sym (jobs_length jobs)) few, subst (λ (js : List Earlier). IsRead (record { version = version; jobs = js; columns = columns }) text r) same read)
+pub read_there : (version : ℕ) (columns : List NamedColumn) (jobs : List Job) (text : List ℕ) (r : Result AbstractJob Cause) → length jobs < 256 → IsRead (scope_below version columns (jobs_of jobs)) text r → IsNext version columns (jobs_of jobs) text r
+read_there version columns jobs text r few read = inr (subst (λ (n : ℕ). n < 256) (sym (jobs_length jobs)) few, read)
 
 -- what a text says below jobs that are known by another name
 pub text_same : (version : ℕ) (columns : List NamedColumn) (js ks : List Job) (a b : List ℕ) (r : Result AbstractJob Cause) → js ≡ ks → a ≡ b → IsNext version columns (jobs_of js) a r → IsNext version columns (jobs_of ks) b r
@@ -100,21 +79,3 @@ ok_as (Err e) P Q f h = h
 pub err_as : {X E : Type 0} (r : Result X E) (P Q : E → Type 0) → ((e : E) → P e → Q e) → IfErr r P → IfErr r Q
 err_as (Ok x) P Q f h = h
 err_as (Err e) P Q f h = f e h
-
--- ---- what jobs are to a job below them
-
-scopes_push : (es : List code.EarlierJob) (e : code.EarlierJob) → scopes.jobs_of (es ++ e ∷ []) ≡ scopes.jobs_of es ++ record { name = e.name.now; gives = e.gives } ∷ []
-scopes_push [] e = refl
-scopes_push (f ∷ es) e = ap (λ (js : List Earlier). record { name = f.name.now; gives = f.gives } ∷ js) (scopes_push es e)
-
-earlier_push : (jobs : List AbstractJob) (j : AbstractJob) → map earlier_of (jobs ++ j ∷ []) ≡ map earlier_of jobs ++ earlier_of j ∷ []
-earlier_push [] j = refl
-earlier_push (k ∷ jobs) j = ap (λ (js : List Earlier). earlier_of k ∷ js) (earlier_push jobs j)
-
-pub earlier_more : (jobs : List Job) (i : ℕ) (d : Job) (es : List code.EarlierJob) (e : code.EarlierJob) → i < length jobs → scopes.jobs_of es ≡ map earlier_of (jobs_of (take i jobs))
-    → e.name.now ≡ (get_or jobs i d).name → e.gives ≡ given_by (terminal_of (get_or jobs i d).terminal) → scopes.jobs_of (es ++ e ∷ []) ≡ map earlier_of (jobs_of (take (i + 1) jobs))
-earlier_more jobs i d es e within before named gives =
-    let one : record { name = e.name.now; gives = e.gives } ≡ earlier_of (job_of (get_or jobs i d)) = ap (λ (w : List ℕ). record { name = w; gives = e.gives }) named ∙ ap (λ (g : Gives). record { name = (get_or jobs i d).name; gives = g }) gives in
-    scopes_push es e ∙ ap (λ (js : List Earlier). js ++ record { name = e.name.now; gives = e.gives } ∷ []) before ∙ ap (λ (k : Earlier). map earlier_of (jobs_of (take i jobs)) ++ k ∷ []) one
-    ∙ sym (earlier_push (jobs_of (take i jobs)) (job_of (get_or jobs i d))) ∙ sym (ap (map earlier_of) (jobs_push (take i jobs) (get_or jobs i d)))
-    ∙ sym (ap (λ (js : List Job). map earlier_of (jobs_of js)) (take_more jobs i d within))

@@ -1,6 +1,6 @@
 -- Causes of a whole job, call by call.
-use Rattle.std.proofs.Common.{◌≡◌, ℕ, zero, suc, ◌+◌, ◌<◌, ◌≤◌, true, false, List, [], ◌∷◌, ◌++◌, length, drop, get_or, Option, Some, None, refl, ap, sym, subst, ◌∙◌, append_assoc, arith}
-use Rattle.std.proofs.lemmas.List.{drop_more, length-append}
+use Rattle.std.proofs.Common.{◌≡◌, ℕ, zero, suc, ◌+◌, ◌<◌, ◌≤◌, true, false, List, [], ◌∷◌, ◌++◌, length, get_or, Option, Some, None, refl, ap, sym, subst, ◌∙◌, append_assoc, arith}
+use Rattle.std.proofs.lemmas.List.{length-append}
 use Rattle.lambda_expr.specs.Words.{Word}
 use Rattle.job_language.specs.declared.piece.WrittenCall as written
 use Rattle.job_language.specs.declared.fault.Cause.{Cause}
@@ -28,9 +28,6 @@ stands_at ws (c ∷ cs) (suc i) d lt h = stands_at ws cs i d (omega arith) h.1
 -- a call that a loop reads belongs to the words, as all calls do
 pub item_stands : (ws : List Word) (cs : List written.WrittenCall) (i : ℕ) (x : written.WrittenCall) → i < length cs → x ≡ get_or cs i x → StandIn ws cs → StandsIn ws x
 item_stands ws cs i x lt is h = subst (StandsIn ws) (sym is) (stands_at ws cs i x lt h)
-
-pub source_more : (ws : List Word) (cs : List written.WrittenCall) (i : ℕ) (d : written.WrittenCall) → i < length cs → sources_in (calls_in ws (drop i cs)) ≡ one_if_source (role_of (get_or cs i d).operation) + sources_in (calls_in ws (drop (i + 1) cs))
-source_more ws cs i d lt = ap (λ v. sources_in (calls_in ws v)) (drop_more cs i d lt)
 
 -- the sources among the calls of a job are its plain sources
 both_count : (xs ys : List Call) → sources_in (xs ++ ys) ≡ sources_in xs + sources_in ys

@@ -2,7 +2,6 @@
 use Rattle.std.proofs.Common.{◌≡◌, ℕ, suc, ◌+◌, ◌-◌, ◌<◌, ◌≤◌, List, [], ◌∷◌, length, drop, get_or, refl, sym, ap, ◌∙◌, arith, length-drop}
 use Rattle.lambda_expr.specs.Words.{Word}
 use Rattle.job_language.specs.declared.operation.Operation.{Operation}
-use Rattle.job_language.specs.declared.operation.Param.TheVariants as param
 use Rattle.job_language.specs.Table.{param_of}
 use Rattle.job_language.specs.Splitting.{pieces, AreEnds}
 use Rattle.stream_tokens.specs.CutTexts.{TokenizedText, between}
@@ -11,10 +10,6 @@ use Rattle.job_language.specs.Shapes.{start_before, call_in, placed_in, StandsIn
 use Rattle.job_language.specs.Arguments.{last_param, last_part, before_last, no_token, argument_text}
 use Rattle.job_language.proofs.PieceReads.{length_slice}
 use Rattle.job_language.proofs.CauseLemmas.{length_parts, ends_at}
-
-pub last_none : (o : Operation) (ws : List Word) (a : ℕ) (es : List ℕ) → length es ≡ 0 → param.Number ≡ last_param o (pieces ws a es)
-last_none o ws a [] h = refl
-last_none o ws a (e ∷ es) h = absurd (omega arith)
 
 pub last_some : (o : Operation) (ws : List Word) (a : ℕ) (es : List ℕ) → 0 < length es → param_of o (length es) (length es - 1) ≡ last_param o (pieces ws a es)
 last_some o ws a [] h = absurd (omega arith)
@@ -29,10 +24,6 @@ last_at (a ∷ []) h = refl
 last_at (a ∷ b ∷ xs) h =
     let k : length (a ∷ b ∷ xs) - 1 ≡ suc (length (b ∷ xs) - 1) = omega arith in
     ap (λ n. get_or (a ∷ b ∷ xs) n []) k ∙ last_at (b ∷ xs) (omega arith)
-
-pub no_last : (ws : List Word) (a : ℕ) (es : List ℕ) → length es ≡ 0 → [] ≡ last_part (pieces ws a es)
-no_last ws a [] h = refl
-no_last ws a (e ∷ es) h = absurd (omega arith)
 
 start_step : (a e f : ℕ) (es : List ℕ) → start_before (e + 1) (f ∷ es) (length (f ∷ es) - 1) ≡ start_before a (e ∷ f ∷ es) (length (e ∷ f ∷ es) - 1)
 start_step a e f [] = refl
@@ -65,27 +56,31 @@ last_length ws a (e ∷ f ∷ es) lt h =
     let end = end_step e f es in
     omega arith
 
-pub more_room : (a : ℕ) (es : List ℕ) (n m : ℕ) → n ≤ m → AreEnds a es n → AreEnds a es m
-more_room a [] n m le h = tt
-more_room a (e ∷ es) n m le h = let lt = h.1 in (h.0, omega arith, more_room (e + 1) es n m le h.2)
-
--- where the last part of a call begins and ends in the words
-pub last_places : (ws : List Word) (c : written.WrittenCall) → StandsIn ws c → 0 < length c.ends.items → (start_before 0 c.ends.items (length c.ends.items - 1) ≤ get_or c.ends.items (length c.ends.items - 1) 0) × (c.opened + 1 + get_or c.ends.items (length c.ends.items - 1) 0 < length ws)
-last_places ws c h some =
-    let es = c.ends.items in
-    let e = ends_at 0 es (length (drop (c.opened + 1) ws)) (length es - 1) (omega arith) h.ends in
+-- where the last part of a call begins and ends in the words, by these ends and this start
+pub last_places : (ws : List Word) (c : written.WrittenCall) (es : List ℕ) (start size : ℕ) → StandsIn ws c → 0 < length c.ends.items → es ≡ c.ends.items → start ≡ start_before 0 es (length es - 1) → size ≡ length ws
+    → (start ≤ get_or es (length es - 1) 0) × (c.opened + 1 + get_or es (length es - 1) 0 < size)
+last_places ws c es start size h some same from is =
+    let fs = c.ends.items in
+    let e = ends_at 0 fs (length (drop (c.opened + 1) ws)) (length fs - 1) (omega arith) h.ends in
     let left = length-drop (c.opened + 1) ws in
+    let here : start ≡ start_before 0 fs (length fs - 1) = from ∙ ap (λ e. start_before 0 e (length e - 1)) same in
+    let to : get_or es (length es - 1) 0 ≡ get_or fs (length fs - 1) 0 = ap (λ e. get_or e (length e - 1) 0) same in
+    let low = e.0 in
     let high = e.1 in
-    (e.0, omega arith)
+    (omega arith, omega arith)
 
 -- the text of the last part, by these places
-pub text_at : (t : TokenizedText) (ws : List Word) (c : written.WrittenCall) → StandsIn ws c → 0 < length c.ends.items → between t (get_or t.tokens (c.opened + start_before 0 c.ends.items (length c.ends.items - 1)) no_token) (get_or t.tokens (c.opened + 1 + get_or c.ends.items (length c.ends.items - 1) 0) no_token) (c.opened + start_before 0 c.ends.items (length c.ends.items - 1)) (c.opened + 1 + get_or c.ends.items (length c.ends.items - 1) 0) ≡ argument_text t (placed_in ws c)
-text_at t ws c h some =
-    let es = c.ends.items in
+pub text_at : (t : TokenizedText) (ws : List Word) (c : written.WrittenCall) (es : List ℕ) (start : ℕ) → StandsIn ws c → 0 < length c.ends.items → es ≡ c.ends.items → start ≡ start_before 0 es (length es - 1)
+    → between t (get_or t.tokens (c.opened + start) no_token) (get_or t.tokens (c.opened + 1 + get_or es (length es - 1) 0) no_token) (c.opened + start) (c.opened + 1 + get_or es (length es - 1) 0) ≡ argument_text t (placed_in ws c)
+text_at t ws c es start h some same from =
+    let fs = c.ends.items in
     let xs = (call_in ws c).parts in
-    let before = before_of (drop (c.opened + 1) ws) 0 es some h.ends in
-    let long = last_length (drop (c.opened + 1) ws) 0 es some h.ends in
-    let first : c.opened + start_before 0 es (length es - 1) ≡ c.opened + before_last xs = omega arith in
-    let second : c.opened + 1 + get_or es (length es - 1) 0 ≡ c.opened + before_last xs + suc (length (last_part xs)) = omega arith in
-    ap (λ i. between t (get_or t.tokens i no_token) (get_or t.tokens (c.opened + 1 + get_or es (length es - 1) 0) no_token) i (c.opened + 1 + get_or es (length es - 1) 0)) first
+    let end = c.opened + 1 + get_or es (length es - 1) 0 in
+    let here : start ≡ start_before 0 fs (length fs - 1) = from ∙ ap (λ e. start_before 0 e (length e - 1)) same in
+    let to : get_or es (length es - 1) 0 ≡ get_or fs (length fs - 1) 0 = ap (λ e. get_or e (length e - 1) 0) same in
+    let before = before_of (drop (c.opened + 1) ws) 0 fs some h.ends in
+    let long = last_length (drop (c.opened + 1) ws) 0 fs some h.ends in
+    let first : c.opened + start ≡ c.opened + before_last xs = omega arith in
+    let second : end ≡ c.opened + before_last xs + suc (length (last_part xs)) = omega arith in
+    ap (λ i. between t (get_or t.tokens i no_token) (get_or t.tokens end no_token) i end) first
     ∙ ap (λ j. between t (get_or t.tokens (c.opened + before_last xs) no_token) (get_or t.tokens j no_token) (c.opened + before_last xs) j) second

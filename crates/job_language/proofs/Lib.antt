@@ -13,7 +13,6 @@ pub mod JobCauseLemmas
 pub mod JobReaderLemmas
 pub mod LastParts
 pub mod Names
-pub mod NumberReads
 pub mod OneFile
 pub mod OneVerdict
 pub mod PieceLemmas

@@ -25,10 +25,6 @@ front_two ws at lt =
     let e : at + 1 + 1 ≡ at + 2 = omega arith in
     front ws at (omega arith) ∙ ap (λ v. get_or ws at bad ∷ v) (front ws (at + 1) lt) ∙ ap (λ n. get_or ws at bad ∷ get_or ws (at + 1) bad ∷ drop n ws) e
 
-pub open_sign : (w : Word) → is_open w ≡ true → w ≡ sign symbol.Open
-open_sign (sign symbol.Open) h = refl
-open_sign w h = absurd cc
-
 pub open_within : (ws : List Word) (i : ℕ) → is_open (get_or ws i bad) ≡ true → i < length ws
 open_within [] i h = absurd cc
 open_within (w ∷ ws) zero h = omega arith
@@ -54,17 +50,6 @@ names bad o h = absurd cc
 pub is_concat : (o : Operation) → role_of o ≡ role.Concatenation → o ≡ op.Concat
 is_concat op.Concat h = refl
 is_concat o h = absurd cc
-
-pub begins_concat : (ws : List Word) (at : ℕ) (o : Operation) → role_of o ≡ role.Concatenation → at + 1 < length ws → get_or ws at bad ≡ named (name_of o) → get_or ws (at + 1) bad ≡ sign symbol.Open → Begins ws at begin_concat (at + 2)
-begins_concat ws at o r lt name open_ = record {
-  piece = tt;
-  spelled =
-      front_two ws at lt
-      ∙ ap (λ w. w ∷ get_or ws (at + 1) bad ∷ drop (at + 2) ws) (name ∙ ap (λ o. named (name_of o)) (is_concat o r))
-      ∙ ap (λ w. named (name_of op.Concat) ∷ w ∷ drop (at + 2) ws) open_;
-  further = omega arith;
-  within = omega arith;
-}
 
 pub length_slice : (ws : List Word) (a e : ℕ) → e < length ws → length (slice_range ws a e) ≡ e - a
 length_slice ws a e lt = let k = length-take (e - a) (drop a ws) in let l = length-drop a ws in omega arith

@@ -9,14 +9,12 @@ use Rattle.job_language.specs.declared.mode.Mode.{Mode}
 use Rattle.job_language.specs.declared.mode.Mode.TheVariants as mode
 use Rattle.job_language.specs.declared.shape.Reader as code
 use Rattle.job_language.specs.declared.piece.WrittenCall as written
-use Rattle.job_language.specs.declared.piece.Mark.TheVariants as mark
-use Rattle.job_language.specs.declared.word.Word as coded_word
-use Rattle.job_language.specs.Splitting.{word_of, words_in}
+use Rattle.lambda_expr.specs.declared.word.Word as coded_word
+use Rattle.lambda_expr.specs.CodeWords.{word_of, words_in}
 use Rattle.job_language.specs.Calls.{Call}
 use Rattle.job_language.specs.Grammar.{Source, Sources, plain, concat, two, more, Job, Piece, call, begin_concat, owner, comma, close, dot, semicolon, piece_words, pieces_words, source_pieces, sources_pieces, steps_pieces, ending, fallback_pieces, fallback_calls, job_pieces, IsSource, AreSources, AreStages, IsFallback, IsSpelled, IsNoJob, is_sound, calls_of, plain_sources}
 use Rattle.job_language.specs.Reading.{Place, State, wants, owns, bare, has, asks, staged, ended, falls, replaced, finished, stuck, read, reads, begins, coded, moves, moved, mark_of, ArePieces}
-use Rattle.job_language.specs.Shapes.{begins_job, IsNotSpelled, AreCallsOf, AreCallsIn, IsNoPiece, Begins, is_last, call_in, all_placed, placed_in, piece_from, sign_piece, IsReading, StandIn, StandsIn}
-use Rattle.job_language.specs.Arguments.{PlacedCall}
+use Rattle.job_language.specs.Shapes.{begins_job, IsNotSpelled, AreCallsOf, IsNoPiece, Begins, is_last, call_in, all_placed, placed_in, piece_from, IsReading, StandIn, StandsIn}
 use Rattle.job_language.specs.Verdicts.{placed}
 use Rattle.job_language.proofs.JobReaderLemmas.{Stands, keeps, reads_append, reads_job, stuck_stays, follows, last_after, last_state}
 use Rattle.job_language.proofs.PieceLemmas.{pieces_append, calls_append, are_append, next_piece, no_pieces}
@@ -289,14 +287,6 @@ calls_more ws (c ∷ cs) ds = ap (λ v. placed_in ws c ∷ v) (calls_more ws cs 
 pub one_placed : (ws : List Word) (n : ℕ) (m : Mark) (c : written.WrittenCall) → c.opened ≡ suc n → placed_in ws c ∷ [] ≡ placed n (piece_from ws m (Some c) ∷ [])
 one_placed ws n m c h = ap (λ k. record { opened = k; call = call_in ws c } ∷ []) h
 
-pub sign_calls : (n : ℕ) (m : Mark) → placed n (sign_piece m ∷ []) ≡ []
-sign_calls n (mark.Call r) = refl
-sign_calls n mark.Owner = refl
-sign_calls n mark.Comma = refl
-sign_calls n mark.Close = refl
-sign_calls n mark.Dot = refl
-sign_calls n mark.Semicolon = refl
-
 pub no_job_in : (ws : List coded_word.Word) → length ws < 2 → false ≡ begins_job (words_in ws)
 no_job_in [] h = refl
 no_job_in (a ∷ []) h = no_job_for (word_of a)
@@ -340,9 +330,6 @@ no_unsound_job ws h j k = let e : true ≡ false = sym k.sound ∙ h in absurd c
 
 pub no_unspelled_job : (ws : List Word) → IsNotSpelled ws → IsNoJob ws
 no_unspelled_job ws h j k = h j k.spelled
-
-pub sound_calls : (ws : List Word) (cs : List PlacedCall) → list_all is_sound ws ≡ true → AreCallsOf ws cs → AreCallsIn ws cs
-sound_calls ws cs h a = record { job = a.job; is = record { sound = h; spelled = a.spelled }; calls = a.calls }
 
 pub stand_more : (ws : List Word) (cs : List written.WrittenCall) (c : written.WrittenCall) → StandIn ws cs → StandsIn ws c → StandIn ws (cs ++ c ∷ [])
 stand_more ws [] c h k = (k, tt)

@@ -1,24 +1,13 @@
 -- The words of a text, place by place.
-use Rattle.std.proofs.Common.{◌≡◌, ℕ, zero, suc, ◌+◌, ◌<◌, ◌≤◌, true, false, List, [], ◌∷◌, ◌++◌, length, take, get_or, refl, sym, ap, ◌∙◌, arith}
+use Rattle.std.proofs.Common.{◌≡◌, ℕ, ◌+◌, ◌<◌, ◌≤◌, true, false, List, [], ◌∷◌, ◌++◌, length, take, get_or, refl, sym, ap, ◌∙◌}
 use Rattle.std.specs.Prelude.{◌&&◌}
 use Rattle.std.specs.List.{list_all}
 use Rattle.std.proofs.lemmas.List.{take_more, take_all}
 use Rattle.std.proofs.lemmas.List.Folds.{list_all-append, list_all_at}
-use Rattle.stream_tokens.specs.declared.token.Token.{Token}
-use Rattle.stream_tokens.specs.Tokens.{token_text}
-use Rattle.lambda_expr.specs.Words.{Word, word_for, words_of, bad}
-use Rattle.job_language.specs.declared.word.Word as code
-use Rattle.job_language.specs.Splitting.{word_of, words_in}
+use Rattle.lambda_expr.specs.Words.{Word, bad}
+use Rattle.lambda_expr.specs.CodeWords.{word_of, words_in}
+use Rattle.lambda_expr.specs.declared.word.Word as code
 use Rattle.job_language.specs.Grammar.{is_sound}
-
-pub length_texts : (text : List ℕ) (ts : List Token) → length (words_of text ts) ≡ length ts
-length_texts text [] = refl
-length_texts text (t ∷ ts) = ap suc (length_texts text ts)
-
-pub word_there : (text : List ℕ) (ts : List Token) (i : ℕ) (d : Token) → i < length ts → get_or (words_of text ts) i bad ≡ word_for (get_or ts i d).kind (token_text text (get_or ts i d))
-word_there text [] i d h = absurd (omega arith)
-word_there text (t ∷ ts) zero d h = refl
-word_there text (t ∷ ts) (suc i) d h = word_there text ts i d (omega arith)
 
 pub words_more : (vs : List code.Word) (w : code.Word) → words_in (vs ++ w ∷ []) ≡ words_in vs ++ word_of w ∷ []
 words_more [] w = refl
@@ -28,9 +17,6 @@ words_more (v ∷ vs) w = ap (λ us. word_of v ∷ us) (words_more vs w)
 pub record AreRead (ws : List Word) (n : ℕ) (vs : List code.Word) : Type 0 where
   pub words : words_in vs ≡ take n ws
   pub sound : list_all is_sound (take n ws) ≡ true
-
-pub none_read : (ws : List Word) → AreRead ws 0 []
-none_read ws = record { words = refl; sound = refl }
 
 pub read_on : (ws : List Word) (n : ℕ) (vs us : List code.Word) (w : code.Word) → n < length ws → word_of w ≡ get_or ws n bad → is_sound (word_of w) ≡ true → us ≡ vs ++ w ∷ [] → AreRead ws n vs → AreRead ws (n + 1) us
 read_on ws n vs us w lt is sound more h =

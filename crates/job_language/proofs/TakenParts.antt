@@ -1,11 +1,11 @@
 -- A call of the grammar has the parts that its row takes.
 use Rattle.std.proofs.Common.{◌≡◌, ◌⊎◌, ⊎_elim, ℕ, suc, ◌<◌, ℤ, Bool, true, false, inl, inr, List, [], ◌∷◌, ◌++◌, length, Option, Some, None, Result, Ok, Err, refl, sym, ap, subst, append-nil, arith}
 use Rattle.std.specs.Prelude.{max, pos, not, ◌||◌, ◌==◌, nat_lt, int_lt, if◌then◌else◌}
-use Rattle.std.specs.Option.{is_none}
+use Rattle.std.specs.Option.{is_none, is_some}
 use Rattle.std.specs.Ordering.{int_eq}
 use Rattle.std.proofs.lemmas.Bool.{eqb-true}
 use Rattle.stream_tokens.specs.CutTexts.{TokenizedText}
-use Rattle.lambda_expr.specs.Words.{Word, quoted, named}
+use Rattle.lambda_expr.specs.Words.{Word}
 use Rattle.lambda_values.specs.Lambda.{AbstractLambda, long, boolean, stream as inner_stream, pair}
 use Rattle.lambda_expr.specs.Refusals.{wanted, expression_verdict, stream_verdict, lambda_of, streamed, verdict, Judged}
 use Rattle.lambda_values.specs.References.{names_of}
@@ -38,13 +38,13 @@ use Rattle.job_language.specs.declared.operation.Params.{Params}
 use Rattle.job_language.specs.declared.operation.Params.TheVariants as params
 use Rattle.job_language.specs.declared.terminal.Gives.{Gives}
 use Rattle.job_language.specs.declared.terminal.Gives.TheVariants as gives
-use Rattle.job_language.specs.Numbers.{number_read}
+use Rattle.lambda_expr.specs.NumberWords.{number_read}
 use Rattle.job_language.specs.Rows.{Argument, nothing, column, job, number, test, stream, operator, exact, source, stage, terminal, fallback, Takes, of_nothing, of_bounds, of_values, of_number, of_count, of_column, of_job, of_long, of_test, of_stream, of_positions, of_identity, Row, as_source, as_concat, as_stage, as_terminal, as_fallback, params_taken, params_in, taken, from_identity, made, built_by}
-use Rattle.job_language.specs.Table.{row, params_of, allowed, param_at, param_of, fits, is_text, is_name}
+use Rattle.job_language.specs.Table.{row, params_of, allowed, param_at, param_of, fits, name_in, string_in}
 use Rattle.job_language.specs.Calls.{Call, FitFrom, IsCall}
 use Rattle.job_language.specs.Causes.{Scope, first_cause, when, count_of, number_cause, number_causes, number_in, as_list, numbers_of, is_negative, values_cause, early_causes}
 use Rattle.job_language.specs.Operators.{is_add_exact, spelled_op}
-use Rattle.job_language.specs.Arguments.{PlacedCall, last_part, last_param, string_in, name_in, text_answer, column_answer, name_answer, result_answer, listed, pair_argument, argument_of, after_references, reference_cause, reference_causes, lambda_answer, IsLambdaRead, IsOperatorRead, IsReadBy, IsArgumentRead, argument_text}
+use Rattle.job_language.specs.Arguments.{PlacedCall, last_part, last_param, text_answer, column_answer, name_answer, result_answer, listed, pair_argument, argument_of, after_references, reference_cause, reference_causes, lambda_answer, IsLambdaRead, IsOperatorRead, IsReadBy, IsArgumentRead, argument_text}
 use Rattle.job_language.specs.Verdicts.{IsReadAfter, IsCallRead}
 
 -- ---- causes that are no syntax fault
@@ -397,18 +397,18 @@ by_cells : (o : Option (List ℤ)) (a : Argument) → column_answer o ≡ Ok a �
 by_cells None a r = absurd cc
 by_cells (Some cells) a r = subst (λ v. Accepted params.Column v []) (ok_same (column cells) a r) tt
 
-column_is : (s : Scope) (ws : List Word) (a : Argument) → is_text ws ≡ true → text_answer s (string_in ws) ≡ Ok a → Accepted params.Column a []
-column_is s (quoted w ∷ []) a fit r = by_cells _ a r
-column_is s ws a fit r = absurd cc
+column_is : (s : Scope) (o : Option (List ℕ)) (a : Argument) → is_some o ≡ true → text_answer s o ≡ Ok a → Accepted params.Column a []
+column_is s None a fit r = let e : false ≡ true = fit in absurd cc
+column_is s (Some w) a fit r = by_cells _ a r
 
 by_given : (w : List ℕ) (g : Option Gives) (a : Argument) → result_answer w g ≡ Ok a → Accepted params.Job a []
 by_given w None a r = absurd cc
 by_given w (Some gives.Array) a r = subst (λ v. Accepted params.Job v []) (ok_same (job w) a r) tt
 by_given w (Some g) a r = absurd cc
 
-job_is : (s : Scope) (ws : List Word) (a : Argument) → is_name ws ≡ true → name_answer s (name_in ws) ≡ Ok a → Accepted params.Job a []
-job_is s (named w ∷ []) a fit r = by_given w _ a r
-job_is s ws a fit r = absurd cc
+job_is : (s : Scope) (o : Option (List ℕ)) (a : Argument) → is_some o ≡ true → name_answer s o ≡ Ok a → Accepted params.Job a []
+job_is s None a fit r = let e : false ≡ true = fit in absurd cc
+job_is s (Some w) a fit r = by_given w _ a r
 
 long_is : (a : Argument) → IsRead want.Long a → Accepted params.Long a []
 long_is (number e) h = tt
@@ -472,10 +472,10 @@ accepted params.Count [] s text a al fit read r = absurd cc
 accepted params.Count (x ∷ []) s text a al fit read r = no_number_read params.Count (as_list (number_read x) ++ []) a (subst (Accepted params.Count nothing) (sym (append-nil (as_list (number_read x)))) (number_is (number_read x) read.0).1) r
 accepted params.Count (x ∷ y ∷ xs) s text a al fit read r = let e = eqb-true (length (x ∷ y ∷ xs)) 1 al in absurd (omega arith)
 accepted params.Column [] s text a al fit read r = absurd cc
-accepted params.Column (x ∷ []) s text a al fit read r = column_is s x a fit.0 r
+accepted params.Column (x ∷ []) s text a al fit read r = column_is s (string_in x) a fit.0 r
 accepted params.Column (x ∷ y ∷ xs) s text a al fit read r = let e = eqb-true (length (x ∷ y ∷ xs)) 1 al in absurd (omega arith)
 accepted params.Job [] s text a al fit read r = absurd cc
-accepted params.Job (x ∷ []) s text a al fit read r = job_is s x a fit.0 r
+accepted params.Job (x ∷ []) s text a al fit read r = job_is s (name_in x) a fit.0 r
 accepted params.Job (x ∷ y ∷ xs) s text a al fit read r = let e = eqb-true (length (x ∷ y ∷ xs)) 1 al in absurd (omega arith)
 accepted params.Long [] s text a al fit read r = absurd cc
 accepted params.Long (x ∷ []) s text a al fit read r = long_is a (lambda_is s text want.Long a r)

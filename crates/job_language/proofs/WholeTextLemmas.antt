@@ -1,6 +1,6 @@
 -- What a whole text is read as.
 use Rattle.std.proofs.Common.{◌≡◌, ◌≢◌, ℕ, ◌≤◌, List, length, None, Result, Ok, Err, sym, ap, subst, ◌∙◌}
-use Rattle.std.specs.Prelude.{IfOk, IfErr}
+use Rattle.std.specs.Prelude.{IfErr}
 use Rattle.stream_tokens.specs.Tokens.{AreTokensOf}
 use Rattle.stream_tokens.specs.CutTexts.{TokenizedText}
 use Rattle.lambda_expr.specs.Words.{Word, words_of}
@@ -21,11 +21,6 @@ inside_of s text t j r e cut le is read = subst (λ x. IsRead s x r) e (inside (
 
 pub outside_of : (s : Scope) (text : List ℕ) (t : TokenizedText) (r : Result AbstractJob Cause) → t.bytes ≡ text → AreTokensOf t.tokens t.bytes → length text ≤ 65536 → IsNoJob (words_of t.bytes t.tokens) → Err Syntax ≡ r → IsRead s text r
 outside_of s text t r e cut le stays eq = subst (λ x. IsRead s x r) e (outside (record { short = subst (λ x. length x ≤ 65536) (sym e) le; tokens = t.tokens; cut = cut; outside = stays; refused = eq }))
-
--- the two clauses of an answer
-pub answers_ok : (P : Result AbstractJob Cause → Type 0) (r : Result code.Job Cause) → Answers job_of P r → IfOk r (λ job. P (Ok (job_of job)))
-answers_ok P (Ok j) h = h
-answers_ok P (Err e) h = tt
 
 pub answers_err : (P : Result AbstractJob Cause → Type 0) (r : Result code.Job Cause) → Answers job_of P r → IfErr r (λ e. e ≢ NoMemory → P (Err e))
 answers_err P (Ok j) h = tt

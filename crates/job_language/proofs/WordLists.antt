@@ -1,10 +1,10 @@
 -- Which words the words of the program mean, place by place.
-use Rattle.std.proofs.Common.{◌≡◌, ℕ, zero, suc, ◌-◌, ◌<◌, ◌≤◌, true, false, List, [], ◌∷◌, length, take, drop, get_or, refl, ap, ◌∙◌, arith}
-use Rattle.std.specs.Prelude.{slice_range}
-use Rattle.lambda_expr.specs.Words.{Word, named, quoted, bad}
-use Rattle.job_language.specs.Table.{is_number, is_text, is_name, is_some}
-use Rattle.job_language.specs.declared.word.Word as code
-use Rattle.job_language.specs.Splitting.{word_of, words_in}
+use Rattle.std.proofs.Common.{◌≡◌, ℕ, zero, suc, ◌-◌, ◌<◌, ◌≤◌, true, List, [], ◌∷◌, length, take, drop, get_or, Option, Some, None, refl, ap, ◌∙◌, arith}
+use Rattle.std.specs.Prelude.{is_some, option_map, slice_range}
+use Rattle.lambda_expr.specs.Words.{Word, bad}
+use Rattle.job_language.specs.Table.{has_words}
+use Rattle.lambda_expr.specs.declared.word.Word as code
+use Rattle.lambda_expr.specs.CodeWords.{word_of, words_in}
 
 pub length_words : (ws : List code.Word) → length (words_in ws) ≡ length ws
 length_words [] = refl
@@ -28,32 +28,11 @@ words_take (suc n) (w ∷ ws) = ap (λ vs. word_of w ∷ vs) (words_take n ws)
 pub words_slice : (ws : List code.Word) (a b : ℕ) → words_in (slice_range ws a b) ≡ slice_range (words_in ws) a b
 words_slice ws a b = words_take (b - a) (drop a ws) ∙ ap (take (b - a)) (words_drop a ws)
 
--- words too many for a part that isn't a lambda
-pub no_number : (ws : List code.Word) → 4 ≤ length ws → false ≡ is_number (words_in ws)
-no_number [] h = refl
-no_number (a ∷ []) h = absurd (omega arith)
-no_number (a ∷ b ∷ []) h = absurd (omega arith)
-no_number (a ∷ b ∷ c ∷ []) h = absurd (omega arith)
-no_number (a ∷ b ∷ c ∷ d ∷ ws) h = refl
-
-no_text_for : (a b : Word) (ws : List Word) → false ≡ is_text (a ∷ b ∷ ws)
-no_text_for (quoted w) b ws = refl
-no_text_for a b ws = refl
-
-no_name_for : (a b : Word) (ws : List Word) → false ≡ is_name (a ∷ b ∷ ws)
-no_name_for (named w) b ws = refl
-no_name_for a b ws = refl
-
-pub no_text : (ws : List code.Word) → 2 ≤ length ws → false ≡ is_text (words_in ws)
-no_text [] h = refl
-no_text (a ∷ []) h = absurd (omega arith)
-no_text (a ∷ b ∷ ws) h = no_text_for (word_of a) (word_of b) (words_in ws)
-
-pub no_name : (ws : List code.Word) → 2 ≤ length ws → false ≡ is_name (words_in ws)
-no_name [] h = refl
-no_name (a ∷ []) h = absurd (omega arith)
-no_name (a ∷ b ∷ ws) h = no_name_for (word_of a) (word_of b) (words_in ws)
-
-pub some_words : (ws : List code.Word) → 1 ≤ length ws → true ≡ is_some (words_in ws)
+pub some_words : (ws : List code.Word) → 1 ≤ length ws → true ≡ has_words (words_in ws)
 some_words [] h = absurd (omega arith)
 some_words (a ∷ ws) h = refl
+
+-- a word that is read of some words
+pub is_mapped : {A B : Type 0} (f : A → B) (o : Option A) → is_some o ≡ is_some (option_map f o)
+is_mapped f None = refl
+is_mapped f (Some x) = refl

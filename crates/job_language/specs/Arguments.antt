@@ -3,7 +3,7 @@ use Rattle.std.specs.Prelude.{◌≡◌, ℕ, suc, ◌+◌, ℤ, Bool, true, fal
 use Rattle.stream_tokens.specs.declared.token.Token.{Token}
 use Rattle.stream_tokens.specs.declared.token.TokenKind.TheVariants.{Bad}
 use Rattle.stream_tokens.specs.CutTexts.{TokenizedText, between}
-use Rattle.lambda_expr.specs.Words.{Word, named, quoted}
+use Rattle.lambda_expr.specs.Words.{Word}
 use Rattle.lambda_values.specs.Lambda.{AbstractLambda, long, boolean, stream as inner_stream, pair}
 use Rattle.lambda_expr.specs.Refusals.{Judged, IsRefused}
 use Rattle.lambda_values.specs.References.{names_of}
@@ -24,7 +24,7 @@ use Rattle.job_language.specs.declared.operation.Param.TheVariants as param
 use Rattle.job_language.specs.declared.terminal.Gives.{Gives}
 use Rattle.job_language.specs.declared.terminal.Gives.TheVariants as gives
 use Rattle.job_language.specs.Rows.{Argument, nothing, column, job, number, test, stream, operator, exact}
-use Rattle.job_language.specs.Table.{param_of}
+use Rattle.job_language.specs.Table.{name_in, param_of, string_in}
 use Rattle.job_language.specs.Calls.{Call}
 use Rattle.job_language.specs.Causes.{Scope, given, first_cause, inside_quotes}
 use Rattle.job_language.specs.Operators.{is_add_exact, spelled_op}
@@ -67,10 +67,6 @@ abbrev pub column_answer : Option (List ℤ) → Result Argument Cause
 column_answer None = Err cause.UnknownColumn
 column_answer (Some cells) = Ok (column cells)
 
-abbrev pub string_in : List Word → Option (List ℕ)
-string_in (quoted w ∷ []) = Some w
-string_in ws = None
-
 abbrev pub text_answer : Scope → Option (List ℕ) → Result Argument Cause
 text_answer scope (Some w) = column_answer (cells_named (inside_quotes w) scope.columns)
 text_answer scope None = Ok nothing
@@ -80,10 +76,6 @@ abbrev pub result_answer : List ℕ → Option Gives → Result Argument Cause
 result_answer w None = Err cause.UnknownJob
 result_answer w (Some gives.Array) = Ok (job w)
 result_answer w (Some g) = Err cause.NotAnArray
-
-abbrev pub name_in : List Word → Option (List ℕ)
-name_in (named w ∷ []) = Some w
-name_in ws = None
 
 abbrev pub name_answer : Scope → Option (List ℕ) → Result Argument Cause
 name_answer scope (Some w) = result_answer w (given scope.jobs w)

@@ -2,6 +2,7 @@
 use Rattle.std.specs.Prelude.{ℕ, suc, ℤ, pos, int_lt, Bool, true, false, ◌||◌, ◌&&◌, nat_eq, nat_lt, nat_le, if◌then◌else◌, List, [], ◌∷◌, ◌++◌, length, take, drop, ◌-◌, Option, Some, None}
 use Rattle.std.specs.Option.{is_none, is_some}
 use Rattle.std.specs.Cmp.Lexicographic.{pointwise}
+use Rattle.lambda_expr.specs.NumberWords.{number_read}
 use Rattle.lambda_expr.specs.Words.{Word}
 use Rattle.lambda_expr.specs.declared.fault.ReadFault.TheVariants.{LiteralTooLarge}
 use Rattle.columns.specs.Table.{NamedColumn}
@@ -18,7 +19,6 @@ use Rattle.job_language.specs.declared.fault.Cause.TheVariants as cause
 use Rattle.job_language.specs.Table.{param_of, params_of}
 use Rattle.job_language.specs.Calls.{Call}
 use Rattle.job_language.specs.Grammar.{Job, plain_sources}
-use Rattle.job_language.specs.Numbers.{number_read}
 
 -- an earlier job: its name, and what its terminal gives
 pub record Earlier : Type 0 where

@@ -6,7 +6,6 @@ pub mod Splitting
 pub mod Grammar
 pub mod Reading
 pub mod Shapes
-pub mod Numbers
 pub mod FaultCauses
 pub mod Causes
 pub mod Scopes

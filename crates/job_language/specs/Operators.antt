@@ -1,13 +1,12 @@
 -- Meaning: the operators of `prefix` and `reduce`, by how they are written.
-use Rattle.std.specs.Prelude.{ℕ, Bool, true, false, ◌&&◌, nat_eq, if◌then◌else◌, List, [], ◌∷◌, codes, Option, Some, None}
-use Rattle.std.specs.Cmp.Lexicographic.{pointwise}
+use Rattle.std.specs.Prelude.{ℕ, Bool, true, false, ◌&&◌, if◌then◌else◌, List, [], ◌∷◌, codes, Option, Some, None, option_map}
+use Rattle.std.specs.Option.{option_map_or, option_or}
 use Rattle.stream_tokens.specs.declared.symbol.Symbol.TheVariants as symbol
+use Rattle.lambda_expr.specs.Members.{is_named}
 use Rattle.lambda_expr.specs.Words.{Word, named, sign}
 use Rattle.reduce_ops.specs.declared.op.Op.{Op}
 use Rattle.reduce_ops.specs.declared.op.Op.TheVariants as op
-
-abbrev pub is_text : List ℕ → List ℕ → Bool
-is_text w name = pointwise nat_eq w name
+use Rattle.job_language.specs.Table.{name_in}
 
 -- the name of an operator
 abbrev pub op_name : Op → List ℕ
@@ -29,7 +28,7 @@ ops = op.Sum ∷ op.Product ∷ op.Min ∷ op.Max ∷ op.And ∷ op.Or ∷ op.Xo
 -- the first of these operators with this name
 abbrev pub op_among : List Op → List ℕ → Option Op
 op_among [] w = None
-op_among (f ∷ fs) w = if is_text w (op_name f) then Some f else op_among fs w
+op_among (f ∷ fs) w = if is_named w (op_name f) then Some f else op_among fs w
 
 -- the operator with this name
 abbrev pub op_named : List ℕ → Option Op
@@ -54,17 +53,19 @@ only_if p (Some f) = if p f then Some f else None
 -- the operator that is the method `OWNER::NAME`
 abbrev pub op_method : List ℕ → List ℕ → Option Op
 op_method owner name =
-    if is_text owner (codes "Long") then only_if in_long (op_named name)
-    else (if is_text owner (codes "Math") then only_if in_math (op_named name)
+    if is_named owner (codes "Long") then only_if in_long (op_named name)
+    else (if is_named owner (codes "Math") then only_if in_math (op_named name)
     else None)
+
+-- the owner and the name of a method `OWNER::NAME`
+abbrev pub method_in : List Word → Option (List ℕ × List ℕ)
+method_in (named o ∷ sign symbol.DoubleColon ∷ named w ∷ []) = Some (o, w)
+method_in ws = None
 
 -- the operator that words name, if they are a name or a method
 abbrev pub spelled_op : List Word → Option (Option Op)
-spelled_op (named w ∷ []) = Some (op_named w)
-spelled_op (named o ∷ sign symbol.DoubleColon ∷ named w ∷ []) = Some (op_method o w)
-spelled_op ws = None
+spelled_op ws = option_or (option_map op_named (name_in ws)) (option_map (λ m. op_method m.0 m.1) (method_in ws))
 
 -- whether words are `Math::addExact`
 abbrev pub is_add_exact : List Word → Bool
-is_add_exact (named o ∷ sign symbol.DoubleColon ∷ named w ∷ []) = is_text o (codes "Math") && is_text w (codes "addExact")
-is_add_exact ws = false
+is_add_exact ws = option_map_or (λ m. is_named m.0 (codes "Math") && is_named m.1 (codes "addExact")) (method_in ws) false

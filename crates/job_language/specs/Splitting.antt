@@ -1,28 +1,12 @@
 -- Condition: a call taken apart, word by word, after its opening parenthesis.
 use Rattle.std.specs.Prelude.{◌≡◌, ℕ, suc, ◌+◌, Bool, true, ◌&&◌, List, [], ◌∷◌, ◌++◌, length, Option, Some, None, slice_range, take, ◌≤◌, ◌<◌}
 use Rattle.stream_tokens.specs.declared.symbol.Symbol.TheVariants as symbol
-use Rattle.lambda_expr.specs.Words.{Word, named, sign, bad}
-use Rattle.lambda_expr.specs.Words as words
+use Rattle.lambda_expr.specs.Words.{Word, sign}
 use Rattle.job_language.specs.declared.operation.Operation.{Operation}
 use Rattle.job_language.specs.declared.word.Bracket.{Bracket}
 use Rattle.job_language.specs.declared.word.Bracket.TheVariants as bracket
-use Rattle.job_language.specs.declared.word.Word as code
-use Rattle.job_language.specs.declared.word.Word.TheVariants as code_word
 use Rattle.job_language.specs.Table.{param_of, fits}
 use Rattle.job_language.specs.Calls.{Call, IsCall, bracket_of, nest, parts_words}
-
--- the word that a word of the program means
-abbrev pub word_of : code.Word → Word
-word_of (code_word.Name w) = named w.now
-word_of (code_word.Number w) = words.numeral w.now
-word_of (code_word.Text w) = words.quoted w.now
-word_of (code_word.Reference w) = words.referred w.now
-word_of (code_word.Sign s) = sign s
-word_of code_word.Bad = bad
-
-abbrev pub words_in : List code.Word → List Word
-words_in [] = []
-words_in (w ∷ ws) = word_of w ∷ words_in ws
 
 pub data State : Type 0 where
   inside : List (List Word) → List Word → ℕ → State

@@ -1,9 +1,9 @@
 -- Meaning: the operations of jobs, one row each: where it stands, what a call of it takes between its parentheses, and
 -- what it builds.
-use Rattle.std.specs.Prelude.{ℕ, ◌+◌, ℤ, Bool, true, false, ◌==◌, ◌||◌, ◌&&◌, nat_eq, nat_lt, List, [], ◌∷◌, codes, if◌then◌else◌, Option, Some, None, Result}
+use Rattle.std.specs.Prelude.{ℕ, ◌+◌, ℤ, Bool, true, false, ◌==◌, ◌||◌, nat_eq, nat_lt, List, [], ◌∷◌, codes, if◌then◌else◌, Option, Some, None, is_some, Result}
 use Rattle.std.specs.Cmp.Lexicographic.{pointwise}
-use Rattle.stream_tokens.specs.declared.symbol.Symbol.TheVariants as symbol
-use Rattle.lambda_expr.specs.Words.{Word, named, numeral, quoted, sign}
+use Rattle.lambda_expr.specs.NumberWords.{is_number}
+use Rattle.lambda_expr.specs.Words.{Word, named, quoted}
 use Rattle.trace.specs.Stages.{map, filter, flat_map}
 use Rattle.slice_ops.specs.Slices.{limit, skip, take_while, drop_while}
 use Rattle.find_ops.specs.Finds as find
@@ -138,53 +138,25 @@ param_at params.Sources n i = param.Number
 abbrev pub param_of : Operation → ℕ → ℕ → Param
 param_of o n i = param_at (params_of o) n i
 
--- the words of a number: digits, a minus, and the constants of `Long`
-abbrev pub is_digits : Word → Bool
-is_digits (numeral w) = true
-is_digits w = false
+-- the bytes of a string, and of a name
+abbrev pub string_in : List Word → Option (List ℕ)
+string_in (quoted w ∷ []) = Some w
+string_in ws = None
 
-abbrev pub is_minus : Word → Bool
-is_minus (sign symbol.Minus) = true
-is_minus w = false
+abbrev pub name_in : List Word → Option (List ℕ)
+name_in (named w ∷ []) = Some w
+name_in ws = None
 
-abbrev pub is_dot : Word → Bool
-is_dot (sign symbol.Dot) = true
-is_dot w = false
-
-abbrev pub is_owner : Word → Bool
-is_owner (named w) = pointwise nat_eq w (codes "Long")
-is_owner w = false
-
-abbrev pub is_limit : Word → Bool
-is_limit (named w) = pointwise nat_eq w (codes "MAX_VALUE") || pointwise nat_eq w (codes "MIN_VALUE")
-is_limit w = false
-
--- a number: digits, a minus and digits, `Long.MAX_VALUE` or `Long.MIN_VALUE`
-abbrev pub is_number : List Word → Bool
-is_number (w ∷ []) = is_digits w
-is_number (m ∷ w ∷ []) = is_minus m && is_digits w
-is_number (o ∷ d ∷ w ∷ []) = is_owner o && is_dot d && is_limit w
-is_number ws = false
-
--- a string
-abbrev pub is_text : List Word → Bool
-is_text (quoted w ∷ []) = true
-is_text ws = false
-
-abbrev pub is_name : List Word → Bool
-is_name (named w ∷ []) = true
-is_name ws = false
-
-abbrev pub is_some : List Word → Bool
-is_some [] = false
-is_some (w ∷ ws) = true
+abbrev pub has_words : List Word → Bool
+has_words [] = false
+has_words (w ∷ ws) = true
 
 -- whether words may stand as a part; what a lambda or an operator is, its own reader says
 abbrev pub fits : Param → List Word → Bool
 fits param.Number ws = is_number ws
-fits param.Text ws = is_text ws
-fits param.Name ws = is_name ws
-fits param.Long ws = is_some ws
-fits param.Bool ws = is_some ws
-fits param.Stream ws = is_some ws
-fits param.Operator ws = is_some ws
+fits param.Text ws = is_some (string_in ws)
+fits param.Name ws = is_some (name_in ws)
+fits param.Long ws = has_words ws
+fits param.Bool ws = has_words ws
+fits param.Stream ws = has_words ws
+fits param.Operator ws = has_words ws

@@ -1,13 +1,15 @@
 //! Calls: an operation, and the parts between its parentheses.
-ghost use Rattle.std.specs.Prelude.{◌≡◌, ◌≤◌, ◌<◌, ◌↔◌, IsTrue, ℕ, List, length, IfOk, MatchOption};
+ghost use Rattle.std.specs.Prelude.{◌≡◌, ◌<◌, List, length, IfOk, MatchOption};
 ghost use Rattle.lambda_expr.specs.Words.{Word as meant};
 ghost use Rattle.job_language.specs.declared.operation.Operation.{Operation as operation};
 ghost use Rattle.job_language.specs.Calls.{Call as call};
-ghost use Rattle.job_language.specs.Splitting.{words_in, reads, start, pieces, fits_from, IsSplit, IsReadAs, IsNoCallOf, AreEnds, IsOpen, Completes};
+ghost use Rattle.lambda_expr.specs.CodeWords.{words_in};
+ghost use Rattle.job_language.specs.Splitting.{reads, start, pieces, fits_from, IsSplit, IsReadAs, IsNoCallOf, AreEnds, IsOpen, Completes};
 
 use crate::operation::Operation;
 use crate::params::{allows, param_of};
-use crate::word::{Bracket, Word, bracket_at, fits, nest, part};
+use crate::word::{Bracket, bracket_at, fits, nest, part};
+use lambda_expr::Word;
 use std::alloc::{AllocError, Global};
 
 /// The places where the parts of a call end, in the words after its opening parenthesis; the last ends

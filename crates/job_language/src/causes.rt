@@ -1,6 +1,7 @@
 //! What the parts of a job are refused for, and where they stand.
 ghost use Rattle.std.specs.Prelude.{◌≡◌, ◌<◌, length, get_or, []};
-ghost use Rattle.job_language.specs.Splitting.{words_in, AreEnds};
+ghost use Rattle.lambda_expr.specs.CodeWords.{words_in};
+ghost use Rattle.job_language.specs.Splitting.{AreEnds};
 ghost use Rattle.job_language.specs.Shapes.{StandsIn, call_in, start_before};
 ghost use Rattle.job_language.specs.Causes.{first_cause, when, name_causes, inside_quotes};
 ghost use Rattle.job_language.specs.Scopes.{scope_of};
@@ -8,7 +9,8 @@ ghost use Rattle.job_language.specs.Scopes.{scope_of};
 use crate::fault::Cause;
 use crate::piece::WrittenCall;
 use crate::scope::{Scope, given};
-use crate::word::{Word, after, part};
+use crate::word::{after, part};
+use lambda_expr::Word;
 
 /// How many bytes a name may have.
 const MAX_NAME: usize = 64;

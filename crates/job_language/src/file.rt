@@ -1,45 +1,29 @@
 //! Whole files of jobs.
-ghost use Rattle.std.specs.Prelude.{◌≡◌, ◌≢◌, ◌≤◌, All, Ok, Err, IfOk, IfErr, OnOk, length, map};
+ghost use Rattle.std.specs.Prelude.{◌≡◌, ◌≢◌, All, Ok, Err, IfOk, IfErr, OnOk};
 ghost use Rattle.stream_tokens.specs.Forms.{IsName};
 ghost use Rattle.stream_tokens.specs.JobTexts.{job_texts_of};
 ghost use Rattle.stream_tokens.specs.TextsLeft.{HasText};
 ghost use Rattle.job_language.specs.Files.{IsNext, IsRefused, SpellsJobs};
 ghost use Rattle.job_language.specs.FileSteps.{IsNextJob, IsNextFault};
 ghost use Rattle.job_language.specs.Jobs.{job_of, jobs_of, names_of};
-ghost use Rattle.job_language.specs.Scopes as scopes;
-ghost use Rattle.job_language.specs.Verdicts.{earlier_of};
 
 use crate::fault::{Cause, JobFault};
 use crate::job::Job;
 use crate::read::read_job;
-use crate::scope::{EarlierJob, Scope};
+use crate::scope::Scope;
 use columns::Columns;
-use std::alloc::{AllocError, Global};
+use std::alloc::Global;
 use stream_tokens::{JobText, JobTexts, version_of};
 
 /// How many jobs a file may have.
 const MAX_JOBS: usize = 256;
-
-/// What jobs are to a job below them.
-fn earlier_jobs<'s>(alloc: Global, jobs: &'s [Job]) -> Result<Vec<EarlierJob<'s>>, AllocError>
-    ensures { IfOk result (λ earlier. scopes.jobs_of earlier.items ≡ map earlier_of (jobs_of jobs.now)) }
-{
-    let mut earlier = Vec::with_capacity(alloc, jobs.len())?;
-    for job in jobs {
-        earlier.push(EarlierJob {
-            name: job.name.as_slice(),
-            gives: job.terminal.gives(),
-        })?;
-    }
-    Ok(earlier)
-}
 
 /// The job of a text of this version below these jobs, or its cause. Of the 257th nothing is read.
 fn read_below<'c>(
     alloc: Global,
     version: u8,
     columns: &'c Columns,
-    jobs: &[Job],
+    jobs: &[Job<'c>],
     text: &[u8],
 ) -> Result<Job<'c>, Cause>
     ensures ok { IfOk result
@@ -51,10 +35,9 @@ fn read_below<'c>(
     if jobs.len() >= MAX_JOBS {
         return Err(Cause::TooLong);
     }
-    let earlier = earlier_jobs(alloc, jobs)?;
     let scope = Scope {
         version,
-        jobs: earlier.as_slice(),
+        jobs,
         columns,
     };
     read_job(alloc, scope, text)

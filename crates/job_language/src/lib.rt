@@ -28,7 +28,6 @@ mod file;
 mod job;
 mod laws;
 mod mode;
-mod number;
 mod numbers;
 mod operation;
 mod operator;
@@ -56,7 +55,6 @@ pub use operation::{Operation, Param, Params, Role, name_of, one_operation, oper
 pub use params::{allows, param_of, params_of, role_of};
 pub use piece::WrittenCall;
 pub use read::read_job;
-pub use scope::{EarlierJob, Scope};
+pub use scope::Scope;
 pub use shape::{ParsedJob, one_job, parse_job};
 pub use terminal::{Gives, Terminal};
-pub use word::Word;

@@ -1,19 +1,18 @@
 //! The numbers of a call, and what they are refused for.
-ghost use Rattle.std.specs.Prelude.{◌≡◌, ◌≢◌, ◌∷◌, ◌++◌, [], length, IfErr, IfOk, None, Some};
+ghost use Rattle.std.specs.Prelude.{◌≡◌, ◌≢◌, ◌++◌, length, IfErr, IfOk, None, Some};
 ghost use Rattle.job_language.specs.declared.fault.Cause.TheVariants.{NoMemory};
 ghost use Rattle.job_language.specs.Table.{params_of};
-ghost use Rattle.job_language.specs.Splitting.{words_in};
+ghost use Rattle.lambda_expr.specs.CodeWords.{words_in};
+ghost use Rattle.lambda_expr.specs.NumberWords.{number_read};
 ghost use Rattle.job_language.specs.Shapes.{StandsIn, call_in};
 ghost use Rattle.job_language.specs.Causes.{first_cause, when, count_of, number_cause, number_causes, number_in, numbers_of, values_cause, early_causes};
 
 use crate::causes::{part_of, when};
 use crate::fault::Cause;
-use crate::number::number_in;
 use crate::operation::{Param, Params};
 use crate::params::{param_of, params_of};
 use crate::piece::WrittenCall;
-use crate::word::Word;
-use lambda_expr::ReadFault;
+use lambda_expr::{ReadFault, Word, number_in};
 use std::alloc::Global;
 
 /// How many values `of` may have.
@@ -29,6 +28,13 @@ fn count_cause(call: &WrittenCall) -> Option<Cause>
     }
 }
 
+/// The value of the number that words are; `None` if it is outside 64 bits, or they are no number.
+fn number_read(words: &[Word]) -> Option<i64>
+    ensures { result ≡ number_read (words_in words.now) }
+{
+    number_in(words).flatten()
+}
+
 /// Puts the number that a part is, if the row says so, after the others.
 fn add_number(numbers: &mut Vec<i64>, param: Param, words: &[Word]) -> Result<(), Cause>
     ensures ok { IfOk result (λ _. (number_cause param (words_in words.now) ≡ None)
@@ -39,7 +45,7 @@ fn add_number(numbers: &mut Vec<i64>, param: Param, words: &[Word]) -> Result<()
     if param != Param::Number {
         return Ok(());
     }
-    match number_in(words) {
+    match number_read(words) {
         Some(number) => {
             numbers.push(number)?;
             Ok(())

@@ -1,9 +1,10 @@
 //! The operators of `prefix` and `reduce`: the table of how they are written.
-ghost use Rattle.std.specs.Prelude.{◌≡◌, ◌∷◌, []};
-ghost use Rattle.job_language.specs.Operators.{op_name, op_named, op_method, in_math, in_long, is_add_exact, spelled_op};
-ghost use Rattle.job_language.specs.Splitting.{word_of, words_in};
+ghost use Rattle.std.specs.Prelude.{◌≡◌, ◌∷◌, [], option_map};
+ghost use Rattle.job_language.specs.Operators.{op_name, op_named, op_method, in_math, in_long, is_add_exact, method_in, spelled_op};
+ghost use Rattle.lambda_expr.specs.CodeWords.{word_of, words_in};
 
-use crate::word::Word;
+use crate::word::name_in;
+use lambda_expr::Word;
 use reduce_ops::Op;
 use stream_tokens::Symbol;
 
@@ -78,27 +79,32 @@ fn op_method(owner: &[u8], name: &[u8]) -> Option<Op>
     }
 }
 
-fn named_op(name: Word) -> Option<Option<Op>>
-    ensures { result ≡ spelled_op (word_of name.entry ∷ []) }
-{
-    match name {
-        Word::Name(name) => Some(op_named(name)),
-        _ => None,
-    }
-}
-
-fn method_op(owner: Word, colons: Word, name: Word) -> Option<Option<Op>>
-    ensures { result
-        ≡ spelled_op (word_of owner.entry ∷ word_of colons.entry ∷ word_of name.entry ∷ []) }
+fn method_of<'a>(
+    owner: Word<'a>,
+    colons: Word<'a>,
+    name: Word<'a>,
+) -> Option<(&'a [u8], &'a [u8])>
+    ensures { option_map (λ m. (m.0.now, m.1.now)) result
+        ≡ method_in (word_of owner.entry ∷ word_of colons.entry ∷ word_of name.entry ∷ []) }
 {
     match owner {
         Word::Name(owner) => match colons {
             Word::Sign(Symbol::DoubleColon) => match name {
-                Word::Name(name) => Some(op_method(owner, name)),
+                Word::Name(name) => Some((owner, name)),
                 _ => None,
             },
             _ => None,
         },
+        _ => None,
+    }
+}
+
+/// The owner and the name of a method `OWNER::NAME`.
+fn method_in<'a>(words: &[Word<'a>]) -> Option<(&'a [u8], &'a [u8])>
+    ensures { option_map (λ m. (m.0.now, m.1.now)) result ≡ method_in (words_in words.now) }
+{
+    match words {
+        [owner, colons, name] => method_of(*owner, *colons, *name),
         _ => None,
     }
 }
@@ -108,26 +114,12 @@ fn method_op(owner: Word, colons: Word, name: Word) -> Option<Option<Op>>
 pub fn spelled_op(words: &[Word]) -> Option<Option<Op>>
     ensures { result ≡ spelled_op (words_in words.now) }
 {
-    match words {
-        [name] => named_op(*name),
-        [owner, colons, name] => method_op(*owner, *colons, *name),
-        _ => None,
-    }
-}
-
-fn is_method_add_exact(owner: Word, colons: Word, name: Word) -> bool
-    ensures { result
-        ≡ is_add_exact (word_of owner.entry ∷ word_of colons.entry ∷ word_of name.entry ∷ []) }
-{
-    match owner {
-        Word::Name(owner) => match colons {
-            Word::Sign(Symbol::DoubleColon) => match name {
-                Word::Name(name) => owner == b"Math".as_slice() && name == b"addExact".as_slice(),
-                _ => false,
-            },
-            _ => false,
+    match name_in(words) {
+        Some(name) => Some(op_named(name)),
+        None => match method_in(words) {
+            Some((owner, name)) => Some(op_method(owner, name)),
+            None => None,
         },
-        _ => false,
     }
 }
 
@@ -135,8 +127,8 @@ fn is_method_add_exact(owner: Word, colons: Word, name: Word) -> bool
 pub fn is_add_exact(words: &[Word]) -> bool
     ensures { result ≡ is_add_exact (words_in words.now) }
 {
-    match words {
-        [owner, colons, name] => is_method_add_exact(*owner, *colons, *name),
-        _ => false,
+    match method_in(words) {
+        Some((owner, name)) => owner == b"Math".as_slice() && name == b"addExact".as_slice(),
+        None => false,
     }
 }

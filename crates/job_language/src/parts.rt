@@ -1,7 +1,7 @@
 //! The parts of a job, one call after the other.
 ghost use Rattle.std.specs.Prelude.{◌≡◌, ◌≤◌, IfOk, Ok, length, option_map};
 ghost use Rattle.lambda_expr.specs.Words.{words_of};
-ghost use Rattle.job_language.specs.Splitting.{words_in};
+ghost use Rattle.lambda_expr.specs.CodeWords.{words_in};
 ghost use Rattle.job_language.specs.Table.{role_of};
 ghost use Rattle.job_language.specs.Shapes.{StandsIn, StandIn, placed_in, all_placed};
 ghost use Rattle.job_language.specs.Scopes.{scope_of};
@@ -20,7 +20,7 @@ use crate::piece::WrittenCall;
 use crate::row::{CallPart, built};
 use crate::scope::Scope;
 use crate::terminal::{Gives, Terminal};
-use crate::word::Word;
+use lambda_expr::Word;
 use std::alloc::{AllocError, Global};
 use stream_tokens::{Bytes, CutText};
 

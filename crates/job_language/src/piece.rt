@@ -2,13 +2,14 @@
 ghost use Rattle.std.specs.Prelude.{◌≡◌, ◌≤◌, ◌<◌, ◌+◌, ◌∷◌, List, IfOk, MatchOption, Some, None, length, get_or, drop};
 ghost use Rattle.lambda_expr.specs.Words.{Word as meant, named, sign, bad};
 ghost use Rattle.job_language.specs.Table.{name_of};
-ghost use Rattle.job_language.specs.Splitting.{word_of, words_in};
+ghost use Rattle.lambda_expr.specs.CodeWords.{word_of, words_in};
 ghost use Rattle.job_language.specs.Shapes.{mark_of_symbol, width, is_open, operation_in, IsNoPiece, IsPieceRead, IsMarkOf};
 
 use crate::call::read_call;
 use crate::operation::{Operation, Role, operation_of};
 use crate::params::role_of;
-use crate::word::{Word, after};
+use crate::word::after;
+use lambda_expr::Word;
 use std::alloc::{AllocError, Global};
 use stream_tokens::Symbol;
 

@@ -1,9 +1,9 @@
 //! One job, read from its text.
-ghost use Rattle.std.specs.Prelude.{◌≡◌, ◌≢◌, ◌+◌, ◌<◌, ◌≤◌, ◌∷◌, ◌++◌, ◌&&◌, [], List, IfErr, IfOk, Ok, Err, length, nat_lt};
+ghost use Rattle.std.specs.Prelude.{◌≡◌, ◌≢◌, ◌+◌, ◌<◌, ◌≤◌, ◌&&◌, [], List, IfErr, IfOk, Ok, Err, length, nat_lt};
 ghost use Rattle.stream_tokens.specs.Tokens.{AreTokensOf};
 ghost use Rattle.lambda_expr.specs.Words.{Word as meant, words_of};
 ghost use Rattle.job_language.specs.declared.fault.Cause.TheVariants.{NoMemory};
-ghost use Rattle.job_language.specs.Splitting.{words_in};
+ghost use Rattle.lambda_expr.specs.CodeWords.{words_in};
 ghost use Rattle.job_language.specs.Grammar.{Job as meant_job, IsJob};
 ghost use Rattle.job_language.specs.Shapes.{StandIn, calls_in, all_placed, AreCallsIn, one_if_source, sources_in, is_fallback, ends_in_fallback, first_name};
 ghost use Rattle.job_language.specs.Causes.{when};
@@ -21,7 +21,7 @@ use crate::parts::read_parts;
 use crate::piece::WrittenCall;
 use crate::scope::Scope;
 use crate::shape::parse_job;
-use crate::word::Word;
+use lambda_expr::Word;
 use std::alloc::Global;
 use stream_tokens::{CutText, cut};
 

@@ -2,7 +2,7 @@
 ghost use Rattle.std.specs.Prelude.{◌≡◌, ℕ, ◌<◌, ◌++◌, ◌∷◌, List, [], IfOk, MatchOption, length};
 ghost use Rattle.lambda_expr.specs.Words.{Word as meant, words_of};
 ghost use Rattle.job_language.specs.declared.piece.Mark.{Mark as meant_mark};
-ghost use Rattle.job_language.specs.Splitting.{words_in};
+ghost use Rattle.lambda_expr.specs.CodeWords.{words_in};
 ghost use Rattle.job_language.specs.Verdicts.{placed};
 ghost use Rattle.job_language.specs.Grammar.{Job as job, IsSpelled, IsNoJob};
 ghost use Rattle.job_language.specs.Shapes.{begins_job, all_placed, OpensAfter, piece_from, is_last, IsNotSpelled, AreCallsOf, AreCallsIn, IsReading, Advances, StandIn, MayStandIn};
@@ -10,7 +10,7 @@ ghost use Rattle.job_language.specs.Shapes.{begins_job, all_placed, OpensAfter, 
 use crate::mode::{Mode, moved};
 use crate::piece::{ReadPiece, WrittenCall, piece_at};
 use crate::sound::sound_words;
-use crate::word::Word;
+use lambda_expr::Word;
 use std::alloc::{AllocError, Global};
 use stream_tokens::{CutText, Symbol};
 

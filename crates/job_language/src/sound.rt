@@ -2,13 +2,12 @@
 ghost use Rattle.std.specs.Prelude.{◌≡◌, ◌<◌, IfOk, MatchOption, length, get_or, true, false};
 ghost use Rattle.std.specs.List.{list_all};
 ghost use Rattle.lambda_expr.specs.Words.{words_of, bad};
-ghost use Rattle.job_language.specs.Splitting.{word_of, words_in};
+ghost use Rattle.lambda_expr.specs.CodeWords.{word_of, words_in};
 ghost use Rattle.job_language.specs.Grammar.{is_sound};
 
-use crate::word::Word;
-use lambda_expr::may_stand;
+use lambda_expr::{Word, may_stand, word_for};
 use std::alloc::{AllocError, Global};
-use stream_tokens::{CutText, Symbol, TokenKind};
+use stream_tokens::{CutText, Symbol};
 
 /// Whether a word may stand in a grammar.
 fn is_sound(word: Word) -> bool
@@ -28,15 +27,7 @@ fn word_at<'a>(text: &CutText<'a>, place: usize) -> Word<'a>
     requires { place < length text.now.tokens }
     ensures { word_of result ≡ get_or (words_of text.now.bytes text.now.tokens) place bad }
 {
-    let bytes = text.word(place);
-    match text.kind(place) {
-        TokenKind::Name => Word::Name(bytes),
-        TokenKind::Number => Word::Number(bytes),
-        TokenKind::String => Word::Text(bytes),
-        TokenKind::Reference => Word::Reference(bytes),
-        TokenKind::Symbol(symbol) => Word::Sign(symbol),
-        TokenKind::Bad => Word::Bad,
-    }
+    word_for(text.kind(place), text.word(place))
 }
 
 /// The words of a text, or `None` if one of them stands in no grammar: a bad byte, `++`, `--`, or a
@@ -49,7 +40,7 @@ pub fn sound_words<'a>(
         IfOk result (λ found. MatchOption found (list_all is_sound ws ≡ false)
         (λ words. (words_in words.items ≡ ws) × (list_all is_sound ws ≡ true))) }
 {
-    let mut words = Vec::new(alloc);
+    let mut words = Vec::with_capacity(alloc, text.len())?;
     for place in 0..text.len() {
         let word = word_at(text, place);
         if !is_sound(word) {

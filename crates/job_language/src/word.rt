@@ -1,24 +1,14 @@
 //! The words of a job: what its tokens are to the grammar.
-ghost use Rattle.std.specs.Prelude.{◌≡◌, ◌≤◌, ◌<◌, ◌+◌, ℕ, length, get_or, drop, slice_range, IfSome, IfOk, IfSome, MatchOption, option_map, ◌∷◌, [], true, false, ◌&&◌};
+ghost use Rattle.std.specs.Prelude.{◌≡◌, ◌≤◌, ◌<◌, ◌+◌, length, get_or, drop, slice_range, IfSome, IfSome, is_some, option_map, ◌∷◌, []};
+ghost use Rattle.lambda_expr.specs.NumberWords.{is_number};
 ghost use Rattle.lambda_expr.specs.Words.{bad};
-ghost use Rattle.job_language.specs.Table.{fits, is_digits, is_minus, is_dot, is_owner, is_limit, is_number, is_text, is_name, is_some};
-ghost use Rattle.job_language.specs.Arguments.{string_in, name_in};
+ghost use Rattle.job_language.specs.Table.{fits, has_words, name_in, string_in};
 ghost use Rattle.job_language.specs.Calls.{bracket_of, nest};
-ghost use Rattle.job_language.specs.Splitting.{word_of, words_in};
+ghost use Rattle.lambda_expr.specs.CodeWords.{word_of, words_in};
 
 use crate::operation::Param;
+use lambda_expr::{Word, number_in};
 use stream_tokens::Symbol;
-
-/// A token with its bytes, or its symbol.
-#[derive(Clone, Copy)]
-pub enum Word<'a> {
-    Name(&'a [u8]),
-    Number(&'a [u8]),
-    Text(&'a [u8]),
-    Reference(&'a [u8]),
-    Sign(Symbol),
-    Bad,
-}
 
 /// What a word is to the nesting of parentheses.
 #[derive(Clone, Copy, PartialEq, Eq)]
@@ -81,85 +71,26 @@ pub fn part<'a, 'b>(words: &'b [Word<'a>], from: usize, to: usize) -> &'b [Word<
     &words[from..to]
 }
 
-fn is_digits(word: Word) -> bool
-    ensures { result ≡ is_digits (word_of word.entry) }
-{
-    matches!(word, Word::Number(_))
-}
-
-fn is_minus(word: Word) -> bool
-    ensures { result ≡ is_minus (word_of word.entry) }
-{
-    matches!(word, Word::Sign(Symbol::Minus))
-}
-
-fn is_dot(word: Word) -> bool
-    ensures { result ≡ is_dot (word_of word.entry) }
-{
-    matches!(word, Word::Sign(Symbol::Dot))
-}
-
-fn is_owner(word: Word) -> bool
-    ensures { result ≡ is_owner (word_of word.entry) }
-{
-    match word {
-        Word::Name(name) => name == b"Long".as_slice(),
-        _ => false,
-    }
-}
-
-fn is_limit(word: Word) -> bool
-    ensures { result ≡ is_limit (word_of word.entry) }
-{
-    match word {
-        Word::Name(name) => name == b"MAX_VALUE".as_slice() || name == b"MIN_VALUE".as_slice(),
-        _ => false,
-    }
-}
-
-fn is_negative(minus: Word, digits: Word) -> bool
-    ensures { result ≡ is_minus (word_of minus.entry) && is_digits (word_of digits.entry) }
-{
-    is_minus(minus) && is_digits(digits)
-}
-
-fn is_constant(owner: Word, dot: Word, limit: Word) -> bool
-    ensures { result ≡ is_owner (word_of owner.entry) && is_dot (word_of dot.entry) && is_limit (word_of limit.entry) }
-{
-    is_owner(owner) && is_dot(dot) && is_limit(limit)
-}
-
 fn is_number(words: &[Word]) -> bool
     ensures { result ≡ is_number (words_in words.now) }
 {
-    match words {
-        [digits] => is_digits(*digits),
-        [minus, digits] => is_negative(*minus, *digits),
-        [owner, dot, limit] => is_constant(*owner, *dot, *limit),
-        _ => false,
-    }
+    number_in(words).is_some()
 }
 
 fn is_text(words: &[Word]) -> bool
-    ensures { result ≡ is_text (words_in words.now) }
+    ensures { result ≡ is_some (string_in (words_in words.now)) }
 {
-    match words {
-        [word] => matches!(word, Word::Text(_)),
-        _ => false,
-    }
+    string_in(words).is_some()
 }
 
 fn is_name(words: &[Word]) -> bool
-    ensures { result ≡ is_name (words_in words.now) }
+    ensures { result ≡ is_some (name_in (words_in words.now)) }
 {
-    match words {
-        [word] => matches!(word, Word::Name(_)),
-        _ => false,
-    }
+    name_in(words).is_some()
 }
 
-fn is_some(words: &[Word]) -> bool
-    ensures { result ≡ is_some (words_in words.now) }
+fn has_words(words: &[Word]) -> bool
+    ensures { result ≡ has_words (words_in words.now) }
 {
     match words {
         [] => false,
@@ -175,7 +106,7 @@ pub fn fits(param: Param, words: &[Word]) -> bool
         Param::Number => is_number(words),
         Param::Text => is_text(words),
         Param::Name => is_name(words),
-        Param::Long | Param::Bool | Param::Stream | Param::Operator => is_some(words),
+        Param::Long | Param::Bool | Param::Stream | Param::Operator => has_words(words),
     }
 }
 

@@ -1,5 +1,5 @@
 -- Any words are a body, or stop at a place; bodies from their fronts.
-use Rattle.std.proofs.Common.{◌≡◌, ◌⊎◌, inl, inr, ℕ, ◌+◌, ◌≤◌, List, drop, length, Result, Ok, Err, refl, sym, ap, subst, ◌∙◌, arith}
+use Rattle.std.proofs.Common.{◌≡◌, ◌⊎◌, inl, inr, ℕ, ◌+◌, List, drop, Result, Ok, Err, refl, sym, ap, subst, ◌∙◌, arith}
 use Rattle.lambda_expr.specs.declared.want.Want.{Want}
 use Rattle.lambda_expr.specs.declared.want.Want.TheVariants as want
 use Rattle.lambda_expr.specs.declared.lexeme.Lexeme.{Lexeme}
@@ -55,19 +55,6 @@ rest_stops ws (Ok p) o q f is s =
 -- the words stop in the operands
 pub stops_in_operands : (ws : List Lexeme) (o : Opened) (q : ℕ) → stream_at ws ≡ Ok o → StopsAt (Operands o.source) (drop o.count ws) q → StopsAt (ABody want.Stream) ws (o.count + q)
 stops_in_operands ws o q is s = rest_stops ws (stream_at ws) o q (stream_found ws) is s
-
-count_by : (ws : List Lexeme) (r : Result Opened ℕ) (o : Opened) → IsFound AStream 0 ws r → r ≡ Ok o → o.count ≤ length ws
-count_by ws (Err k) o f is = absurd cc
-count_by ws (Ok p) o f is =
-    let same : p ≡ o = cc in
-    let size = f.1 in
-    let low = f.2 in
-    let fits : p.count ≤ length ws = omega arith in
-    subst (λ (o : Opened). o.count ≤ length ws) same fits
-
--- the front is a part of the words
-pub front_fits : (ws : List Lexeme) (o : Opened) → stream_at ws ≡ Ok o → o.count ≤ length ws
-front_fits ws o is = count_by ws (stream_at ws) o (stream_found ws) is
 
 -- ---- each body
 

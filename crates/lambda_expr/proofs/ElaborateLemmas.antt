@@ -9,7 +9,7 @@ use Rattle.lambda_expr.specs.Grammar.{Shape, name, number, truth, reference, con
 use Rattle.lambda_expr.specs.Lexemes.{Names}
 use Rattle.lambda_expr.specs.Stacks.{below, stacked}
 use Rattle.lambda_expr.specs.Typing.{Typed, typed, untyped}
-use Rattle.lambda_expr.proofs.StackLemmas.{none_left, popped_rest, popped_top}
+use Rattle.lambda_expr.proofs.StackLemmas.{popped_rest, popped_top}
 
 pub operands_of_append : (os : List TypedOperand) (o : TypedOperand) → operands_of (os ++ o ∷ []) ≡ operands_of os ++ typed_of o ∷ []
 operands_of_append [] o = refl
@@ -19,11 +19,6 @@ pub popped : (old new : List TypedOperand) (o : TypedOperand) (ts : List Typed) 
 popped old new o ts is h =
     let flat : operands_of new ++ typed_of o ∷ [] ≡ stacked ts = sym (operands_of_append new o) ∙ ap operands_of (sym is) ∙ h in
     (popped_top untyped (typed_of o) (operands_of new) ts flat, popped_rest (typed_of o) (operands_of new) ts flat)
-
-pub popped_none : (old : List TypedOperand) (ts : List Typed) → old ≡ [] → operands_of old ≡ stacked ts → (untyped ≡ top_typed ts) × ([] ≡ stacked (below ts))
-popped_none old ts is h =
-    let empty : ts ≡ [] = none_left ts (ap operands_of (sym is) ∙ h) in
-    (ap top_typed (sym empty), ap (λ ts. stacked (below ts)) (sym empty))
 
 pub typed_append : (h : Names) (ts : List Typed) (ss : List ParseStep) (s : ParseStep) → typed_steps h ts (ss ++ s ∷ []) ≡ typed_step h s (typed_steps h ts ss)
 typed_append h ts [] s = refl

@@ -81,10 +81,6 @@ read_whole s ws at k front vs v f p past is count le =
     let all : Takes s (suc (length g.1)) = subst (Takes s) (omega arith) x.count in
     (g.0 ∷ g.1, record { count = all; bound = x.bound; spelled = x.spelled }, steps_on vs v front f.posted.0 past f.posted.2 ∙ ap each_postfix (sym g.2))
 
--- where the words stop after a front
-pub stops_past : (s : StreamSource) (ws : List Lexeme) (at k : ℕ) (front : List Shape) → IsPast s ws at front → StopsAt (Next s (length front)) (drop at ws) k → StopsAt (Next s 0) ws (at + k)
-stops_past s ws at k front p h = p.stops k h
-
 pub past_other : (s : StreamSource) (ws : List Lexeme) (at k : ℕ) (front : List Shape) (steps : List ParseStep) → IsFront (drop at ws) steps k → IsPast s ws at front → (get_or ws (at + k) word.Open ≡ word.Sign sign.Comma → ⊥) → (get_or ws (at + k) word.Open ≡ word.Close → ⊥) → StopsAt (Next s 0) ws (at + k)
 past_other s ws at k front steps f p a b = p.stops k (stops_other s (length front) (drop at ws) k p.more f.within f.stops (λ e. a (sym (get_or-drop at ws k word.Open) ∙ e)) (λ e. b (sym (get_or-drop at ws k word.Open) ∙ e)))
 

@@ -41,18 +41,6 @@ reduces n (pending.Left s) ps vs x h = left_reduces (nat_lt (level s) n) n (pend
 reduces n pending.Question ps vs x h = absurd cc
 reduces n pending.Colon ps vs x h = left_reduces (nat_lt 1 n) n pending.Colon ps vs x step.Ternary (λ b. record { same = rw b refl; code = simp append_assoc }) h
 
-stays_if : {A : Type 0} (b : Bool) (x y : A) (s : ParseStep) → (if b then None else Some s) ≡ None → (if b then x else y) ≡ x
-stays_if true x y s h = refl
-stays_if false x y s h = absurd cc
-
--- what is no step stays
-pub stays_put : (n : ℕ) (p : Pending) (ps : List Pending) (vs : List Shape) (e : Shape) → reduced n p ≡ None → joined n (frames_of (p ∷ ps) vs) e ≡ record { frames = frames_of (p ∷ ps) vs; shape = e }
-stays_put n (pending.Opened o) ps vs e h = refl
-stays_put n (pending.Signed s) ps vs e h = absurd cc
-stays_put n (pending.Left s) ps vs e h = stays_if (nat_lt (level s) n) _ _ (step.Binary s) h
-stays_put n pending.Question ps vs e h = refl
-stays_put n pending.Colon ps vs e h = stays_if (nat_lt 1 n) _ _ step.Ternary h
-
 -- the code is where its steps lead
 at_run : (ps : List Pending) (ss : List ParseStep) (h : Held) (vs : List Shape) (s : State) → run [] ss ≡ vs → state_on ps vs h ≡ s → code_of s ≡ ss → IsAt ps ss h s
 at_run ps ss h vs s r e code =

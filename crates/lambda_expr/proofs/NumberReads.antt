@@ -1,31 +1,25 @@
--- Words too many for a number.
-use Rattle.std.proofs.Common.{◌≡◌, ◌≤◌, false, List, [], ◌∷◌, length, None, refl, arith}
-use Rattle.stream_tokens.specs.declared.symbol.Symbol.TheVariants as symbol
-use Rattle.lambda_expr.specs.Words.{Word, named, numeral, sign}
+-- What is read of the words of a number.
+use Rattle.std.proofs.Common.{◌≡◌, ℤ, ◌≤◌, List, [], ◌∷◌, length, Option, Some, None, refl, sym, ap, ◌∙◌, arith}
+use Rattle.std.specs.Prelude.{is_some, option_map, option_and_then}
+use Rattle.std.specs.Option.{option_flatten}
 use Rattle.lambda_expr.specs.declared.word.Word as code
-use Rattle.lambda_expr.specs.CodeWords.{word_of, words_in}
-use Rattle.lambda_expr.specs.NumberWords.{is_number, number_read}
+use Rattle.lambda_expr.specs.CodeWords.{words_in}
+use Rattle.lambda_expr.specs.NumberWords.{in_64_bits, number_value}
 
-many_for : (a b c d : Word) (ws : List Word) → None ≡ number_read (a ∷ b ∷ c ∷ d ∷ ws)
-many_for (numeral w) b (named v) d ws = refl
-many_for (numeral w) b c d ws = refl
-many_for (sign symbol.Minus) (numeral w) (named v) d ws = refl
-many_for (sign symbol.Minus) (numeral w) c d ws = refl
-many_for (sign symbol.Minus) b (named v) d ws = refl
-many_for (sign symbol.Minus) b c d ws = refl
-many_for a b (named v) d ws = refl
-many_for a b c d ws = refl
-
-pub too_many : (ws : List code.Word) → 4 ≤ length ws → None ≡ number_read (words_in ws)
+-- words too many for a number
+pub too_many : (ws : List code.Word) → 4 ≤ length ws → None ≡ number_value (words_in ws)
 too_many [] h = refl
 too_many (a ∷ []) h = absurd (omega arith)
 too_many (a ∷ b ∷ []) h = absurd (omega arith)
 too_many (a ∷ b ∷ c ∷ []) h = absurd (omega arith)
-too_many (a ∷ b ∷ c ∷ d ∷ ws) h = many_for (word_of a) (word_of b) (word_of c) (word_of d) (words_in ws)
+too_many (a ∷ b ∷ c ∷ d ∷ ws) h = refl
 
-pub no_number : (ws : List code.Word) → 4 ≤ length ws → false ≡ is_number (words_in ws)
-no_number [] h = refl
-no_number (a ∷ []) h = absurd (omega arith)
-no_number (a ∷ b ∷ []) h = absurd (omega arith)
-no_number (a ∷ b ∷ c ∷ []) h = absurd (omega arith)
-no_number (a ∷ b ∷ c ∷ d ∷ ws) h = refl
+-- whether something is read, and its value if that has 64 bits
+pub by_read : (x : Option ℤ) (r : Option (Option ℤ)) → r ≡ option_map in_64_bits x → (is_some r ≡ is_some x) × (option_flatten r ≡ option_and_then in_64_bits x)
+by_read None r e = (ap is_some e, ap option_flatten e)
+by_read (Some z) r e = (ap is_some e, ap option_flatten e)
+
+-- nothing is read of words that are no number
+pub none_read : (x : Option ℤ) (r : Option (Option ℤ)) → r ≡ option_map in_64_bits x → r ≡ None → None ≡ x
+none_read None r e n = refl
+none_read (Some z) r e n = let f : ◌≡◌ {A = Option (Option ℤ)} (Some (in_64_bits z)) None = sym e ∙ n in absurd cc

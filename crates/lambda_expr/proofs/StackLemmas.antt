@@ -26,8 +26,3 @@ popped_top d x xs (t ∷ ts) h = snoc_last xs (stacked ts) x t h
 pub popped_rest : {A : Type 0} (x : A) (xs ts : List A) → xs ++ x ∷ [] ≡ stacked ts → xs ≡ stacked (below ts)
 popped_rest x xs [] h = absurd (not_empty xs x h)
 popped_rest x xs (t ∷ ts) h = snoc_front xs (stacked ts) x t h
-
--- an empty stack
-pub none_left : {A : Type 0} (ts : List A) → [] ≡ stacked ts → ts ≡ []
-none_left [] h = refl
-none_left (t ∷ ts) h = absurd (not_empty (stacked ts) t (sym h))

@@ -1,13 +1,10 @@
 -- The values of numbers as they are read, digit by digit.
-use Rattle.std.proofs.Common.{◌≡◌, ℕ, ◌+◌, ◌-◌, ◌*◌, ◌^◌, ◌<◌, ◌≤◌, min, cond, true, false, List, [], ◌∷◌, length, drop, get_or, sym, ap, ◌∙◌, arith, pos, w64}
-use Rattle.std.proofs.Math.Nat.{mod-eq_of_lt}
+use Rattle.std.proofs.Common.{◌≡◌, ℕ, ◌+◌, ◌-◌, ◌*◌, ◌<◌, min, cond, true, List, [], ◌∷◌, length, drop, get_or, sym, ap, ◌∙◌, arith}
 use Rattle.std.specs.Prelude.{take_while}
 use Rattle.std.specs.Char.{is_ascii_digit}
-use Rattle.std.specs.Int.{int_wrap, cast_signed}
-use Rattle.std.proofs.lemmas.List.{drop_more, drop_all}
+use Rattle.std.proofs.lemmas.List.{drop_more}
 use Rattle.std.proofs.lemmas.List.Sums.{take_while-cons}
 use Rattle.lambda_expr.specs.Numerals.{read_on}
-use Rattle.lambda_values.specs.Wrap.{wrap}
 
 -- the digits on, from a number that was cut at m
 pub read_on-min : (m n : ℕ) (ds : List ℕ) → min (read_on (min n m) ds) m ≡ min (read_on n ds) m
@@ -24,21 +21,3 @@ digits_more m n new xs i lt digit is =
     let rest = take_while is_ascii_digit (drop (i + 1) xs) in
     let front : take_while is_ascii_digit (drop i xs) ≡ get_or xs i 0 ∷ rest = ap (take_while is_ascii_digit) (drop_more xs i 0 lt) ∙ take_while-cons is_ascii_digit (get_or xs i 0) (drop (i + 1) xs) ∙ ap (λ t. cond t (get_or xs i 0 ∷ rest) []) digit in
     ap (λ k. min (read_on k rest) m) is ∙ read_on-min m (10 * n + (get_or xs i 0 - 48)) rest ∙ ap (λ ds. min (read_on n ds) m) (sym front)
-
--- no digit more
-pub digits_end : (n : ℕ) (xs : List ℕ) (i : ℕ) → i < length xs → is_ascii_digit (get_or xs i 0) ≡ false → read_on n (take_while is_ascii_digit (drop i xs)) ≡ n
-digits_end n xs i lt other =
-    let rest = take_while is_ascii_digit (drop (i + 1) xs) in
-    let front : take_while is_ascii_digit (drop i xs) ≡ [] = ap (take_while is_ascii_digit) (drop_more xs i 0 lt) ∙ take_while-cons is_ascii_digit (get_or xs i 0) (drop (i + 1) xs) ∙ ap (λ t. cond t (get_or xs i 0 ∷ rest) []) other in
-    ap (read_on n) front
-
-pub digits_all : (n : ℕ) (xs : List ℕ) (i : ℕ) → length xs ≤ i → read_on n (take_while is_ascii_digit (drop i xs)) ≡ n
-digits_all n xs i h = ap (λ ys. read_on n (take_while is_ascii_digit ys)) (drop_all i xs h)
-
--- a number of at most 2^63, as 64 bits keep it
-pub wrap_of_value : (n : ℕ) → n ≤ 2 ^ 63 → cast_signed w64 (min n (2 ^ 64 - 1)) ≡ wrap (pos n)
-unfolding int_wrap
-wrap_of_value n h =
-    let below : n < 2 ^ 64 = omega arith in
-    let same : min n (2 ^ 64 - 1) ≡ n = omega arith in
-    ap (cast_signed w64) (same ∙ sym (mod-eq_of_lt below))

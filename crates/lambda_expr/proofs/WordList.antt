@@ -1,12 +1,12 @@
 -- The words of a list of tokens, place by place.
-use Rattle.std.proofs.Common.{◌≡◌, ℕ, zero, suc, ◌<◌, ◌≤◌, List, [], ◌∷◌, length, drop, get_or, refl, sym, ap, ◌∙◌, arith}
+use Rattle.std.proofs.Common.{◌≡◌, ℕ, zero, suc, ◌<◌, ◌≤◌, List, [], ◌∷◌, length, get_or, refl, sym, ap, ◌∙◌, arith}
 use Rattle.stream_tokens.specs.declared.token.Token.{Token}
 use Rattle.stream_tokens.specs.declared.token.TokenKind.{TokenKind}
 use Rattle.stream_tokens.specs.declared.token.TokenKind.TheVariants as kind
 use Rattle.stream_tokens.specs.declared.symbol.Symbol.{Symbol}
 use Rattle.stream_tokens.specs.Tokens.{token_text}
 use Rattle.lambda_expr.specs.Lexemes.{reference_name}
-use Rattle.lambda_expr.specs.Words.{named, numeral, sign, bad, word_of, words_of, word_for}
+use Rattle.lambda_expr.specs.Words.{named, bad, word_of, words_of, word_for}
 use Rattle.lambda_expr.specs.Refusals.{column}
 
 pub length-words_of : (text : List ℕ) (ts : List Token) → length (words_of text ts) ≡ length ts
@@ -17,11 +17,6 @@ pub get_or-words_of : (text : List ℕ) (ts : List Token) (i : ℕ) (d : Token) 
 get_or-words_of text [] i d h = absurd (omega arith)
 get_or-words_of text (t ∷ ts) zero d h = refl
 get_or-words_of text (t ∷ ts) (suc i) d h = let k : i < length ts = omega arith in get_or-words_of text ts i d k
-
-pub drop-words_of : (text : List ℕ) (n : ℕ) (ts : List Token) → words_of text (drop n ts) ≡ drop n (words_of text ts)
-drop-words_of text zero ts = refl
-drop-words_of text (suc n) [] = refl
-drop-words_of text (suc n) (t ∷ ts) = drop-words_of text n ts
 
 -- what the word of a token says of the token
 pub named_kind : (k : TokenKind) (bytes p : List ℕ) → word_for k bytes ≡ named p → k ≡ kind.Name
@@ -39,30 +34,6 @@ named_bytes kind.String bytes p h = cc
 named_bytes kind.Reference bytes p h = cc
 named_bytes (kind.Symbol s) bytes p h = cc
 named_bytes kind.Bad bytes p h = cc
-
-pub sign_kind : (k : TokenKind) (bytes : List ℕ) (s : Symbol) → word_for k bytes ≡ sign s → k ≡ kind.Symbol s
-sign_kind kind.Name bytes s h = cc
-sign_kind kind.Number bytes s h = cc
-sign_kind kind.String bytes s h = cc
-sign_kind kind.Reference bytes s h = cc
-sign_kind (kind.Symbol r) bytes s h = let same : r ≡ s = cc in ap kind.Symbol same
-sign_kind kind.Bad bytes s h = cc
-
-pub numeral_kind : (k : TokenKind) (bytes w : List ℕ) → word_for k bytes ≡ numeral w → k ≡ kind.Number
-numeral_kind kind.Name bytes w h = cc
-numeral_kind kind.Number bytes w h = refl
-numeral_kind kind.String bytes w h = cc
-numeral_kind kind.Reference bytes w h = cc
-numeral_kind (kind.Symbol s) bytes w h = cc
-numeral_kind kind.Bad bytes w h = cc
-
-pub numeral_bytes : (k : TokenKind) (bytes w : List ℕ) → word_for k bytes ≡ numeral w → bytes ≡ w
-numeral_bytes kind.Name bytes w h = cc
-numeral_bytes kind.Number bytes w h = cc
-numeral_bytes kind.String bytes w h = cc
-numeral_bytes kind.Reference bytes w h = cc
-numeral_bytes (kind.Symbol s) bytes w h = cc
-numeral_bytes kind.Bad bytes w h = cc
 
 -- the column of a token, and of the end
 pub column-at : (text : List ℕ) (ts : List Token) (i : ℕ) (d : Token) → i < length ts → column text ts i ≡ suc (get_or ts i d).from

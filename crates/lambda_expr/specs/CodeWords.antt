@@ -1,4 +1,4 @@
--- Condition: what the words of the program stand for.
+-- Condition: which words the words of the program mean.
 use Rattle.std.specs.Prelude.{List, [], ◌∷◌}
 use Rattle.lambda_expr.specs.Words.{Word, named, numeral, quoted, referred, sign, bad}
 use Rattle.lambda_expr.specs.declared.word.Word as code

@@ -11,7 +11,6 @@ pub mod Judging
 pub mod Lexemes
 pub mod Members
 pub mod NumberReading
-pub mod NumberValues
 pub mod NumberWords
 pub mod Numbers
 pub mod Numerals

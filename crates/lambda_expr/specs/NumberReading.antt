@@ -1,14 +1,16 @@
--- Condition: what the reader of numbers keeps.
-use Rattle.std.specs.Prelude.{ℕ, Bool, true, false, if◌then◌else◌, List}
+-- Condition: where the reader of numbers stops.
+use Rattle.std.specs.Prelude.{ℕ, Bool, false, is_some, if◌then◌else◌}
 use Rattle.lambda_expr.specs.Words.{Word}
-use Rattle.lambda_expr.specs.NumberValues.{Number, plain, negative}
-use Rattle.lambda_expr.specs.NumberWords.{is_digits, is_minus, is_dot, is_owner, is_limit}
+use Rattle.lambda_expr.specs.NumberWords.{digits_value, is_dot, is_minus, is_owner, limit_value}
 
-abbrev pub number_of : Bool → List ℕ → Number
-number_of true w = negative w
-number_of false w = plain w
+-- the words that end a number
+abbrev pub is_digits : Word → Bool
+is_digits w = is_some (digits_value false w)
 
--- helper: how many words of a constant stand there, if its first one does
+abbrev pub is_limit : Word → Bool
+is_limit w = is_some (limit_value w)
+
+-- how many words of a constant stand there, if its first one does
 abbrev pub front_of_constant : Word → Word → ℕ
 front_of_constant b c = if is_dot b then (if is_limit c then 3 else 2) else 1
 

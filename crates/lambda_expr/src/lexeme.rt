@@ -202,7 +202,7 @@ pub(crate) fn lexemes(alloc: Global, text: &CutText) -> Result<Vec<Lexeme>, Allo
 {
     let mut first = None;
     let mut second = None;
-    let mut lexemes = Vec::new(alloc);
+    let mut lexemes = Vec::with_capacity(alloc, text.len())?;
     for at in 0..text.len() {
         let (kind, bytes) = (text.kind(at), text.word(at));
         first = first_name(None, first, kind, bytes);

@@ -1,22 +1,21 @@
 //! Numbers as they are written, and the value of each.
 
 ghost use Rattle.lambda_expr.specs.CodeWords.{word_of, words_in};
-ghost use Rattle.lambda_expr.specs.NumberReading.{front, front_of_constant, number_of};
-ghost use Rattle.lambda_expr.specs.NumberValues.{in_64_bits, number_value};
-ghost use Rattle.lambda_expr.specs.NumberWords.{constant_value, is_number, number_read};
-ghost use Rattle.lambda_expr.specs.Numbers.{ANumber, IsNumberRefused, SpellsNumber};
+ghost use Rattle.lambda_expr.specs.NumberReading.{front, front_of_constant, is_digits, is_limit};
+ghost use Rattle.lambda_expr.specs.NumberWords.{digits_value, in_64_bits, limit_value, number_value, signed};
+ghost use Rattle.lambda_expr.specs.Numbers.{IsNumberRefused, SpellsNumber};
 ghost use Rattle.lambda_expr.specs.Numerals.{is_numeral, numeral_value};
 ghost use Rattle.lambda_expr.specs.Tokens.{StandIn};
 ghost use Rattle.lambda_expr.specs.Words.{bad, words_of};
 ghost use Rattle.std.specs.Int.{w64};
 ghost use Rattle.std.specs.Option.{SomeIff};
-ghost use Rattle.std.specs.Prelude.{◌≡◌, ◌∷◌, [], FitsSigned, IfErr, IfNone, IfOk, IfSome, false, get_or, length, min};
+ghost use Rattle.std.specs.Prelude.{◌≡◌, ◌∷◌, [], FitsSigned, IfErr, IfOk, get_or, length, min, option_map};
 ghost use Rattle.stream_tokens.specs.CutTexts.{column};
 ghost use Rattle.stream_tokens.specs.Tokens.{StandInOrder};
 
 use super::fault::ReadFault;
-use super::word::{Word, is_digits, is_dot, is_limit, is_minus, is_number, is_owner, word_for};
-use stream_tokens::{Symbol, Token};
+use super::word::{Word, is_dot, is_minus, is_owner, word_for};
+use stream_tokens::Token;
 
 /// Whether a number of these bytes may be in a grammar: two or more digits don't begin with 0, since a number like that
 /// is octal in JLS 17, 3.10.1. It takes no memory.
@@ -27,29 +26,6 @@ pub fn may_stand(number: &[u8]) -> bool
         [] => false,
         [b'0', second, ..] => !second.is_ascii_digit(),
         _ => true,
-    }
-}
-
-/// Digits, and whether a minus stands before them.
-#[derive(Clone, Copy)]
-pub struct Numeral<'a> {
-    pub is_negative: bool,
-    pub digits: &'a [u8],
-}
-
-impl Numeral<'_> {
-    /// The value, if it has 64 bits (JLS 17, 3.10.1). It takes no memory.
-    pub fn value(self) -> Option<i64>
-        ensures fits { let value = number_value (number_of self.entry.is_negative self.entry.digits.now) in
-            SomeIff result (FitsSigned w64 value) value }
-        ensures value { result ≡ in_64_bits (number_value (number_of self.entry.is_negative self.entry.digits.now)) }
-    {
-        let size = numeral_value(self.digits);
-        if self.is_negative {
-            0i64.checked_sub_unsigned(size)
-        } else {
-            0i64.checked_add_unsigned(size)
-        }
     }
 }
 
@@ -70,63 +46,97 @@ pub(crate) fn numeral_value(number: &[u8]) -> u64
     value
 }
 
-fn constant(name: &[u8]) -> i64
-    ensures { result ≡ constant_value name.now }
+/// The value of digits, after a minus or without one, if it has 64 bits.
+fn value_of(is_negative: bool, digits: &[u8]) -> Option<i64>
+    ensures fits { let value = signed is_negative (numeral_value digits.now) in
+        SomeIff result (FitsSigned w64 value) value }
+    ensures value { result ≡ in_64_bits (signed is_negative (numeral_value digits.now)) }
 {
-    if name == b"MAX_VALUE".as_slice() {
-        i64::MAX
+    let size = numeral_value(digits);
+    if is_negative {
+        0i64.checked_sub_unsigned(size)
     } else {
-        i64::MIN
+        0i64.checked_add_unsigned(size)
     }
 }
 
-fn digits_number(word: Word) -> Option<i64>
-    ensures { result ≡ number_read (word_of word.entry ∷ []) }
+/// The value of digits that may stand in a grammar, after a minus or without one.
+fn digits_value(is_negative: bool, word: Word) -> Option<Option<i64>>
+    ensures { result ≡ option_map in_64_bits (digits_value is_negative (word_of word.entry)) }
 {
     match word {
-        Word::Number(digits) => Numeral {
-            is_negative: false,
-            digits,
-        }
-        .value(),
-        _ => None,
-    }
-}
-
-fn minus_number(minus: Word, word: Word) -> Option<i64>
-    ensures { result ≡ number_read (word_of minus.entry ∷ word_of word.entry ∷ []) }
-{
-    match minus {
-        Word::Sign(Symbol::Minus) => match word {
-            Word::Number(digits) => Numeral {
-                is_negative: true,
-                digits,
+        Word::Number(digits) => {
+            if may_stand(digits) {
+                Some(value_of(is_negative, digits))
+            } else {
+                None
             }
-            .value(),
-            _ => None,
-        },
+        }
         _ => None,
     }
 }
 
-fn constant_number(owner: Word, dot: Word, word: Word) -> Option<i64>
-    ensures { result
-        ≡ number_read (word_of owner.entry ∷ word_of dot.entry ∷ word_of word.entry ∷ []) }
+/// The value of `MAX_VALUE` and of `MIN_VALUE`.
+fn limit_value(word: Word) -> Option<Option<i64>>
+    ensures { result ≡ option_map in_64_bits (limit_value (word_of word.entry)) }
 {
     match word {
-        Word::Name(name) => Some(constant(name)),
+        Word::Name(name) => {
+            if name == b"MAX_VALUE".as_slice() {
+                Some(Some(i64::MAX))
+            } else if name == b"MIN_VALUE".as_slice() {
+                Some(Some(i64::MIN))
+            } else {
+                None
+            }
+        }
         _ => None,
     }
 }
 
-/// The value of a number; `None` if it is outside 64 bits, or the words are no number. It takes no memory.
-pub(crate) fn number_in(words: &[Word]) -> Option<i64>
-    ensures { result ≡ number_read (words_in words.now) }
+fn is_digits(word: Word) -> bool
+    ensures { result ≡ is_digits (word_of word.entry) }
+{
+    digits_value(false, word).is_some()
+}
+
+fn is_limit(word: Word) -> bool
+    ensures { result ≡ is_limit (word_of word.entry) }
+{
+    limit_value(word).is_some()
+}
+
+fn negative(minus: Word, word: Word) -> Option<Option<i64>>
+    ensures { result
+        ≡ option_map in_64_bits (number_value (word_of minus.entry ∷ word_of word.entry ∷ [])) }
+{
+    if is_minus(minus) {
+        digits_value(true, word)
+    } else {
+        None
+    }
+}
+
+fn constant(owner: Word, dot: Word, word: Word) -> Option<Option<i64>>
+    ensures { result ≡ option_map in_64_bits
+        (number_value (word_of owner.entry ∷ word_of dot.entry ∷ word_of word.entry ∷ [])) }
+{
+    if is_owner(owner) && is_dot(dot) {
+        limit_value(word)
+    } else {
+        None
+    }
+}
+
+/// The number that words are, if they are one: digits, a minus and digits, `Long.MAX_VALUE` or `Long.MIN_VALUE`. The inner
+/// `None` is of a number outside 64 bits. It takes no memory.
+pub fn number_in(words: &[Word]) -> Option<Option<i64>>
+    ensures { result ≡ option_map in_64_bits (number_value (words_in words.now)) }
 {
     match words {
-        [digits] => digits_number(*digits),
-        [minus, digits] => minus_number(*minus, *digits),
-        [owner, dot, limit] => constant_number(*owner, *dot, *limit),
+        [digits] => digits_value(false, *digits),
+        [minus, digits] => negative(*minus, *digits),
+        [owner, dot, limit] => constant(*owner, *dot, *limit),
         _ => None,
     }
 }
@@ -182,32 +192,18 @@ fn front_of_constant(second: Word, third: Word) -> usize
     }
 }
 
-/// The number that words are, if they are one; it has no value outside 64 bits.
-fn number_of(words: &[Word]) -> Option<Option<i64>>
-    ensures some { IfSome result (λ value. ANumber (words_in words.now) × (value ≡ number_read (words_in words.now))) }
-    ensures none { IfNone result (is_number (words_in words.now) ≡ false) }
-{
-    if is_number(words) {
-        Some(number_in(words))
-    } else {
-        None
-    }
-}
-
 /// The number that tokens are, if they are one; it has no value outside 64 bits.
 fn whole_number(text: &[u8], tokens: &[Token]) -> Option<Option<i64>>
     requires { StandIn text.now tokens.now }
-    ensures some { let ws = words_of text.now tokens.now in
-        IfSome result (λ value. ANumber ws × (value ≡ number_read ws)) }
-    ensures none { IfNone result (is_number (words_of text.now tokens.now) ≡ false) }
+    ensures { result ≡ option_map in_64_bits (number_value (words_of text.now tokens.now)) }
 {
     let first = word_at(text, tokens, 0);
     let second = word_at(text, tokens, 1);
     let third = word_at(text, tokens, 2);
     match tokens.len() {
-        1 => number_of(&[first]),
-        2 => number_of(&[first, second]),
-        3 => number_of(&[first, second, third]),
+        1 => number_in(&[first]),
+        2 => number_in(&[first, second]),
+        3 => number_in(&[first, second, third]),
         _ => None,
     }
 }
@@ -230,7 +226,7 @@ fn stop(text: &[u8], tokens: &[Token]) -> usize
 /// `LiteralTooLarge` for a value outside 64 bits, `Syntax` for tokens that are no number. It takes no
 /// memory.
 ///
-/// For other programs: `streamrun` reads numbers by `Numeral`.
+/// For other programs: `streamrun` reads numbers by `number_in`.
 pub fn read_number(text: &[u8], tokens: &[Token]) -> Result<i64, ReadFault>
     requires { StandInOrder 0 tokens.now (length text.now) }
     ensures ok { IfOk result (λ number. SpellsNumber text.now tokens.now number) }

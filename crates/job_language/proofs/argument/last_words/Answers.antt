@@ -1,5 +1,5 @@
 use Rattle.std.proofs.Common.{◌≡◌, ◌+◌, ◌-◌, ◌<◌, [], length, drop, get_or, sym, ap, subst, ◌∙◌, rules}
-use Rattle.job_language.specs.Splitting.{words_in}
+use Rattle.lambda_expr.specs.CodeWords.{words_in}
 use Rattle.job_language.specs.Shapes.{call_in}
 use Rattle.job_language.proofs.CauseLemmas.{length_parts}
 use Rattle.job_language.proofs.LastParts.{last_at}

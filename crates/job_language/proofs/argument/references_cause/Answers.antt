@@ -1,5 +1,5 @@
 use Rattle.std.proofs.Common.{sym, ap, ◌∙◌}
-use Rattle.job_language.specs.Scopes.{scope_of, jobs_of}
+use Rattle.job_language.specs.Scopes.{scope_of}
 use Rattle.job_language.specs.Causes.{given}
 use Rattle.job_language.specs.Arguments.{reference_cause}
 use Rattle.job_language.proofs.ReferenceLemmas.{reference_here, reference_more, no_references}
@@ -7,7 +7,7 @@ use Rattle.job_language.proofs.argument.references_cause.Goals as goal
 
 pub returns-in-Some : goal.returns-in-Some
 returns-in-Some c =
-    let jobs = jobs_of c.args.scope.jobs.now in
+    let jobs = (scope_of c.args.scope).jobs in
     sym (c.loop-name.invariant ∙ reference_here (scope_of c.args.scope) c.args.names.now c.loop-name.name-index c.name-item.result c.in-Some.cause c.loop-name-test.true (
     ap (λ w. reference_cause (given jobs w)) (sym c.name-item.is)
     ∙ ap (λ w. reference_cause (given jobs w)) (sym c.as_slice.ensures)
@@ -17,7 +17,7 @@ returns-in-Some c =
 
 pub loop-name-preserved : goal.loop-name-preserved
 loop-name-preserved c =
-    let jobs = jobs_of c.args.scope.jobs.now in
+    let jobs = (scope_of c.args.scope).jobs in
     c.loop-name.invariant ∙ reference_more (scope_of c.args.scope) c.args.names.now c.loop-name.name-index c.name-item.result c.loop-name-test.true (
     ap (λ w. reference_cause (given jobs w)) (sym c.name-item.is)
     ∙ ap (λ w. reference_cause (given jobs w)) (sym c.as_slice.ensures)

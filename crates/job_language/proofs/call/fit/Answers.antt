@@ -1,5 +1,5 @@
 use Rattle.std.proofs.Common.{length, rules, arith, Fits, w64}
-use Rattle.job_language.specs.Splitting.{words_in}
+use Rattle.lambda_expr.specs.CodeWords.{words_in}
 use Rattle.job_language.proofs.WordLists.{length_words}
 use Rattle.job_language.proofs.Ends.{next_end}
 use Rattle.job_language.proofs.call.fit.Goals as goal

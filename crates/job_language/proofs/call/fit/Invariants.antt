@@ -1,4 +1,4 @@
-use Rattle.job_language.specs.Splitting.{words_in}
+use Rattle.lambda_expr.specs.CodeWords.{words_in}
 use Rattle.job_language.proofs.Ends.{IsFitting}
 use Rattle.job_language.proofs.call.fit.Given as goal
 

@@ -1,7 +1,8 @@
 use Rattle.std.proofs.Common.{◌≡◌, true, false, length, subst, rules}
 use Rattle.std.specs.Prelude.{MatchOption}
 use Rattle.job_language.specs.Table.{allows}
-use Rattle.job_language.specs.Splitting.{words_in, reads, start, pieces, fits_from, IsOpen, IsSplit}
+use Rattle.lambda_expr.specs.CodeWords.{words_in}
+use Rattle.job_language.specs.Splitting.{reads, start, pieces, fits_from, IsOpen, IsSplit}
 use Rattle.job_language.proofs.CallReads.{is_read, is_open, not_allowed, not_fit}
 use Rattle.job_language.proofs.call.read_call.Goals as goal
 

@@ -2,7 +2,7 @@ use Rattle.std.proofs.Common.{◌≡◌, ◌<◌, ◌≤◌, length, sym, ap, su
 use Rattle.std.proofs.lemmas.Grind.{common_steps}
 use Rattle.job_language.specs.declared.word.Bracket.TheVariants.{Close}
 use Rattle.job_language.specs.Calls.{nest}
-use Rattle.job_language.specs.Splitting.{words_in}
+use Rattle.lambda_expr.specs.CodeWords.{words_in}
 use Rattle.job_language.proofs.WordLists.{length_words}
 use Rattle.job_language.proofs.Ends.{goes_on, parts_on, closes, closes_first, ends_open}
 use Rattle.job_language.proofs.call.split.Goals as goal

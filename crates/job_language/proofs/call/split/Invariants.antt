@@ -1,4 +1,5 @@
-use Rattle.job_language.specs.Splitting.{words_in, IsAt}
+use Rattle.lambda_expr.specs.CodeWords.{words_in}
+use Rattle.job_language.specs.Splitting.{IsAt}
 use Rattle.job_language.proofs.call.split.Given as goal
 
 abbrev pub invariant-loop-at : goal.invariant-loop-at

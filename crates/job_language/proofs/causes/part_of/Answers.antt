@@ -1,6 +1,7 @@
 use Rattle.std.proofs.Common.{◌≡◌, ◌+◌, length, drop, get_or, sym, ap, subst, ◌∙◌, arith, rules, Fits, w64}
 use Rattle.std.specs.Prelude.{slice_range}
-use Rattle.job_language.specs.Splitting.{words_in, AreEnds}
+use Rattle.lambda_expr.specs.CodeWords.{words_in}
+use Rattle.job_language.specs.Splitting.{AreEnds}
 use Rattle.job_language.specs.Shapes.{start_before}
 use Rattle.job_language.proofs.WordLists.{length_words}
 use Rattle.job_language.proofs.CauseLemmas.{ends_at, piece_at}

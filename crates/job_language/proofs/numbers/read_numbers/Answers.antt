@@ -2,7 +2,7 @@ use Rattle.std.proofs.Common.{◌≡◌, ◌+◌, ◌++◌, ◌<◌, ◌≤◌, 
 use Rattle.std.proofs.lemmas.List.{drop_all}
 use Rattle.std.proofs.lemmas.Result.{err_from_is_err_and}
 use Rattle.job_language.specs.Table.{param_of}
-use Rattle.job_language.specs.Splitting.{words_in}
+use Rattle.lambda_expr.specs.CodeWords.{words_in}
 use Rattle.job_language.specs.Shapes.{call_in}
 use Rattle.job_language.specs.Causes.{first_cause, number_cause, number_causes, number_in, numbers_of}
 use Rattle.job_language.proofs.CauseLemmas.{length_parts, numbers_here, numbers_more}

@@ -1,5 +1,5 @@
 use Rattle.std.proofs.Common.{◌≡◌, ◌++◌, drop, length}
-use Rattle.job_language.specs.Splitting.{words_in}
+use Rattle.lambda_expr.specs.CodeWords.{words_in}
 use Rattle.job_language.specs.Shapes.{call_in}
 use Rattle.job_language.specs.Causes.{first_cause, number_causes, numbers_of}
 use Rattle.job_language.proofs.numbers.read_numbers.Given as goal

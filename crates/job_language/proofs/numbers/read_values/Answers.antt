@@ -1,7 +1,7 @@
 use Rattle.std.proofs.Common.{◌+◌, length, drop, sym, ap, ◌∙◌}
 use Rattle.std.proofs.lemmas.Result.{err_from_is_err_and}
 use Rattle.job_language.specs.Table.{params_of}
-use Rattle.job_language.specs.Splitting.{words_in}
+use Rattle.lambda_expr.specs.CodeWords.{words_in}
 use Rattle.job_language.specs.Shapes.{call_in}
 use Rattle.job_language.specs.Causes.{count_of, number_causes, numbers_of, values_cause}
 use Rattle.job_language.proofs.CauseLemmas.{length_parts, by_count, by_numbers, by_row}

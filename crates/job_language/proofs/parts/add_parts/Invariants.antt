@@ -1,7 +1,7 @@
 use Rattle.std.proofs.Common.{drop, Result}
 use Rattle.job_language.specs.declared.fault.Cause.{Cause}
 use Rattle.job_language.specs.Jobs.{AbstractJob}
-use Rattle.job_language.specs.Splitting.{words_in}
+use Rattle.lambda_expr.specs.CodeWords.{words_in}
 use Rattle.job_language.specs.Shapes.{all_placed}
 use Rattle.job_language.specs.Scopes.{scope_of}
 use Rattle.job_language.specs.Parts.{begun_of}

@@ -1,5 +1,5 @@
 use Rattle.std.proofs.lemmas.Result.{err_from_is_err_and}
-use Rattle.job_language.specs.Splitting.{words_in}
+use Rattle.lambda_expr.specs.CodeWords.{words_in}
 use Rattle.job_language.specs.Scopes.{scope_of}
 use Rattle.job_language.specs.Shapes.{placed_in}
 use Rattle.job_language.specs.Parts.{argument_in}

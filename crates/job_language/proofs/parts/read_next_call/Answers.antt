@@ -1,7 +1,7 @@
 use Rattle.std.proofs.Common.{◌≡◌, length, Ok, Err, sym, subst, ◌∙◌, arith}
 use Rattle.std.proofs.lemmas.Result.{err_from_is_err_and}
 use Rattle.job_language.specs.Table.{role_of}
-use Rattle.job_language.specs.Splitting.{words_in}
+use Rattle.lambda_expr.specs.CodeWords.{words_in}
 use Rattle.job_language.specs.Scopes.{scope_of}
 use Rattle.job_language.specs.Shapes.{placed_in}
 use Rattle.job_language.specs.Causes.{stage_cause}

@@ -3,7 +3,8 @@ use Rattle.std.specs.Prelude.{MatchOption}
 use Rattle.job_language.specs.declared.operation.Role.TheVariants as role
 use Rattle.job_language.specs.declared.piece.Mark.TheVariants as mark
 use Rattle.job_language.specs.Grammar.{call}
-use Rattle.job_language.specs.Splitting.{AreEnds, words_in, call_at, IsReadAs, IsNoCallOf}
+use Rattle.lambda_expr.specs.CodeWords.{words_in}
+use Rattle.job_language.specs.Splitting.{AreEnds, call_at, IsReadAs, IsNoCallOf}
 use Rattle.job_language.specs.Shapes.{width, Begins}
 use Rattle.job_language.proofs.WordLists.{length_words}
 use Rattle.job_language.proofs.PieceReads.{begins_call, begins_no_call, call_ends}

@@ -1,5 +1,5 @@
 use Rattle.std.proofs.Common.{ap, sym, ◌∙◌, arith}
-use Rattle.job_language.specs.Splitting.{words_in}
+use Rattle.lambda_expr.specs.CodeWords.{words_in}
 use Rattle.job_language.specs.Shapes.{is_open}
 use Rattle.job_language.proofs.WordLists.{word_at, length_words}
 use Rattle.job_language.proofs.PieceReads.{not_open_past}

@@ -1,6 +1,6 @@
 use Rattle.std.proofs.Common.{◌<◌, ◌+◌, get_or, sym, subst, ◌∙◌}
 use Rattle.lambda_expr.specs.Words.{bad}
-use Rattle.job_language.specs.Splitting.{words_in}
+use Rattle.lambda_expr.specs.CodeWords.{words_in}
 use Rattle.job_language.proofs.WordLists.{length_words}
 use Rattle.job_language.proofs.PieceReads.{open_within, names}
 use Rattle.job_language.proofs.piece.piece_at.Goals as goal

@@ -1,5 +1,5 @@
 use Rattle.std.proofs.Common.{◌<◌, ◌+◌, ◌∷◌, drop, ap, sym, subst, ◌∙◌}
-use Rattle.job_language.specs.Splitting.{words_in}
+use Rattle.lambda_expr.specs.CodeWords.{words_in}
 use Rattle.job_language.specs.Shapes.{operation_in, IsNoPiece, IsMarkOf}
 use Rattle.job_language.proofs.WordLists.{word_at, length_words}
 use Rattle.job_language.proofs.PieceReads.{front, begins_word}

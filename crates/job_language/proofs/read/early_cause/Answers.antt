@@ -1,5 +1,5 @@
 use Rattle.std.proofs.Common.{◌≡◌, None, ap, sym, ◌∙◌, arith}
-use Rattle.job_language.specs.Splitting.{words_in}
+use Rattle.lambda_expr.specs.CodeWords.{words_in}
 use Rattle.job_language.specs.Shapes.{calls_in, sources_in, first_name}
 use Rattle.job_language.specs.Causes.{first_cause, name_causes, version_cause}
 use Rattle.job_language.specs.Scopes.{scope_of}

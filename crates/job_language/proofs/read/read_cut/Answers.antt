@@ -3,7 +3,7 @@ use Rattle.std.specs.Prelude.{MatchOption}
 use Rattle.lambda_expr.specs.Words.{words_of}
 use Rattle.job_language.specs.declared.shape.ParsedJob.{ParsedJob}
 use Rattle.job_language.specs.declared.fault.Cause.TheVariants.{Syntax}
-use Rattle.job_language.specs.Splitting.{words_in}
+use Rattle.lambda_expr.specs.CodeWords.{words_in}
 use Rattle.job_language.specs.Scopes.{scope_of}
 use Rattle.job_language.specs.Shapes.{all_placed, AreCallsIn, StandIn}
 use Rattle.job_language.specs.Grammar.{IsNoJob, IsJob}

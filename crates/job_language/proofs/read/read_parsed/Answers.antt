@@ -1,5 +1,5 @@
 use Rattle.std.proofs.Common.{◌≡◌, Err, refl, sym, subst, ◌∙◌}
-use Rattle.job_language.specs.Splitting.{words_in}
+use Rattle.lambda_expr.specs.CodeWords.{words_in}
 use Rattle.job_language.specs.Scopes.{scope_of}
 use Rattle.job_language.specs.Shapes.{all_placed}
 use Rattle.job_language.specs.Parts.{causes_before}

@@ -1,5 +1,5 @@
 use Rattle.std.proofs.Common.{◌≡◌, ◌≤◌, true, length, sym, subst, ◌∙◌, rules}
-use Rattle.job_language.specs.Splitting.{words_in}
+use Rattle.lambda_expr.specs.CodeWords.{words_in}
 use Rattle.job_language.specs.Shapes.{begins_job}
 use Rattle.job_language.proofs.WordLists.{length_words}
 use Rattle.job_language.proofs.ShapeLemmas.{reads_all, no_end}

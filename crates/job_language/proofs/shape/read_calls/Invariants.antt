@@ -1,5 +1,5 @@
 use Rattle.std.proofs.Common.{◌-◌, length}
-use Rattle.job_language.specs.Splitting.{words_in}
+use Rattle.lambda_expr.specs.CodeWords.{words_in}
 use Rattle.job_language.specs.Shapes.{IsReading}
 use Rattle.job_language.proofs.shape.read_calls.Given as goal
 

@@ -1,6 +1,7 @@
-use Rattle.std.proofs.Common.{arith}
-use Rattle.job_language.proofs.WordLists.{no_name}
+use Rattle.std.proofs.Common.{ap, ◌∙◌}
+use Rattle.std.specs.Prelude.{is_some}
+use Rattle.job_language.proofs.WordLists.{is_mapped}
 use Rattle.job_language.proofs.word.is_name.Goals as goal
 
-pub returns-in_default-2 : goal.returns-in_default-2
-returns-in_default-2 c = let long = c.in_default.len_at_least in no_name c.args.words.now (omega arith)
+pub returns : goal.returns
+returns c = c.is_some.ensures ∙ is_mapped _ c.name_in.result ∙ ap is_some c.name_in.ensures

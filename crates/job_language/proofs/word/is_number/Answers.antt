@@ -1,6 +1,8 @@
-use Rattle.std.proofs.Common.{arith}
-use Rattle.job_language.proofs.WordLists.{no_number}
+use Rattle.std.proofs.Common.{◌∙◌}
+use Rattle.lambda_expr.specs.CodeWords.{words_in}
+use Rattle.lambda_expr.specs.NumberWords.{number_value}
+use Rattle.lambda_expr.proofs.NumberReads.{by_read}
 use Rattle.job_language.proofs.word.is_number.Goals as goal
 
-pub returns-in_default-2 : goal.returns-in_default-2
-returns-in_default-2 c = let long = c.in_default.len_at_least in no_number c.args.words.now (omega arith)
+pub returns : goal.returns
+returns c = c.is_some.ensures ∙ (by_read (number_value (words_in c.args.words.now)) c.number_in.result c.number_in.ensures).0

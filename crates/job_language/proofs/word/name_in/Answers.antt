@@ -1,5 +1,5 @@
 use Rattle.std.proofs.Common.{◌≡◌, length, ap, ◌∙◌, rules}
-use Rattle.job_language.specs.Arguments.{name_in}
+use Rattle.job_language.specs.Table.{name_in}
 use Rattle.job_language.proofs.CollectedPartLemmas.{no_name, one_word}
 use Rattle.job_language.proofs.word.name_in.Goals as goal
 

@@ -1,5 +1,5 @@
 use Rattle.std.proofs.Common.{◌≡◌, length, ap, ◌∙◌, rules}
-use Rattle.job_language.specs.Arguments.{string_in}
+use Rattle.job_language.specs.Table.{string_in}
 use Rattle.job_language.proofs.CollectedPartLemmas.{no_string, one_word}
 use Rattle.job_language.proofs.word.string_in.Goals as goal
 

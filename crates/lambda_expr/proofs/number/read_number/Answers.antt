@@ -1,8 +1,12 @@
-use Rattle.std.proofs.Common.{length, sym, subst}
+use Rattle.std.proofs.Common.{length, sym, subst, ap, ◌∙◌}
+use Rattle.std.specs.Prelude.{is_some}
+use Rattle.std.specs.Option.{option_flatten}
 use Rattle.stream_tokens.proofs.CutLemmas.{order_in_range}
 use Rattle.lambda_expr.specs.Numbers.{ANumber}
+use Rattle.lambda_expr.specs.NumberWords.{number_value}
 use Rattle.lambda_expr.specs.Stops.{StopsAt}
 use Rattle.lambda_expr.specs.Words.{words_of}
+use Rattle.lambda_expr.proofs.NumberReads.{by_read, none_read}
 use Rattle.lambda_expr.proofs.NumberStops.{stops_there}
 use Rattle.lambda_expr.proofs.number.read_number.Goals as goal
 
@@ -20,6 +24,11 @@ returns-in-None-clause-refused c =
     let ws = words_of c.args.text.now c.args.tokens.now in
     record {
       place = c.stop.result;
-      stops = subst (StopsAt ANumber ws) (sym c.stop.ensures) (stops_there ws c.in-None.ensures.none);
+      stops = subst (StopsAt ANumber ws) (sym c.stop.ensures) (stops_there ws (none_read (number_value ws) c.whole_number.result c.whole_number.ensures c.in-None.is));
       here = c.column_of.ensures;
     }
+
+pub returns-in-Some-clause-ok : goal.returns-in-Some-clause-ok
+returns-in-Some-clause-ok c =
+    let p = by_read (number_value (words_of c.args.text.now c.args.tokens.now)) c.whole_number.result c.whole_number.ensures in
+    record { number = sym p.0 ∙ ap is_some c.in-Some.is; value = sym p.1 ∙ ap option_flatten c.in-Some.is }

@@ -1,6 +1,6 @@
 use Rattle.std.proofs.Common.{◌≡◌, ◌<◌, drop, reverse, None, Some, ap, sym, subst, ◌∙◌}
 use Rattle.std.specs.Prelude.{MatchOption}
-use Rattle.job_language.specs.Splitting.{words_in}
+use Rattle.lambda_expr.specs.CodeWords.{words_in}
 use Rattle.job_language.specs.Reading.{moved}
 use Rattle.job_language.specs.Shapes.{IsNoPiece, IsPieceRead, piece_of}
 use Rattle.job_language.proofs.WordLists.{length_words}

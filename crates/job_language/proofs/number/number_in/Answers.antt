@@ -1,6 +1,0 @@
-use Rattle.std.proofs.Common.{arith}
-use Rattle.job_language.proofs.NumberReads.{too_many}
-use Rattle.job_language.proofs.number.number_in.Goals as goal
-
-pub returns-in_default-2 : goal.returns-in_default-2
-returns-in_default-2 c = let long = c.in_default.len_at_least in too_many c.args.words.now (omega arith)

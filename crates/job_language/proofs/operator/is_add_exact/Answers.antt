@@ -1,9 +1,0 @@
-use Rattle.std.proofs.Common.{arith}
-use Rattle.job_language.proofs.CollectedPartLemmas.{no_exact_few, no_exact_many}
-use Rattle.job_language.proofs.operator.is_add_exact.Goals as goal
-
-pub returns-in_default : goal.returns-in_default
-returns-in_default c = let short = c.in_default.len_below in no_exact_few c.args.words.now (omega arith)
-
-pub returns-in_default-2 : goal.returns-in_default-2
-returns-in_default-2 c = let long = c.in_default.len_at_least in no_exact_many c.args.words.now (omega arith)
