@@ -1,8 +1,8 @@
 //! Jobs cut into segments, and the parts of their walks.
 //!
 //! Stands on `job_meaning`, which says what the answer of a job is, on `job_language`, for jobs, on `trace` and
-//! `batch_eval`, for walks, and on `reduce_ops`, `slice_ops`, `find_ops` and `prefix_scan`, for what stages and
-//! terminals make of a walk. Used by whatever runs jobs.
+//! `batch_eval`, for walks, and on `reduce_ops`, `slice_ops`, `find_ops` and `prefix_walks`, for what stages and
+//! terminals keep of a walk. Used by whatever runs jobs.
 //! Begin with `specs/Plans.antt`. A job is cut into segments, and the earlier jobs that it names are found
 //! (`Plan::of`). `leaf` takes a piece of a segment's source to a `Part`, two parts side by side merge, and
 //! `Part::finish` gives the next source or the answer. `walk_tree` does all of this on one thread. `plan_laws.rt` says
