@@ -13,11 +13,11 @@ use Rattle.early_stop.specs.Leaving.{IsEnough}
 use Rattle.early_stop.proofs.Leaving.{enough_begun}
 use Rattle.job_plan.specs.declared.part.Part.{Part}
 use Rattle.job_plan.specs.Parts.{EndsFor, StandsFor, StandsEnough}
-use Rattle.job_plan.specs.Pieces.{piece_of}
+use Rattle.prefix_walks.specs.Pieces.{piece_of}
 use Rattle.job_plan.specs.Plans.{AbstractSegment, last_stage, walk_of}
-use Rattle.job_plan.specs.Spans.{IsNotAfter}
-use Rattle.job_plan.proofs.Elements.{length_dropped, take_of_none}
-use Rattle.job_plan.proofs.SideBySide.{pieces_joined}
+use Rattle.prefix_walks.specs.Spans.{IsNotAfter}
+use Rattle.prefix_walks.proofs.Elements.{length_dropped, take_of_none}
+use Rattle.prefix_walks.proofs.SideBySide.{pieces_joined}
 
 module _ (s : AbstractSegment) (env : Numbers) (p : Part) (decides : ℕ → Type 0) where
   -- all of it

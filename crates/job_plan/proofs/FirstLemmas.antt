@@ -24,8 +24,9 @@ use Rattle.job_plan.specs.Parts.{segment_in, segments_in}
 use Rattle.job_plan.specs.Plans.{AbstractEnd, slicing, folding, finding, AbstractSegment, ended, last_stage, on_outcome, segments_answer, walk_of}
 use Rattle.job_meaning.specs.Walks.{source_walk, values_of}
 use Rattle.job_plan.specs.Windows.{selects}
-use Rattle.job_plan.proofs.Elements.{drop_of_none}
-use Rattle.job_plan.proofs.MoveLemmas.{both, segments_more, test_there, value_there}
+use Rattle.prefix_walks.proofs.Elements.{drop_of_none}
+use Rattle.prefix_walks.proofs.FaultlessLemmas.{both, test_there, value_there}
+use Rattle.job_plan.proofs.MoveLemmas.{segments_more}
 
 one_value : (a : ℤ) (xs : List Item) → fold_from (value_of op.First) a xs ≡ a
 one_value a [] = refl

@@ -8,14 +8,14 @@ use Rattle.trace.specs.declared.item.End.TheVariants as end
 use Rattle.trace.specs.Stages.{AbstractStage, pipe, stages_of}
 use Rattle.trace.specs.Trace.{Trace, trace, nothing, append}
 use Rattle.job_plan.specs.declared.part.Part.TheVariants as part
-use Rattle.job_plan.specs.declared.ends.Prefix.{Prefix}
+use Rattle.prefix_walks.specs.declared.prefix.Prefix.{Prefix}
 use Rattle.job_plan.specs.declared.segment.Segment.{Segment}
 use Rattle.job_plan.specs.declared.ends.SegmentEnd.TheVariants as ends
-use Rattle.job_plan.specs.Maps.{ArePlain, imaged}
+use Rattle.prefix_walks.specs.Maps.{ArePlain, imaged}
 use Rattle.job_plan.specs.Parts.{EndsFor, StandsFor, end_in, segment_in}
-use Rattle.job_plan.specs.Pieces.{elements, piece_of}
-use Rattle.job_plan.specs.Scans.{AbstractScan, scan, scan_append}
-use Rattle.job_plan.proofs.MapLemmas.{maps_walk}
+use Rattle.prefix_walks.specs.Pieces.{elements, piece_of}
+use Rattle.prefix_walks.specs.Scans.{AbstractScan, scan, scan_append}
+use Rattle.prefix_walks.proofs.MapLemmas.{maps_walk}
 use Rattle.job_plan.proofs.PartLemmas.{length-stages_of}
 
 -- items after others

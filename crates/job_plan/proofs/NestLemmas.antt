@@ -18,11 +18,11 @@ use Rattle.job_plan.specs.declared.part.Part.{Part}
 use Rattle.job_plan.specs.Links.{AbstractLink, AllFit, Fits, each_link_in, link_in, link_walk, linked}
 use Rattle.job_plan.specs.Parts.{EndsFor, GoesOnFrom, HasTaken, StandsFor}
 use Rattle.job_plan.specs.Passages.{HasPassed}
-use Rattle.job_plan.specs.Pieces.{elements}
+use Rattle.prefix_walks.specs.Pieces.{elements}
 use Rattle.job_plan.specs.Plans.{AbstractEnd, AbstractSegment, ended, last_stage, outcome_of, walk_of}
 use Rattle.job_plan.proofs.FeedLemmas.{piece_in_two, stands_more, stands_fault, stands_enough}
 use Rattle.job_plan.proofs.LinkLemmas.{each_link_more, linked_last}
-use Rattle.job_plan.proofs.SideBySide.{whole_piece}
+use Rattle.prefix_walks.proofs.SideBySide.{whole_piece}
 use Rattle.job_plan.proofs.WalkLemmas.{taken_none}
 
 -- P holds of the walks that a value describes

@@ -25,7 +25,7 @@ use Rattle.find_ops.proofs.DecisionLemmas.{settled as find_settled}
 use Rattle.job_language.specs.Jobs.{AbstractTerminal, sum, count}
 use Rattle.job_plan.specs.Arrays.{AbstractArray, array, array_of, values_then, array_append}
 use Rattle.slice_ops.specs.Slices.{sliced}
-use Rattle.job_plan.specs.Scans.{AbstractScan, scan, scan_append}
+use Rattle.prefix_walks.specs.Scans.{AbstractScan, scan, scan_append}
 use Rattle.job_meaning.specs.declared.answer.Answer.{Answer}
 use Rattle.job_meaning.specs.declared.answer.Answer.TheVariants as answer
 use Rattle.job_plan.specs.declared.fold_part.FoldPart.{FoldPart}
@@ -35,8 +35,9 @@ use Rattle.job_plan.specs.declared.outcome.Outcome.TheVariants as outcome
 use Rattle.job_plan.specs.declared.segment.Segment.{Segment}
 use Rattle.job_plan.specs.declared.segment.JobPlan.{JobPlan}
 use Rattle.job_plan.specs.Parts.{IsFold, EndsFor, StandsEnough, StandsFor, is_running, is_settled, is_fault, may_search, segment_in, segments_in, plan_in, plans_in}
-use Rattle.job_plan.specs.Plans.{AbstractEnd, slicing, folding, finding, collecting, exactly, scanning, AbstractSegment, AbstractPlan, counted_as, end_of, ended, last_stage, on_outcome, outcome_of, walk_of}
-use Rattle.job_plan.specs.Pieces.{piece_of}
+use Rattle.prefix_walks.specs.Batches.{counted_as}
+use Rattle.job_plan.specs.Plans.{AbstractEnd, slicing, folding, finding, collecting, exactly, scanning, AbstractSegment, AbstractPlan, end_of, ended, last_stage, on_outcome, outcome_of, walk_of}
+use Rattle.prefix_walks.specs.Pieces.{piece_of}
 use Rattle.job_meaning.specs.Walks.{answer_of, exact_answer, found_answer, unless_fault}
 use Rattle.job_plan.proofs.SettleLemmas.{faults, find_settles, settles_on, slice_settles}
 

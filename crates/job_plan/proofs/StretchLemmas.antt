@@ -8,11 +8,11 @@ use Rattle.trace.specs.declared.feeding.Fed.TheVariants as fed
 use Rattle.trace.specs.Trace.{Trace, trace}
 use Rattle.batch_eval.specs.declared.pipeline.Pipeline.{Pipeline}
 use Rattle.batch_eval.specs.Pipelines.{piped}
-use Rattle.job_plan.specs.Pieces.{elements}
-use Rattle.job_plan.specs.Spans.{IsNotAfter}
+use Rattle.prefix_walks.specs.Pieces.{elements}
+use Rattle.prefix_walks.specs.Spans.{IsNotAfter}
 use Rattle.job_plan.specs.Stretches.{IsWalked}
-use Rattle.job_plan.proofs.Elements.{elements_join, take_none}
-use Rattle.job_plan.proofs.FeedLemmas.{fed_both, fed_stopped, fed_none}
+use Rattle.prefix_walks.proofs.Elements.{elements_join, take_none}
+use Rattle.prefix_walks.proofs.FeedLemmas.{fed_both, fed_stopped, fed_none}
 
 pub in_order : (end p : ℕ) (to : Option ℕ) → IfSome to (λ t. end ≡ t) → p ≤ end → IsNotAfter p to
 in_order end p None h l = tt

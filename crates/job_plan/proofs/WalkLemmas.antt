@@ -17,13 +17,13 @@ use Rattle.trace.specs.declared.feeding.Fed.TheVariants as fed
 use Rattle.trace.specs.Sinks.{IsFed}
 use Rattle.trace.specs.declared.sink.Flow.TheVariants as flow
 use Rattle.job_plan.specs.Parts.{EndsFor, HasTaken, StandsFor, flow_of, is_settled, may_search}
-use Rattle.job_plan.specs.Pieces.{elements, piece_of}
+use Rattle.prefix_walks.specs.Pieces.{elements, piece_of}
 use Rattle.job_plan.specs.Plans.{AbstractEnd, AbstractSegment, last_stage, on_outcome, outcome_of, segments_answer, walk_of}
-use Rattle.job_plan.specs.Spans.{IsNotAfter}
+use Rattle.prefix_walks.specs.Spans.{IsNotAfter}
 use Rattle.job_plan.proofs.FeedLemmas.{piece_in_two, stands_more, stands_fault, stands_enough}
 use Rattle.job_plan.proofs.LentLemmas.{grown}
 use Rattle.job_plan.proofs.PartLemmas.{settled}
-use Rattle.job_plan.proofs.SideBySide.{pieces_joined}
+use Rattle.prefix_walks.proofs.SideBySide.{pieces_joined}
 
 pub not_after : (m : ℕ) (to : Option ℕ) → IfSome to (λ last. m ≤ last) → IsNotAfter m to
 not_after m None h = tt

@@ -7,7 +7,7 @@ use Rattle.trace.specs.Stages.{AbstractStage, map, filter, flat_map}
 use Rattle.trace.specs.Trace.{Trace}
 use Rattle.find_ops.specs.Finds.{find_of}
 use Rattle.find_ops.specs.declared.terminal.FindTerminal.TheVariants as terminal
-use Rattle.job_plan.specs.Faultless.{never_faults, test_never_faults}
+use Rattle.prefix_walks.specs.Faultless.{never_faults, test_never_faults}
 use Rattle.job_plan.specs.Plans.{finding, AbstractSegment, segments_answer}
 
 -- whether stages are maps and filters that can't have a fault

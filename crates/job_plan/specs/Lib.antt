@@ -1,21 +1,13 @@
 -- Condition: the files of this crate's definitions; the first line of each says what it is.
 pub mod Arrays
-pub mod Batches
 pub mod EndRows
-pub mod Faultless
 pub mod Firsts
 pub mod FoldFaults
-pub mod Kept
 pub mod Links
-pub mod Maps
 pub mod Moves
 pub mod Parts
 pub mod Passages
-pub mod Pieces
 pub mod PlannedAnswers
 pub mod Plans
-pub mod Runs
-pub mod Scans
-pub mod Spans
 pub mod Stretches
 pub mod Windows

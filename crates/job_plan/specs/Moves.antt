@@ -7,7 +7,7 @@ use Rattle.slice_ops.specs.Slices.{AbstractSlice, limit, skip, take_while, drop_
 use Rattle.job_language.specs.Jobs.{AbstractPlainSource}
 use Rattle.job_plan.specs.declared.moves.Moved.{Moved}
 use Rattle.job_plan.specs.declared.segment.Held.{Held}
-use Rattle.job_plan.specs.Faultless.{never_faults}
+use Rattle.prefix_walks.specs.Faultless.{never_faults}
 use Rattle.job_plan.specs.Parts.{segments_in}
 use Rattle.job_plan.specs.Plans.{AbstractEnd, slicing, AbstractSegment, AbstractPlan, segments_answer, slice_in}
 use Rattle.job_meaning.specs.Walks.{source_walk}

@@ -18,7 +18,7 @@ use Rattle.find_ops.specs.Parts.{StandsFor as FindStands}
 use Rattle.job_language.specs.Jobs.{sources_of}
 use Rattle.early_stop.specs.Leaving.{IsEnough}
 use Rattle.job_plan.specs.Arrays.{array_of}
-use Rattle.job_plan.specs.Scans.{scan}
+use Rattle.prefix_walks.specs.Scans.{scan}
 use Rattle.job_plan.specs.declared.fold_part.FoldPart.{FoldPart}
 use Rattle.job_plan.specs.declared.part.Part.{Part}
 use Rattle.job_plan.specs.declared.part.Part.TheVariants as part
@@ -32,7 +32,8 @@ use Rattle.job_plan.specs.declared.segment.Segment.{Segment}
 use Rattle.job_plan.specs.declared.segment.JobPlan.{JobPlan}
 use Rattle.job_plan.specs.declared.source.Source.{Source}
 use Rattle.job_plan.specs.declared.source.Source.TheVariants as source
-use Rattle.job_plan.specs.Plans.{AbstractEnd, slicing, folding, finding, collecting, exactly, scanning, AbstractSegment, AbstractPlan, counted_as, walk_of, last_stage}
+use Rattle.prefix_walks.specs.Batches.{counted_as}
+use Rattle.job_plan.specs.Plans.{AbstractEnd, slicing, folding, finding, collecting, exactly, scanning, AbstractSegment, AbstractPlan, walk_of, last_stage}
 use Rattle.job_meaning.specs.Walks.{source_walk}
 use Rattle.job_plan.specs.Windows.{windowed}
 

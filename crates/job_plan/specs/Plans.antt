@@ -7,10 +7,11 @@ use Rattle.trace.specs.Trace.{Trace}
 use Rattle.reduce_ops.specs.declared.op.Op.{Op}
 use Rattle.reduce_ops.specs.declared.op.Op.TheVariants as op
 use Rattle.reduce_ops.specs.ExactSums.{exact_sum as exactly_summed}
-use Rattle.reduce_ops.specs.Folds.{fold_from, fold_items, ones}
+use Rattle.reduce_ops.specs.Folds.{fold_from, fold_items}
 use Rattle.reduce_ops.specs.Operators.{value_of}
 use Rattle.slice_ops.specs.Slices.{AbstractSlice, sliced}
 use Rattle.prefix_scan.specs.Prefixes.{Range, prefixed}
+use Rattle.prefix_walks.specs.Batches.{counted_as}
 use Rattle.find_ops.specs.Finds.{Find, find_answer}
 use Rattle.job_language.specs.Jobs.{AbstractPlainSource, AbstractJobStage, item, slice, prefix, AbstractTerminal, sum, count, min, max, to_array, reduce, reduce_from, find, exact_sum, AbstractJob}
 use Rattle.job_meaning.specs.declared.answer.Answer.{Answer}
@@ -98,11 +99,6 @@ plans_after before (job ∷ jobs) = plan_of before job ∷ plans_after (before +
 -- the jobs of a file in segments
 abbrev pub plans_of : List AbstractJob → List AbstractPlan
 plans_of jobs = plans_after [] jobs
-
--- a count folds a 1 for each item
-abbrev pub counted_as : Bool → List Item → List Item
-counted_as false xs = xs
-counted_as true xs = ones xs
 
 -- the fold of items: a number if it has a start, else an optional
 abbrev pub folded : Op → Option ℤ → List Item → Answer

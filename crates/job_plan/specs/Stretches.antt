@@ -5,8 +5,8 @@ use Rattle.trace.specs.declared.feeding.Fed.{Fed}
 use Rattle.trace.specs.declared.feeding.Fed.TheVariants as fed
 use Rattle.trace.specs.Sinks.{IsFed}
 use Rattle.trace.specs.Trace.{Trace}
-use Rattle.job_plan.specs.Pieces.{elements}
-use Rattle.job_plan.specs.Spans.{IsNotAfter}
+use Rattle.prefix_walks.specs.Pieces.{elements}
+use Rattle.prefix_walks.specs.Spans.{IsNotAfter}
 
 module _ {S : Type 0} (h : S → List Item → Type 0) (walk : List Item → Trace) where
   -- a sink that was s is t, after these items went through the stages; then this became of them

@@ -3,7 +3,7 @@ use Rattle.std.specs.Prelude.{ℕ, zero, suc, Bool, true, false, List, [], ◌�
 use Rattle.trace.specs.Stages.{AbstractStage}
 use Rattle.trace.specs.Trace.{Trace, trace}
 use Rattle.slice_ops.specs.Slices.{AbstractSlice, limit, skip, take_while, drop_while, limited, skipped}
-use Rattle.job_plan.specs.Pieces.{elements}
+use Rattle.prefix_walks.specs.Pieces.{elements}
 use Rattle.job_plan.specs.Plans.{AbstractEnd, AbstractSegment, AbstractPlan, gives_walk, slice_in}
 use Rattle.job_meaning.specs.Walks.{source_walk}
 

@@ -8,7 +8,7 @@ ghost use Rattle.trace.specs.declared.item.Item.{Item as item};
 ghost use Rattle.reduce_ops.specs.Folds.{ones};
 ghost use Rattle.reduce_ops.specs.Parts.{StandsFor as FoldStands};
 ghost use Rattle.job_plan.specs.Parts.{IsFold, StandsFor, segment_in, walk_in};
-ghost use Rattle.job_plan.specs.Pieces.{piece_of};
+ghost use Rattle.prefix_walks.specs.Pieces.{piece_of};
 
 use crate::ends::{Fold, SegmentEnd};
 use crate::fold_part::FoldPart;
@@ -16,8 +16,7 @@ use crate::moves::all_keep;
 use crate::part::Part;
 use crate::segment::Segment;
 use crate::source::{Source, piece_end};
-use crate::spans::within;
-use crate::windows::Window;
+use prefix_walks::{Window, within};
 use reduce_ops::{Op, Partial};
 use trace::{End, Item, MAX_SOURCE_SIZE};
 

@@ -11,8 +11,8 @@ ghost use Rattle.job_plan.specs.Plans.{AbstractEnd};
 ghost use Rattle.job_plan.specs.declared.part.Part.{Part as any_part};
 
 use crate::ends::SegmentEnd;
-use crate::pieces::ItemPiece;
 use lambda_values::Env;
+use prefix_walks::ItemPiece;
 use trace::{End, Item, NoMemory, SourceItems};
 
 /// The end of a segment, its number as a stage, and the values of the job's names.

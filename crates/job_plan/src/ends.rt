@@ -14,6 +14,7 @@ use crate::fallback::Fallback;
 use find_ops::FindTerminal;
 use job_language::Terminal;
 use lambda_values::BoolExpr;
+use prefix_walks::Prefix;
 use reduce_ops::Op;
 use slice_ops::Slice;
 
@@ -25,14 +26,6 @@ pub struct Fold {
     pub start: Option<i64>,
     /// Whether each value counts as 1.
     pub counts: bool,
-}
-
-/// A prefix of the values of a walk: each becomes the fold of the values up to and with it.
-#[derive(Clone, Copy)]
-pub struct Prefix {
-    pub op: Op,
-    /// The positions of the walk at which it does so, from the first up to, not with, the second; without them, all.
-    pub range: Option<(u64, u64)>,
 }
 
 /// What ends a segment.

@@ -7,10 +7,10 @@ ghost use Rattle.job_plan.specs.Parts.{end_in, segment_in, segments_in};
 ghost use Rattle.job_plan.specs.Plans.{folding};
 
 use crate::ends::{Fold, SegmentEnd};
-use crate::faultless::{never_faults, test_never_faults};
 use crate::segment::Segment;
 use crate::windows::selects;
 use find_ops::FindTerminal;
+use prefix_walks::{never_faults, test_never_faults};
 use reduce_ops::Op;
 use trace::{NoMemory, Stage};
 

@@ -2,9 +2,9 @@
 
 ghost use Rattle.std.specs.Prelude.{◌≡◌, false, true, IfOk, OnErr};
 ghost use Rattle.trace.specs.Trace.{Trace, nothing, append};
-ghost use Rattle.job_plan.specs.Spans.{IsNotAfter};
+ghost use Rattle.prefix_walks.specs.Spans.{IsNotAfter};
 ghost use Rattle.job_plan.specs.Parts.{StandsEnough, StandsFor, end_in, end_keeps_items, keeps_items, may_search, segment_in, walk_in};
-ghost use Rattle.job_plan.specs.Pieces.{piece_of};
+ghost use Rattle.prefix_walks.specs.Pieces.{piece_of};
 ghost use Rattle.job_plan.specs.Plans.{last_stage};
 
 use crate::counted_part::counted_part;
@@ -16,10 +16,10 @@ use crate::room::with_room;
 use crate::segment::Segment;
 use crate::source::{Walked, piece_end};
 use crate::stretches::feed_until;
-use crate::windows::Window;
 use batch_eval::Registers;
 use early_stop::Stop;
 use lambda_values::Env;
+use prefix_walks::Window;
 use std::alloc::Global;
 use std::marker::{Brand, PhantomData};
 use trace::{End, Fed, NoMemory};

@@ -8,24 +8,21 @@ ghost use Rattle.trace.specs.Stages.{stages_of};
 ghost use Rattle.trace.specs.Trace.{trace};
 ghost use Rattle.trace.specs.declared.item.End.TheVariants as end;
 ghost use Rattle.job_language.specs.Jobs.{source_of, sources_of};
-ghost use Rattle.job_plan.specs.Maps.{imaged};
+ghost use Rattle.prefix_walks.specs.Maps.{imaged};
 ghost use Rattle.job_plan.specs.Parts.{StandsFor, end_in, end_keeps_items, segment_in, walk_in};
-ghost use Rattle.job_plan.specs.Pieces.{elements, piece_of};
-ghost use Rattle.job_plan.specs.Scans.{scan_append};
+ghost use Rattle.prefix_walks.specs.Pieces.{elements, piece_of};
+ghost use Rattle.prefix_walks.specs.Scans.{scan_append};
 ghost use Rattle.job_meaning.specs.Walks.{plain_values, source_walk, values_of};
 ghost use Rattle.job_plan.specs.Windows.{windowed};
 
-use crate::cheap_maps::Maps;
 use crate::ends::SegmentEnd;
 use crate::part::Part;
-use crate::prefix_part::PrefixPart;
 use crate::segment::Segment;
 use crate::source::{ClosedRange, Source, piece_end, range_piece};
 use crate::sources::{PlainSources, plain_size};
-use crate::spans::{Portion, within};
-use crate::windows::Window;
 use batch_eval::Registers;
 use job_language::PlainSource;
+use prefix_walks::{Maps, Portion, PrefixPart, Window, within};
 use std::alloc::Global;
 use trace::NoMemory;
 

@@ -1,8 +1,8 @@
 //! Jobs cut into segments, and the parts of their walks.
 //!
 //! Stands on `job_meaning`, which says what the answer of a job is, on `job_language`, for jobs, on `trace` and
-//! `batch_eval`, for walks, and on `reduce_ops`, `slice_ops`, `find_ops` and `prefix_scan`, for what stages and
-//! terminals make of a walk. Used by whatever runs jobs.
+//! `batch_eval`, for walks, and on `reduce_ops`, `slice_ops`, `find_ops` and `prefix_walks`, for what stages and
+//! terminals keep of a walk. Used by whatever runs jobs.
 //! Begin with `specs/Plans.antt`. A job is cut into segments, and the earlier jobs that it names are found
 //! (`Plan::of`). `leaf` takes a piece of a segment's source to a `Part`, two parts side by side merge, and
 //! `Part::finish` gives the next source or the answer. `walk_tree` does all of this on one thread. `plan_laws.rt` says
@@ -11,25 +11,16 @@
 #![tactic(auto)]
 
 mod array_part;
-mod buffer;
-mod cheap_maps;
 mod closing;
 mod counted_part;
 mod end_part;
 mod ends;
 mod exact_end;
 mod fallback;
-mod faultless;
 mod find_end;
 mod first_found;
 mod fold_part;
-mod folded_piece;
-mod folded_walk;
-mod folding;
 mod fronts;
-mod given;
-mod item_pieces;
-mod kept;
 mod leaves;
 mod lent_arrays;
 mod lent_part;
@@ -43,46 +34,36 @@ mod nest;
 mod outcome;
 mod part;
 mod part_sink;
-mod piece_folds;
-mod piece_items;
-mod pieces;
 mod plan;
 mod plan_laws;
-mod prefix_part;
-mod prefix_pieces;
+mod prefix_end;
 mod room;
-mod run_values;
-mod scanned;
-mod scanned_pieces;
 mod segment;
 mod sizes;
 mod slice_end;
 mod source;
 mod sources;
-mod spans;
 mod streaming;
 mod stretches;
 mod walks;
 mod windows;
 
 pub use array_part::ArrayPart;
-pub use ends::{Fold, Prefix, SegmentEnd};
+pub use ends::{Fold, SegmentEnd};
 pub use fallback::Fallback;
 pub use fold_part::FoldPart;
-pub use given::GivenWalk;
 pub use job_meaning::Answer;
 pub use leaves::{leaf, leaf_in_order, leaf_stored, leaf_until, leaf_with, unwalked};
 pub use outcome::Outcome;
 pub use part::Part;
 pub use plan_laws::{
-    later_segments_give_the_answers, pieces_join, plans_give_the_answers, plans_have_the_meaning,
+    later_segments_give_the_answers, plans_give_the_answers, plans_have_the_meaning,
     walked_segments_give_the_answers,
 };
-pub use prefix_part::PrefixPart;
+pub use prefix_walks::{GivenWalk, Prefix, PrefixPart, Window};
 pub use run_settings::{Form, Settings};
 pub use segment::{JobPlan, Named, Plan, Segment};
 pub use source::{Source, Walked};
 pub use sources::PlainSources;
 pub use streaming::{streamed, streamed_in_order};
 pub use walks::{SplitTree, walk, walk_tree};
-pub use windows::Window;

@@ -3,9 +3,9 @@
 use crate::names::place_of;
 use crate::segment::{JobPlan, Segment};
 use crate::sources::plain_size;
-use crate::spans::within;
-use crate::windows::{Window, selected_window};
+use crate::windows::selected_window;
 use job_language::PlainSource;
+use prefix_walks::{Window, within};
 
 /// How many values a source has: the array of an earlier job counts with that job's likely size.
 fn likely_values(source: &PlainSource, before: &[JobPlan]) -> u64 {

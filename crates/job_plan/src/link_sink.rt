@@ -17,13 +17,13 @@ ghost use Rattle.job_plan.specs.Plans.{AbstractSegment, collecting};
 
 use crate::closing::Closing;
 use crate::fronts::tested;
-use crate::pieces::ItemPiece;
 use crate::segment::Segment;
 use batch_eval::{
     Batch, BatchSink, BatchSource, Pipeline, PlacedValues, Registers, SourcePart, accept_each,
     feed_at_once,
 };
 use lambda_values::{BoolExpr, Env};
+use prefix_walks::ItemPiece;
 use slice_ops::{SliceCut, SliceRest};
 use std::marker::{Brand, PhantomData};
 use trace::{End, Fed, Flow, Item, LongSink, NoMemory, SourceItems, feed_all};

@@ -11,11 +11,11 @@ ghost use Rattle.job_plan.specs.PlannedAnswers.{planned_meaning};
 ghost use Rattle.job_plan.specs.Plans.{AbstractPlan, AbstractSegment};
 
 use crate::ends::SegmentEnd;
-use crate::faultless::never_faults;
 use crate::first_found::with_first_found;
 use crate::likely::likely_size;
 use crate::segment::{Held, JobPlan, Plan, Segment};
 use lambda_values::LongExpr;
+use prefix_walks::never_faults;
 use slice_ops::Slice;
 use std::alloc::Global;
 use trace::{NoMemory, Stage};

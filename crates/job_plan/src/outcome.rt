@@ -3,9 +3,9 @@
 ghost use Rattle.std.specs.Prelude.{◌≡◌};
 ghost use Rattle.job_meaning.specs.Walks.{exact_answer, found_answer};
 
-use crate::given::GivenWalk;
 use find_ops::Found;
 use job_meaning::Answer;
+use prefix_walks::GivenWalk;
 use trace::Fault;
 
 /// What a segment makes of its source.

@@ -6,13 +6,14 @@ ghost use Rattle.job_language.specs.Jobs.{AbstractJobStage, AbstractTerminal, jo
 ghost use Rattle.job_plan.specs.Parts.{end_in, plan_in, plan_names, plans_in, segment_in, segments_in};
 ghost use Rattle.job_plan.specs.Plans.{plan_of, plans_of, segments_from};
 
-use crate::ends::{Prefix, SegmentEnd};
+use crate::ends::SegmentEnd;
 use crate::fallback::fallback_of;
 use crate::lent_arrays::lent_arrays;
 use crate::likely::likely_size;
 use crate::names::named_in;
 use crate::segment::{JobPlan, Plan, Segment};
 use job_language::{Job, JobStage, Terminal};
+use prefix_walks::Prefix;
 use std::alloc::Global;
 use std::mem;
 use trace::{NoMemory, Stage};

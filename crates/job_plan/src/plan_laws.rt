@@ -1,15 +1,13 @@
-//! Laws of segments, pieces and plans. Each is the contract of a function that does nothing.
+//! Laws of segments and plans. Each is the contract of a function that does nothing.
 
-ghost use Rattle.std.specs.Prelude.{◌≡◌, ℕ, ◌≤◌, List, Option, Some, None};
+ghost use Rattle.std.specs.Prelude.{◌≡◌, ℕ, List};
 ghost use Rattle.lambda_values.specs.Earlier.{Numbers};
-ghost use Rattle.trace.specs.Trace.{Trace, append};
+ghost use Rattle.trace.specs.Trace.{Trace};
 ghost use Rattle.job_language.specs.Jobs.{AbstractJob};
 ghost use Rattle.job_meaning.specs.FileAnswers.{meaning_of};
 ghost use Rattle.job_plan.specs.Links.{walked_segments, walked_source};
-ghost use Rattle.job_plan.specs.Pieces.{piece_of};
 ghost use Rattle.job_plan.specs.PlannedAnswers.{planned_meaning};
 ghost use Rattle.job_plan.specs.Plans.{AbstractPlan, AbstractSegment, plan_of, plans_of, planned_answer, segments_answer};
-ghost use Rattle.job_plan.specs.Spans.{IsNotAfter};
 ghost use Rattle.job_meaning.specs.Walks.{answer_of_job, instead_of_fault};
 ghost use Rattle.job_plan.specs.Windows.{later_segments, selected_walk};
 
@@ -36,12 +34,4 @@ pub fn walked_segments_give_the_answers()
 #[tactic(auto, using(crate::proofs::MeaningLemmas::planned))]
 pub fn plans_have_the_meaning()
     ensures { (jobs : List AbstractJob) → planned_meaning (plans_of jobs) ≡ meaning_of jobs }
-{}
-
-/// Two pieces of a walk side by side are one piece, and the piece of all positions is the walk.
-#[tactic(auto, using(crate::proofs::SideBySide::pieces_joined, crate::proofs::SideBySide::whole_piece))]
-pub fn pieces_join()
-    ensures joined { (t : Trace) (from middle : ℕ) (to : Option ℕ) → from ≤ middle → IsNotAfter middle to
-        → append (piece_of from (Some middle) t) (piece_of middle to t) ≡ piece_of from to t }
-    ensures whole { (t : Trace) → piece_of 0 None t ≡ t }
 {}

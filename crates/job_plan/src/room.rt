@@ -9,7 +9,7 @@ use crate::moves::all_keep;
 use crate::part::Part;
 use crate::segment::Segment;
 use crate::source::Walked;
-use crate::windows::Window;
+use prefix_walks::Window;
 use std::alloc::Global;
 
 /// For how many values room is taken at most: 512 kB. A part with more of them grows by doubling from there on.

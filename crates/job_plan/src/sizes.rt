@@ -8,7 +8,7 @@ ghost use Rattle.job_plan.specs.Windows.{windowed};
 
 use crate::source::Source;
 use crate::sources::{PlainSources, total_size};
-use crate::spans::within;
+use prefix_walks::within;
 
 impl Source<'_, '_, '_> {
     /// How many items the source has, or the greatest `u64` if there are more. It takes constant time after a given

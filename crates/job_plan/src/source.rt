@@ -1,6 +1,6 @@
 //! What a segment walks over, by position.
 
-ghost use Rattle.std.specs.Prelude.{◌≡◌, ◌+◌, ◌<◌, ◌≤◌, ◌^◌, min, pos, ◌+ℤ◌, ℕ, FitsSigned, List, length, flat_map, take, drop, OnErr};
+ghost use Rattle.std.specs.Prelude.{◌≡◌, ◌+◌, ◌<◌, ◌≤◌, ◌^◌, pos, ◌+ℤ◌, ℕ, FitsSigned, List, length, take, drop, OnErr};
 ghost use Rattle.std.specs.Int.{w64};
 ghost use Rattle.trace.specs.Cover.{counted, distance, placed};
 ghost use Rattle.trace.specs.Sinks.{IsFed, flow_after};
@@ -10,20 +10,18 @@ ghost use Rattle.trace.specs.declared.item.End.TheVariants as end;
 ghost use Rattle.batch_eval.specs.Pipelines.{piped};
 ghost use Rattle.job_language.specs.Jobs.{source_of, sources_of};
 ghost use Rattle.job_plan.specs.Parts.{plan_in, walk_in};
-ghost use Rattle.job_plan.specs.Pieces.{elements, piece_of};
-ghost use Rattle.job_plan.specs.Spans.{after, span};
+ghost use Rattle.prefix_walks.specs.Pieces.{elements, piece_of};
+ghost use Rattle.prefix_walks.specs.Spans.{after};
 ghost use Rattle.job_meaning.specs.Walks.{plain_values, source_walk, values_of};
 ghost use Rattle.job_plan.specs.Windows.{selected_source, selected_walk};
 
-use crate::given::GivenWalk;
-use crate::scanned_pieces::feed_given;
 use crate::segment::JobPlan;
 use crate::sources::{PlainSources, plain_size};
-use crate::spans::{Portion, within};
-use crate::windows::{Window, selected_window};
+use crate::windows::selected_window;
 use batch_eval::{BatchSink, Pipeline, PlacedValues, Registers, feed_batches};
 use job_language::PlainSource;
 use lambda_values::{Env, FaultKind};
+use prefix_walks::{GivenWalk, Portion, Window, feed_given, feed_values, within};
 use trace::{End, Fault, Fed, Flow, NoMemory, RangeItems};
 
 /// The fault of sources of more than 2^62 values.
@@ -214,25 +212,6 @@ fn feed_one<S: BatchSink>(
         }
         PlainSource::Result(_) => Ok(Fed::More),
     }
-}
-
-/// Takes values. The first one has the place `origin`.
-pub(crate) fn feed_values<S: BatchSink>(
-    line: Pipeline<'_>,
-    origin: u64,
-    values: &[i64],
-    registers: &mut Registers,
-    sink: &mut S,
-) -> Result<Fed, NoMemory>
-    requires wants { S.flow sink.old ≡ Flow.More }
-    requires few { origin + length values.now ≤ 2 ^ 62 }
-    ensures fed { (xs : List item) → S.has_taken sink.old xs → IsFed S.has_taken xs
-        (piped line.entry (trace (placed origin values.now) end.Done)) result sink.new }
-    ensures flow { S.flow sink.new ≡ flow_after result }
-    ensures refused { OnErr result S.takes_memory }
-{
-    let items = PlacedValues { origin, values };
-    feed_batches(line, &items, registers, sink)
 }
 
 /// The integers from the first up to and with the second one.

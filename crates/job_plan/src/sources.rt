@@ -5,8 +5,8 @@ ghost use Rattle.trace.specs.Cover.{distance};
 ghost use Rattle.job_language.specs.Jobs.{source_of, sources_of};
 ghost use Rattle.job_meaning.specs.Walks.{plain_values, values_of};
 
-use crate::windows::Window;
 use job_language::PlainSource;
+use prefix_walks::Window;
 use trace::MAX_SOURCE_SIZE;
 
 /// Positions of the plain sources of a job, one source after the other, and whether these have more than 2^62 values.

@@ -7,7 +7,6 @@ ghost use Rattle.job_plan.specs.Links.{AllFit, Fits, each_link_in, first_links, 
 ghost use Rattle.job_plan.specs.Parts.{GoesOnFrom, StandsFor, end_in, may_search, segment_in, segments_in, walk_in};
 ghost use Rattle.job_plan.specs.Plans.{last_stage, walk_of};
 
-use crate::given::GivenWalk;
 use crate::leaves::{first_part, unwalked};
 use crate::links::{Link, push_links};
 use crate::nest::{DEEPEST, Deepest, Nest};
@@ -17,6 +16,7 @@ use crate::part_sink::{EndBrand, PartSink};
 use crate::segment::Segment;
 use crate::source::{Source, Walked};
 use batch_eval::Registers;
+use prefix_walks::GivenWalk;
 use std::alloc::Global;
 use std::marker::{Brand, PhantomData};
 use trace::{Chunk, End, NoMemory};

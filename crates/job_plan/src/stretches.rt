@@ -9,14 +9,14 @@ ghost use Rattle.trace.specs.declared.feeding.Fed.TheVariants as fed;
 ghost use Rattle.trace.specs.declared.sink.Flow.TheVariants as flow;
 ghost use Rattle.batch_eval.specs.Pipelines.{piped};
 ghost use Rattle.job_plan.specs.Parts.{walk_in};
-ghost use Rattle.job_plan.specs.Pieces.{elements};
-ghost use Rattle.job_plan.specs.Spans.{IsNotAfter};
+ghost use Rattle.prefix_walks.specs.Pieces.{elements};
+ghost use Rattle.prefix_walks.specs.Spans.{IsNotAfter};
 ghost use Rattle.job_plan.specs.Stretches.{IsWalked, IsWhole, IsCut};
 
 use crate::source::Source;
-use crate::windows::Window;
 use batch_eval::{BatchSink, Pipeline, Registers};
 use early_stop::Stop;
+use prefix_walks::Window;
 use trace::{Fed, Flow, NoMemory};
 
 /// How many positions are walked before the next look for a place that decides.

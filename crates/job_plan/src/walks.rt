@@ -3,7 +3,7 @@
 ghost use Rattle.std.specs.Prelude.{◌≡◌, ◌≤◌, ◌<◌, length, pos, IfOk, IfSome, slice_get, OnSome, Some};
 ghost use Rattle.trace.specs.Trace.{Trace};
 ghost use Rattle.job_plan.specs.Parts.{StandsFor, plan_in, plans_in, segment_in, segments_in, walk_in};
-ghost use Rattle.job_plan.specs.Pieces.{piece_of};
+ghost use Rattle.prefix_walks.specs.Pieces.{piece_of};
 ghost use Rattle.job_plan.specs.Plans.{outcome_of, planned_answer, segments_answer};
 
 use crate::leaves::{leaf_in_order, leaf_with};
@@ -11,10 +11,10 @@ use crate::outcome::Outcome;
 use crate::part::Part;
 use crate::segment::{JobPlan, Segment};
 use crate::source::{Source, Walked};
-use crate::windows::Window;
 use batch_eval::Registers;
 use job_meaning::Answer;
 use lambda_values::Env;
+use prefix_walks::Window;
 use std::alloc::Global;
 use trace::NoMemory;
 

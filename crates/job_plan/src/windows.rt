@@ -2,81 +2,42 @@
 //!
 //! These slices keep no items. The first segment after them goes over a window of the sources.
 
-ghost use Rattle.std.specs.Prelude.{◌≡◌, ◌<◌, ◌≤◌, ◌+◌, ◌-◌, ◌^◌, min, length, List, None, true};
-ghost use Rattle.trace.specs.declared.item.Item.{Item as item};
+ghost use Rattle.std.specs.Prelude.{◌≡◌, ◌<◌, ◌-◌, List, None, true};
 ghost use Rattle.slice_ops.specs.Slices.{slice_of};
 ghost use Rattle.job_language.specs.Jobs.{AbstractPlainSource};
 ghost use Rattle.job_plan.specs.Parts.{end_in, plan_in, segment_in, segments_in};
-ghost use Rattle.job_plan.specs.Pieces.{elements};
-ghost use Rattle.job_plan.specs.Spans.{after, earlier, moved};
+ghost use Rattle.prefix_walks.specs.Spans.{after};
 ghost use Rattle.job_meaning.specs.Walks.{source_walk};
 ghost use Rattle.job_plan.specs.Plans.{slice_in};
 ghost use Rattle.job_plan.specs.Windows.{closes, end_selected, end_selects, is_unasked, later_segments, selected_walk, selects, slice_selected, slice_selects, some_closes, windowed};
 
 use crate::ends::SegmentEnd;
 use crate::segment::{JobPlan, Segment};
-use crate::spans::{earlier, end_after, moved};
+use prefix_walks::Window;
 use slice_ops::Slice;
 
-/// Positions of a list: from one on, up to, not with, a second one, if there is one.
-#[derive(Clone, Copy)]
-pub struct Window {
-    pub from: u64,
-    pub to: Option<u64>,
+/// The positions of a window that a slice selects.
+fn sliced(window: Window, slice: &Slice) -> Window
+    requires { slice_selects (slice_of slice.now) ≡ true }
+    ensures { (ss : List AbstractPlainSource) → slice_selected (slice_of slice.now) (windowed window.from window.to (source_walk ss))
+        ≡ windowed result.from result.to (source_walk ss) }
+{
+    match slice {
+        Slice::Skip(count) => window.within(*count, None),
+        Slice::Limit(count) => window.within(0, Some(*count)),
+        Slice::TakeWhile(_) | Slice::DropWhile(_) => window,
+    }
 }
 
-impl Window {
-    /// All positions.
-    pub(crate) fn all() -> Window
-        ensures { (result.from ≡ 0) × (result.to ≡ None) }
-    {
-        Window { from: 0, to: None }
-    }
-
-    /// These positions of the window, as positions of the sources.
-    pub(crate) fn within(self, from: u64, to: Option<u64>) -> Window
-        ensures { (xs : List item) → length xs ≤ 2 ^ 62 → elements from to (elements self.from self.to xs) ≡ elements result.from result.to xs }
-    {
-        Window {
-            from: self.from.saturating_add(from),
-            to: earlier(self.to, moved(to, self.from)),
-        }
-    }
-
-    /// The positions of the window, counted after this number of elements.
-    pub(crate) fn after(self, size: u64) -> Window
-        ensures from { result.from ≡ self.from - size }
-        ensures to { result.to ≡ after self.to size }
-    {
-        Window {
-            from: self.from.saturating_sub(size),
-            to: end_after(self.to, size),
-        }
-    }
-
-    /// The positions of the window that a slice selects.
-    fn sliced(self, slice: &Slice) -> Window
-        requires { slice_selects (slice_of slice.now) ≡ true }
-        ensures { (ss : List AbstractPlainSource) → slice_selected (slice_of slice.now) (windowed self.from self.to (source_walk ss))
-            ≡ windowed result.from result.to (source_walk ss) }
-    {
-        match slice {
-            Slice::Skip(count) => self.within(*count, None),
-            Slice::Limit(count) => self.within(0, Some(*count)),
-            Slice::TakeWhile(_) | Slice::DropWhile(_) => self,
-        }
-    }
-
-    /// The positions of the window that the end of a segment selects.
-    fn selected(self, end: &SegmentEnd) -> Window
-        requires { end_selects (end_in end.now) ≡ true }
-        ensures { (ss : List AbstractPlainSource) → end_selected (end_in end.now) (windowed self.from self.to (source_walk ss))
-            ≡ windowed result.from result.to (source_walk ss) }
-    {
-        match end.slice() {
-            Some(slice) => self.sliced(slice),
-            None => self,
-        }
+/// The positions of a window that the end of a segment selects.
+fn selected(window: Window, end: &SegmentEnd) -> Window
+    requires { end_selects (end_in end.now) ≡ true }
+    ensures { (ss : List AbstractPlainSource) → end_selected (end_in end.now) (windowed window.from window.to (source_walk ss))
+        ≡ windowed result.from result.to (source_walk ss) }
+{
+    match end.slice() {
+        Some(slice) => sliced(window, slice),
+        None => window,
     }
 }
 
@@ -165,7 +126,7 @@ pub(crate) fn selected_window(segments: &[Segment], window: Window) -> Window
         return selected_window(later, window);
     }
     if selects(segment) {
-        selected_window(later, window.selected(&segment.end))
+        selected_window(later, selected(window, &segment.end))
     } else {
         window
     }

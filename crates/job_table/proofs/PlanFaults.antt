@@ -23,12 +23,13 @@ use Rattle.job_plan.specs.declared.part.Part.TheVariants as part
 use Rattle.job_plan.specs.Parts.{EndsFor, StandsEnough, fallback_in, is_fault}
 use Rattle.job_plan.specs.FoldFaults.{end_fault, fold_fault}
 use Rattle.job_plan.specs.Links.{walked_segments}
-use Rattle.job_plan.specs.Pieces.{piece_of}
+use Rattle.prefix_walks.specs.Pieces.{piece_of}
 use Rattle.job_plan.specs.PlannedAnswers.{first_unusable_at, put_into}
-use Rattle.job_plan.specs.Plans.{AbstractEnd, slicing, folding, finding, collecting, exactly, scanning, AbstractPlan, AbstractSegment, counted_as, ended, folded, last_stage, outcome_of, walk_of, segments_answer}
+use Rattle.prefix_walks.specs.Batches.{counted_as}
+use Rattle.job_plan.specs.Plans.{AbstractEnd, slicing, folding, finding, collecting, exactly, scanning, AbstractPlan, AbstractSegment, ended, folded, last_stage, outcome_of, walk_of, segments_answer}
 use Rattle.job_meaning.specs.Walks.{instead_of_fault, unless_fault}
-use Rattle.job_plan.proofs.Elements.{length_dropped}
-use Rattle.job_plan.proofs.SideBySide.{pieces_joined, whole_piece}
+use Rattle.prefix_walks.proofs.Elements.{length_dropped}
+use Rattle.prefix_walks.proofs.SideBySide.{pieces_joined, whole_piece}
 use Rattle.job_table.specs.Caught.{FaultAmong, IsCaught}
 use Rattle.job_runner.specs.Cuts.{IsInstead}
 use Rattle.job_table.specs.PlanSegments.{AbstractChain, PartStands, answer_of, answers_before, chain_at, gives_at, given_by, piece_between, plan_at, size_at, slices_first, upto, walk_at}

@@ -10,14 +10,14 @@ use Rattle.early_stop.specs.Decisive.{Decides}
 use Rattle.early_stop.specs.Leaving.{IsEnough}
 use Rattle.early_stop.proofs.Leaving.{enough_as, enough_gives, enough_joined, enough_left}
 use Rattle.job_plan.specs.Parts.{StandsEnough, StandsFor, is_running, is_settled, may_search}
-use Rattle.job_plan.proofs.Elements.{length_dropped}
+use Rattle.prefix_walks.proofs.Elements.{length_dropped}
 use Rattle.job_plan.proofs.EnoughLemmas.{whole_enough}
 use Rattle.job_plan.proofs.PartLemmas.{other_ends, settled_decides}
-use Rattle.job_plan.specs.Pieces.{piece_of}
+use Rattle.prefix_walks.specs.Pieces.{piece_of}
 use Rattle.job_plan.specs.Plans.{AbstractSegment, AbstractPlan, last_stage, outcome_of, walk_of, planned_answer, segments_answer}
 use Rattle.job_meaning.specs.Walks.{instead_of_fault}
-use Rattle.job_plan.specs.Spans.{IsNotAfter}
-use Rattle.job_plan.proofs.SideBySide.{pieces_joined, whole_piece}
+use Rattle.prefix_walks.specs.Spans.{IsNotAfter}
+use Rattle.prefix_walks.proofs.SideBySide.{pieces_joined, whole_piece}
 use Rattle.job_plan.proofs.LinkLemmas.{walked_answer}
 use Rattle.job_table.specs.PlanSegments.{AbstractChain, PartStands, chain_of, given_by, given_walk, gives_at, piece_between, size_at, slices_first, upto, walk_at, walk_size}
 use Rattle.job_table.proofs.PlanAnswers.{answer_at, answer_there, given_answer, goes_on, not_exact, stands_there}

@@ -10,7 +10,7 @@ use Rattle.trace.specs.contracts.stage.Stage as stages
 use Rattle.job_plan.specs.contracts.segment.Segment as segments
 use Rattle.job_plan.specs.contracts.segment.JobPlan as jobs
 use Rattle.job_plan.specs.contracts.segment.Plan as plans
-use Rattle.job_plan.specs.contracts.folded_piece.FoldedPiece as pieces
+use Rattle.prefix_walks.specs.contracts.folded_piece.FoldedPiece as pieces
 use Rattle.job_plan.specs.contracts.part.Part as parts
 use Rattle.job_table.specs.contracts.kept.SegmentSource as segment_sources
 use Rattle.job_table.specs.contracts.planned.PlanJobs as plan_jobs

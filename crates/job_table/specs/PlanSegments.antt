@@ -9,7 +9,7 @@ use Rattle.job_plan.specs.declared.outcome.Outcome.TheVariants as outcome
 use Rattle.job_plan.specs.declared.part.Part.{Part}
 use Rattle.early_stop.specs.Decisive.{Decides}
 use Rattle.job_plan.specs.Parts.{StandsEnough}
-use Rattle.job_plan.specs.Pieces.{piece_of}
+use Rattle.prefix_walks.specs.Pieces.{piece_of}
 use Rattle.job_plan.specs.PlannedAnswers.{numbers_at, planned_meaning, put_into}
 use Rattle.job_plan.specs.Plans.{AbstractEnd, AbstractSegment, AbstractPlan, gives_walk, outcome_of, slice_in}
 use Rattle.slice_ops.specs.Slices.{AbstractSlice, limit, skip, take_while, drop_while}

@@ -4,7 +4,7 @@ ghost use Rattle.trace.specs.Trace.{nothing};
 ghost use Rattle.early_stop.specs.Decisive.{Decides};
 ghost use Rattle.job_plan.specs.Parts.{StandsFor, end_in, may_search, plan_in, segments_in, walk_in};
 ghost use Rattle.job_plan.specs.Plans.{segments_answer};
-ghost use Rattle.job_plan.specs.Spans.{IsNotAfter};
+ghost use Rattle.prefix_walks.specs.Spans.{IsNotAfter};
 ghost use Rattle.job_plan.specs.Links.{first_links, linked, walked_segments};
 ghost use Rattle.job_meaning.specs.Walks.{instead_of_fault};
 ghost use Rattle.job_plan.specs.Windows.{later_segments};

@@ -2,7 +2,7 @@ use Rattle.std.proofs.Common.{◌≡◌, true, length, ap, ◌∙◌, arith, rul
 use Rattle.trace.specs.Stages.{stages_of}
 use Rattle.job_plan.specs.Moves.{all_keep}
 use Rattle.job_plan.specs.Parts.{walk_in}
-use Rattle.job_plan.specs.Spans.{span}
+use Rattle.prefix_walks.specs.Spans.{span}
 use Rattle.job_plan.proofs.CountLemmas.{counted_stands}
 use Rattle.job_plan.proofs.counted_part.counted_part.Goals as goal
 

@@ -7,7 +7,7 @@ use Rattle.trace.specs.Trace.{Trace, trace, append}
 use Rattle.job_plan.specs.declared.part_sink.PartSink.{PartSink}
 use Rattle.job_plan.specs.declared.part.Part.{Part}
 use Rattle.job_plan.specs.Parts.{EndsFor, HasTaken, StandsFor, end_in, is_settled, may_search, segment_in, walk_in}
-use Rattle.job_plan.specs.Pieces.{elements, piece_of}
+use Rattle.prefix_walks.specs.Pieces.{elements, piece_of}
 use Rattle.job_plan.specs.Plans.{last_stage, walk_of}
 use Rattle.job_plan.proofs.PartLemmas.{length-stages_of}
 use Rattle.job_plan.proofs.WalkLemmas.{after_enough, after_fault, after_more, enough_is_settled, same_ending, settled_first, taken_none, unpinned}

@@ -2,12 +2,12 @@ use Rattle.std.proofs.Common.{◌≡◌, ◌+◌, ◌∷◌, ◌++◌, length, l
 use Rattle.trace.specs.Cover.{placed}
 use Rattle.trace.specs.Stages.{stages_of}
 use Rattle.job_language.specs.Jobs.{source_of, sources_of}
-use Rattle.job_plan.specs.Maps.{imaged}
-use Rattle.job_plan.specs.Pieces.{elements}
+use Rattle.prefix_walks.specs.Maps.{imaged}
+use Rattle.prefix_walks.specs.Pieces.{elements}
 use Rattle.job_meaning.specs.Walks.{plain_values, values_of}
-use Rattle.job_plan.proofs.Elements.{placed_positions}
+use Rattle.prefix_walks.proofs.Elements.{placed_positions}
 use Rattle.job_plan.proofs.LentLemmas.{scanned_both}
-use Rattle.job_plan.proofs.MapLemmas.{imaged_both}
+use Rattle.prefix_walks.proofs.MapLemmas.{imaged_both}
 use Rattle.job_plan.proofs.PartLemmas.{on_ok_map}
 use Rattle.job_plan.proofs.lent_part.+push_sources.Goals as goal
 

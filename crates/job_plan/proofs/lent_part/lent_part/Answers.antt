@@ -2,10 +2,10 @@ use Rattle.std.proofs.Common.{◌≡◌, ◌+◌, [], length, sym, ap, subst, �
 use Rattle.trace.specs.declared.item.End.TheVariants as end
 use Rattle.trace.specs.Stages.{stages_of}
 use Rattle.trace.specs.Trace.{trace, nothing, append}
-use Rattle.job_plan.specs.Maps.{ArePlain, imaged}
+use Rattle.prefix_walks.specs.Maps.{ArePlain, imaged}
 use Rattle.job_plan.specs.Parts.{walk_in}
-use Rattle.job_plan.specs.Pieces.{elements, piece_of}
-use Rattle.job_plan.specs.Scans.{scan, scan_append}
+use Rattle.prefix_walks.specs.Pieces.{elements, piece_of}
+use Rattle.prefix_walks.specs.Scans.{scan, scan_append}
 use Rattle.job_plan.proofs.LentLemmas.{lent_stands, piece_again}
 use Rattle.job_plan.proofs.lent_part.lent_part.Goals as goal
 

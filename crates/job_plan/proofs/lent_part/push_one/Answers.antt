@@ -7,10 +7,10 @@ use Rattle.trace.specs.Stages.{stages_of}
 use Rattle.trace.specs.Trace.{trace}
 use Rattle.trace.proofs.Sources.{length-counted}
 use Rattle.job_language.specs.Jobs.{source_of}
-use Rattle.job_plan.specs.Maps.{imaged}
-use Rattle.job_plan.specs.Scans.{scan_append}
+use Rattle.prefix_walks.specs.Maps.{imaged}
+use Rattle.prefix_walks.specs.Scans.{scan_append}
 use Rattle.job_meaning.specs.Walks.{plain_values}
-use Rattle.job_plan.proofs.Elements.{counted_piece, less_one_fits}
+use Rattle.prefix_walks.proofs.Elements.{counted_piece, less_one_fits}
 use Rattle.job_plan.proofs.lent_part.push_one.Goals as goal
 
 pub push_range-requires-clause-within : goal.push_range-requires-clause-within

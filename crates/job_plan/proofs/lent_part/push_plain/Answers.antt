@@ -7,9 +7,9 @@ use Rattle.trace.specs.Stages.{stages_of}
 use Rattle.trace.specs.Trace.{trace}
 use Rattle.trace.proofs.Sources.{length-placed}
 use Rattle.job_language.specs.Jobs.{sources_of}
-use Rattle.job_plan.specs.Pieces.{elements}
-use Rattle.job_plan.specs.Maps.{imaged}
-use Rattle.job_plan.specs.Scans.{scan_append}
+use Rattle.prefix_walks.specs.Pieces.{elements}
+use Rattle.prefix_walks.specs.Maps.{imaged}
+use Rattle.prefix_walks.specs.Scans.{scan_append}
 use Rattle.job_meaning.specs.Walks.{values_of}
 use Rattle.job_plan.proofs.lent_part.push_plain.Goals as goal
 

@@ -2,11 +2,11 @@ use Rattle.std.proofs.Common.{◌≡◌, ◌+◌, ◌-◌, ◌∷◌, ◌++◌, 
 use Rattle.std.proofs.lemmas.Result.{err_from_is_err_and}
 use Rattle.trace.specs.Cover.{placed}
 use Rattle.job_language.specs.Jobs.{source_of, sources_of}
-use Rattle.job_plan.specs.Pieces.{elements}
-use Rattle.job_plan.specs.Spans.{after}
+use Rattle.prefix_walks.specs.Pieces.{elements}
+use Rattle.prefix_walks.specs.Spans.{after}
 use Rattle.job_meaning.specs.Walks.{plain_values, values_of}
-use Rattle.job_plan.proofs.Elements.{elements_none, placed_positions}
-use Rattle.job_plan.proofs.FeedLemmas.{fed_none, fed_both, fed_stopped}
+use Rattle.prefix_walks.proofs.Elements.{elements_none, placed_positions}
+use Rattle.prefix_walks.proofs.FeedLemmas.{fed_none, fed_both, fed_stopped}
 use Rattle.job_plan.proofs.PartLemmas.{no_items}
 use Rattle.job_plan.proofs.source.+feed_plain.Goals as goal
 

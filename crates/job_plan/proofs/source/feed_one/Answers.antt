@@ -9,8 +9,8 @@ use Rattle.trace.proofs.Sources.{length-counted}
 use Rattle.job_language.specs.Jobs.{source_of}
 use Rattle.batch_eval.specs.Pipelines.{piped}
 use Rattle.job_meaning.specs.Walks.{plain_values}
-use Rattle.job_plan.proofs.Elements.{counted_piece, less_one_fits, take_none}
-use Rattle.job_plan.proofs.FeedLemmas.{fed_none}
+use Rattle.prefix_walks.proofs.Elements.{counted_piece, less_one_fits, take_none}
+use Rattle.prefix_walks.proofs.FeedLemmas.{fed_none}
 use Rattle.job_plan.proofs.source.feed_one.Goals as goal
 
 pub returns-then-portion-eq0-clause-fed : goal.returns-then-portion-eq0-clause-fed

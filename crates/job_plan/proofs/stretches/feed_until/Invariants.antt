@@ -4,9 +4,9 @@ use Rattle.trace.specs.declared.sink.Flow.TheVariants as flow
 use Rattle.trace.specs.declared.feeding.Fed.TheVariants as fed
 use Rattle.trace.specs.Trace.{trace}
 use Rattle.job_plan.specs.Parts.{walk_in}
-use Rattle.job_plan.specs.Pieces.{elements}
+use Rattle.prefix_walks.specs.Pieces.{elements}
 use Rattle.batch_eval.specs.Pipelines.{piped}
-use Rattle.job_plan.specs.Spans.{IsNotAfter}
+use Rattle.prefix_walks.specs.Spans.{IsNotAfter}
 use Rattle.job_plan.specs.Stretches.{IsWalked}
 use Rattle.job_plan.proofs.stretches.feed_until.Given as goal
 

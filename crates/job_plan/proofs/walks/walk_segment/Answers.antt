@@ -1,8 +1,8 @@
 use Rattle.std.proofs.Common.{None, ap, ◌∙◌}
 use Rattle.job_plan.specs.Parts.{segment_in, walk_in}
-use Rattle.job_plan.specs.Pieces.{piece_of}
+use Rattle.prefix_walks.specs.Pieces.{piece_of}
 use Rattle.job_plan.specs.Plans.{outcome_of}
-use Rattle.job_plan.proofs.SideBySide.{whole_piece}
+use Rattle.prefix_walks.proofs.SideBySide.{whole_piece}
 use Rattle.job_plan.proofs.walks.walk_segment.Goals as goal
 
 pub returns-in-Some : goal.returns-in-Some

@@ -2,7 +2,7 @@ use Rattle.std.proofs.Common.{ap, ◌∙◌}
 use Rattle.trace.specs.declared.item.End.TheVariants as end
 use Rattle.trace.specs.Trace.{trace}
 use Rattle.job_plan.specs.Parts.{is_fault}
-use Rattle.job_plan.proofs.BatchLemmas.{merged_end}
+use Rattle.prefix_walks.proofs.BatchLemmas.{merged_end}
 use Rattle.job_plan.proofs.PartLemmas.{as_counted, fold_goes_on}
 use Rattle.job_plan.proofs.fold_part.FoldPartEndPart.push_flagged.Goals as goal
 

@@ -8,11 +8,11 @@ use Rattle.trace.specs.Trace.{trace}
 use Rattle.trace.proofs.Sources.{length-placed}
 use Rattle.job_language.specs.Jobs.{sources_of}
 use Rattle.job_plan.specs.Parts.{walk_in}
-use Rattle.job_plan.specs.Pieces.{elements}
+use Rattle.prefix_walks.specs.Pieces.{elements}
 use Rattle.batch_eval.specs.Pipelines.{piped}
 use Rattle.job_meaning.specs.Walks.{values_of}
-use Rattle.job_plan.proofs.Elements.{elements_none}
-use Rattle.job_plan.proofs.FeedLemmas.{fed_none}
+use Rattle.prefix_walks.proofs.Elements.{elements_none}
+use Rattle.prefix_walks.proofs.FeedLemmas.{fed_none}
 use Rattle.job_plan.proofs.source.Source.feed.Goals as goal
 
 pub returns-then-plain-clause-fed : goal.returns-then-plain-clause-fed

@@ -2,7 +2,8 @@ use Rattle.std.proofs.Common.{◌≡◌, length, arith}
 use Rattle.job_language.specs.Jobs.{sources_of}
 use Rattle.job_meaning.specs.Walks.{source_walk}
 use Rattle.job_plan.proofs.ItemCounts.{items_of_few}
-use Rattle.job_plan.proofs.WindowLemmas.{few_items, window_size}
+use Rattle.prefix_walks.proofs.WindowPositions.{window_size}
+use Rattle.job_plan.proofs.WindowLemmas.{few_items}
 use Rattle.job_plan.proofs.sources.PlainSources.size.Goals as goal
 
 pub returns : goal.returns

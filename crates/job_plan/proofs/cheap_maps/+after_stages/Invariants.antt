@@ -1,5 +1,0 @@
-use Rattle.std.proofs.Common.{length}
-use Rattle.job_plan.proofs.cheap_maps.+after_stages.Given as goal
-
-abbrev pub decreases-after_stages : goal.decreases-after_stages
-decreases-after_stages l = length l.stages.now

@@ -1,5 +1,0 @@
-use Rattle.std.proofs.Common.{rules}
-use Rattle.job_plan.proofs.folding.fold_values.Goals as goal
-
-pub returns-in-Sum : goal.returns-in-Sum
-returns-in-Sum c = search rules

@@ -1,9 +1,0 @@
--- Condition: what is kept of the walk that a segment gave.
-use Rattle.trace.specs.Trace.{Trace}
-use Rattle.job_plan.specs.declared.kept.Kept.{Kept}
-use Rattle.job_plan.specs.declared.kept.Kept.TheVariants as kept
-
--- the walk that it describes
-abbrev pub kept_walk : Kept → Trace
-kept_walk (kept.Items t) = t
-kept_walk (kept.Scanned t) = t

@@ -1,0 +1,226 @@
+-- Elements at positions of a list, and of two lists one after the other.
+use Rattle.std.proofs.Common.{get_or, FitsSigned, w64, int_lt, unsigned_abs, ◌-ℤ◌, Bool, true, false, if◌then◌else◌, subst, ◌≡◌, ℕ, zero, suc, ◌+◌, ◌-◌, ◌<◌, ◌≤◌, min, ℤ, pos, ◌+ℤ◌, List, [], ◌∷◌, ◌++◌, length, take, drop, Option, Some, None, refl, sym, ap, ◌∙◌, arith}
+use Rattle.std.proofs.lemmas.Int.{ints}
+use Rattle.std.specs.List.{flat_map}
+use Rattle.std.proofs.lemmas.List.Concat.{flat_map-append}
+use Rattle.trace.proofs.CutLemmas.{drop_on}
+use borrow.Author.Differences.{fits_in, fits_out}
+use Rattle.trace.specs.declared.item.Item.{Item}
+use Rattle.trace.specs.Cover.{counted, distance, placed}
+use Rattle.trace.proofs.Sources.{length-placed}
+use Rattle.prefix_walks.specs.Pieces.{elements}
+use Rattle.prefix_walks.specs.Spans.{IsNotAfter, after, span}
+
+module _ {A : Type 0} where
+  abbrev empty : List A
+  empty = []
+
+  pub take_none : (xs : List A) → take 0 xs ≡ []
+  take_none [] = refl
+  take_none (x ∷ xs) = refl
+
+  pub drop_none : (xs : List A) → drop 0 xs ≡ xs
+  drop_none [] = refl
+  drop_none (x ∷ xs) = refl
+
+  pub take_of_none : (n : ℕ) → take n empty ≡ empty
+  take_of_none zero = refl
+  take_of_none (suc n) = refl
+
+  pub drop_of_none : (n : ℕ) → drop n empty ≡ empty
+  drop_of_none zero = refl
+  drop_of_none (suc n) = refl
+
+  -- the first n elements of two lists
+  pub take_both : (n : ℕ) (xs ys : List A) → take n (xs ++ ys) ≡ take n xs ++ take (n - length xs) ys
+  take_both n [] ys = let e : n ≡ n - 0 = omega arith in ap (λ m. take m ys) e ∙ ap (λ (zs : List A). zs ++ take (n - 0) ys) (sym (take_of_none n))
+  take_both zero (x ∷ xs) ys = let e : 0 - suc (length xs) ≡ 0 = omega arith in sym (ap (λ m. take m ys) e ∙ take_none ys)
+  take_both (suc n) (x ∷ xs) ys = let e : n - length xs ≡ suc n - suc (length xs) = omega arith in ap (λ (zs : List A). x ∷ zs) (take_both n xs ys ∙ ap (λ m. take n xs ++ take m ys) e)
+
+  -- two lists without their first n elements
+  pub drop_both : (n : ℕ) (xs ys : List A) → drop n (xs ++ ys) ≡ drop n xs ++ drop (n - length xs) ys
+  drop_both n [] ys = let e : n ≡ n - 0 = omega arith in ap (λ m. drop m ys) e ∙ ap (λ (zs : List A). zs ++ drop (n - 0) ys) (sym (drop_of_none n))
+  drop_both zero (x ∷ xs) ys = let e : 0 - suc (length xs) ≡ 0 = omega arith in sym (ap (λ m. (x ∷ xs) ++ drop m ys) e ∙ ap (λ (zs : List A). (x ∷ xs) ++ zs) (drop_none ys))
+  drop_both (suc n) (x ∷ xs) ys = let e : n - length xs ≡ suc n - suc (length xs) = omega arith in drop_both n xs ys ∙ ap (λ m. drop n xs ++ drop m ys) e
+
+  pub length_dropped : (n : ℕ) (xs : List A) → length (drop n xs) ≡ length xs - n
+  length_dropped n [] = ap length (drop_of_none n) ∙ omega arith
+  length_dropped zero (x ∷ xs) = omega arith
+  length_dropped (suc n) (x ∷ xs) = length_dropped n xs ∙ omega arith
+
+  -- to take more than there is is to take all
+  pub take_same : (m n : ℕ) (xs : List A) → min m (length xs) ≡ min n (length xs) → take m xs ≡ take n xs
+  take_same m n [] e = take_of_none m ∙ sym (take_of_none n)
+  take_same zero zero (x ∷ xs) e = refl
+  take_same zero (suc n) (x ∷ xs) e = absurd (omega arith)
+  take_same (suc m) zero (x ∷ xs) e = absurd (omega arith)
+  take_same (suc m) (suc n) (x ∷ xs) e = ap (λ (zs : List A). x ∷ zs) (take_same m n xs (omega arith))
+
+  pub take_whole : (n : ℕ) (xs : List A) → length xs ≤ n → take n xs ≡ xs
+  take_whole n [] h = take_of_none n
+  take_whole zero (x ∷ xs) h = absurd (omega arith)
+  take_whole (suc n) (x ∷ xs) h = ap (λ (zs : List A). x ∷ zs) (take_whole n xs (omega arith))
+
+  pub drop_same : (m n : ℕ) (xs : List A) → min m (length xs) ≡ min n (length xs) → drop m xs ≡ drop n xs
+  drop_same m n [] e = drop_of_none m ∙ sym (drop_of_none n)
+  drop_same zero zero (x ∷ xs) e = refl
+  drop_same zero (suc n) (x ∷ xs) e = absurd (omega arith)
+  drop_same (suc m) zero (x ∷ xs) e = absurd (omega arith)
+  drop_same (suc m) (suc n) (x ∷ xs) e = drop_same m n xs (omega arith)
+
+  -- positions within a list
+  pub clamped : (from : ℕ) (to : Option ℕ) (xs : List A) → elements from to xs ≡ take (span from to (length xs)) (drop (min from (length xs)) xs)
+  clamped from None xs =
+      let d = drop_same from (min from (length xs)) xs (omega arith) in
+      let l = length_dropped (min from (length xs)) xs in
+      d ∙ sym (take_whole (length xs - from) (drop (min from (length xs)) xs) (omega arith))
+  clamped from (Some to) xs =
+      let d = drop_same from (min from (length xs)) xs (omega arith) in
+      let l = length_dropped (min from (length xs)) xs in
+      ap (take (to - from)) d ∙ take_same (to - from) (min to (length xs) - from) (drop (min from (length xs)) xs) (omega arith)
+
+  -- positions in two lists
+  pub elements_both : (from : ℕ) (to : Option ℕ) (xs ys : List A) → elements from to (xs ++ ys) ≡ elements from to xs ++ elements (from - length xs) (after to (length xs)) ys
+  elements_both from None xs ys = drop_both from xs ys
+  elements_both from (Some to) xs ys =
+      let l = length_dropped from xs in
+      let e : (to - from) - length (drop from xs) ≡ (to - length xs) - (from - length xs) = omega arith in
+      ap (take (to - from)) (drop_both from xs ys) ∙ take_both (to - from) (drop from xs) (drop (from - length xs) ys)
+      ∙ ap (λ m. take (to - from) (drop from xs) ++ take m (drop (from - length xs) ys)) e
+
+  pub elements_none : (from : ℕ) (to : Option ℕ) → elements from to empty ≡ []
+  elements_none from None = drop_of_none from
+  elements_none from (Some to) = ap (take (to - from)) (drop_of_none from) ∙ take_of_none (to - from)
+
+  pub drop_twice : (m n : ℕ) (xs : List A) → drop m (drop n xs) ≡ drop (n + m) xs
+  drop_twice m n [] = ap (drop m) (drop_of_none n) ∙ drop_of_none m ∙ sym (drop_of_none (n + m))
+  drop_twice m zero (x ∷ xs) = let e : m ≡ 0 + m = omega arith in ap (λ k. drop k (x ∷ xs)) e
+  drop_twice m (suc n) (x ∷ xs) = drop_twice m n xs ∙ (let e : suc (n + m) ≡ suc n + m = omega arith in ap (λ k. drop k (x ∷ xs)) e)
+
+  front_back : (n : ℕ) (xs : List A) → take n xs ++ drop n xs ≡ xs
+  front_back zero [] = refl
+  front_back zero (x ∷ xs) = refl
+  front_back (suc n) [] = refl
+  front_back (suc n) (x ∷ xs) = ap (λ (zs : List A). x ∷ zs) (front_back n xs)
+
+  pub take_twice : (m n : ℕ) (xs : List A) → m ≤ n → take m (take n xs) ≡ take m xs
+  take_twice m n [] h = ap (take m) (take_of_none n)
+  take_twice zero n (x ∷ xs) h = take_none (take n (x ∷ xs)) ∙ sym (take_none (x ∷ xs))
+  take_twice (suc m) zero (x ∷ xs) h = absurd (omega arith)
+  take_twice (suc m) (suc n) (x ∷ xs) h = ap (λ (zs : List A). x ∷ zs) (take_twice m n xs (omega arith))
+
+  pub drop_taken : (m n : ℕ) (xs : List A) → drop m (take n xs) ≡ take (n - m) (drop m xs)
+  drop_taken m n [] = ap (drop m) (take_of_none n) ∙ drop_of_none m ∙ sym (ap (take (n - m)) (drop_of_none m) ∙ take_of_none (n - m))
+  drop_taken zero n (x ∷ xs) = drop_none (take n (x ∷ xs)) ∙ (let e : n ≡ n - 0 = omega arith in ap (λ k. take k (x ∷ xs)) e)
+  drop_taken (suc m) zero (x ∷ xs) = let e : 0 - suc m ≡ 0 = omega arith in sym (ap (λ k. take k (drop m xs)) e ∙ take_none (drop m xs))
+  drop_taken (suc m) (suc n) (x ∷ xs) = drop_taken m n xs ∙ (let e : n - m ≡ suc n - suc m = omega arith in ap (λ k. take k (drop m xs)) e)
+
+  -- two pieces side by side
+  pub elements_join : (from middle : ℕ) (to : Option ℕ) (xs : List A) → from ≤ middle → IsNotAfter middle to → elements from (Some middle) xs ++ elements middle to xs ≡ elements from to xs
+  elements_join from middle None xs h k =
+      let e : from + (middle - from) ≡ middle = omega arith in
+      ap (λ (zs : List A). take (middle - from) (drop from xs) ++ zs) (ap (λ n. drop n xs) (sym e) ∙ sym (drop_twice (middle - from) from xs)) ∙ front_back (middle - from) (drop from xs)
+  elements_join from middle (Some to) xs h k =
+      let e : from + (middle - from) ≡ middle = omega arith in
+      let f : to - middle ≡ (to - from) - (middle - from) = omega arith in
+      let ys : List A = drop from xs in
+      (λ i. sym (take_twice (middle - from) (to - from) ys (omega arith)) i ++ (ap (λ n. take (to - middle) (drop n xs)) (sym e) ∙ ap (take (to - middle)) (sym (drop_twice (middle - from) from xs)) ∙ ap (λ n. take n (drop (middle - from) ys)) f ∙ sym (drop_taken (middle - from) (to - from) ys)) i)
+      ∙ front_back (middle - from) (take (to - from) ys)
+
+-- places go on in a piece
+pub placed_both : (o : ℕ) (us vs : List ℤ) → placed o (us ++ vs) ≡ placed o us ++ placed (o + length us) vs
+placed_both o [] vs = let e : o ≡ o + 0 = omega arith in ap (λ (n : ℕ). placed n vs) e
+placed_both o (u ∷ us) vs =
+    let e : suc o + length us ≡ o + suc (length us) = omega arith in
+    ap (λ (xs : List Item). record { origin = o; value = u } ∷ xs) (placed_both (suc o) us vs ∙ ap (λ (n : ℕ). placed (suc o) us ++ placed n vs) e)
+
+pub drop_placed : (n o : ℕ) (vs : List ℤ) → drop n (placed o vs) ≡ placed (o + n) (drop n vs)
+drop_placed n o [] = drop_of_none n ∙ sym (ap (placed (o + n)) (drop_of_none n))
+drop_placed zero o (v ∷ vs) = let e : o ≡ o + 0 = omega arith in ap (λ (m : ℕ). placed m (v ∷ vs)) e
+drop_placed (suc n) o (v ∷ vs) = drop_placed n (suc o) vs ∙ (let e : suc o + n ≡ o + suc n = omega arith in ap (λ (m : ℕ). placed m (drop n vs)) e)
+
+pub take_placed : (n o : ℕ) (vs : List ℤ) → take n (placed o vs) ≡ placed o (take n vs)
+take_placed n o [] = take_of_none n ∙ sym (ap (placed o) (take_of_none n))
+take_placed zero o (v ∷ vs) = refl
+take_placed (suc n) o (v ∷ vs) = ap (λ (xs : List Item). record { origin = o; value = v } ∷ xs) (take_placed n (suc o) vs)
+
+-- integers that count up, from a position on
+pub drop_counted : (n : ℕ) (a : ℤ) (c : ℕ) → drop n (counted a c) ≡ counted (a +ℤ pos n) (c - n)
+drop_counted n a zero = let e : 0 - n ≡ 0 = omega arith in drop_of_none n ∙ sym (ap (counted (a +ℤ pos n)) e)
+drop_counted zero a (suc c) = let e : a ≡ a +ℤ pos 0 = omega (arith, ints) in let k : suc c ≡ suc c - 0 = omega arith in ap (λ b. counted b (suc c)) e ∙ ap (counted (a +ℤ pos 0)) k
+drop_counted (suc n) a (suc c) =
+    let e : (a +ℤ pos 1) +ℤ pos n ≡ a +ℤ pos (suc n) = omega (arith, ints) in
+    let k : c - n ≡ suc c - suc n = omega arith in
+    drop_counted n (a +ℤ pos 1) c ∙ ap (λ b. counted b (c - n)) e ∙ ap (counted (a +ℤ pos (suc n))) k
+
+pub take_counted : (n : ℕ) (a : ℤ) (c : ℕ) → n ≤ c → take n (counted a c) ≡ counted a n
+take_counted zero a zero h = refl
+take_counted zero a (suc c) h = refl
+take_counted (suc n) a zero h = absurd (omega arith)
+take_counted (suc n) a (suc c) h = ap (λ (vs : List ℤ). a ∷ vs) (take_counted n (a +ℤ pos 1) c (omega arith))
+
+-- the values of a range are numbers of 64 bits
+pub closed_range_fits : (a b : ℤ) (i : ℕ) → FitsSigned w64 a → FitsSigned w64 b → i < distance a (b +ℤ pos 1) → FitsSigned w64 (a +ℤ pos i)
+closed_range_fits a b i p q h = by_test (int_lt a (b +ℤ pos 1)) refl
+  where
+    by_test : (t : Bool) → int_lt a (b +ℤ pos 1) ≡ t → FitsSigned w64 (a +ℤ pos i)
+    by_test true e = let k : i < unsigned_abs ((b +ℤ pos 1) -ℤ a) = subst (λ (m : ℕ). i < m) (ap (λ (t : Bool). if t then unsigned_abs ((b +ℤ pos 1) -ℤ a) else 0) e) h in omega (arith, ints, fits_in, fits_out w64 a p, fits_out w64 b q, k, e)
+    by_test false e = let k : i < 0 = subst (λ (m : ℕ). i < m) (ap (λ (t : Bool). if t then unsigned_abs ((b +ℤ pos 1) -ℤ a) else 0) e) h in absurd (omega (arith, k))
+
+-- a piece of a range
+pub counted_piece : (a : ℤ) (n start count : ℕ) → start + count ≤ n → take count (drop start (counted a n)) ≡ counted (a +ℤ pos start) count
+counted_piece a n start count h = ap (take count) (drop_counted start a n) ∙ take_counted count (a +ℤ pos start) (n - start) (omega arith)
+
+-- positions in the values of a source, and in those after it
+pub placed_positions : (o from : ℕ) (to : Option ℕ) (us vs : List ℤ) (size start count : ℕ) → size ≡ length us → start ≡ min from size → count ≡ span from to size
+    → elements from to (placed o (us ++ vs)) ≡ placed (o + start) (take count (drop start us)) ++ elements (from - size) (after to size) (placed (o + size) vs)
+placed_positions o from to us vs size start count e s c =
+    let l = length-placed o us in
+    ap (elements from to) (placed_both o us vs) ∙ elements_both from to (placed o us) (placed (o + length us) vs)
+    ∙ (λ i. (clamped from to (placed o us) ∙ (λ j. take (span from to (l j)) (drop (min from (l j)) (placed o us))) ∙ (λ j. take (span from to (sym e j)) (drop (min from (sym e j)) (placed o us)))
+    ∙ (λ j. take (sym c j) (drop (sym s j) (placed o us))) ∙ ap (take count) (drop_placed start o us) ∙ take_placed count (o + start) (drop start us)) i
+    ++ elements (from - (l ∙ sym e) i) (after to ((l ∙ sym e) i)) (placed (o + sym e i) vs))
+
+-- the last value of a range that has one
+pub less_one_fits : (a b : ℤ) → FitsSigned w64 a → FitsSigned w64 b → 0 < distance a b → FitsSigned w64 (b -ℤ pos 1)
+less_one_fits a b p q h = by_test (int_lt a b) refl
+  where
+    by_test : (t : Bool) → int_lt a b ≡ t → FitsSigned w64 (b -ℤ pos 1)
+    by_test true e = let k : 0 < unsigned_abs (b -ℤ a) = subst (λ (m : ℕ). 0 < m) (ap (λ (t : Bool). if t then unsigned_abs (b -ℤ a) else 0) e) h in omega (arith, ints, fits_in, fits_out w64 a p, fits_out w64 b q, k, e)
+    by_test false e = let k : 0 < 0 = subst (λ (m : ℕ). 0 < m) (ap (λ (t : Bool). if t then unsigned_abs (b -ℤ a) else 0) e) h in absurd (omega (arith, k))
+
+-- positions in the pieces that are left, and in those after the first of them
+pub next_elements : {X A : Type 0} (f : X → List A) (ps : List X) (w from : ℕ) (to : Option ℕ) (p : X) (size : ℕ) → w < length ps → p ≡ get_or ps w p → size ≡ length (f p)
+    → elements from to (flat_map f (drop w ps)) ≡ elements from to (f p) ++ elements (from - size) (after to size) (flat_map f (drop (w + 1) ps))
+next_elements f ps w from to p size h e k =
+    ap (elements from to) (drop_on f ps w p h e) ∙ elements_both from to (f p) (flat_map f (drop (w + 1) ps))
+    ∙ (λ i. elements from to (f p) ++ elements (from - sym k i) (after to (sym k i)) (flat_map f (drop (w + 1) ps)))
+
+pub none_after : {X A : Type 0} (f : X → List A) (ps : List X) (w from : ℕ) (to : Option ℕ) → length ps ≤ w → elements from to (flat_map f (drop w ps)) ≡ []
+none_after f ps w from to h = ap (λ qs. elements from to (flat_map f qs)) (past ps w h) ∙ elements_none from to
+  where
+    past : {X : Type 0} (ps : List X) (w : ℕ) → length ps ≤ w → drop w ps ≡ []
+    past [] zero h = refl
+    past [] (suc w) h = refl
+    past (p ∷ ps) zero h = absurd (omega arith)
+    past (p ∷ ps) (suc w) h = past ps w (omega arith)
+
+-- positions after the first of two lists
+pub past_first : {A : Type 0} (from : ℕ) (to : Option ℕ) (xs : List A) → length xs ≤ from → elements from to xs ≡ []
+past_first from None xs h = let e : length xs - from ≡ 0 = omega arith in clamped from None xs ∙ ap (λ n. take n (drop (min from (length xs)) xs)) e ∙ take_none (drop (min from (length xs)) xs)
+past_first from (Some to) xs h = let e : min to (length xs) - from ≡ 0 = omega arith in clamped from (Some to) xs ∙ ap (λ n. take n (drop (min from (length xs)) xs)) e ∙ take_none (drop (min from (length xs)) xs)
+
+-- positions after the items of whole pieces
+pub elements_after : {X A : Type 0} (f : X → List A) (ps : List X) (w n from : ℕ) (to : Option ℕ) → n ≡ length (flat_map f (take w ps)) → n ≤ from
+    → elements from to (flat_map f ps) ≡ elements (from - n) (after to n) (flat_map f (drop w ps))
+elements_after f ps w n from to e h =
+    let xs = flat_map f (take w ps) in
+    let ys = flat_map f (drop w ps) in
+    let few : length xs ≤ from = omega (arith, e, h) in
+    ap (λ qs. elements from to (flat_map f qs)) (sym (front_back w ps)) ∙ ap (elements from to) (flat_map-append f (take w ps) (drop w ps))
+    ∙ elements_both from to xs ys ∙ ap (λ zs. zs ++ elements (from - length xs) (after to (length xs)) ys) (past_first from to xs few)
+    ∙ (λ i. elements (from - sym e i) (after to (sym e i)) ys)
+
+-- all that is left of a list
+pub rest_of : {A : Type 0} (n : ℕ) (xs : List A) → take (length xs - n) (drop n xs) ≡ drop n xs
+rest_of n xs = let l = length_dropped n xs in take_whole (length xs - n) (drop n xs) (omega arith)

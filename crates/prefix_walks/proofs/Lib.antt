@@ -1,0 +1,12 @@
+-- The lemmas of this crate; the first line of each file says what they are about.
+pub mod BackwardFolds
+pub mod BatchLemmas
+pub mod Elements
+pub mod FaultlessLemmas
+pub mod FeedLemmas
+pub mod FlaggedFolds
+pub mod MapLemmas
+pub mod RunLemmas
+pub mod ScanLemmas
+pub mod SideBySide
+pub mod WindowPositions

@@ -1,0 +1,25 @@
+use Rattle.std.proofs.Common.{◌≡◌, ◌-◌, ◌<◌, suc, length, refl, arith}
+use Rattle.std.proofs.lemmas.List.Elements.{All-set}
+use Rattle.trace.specs.Cover.{placed}
+use Rattle.trace.proofs.PieceLemmas.{read_grows, read_stays}
+use Rattle.prefix_walks.specs.Scans.{IsFolded, items_of}
+use Rattle.prefix_walks.proofs.prefix_pieces.add_run_to_last.Goals as goal
+
+pub returns-in-Some-clause-added : goal.returns-in-Some-clause-added
+returns-in-Some-clause-added c = λ h.
+    let pieces = c.args.pieces.now in
+    let some_piece : 0 < pieces.len = c.in-Some.ensures.variant.0 refl in
+    let last : suc (pieces.len - 1) ≡ length pieces.items = omega (arith, pieces.ok.0, some_piece) in
+    read_grows items_of pieces.items (pieces.len - 1) c.in-Some.piece.now c.add_run.new.self (placed c.args.place c.args.values.now) last c.in-Some.ensures.value (c.add_run.ensures.added h)
+
+pub returns-in-Some-clause-other : goal.returns-in-Some-clause-other
+returns-in-Some-clause-other c = λ h.
+    let pieces = c.args.pieces.now in
+    let some_piece : 0 < pieces.len = c.in-Some.ensures.variant.0 refl in
+    let last : suc (pieces.len - 1) ≡ length pieces.items = omega (arith, pieces.ok.0, some_piece) in
+    read_stays items_of pieces.items (pieces.len - 1) c.in-Some.piece.now c.add_run.new.self last c.in-Some.ensures.value (c.add_run.ensures.other h)
+
+pub returns-in-Some-clause-folds : goal.returns-in-Some-clause-folds
+returns-in-Some-clause-folds c =
+    let pieces = c.args.pieces.now in
+    All-set (IsFolded c.args.op) pieces.items (pieces.len - 1) c.add_run.new.self c.add_run.ensures.folded c.requires.folds

@@ -1,0 +1,10 @@
+use Rattle.std.proofs.Common.{sym, ap, ◌∙◌}
+use Rattle.trace.specs.Stages.{stages_of}
+use Rattle.prefix_walks.specs.Maps.{images}
+use Rattle.prefix_walks.specs.Runs.{run_values}
+use Rattle.prefix_walks.proofs.MapLemmas.{images_none}
+use Rattle.prefix_walks.proofs.run_values.RunValues.as_slice.Goals as goal
+
+pub returns-then-is_empty : goal.returns-then-is_empty
+returns-then-is_empty c =
+    sym (ap run_values c.in-Lent.is ∙ ap (λ ss. images (stages_of ss) c.in-Lent.values.now) (c.is_empty.ensures c.if-is_empty.true) ∙ images_none c.in-Lent.values.now)

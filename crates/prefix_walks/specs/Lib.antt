@@ -1,0 +1,9 @@
+-- Condition: the files of this crate's definitions; the first line of each says what it is.
+pub mod Batches
+pub mod Faultless
+pub mod Kept
+pub mod Maps
+pub mod Pieces
+pub mod Runs
+pub mod Scans
+pub mod Spans

@@ -1,0 +1,156 @@
+//! Maps that are so cheap that what they make of values is computed where it is read, and not kept.
+
+ghost use Rattle.std.specs.Prelude.{◌≡◌, ◌≤◌, ◌<◌, ◌^◌, [], IfSome, length, true};
+ghost use Rattle.lambda_values.specs.Term.{long_of, truth_of};
+ghost use Rattle.trace.specs.Stages.{stage_of, stages_of};
+ghost use Rattle.prefix_walks.specs.Maps.{ArePlain, ArePlain-prop, IsPlain, IsPlainStage, IsPlainTest, images};
+
+use crate::buffer::Buffer;
+use crate::faultless::{is_total, is_total_by};
+use batch_eval::{Pipeline, PlacedValues, Registers, feed_at_once};
+use lambda_values::{BinaryOperator, BoolExpr, Env, Faults, LongExpr};
+use std::alloc::Global;
+use trace::Stage;
+
+/// How many operators the maps have at most. What they make of a value is computed twice: for the fold of a piece, and
+/// where the piece is read. Up to about this many, that takes less time than to write 8 bytes for each value and to
+/// read them again.
+const MOST_OPERATORS: u32 = 4;
+
+/// Maps, one after the other. Each names no earlier job and can't have a fault. There may be none.
+#[derive(Clone, Copy)]
+pub struct Maps<'a> {
+    alloc: Global,
+    pub(crate) stages: &'a [Stage],
+    ghost plain: { ArePlain (stages_of stages.now) } by { ArePlain-prop (stages_of stages.now) },
+    ghost few: { length stages.now < 2 ^ 32 },
+}
+
+impl<'a> Maps<'a> {
+    /// These stages, if all of them are cheap maps that can't have a fault and name no earlier job.
+    pub fn of(alloc: Global, stages: &'a [Stage]) -> Option<Maps<'a>>
+        requires { length stages.now < 2 ^ 32 }
+        ensures { IfSome result (λ maps. maps.stages.now ≡ stages.now) }
+    {
+        let _ = after_stages(stages, MOST_OPERATORS)?;
+        Some(Maps { alloc, stages })
+    }
+
+    /// Whether there are none.
+    pub(crate) fn is_empty(&self) -> bool
+        ensures { result ≡ true → self.now.stages.now ≡ [] }
+    {
+        self.stages.is_empty()
+    }
+
+    /// Puts what the maps make of each value in its place.
+    pub(crate) fn apply(&self, values: &mut [i64], registers: &mut Registers)
+        requires { length values.old ≤ 4096 }
+        ensures { values.new ≡ images (stages_of self.now.stages.now) values.old }
+    {
+        if self.is_empty() {
+            return;
+        }
+        let mut buffer = Buffer::new();
+        self.put_images(values, registers, &mut buffer);
+        values.copy_from_slice(buffer.values());
+    }
+
+    /// Puts what the maps make of each value into a buffer.
+    fn put_images(&self, values: &[i64], registers: &mut Registers, buffer: &mut Buffer)
+        requires few { length values.now ≤ 4096 }
+        requires none { buffer.old ≡ [] }
+        ensures { buffer.new ≡ images (stages_of self.now.stages.now) values.now }
+    {
+        let env = Env::empty(self.alloc);
+        let items = PlacedValues { origin: 0, values };
+        let line = Pipeline {
+            stages: self.stages,
+            first: 0,
+            env: &env,
+        };
+        let _ = feed_at_once(line, &items, registers, buffer);
+    }
+}
+
+/// How many of these operators stages leave, if all of them are maps that can't have a fault and name no earlier job.
+fn after_stages(stages: &[Stage], operators: u32) -> Option<u32>
+    ensures { IfSome result (λ _. ArePlain (stages_of stages.now)) }
+{
+    match stages.split_first() {
+        None => Some(operators),
+        Some((stage, later)) => {
+            let left = after_stage(stage, operators)?;
+            after_stages(later, left)
+        }
+    }
+}
+
+/// How many of these operators a stage leaves, if it is a map that can't have a fault and names no earlier job.
+fn after_stage(stage: &Stage, operators: u32) -> Option<u32>
+    ensures { IfSome result (λ _. IsPlainStage (stage_of stage.now)) }
+{
+    match stage {
+        Stage::Map(image) => after_long(image, operators),
+        Stage::Filter(_) | Stage::FlatMap(_) => None,
+    }
+}
+
+/// How many of these operators an expression leaves, if it names no earlier job and can't have a fault.
+#[cycle(cheap)]
+fn after_long(expr: &LongExpr, operators: u32) -> Option<u32>
+    ensures { IfSome result (λ _. IsPlain (long_of expr.now)) }
+{
+    match expr {
+        LongExpr::Number(_) | LongExpr::Parameter(_) => Some(operators),
+        LongExpr::Reference(_) => None,
+        LongExpr::Unary(operator, operand) => {
+            if !is_total(*operator) {
+                return None;
+            }
+            after_long(operand, operators.checked_sub(1)?)
+        }
+        LongExpr::Binary(operator, left, right) => {
+            if !is_total_by(*operator, right) {
+                return None;
+            }
+            let others = after_long(left, operators.checked_sub(cost(*operator))?)?;
+            after_long(right, others)
+        }
+        LongExpr::Choose(condition, chosen, other) => {
+            let others = after_test(condition, operators.checked_sub(1)?)?;
+            after_long(other, after_long(chosen, others)?)
+        }
+    }
+}
+
+/// How many of these operators a test leaves, if it names no earlier job and can't have a fault.
+#[cycle(cheap)]
+fn after_test(test: &BoolExpr, operators: u32) -> Option<u32>
+    ensures { IfSome result (λ _. IsPlainTest (truth_of test.now)) }
+{
+    match test {
+        BoolExpr::Literal(_) => Some(operators),
+        BoolExpr::Compare(_, left, right) => {
+            let others = after_long(left, operators.checked_sub(1)?)?;
+            after_long(right, others)
+        }
+        BoolExpr::Not(operand) => after_test(operand, operators.checked_sub(1)?),
+        BoolExpr::Connect(_, left, right) => {
+            let others = after_test(left, operators.checked_sub(1)?)?;
+            after_test(right, others)
+        }
+        BoolExpr::Choose(condition, chosen, other) => {
+            let others = after_test(condition, operators.checked_sub(1)?)?;
+            after_test(other, after_test(chosen, others)?)
+        }
+    }
+}
+
+/// For how many operators one counts: a division for more than the maps may have.
+fn cost(operator: BinaryOperator) -> u32 {
+    match operator.faults() {
+        Faults::ByZero => MOST_OPERATORS + 1,
+        Faults::Never | Faults::Overflow => 1,
+    }
+}

@@ -1,0 +1,47 @@
+//! What a prefix keeps of a walk, and how a walk that was kept is walked again.
+//!
+//! Stands on `prefix_scan`, for folds and scans of pieces, on `reduce_ops`, for operators, and on `batch_eval` and
+//! `trace`, for walks. Used by `job_plan`, which says where a prefix ends a segment.
+//! Begin with `specs/Scans.antt` and `prefix_part.rt`. A piece of a walk gives its items to a `PrefixPart`, which stores
+//! them in pieces of 4,096 with their folds, or borrows the values and the cheap maps that they come out of. Two parts
+//! side by side merge. `finish` gives a `GivenWalk`, whose items are scanned as `feed_given` takes them through the
+//! stages of the next segment; a chunk of items is such a walk, too. The folds of batches (`folded`, `folded_flagged`)
+//! and the expressions that can't have a fault (`never_faults`) are of use without a prefix.
+//! Not promised: that a value is read once. What cheap maps make of a borrowed value is worked out for its fold and
+//! again where it is read.
+#![tactic(auto)]
+
+mod buffer;
+mod cheap_maps;
+mod faultless;
+mod folded_piece;
+mod folded_walk;
+mod folding;
+mod given;
+mod item_pieces;
+mod kept;
+mod laws;
+mod piece_folds;
+mod piece_items;
+mod pieces;
+mod prefix;
+mod prefix_part;
+mod prefix_pieces;
+mod run_values;
+mod scanned;
+mod scanned_pieces;
+mod spans;
+mod window;
+
+pub use cheap_maps::Maps;
+pub use faultless::{never_faults, test_never_faults};
+pub use folded_walk::feed_values;
+pub use folding::{folded, folded_flagged};
+pub use given::GivenWalk;
+pub use laws::pieces_join;
+pub use pieces::ItemPiece;
+pub use prefix::Prefix;
+pub use prefix_part::PrefixPart;
+pub use scanned_pieces::feed_given;
+pub use spans::{Portion, within};
+pub use window::Window;

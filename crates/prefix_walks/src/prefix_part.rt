@@ -1,0 +1,212 @@
+//! What a piece gives to a prefix: its items, in pieces with their folds.
+
+ghost use Rattle.std.specs.Prelude.{◌≡◌, ◌+◌, ◌<◌, ◌≤◌, ◌^◌, [], All, length, map, OnOk, OnErr, IfErr, IfOk};
+ghost use Rattle.trace.specs.Cover.{counted, placed};
+ghost use Rattle.trace.specs.Stages.{stages_of};
+ghost use Rattle.trace.specs.Trace.{trace, nothing, append};
+ghost use Rattle.trace.specs.declared.item.End.TheVariants as end;
+ghost use Rattle.reduce_ops.specs.Operators.{value_of};
+ghost use Rattle.prefix_scan.specs.Prefixes.{ends_after, prefixed, prefixed_items};
+ghost use Rattle.prefix_walks.specs.Maps.{imaged};
+ghost use Rattle.prefix_walks.specs.Scans.{IsFolded, all_items, scan, scan_append};
+
+use crate::cheap_maps::Maps;
+use crate::prefix::Prefix;
+use crate::folded_piece::FoldedPiece;
+use crate::given::GivenWalk;
+use crate::prefix_pieces::{add_items, add_lent, add_range, add_run, run_place};
+use crate::scanned::ScannedWalk;
+use batch_eval::Registers;
+use lambda_values::FaultKind;
+use std::alloc::Global;
+use std::marker::Model;
+use trace::{Chunk, End, Fault, NoMemory, RangeItems, SourceItems};
+
+/// The items of a piece for a prefix, the stage with this number, and how the walk ended. Contracts see just that.
+///
+/// The items lie in pieces of 4,096 at most, each with its fold; joining two parts moves the pieces and no item. Values
+/// of a source are lent if only cheap maps come before the prefix, which then go over them once more where they are
+/// read; of other items at places that count up the values alone are stored.
+#[derive(Drop)]
+pub struct PrefixPart<'a> {
+    prefix: Prefix,
+    stage: u32,
+    pieces: Vec<FoldedPiece<'a>>,
+    end: End,
+}
+
+impl<'a> Model for PrefixPart<'a> {
+    ghost use Rattle.std.specs.Prelude.{All};
+    ghost use Rattle.trace.specs.Trace.{trace};
+    ghost use Rattle.prefix_walks.specs.Scans.{AbstractScan, IsFolded, all_items, scan};
+
+    ghost Value = { AbstractScan };
+
+    ghost view = { λ part. scan part.prefix.op part.prefix.range part.stage (trace (all_items part.pieces.items) part.end) };
+
+    ghost invariant = { λ part. All (IsFolded part.prefix.op) part.pieces.items };
+}
+
+impl<'a> PrefixPart<'a> {
+    /// The part of no item. It takes no memory.
+    pub fn none(alloc: Global, prefix: Prefix, stage: u32) -> PrefixPart<'a>
+        ensures { result ≡ scan prefix.op prefix.range stage nothing }
+    {
+        PrefixPart {
+            prefix,
+            stage,
+            pieces: Vec::new(alloc),
+            end: End::Done,
+        }
+    }
+
+    /// Adds the items of a source, which have these values. If the allocation fails, the part stays as it was.
+    pub fn push_all<I: SourceItems>(
+        &mut self,
+        source: &I,
+        values: &[i64],
+    ) -> Result<(), NoMemory>
+        requires open { self.old.walk.ending ≡ end.Done }
+        requires values { map (λ x. x.value) (I.items source.now) ≡ values.now }
+        ensures ok { OnOk result (self.new ≡ scan_append self.old (trace (I.items source.now) end.Done)) }
+        ensures err { OnErr result (self.new ≡ self.old) }
+        ensures refused { OnErr result (0 < length (I.items source.now)) }
+    {
+        if values.is_empty() {
+            return Ok(());
+        }
+        match run_place(source, values.len()) {
+            Some(place) => add_run(&mut self.pieces, self.prefix.op, place, values),
+            None => add_items(&mut self.pieces, self.prefix.op, source, values),
+        }
+    }
+
+    /// Adds what maps make of values of a source that stays as long as the job, at places that count up from this one.
+    /// It copies none of them.
+    pub fn push_lent(
+        &mut self,
+        maps: Maps<'a>,
+        place: u64,
+        values: &'a [i64],
+        registers: &mut Registers,
+    ) -> Result<(), NoMemory>
+        requires open { self.old.walk.ending ≡ end.Done }
+        requires places { place + length values.now ≤ 2 ^ 62 }
+        ensures { OnOk result (self.new ≡ scan_append self.old (trace (imaged (stages_of maps.entry.stages.now) (placed place values.now)) end.Done)) }
+    {
+        add_lent(
+            &mut self.pieces,
+            self.prefix.op,
+            maps,
+            place,
+            values,
+            registers,
+        )
+    }
+
+    /// Adds what maps make of the integers of a range. It stores none of them.
+    pub fn push_range(
+        &mut self,
+        maps: Maps<'a>,
+        range: &RangeItems,
+        registers: &mut Registers,
+    ) -> Result<(), NoMemory>
+        requires open { self.old.walk.ending ≡ end.Done }
+        ensures { OnOk result (self.new ≡ scan_append self.old (trace (imaged (stages_of maps.entry.stages.now) (placed range.now.origin (counted range.now.first range.now.count))) end.Done)) }
+    {
+        add_range(&mut self.pieces, self.prefix.op, maps, range, registers)
+    }
+
+    /// Ends so, unless a fault has ended the part. It takes no memory.
+    pub fn end_with(&mut self, end: End)
+        ensures { self.new ≡ scan_append self.old (trace [] end) }
+    {
+        if let End::Done = self.end {
+            self.end = end;
+        }
+    }
+
+    /// How the walk ended.
+    pub fn end(&self) -> End
+        ensures { result ≡ self.now.walk.ending }
+    {
+        self.end
+    }
+
+    /// Goes on with another part of the prefix. It moves the pieces of `right` and no item.
+    ///
+    /// A part that ends in a fault stays as it is. If the allocation fails, `right` comes back and the part stays as it
+    /// was.
+    pub fn append(&mut self, mut right: PrefixPart<'a>) -> Result<(), PrefixPart<'a>>
+        ensures ok { OnOk result (right.entry.op ≡ self.old.op → self.new ≡ scan_append self.old right.entry.walk) }
+        ensures err { OnErr result (self.new ≡ self.old) }
+        ensures right_returned { IfErr result (λ part. part ≡ right.entry) }
+    {
+        if let End::Fault(_) = self.end {
+            return Ok(());
+        }
+        if self.prefix.op != right.prefix.op {
+            return Ok(());
+        }
+        if self.pieces.append(&mut right.pieces).is_err() {
+            return Err(right);
+        }
+        self.end = right.end;
+        Ok(())
+    }
+
+    /// The walk that the prefix gives. A fault leaves no items, and so does a range that ends after the last item.
+    pub fn finish(self, alloc: Global) -> Result<GivenWalk<'a>, NoMemory>
+        ensures { IfOk result (λ given. given ≡ prefixed (value_of self.entry.op) self.entry.range self.entry.stage self.entry.walk) }
+    {
+        let PrefixPart {
+            prefix,
+            stage,
+            pieces,
+            end,
+        } = self;
+        match end {
+            End::Fault(fault) => Ok(faulted(alloc, fault)),
+            End::Done => scanned(alloc, prefix, stage, pieces),
+        }
+    }
+}
+
+/// What a prefix, the stage with this number, gives of a walk of these pieces.
+fn scanned<'a>(
+    alloc: Global,
+    prefix: Prefix,
+    stage: u32,
+    pieces: Vec<FoldedPiece<'a>>,
+) -> Result<GivenWalk<'a>, NoMemory>
+    requires { All (IsFolded prefix.op) pieces.items }
+    ensures { IfOk result (λ given. given ≡ prefixed_items (value_of prefix.op) prefix.range stage (all_items pieces.entry.items)) }
+{
+    let walk = ScannedWalk::of(alloc, prefix, pieces)?;
+    if ends_after(prefix.range, walk.size()) {
+        let fault = Fault {
+            kind: FaultKind::OutOfArray,
+            stage,
+            origin: None,
+        };
+        return Ok(faulted(alloc, fault));
+    }
+    Ok(GivenWalk::scanned(walk))
+}
+
+/// A walk without items that ends in this fault.
+fn faulted<'a>(alloc: Global, fault: Fault) -> GivenWalk<'a>
+    ensures { result ≡ trace [] (end.Fault fault) }
+{
+    GivenWalk::of(alloc, Chunk::ending(alloc, End::Fault(fault)))
+}
+
+/// Whether a range ends after this many items.
+fn ends_after(range: Option<(u64, u64)>, count: u64) -> bool
+    ensures { result ≡ ends_after range count }
+{
+    match range {
+        Some((_, to)) => count < to,
+        None => false,
+    }
+}

@@ -1,0 +1,142 @@
+//! Given walks, taken through stages; those that a prefix gave are scanned on the way.
+
+ghost use Rattle.std.specs.Prelude.{◌≡◌, ◌+◌, ◌<◌, ◌≤◌, ◌^◌, None, Some, All, IfSome, slice_get, List, length, take, drop, OnErr};
+ghost use Rattle.trace.specs.Sinks.{IsFed, flow_after};
+ghost use Rattle.trace.specs.Trace.{trace};
+ghost use Rattle.trace.specs.declared.item.Item.{Item as item};
+ghost use Rattle.trace.specs.declared.item.End.TheVariants as end;
+ghost use Rattle.batch_eval.specs.Pipelines.{piped};
+ghost use Rattle.reduce_ops.specs.Operators.{value_of};
+ghost use Rattle.prefix_scan.specs.Scans.{fold_at, scan_at};
+ghost use Rattle.prefix_walks.specs.Pieces.{elements};
+ghost use Rattle.prefix_walks.specs.Scans.{IsFolded, all_items, items_of, marks_of, mark};
+
+use crate::folded_piece::{FoldedPiece, PieceStart};
+use crate::folded_walk::{Scan, feed_piece};
+use crate::given::GivenWalk;
+use crate::item_pieces::{feed_items, feed_pieces, is_over};
+use crate::kept::Kept;
+use crate::scanned::ScannedWalk;
+use crate::window::Window;
+use batch_eval::{BatchSink, Pipeline, Registers};
+use trace::{Fed, Flow, NoMemory};
+
+/// Takes the items at these positions of a given walk.
+pub fn feed_given<S: BatchSink>(
+    line: Pipeline<'_>,
+    given: &GivenWalk<'_>,
+    window: Window,
+    registers: &mut Registers,
+    sink: &mut S,
+) -> Result<Fed, NoMemory>
+    requires wants { S.flow sink.old ≡ Flow.More }
+    ensures fed { (xs : List item) → S.has_taken sink.old xs → IsFed S.has_taken xs
+        (piped line.entry (trace (elements window.from window.to given.now.items) end.Done)) result sink.new }
+    ensures flow { S.flow sink.new ≡ flow_after result }
+    ensures refused { OnErr result S.takes_memory }
+{
+    match &given.kept {
+        Kept::Items(chunk) => {
+            let pieces = chunk.pieces();
+            feed_pieces(line, pieces, window, registers, sink)
+        }
+        Kept::Scanned(walk) => feed_scanned(line, walk, window, registers, sink),
+    }
+}
+
+/// Takes the items at these positions of a walk that a prefix gave. It begins at the piece in which the first of them
+/// lies.
+fn feed_scanned<S: BatchSink>(
+    line: Pipeline<'_>,
+    walk: &ScannedWalk<'_>,
+    window: Window,
+    registers: &mut Registers,
+    sink: &mut S,
+) -> Result<Fed, NoMemory>
+    requires wants { S.flow sink.old ≡ Flow.More }
+    ensures fed { (xs : List item) → S.has_taken sink.old xs → IsFed S.has_taken xs
+        (piped line.entry (trace (elements window.from window.to walk.now.items) end.Done)) result sink.new }
+    ensures flow { S.flow sink.new ≡ flow_after result }
+    ensures refused { OnErr result S.takes_memory }
+{
+    if let Some((first, mark)) = piece_at(&walk.marks, window.from) {
+        if first <= walk.pieces.len() {
+            let scan = Scan {
+                prefix: walk.prefix,
+                position: mark.before,
+                start: mark.start,
+            };
+            let left = window.after(mark.before);
+            return feed_from(line, scan, &walk.pieces[first..], left, registers, sink);
+        }
+    }
+    let scan = Scan {
+        prefix: walk.prefix,
+        position: 0,
+        start: None,
+    };
+    feed_from(line, scan, &walk.pieces, window, registers, sink)
+}
+
+/// The piece in which a position lies, and where it begins.
+fn piece_at(marks: &[PieceStart], position: u64) -> Option<(usize, PieceStart)>
+    ensures found { IfSome result (λ at. slice_get marks.now at.0 ≡ Some at.1) }
+    ensures inside { IfSome result (λ at. at.1.before ≤ position) }
+{
+    let after = marks.partition_point(|mark| mark.before <= position);
+    if after == 0 {
+        return None;
+    }
+    let mark = marks[after - 1];
+    if mark.before > position {
+        return None;
+    }
+    Some((after - 1, mark))
+}
+
+/// Takes the items at these positions of pieces, scanned from the first item on.
+fn feed_from<S: BatchSink>(
+    line: Pipeline<'_>,
+    scan: Scan,
+    pieces: &[FoldedPiece<'_>],
+    window: Window,
+    registers: &mut Registers,
+    sink: &mut S,
+) -> Result<Fed, NoMemory>
+    requires wants { S.flow sink.old ≡ Flow.More }
+    requires folds { All (IsFolded scan.prefix.op) pieces.now }
+    requires few { scan.position + length (all_items pieces.now) < 2 ^ 64 }
+    ensures fed { (xs : List item) → S.has_taken sink.old xs → IsFed S.has_taken xs
+        (piped line.entry (trace (elements window.from window.to (scan_at (value_of scan.prefix.op) scan.prefix.range scan.position scan.start (all_items pieces.now))) end.Done)) result sink.new }
+    ensures flow { S.flow sink.new ≡ flow_after result }
+    ensures refused { OnErr result S.takes_memory }
+{
+    let mut position = scan.position;
+    let mut start = scan.start;
+    let mut left = window;
+    for piece in pieces {
+        if is_over(left.to) {
+            return Ok(Fed::More);
+        }
+        let here = Scan {
+            prefix: scan.prefix,
+            position,
+            start,
+        };
+        match feed_piece(line, here, piece, left, registers, sink)? {
+            Fed::More => {}
+            stopped => return Ok(stopped),
+        }
+        let size = piece.count() as u64;
+        start = piece.fold_from(
+            scan.prefix.op,
+            scan.prefix.range,
+            position,
+            start,
+            registers,
+        );
+        position += size;
+        left = left.after(size);
+    }
+    Ok(Fed::More)
+}

@@ -1,0 +1,45 @@
+//! Positions of a list, side by side.
+
+ghost use Rattle.std.specs.Prelude.{◌≡◌, ◌≤◌, ◌-◌, ◌^◌, length, List, None};
+ghost use Rattle.trace.specs.declared.item.Item.{Item as item};
+ghost use Rattle.prefix_walks.specs.Pieces.{elements};
+ghost use Rattle.prefix_walks.specs.Spans.{after};
+
+use crate::spans::{earlier, end_after, moved};
+
+/// Positions of a list: from one on, up to, not with, a second one, if there is one.
+#[derive(Clone, Copy)]
+pub struct Window {
+    pub from: u64,
+    pub to: Option<u64>,
+}
+
+impl Window {
+    /// All positions.
+    pub fn all() -> Window
+        ensures { (result.from ≡ 0) × (result.to ≡ None) }
+    {
+        Window { from: 0, to: None }
+    }
+
+    /// These positions of the window, as positions of the list itself.
+    pub fn within(self, from: u64, to: Option<u64>) -> Window
+        ensures { (xs : List item) → length xs ≤ 2 ^ 62 → elements from to (elements self.from self.to xs) ≡ elements result.from result.to xs }
+    {
+        Window {
+            from: self.from.saturating_add(from),
+            to: earlier(self.to, moved(to, self.from)),
+        }
+    }
+
+    /// The positions of the window, counted after this number of elements.
+    pub fn after(self, size: u64) -> Window
+        ensures from { result.from ≡ self.from - size }
+        ensures to { result.to ≡ after self.to size }
+    {
+        Window {
+            from: self.from.saturating_sub(size),
+            to: end_after(self.to, size),
+        }
+    }
+}
