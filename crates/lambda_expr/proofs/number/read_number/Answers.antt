@@ -1,6 +1,7 @@
-use Rattle.std.proofs.Common.{length, sym, subst, ap, ◌∙◌}
+use Rattle.std.proofs.Common.{FitsSigned, Some, length, sym, subst, ap, ◌∙◌, rules, w64}
 use Rattle.std.specs.Prelude.{is_some}
 use Rattle.std.specs.Option.{option_flatten}
+use Rattle.std.proofs.lemmas.Int.{to_z-of_z}
 use Rattle.stream_tokens.proofs.CutLemmas.{order_in_range}
 use Rattle.lambda_expr.specs.Numbers.{ANumber}
 use Rattle.lambda_expr.specs.NumberWords.{number_value}
@@ -28,7 +29,13 @@ returns-in-None-clause-refused c =
       here = c.column_of.ensures;
     }
 
-pub returns-in-Some-clause-ok : goal.returns-in-Some-clause-ok
-returns-in-Some-clause-ok c =
+pub returns-in-Some-Some-clause-ok : goal.returns-in-Some-Some-clause-ok
+returns-in-Some-Some-clause-ok c =
     let p = by_read (number_value (words_of c.args.text.now c.args.tokens.now)) c.whole_number.result c.whole_number.ensures in
-    record { number = sym p.0 ∙ ap is_some c.in-Some.is; value = sym p.1 ∙ ap option_flatten c.in-Some.is }
+    let fits : FitsSigned w64 c.in-Some-Some.value = search rules in
+    record { number = sym p.0 ∙ ap is_some c.in-Some-Some.is; value = sym p.1 ∙ ap option_flatten c.in-Some-Some.is ∙ c.in-Some-Some.field-0-is ∙ ap Some (sym (to_z-of_z w64 c.in-Some-Some.value fits)) }
+
+pub returns-in-Some-None-clause-refused : goal.returns-in-Some-None-clause-refused
+returns-in-Some-None-clause-refused c =
+    let p = by_read (number_value (words_of c.args.text.now c.args.tokens.now)) c.whole_number.result c.whole_number.ensures in
+    record { number = sym p.0 ∙ ap is_some c.in-Some-None.is; outside = sym p.1 ∙ ap option_flatten c.in-Some-None.is ∙ c.in-Some-None.field-0-is }

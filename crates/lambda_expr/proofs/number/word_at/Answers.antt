@@ -1,4 +1,4 @@
-use Rattle.std.proofs.Common.{◌<◌, length, slice_index_or, ap, sym, ◌∙◌}
+use Rattle.std.proofs.Common.{slice_index_or, ap, sym, ◌∙◌}
 use Rattle.stream_tokens.specs.declared.token.Token.{Token}
 use Rattle.stream_tokens.specs.declared.token.TokenKind.TheVariants as kind
 use Rattle.lambda_expr.specs.Words.{word_for}
