@@ -13,10 +13,10 @@ ghost use Rattle.prefix_walks.specs.Pieces.{elements};
 ghost use Rattle.prefix_walks.specs.Runs.{Fits, FitsRun, run_values};
 ghost use Rattle.prefix_walks.specs.Scans.{IsFolded, items_of};
 
-use crate::prefix::Prefix;
 use crate::folded_piece::{FoldedPiece, MOST_ITEMS};
 use crate::item_pieces::feed_items;
 use crate::piece_items::PieceItems;
+use crate::prefix::Prefix;
 use crate::run_values::RunValues;
 use crate::spans::within;
 use crate::window::Window;

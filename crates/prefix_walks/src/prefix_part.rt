@@ -11,9 +11,9 @@ ghost use Rattle.prefix_walks.specs.Maps.{imaged};
 ghost use Rattle.prefix_walks.specs.Scans.{IsFolded, all_items, scan, scan_append};
 
 use crate::cheap_maps::Maps;
-use crate::prefix::Prefix;
 use crate::folded_piece::FoldedPiece;
 use crate::given::GivenWalk;
+use crate::prefix::Prefix;
 use crate::prefix_pieces::{add_items, add_lent, add_range, add_run, run_place};
 use crate::scanned::ScannedWalk;
 use batch_eval::Registers;
@@ -61,11 +61,7 @@ impl<'a> PrefixPart<'a> {
     }
 
     /// Adds the items of a source, which have these values. If the allocation fails, the part stays as it was.
-    pub fn push_all<I: SourceItems>(
-        &mut self,
-        source: &I,
-        values: &[i64],
-    ) -> Result<(), NoMemory>
+    pub fn push_all<I: SourceItems>(&mut self, source: &I, values: &[i64]) -> Result<(), NoMemory>
         requires open { self.old.walk.ending ≡ end.Done }
         requires values { map (λ x. x.value) (I.items source.now) ≡ values.now }
         ensures ok { OnOk result (self.new ≡ scan_append self.old (trace (I.items source.now) end.Done)) }

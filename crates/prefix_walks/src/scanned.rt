@@ -5,8 +5,8 @@ ghost use Rattle.reduce_ops.specs.Operators.{value_of};
 ghost use Rattle.prefix_scan.specs.Scans.{fold_at};
 ghost use Rattle.prefix_walks.specs.Scans.{IsFolded, IsMarked, all_items, marks_of, scanned_walk};
 
-use crate::prefix::Prefix;
 use crate::folded_piece::{FoldedPiece, PieceStart};
+use crate::prefix::Prefix;
 use batch_eval::Registers;
 use std::alloc::Global;
 use std::marker::Model;
