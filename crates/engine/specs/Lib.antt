@@ -4,3 +4,4 @@ pub mod Outcomes
 pub mod Refused
 pub mod Run
 pub mod Statuses
+pub mod Worked

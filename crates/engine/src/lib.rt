@@ -16,6 +16,8 @@ mod running;
 mod telling;
 
 pub use gate::RunGate;
-pub use laws::{each_input_has_one_outcome, refusals_are_outcomes, settings_change_no_byte};
+pub use laws::{
+    each_input_has_one_outcome, refusals_are_outcomes, settings_change_no_byte, worked_files,
+};
 pub use running::{EngineFault, run};
 pub use telling::{status_after, tell};
