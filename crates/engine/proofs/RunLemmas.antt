@@ -7,8 +7,8 @@ use Rattle.columns.specs.declared.fault.ColumnFault.TheVariants as column
 use Rattle.columns.specs.Cells.{IsAnswerTo, cells_of}
 use Rattle.columns.specs.Table.{NamedColumn}
 use Rattle.run_settings.specs.declared.settings.Form.{Form}
-use Rattle.engine.specs.declared.running.EngineFault.{EngineFault}
-use Rattle.engine.specs.declared.running.EngineFault.TheVariants.{Columns, Jobs, JobsRead, NoMemory, Write}
+use Rattle.engine.specs.declared.fault.EngineFault.{EngineFault}
+use Rattle.engine.specs.declared.fault.EngineFault.TheVariants.{Columns, Jobs, JobsRead, NoMemory, Write}
 use Rattle.engine.specs.Given.{HoldsWith, IsFile, IsGiven, IsWhole}
 use Rattle.engine.specs.Refused.{IsEarly}
 use Rattle.engine.specs.Run.{Input, Faulted, Says, columns_of}

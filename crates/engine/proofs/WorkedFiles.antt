@@ -1,5 +1,5 @@
 -- A small job file of each version, read and run by the definitions.
-use Rattle.std.proofs.Common.{◌≡◌, ℕ, inl, inr, List, [], ◌∷◌, false, drop, length, Some, Ok, refl, arith}
+use Rattle.std.proofs.Common.{ℕ, inl, inr, List, [], ◌∷◌, false, drop, length, Some, Ok, refl, arith}
 use Rattle.std.specs.Prelude.{Err, codes, pos, negsuc}
 use Rattle.std.specs.Fmt.{digits}
 use Rattle.std.specs.Int.{int_wrap}

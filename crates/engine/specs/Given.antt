@@ -1,12 +1,13 @@
 -- Condition: what the readers of a run hold, and whether a read of the column file failed.
-use Rattle.std.specs.Prelude.{◌≡◌, ℕ, ◌⊎◌, ⊤, List, Option, Some, None, IfSome, Ok}
+use Rattle.std.specs.Prelude.{◌≡◌, ℕ, ◌⊎◌, ⊤, List, Option, Some, None, IfSome, Result, Ok, IfErr, OnOk}
 use Rattle.std.specs.Borrow.{MutBor}
 use Rattle.std.specs.Io.KnownBytes.{IsAtEnd}
 use Rattle.std.proofs.Common.{inl, inr}
 use Rattle.columns.specs.Table.{NamedColumn}
 use Rattle.run_settings.specs.declared.settings.Form.{Form}
 use Rattle.counted_io.specs.FailureCounts.{HasRisen}
-use Rattle.engine.specs.Run.{Input, columns_of}
+use Rattle.engine.specs.declared.fault.EngineFault.{EngineFault}
+use Rattle.engine.specs.Run.{Faulted, Input, Reported, columns_of}
 
 -- these are the bytes that a reader has left, if it is known which these are
 abbrev pub IsWhole : Option (List ℕ) → List ℕ → Type 0
@@ -39,3 +40,10 @@ abbrev pub HoldsWith : List NamedColumn → Option (List ℕ) → Form → (Inpu
 HoldsWith columns jobs wanted P =
     (bytes : List ℕ) × IsWhole jobs bytes
     × ((file : Option (List ℕ)) → columns_of file ≡ Ok columns → P (record { columns = file; jobs = bytes; form = wanted }))
+
+-- the answer of a run over these readers, with this form of the report and a writer that held these bytes before and
+-- those after: the report was written, or a fault says why not
+abbrev pub IsAnswered : {C X : Type 0} → (C → Option (List ℕ)) → Option (MutBor C) → Option (List ℕ) → Form → Option (List ℕ) → Option (List ℕ) → Result X EngineFault → Type 0
+IsAnswered remaining columns jobs wanted before after answer =
+    OnOk answer ((input : Input) × IsGiven remaining columns jobs wanted input × Reported input before after)
+    × IfErr answer (λ fault. (input : Input) × IsGiven remaining columns jobs wanted input × Faulted input before after fault)

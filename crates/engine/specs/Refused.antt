@@ -1,7 +1,7 @@
 -- Condition: the faults that come after the column file was read and before anything is written.
 use Rattle.std.specs.Prelude.{⊤}
-use Rattle.engine.specs.declared.running.EngineFault.{EngineFault}
-use Rattle.engine.specs.declared.running.EngineFault.TheVariants.{Columns, Jobs, JobsRead, NoMemory, Write}
+use Rattle.engine.specs.declared.fault.EngineFault.{EngineFault}
+use Rattle.engine.specs.declared.fault.EngineFault.TheVariants.{Columns, Jobs, JobsRead, NoMemory, Write}
 
 -- neither a refused column file nor a failed write
 abbrev pub IsEarly : EngineFault → Type 0

@@ -5,7 +5,7 @@ ghost use Rattle.columns.specs.declared.fault.ColumnFault.{ColumnFault as meant_
 ghost use Rattle.columns.specs.declared.fault.ColumnFault.TheVariants as column;
 ghost use Rattle.job_language.specs.declared.fault.Cause.TheVariants as cause;
 ghost use Rattle.job_language.specs.declared.fault.JobFault.{JobFault as meant_job_fault};
-ghost use Rattle.engine.specs.declared.running.EngineFault.TheVariants as engine_fault;
+ghost use Rattle.engine.specs.declared.fault.EngineFault.TheVariants as engine_fault;
 ghost use Rattle.engine.specs.Outcomes.{HasOutcome, Outcome, columns_refused, jobs_refused};
 ghost use Rattle.engine.specs.Run.{Faulted, Input, IsReport, Reported, Says};
 ghost use Rattle.engine.specs.Worked.{in_version_one, in_version_two};

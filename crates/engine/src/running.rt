@@ -14,10 +14,11 @@ ghost use Rattle.std.specs.Io.KnownBytes.{IsAtEnd, Keeps};
 ghost use Rattle.std.specs.Prelude.{◌≡◌, ◌≢◌, ℕ, All, List, length, map, Option, Ok, IfErr, IfOk, OnOk};
 ghost use Rattle.stream_tokens.specs.Forms.{IsName};
 
+use crate::fault::EngineFault;
 use crate::gate::RunGate;
 use columns::{ColumnFault, Columns, CountedRead, read_columns_by};
 use counted_io::{ReadAllFault, read_all_of};
-use job_language::{Job, JobFault, read_jobs};
+use job_language::{Job, read_jobs};
 use job_meaning::Answer;
 use job_plan::{JobPlan, Plan};
 use job_table::{RunFault, run_jobs};
@@ -27,30 +28,6 @@ use std::alloc::Global;
 use std::sync::Wait;
 use std::thread::Threads;
 use stream_tokens::{Bytes, NoMemory};
-use thiserror::Error;
-
-/// Why a run gives no report, or only a part of it. Unless it is `Write`, nothing was written.
-///
-/// The numbers are stable; there is no 6 and no 7. The text is the program's line on standard error, without the
-/// program's name.
-#[derive(Clone, Copy, Debug, PartialEq, Eq, Error)]
-pub enum EngineFault {
-    /// 1: the column file is refused, a read of it failed, or memory for it was refused.
-    #[error("{0}")]
-    Columns(ColumnFault),
-    /// 2: a job of the file is refused, or memory ran out while the file was checked.
-    #[error("{0}")]
-    Jobs(JobFault),
-    /// 3: a read of the job file failed.
-    #[error("jobs: read failed")]
-    JobsRead,
-    /// 4: an allocation failed.
-    #[error("out of memory")]
-    NoMemory,
-    /// 5: a write failed; the first `written` bytes of the report went out, and no others.
-    #[error("write failed after {written} bytes")]
-    Write { written: u64 },
-}
 
 /// How many bytes of a column file one thread reads at a time.
 const PIECE: usize = 4 * 1024 * 1024;
