@@ -27,9 +27,8 @@ def recipes(top):
 
 # Where the texts of messages stand, and how each is found there.
 MESSAGES = [
-    ('job_language/src/fault.rt', r'=> \{?\s*write!\(f, "([^"]+)"\)'),
     ('columns/src/fault.rt', r'(?:write_str\(|write!\(f, )"([^"]+)"'),
-    ('engine/src/running.rt', r'#\[error\("([^"]+)"\)\]'),
+    ('engine/src/fault.rt', r'(?:write_str\(|write!\(f, |=> )"([^"]+)"'),
     ('report/src/answer_forms.rt', r'=> "([^"]+)"'),
     ('streamrun/src/main.rt', r'"streamrun: ([^"]+)"'),
 ]
@@ -44,7 +43,7 @@ def messages(top):
         if not texts:
             yield f'crates/{path}: no message is found in it'
         for text in texts:
-            if text != '{0}' and not re.search(re.sub(r'\\?\{[^}]*\}', r'\\S+', re.escape(text)), ticked):
+            if not re.search(re.sub(r'\\?\{[^}]*\}', r'\\S+', re.escape(text)), ticked):
                 yield f'faults-and-messages.md: {text!r} of crates/{path} is not there'
     for row in re.findall(r'^\| `((?:jobs|columns): .*)', page, re.M):
         line = re.sub(r'\b[LCR]\b', r'\\d+', row.split('`')[0])

@@ -2,3 +2,4 @@ mod NamedTexts
 mod OutcomeLemmas
 mod PlannedJobLemmas
 mod RunLemmas
+mod WorkedFiles

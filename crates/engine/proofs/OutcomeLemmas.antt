@@ -10,7 +10,7 @@ use Rattle.job_language.specs.Jobs.{AbstractJob, names_of}
 use Rattle.job_language.proofs.EachFile.{each_file}
 use Rattle.job_language.proofs.OneFile.{left_once}
 use Rattle.job_meaning.specs.FileAnswers.{meaning_of}
-use Rattle.engine.specs.declared.running.EngineFault.TheVariants as engine_fault
+use Rattle.engine.specs.declared.fault.EngineFault.TheVariants as engine_fault
 use Rattle.engine.specs.Outcomes.{HasJobsRefused, HasOutcome, Outcome, columns_refused, jobs_refused, reports}
 use Rattle.engine.specs.Run.{Faulted, Input, IsColumnFault, IsReport, Reported, columns_of, report_in}
 

@@ -1,5 +1,5 @@
 -- What a run is given and gives: its two files, its report, and the faults before the report is written.
-use Rattle.std.proofs.Common.{◌≡◌, ◌≢◌, ℕ, List, [], Option, Some, None, Result, Ok, Err, IfSome, refl, subst, ◌∙◌}
+use Rattle.std.proofs.Common.{◌≡◌, ◌≢◌, ℕ, List, [], Option, Some, None, Result, Ok, Err, IfSome, IfErr, OnOk, refl, subst, ◌∙◌}
 use Rattle.std.specs.Borrow.{MutBor}
 use Rattle.std.specs.Io.KnownBytes.{Keeps}
 use Rattle.columns.specs.declared.fault.ColumnFault.{ColumnFault}
@@ -7,11 +7,11 @@ use Rattle.columns.specs.declared.fault.ColumnFault.TheVariants as column
 use Rattle.columns.specs.Cells.{IsAnswerTo, cells_of}
 use Rattle.columns.specs.Table.{NamedColumn}
 use Rattle.run_settings.specs.declared.settings.Form.{Form}
-use Rattle.engine.specs.declared.running.EngineFault.{EngineFault}
-use Rattle.engine.specs.declared.running.EngineFault.TheVariants.{Columns, Jobs, JobsRead, NoMemory, Write}
-use Rattle.engine.specs.Given.{IsFile, IsGiven, IsWhole}
+use Rattle.engine.specs.declared.fault.EngineFault.{EngineFault}
+use Rattle.engine.specs.declared.fault.EngineFault.TheVariants.{Columns, Jobs, JobsRead, NoMemory, Write}
+use Rattle.engine.specs.Given.{HoldsWith, IsFile, IsGiven, IsWhole}
 use Rattle.engine.specs.Refused.{IsEarly}
-use Rattle.engine.specs.Run.{Input, IsReport, Faulted, columns_of}
+use Rattle.engine.specs.Run.{Input, Faulted, Says, columns_of}
 
 -- ---- the files
 
@@ -62,57 +62,38 @@ columns_refused remaining columns jobs wanted before after reader r f is known s
     let rest = some_whole jobs in
     (record { columns = Some bytes; jobs = rest.0; form = wanted }, record { columns_file = rw is (bytes, refl, whole); jobs_file = rest.1; form = refl }, (answered_err bytes r f answer err, keeps))
 
--- what is known of a fault that came after the columns and before the report was written
-abbrev pub IsEarlyFault : List NamedColumn → Option (List ℕ) → Form → EngineFault → Type 0
-IsEarlyFault table jobs wanted f =
-    f ≢ JobsRead → (bytes : List ℕ) × IsWhole jobs bytes
-    × ((file : Option (List ℕ)) → columns_of file ≡ Ok table → IsEarly (record { columns = file; jobs = bytes; form = wanted }) f)
+-- a fault after the columns were read says this of the input, and nothing was written
+pub early_fault : (input : Input) (before after : Option (List ℕ)) (f : EngineFault) → Says input f → IsEarly f → Keeps before after → Faulted input before after f
+early_fault input before after (Columns f) says early keeps = absurd early
+early_fault input before after (Write n) says early keeps = absurd early
+early_fault input before after (Jobs f) says early keeps = (says, keeps)
+early_fault input before after JobsRead says early keeps = (says, keeps)
+early_fault input before after NoMemory says early keeps = (says, keeps)
 
-pub early_fault : {C : Type 0} (remaining : C → Option (List ℕ)) (columns : Option (MutBor C)) (jobs : Option (List ℕ)) (wanted : Form) (before after : Option (List ℕ)) (table : List NamedColumn) (f : EngineFault)
-    → HasTable remaining columns table → IsEarlyFault table jobs wanted f → Keeps before after
-    → (input : Input) × IsGiven remaining columns jobs wanted input × Faulted input before after f
-early_fault remaining columns jobs wanted before after table JobsRead t early keeps =
-    let rest = some_whole jobs in
-    (record { columns = t.file; jobs = rest.0; form = wanted }, record { columns_file = t.is; jobs_file = rest.1; form = refl }, ((table, t.gives), keeps))
-early_fault remaining columns jobs wanted before after table NoMemory t early keeps =
-    let (bytes, whole, says) = early (λ same. let e = same in cc) in
-    (record { columns = t.file; jobs = bytes; form = wanted }, record { columns_file = t.is; jobs_file = whole; form = refl }, (says t.file t.gives, keeps))
-early_fault remaining columns jobs wanted before after table (Jobs f) t early keeps =
-    let (bytes, whole, says) = early (λ same. let e = same in cc) in
-    (record { columns = t.file; jobs = bytes; form = wanted }, record { columns_file = t.is; jobs_file = whole; form = refl }, (says t.file t.gives, keeps))
-early_fault remaining columns jobs wanted before after table (Columns f) t early keeps =
-    let (bytes, whole, says) = early (λ same. let e = same in cc) in absurd (says t.file t.gives)
-early_fault remaining columns jobs wanted before after table (Write n) t early keeps =
-    let (bytes, whole, says) = early (λ same. let e = same in cc) in absurd (says t.file t.gives)
+pub early_no_columns : (f : EngineFault) (cause : ColumnFault) → IsEarly f → f ≢ Columns cause
+early_no_columns f cause early is = subst IsEarly is early
 
-pub early_no_columns : {C : Type 0} (remaining : C → Option (List ℕ)) (columns : Option (MutBor C)) (jobs : Option (List ℕ)) (wanted : Form) (table : List NamedColumn) (f : EngineFault) (cause : ColumnFault)
-    → HasTable remaining columns table → IsEarlyFault table jobs wanted f → f ≡ Columns cause → ⊥
-early_no_columns remaining columns jobs wanted table (Columns f) cause t early is =
-    let (bytes, whole, says) = early (λ same. let e = same in cc) in says t.file t.gives
-early_no_columns remaining columns jobs wanted table JobsRead cause t early is = let e = is in cc
-early_no_columns remaining columns jobs wanted table NoMemory cause t early is = let e = is in cc
-early_no_columns remaining columns jobs wanted table (Jobs f) cause t early is = let e = is in cc
-early_no_columns remaining columns jobs wanted table (Write n) cause t early is = let e = is in cc
+pub early_no_write : (f : EngineFault) (n : ℕ) → IsEarly f → f ≢ Write n
+early_no_write f n early is = subst IsEarly is early
 
-pub early_no_write : {C : Type 0} (remaining : C → Option (List ℕ)) (columns : Option (MutBor C)) (jobs : Option (List ℕ)) (wanted : Form) (table : List NamedColumn) (f : EngineFault) (n : ℕ)
-    → HasTable remaining columns table → IsEarlyFault table jobs wanted f → f ≡ Write n → ⊥
-early_no_write remaining columns jobs wanted table (Write m) n t early is =
-    let (bytes, whole, says) = early (λ same. let e = same in cc) in says t.file t.gives
-early_no_write remaining columns jobs wanted table JobsRead n t early is = let e = is in cc
-early_no_write remaining columns jobs wanted table NoMemory n t early is = let e = is in cc
-early_no_write remaining columns jobs wanted table (Jobs f) n t early is = let e = is in cc
-early_no_write remaining columns jobs wanted table (Columns f) n t early is = let e = is in cc
+-- ---- the run
 
--- ---- the report
+pub on_ok : {X E : Type 0} (r : Result X E) (P : Type 0) → P → OnOk r P
+on_ok (Ok x) P h = h
+on_ok (Err e) P h = tt
 
--- what is known of a report before it is written
-abbrev pub IsReportFor : List NamedColumn → Option (List ℕ) → Form → List ℕ → Type 0
-IsReportFor table jobs wanted report =
-    (bytes : List ℕ) × IsWhole jobs bytes
-    × ((file : Option (List ℕ)) → columns_of file ≡ Ok table → IsReport (record { columns = file; jobs = bytes; form = wanted }) report)
+-- what holds with the columns of a file holds of what the run is given
+given_with : {C : Type 0} (remaining : C → Option (List ℕ)) (columns : Option (MutBor C)) (jobs : Option (List ℕ)) (wanted : Form) (table : List NamedColumn) (P : Input → Type 0)
+    → HasTable remaining columns table → HoldsWith table jobs wanted P → (input : Input) × IsGiven remaining columns jobs wanted input × P input
+given_with remaining columns jobs wanted table P t (bytes, whole, holds) =
+    (record { columns = t.file; jobs = bytes; form = wanted }, record { columns_file = t.is; jobs_file = whole; form = refl }, holds t.file t.gives)
 
--- what it is a report of
-pub report_for : {C : Type 0} (remaining : C → Option (List ℕ)) (columns : Option (MutBor C)) (jobs : Option (List ℕ)) (wanted : Form) (table : List NamedColumn) (report : List ℕ)
-    → HasTable remaining columns table → IsReportFor table jobs wanted report → (input : Input) × IsGiven remaining columns jobs wanted input × IsReport input report
-report_for remaining columns jobs wanted table report t (bytes, whole, is) =
-    (record { columns = t.file; jobs = bytes; form = wanted }, record { columns_file = t.is; jobs_file = whole; form = refl }, is t.file t.gives)
+pub ok_with : {C X : Type 0} (remaining : C → Option (List ℕ)) (columns : Option (MutBor C)) (jobs : Option (List ℕ)) (wanted : Form) (table : List NamedColumn) (r : Result X EngineFault) (P : Input → Type 0)
+    → HasTable remaining columns table → OnOk r (HoldsWith table jobs wanted P) → OnOk r ((input : Input) × IsGiven remaining columns jobs wanted input × P input)
+ok_with remaining columns jobs wanted table (Ok x) P t h = given_with remaining columns jobs wanted table P t h
+ok_with remaining columns jobs wanted table (Err f) P t h = tt
+
+pub err_with : {C X : Type 0} (remaining : C → Option (List ℕ)) (columns : Option (MutBor C)) (jobs : Option (List ℕ)) (wanted : Form) (table : List NamedColumn) (r : Result X EngineFault) (P : EngineFault → Input → Type 0)
+    → HasTable remaining columns table → IfErr r (λ f. HoldsWith table jobs wanted (P f)) → IfErr r (λ f. (input : Input) × IsGiven remaining columns jobs wanted input × P f input)
+err_with remaining columns jobs wanted table (Ok x) P t h = tt
+err_with remaining columns jobs wanted table (Err f) P t h = given_with remaining columns jobs wanted table (P f) t h

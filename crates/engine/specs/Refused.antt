@@ -1,10 +1,12 @@
--- Condition: the faults that come after both files were read and before anything is written.
-use Rattle.engine.specs.declared.running.EngineFault.{EngineFault}
-use Rattle.engine.specs.declared.running.EngineFault.TheVariants.{Jobs, NoMemory}
-use Rattle.engine.specs.Run.{Input, HasColumns, IsJobFault}
+-- Condition: the faults that come after the column file was read and before anything is written.
+use Rattle.std.specs.Prelude.{⊤}
+use Rattle.engine.specs.declared.fault.EngineFault.{EngineFault}
+use Rattle.engine.specs.declared.fault.EngineFault.TheVariants.{Columns, Jobs, JobsRead, NoMemory, Write}
 
--- a refused job file, or out of memory
-abbrev pub IsEarly : Input → EngineFault → Type 0
-IsEarly input (Jobs f) = IsJobFault input f
-IsEarly input NoMemory = HasColumns input
-IsEarly input fault = ⊥
+-- neither a refused column file nor a failed write
+abbrev pub IsEarly : EngineFault → Type 0
+IsEarly (Columns f) = ⊥
+IsEarly (Write n) = ⊥
+IsEarly (Jobs f) = ⊤
+IsEarly JobsRead = ⊤
+IsEarly NoMemory = ⊤

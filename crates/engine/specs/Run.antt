@@ -27,8 +27,8 @@ use Rattle.job_language.specs.Jobs.{AbstractJob, names_of}
 use Rattle.job_meaning.specs.FileAnswers.{meaning_of}
 use Rattle.report.specs.Json.{report_json}
 use Rattle.report.specs.Text.{report_text}
-use Rattle.engine.specs.declared.running.EngineFault.{EngineFault}
-use Rattle.engine.specs.declared.running.EngineFault.TheVariants.{Columns, Jobs, JobsRead, NoMemory, Write}
+use Rattle.engine.specs.declared.fault.EngineFault.{EngineFault}
+use Rattle.engine.specs.declared.fault.EngineFault.TheVariants.{Columns, Jobs, JobsRead, NoMemory, Write}
 
 -- what a run is given: the bytes of the column file, if there is one, the bytes of the job file, and the form of the
 -- report

@@ -1,7 +1,7 @@
 -- Design: the exit status of the program.
 use Rattle.std.specs.Prelude.{ℕ, Result, Ok, Err}
-use Rattle.engine.specs.declared.running.EngineFault.{EngineFault}
-use Rattle.engine.specs.declared.running.EngineFault.TheVariants.{Columns, Jobs, JobsRead, NoMemory, Write}
+use Rattle.engine.specs.declared.fault.EngineFault.{EngineFault}
+use Rattle.engine.specs.declared.fault.EngineFault.TheVariants.{Columns, Jobs, JobsRead, NoMemory, Write}
 use Rattle.columns.specs.declared.fault.ColumnFault.{ColumnFault}
 use Rattle.columns.specs.declared.fault.ColumnFault.TheVariants as column
 use Rattle.job_language.specs.declared.fault.Cause.{Cause}

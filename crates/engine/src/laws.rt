@@ -1,13 +1,14 @@
 //! Laws of the definitions. The functions do nothing; their contracts are the laws.
 
-ghost use Rattle.std.specs.Prelude.{◌≡◌, ◌≢◌, ℕ, ◌++◌, List, Option, Some, take};
+ghost use Rattle.std.specs.Prelude.{◌≡◌, ◌≢◌, ℕ, ◌++◌, List, Option, Some, codes, take};
 ghost use Rattle.columns.specs.declared.fault.ColumnFault.{ColumnFault as meant_column_fault};
 ghost use Rattle.columns.specs.declared.fault.ColumnFault.TheVariants as column;
 ghost use Rattle.job_language.specs.declared.fault.Cause.TheVariants as cause;
 ghost use Rattle.job_language.specs.declared.fault.JobFault.{JobFault as meant_job_fault};
-ghost use Rattle.engine.specs.declared.running.EngineFault.TheVariants as engine_fault;
+ghost use Rattle.engine.specs.declared.fault.EngineFault.TheVariants as engine_fault;
 ghost use Rattle.engine.specs.Outcomes.{HasOutcome, Outcome, columns_refused, jobs_refused};
 ghost use Rattle.engine.specs.Run.{Faulted, Input, IsReport, Reported, Says};
+ghost use Rattle.engine.specs.Worked.{in_version_one, in_version_two};
 
 /// Each input gives one thing: a report, a refusal of the column file, or a refusal of the job file, and no two of
 /// these.
@@ -33,4 +34,11 @@ pub fn settings_change_no_byte()
         → Reported input (Some before) after → Reported input (Some before) other → after ≡ other }
     ensures cut { (input : Input) (before report : List ℕ) (after : Option (List ℕ)) (n : ℕ)
         → Faulted input (Some before) after (engine_fault.Write n) → IsReport input report → after ≡ Some (before ++ take n report) }
+{}
+
+/// What the definitions give for a small job file, from its bytes on: a number after a fault in a file of version 2,
+/// and a refusal in one of version 1.
+pub fn worked_files()
+    ensures two { IsReport in_version_two (codes "s = -1\n") }
+    ensures one { HasOutcome in_version_one (jobs_refused (record { line = 1; cause = cause.Syntax })) }
 {}

@@ -10,12 +10,16 @@
 //! The operations are defined as in `java.util.stream.LongStream` (Java SE 17), the arithmetic as for `long`.
 #![tactic(auto)]
 
+mod fault;
 mod gate;
 mod laws;
 mod running;
 mod telling;
 
+pub use fault::EngineFault;
 pub use gate::RunGate;
-pub use laws::{each_input_has_one_outcome, refusals_are_outcomes, settings_change_no_byte};
-pub use running::{EngineFault, run};
-pub use telling::{status_after, tell};
+pub use laws::{
+    each_input_has_one_outcome, refusals_are_outcomes, settings_change_no_byte, worked_files,
+};
+pub use running::run;
+pub use telling::{status_after, tell, write_line};

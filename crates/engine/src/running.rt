@@ -1,9 +1,9 @@
 //! A run: from the bytes of the column file and of the job file to the bytes of the report.
 
 ghost use Rattle.counted_io.specs.FailureCounts.{HasRisen};
+ghost use Rattle.engine.specs.Given.{HasRisenThere, HoldsWith, IsAtEndThere, IsGiven};
 ghost use Rattle.engine.specs.Refused.{IsEarly};
-ghost use Rattle.engine.specs.Given.{HasRisenThere, IsGiven, IsWhole};
-ghost use Rattle.engine.specs.Run.{Faulted, Input, IsReport, Reported, columns_of, report_in};
+ghost use Rattle.engine.specs.Run.{Faulted, Input, IsReport, Reported, Says, columns_of, report_in};
 ghost use Rattle.job_language.specs.Jobs.{jobs_of, names_of};
 ghost use Rattle.job_meaning.specs.FileAnswers.{meaning_of};
 ghost use Rattle.job_plan.specs.Parts.{plans_in};
@@ -14,10 +14,11 @@ ghost use Rattle.std.specs.Io.KnownBytes.{IsAtEnd, Keeps};
 ghost use Rattle.std.specs.Prelude.{◌≡◌, ◌≢◌, ℕ, All, List, length, map, Option, Ok, IfErr, IfOk, OnOk};
 ghost use Rattle.stream_tokens.specs.Forms.{IsName};
 
+use crate::fault::EngineFault;
 use crate::gate::RunGate;
 use columns::{ColumnFault, Columns, CountedRead, read_columns_by};
 use counted_io::{ReadAllFault, read_all_of};
-use job_language::{Job, JobFault, read_jobs};
+use job_language::{Job, read_jobs};
 use job_meaning::Answer;
 use job_plan::{JobPlan, Plan};
 use job_table::{RunFault, run_jobs};
@@ -27,30 +28,6 @@ use std::alloc::Global;
 use std::sync::Wait;
 use std::thread::Threads;
 use stream_tokens::{Bytes, NoMemory};
-use thiserror::Error;
-
-/// Why a run gives no report, or only a part of it. Unless it is `Write`, nothing was written.
-///
-/// The numbers are stable; there is no 6 and no 7. The text is the program's line on standard error, without the
-/// program's name.
-#[derive(Clone, Copy, Debug, PartialEq, Eq, Error)]
-pub enum EngineFault {
-    /// 1: the column file is refused, a read of it failed, or memory for it was refused.
-    #[error("{0}")]
-    Columns(ColumnFault),
-    /// 2: a job of the file is refused, or memory ran out while the file was checked.
-    #[error("{0}")]
-    Jobs(JobFault),
-    /// 3: a read of the job file failed.
-    #[error("jobs: read failed")]
-    JobsRead,
-    /// 4: an allocation failed.
-    #[error("out of memory")]
-    NoMemory,
-    /// 5: a write failed; the first `written` bytes of the report went out, and no others.
-    #[error("write failed after {written} bytes")]
-    Write { written: u64 },
-}
 
 /// How many bytes of a column file one thread reads at a time.
 const PIECE: usize = 4 * 1024 * 1024;
@@ -90,6 +67,7 @@ pub fn run<
         × Faulted input (W.contents writer.old) (W.contents writer.new) fault) }
 
     ensures read_up { OnOk result (IsAtEnd (J.remaining jobs.new)) }
+    ensures columns_read_up { OnOk result (IsAtEndThere C.remaining columns.entry columns.exit) }
 
     ensures unread { IfErr result (λ fault. (cause : ColumnFault) → fault ≡ EngineFault.Columns cause →
         (J.remaining jobs.new ≡ J.remaining jobs.old) × (J.failures jobs.new ≡ J.failures jobs.old)) }
@@ -104,20 +82,45 @@ pub fn run<
     ensures write_failed { IfErr result (λ fault. (n : ℕ) → fault ≡ EngineFault.Write n →
         HasRisen (W.failures writer.old) (W.failures writer.new)) }
 {
-    let table = match columns {
-        Some(reader) => match read_columns_by(
-            rt,
-            alloc,
-            reader,
-            settings.workers() as usize,
-            PIECE,
-        ) {
-            Ok(table) => table,
-            Err(fault) => return Err(EngineFault::Columns(fault)),
-        },
-        None => Columns::none(),
-    };
-    let report = match report_from(rt, alloc, &table, jobs, settings, gate) {
+    match columns {
+        Some(reader) => {
+            let workers = settings.workers() as usize;
+            let table = match read_columns_by(rt, alloc, reader, workers, PIECE) {
+                Ok(table) => table,
+                Err(fault) => return Err(EngineFault::Columns(fault)),
+            };
+            run_with(rt, alloc, table, jobs, writer, settings, gate)
+        }
+        None => run_with(rt, alloc, Columns::none(), jobs, writer, settings, gate),
+    }
+}
+
+/// The run from the job file on, with these columns.
+fn run_with<H: Threads + Wait + Sync, J: CountedRead, W: CountedWrite, G: RunGate + Sync>(
+    rt: &H,
+    alloc: Global,
+    columns: Columns,
+    jobs: &mut J,
+    writer: &mut W,
+    settings: &Settings,
+    gate: &G,
+) -> Result<(), EngineFault>
+    ensures report { OnOk result (HoldsWith columns (J.remaining jobs.old) (form_of settings.now)
+        (λ input. Reported input (W.contents writer.old) (W.contents writer.new))) }
+    ensures fault { IfErr result (λ fault. HoldsWith columns (J.remaining jobs.old) (form_of settings.now)
+        (λ input. Faulted input (W.contents writer.old) (W.contents writer.new) fault)) }
+    ensures read_up { OnOk result (IsAtEnd (J.remaining jobs.new)) }
+    ensures columns { IfErr result (λ fault. (cause : ColumnFault) → fault ≢ EngineFault.Columns cause) }
+    ensures unwritten { IfErr result (λ fault. ((n : ℕ) → fault ≢ EngineFault.Write n) →
+        Keeps (W.contents writer.old) (W.contents writer.new)) }
+    ensures untouched { IfErr result (λ fault. ((n : ℕ) → fault ≢ EngineFault.Write n) →
+        W.failures writer.new ≡ W.failures writer.old) }
+    ensures read_failed { IfErr result (λ fault. fault ≡ EngineFault.JobsRead →
+        HasRisen (J.failures jobs.old) (J.failures jobs.new)) }
+    ensures write_failed { IfErr result (λ fault. (n : ℕ) → fault ≡ EngineFault.Write n →
+        HasRisen (W.failures writer.old) (W.failures writer.new)) }
+{
+    let report = match report_from(rt, alloc, &columns, jobs, settings, gate) {
         Ok(report) => report,
         Err(fault) => return Err(fault),
     };
@@ -137,14 +140,12 @@ fn report_from<H: Threads + Wait + Sync, J: CountedRead, G: RunGate + Sync>(
     settings: &Settings,
     gate: &G,
 ) -> Result<Report, EngineFault>
-    ensures ok { IfOk result (λ report. (bytes : List ℕ) × IsWhole (J.remaining jobs.old) bytes
-        × ((file : Option (List ℕ)) → columns_of file ≡ Ok columns.now
-        → IsReport (record { columns = file; jobs = bytes; form = form_of settings.now }) report)) }
+    ensures ok { IfOk result (λ report. HoldsWith columns.now (J.remaining jobs.old) (form_of settings.now)
+        (λ input. IsReport input report)) }
     ensures end { OnOk result (IsAtEnd (J.remaining jobs.new)) }
-    ensures err { IfErr result (λ fault. fault ≢ EngineFault.JobsRead
-        → (bytes : List ℕ) × IsWhole (J.remaining jobs.old) bytes
-        × ((file : Option (List ℕ)) → columns_of file ≡ Ok columns.now
-        → IsEarly (record { columns = file; jobs = bytes; form = form_of settings.now }) fault)) }
+    ensures err { IfErr result (λ fault. HoldsWith columns.now (J.remaining jobs.old) (form_of settings.now)
+        (λ input. Says input fault)) }
+    ensures early { IfErr result IsEarly }
     ensures read_failed { IfErr result (λ fault. fault ≡ EngineFault.JobsRead →
         HasRisen (J.failures jobs.old) (J.failures jobs.new)) }
 {
@@ -168,7 +169,8 @@ fn report_of<H: Threads + Wait + Sync, G: RunGate + Sync>(
     ensures ok { IfOk result (λ report. (file : Option (List ℕ)) → columns_of file ≡ Ok columns.now
         → IsReport (record { columns = file; jobs = bytes.now; form = form_of settings.now }) report) }
     ensures err { IfErr result (λ fault. (file : Option (List ℕ)) → columns_of file ≡ Ok columns.now
-        → IsEarly (record { columns = file; jobs = bytes.now; form = form_of settings.now }) fault) }
+        → Says (record { columns = file; jobs = bytes.now; form = form_of settings.now }) fault) }
+    ensures early { IfErr result IsEarly }
     ensures read { IfErr result (λ fault. fault ≢ EngineFault.JobsRead) }
 {
     let jobs = match read_jobs(alloc, bytes, columns) {

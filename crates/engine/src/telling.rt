@@ -1,12 +1,22 @@
 //! One line on standard error for each fault of a run, and the status of the program.
 
+ghost use Rattle.engine.specs.FaultTexts.{line_of};
 ghost use Rattle.engine.specs.Statuses.{status_after, status_of};
-ghost use Rattle.std.specs.Prelude.{◌≡◌};
+ghost use Rattle.std.specs.Io.KnownBytes.{Appends};
+ghost use Rattle.std.specs.Prelude.{◌≡◌, OnOk};
 
-use crate::running::EngineFault;
+use crate::fault::EngineFault;
 use columns::ColumnFault;
 use job_language::Cause;
+use std::io;
 use std::io::Write;
+
+/// Writes the fault's line. After an error some bytes of it may have gone out.
+pub fn write_line<W: Write>(fault: &EngineFault, writer: &mut W) -> io::Result<()>
+    ensures { OnOk result (Appends (W.contents writer.old) (W.contents writer.new) (line_of fault.now)) }
+{
+    writeln!(writer, "streamrun: {fault}")
+}
 
 /// Writes the fault's line and answers the program's exit status: 1 for input that is refused,
 /// 3 for out of memory, 4 for a file that can't be read or written.
@@ -15,7 +25,7 @@ use std::io::Write;
 pub fn tell<W: Write>(fault: &EngineFault, writer: &mut W) -> u8
     ensures { result ≡ status_of fault.now }
 {
-    let _ = writeln!(writer, "streamrun: {fault}");
+    let _ = write_line(fault, writer);
     match fault {
         EngineFault::Columns(ColumnFault::NoMemory) => 3,
         EngineFault::Columns(ColumnFault::Read) => 4,
