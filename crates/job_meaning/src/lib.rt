@@ -12,7 +12,9 @@
 #![tactic(auto)]
 
 mod answer;
+mod laws;
 mod values;
 
 pub use answer::Answer;
+pub use laws::walks_go_item_by_item;
 pub use values::Values;
