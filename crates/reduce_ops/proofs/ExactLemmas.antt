@@ -1,5 +1,5 @@
 -- Exact sums of joined lists, and how far their sums reach.
-use Rattle.std.proofs.Common.{◌≡◌, inl, inr, ℕ, ◌<◌, ◌^◌, ℤ, pos, negsuc, ◌+ℤ◌, ◌≤ℤ◌, Bool, true, false, if◌then◌else◌, List, [], ◌∷◌, ◌++◌, take, drop, slice_get, zero, suc, ◌+◌, append_assoc, Some, None, Result, Ok, Err, sym, refl, ap, subst, ◌∙◌, arith}
+use Rattle.std.proofs.Common.{◌≡◌, inl, inr, ℕ, ◌<◌, ◌^◌, ℤ, pos, negsuc, ◌+ℤ◌, ◌≤ℤ◌, Bool, true, false, if◌then◌else◌, List, [], ◌∷◌, ◌++◌, take, drop, slice_get, zero, suc, ◌+◌, append_assoc, Option, Some, None, IfSome, Result, Ok, Err, sym, refl, ap, subst, ◌∙◌, arith, FitsSigned, w64}
 use Rattle.std.specs.List.{fold}
 use Rattle.std.proofs.lemmas.Int.{ints, clamps}
 use Rattle.std.proofs.lemmas.List.Sums.{fold-append}
@@ -17,7 +17,9 @@ use Rattle.reduce_ops.specs.declared.exact.Exact.TheVariants as exact
 use Rattle.reduce_ops.specs.declared.reach.Reach.{Reach}
 use Rattle.reduce_ops.specs.declared.exact_part.ExactPart.{ExactPart}
 use Rattle.reduce_ops.specs.declared.exact_part.ExactPart.TheVariants as piece
-use Rattle.reduce_ops.specs.Reaches.{AbstractReach, Covers, IsExact, IsOneSided, IsPiece, IsWidest, no_reach, reach_on, reach_of, item_values, reach_beside, exact_of, is_ended, is_search, Holds, IsOver, IsWide}
+use Rattle.reduce_ops.specs.declared.sum_part.SumPart.{SumPart}
+use Rattle.reduce_ops.specs.declared.sum_part.SumPart.TheVariants as part
+use Rattle.reduce_ops.specs.Reaches.{AbstractReach, Covers, IsExact, IsOneSided, IsPiece, IsWidest, StandsFor, no_reach, reach_on, reach_of, item_values, reach_beside, exact_of, is_ended, is_search, Holds, IsOver, IsWide}
 
 -- ---- the sum as it goes on
 
@@ -61,6 +63,10 @@ long_within (negsuc n) l h = let k : n < 2 ^ 63 = omega (arith, ints) in grind a
 pub within_long : (z : ℤ) → is_long z ≡ true → (negsuc 9223372036854775807 ≤ℤ z) × (z ≤ℤ pos 9223372036854775807)
 within_long (pos n) h = let k : n < 2 ^ 63 = grind arith in (omega (arith, ints), omega (arith, ints))
 within_long (negsuc n) h = let k : n < 2 ^ 63 = grind arith in (omega (arith, ints), omega (arith, ints))
+
+pub long_fits : (z : ℤ) → negsuc 9223372036854775807 ≤ℤ z → z ≤ℤ pos 9223372036854775807 → FitsSigned w64 z
+long_fits (pos n) l h = record { sfits = omega (arith, ints) }
+long_fits (negsuc n) l h = record { sfits = omega (arith, ints) }
 
 -- ---- how far sums reach
 
@@ -191,16 +197,16 @@ pub on_fault : (a b : Trace) (f : Fault) → a.ending ≡ end.Fault f → append
 on_fault a b f h = ap (λ (e : End). then_on a.items e b) h ∙ (λ i. trace a.items (sym h i))
 
 -- a sum that is outside 64 bits at some item stays so
-pub err_stays : (z : ℤ) (a b : Trace) → (x : Item) × (exact_from z a.items ≡ Err x) → (x : Item) × (exact_from z (append a b).items ≡ Err x)
-err_stays z a b h = (h.0, by a.ending)
+pub err_stays : (z : ℤ) (x : Item) (a b : Trace) → exact_from z a.items ≡ Err x → exact_from z (append a b).items ≡ Err x
+err_stays z x a b h = by a.ending
   where
-    by : (e : End) → exact_from z (then_on a.items e b).items ≡ Err h.0
-    by end.Done = exact_joined z a.items b.items ∙ ap (λ r. exact_on r b.items) h.1
-    by (end.Fault f) = h.1
+    by : (e : End) → exact_from z (then_on a.items e b).items ≡ Err x
+    by end.Done = exact_joined z a.items b.items ∙ ap (λ r. exact_on r b.items) h
+    by (end.Fault f) = h
 
 -- and so does a piece that is over
 pub over_stays : (a b : Trace) → IsOver a.items → IsOver (append a b).items
-over_stays a b over z long = err_stays z a b (over z long)
+over_stays a b over z long = let x = over z long in (x.0, err_stays z x.0 a b x.1)
 
 pub over_after : (a b : Trace) → a.ending ≡ end.Done → IsOver b.items → IsOver (append a b).items
 over_after a b done over = subst (λ (t : Trace). IsOver t.items) (sym (on_done a b done)) (joined_over a.items b.items over)
@@ -251,7 +257,7 @@ known_search (Err f) = refl
 pub ended_stays : (n : ℕ) (a b : Trace) (r : Exact) → is_ended r ≡ true → IsExact n a r → IsExact n (append a b) r
 ended_stays n a b (exact.Sum z) h s = absurd (let k : false ≡ true = h in cc)
 ended_stays n a b (exact.Fault f) h s = joined_sum n a b (Err f) (sym s)
-ended_stays n a b exact.Search h s = err_stays (pos 0) a b s
+ended_stays n a b exact.Search h s = (s.0, err_stays (pos 0) s.0 a b s.1)
 
 pub ended_else : (r : Exact) → ((z : ℤ) → r ≡ exact.Sum z → ⊥) → is_ended r ≡ true
 ended_else (exact.Sum z) h = absurd (h z refl)
@@ -273,6 +279,12 @@ ended_search r q same never = by r refl
     by (exact.Sum z) k = other q never
     by (exact.Fault f) k = other q never
     by exact.Search k = absurd (never (same (ap is_ended k) ∙ k))
+
+-- what the part of a piece says of a whole walk
+pub piece_known : (q : SumPart) (p : ExactPart) → q ≡ part.Piece p → (r : Exact) (o : Option (Result ℤ Fault)) → ((n : ℕ) (t : Trace) → IsPiece p t → IsExact n t r)
+    → IfSome o (λ s. (n : ℕ) (t : Trace) → IsExact n t r → s ≡ exact_sum n t) → IfSome o (λ s. (n : ℕ) (t : Trace) → StandsFor n q t → s ≡ exact_sum n t)
+piece_known q p is r None whole known = tt
+piece_known q p is r (Some s) whole known = λ n t h. known n t (whole n t (subst (λ (x : SumPart). StandsFor n x t) is h))
 
 same_ok : (y z : ℤ) → exact_end 0 end.Done (Ok y) ≡ Ok z → y ≡ z
 same_ok y z h = cc

@@ -79,7 +79,7 @@ sum_settles n part.Unknown t h k s = absurd (let z : false ≡ true = h in cc)
 first_faults : (n : ℕ) (t : Trace) (r : Exact) → is_ended r ≡ true → IsExact n t r → (g : Fault) × ((b : Trace) → exact_sum n (append t b) ≡ Err g)
 first_faults n t (exact.Sum z) h s = absurd (let k : false ≡ true = h in cc)
 first_faults n t (exact.Fault f) h s = (f, λ b. joined_sum n t b (Err f) (sym s))
-first_faults n t exact.Search h s = (record { kind = kind.Overflow; stage = n; origin = Some s.0.origin }, λ b. ap (exact_end n (append t b).ending) (err_stays (pos 0) t b s).1)
+first_faults n t exact.Search h s = (record { kind = kind.Overflow; stage = n; origin = Some s.0.origin }, λ b. ap (exact_end n (append t b).ending) (err_stays (pos 0) s.0 t b s.1))
 
 pub first_settles : (n : ℕ) (p : SumPart) (t : Trace) → is_settled p ≡ true → is_running p ≡ true → StandsFor n p t → (b c : Trace) → exact_sum n (append t b) ≡ exact_sum n (append t c)
 first_settles n (part.Piece p) t h k s b c = absurd (let z : false ≡ true = k in cc)

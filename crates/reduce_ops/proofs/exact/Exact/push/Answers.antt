@@ -1,4 +1,4 @@
-use Rattle.std.proofs.Common.{◌≡◌, sym, ap, ◌∙◌, rules, subst, ℤ, Ok, [], ◌∷◌, FitsSigned, w64}
+use Rattle.std.proofs.Common.{sym, ap, ◌∙◌, rules, subst, ℤ, Ok, [], ◌∷◌, FitsSigned, w64}
 use Rattle.std.proofs.lemmas.Int.{to_z-of_z}
 use Rattle.trace.specs.declared.item.End.TheVariants as end
 use Rattle.trace.specs.Trace.{trace, append}
@@ -12,7 +12,7 @@ pub returns-in-Sum : goal.returns-in-Sum
 returns-in-Sum c =
     let u = trace (c.args.item ∷ []) end.Done in
     let fits : FitsSigned w64 c.in-Sum.before = search rules in
-    let added = c.added-self.ensures ∙ ap (λ (z : ℤ). exact_of (sum_on c.args.stage (Ok z) u)) (to_z-of_z w64 c.in-Sum.before fits) in
+    let added = c.added.ensures ∙ ap (λ (z : ℤ). exact_of (sum_on c.args.stage (Ok z) u)) (to_z-of_z w64 c.in-Sum.before fits) in
     record {
       stands = λ t h.
           let sum = rw c.in-Sum.is at h in

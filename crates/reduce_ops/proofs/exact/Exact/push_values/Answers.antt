@@ -1,8 +1,6 @@
-use Rattle.std.proofs.Common.{[], subst}
+use Rattle.std.proofs.Common.{[]}
 use Rattle.trace.specs.declared.item.End.TheVariants as end
-use Rattle.trace.specs.Trace.{trace, append}
-use Rattle.reduce_ops.specs.declared.exact.Exact.{Exact}
-use Rattle.reduce_ops.specs.Reaches.{IsExact}
+use Rattle.trace.specs.Trace.{trace}
 use Rattle.reduce_ops.proofs.ExactLemmas.{ended_search}
 use Rattle.reduce_ops.proofs.exact.Exact.push_values.Goals as goal
 
