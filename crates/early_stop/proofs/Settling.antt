@@ -10,7 +10,7 @@ use Rattle.trace.specs.declared.item.End.TheVariants as end
 use Rattle.trace.specs.Trace.{Trace, trace, then_on, append}
 use Rattle.trace.proofs.JoinLemmas.{append_grouped, append_faulted}
 use Rattle.early_stop.specs.Decisive.{BeginsAs, Decides}
-use Rattle.early_stop.specs.Leaving.{IsSettled, IsEnough}
+use Rattle.early_stop.specs.Leaving.{IsSettled, IsSettledAfter, IsEnough}
 use Rattle.early_stop.proofs.Leaving.{begins_less}
 
 -- a place after a decisive one is decisive
@@ -63,14 +63,14 @@ module _ {O : Type 0} (close : Trace → O) (g : Trace → Trace) (joins : (a b 
       ∙ ap (λ (u : Trace). append u (g (rest t))) (joins before piece)
 
   -- the end of a piece is a decisive place if its walk settles the outcome
-  pub settled_decides : i + m ≤ length s.items → IsSettled close (g piece) → Decides (λ t. close (g t)) s (i + m)
-  settled_decides low settles t (b, w) = ap close (cuts t (b low)) ∙ settles (g before) (g (rest t)) (g (rest s)) ∙ sym (ap close (cuts s refl))
+  pub settled_decides : i + m ≤ length s.items → IsSettledAfter close (g before) (g piece) → Decides (λ t. close (g t)) s (i + m)
+  settled_decides low settles t (b, w) = ap close (cuts t (b low)) ∙ settles (g (rest t)) (g (rest s)) ∙ sym (ap close (cuts s refl))
 
   -- and also if its part settles the outcome, even if some of it was left unwalked
-  pub enough_decides : (t : Trace) → i + m ≤ length s.items → IsEnough (Decides (λ u. close (g u)) s) i piece t → IsSettled close (g t) → Decides (λ u. close (g u)) s (i + m)
+  pub enough_decides : (t : Trace) → i + m ≤ length s.items → IsEnough (Decides (λ u. close (g u)) s) i piece t → IsSettledAfter close (g before) (g t) → Decides (λ u. close (g u)) s (i + m)
   enough_decides t low enough settles = ⊎_elim
-      (λ (e : t ≡ piece). settled_decides low (subst (λ u. IsSettled close (g u)) e settles))
+      (λ (e : t ≡ piece). settled_decides low (subst (λ u. IsSettledAfter close (g before) (g u)) e settles))
       (λ (h : (c : ℕ) × Decides (λ u. close (g u)) s c × BeginsAs (c - i) piece t). dite (dec_le h.0 (i + m))
       (λ below. later_decides (λ u. close (g u)) s h.0 (i + m) below h.1)
-      (λ above. let l = length-take m (drop i s.items) in settled_decides low (subst (λ u. IsSettled close (g u)) (h.2.1 (omega arith)) settles)))
+      (λ above. let l = length-take m (drop i s.items) in settled_decides low (subst (λ u. IsSettledAfter close (g before) (g u)) (h.2.1 (omega arith)) settles)))
       enough

@@ -4,7 +4,7 @@ ghost use Rattle.trace.specs.declared.item.Fault.{Fault};
 ghost use Rattle.trace.specs.declared.item.End.TheVariants as end;
 ghost use Rattle.trace.specs.Trace.{Trace, trace, append};
 ghost use Rattle.early_stop.specs.Decisive.{Decides};
-ghost use Rattle.early_stop.specs.Leaving.{IsSettled, IsEnough};
+ghost use Rattle.early_stop.specs.Leaving.{IsSettled, IsSettledAfter, IsEnough};
 
 /// Parts of pieces that lie side by side may be joined, if each piece was walked, or begins at or right of a decisive
 /// place, or is joined of pieces like these. The joined piece is again one of these, and the part of the whole source
@@ -17,12 +17,12 @@ pub fn parts_may_be_joined<O>()
     ensures whole { (outcome : Trace → O) (source t : Trace) → IsEnough (Decides outcome source) 0 source t → outcome t ≡ outcome source }
 {}
 
-/// The end of a piece is decisive if its part settles the outcome, even if some of the piece was left unwalked. `g` is
-/// what the stages of the segment make of a walk.
+/// The end of a piece is decisive if its part settles the outcome after what lies before the piece, even if some of the
+/// piece was left unwalked. `g` is what the stages of the segment make of a walk.
 #[tactic(auto, using(crate::proofs::Settling::enough_decides))]
 pub fn settled_parts_decide<O>()
     ensures { (close : Trace → O) (g : Trace → Trace) → ((a b : Trace) → g (append a b) ≡ append (g a) (g b)) → (s t : Trace) (i m : ℕ) → i + m ≤ length s.items
-        → IsEnough (Decides (λ u. close (g u)) s) i (trace (take m (drop i s.items)) end.Done) t → IsSettled close (g t) → Decides (λ u. close (g u)) s (i + m) }
+        → IsEnough (Decides (λ u. close (g u)) s) i (trace (take m (drop i s.items)) end.Done) t → IsSettledAfter close (g (trace (take i s.items) end.Done)) (g t) → Decides (λ u. close (g u)) s (i + m) }
 {}
 
 /// A fault settles every outcome.

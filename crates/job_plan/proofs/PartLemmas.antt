@@ -1,5 +1,5 @@
 -- What is asked of each end of a segment: parts of no item, of one more item, of pieces side by side; what settles them, and what they give.
-use Rattle.std.proofs.Common.{◌≡◌, ℕ, ◌+◌, ◌-◌, ◌≤◌, ℤ, pos, suc, Bool, true, false, is_some, List, [], ◌∷◌, ◌++◌, length, map as each_of, Option, Some, Result, Ok, Err, OnOk, refl, sym, ap, subst, ◌∙◌, append_assoc, arith}
+use Rattle.std.proofs.Common.{◌≡◌, ℕ, zero, suc, ◌+◌, ◌-◌, ◌≤◌, ℤ, pos, Bool, true, false, if◌then◌else◌, is_some, List, [], ◌∷◌, ◌++◌, length, take, map as each_of, Option, Some, Result, Ok, Err, OnOk, refl, sym, ap, subst, ◌∙◌, append_assoc, arith}
 use Rattle.lambda_values.specs.Earlier.{Numbers}
 use Rattle.trace.specs.declared.item.Item.{Item}
 use Rattle.trace.specs.declared.item.Fault.{Fault}
@@ -10,7 +10,7 @@ use Rattle.trace.specs.Stages.{AbstractStage, stage_of, stages_of}
 use Rattle.trace.specs.Trace.{Trace, trace, nothing, then_on, append}
 use Rattle.trace.proofs.JoinLemmas.{append_faulted, pipe_append}
 use Rattle.early_stop.specs.Decisive.{Decides}
-use Rattle.early_stop.specs.Leaving.{IsSettled}
+use Rattle.early_stop.specs.Leaving.{IsSettled, IsSettledAfter}
 use Rattle.early_stop.proofs.Settling.{enough_decides}
 use Rattle.reduce_ops.specs.declared.op.Op.{Op}
 use Rattle.reduce_ops.specs.declared.partial.Partial.{Partial}
@@ -18,7 +18,7 @@ use Rattle.reduce_ops.specs.ExactSums.{exact_sum as exactly_summed}
 use Rattle.reduce_ops.specs.Folds.{ones, unless_faulted}
 use Rattle.reduce_ops.specs.Parts.{StandsFor as FoldStands}
 use Rattle.reduce_ops.proofs.FoldLemmas.{wrapped_sum, counted}
-use Rattle.reduce_ops.proofs.SettledSums.{sum_settled, sum_settles}
+use Rattle.reduce_ops.proofs.SettledSums.{first_settles as first_sum_settles, sum_settled, sum_settles}
 use Rattle.slice_ops.proofs.GrownPartLemmas.{settled as slice_settled}
 use Rattle.find_ops.specs.Finds.{find_answer}
 use Rattle.find_ops.proofs.DecisionLemmas.{settled as find_settled}
@@ -34,7 +34,7 @@ use Rattle.job_plan.specs.declared.part.Part.TheVariants as part
 use Rattle.job_plan.specs.declared.outcome.Outcome.TheVariants as outcome
 use Rattle.job_plan.specs.declared.segment.Segment.{Segment}
 use Rattle.job_plan.specs.declared.segment.JobPlan.{JobPlan}
-use Rattle.job_plan.specs.Parts.{IsFold, EndsFor, StandsEnough, StandsFor, is_running, is_settled, is_fault, may_search, segment_in, segments_in, plan_in, plans_in}
+use Rattle.job_plan.specs.Parts.{IsFold, EndsFor, StandsEnough, StandsFor, is_running, is_settled, is_fault, may_search, segment_in, segments_in, settles, plan_in, plans_in}
 use Rattle.prefix_walks.specs.Batches.{counted_as}
 use Rattle.job_plan.specs.Plans.{AbstractEnd, slicing, folding, finding, collecting, exactly, scanning, AbstractSegment, AbstractPlan, end_of, ended, last_stage, on_outcome, outcome_of, walk_of}
 use Rattle.prefix_walks.specs.Pieces.{piece_of}
@@ -236,13 +236,52 @@ part_settles (scanning f r) n env (part.Prefix p) t h k s = faults (ended (scann
 part_settles exactly n env (part.Exact p) t h k s = settles_on (λ r. outcome.Answer (exact_answer r)) (exactly_summed n) t (sum_settles n p t h k s)
 part_settles e n env p t h k s = absurd s
 
--- the end of a piece decides what the segment gives if its part is settled, also if some of the piece was left unwalked
-pub settled_decides : (s : AbstractSegment) (env : Numbers) (p : Part) (w : Trace) (from to : ℕ) → from ≤ to → to ≤ length w.items → is_settled p ≡ true → is_running p ≡ false
+pub first_settles : (e : AbstractEnd) (n : ℕ) (env : Numbers) (p : Part) (t : Trace) → is_settled p ≡ true → is_running p ≡ true → EndsFor e n env p t → (b c : Trace) → ended e n env (append t b) ≡ ended e n env (append t c)
+first_settles exactly n env (part.Exact p) t h k s b c = ap (λ r. outcome.Answer (exact_answer r)) (first_sum_settles n p t h k s b c)
+first_settles e n env (part.Exact p) t h k s b c = absurd s
+first_settles e n env p t h k s b c = absurd (let z : false ≡ true = k in cc)
+
+-- of a piece that begins at the first item, or whose part is no sum from there on
+settles_after : (s : AbstractSegment) (env : Numbers) (p : Part) (w t : Trace) (from : ℕ) → is_settled p ≡ true → (is_running p ≡ true → from ≡ 0) → StandsFor s env p t
+    → IsSettledAfter (ended s.ending (last_stage s) env) (walk_of s env (trace (take from w.items) end.Done)) (walk_of s env t)
+settles_after s env p w t from is first stands = by (is_running p) refl
+  where
+    Settled : Trace → Trace → Type 0
+    Settled a u = IsSettledAfter (ended s.ending (last_stage s) env) a u
+
+    by : (b : Bool) → is_running p ≡ b → Settled (walk_of s env (trace (take from w.items) end.Done)) (walk_of s env t)
+    by false k = part_settles s.ending (last_stage s) env p (walk_of s env t) is k stands (walk_of s env (trace (take from w.items) end.Done))
+    by true k =
+        subst (λ (n : ℕ). Settled (walk_of s env (trace (take n w.items) end.Done)) (walk_of s env t)) (sym (first k))
+        (subst (λ (u : Trace). (b c : Trace) → ended s.ending (last_stage s) env (append u b) ≡ ended s.ending (last_stage s) env (append u c)) (pipe_append s.first s.stages env nothing t)
+        (first_settles s.ending (last_stage s) env p (walk_of s env t) is k stands))
+
+-- the end of a piece decides what the segment gives if its part settles it, also if some of the piece was left unwalked
+pub settled_decides : (s : AbstractSegment) (env : Numbers) (p : Part) (w : Trace) (from to : ℕ) → from ≤ to → to ≤ length w.items → is_settled p ≡ true → (is_running p ≡ true → from ≡ 0)
     → StandsEnough (Decides (outcome_of s env) w) s env p from (piece_of from (Some to) w) → Decides (outcome_of s env) w to
-settled_decides s env p w from to l h is after (t, enough, stands) =
+settled_decides s env p w from to l h is first (t, enough, stands) =
     let e : from + (to - from) ≡ to = omega arith in
     subst (Decides (outcome_of s env) w) e
-    (enough_decides (ended s.ending (last_stage s) env) (walk_of s env) (pipe_append s.first s.stages env) w from (to - from) t (omega arith) enough (part_settles s.ending (last_stage s) env p (walk_of s env t) is after stands))
+    (enough_decides (ended s.ending (last_stage s) env) (walk_of s env) (pipe_append s.first s.stages env) w from (to - from) t (omega arith) enough (settles_after s env p w t from is first stands))
+
+-- ---- settled at a position
+
+pub settles_first : (n : ℕ) (p : Part) → n ≡ 0 → settles n p ≡ is_settled p
+settles_first zero p h = refl
+settles_first (suc k) p h = absurd (omega arith)
+
+pub settles_later : (n : ℕ) (p : Part) → (n ≡ 0 → ⊥) → settles n p ≡ (if is_running p then false else is_settled p)
+settles_later zero p h = absurd (h refl)
+settles_later (suc k) p h = refl
+
+-- what a part that settles is
+pub settled_there : (from : ℕ) (p : Part) → settles from p ≡ true → (is_settled p ≡ true) × (is_running p ≡ true → from ≡ 0)
+settled_there zero p h = (h, λ k. refl)
+settled_there (suc n) p h = by (is_running p) h
+  where
+    by : (b : Bool) → (if b then false else is_settled p) ≡ true → (is_settled p ≡ true) × (b ≡ true → suc n ≡ 0)
+    by true h = absurd (let z : false ≡ true = h in cc)
+    by false h = (h, λ k. absurd (let z : false ≡ true = k in cc))
 
 -- ---- terminals
 

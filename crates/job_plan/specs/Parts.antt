@@ -1,5 +1,5 @@
 -- Condition: what the parts, segments and sources of the program mean.
-use Rattle.std.specs.Prelude.{◌≡◌, ℕ, ℤ, Bool, true, false, not, List, [], ◌∷◌, Option, Some, is_some, option_map}
+use Rattle.std.specs.Prelude.{◌≡◌, ℕ, zero, suc, ℤ, Bool, true, false, if◌then◌else◌, List, [], ◌∷◌, Option, Some, is_some, option_map}
 use Rattle.lambda_values.specs.Earlier.{Numbers}
 use Rattle.trace.specs.declared.item.Item.{Item}
 use Rattle.trace.specs.declared.item.End.{End}
@@ -10,7 +10,7 @@ use Rattle.trace.specs.Stages.{stages_of}
 use Rattle.trace.specs.Trace.{Trace, trace, append}
 use Rattle.reduce_ops.specs.declared.op.Op.{Op}
 use Rattle.reduce_ops.specs.Parts.{StandsFor as FoldStands}
-use Rattle.reduce_ops.specs.Reaches.{StandsFor as SumStands, is_running as is_running_sum, is_settled as sum_is_settled}
+use Rattle.reduce_ops.specs.Reaches.{StandsFor as SumStands, is_running as is_running_sum, is_settled as sum_is_settled, may_search as sum_may_search}
 use Rattle.slice_ops.specs.Slices.{slice_of}
 use Rattle.slice_ops.specs.Parts.{StandsFor as SliceStands, is_settled as slice_is_settled}
 use Rattle.find_ops.specs.Finds.{find_of}
@@ -98,7 +98,7 @@ EndsFor e n env p t = ⊥
 -- whether a part of a whole walk may leave it open what the segment gives, so that the walk is to be done once more, in
 -- order
 abbrev pub may_search : Part → Bool
-may_search (part.Exact p) = not (is_running_sum p)
+may_search (part.Exact p) = sum_may_search p
 may_search p = false
 
 -- a part goes on from another one with this walk
@@ -132,10 +132,16 @@ is_settled (part.Array c) = is_fault c.ending
 is_settled (part.Prefix p) = is_fault p.walk.ending
 is_settled (part.Exact p) = sum_is_settled p
 
--- whether a part is the sum of a walk in order: then it settles nothing for a piece that begins later
+-- whether a part is the sum of a walk from the first item on
 abbrev pub is_running : Part → Bool
 is_running (part.Exact p) = is_running_sum p
 is_running p = false
+
+-- whether a part of a piece that begins at this position settles what the segment gives: a sum from the first item on
+-- does so only at the beginning
+abbrev pub settles : ℕ → Part → Bool
+settles zero p = is_settled p
+settles (suc k) p = if is_running p then false else is_settled p
 
 -- whether the parts of an end keep items; to merge two of them may then take memory
 abbrev pub end_keeps_items : AbstractEnd → Bool

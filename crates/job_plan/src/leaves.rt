@@ -240,7 +240,7 @@ pub fn unwalked<'p>(alloc: Global, segment: &'p Segment, env: &Env) -> Part<'p>
     Part::none(alloc, &segment.end, stage, env)
 }
 
-/// The part of no item of a whole source that is walked in order. It takes no memory.
+/// The part of no item, for a piece that begins at the first item of its source. It takes no memory.
 pub(crate) fn first_part<'p>(alloc: Global, segment: &'p Segment, env: &Env) -> Part<'p>
     ensures stands { StandsFor (segment_in segment.now) env.now result nothing }
     ensures kind { may_search result ≡ false }

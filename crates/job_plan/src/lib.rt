@@ -65,5 +65,5 @@ pub use run_settings::{Form, Settings};
 pub use segment::{JobPlan, Named, Plan, Segment};
 pub use source::{Source, Walked};
 pub use sources::PlainSources;
-pub use streaming::{streamed, streamed_in_order};
+pub use streaming::streamed;
 pub use walks::{SplitTree, walk, walk_tree};

@@ -7,7 +7,7 @@ ghost use Rattle.trace.specs.Trace.{Trace, trace, nothing, append};
 ghost use Rattle.trace.specs.declared.item.End.TheVariants as end;
 ghost use Rattle.trace.specs.declared.item.Item.{Item as item};
 ghost use Rattle.job_plan.specs.FoldFaults.{end_fault, fold_fault};
-ghost use Rattle.job_plan.specs.Parts.{EndsFor, StandsFor, end_in, end_keeps_items, is_fault, is_running, is_settled, keeps_items, may_search};
+ghost use Rattle.job_plan.specs.Parts.{EndsFor, StandsFor, end_in, end_keeps_items, is_fault, is_running, is_settled, keeps_items, may_search, settles};
 ghost use Rattle.job_plan.specs.Plans.{AbstractEnd, AbstractSegment, outcome_of};
 
 use crate::array_part::ArrayPart;
@@ -86,7 +86,7 @@ impl<'p> Part<'p> {
         }
     }
 
-    /// The part of no item of a walk that goes over a whole source in order. It takes no memory.
+    /// The part of no item of a walk from the first item of a source on. It takes no memory.
     pub(crate) fn first(alloc: Global, end: &'p SegmentEnd, stage: u32, env: &Env) -> Part<'p>
         ensures stands { EndsFor (end_in end.now) stage env.now result nothing }
         ensures kind { may_search result ≡ false }
@@ -105,8 +105,18 @@ impl<'p> Part<'p> {
         EndPart::is_settled(self)
     }
 
-    /// Whether the part settles what the segment gives, also for a piece that doesn't begin at the first item.
-    pub fn settles(&self) -> bool
+    /// Whether the part settles what the segment gives, as the part of a piece that begins at this position.
+    pub fn settles(&self, from: u64) -> bool
+        ensures { result ≡ settles from self.now }
+    {
+        if from == 0 {
+            return self.is_settled();
+        }
+        self.settles_later()
+    }
+
+    /// Whether the part settles what the segment gives, as the part of a piece that doesn't begin at the first item.
+    fn settles_later(&self) -> bool
         ensures { result ≡ (if is_running self.now then false else is_settled self.now) }
     {
         match self {

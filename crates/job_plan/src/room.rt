@@ -4,11 +4,12 @@ ghost use Rattle.std.specs.Prelude.{◌≡◌};
 ghost use Rattle.trace.specs.Trace.{nothing};
 ghost use Rattle.job_plan.specs.Parts.{StandsFor, end_in, end_keeps_items, keeps_items, segment_in};
 
-use crate::leaves::unwalked;
+use crate::leaves::{first_part, unwalked};
 use crate::moves::all_keep;
 use crate::part::Part;
 use crate::segment::Segment;
 use crate::source::Walked;
+use lambda_values::Env;
 use prefix_walks::Window;
 use std::alloc::Global;
 
@@ -28,7 +29,7 @@ pub(crate) fn with_room<'p>(
     ensures stands { StandsFor (segment_in segment.now) walked.entry.env.now result nothing }
     ensures keeps { keeps_items result ≡ end_keeps_items (end_in segment.now.end) }
 {
-    let part = unwalked(alloc, segment, walked.env);
+    let part = begun(alloc, segment, window.from, walked.env);
     if !all_keep(&segment.stages, false) {
         return part;
     }
@@ -37,6 +38,18 @@ pub(crate) fn with_room<'p>(
         None => walked.source.size(),
     };
     reserved(part, end.saturating_sub(window.from).min(MOST) as usize)
+}
+
+/// The part of no item, for a piece that begins at this position.
+fn begun<'p>(alloc: Global, segment: &'p Segment, from: u64, env: &Env) -> Part<'p>
+    ensures stands { StandsFor (segment_in segment.now) env.now result nothing }
+    ensures keeps { keeps_items result ≡ end_keeps_items (end_in segment.now.end) }
+{
+    if from == 0 {
+        first_part(alloc, segment, env)
+    } else {
+        unwalked(alloc, segment, env)
+    }
 }
 
 /// The part. An array has room for this many more values, if there is memory for it.

@@ -7,7 +7,7 @@ ghost use Rattle.job_plan.specs.Links.{AllFit, Fits, each_link_in, first_links, 
 ghost use Rattle.job_plan.specs.Parts.{GoesOnFrom, StandsFor, end_in, may_search, segment_in, segments_in, walk_in};
 ghost use Rattle.job_plan.specs.Plans.{last_stage, walk_of};
 
-use crate::leaves::{first_part, unwalked};
+use crate::leaves::first_part;
 use crate::links::{Link, push_links};
 use crate::nest::{DEEPEST, Deepest, Nest};
 use crate::outcome::Outcome;
@@ -32,40 +32,10 @@ pub fn streamed<'p>(
     walked: Walked,
     registers: &mut Registers,
 ) -> Result<Part<'p>, NoMemory>
-    ensures { IfOk result (λ part. StandsFor (segment_in last.now) walked.entry.env.now part (linked (first_links (segments_in segments.now)) walked.entry.env.now (walk_in walked.entry.source))) }
-{
-    let none = unwalked(alloc, last, walked.env);
-    streamed_from(alloc, none, segments, last, walked, registers)
-}
-
-/// The part that `streamed` gives, of a walk that is never walked again in order.
-pub fn streamed_in_order<'p>(
-    alloc: Global,
-    segments: &'p [Segment],
-    last: &'p Segment,
-    walked: Walked,
-    registers: &mut Registers,
-) -> Result<Part<'p>, NoMemory>
     ensures stands { IfOk result (λ part. StandsFor (segment_in last.now) walked.entry.env.now part (linked (first_links (segments_in segments.now)) walked.entry.env.now (walk_in walked.entry.source))) }
     ensures kind { IfOk result (λ part. may_search part ≡ false) }
 {
     let none = first_part(alloc, last, walked.env);
-    streamed_from(alloc, none, segments, last, walked, registers)
-}
-
-/// The part that `streamed` gives, begun from the part of no item.
-fn streamed_from<'p>(
-    alloc: Global,
-    none: Part<'p>,
-    segments: &'p [Segment],
-    last: &'p Segment,
-    walked: Walked,
-    registers: &mut Registers,
-) -> Result<Part<'p>, NoMemory>
-    requires none { StandsFor (segment_in last.now) walked.env.now none nothing }
-    ensures stands { IfOk result (λ part. StandsFor (segment_in last.now) walked.entry.env.now part (linked (first_links (segments_in segments.now)) walked.entry.env.now (walk_in walked.entry.source))) }
-    ensures kind { IfOk result (λ part. may_search part ≡ may_search none.entry) }
-{
     let mut links = Vec::new(alloc);
     push_links(&mut links, segments)?;
     through_links(alloc, none, &links, last, walked, registers)

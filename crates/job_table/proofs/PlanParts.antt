@@ -98,12 +98,12 @@ left_stands chain segment from to p c h ok stands = by (slice_get chain.segments
     by (Some s) d a = (nothing, enough_left (Decides (outcome_of s chain.numbers) (walk_at chain segment)) from c (piece_between (size_at chain segment) from to (walk_at chain segment)) nothing d h, a)
 
 -- after a settled part nothing matters
-pub part_decides : (chain : AbstractChain) (segment from to : ℕ) (p : Part) → from ≤ to → to < size_at chain segment → is_settled p ≡ true → is_running p ≡ false → PartStands chain segment from to p → Decides (gives_at chain segment) (walk_at chain segment) to
-part_decides chain segment from to p h w settled after stands = by (slice_get chain.segments segment) stands
+pub part_decides : (chain : AbstractChain) (segment from to : ℕ) (p : Part) → from ≤ to → to < size_at chain segment → is_settled p ≡ true → (is_running p ≡ true → from ≡ 0) → PartStands chain segment from to p → Decides (gives_at chain segment) (walk_at chain segment) to
+part_decides chain segment from to p h w settled first stands = by (slice_get chain.segments segment) stands
   where
     by : (o : Option AbstractSegment) → IfSome o (λ s. StandsEnough (Decides (outcome_of s chain.numbers) (walk_at chain segment)) s chain.numbers p from (piece_between (size_at chain segment) from to (walk_at chain segment))) → Decides (given_by chain.numbers o) (walk_at chain segment) to
     by None a = λ t b. refl
-    by (Some s) a = let fits = size_within chain segment in settled_decides s chain.numbers p (walk_at chain segment) from to h (omega arith) settled after
+    by (Some s) a = let fits = size_within chain segment in settled_decides s chain.numbers p (walk_at chain segment) from to h (omega arith) settled first
         (subst (λ (o : Option ℕ). StandsEnough (Decides (outcome_of s chain.numbers) (walk_at chain segment)) s chain.numbers p from (piece_of from o (walk_at chain segment))) (upto_middle (size_at chain segment) to w) a)
 
 module _ (chain : AbstractChain) (segment : ℕ) (part : Part) (o : Outcome) (ends : (s : AbstractSegment) (t : Trace) → StandsFor s chain.numbers part t → o ≡ outcome_of s chain.numbers t) where
@@ -144,14 +144,6 @@ never_searches chain segment p before stands may = by (slice_get chain.segments 
     by (Some s) e (t, enough, h) =
         let shut = other_ends s.ending (last_stage s) chain.numbers p (walk_of s chain.numbers t) (not_exact chain.segments segment s before e) h in
         let z : true ≡ false = sym may ∙ shut in cc
-
--- whether a part settles what a segment gives
-pub settles_both : (p : Part) → (if is_running p then false else is_settled p) ≡ true → (is_settled p ≡ true) × (is_running p ≡ false)
-settles_both p h = by (is_running p) h
-  where
-    by : (b : Bool) → (if b then false else is_settled p) ≡ true → (is_settled p ≡ true) × (b ≡ false)
-    by true h = absurd (let z : false ≡ true = h in cc)
-    by false h = (h, refl)
 
 -- the part of a whole walk
 pub all_stands : {F : Type 0} (chain : AbstractChain) (segment : ℕ) (s : AbstractSegment) (r : Result Part F) (env : Numbers) (w : Trace) → slice_get chain.segments segment ≡ Some s → env ≡ chain.numbers → w ≡ walk_at chain segment

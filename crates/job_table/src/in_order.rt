@@ -7,7 +7,7 @@ ghost use Rattle.job_table.specs.Sources.{IsKept};
 ghost use Rattle.job_table.specs.Takings.{IsTaken};
 
 use crate::kept::{SegmentSource, Taken};
-use crate::plan_parts::{part_in_order, slices_first, streamed_part};
+use crate::plan_parts::{part_in_order, slices_first, streamed_piece};
 use crate::planned::{PlanBrand, PlanJobs};
 use batch_eval::Registers;
 use job_meaning::Answer;
@@ -41,7 +41,7 @@ impl<'a, 'c, P: PlanBrand> PlanJobs<'a, 'c, P> {
                 let source = Source::of_sources(&sources, own);
                 let walked = Walked { source, env };
                 if plan.streams() {
-                    return streamed_part(alloc, plan, walked, registers);
+                    return streamed_piece(alloc, plan, walked, registers);
                 }
                 part_in_order(alloc, plan, 0, walked, registers)
             }
@@ -49,7 +49,7 @@ impl<'a, 'c, P: PlanBrand> PlanJobs<'a, 'c, P> {
                 let source = Source::of_selected(plan);
                 let walked = Walked { source, env };
                 if plan.streams() {
-                    return streamed_part(alloc, plan, walked, registers);
+                    return streamed_piece(alloc, plan, walked, registers);
                 }
                 part_in_order(alloc, plan, 0, walked, registers)
             }

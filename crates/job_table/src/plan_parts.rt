@@ -14,7 +14,7 @@ use batch_eval::Registers;
 use early_stop::Stop;
 use job_plan::{
     Answer, ArrayPart, GivenWalk, JobPlan, Outcome, Part, Segment, SegmentEnd, Source, Walked,
-    Window, leaf_in_order, leaf_stored, leaf_until, streamed, streamed_in_order, unwalked,
+    Window, leaf_in_order, leaf_stored, leaf_until, streamed, unwalked,
 };
 use job_runner::{NoMemory, Piece};
 use lambda_values::Env;
@@ -130,17 +130,18 @@ pub(crate) fn stored_piece<'a, W: Stop>(
     leaf_stored(alloc, of, walked, window, registers, stop)
 }
 
-/// Walks all of a job's sources through the slices before its first segment, and through this. A segment that isn't
-/// there has a part that says nothing.
+/// Walks all of a job's sources through the slices before its first segment, and through this. `last_answer` gives an
+/// answer of the part. A segment that isn't there has a part that says nothing.
 pub(crate) fn streamed_piece<'a>(
     alloc: Global,
     plan: &'a JobPlan,
     walked: Walked,
     registers: &mut Registers,
 ) -> Result<Part<'a>, NoMemory>
-    ensures { (chain : AbstractChain) → chain.segments ≡ walked_segments (plan_in plan.now) → chain.numbers ≡ walked.entry.env.now → chain.streams ≡ true
+    ensures stands { (chain : AbstractChain) → chain.segments ≡ walked_segments (plan_in plan.now) → chain.numbers ≡ walked.entry.env.now → chain.streams ≡ true
         → linked (first_links (later_segments (plan_in plan.now).segments)) walked.entry.env.now (walk_in walked.entry.source) ≡ chain.source
         → IfOk result (λ part. PartStands chain 0 0 0 part) }
+    ensures kind { IfOk result (λ part. may_search part ≡ false) }
 {
     let Some(first) = plan.walked_segments().get(0) else {
         return Ok(Part::Array(ArrayPart::none(alloc)));
@@ -183,24 +184,6 @@ pub(crate) fn part_in_order<'a>(
         return Ok(Part::Array(ArrayPart::none(alloc)));
     };
     leaf_in_order(alloc, of, walked, registers)
-}
-
-/// The part of a whole first segment whose sources are walked in order through the slices before it.
-pub(crate) fn streamed_part<'a>(
-    alloc: Global,
-    plan: &'a JobPlan,
-    walked: Walked,
-    registers: &mut Registers,
-) -> Result<Part<'a>, NoMemory>
-    ensures stands { (chain : AbstractChain) → chain.segments ≡ walked_segments (plan_in plan.now) → chain.numbers ≡ walked.entry.env.now → chain.streams ≡ true
-        → linked (first_links (later_segments (plan_in plan.now).segments)) walked.entry.env.now (walk_in walked.entry.source) ≡ chain.source
-        → IfOk result (λ part. PartStands chain 0 0 0 part) }
-    ensures kind { IfOk result (λ part. may_search part ≡ false) }
-{
-    let Some(first) = plan.walked_segments().get(0) else {
-        return Ok(Part::Array(ArrayPart::none(alloc)));
-    };
-    streamed_in_order(alloc, plan.later_segments(), first, walked, registers)
 }
 
 /// The answer that the part of the whole last segment of a job gives. It is 0 if there is no last segment. `None` if

@@ -138,8 +138,8 @@ impl<'a, 'c, P: PlanBrand> JobSegments for PlanJobs<'a, 'c, P> {
         left_out(alloc, self.job(piece.job), piece.segment, &given.numbers)
     }
 
-    fn is_settled(&self, _piece: Piece, part: &Part<'a>) -> bool {
-        part.settles()
+    fn is_settled(&self, piece: Piece, part: &Part<'a>) -> bool {
+        part.settles(piece.from)
     }
 
     fn is_settled_by(&self, _piece: Piece, _fault: Fault) -> bool {

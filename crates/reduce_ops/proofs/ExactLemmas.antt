@@ -1,5 +1,5 @@
 -- Exact sums of joined lists, and how far their sums reach.
-use Rattle.std.proofs.Common.{◌≡◌, inl, inr, ℕ, ◌<◌, ◌^◌, ℤ, pos, negsuc, ◌+ℤ◌, ◌≤ℤ◌, Bool, true, false, if◌then◌else◌, List, [], ◌∷◌, ◌++◌, take, drop, slice_get, zero, suc, ◌+◌, append_assoc, Some, None, Result, Ok, Err, sym, refl, ap, subst, ◌∙◌, arith}
+use Rattle.std.proofs.Common.{◌≡◌, inl, inr, ℕ, ◌<◌, ◌^◌, ℤ, pos, negsuc, ◌+ℤ◌, ◌≤ℤ◌, Bool, true, false, if◌then◌else◌, List, [], ◌∷◌, ◌++◌, take, drop, slice_get, zero, suc, ◌+◌, append_assoc, Option, Some, None, IfSome, Result, Ok, Err, sym, refl, ap, subst, ◌∙◌, arith, FitsSigned, w64}
 use Rattle.std.specs.List.{fold}
 use Rattle.std.proofs.lemmas.Int.{ints, clamps}
 use Rattle.std.proofs.lemmas.List.Sums.{fold-append}
@@ -12,10 +12,14 @@ use Rattle.trace.specs.declared.item.End.{End}
 use Rattle.trace.specs.declared.item.End.TheVariants as end
 use Rattle.trace.specs.Trace.{Trace, trace, then_on, append}
 use Rattle.reduce_ops.specs.ExactSums.{exact_from, exact_end, exact_sum, sum_on}
+use Rattle.reduce_ops.specs.declared.exact.Exact.{Exact}
+use Rattle.reduce_ops.specs.declared.exact.Exact.TheVariants as exact
 use Rattle.reduce_ops.specs.declared.reach.Reach.{Reach}
 use Rattle.reduce_ops.specs.declared.exact_part.ExactPart.{ExactPart}
 use Rattle.reduce_ops.specs.declared.exact_part.ExactPart.TheVariants as piece
-use Rattle.reduce_ops.specs.Reaches.{AbstractReach, Covers, IsOneSided, IsPiece, IsWidest, no_reach, reach_on, reach_of, item_values, reach_beside, Holds, IsOver, IsWide}
+use Rattle.reduce_ops.specs.declared.sum_part.SumPart.{SumPart}
+use Rattle.reduce_ops.specs.declared.sum_part.SumPart.TheVariants as part
+use Rattle.reduce_ops.specs.Reaches.{AbstractReach, Covers, IsExact, IsOneSided, IsPiece, IsWidest, StandsFor, no_reach, reach_on, reach_of, item_values, reach_beside, exact_of, is_ended, is_search, Holds, IsOver, IsWide}
 
 -- ---- the sum as it goes on
 
@@ -43,9 +47,6 @@ long_sum a b (x ∷ xs) long e = by (is_long (a +ℤ x.value)) refl e (long_sum 
     by true h k later = later h k
     by false h k later = absurd (let z : Err x ≡ Ok b = k in cc)
 
-pub over_joined : (xs ys : List Item) → IsOver xs → IsOver (xs ++ ys)
-over_joined xs ys over a long = let x = over a long in (x.0, exact_joined a xs ys ∙ ap (λ r. exact_on r ys) x.1)
-
 pub joined_over : (xs ys : List Item) → IsOver ys → IsOver (xs ++ ys)
 joined_over xs ys over a long = by (exact_from a xs) refl
   where
@@ -62,6 +63,10 @@ long_within (negsuc n) l h = let k : n < 2 ^ 63 = omega (arith, ints) in grind a
 pub within_long : (z : ℤ) → is_long z ≡ true → (negsuc 9223372036854775807 ≤ℤ z) × (z ≤ℤ pos 9223372036854775807)
 within_long (pos n) h = let k : n < 2 ^ 63 = grind arith in (omega (arith, ints), omega (arith, ints))
 within_long (negsuc n) h = let k : n < 2 ^ 63 = grind arith in (omega (arith, ints), omega (arith, ints))
+
+pub long_fits : (z : ℤ) → negsuc 9223372036854775807 ≤ℤ z → z ≤ℤ pos 9223372036854775807 → FitsSigned w64 z
+long_fits (pos n) l h = record { sfits = omega (arith, ints) }
+long_fits (negsuc n) l h = record { sfits = omega (arith, ints) }
 
 -- ---- how far sums reach
 
@@ -191,13 +196,17 @@ on_done a b h = ap (λ (e : End). then_on a.items e b) h
 pub on_fault : (a b : Trace) (f : Fault) → a.ending ≡ end.Fault f → append a b ≡ a
 on_fault a b f h = ap (λ (e : End). then_on a.items e b) h ∙ (λ i. trace a.items (sym h i))
 
--- a piece that is over stays so
-pub over_stays : (a b : Trace) → IsOver a.items → IsOver (append a b).items
-over_stays a b over = by a.ending
+-- a sum that is outside 64 bits at some item stays so
+pub err_stays : (z : ℤ) (x : Item) (a b : Trace) → exact_from z a.items ≡ Err x → exact_from z (append a b).items ≡ Err x
+err_stays z x a b h = by a.ending
   where
-    by : (e : End) → IsOver (then_on a.items e b).items
-    by end.Done = over_joined a.items b.items over
-    by (end.Fault f) = over
+    by : (e : End) → exact_from z (then_on a.items e b).items ≡ Err x
+    by end.Done = exact_joined z a.items b.items ∙ ap (λ r. exact_on r b.items) h
+    by (end.Fault f) = h
+
+-- and so does a piece that is over
+pub over_stays : (a b : Trace) → IsOver a.items → IsOver (append a b).items
+over_stays a b over z long = let x = over z long in (x.0, err_stays z x.0 a b x.1)
 
 pub over_after : (a b : Trace) → a.ending ≡ end.Done → IsOver b.items → IsOver (append a b).items
 over_after a b done over = subst (λ (t : Trace). IsOver t.items) (sym (on_done a b done)) (joined_over a.items b.items over)
@@ -221,14 +230,6 @@ reach_one_more a x r done left =
 pub end_after : (a b : Trace) → a.ending ≡ end.Done → b.ending ≡ (append a b).ending
 end_after a b done = ap (λ (t : Trace). t.ending) (sym (on_done a b done))
 
--- what a reach says of the sum from 0
-pub sum_done : (n : ℕ) (t : Trace) (z : ℤ) → Holds (pos 0) (reach_of (item_values t.items)) → z ≡ (reach_of (item_values t.items)).total → t.ending ≡ end.Done → exact_sum n t ≡ Ok z
-sum_done n t z h e done =
-    (λ i. exact_end n (done i) (exact_within (pos 0) t.items h i)) ∙ ap Ok (let k : pos 0 +ℤ (reach_of (item_values t.items)).total ≡ (reach_of (item_values t.items)).total = omega (arith, ints) in k ∙ sym e)
-
-pub sum_faulted : (n : ℕ) (t : Trace) (f : Fault) → Holds (pos 0) (reach_of (item_values t.items)) → t.ending ≡ end.Fault f → exact_sum n t ≡ Err f
-sum_faulted n t f h e = λ i. exact_end n (e i) (exact_within (pos 0) t.items h i)
-
 -- ---- the running sum
 
 pub sum_joined : (n : ℕ) (t u : Trace) → exact_sum n (append t u) ≡ sum_on n (exact_sum n t) u
@@ -242,6 +243,77 @@ sum_joined n t u = by t.ending (exact_from (pos 0) t.items) refl
 
 pub joined_sum : (n : ℕ) (t u : Trace) (r : Result ℤ Fault) → r ≡ exact_sum n t → exact_sum n (append t u) ≡ sum_on n r u
 joined_sum n t u r h = sum_joined n t u ∙ ap (λ q. sum_on n q u) (sym h)
+
+-- what is known of a sum
+pub exact_known : (n : ℕ) (t : Trace) (r : Result ℤ Fault) → r ≡ exact_sum n t → IsExact n t (exact_of r)
+exact_known n t (Ok z) h = sym h
+exact_known n t (Err f) h = sym h
+
+pub known_search : (r : Result ℤ Fault) → is_search (exact_of r) ≡ false
+known_search (Ok z) = refl
+known_search (Err f) = refl
+
+-- a sum that has ended
+pub ended_stays : (n : ℕ) (a b : Trace) (r : Exact) → is_ended r ≡ true → IsExact n a r → IsExact n (append a b) r
+ended_stays n a b (exact.Sum z) h s = absurd (let k : false ≡ true = h in cc)
+ended_stays n a b (exact.Fault f) h s = joined_sum n a b (Err f) (sym s)
+ended_stays n a b exact.Search h s = (s.0, err_stays (pos 0) s.0 a b s.1)
+
+pub ended_else : (r : Exact) → ((z : ℤ) → r ≡ exact.Sum z → ⊥) → is_ended r ≡ true
+ended_else (exact.Sum z) h = absurd (h z refl)
+ended_else (exact.Fault f) h = refl
+ended_else exact.Search h = refl
+
+pub sum_goes_on : {A : Type 0} (r : Exact) (z : ℤ) → r ≡ exact.Sum z → is_ended r ≡ true → A
+sum_goes_on r z is h = absurd (let k : false ≡ true = sym (ap is_ended is) ∙ h in cc)
+
+pub ended_search : (r q : Exact) → (is_ended r ≡ true → q ≡ r) → (q ≡ exact.Search → ⊥) → is_search q ≡ is_search r
+ended_search r q same never = by r refl
+  where
+    other : (q : Exact) → (q ≡ exact.Search → ⊥) → is_search q ≡ false
+    other (exact.Sum z) h = refl
+    other (exact.Fault f) h = refl
+    other exact.Search h = absurd (h refl)
+
+    by : (p : Exact) → r ≡ p → is_search q ≡ is_search p
+    by (exact.Sum z) k = other q never
+    by (exact.Fault f) k = other q never
+    by exact.Search k = absurd (never (same (ap is_ended k) ∙ k))
+
+-- what the part of a piece says of a whole walk
+pub piece_known : (q : SumPart) (p : ExactPart) → q ≡ part.Piece p → (r : Exact) (o : Option (Result ℤ Fault)) → ((n : ℕ) (t : Trace) → IsPiece p t → IsExact n t r)
+    → IfSome o (λ s. (n : ℕ) (t : Trace) → IsExact n t r → s ≡ exact_sum n t) → IfSome o (λ s. (n : ℕ) (t : Trace) → StandsFor n q t → s ≡ exact_sum n t)
+piece_known q p is r None whole known = tt
+piece_known q p is r (Some s) whole known = λ n t h. known n t (whole n t (subst (λ (x : SumPart). StandsFor n x t) is h))
+
+same_ok : (y z : ℤ) → exact_end 0 end.Done (Ok y) ≡ Ok z → y ≡ z
+same_ok y z h = cc
+
+-- a walk with a sum
+the_sum : (n : ℕ) (t : Trace) (z : ℤ) → exact_sum n t ≡ Ok z → (t.ending ≡ end.Done) × (exact_from (pos 0) t.items ≡ Ok z)
+the_sum n t z h = by t.ending (exact_from (pos 0) t.items) h
+  where
+    by : (e : End) (r : Result ℤ Item) → exact_end n e r ≡ Ok z → (e ≡ end.Done) × (r ≡ Ok z)
+    by end.Done (Ok y) k = (refl, ap Ok (same_ok y z k))
+    by end.Done (Err x) k = absurd (let j : Err (record { kind = kind.Overflow; stage = n; origin = Some x.origin }) ≡ Ok z = k in cc)
+    by (end.Fault f) (Ok y) k = absurd (let j : Err f ≡ Ok z = k in cc)
+    by (end.Fault f) (Err x) k = absurd (let j : Err (record { kind = kind.Overflow; stage = n; origin = Some x.origin }) ≡ Ok z = k in cc)
+
+pub the_long : (n : ℕ) (t : Trace) (z : ℤ) → exact_sum n t ≡ Ok z → is_long z ≡ true
+the_long n t z h = long_sum (pos 0) z t.items refl (the_sum n t z h).1
+
+-- and then a piece from whose start no sum is outside 64 bits
+pub sum_then : (n : ℕ) (t u : Trace) (z : ℤ) → exact_sum n t ≡ Ok z → Holds z (reach_of (item_values u.items)) → u.ending ≡ end.Done → exact_sum n (append t u) ≡ Ok (z +ℤ (reach_of (item_values u.items)).total)
+sum_then n t u z h held e = joined_sum n t u (Ok z) (sym h) ∙ (λ i. exact_end n (e i) (exact_within z u.items held i))
+
+pub fault_then : (n : ℕ) (t u : Trace) (z : ℤ) (f : Fault) → exact_sum n t ≡ Ok z → Holds z (reach_of (item_values u.items)) → u.ending ≡ end.Fault f → exact_sum n (append t u) ≡ Err f
+fault_then n t u z f h held e = joined_sum n t u (Ok z) (sym h) ∙ (λ i. exact_end n (e i) (exact_within z u.items held i))
+
+-- or one in which one is
+pub over_then : (n : ℕ) (t u : Trace) (z : ℤ) → exact_sum n t ≡ Ok z → (x : Item) × (exact_from z u.items ≡ Err x) → IsExact n (append t u) exact.Search
+over_then n t u z h x =
+    let s = the_sum n t z h in
+    (x.0, ap (λ (w : Trace). exact_from (pos 0) w.items) (on_done t u s.0) ∙ exact_joined (pos 0) t.items u.items ∙ ap (λ r. exact_on r u.items) s.1 ∙ x.1)
 
 -- one more item
 pub one_more : (n : ℕ) (z : ℤ) (x : Item) → is_long (z +ℤ x.value) ≡ true → sum_on n (Ok z) (trace (x ∷ []) end.Done) ≡ Ok (z +ℤ x.value)

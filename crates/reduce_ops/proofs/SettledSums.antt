@@ -1,5 +1,5 @@
 -- What settles an exact sum.
-use Rattle.std.proofs.Common.{◌≡◌, ℕ, ℤ, pos, true, false, Some, Result, Ok, Err, is_err, sym, refl, ap, subst, ◌∙◌}
+use Rattle.std.proofs.Common.{◌≡◌, ℕ, ℤ, pos, true, false, Some, Result, Ok, Err, sym, refl, ap, subst, ◌∙◌}
 use Rattle.lambda_values.specs.Operators.{is_long}
 use Rattle.lambda_values.specs.declared.fault.FaultKind.TheVariants as kind
 use Rattle.trace.specs.declared.item.Item.{Item}
@@ -7,20 +7,18 @@ use Rattle.trace.specs.declared.item.Fault.{Fault}
 use Rattle.trace.specs.declared.item.End.{End}
 use Rattle.trace.specs.declared.item.End.TheVariants as end
 use Rattle.trace.specs.Trace.{Trace, append}
+use Rattle.reduce_ops.specs.declared.exact.Exact.{Exact}
+use Rattle.reduce_ops.specs.declared.exact.Exact.TheVariants as exact
 use Rattle.reduce_ops.specs.declared.exact_part.ExactPart.TheVariants as piece
 use Rattle.reduce_ops.specs.declared.sum_part.SumPart.{SumPart}
 use Rattle.reduce_ops.specs.declared.sum_part.SumPart.TheVariants as part
 use Rattle.reduce_ops.specs.ExactSums.{exact_from, exact_end, exact_sum, sum_on}
-use Rattle.reduce_ops.specs.Reaches.{IsOver, IsPiece, StandsFor, is_fault, is_running, is_settled}
-use Rattle.reduce_ops.proofs.ExactLemmas.{joined_sum, long_sum, on_fault, over_stays, sum_joined}
+use Rattle.reduce_ops.specs.Reaches.{IsExact, IsOver, IsPiece, StandsFor, is_ended, is_fault, is_running, is_settled}
+use Rattle.reduce_ops.proofs.ExactLemmas.{ended_stays, err_stays, joined_sum, on_fault, over_stays, sum_joined, the_long}
 
 the_fault : (e : End) → is_fault e ≡ true → (f : Fault) × (e ≡ end.Fault f)
 the_fault end.Done h = absurd (let z : false ≡ true = h in cc)
 the_fault (end.Fault f) h = (f, refl)
-
-the_err : (r : Result ℤ Fault) → is_err r ≡ true → (f : Fault) × (r ≡ Err f)
-the_err (Ok z) h = absurd (let z : false ≡ true = h in cc)
-the_err (Err f) h = (f, refl)
 
 -- after what settles a piece, nothing matters
 pub sum_settled : (n : ℕ) (p : SumPart) (a b : Trace) → is_settled p ≡ true → StandsFor n p a → StandsFor n p (append a b)
@@ -28,15 +26,10 @@ sum_settled n (part.Piece (piece.Within r e)) a b h s =
     let f = the_fault e h in
     subst (λ (t : Trace). IsPiece (piece.Within r e) t) (sym (on_fault a b f.0 (sym s.1 ∙ f.1))) s
 sum_settled n (part.Piece piece.Over) a b h s = over_stays a b s
-sum_settled n (part.Running r) a b h s =
-    let f = the_err r.sum h in
-    f.1 ∙ sym (joined_sum n a b (Err f.0) (sym f.1 ∙ s))
+sum_settled n (part.Running r) a b h s = ended_stays n a b r h s
 sum_settled n part.Unknown a b h s = tt
 
 -- ---- whatever came before
-
-same_ok : (y z : ℤ) → exact_end 0 end.Done (Ok y) ≡ Ok z → y ≡ z
-same_ok y z h = cc
 
 module _ (n : ℕ) where
   faulted_end : (f : Fault) (r : Result ℤ Item) → (g : Fault) × (exact_end n (end.Fault f) r ≡ Err g)
@@ -45,12 +38,6 @@ module _ (n : ℕ) where
 
   over_end : (e : End) (r : Result ℤ Item) (x : Item) → r ≡ Err x → (g : Fault) × (exact_end n e r ≡ Err g)
   over_end e r x h = (record { kind = kind.Overflow; stage = n; origin = Some x.origin }, ap (exact_end n e) h)
-
-  long_end : (e : End) (r : Result ℤ Item) (z : ℤ) → exact_end n e r ≡ Ok z → r ≡ Ok z
-  long_end end.Done (Ok y) z h = let same : y ≡ z = same_ok y z h in ap Ok same
-  long_end end.Done (Err x) z h = absurd (let k : Err (record { kind = kind.Overflow; stage = n; origin = Some x.origin }) ≡ Ok z = h in cc)
-  long_end (end.Fault f) (Ok y) z h = absurd (let k : Err f ≡ Ok z = h in cc)
-  long_end (end.Fault f) (Err x) z h = absurd (let k : Err (record { kind = kind.Overflow; stage = n; origin = Some x.origin }) ≡ Ok z = h in cc)
 
   -- the sum of a walk that goes on with this one has a fault
   abbrev pub Faults : Trace → Type 0
@@ -70,7 +57,7 @@ module _ (n : ℕ) where
     where
       by : (r : Result ℤ Fault) → exact_sum n a ≡ r → (g : Fault) × (exact_sum n (append a t) ≡ Err g)
       by (Ok z) h =
-          let g = faults z (long_sum (pos 0) z a.items refl (long_end a.ending (exact_from (pos 0) a.items) z h)) in
+          let g = faults z (the_long n a z h) in
           (g.0, sum_joined n a t ∙ ap (λ q. sum_on n q t) h ∙ g.1)
       by (Err g) h = (g, sum_joined n a t ∙ ap (λ q. sum_on n q t) h)
 
@@ -87,3 +74,14 @@ sum_settles n (part.Piece (piece.Within r e)) t h k s = settles n t (faulted n t
 sum_settles n (part.Piece piece.Over) t h k s = settles n t (overflows n t s)
 sum_settles n (part.Running r) t h k s = absurd (let z : true ≡ false = k in cc)
 sum_settles n part.Unknown t h k s = absurd (let z : false ≡ true = h in cc)
+
+-- a part of a walk from the first item on that is settled has a fault, whatever comes after the walk
+first_faults : (n : ℕ) (t : Trace) (r : Exact) → is_ended r ≡ true → IsExact n t r → (g : Fault) × ((b : Trace) → exact_sum n (append t b) ≡ Err g)
+first_faults n t (exact.Sum z) h s = absurd (let k : false ≡ true = h in cc)
+first_faults n t (exact.Fault f) h s = (f, λ b. joined_sum n t b (Err f) (sym s))
+first_faults n t exact.Search h s = (record { kind = kind.Overflow; stage = n; origin = Some s.0.origin }, λ b. ap (exact_end n (append t b).ending) (err_stays (pos 0) s.0 t b s.1))
+
+pub first_settles : (n : ℕ) (p : SumPart) (t : Trace) → is_settled p ≡ true → is_running p ≡ true → StandsFor n p t → (b c : Trace) → exact_sum n (append t b) ≡ exact_sum n (append t c)
+first_settles n (part.Piece p) t h k s b c = absurd (let z : false ≡ true = k in cc)
+first_settles n (part.Running r) t h k s b c = let g = first_faults n t r h s in g.1 b ∙ sym (g.1 c)
+first_settles n part.Unknown t h k s b c = absurd (let z : false ≡ true = k in cc)

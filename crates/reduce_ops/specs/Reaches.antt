@@ -1,18 +1,18 @@
 -- Condition: the range of the sums of a piece, and which walks the parts of exact sums describe.
-use Rattle.std.specs.Prelude.{◌≡◌, ◌⊎◌, ℕ, ◌^◌, ℤ, pos, negsuc, ◌+ℤ◌, ◌-ℤ◌, ◌≤ℤ◌, neg_ℤ, Bool, true, false, is_err, List, map, Option, Some, None, Ok, Err, ⊤}
+use Rattle.std.specs.Prelude.{◌≡◌, ◌⊎◌, ℕ, ◌^◌, ℤ, pos, negsuc, ◌+ℤ◌, ◌-ℤ◌, ◌≤ℤ◌, neg_ℤ, Bool, true, false, List, map, Option, Some, None, Result, Ok, Err, ⊤}
 use Rattle.std.specs.Int.{int_max, int_min}
 use Rattle.std.specs.List.{fold}
 use Rattle.lambda_values.specs.Operators.{is_long}
 use Rattle.trace.specs.declared.item.Item.{Item}
+use Rattle.trace.specs.declared.item.Fault.{Fault}
 use Rattle.trace.specs.declared.item.End.{End}
 use Rattle.trace.specs.declared.item.End.TheVariants as end
 use Rattle.trace.specs.Trace.{Trace}
 use Rattle.reduce_ops.specs.declared.reach.Reach.{Reach}
-use Rattle.reduce_ops.specs.declared.exact_part.Exact.{Exact}
-use Rattle.reduce_ops.specs.declared.exact_part.Exact.TheVariants as exact
+use Rattle.reduce_ops.specs.declared.exact.Exact.{Exact}
+use Rattle.reduce_ops.specs.declared.exact.Exact.TheVariants as exact
 use Rattle.reduce_ops.specs.declared.exact_part.ExactPart.{ExactPart}
 use Rattle.reduce_ops.specs.declared.exact_part.ExactPart.TheVariants as piece
-use Rattle.reduce_ops.specs.declared.running_sum.RunningSum.{RunningSum}
 use Rattle.reduce_ops.specs.declared.sum_part.SumPart.{SumPart}
 use Rattle.reduce_ops.specs.declared.sum_part.SumPart.TheVariants as part
 use Rattle.reduce_ops.specs.ExactSums.{exact_from, exact_sum}
@@ -75,10 +75,10 @@ abbrev pub IsReach : Option Reach → AbstractReach → Type 0
 IsReach (Some r) s = reach_in r ≡ s
 IsReach None s = IsWide s
 
--- it is the total of sums that are all in 64 bits; if there is none, one is outside
-abbrev pub IsSumOf : Option ℤ → AbstractReach → Type 0
-IsSumOf (Some z) r = (z ≡ r.total) × Holds (pos 0) r
-IsSumOf None r = r.total ≤ℤ r.greatest → Holds (pos 0) r → ⊥
+-- it is the total after a start from which all sums are in 64 bits; if there is none, one is outside
+abbrev pub IsSumFrom : ℤ → Option ℤ → AbstractReach → Type 0
+IsSumFrom a (Some z) r = (z ≡ a +ℤ r.total) × Holds a r
+IsSumFrom a None r = r.total ≤ℤ r.greatest → Holds a r → ⊥
 
 -- from every start in 64 bits the sum of these items is at some item outside 64 bits
 abbrev pub IsOver : List Item → Type 0
@@ -89,20 +89,33 @@ abbrev pub IsPiece : ExactPart → Trace → Type 0
 IsPiece (piece.Within r e) t = (reach_in r ≡ reach_of (item_values t.items)) × (e ≡ t.ending)
 IsPiece piece.Over t = IsOver t.items
 
--- what a part says of a whole walk: at `Search` that the sum is at some item outside 64 bits
+-- what is known of the exact sum of a walk, by the terminal with this number: at `Search` that the sum is at some item
+-- outside 64 bits
 abbrev pub IsExact : ℕ → Trace → Exact → Type 0
 IsExact n t (exact.Sum z) = exact_sum n t ≡ Ok z
 IsExact n t (exact.Fault f) = exact_sum n t ≡ Err f
 IsExact n t exact.Search = (x : Item) × (exact_from (pos 0) t.items ≡ Err x)
 
--- the sum of a walk from its first item on, by the terminal with this number
-abbrev pub IsRunning : ℕ → RunningSum → Trace → Type 0
-IsRunning n r t = r.sum ≡ exact_sum n t
+-- a sum, or the fault that ended it
+abbrev pub exact_of : Result ℤ Fault → Exact
+exact_of (Ok z) = exact.Sum z
+exact_of (Err f) = exact.Fault f
+
+-- whether nothing after the walk matters
+abbrev pub is_ended : Exact → Bool
+is_ended (exact.Sum z) = false
+is_ended (exact.Fault f) = true
+is_ended exact.Search = true
+
+abbrev pub is_search : Exact → Bool
+is_search (exact.Sum z) = false
+is_search (exact.Fault f) = false
+is_search exact.Search = true
 
 -- a part describes a walk, by the terminal with this number; of an unknown sum nothing is known
 abbrev pub StandsFor : ℕ → SumPart → Trace → Type 0
 StandsFor n (part.Piece p) t = IsPiece p t
-StandsFor n (part.Running r) t = IsRunning n r t
+StandsFor n (part.Running r) t = IsExact n t r
 StandsFor n part.Unknown t = ⊤
 
 -- helper: whether a walk ended in a fault
@@ -117,10 +130,16 @@ is_over piece.Over = true
 
 abbrev pub is_settled : SumPart → Bool
 is_settled (part.Piece p) = is_over p
-is_settled (part.Running r) = is_err r.sum
+is_settled (part.Running r) = is_ended r
 is_settled part.Unknown = false
 
--- whether a part is the sum of a walk in order
+-- whether a part of a whole walk may leave it open what the sum is
+abbrev pub may_search : SumPart → Bool
+may_search (part.Piece p) = true
+may_search (part.Running r) = is_search r
+may_search part.Unknown = true
+
+-- whether a part is the sum of a walk from the first item on
 abbrev pub is_running : SumPart → Bool
 is_running (part.Piece p) = false
 is_running (part.Running r) = true

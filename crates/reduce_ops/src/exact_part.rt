@@ -1,14 +1,14 @@
 //! Exact sums of the pieces of a stream, which merge in encounter order.
 
-ghost use Rattle.std.specs.Prelude.{◌≡◌, ℕ, List, [], ◌∷◌};
+ghost use Rattle.std.specs.Prelude.{◌≡◌, List, [], ◌∷◌};
 ghost use Rattle.trace.specs.declared.item.End.TheVariants as end;
 ghost use Rattle.trace.specs.declared.item.Item.{Item as item};
 ghost use Rattle.trace.specs.Trace.{Trace, trace, append};
-ghost use Rattle.reduce_ops.specs.Reaches.{IsExact, IsPiece, IsReach, is_over, item_values, reach_of};
+ghost use Rattle.reduce_ops.specs.Reaches.{IsPiece, IsReach, is_over, item_values, reach_of};
 
 use super::reach::Reach;
 use super::reaching::reach_with;
-use trace::{End, Fault, Item};
+use trace::{End, Item};
 
 /// The sums of a piece of a stream, wherever they start, and how the walk over the piece ended.
 ///
@@ -19,16 +19,6 @@ pub enum ExactPart {
     Within { reach: Reach, end: End },
     /// Each start in 64 bits leads outside 64 bits within the piece.
     Over,
-}
-
-/// What the part of a whole stream says of its sum from 0 on.
-#[derive(Clone, Copy)]
-pub enum Exact {
-    Sum(i64),
-    /// The fault that ended the walk.
-    Fault(Fault),
-    /// Some running sum is outside 64 bits. A `RunningSum` finds the item at which that first happens.
-    Search,
 }
 
 impl ExactPart {
@@ -95,22 +85,6 @@ impl ExactPart {
         match right {
             ExactPart::Within { reach, end } => of_reach(left.beside(reach), end),
             ExactPart::Over => ExactPart::Over,
-        }
-    }
-
-    /// What the part of a whole stream says of its sum from 0 on.
-    pub fn finish(self) -> Exact
-        ensures { (stage : ℕ) (t : Trace) → IsPiece self t → IsExact stage t result }
-    {
-        let ExactPart::Within { reach, end } = self else {
-            return Exact::Search;
-        };
-        match reach.sum() {
-            None => Exact::Search,
-            Some(sum) => match end {
-                End::Done => Exact::Sum(sum),
-                End::Fault(fault) => Exact::Fault(fault),
-            },
         }
     }
 

@@ -6,8 +6,9 @@
 //! operator is associative, and each identity works on both sides.
 //! An exact sum is a fold of another kind, since the order of its steps decides whether it has a fault. `ExactPart`
 //! keeps the total of a piece with the least and the greatest of its running sums (`Reach`), and merges as `Partial`
-//! does; `finish` gives the sum, a fault, or `Search`: then `RunningSum` finds the first item at which a sum from the
-//! left overflows. `SumPart` is one or the other, as a walk needs it.
+//! does. `Exact` is the sum from the first item on: the sum, a fault, or `Search`, where a sum overflows in a piece of
+//! which no more is known; a walk in order finds the item. `SumPart` is one or the other: the piece that begins the
+//! stream has an `Exact`, and ends at its first overflow.
 //! Begin with `specs/Operators.antt` and `specs/Folds.antt`, then `op.rt` and `partial.rt`; for exact sums with
 //! `specs/ExactSums.antt` and `exact_part.rt`. No call takes memory.
 //! Not promised: that an operator is commutative; `affine`, `first` and `last` are not.
@@ -15,16 +16,17 @@
 //! `java.util.stream`).
 #![tactic(auto)]
 
+mod exact;
 mod exact_part;
 mod laws;
 mod op;
 mod partial;
 mod reach;
 mod reaching;
-mod running_sum;
 mod sum_part;
 
-pub use exact_part::{Exact, ExactPart};
+pub use exact::Exact;
+pub use exact_part::ExactPart;
 pub use laws::{
     affine_composes_maps, counts_are_sums_of_ones, identities_are_two_sided,
     operators_are_associative, sums_are_wrapped_totals,
@@ -32,5 +34,4 @@ pub use laws::{
 pub use op::Op;
 pub use partial::Partial;
 pub use reach::Reach;
-pub use running_sum::RunningSum;
 pub use sum_part::SumPart;

@@ -1,7 +1,7 @@
 //! How far the sums of values reach.
 
 ghost use Rattle.std.specs.Prelude.{◌≡◌, true, ◌^◌, ◌≤ℤ◌, pos, negsuc};
-ghost use Rattle.reduce_ops.specs.Reaches.{Covers, IsOneSided, IsReach, IsSumOf, no_reach, reach_beside, reach_in, reach_on};
+ghost use Rattle.reduce_ops.specs.Reaches.{Covers, IsOneSided, IsReach, IsSumFrom, no_reach, reach_beside, reach_in, reach_on};
 
 /// The sum of values, and the least and the greatest of their running sums, 0 among them, which is the sum of none. All
 /// differ by less than 2^64, so that there may be a start in 64 bits from which all sums are in 64 bits.
@@ -108,13 +108,16 @@ impl Reach {
         self.total_beside(right).max(greatest)
     }
 
-    /// The sum of all values, if no sum from 0 on is outside 64 bits.
-    pub(crate) fn sum(self) -> Option<i64>
-        ensures { IsSumOf result (reach_in self) }
+    /// The sum of a start and all values, if no sum from the start on is outside 64 bits.
+    pub(crate) fn sum_from(self, start: i64) -> Option<i64>
+        ensures { IsSumFrom start result (reach_in self) }
     {
-        let total = self.total();
-        if self.below > 9_223_372_036_854_775_808
-            || self.above > 9_223_372_036_854_775_807
+        let first = i128::from(start);
+        let total = first + self.total();
+        let least = first - i128::from(self.below);
+        let greatest = first + i128::from(self.above);
+        if least < -9_223_372_036_854_775_808
+            || greatest > 9_223_372_036_854_775_807
             || total > 9_223_372_036_854_775_807
         {
             return None;

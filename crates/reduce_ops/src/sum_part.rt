@@ -4,10 +4,10 @@ ghost use Rattle.std.specs.Prelude.{◌≡◌, ℕ, [], ◌∷◌, true, false, 
 ghost use Rattle.trace.specs.declared.item.End.TheVariants as end;
 ghost use Rattle.trace.specs.Trace.{Trace, trace, append, nothing};
 ghost use Rattle.reduce_ops.specs.ExactSums.{exact_sum};
-ghost use Rattle.reduce_ops.specs.Reaches.{StandsFor, item_values, is_piece, is_running, is_settled};
+ghost use Rattle.reduce_ops.specs.Reaches.{StandsFor, item_values, is_piece, is_running, is_settled, may_search};
 
-use super::exact_part::{Exact, ExactPart};
-use super::running_sum::RunningSum;
+use super::exact::Exact;
+use super::exact_part::ExactPart;
 use trace::{End, Fault, Item, SourceItems};
 
 /// What a piece of a stream gives to an exact sum.
@@ -17,9 +17,9 @@ use trace::{End, Fault, Item, SourceItems};
 pub enum SumPart {
     /// Of a piece anywhere in the stream.
     Piece(ExactPart),
-    /// Of a walk in order, from the first item of the stream on.
-    Running(RunningSum),
-    /// Of a running sum side by side with another part: nothing is known of it.
+    /// Of a walk from the first item of the stream on.
+    Running(Exact),
+    /// Of a piece and then of a walk from the first item on: nothing is known of it.
     Unknown,
 }
 
@@ -32,18 +32,19 @@ impl SumPart {
         SumPart::Piece(ExactPart::none(End::Done))
     }
 
-    /// The part of no item of a walk in order.
+    /// The part of no item of a walk from the first item on.
     pub fn first() -> SumPart
         ensures stands { (stage : ℕ) → StandsFor stage result nothing }
         ensures kind { is_running result ≡ true }
+        ensures search { may_search result ≡ false }
     {
-        SumPart::Running(RunningSum::none())
+        SumPart::Running(Exact::Sum(0))
     }
 
     /// Adds one more item, after the others, unless the part is settled. The terminal is the stage with this number.
     pub fn push(&mut self, stage: u32, item: Item)
         ensures stands { (t : Trace) → StandsFor stage self.old t → StandsFor stage self.new (append t (trace (item ∷ []) end.Done)) }
-        ensures kind { is_running self.new ≡ is_running self.old }
+        ensures search { may_search self.new ≡ may_search self.old }
     {
         match self {
             SumPart::Piece(part) => part.push(item),
@@ -57,11 +58,11 @@ impl SumPart {
     pub fn push_all<I: SourceItems>(&mut self, stage: u32, source: &I, values: &[i64])
         requires values { item_values (I.items source.now) ≡ values.now }
         ensures stands { (t : Trace) → StandsFor stage self.old t → StandsFor stage self.new (append t (trace (I.items source.now) end.Done)) }
-        ensures kind { is_running self.new ≡ is_running self.old }
+        ensures search { may_search self.new ≡ may_search self.old }
     {
         match self {
             SumPart::Piece(part) => part.push_all(values),
-            SumPart::Running(sum) => sum.push_all(stage, source),
+            SumPart::Running(sum) => sum.push_values(stage, source, values),
             SumPart::Unknown => {}
         }
     }
@@ -69,7 +70,7 @@ impl SumPart {
     /// Ends the piece so, unless it is settled.
     pub fn end_with(&mut self, end: End)
         ensures stands { (stage : ℕ) (t : Trace) → StandsFor stage self.old t → StandsFor stage self.new (append t (trace [] end)) }
-        ensures kind { is_running self.new ≡ is_running self.old }
+        ensures search { may_search self.new ≡ may_search self.old }
     {
         match self {
             SumPart::Piece(part) => part.end_with(end),
@@ -82,9 +83,11 @@ impl SumPart {
     pub fn merge(self, right: SumPart) -> SumPart
         ensures stands { (stage : ℕ) (a b : Trace) → StandsFor stage self a → StandsFor stage right b → StandsFor stage result (append a b) }
         ensures kind { is_piece self ≡ true → is_piece right ≡ true → is_piece result ≡ true }
+        ensures first { is_running self ≡ true → is_piece right ≡ true → is_running result ≡ true }
     {
         match (self, right) {
             (SumPart::Piece(left), SumPart::Piece(right)) => SumPart::Piece(left.merge(right)),
+            (SumPart::Running(left), SumPart::Piece(right)) => SumPart::Running(left.joined(right)),
             _ => SumPart::Unknown,
         }
     }
@@ -93,15 +96,11 @@ impl SumPart {
     /// more, in order.
     pub fn finish(self) -> Option<Result<i64, Fault>>
         ensures some { IfSome result (λ sum. (stage : ℕ) (t : Trace) → StandsFor stage self t → sum ≡ exact_sum stage t) }
-        ensures none { IfNone result (is_running self ≡ false) }
+        ensures none { IfNone result (may_search self ≡ true) }
     {
         match self {
-            SumPart::Piece(part) => match part.finish() {
-                Exact::Sum(sum) => Some(Ok(sum)),
-                Exact::Fault(fault) => Some(Err(fault)),
-                Exact::Search => None,
-            },
-            SumPart::Running(sum) => Some(sum.finish()),
+            SumPart::Piece(part) => part.finish().finish(),
+            SumPart::Running(sum) => sum.finish(),
             SumPart::Unknown => None,
         }
     }
@@ -117,7 +116,7 @@ impl SumPart {
         }
     }
 
-    /// Whether it is the sum of a walk in order.
+    /// Whether it is the sum of a walk from the first item on.
     pub fn is_running(&self) -> bool
         ensures { result ≡ is_running self.now }
     {

@@ -1,10 +1,11 @@
 use Rattle.std.proofs.Common.{◌∙◌, sym}
 use Rattle.job_plan.specs.Parts.{plans_in}
 use Rattle.job_table.specs.PlanSegments.{chain_at}
-use Rattle.job_table.proofs.PlanParts.{part_decides, settles_both}
+use Rattle.job_plan.proofs.PartLemmas.{settled_there}
+use Rattle.job_table.proofs.PlanParts.{part_decides}
 use Rattle.job_table.proofs.plan_segments.PlanJobsJobSegments.is_settled.Goals as goal
 
 pub returns : goal.returns
 returns g c = λ yes.
-    let both = settles_both c.args.part.now (sym c.settles.ensures ∙ yes) in
-    part_decides (chain_at (plans_in g.P.PlanBrand.jobs) c.args._piece.job) c.args._piece.segment c.args._piece.from c.args._piece.to c.args.part.now c.requires.within.0 c.requires.within.1 both.0 both.1 c.requires.part
+    let both = settled_there c.args.piece.from c.args.part.now (sym c.settles.ensures ∙ yes) in
+    part_decides (chain_at (plans_in g.P.PlanBrand.jobs) c.args.piece.job) c.args.piece.segment c.args.piece.from c.args.piece.to c.args.part.now c.requires.within.0 c.requires.within.1 both.0 both.1 c.requires.part

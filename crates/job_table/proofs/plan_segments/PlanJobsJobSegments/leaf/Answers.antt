@@ -65,7 +65,7 @@ returns-then-streams g c =
     let size : size_at chain k ≡ 0 = ap (size_at chain) first ∙ streamed_size chain streams in
     let piece = c.requires.piece in
     whole_job chain k c.args.piece.from c.args.piece.to c.streamed_piece.result first (omega (arith, piece.ordered, piece.within, size)) (omega (arith, piece.within, size))
-    (c.streamed_piece.ensures chain (same_segments plans job p c.job-plan.ensures) (sym c.requires.given.1.0) streams walks)
+    (c.streamed_piece.ensures.stands chain (same_segments plans job p c.job-plan.ensures) (sym c.requires.given.1.0) streams walks)
 
 pub returns-then-streams-2 : goal.returns-then-streams-2
 returns-then-streams-2 g c =
@@ -82,4 +82,4 @@ returns-then-streams-2 g c =
     let size : size_at chain k ≡ 0 = ap (size_at chain) first ∙ streamed_size chain streams in
     let piece = c.requires.piece in
     whole_job chain k c.args.piece.from c.args.piece.to c.streamed_piece-then-streams-2.result first (omega (arith, piece.ordered, piece.within, size)) (omega (arith, piece.within, size))
-    (c.streamed_piece-then-streams-2.ensures chain (same_segments plans job p c.job-plan.ensures) (sym c.requires.given.1.0) streams walks)
+    (c.streamed_piece-then-streams-2.ensures.stands chain (same_segments plans job p c.job-plan.ensures) (sym c.requires.given.1.0) streams walks)

@@ -78,9 +78,9 @@ returns-then-streams g c =
     ∙ put_streamed plans job p c.job-plan.ensures env sources c.requires.given.1.0 put in
     let size : size_at chain last ≡ 0 = ap (size_at chain) first ∙ streamed_size chain streams in
     record {
-      stands = whole_job chain last 0 (size_at chain last) c.streamed_part.result first refl size
-          (c.streamed_part.ensures.stands chain (same_segments plans job p c.job-plan.ensures) (sym c.requires.given.1.0) streams walks);
-      kind = c.streamed_part.ensures.kind;
+      stands = whole_job chain last 0 (size_at chain last) c.streamed_piece.result first refl size
+          (c.streamed_piece.ensures.stands chain (same_segments plans job p c.job-plan.ensures) (sym c.requires.given.1.0) streams walks);
+      kind = c.streamed_piece.ensures.kind;
     }
 
 pub returns-then-streams-2 : goal.returns-then-streams-2
@@ -97,7 +97,7 @@ returns-then-streams-2 g c =
     let walks = ap (linked (first_links (later_segments p.segments)) env) c.of_selected-source.ensures ∙ put_streamed plans job p c.job-plan.ensures env p.sources c.requires.given.1.0 none in
     let size : size_at chain last ≡ 0 = ap (size_at chain) first ∙ streamed_size chain streams in
     record {
-      stands = whole_job chain last 0 (size_at chain last) c.streamed_part-then-streams-2.result first refl size
-          (c.streamed_part-then-streams-2.ensures.stands chain (same_segments plans job p c.job-plan.ensures) (sym c.requires.given.1.0) streams walks);
-      kind = c.streamed_part-then-streams-2.ensures.kind;
+      stands = whole_job chain last 0 (size_at chain last) c.streamed_piece-then-streams-2.result first refl size
+          (c.streamed_piece-then-streams-2.ensures.stands chain (same_segments plans job p c.job-plan.ensures) (sym c.requires.given.1.0) streams walks);
+      kind = c.streamed_piece-then-streams-2.ensures.kind;
     }
