@@ -11,6 +11,7 @@ pub mod FrontLemmas
 pub mod ItemCounts
 pub mod LentLemmas
 pub mod LinkLemmas
+pub mod LookLemmas
 pub mod MapLemmas
 pub mod MeaningLemmas
 pub mod MoveLemmas
