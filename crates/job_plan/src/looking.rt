@@ -1,12 +1,7 @@
 //! A sink that leaves a walk which no longer matters, whatever it is given.
 
-ghost use Rattle.batch_eval.specs.Batches.{flagged_items};
-ghost use Rattle.std.specs.Prelude.{◌≡◌, ◌≤◌, ℕ, Bool, true, false, List, OnErr};
-ghost use Rattle.trace.specs.Cover.{placed};
-ghost use Rattle.trace.specs.Sinks.{IsFed, flow_after};
-ghost use Rattle.trace.specs.Trace.{trace};
+ghost use Rattle.std.specs.Prelude.{◌≡◌, ◌≤◌, ℕ, Bool, true, false, List};
 ghost use Rattle.trace.specs.declared.item.Item.{Item as item};
-ghost use Rattle.trace.specs.declared.item.End.TheVariants as end;
 ghost use Rattle.job_plan.specs.Stretches.{HasLooked, IsDecided, flow_unless};
 
 use batch_eval::{
