@@ -10,9 +10,9 @@ returns-clause-taken g c = λ xs looked.
     let self = c.args.self.now in
     (
       looked.0,
-      (λ d known. looked.1 d (c.is_past.ensures.still d known)),
-      unless_left decides from (h self.inner xs) c.is_past.result
-          (λ past. as_named g.W.Stop.decides decides from self.from self.stop.now looked.0 looked.1 (c.is_past.ensures.past past))
+      (λ d known. looked.1 d (c.is_past-self.ensures.still d known)),
+      unless_left decides from (h self.inner xs) c.is_past-self.result
+          (λ past. as_named g.W.Stop.decides decides from self.from self.stop.now looked.0 looked.1 (c.is_past-self.ensures.past past))
           (still_taken decides from (h self.inner xs) self.has_left (not_left self.has_left (g.S.LongSink.flow self.inner) c.requires) looked.2),
     )
 
