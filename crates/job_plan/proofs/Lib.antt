@@ -7,6 +7,7 @@ pub mod FrontLemmas
 pub mod ItemCounts
 pub mod LentLemmas
 pub mod LinkLemmas
+pub mod LookLemmas
 pub mod MeaningLemmas
 pub mod MoveLemmas
 pub mod NameLemmas

@@ -1,5 +1,4 @@
 -- One stretch of a walk after the others.
-use Rattle.std.specs.Prelude.{IfNone}
 use Rattle.std.proofs.Common.{◌≡◌, ℕ, ◌≤◌, ◌-◌, List, [], take, drop, Option, Some, None, IfSome, Ok, sym, ap, ◌∙◌, arith}
 use Rattle.trace.specs.declared.item.Item.{Item}
 use Rattle.trace.specs.declared.item.End.TheVariants as end
@@ -17,10 +16,6 @@ use Rattle.prefix_walks.proofs.FeedLemmas.{fed_both, fed_stopped, fed_none}
 pub in_order : (end p : ℕ) (to : Option ℕ) → IfSome to (λ t. end ≡ t) → p ≤ end → IsNotAfter p to
 in_order end p None h l = tt
 in_order end p (Some t) h l = omega (arith, h, l)
-
-pub known_end : (end p n : ℕ) (to : Option ℕ) → IfNone to (end ≤ n) → p ≤ end → IfNone to (p ≤ n)
-known_end end p n None h l = omega (arith, h, l)
-known_end end p n (Some t) h l = tt
 
 module _ {S : Type 0} (h : S → List Item → Type 0) (line : Pipeline) (items : List Item) (from : ℕ) where
   abbrev walk : List Item → Trace

@@ -1,24 +1,31 @@
--- Condition: what a walk leaves that goes on a stretch at a time.
-use Rattle.std.specs.Prelude.{ℕ, ◌≤◌, List, Option, Some, None, Ok, IfNone, length, ⊤}
+-- Condition: what a walk leaves that goes on a stretch at a time, into a sink that may leave it.
+use Rattle.std.specs.Prelude.{◌≡◌, ℕ, ◌≤◌, Bool, true, false, List, Ok}
 use Rattle.trace.specs.declared.item.Item.{Item}
 use Rattle.trace.specs.declared.feeding.Fed.{Fed}
-use Rattle.trace.specs.declared.feeding.Fed.TheVariants as fed
+use Rattle.trace.specs.declared.sink.Flow.{Flow}
+use Rattle.trace.specs.declared.sink.Flow.TheVariants as flow
 use Rattle.trace.specs.Sinks.{IsFed}
 use Rattle.trace.specs.Trace.{Trace}
-use Rattle.prefix_walks.specs.Pieces.{elements}
-use Rattle.prefix_walks.specs.Spans.{IsNotAfter}
 
-module _ {S : Type 0} (h : S → List Item → Type 0) (walk : List Item → Trace) where
-  -- a sink that was s is t, after these items went through the stages; then this became of them
-  abbrev pub IsWalked : List Item → S → Fed → S → Type 0
-  IsWalked ys s r t = (xs : List Item) → h s xs → IsFed h xs (walk ys) (Ok r) t
+-- a sink that was s is t, after these items went through the stages; then this became of them
+abbrev pub IsWalked : {S : Type 0} → (S → List Item → Type 0) → (List Item → Trace) → List Item → S → Fed → S → Type 0
+IsWalked h walk ys s r t = (xs : List Item) → h s xs → IsFed h xs (walk ys) (Ok r) t
 
-  -- if the walk wasn't cut, all these items were walked
-  abbrev pub IsWhole : List Item → S → Option Fed → S → Type 0
-  IsWhole ys s (Some r) t = IsWalked ys s r t
-  IsWhole ys s None t = ⊤
+-- a place at or before this position decides what the walk is for
+abbrev pub IsDecided : (ℕ → Type 0) → ℕ → Type 0
+IsDecided decides from = (c : ℕ) × decides c × (c ≤ from)
 
-  -- if it was, the items before a place at or after one that decides were walked
-  abbrev pub IsCut : (ℕ → Type 0) → List Item → ℕ → Option ℕ → S → Option Fed → S → Type 0
-  IsCut decides items from to s (Some r) t = ⊤
-  IsCut decides items from to s None t = (p : ℕ) × (from ≤ p) × IsNotAfter p to × IfNone to (p ≤ length items) × ((c : ℕ) × decides c × (c ≤ p)) × IsWalked (elements from (Some p) items) s fed.More t
+-- a sink that has left wants no item
+abbrev pub flow_unless : Bool → Flow → Flow
+flow_unless false f = f
+flow_unless true f = flow.Enough
+
+-- helper: it was taken, unless the sink has left
+abbrev pub UnlessLeft : Bool → (ℕ → Type 0) → ℕ → Type 0 → Type 0
+UnlessLeft false decides from taken = taken
+UnlessLeft true decides from taken = IsDecided decides from
+
+-- a sink that looks at places which decide has taken these items; or it has left, since one lies at or before the
+-- start of its piece
+abbrev pub HasLooked : {S W : Type 0} → (S → List Item → Type 0) → (W → ℕ → Type 0) → (ℕ → Type 0) → ℕ → ℕ → W → Bool → S → List Item → Type 0
+HasLooked h places decides from start stop left s xs = (start ≡ from) × ((c : ℕ) → places stop c → decides c) × UnlessLeft left decides from (h s xs)

@@ -150,8 +150,10 @@ fn leaf_as<'p, K: EndBrand>(
     Ok(sink.part)
 }
 
-/// The part of the items at these positions, unless `stop` names a place that decides what the segment gives: then the
-/// walk may end at that place or later. It looks for one every 65,536 positions.
+/// The part of the items at these positions, unless `stop` names a place at or before the first one that decides what the
+/// segment gives: then the walk may be left, and the part is that of a piece that isn't walked. The walk looks for such a
+/// place every 65,536 positions, and also where it is within inner streams, after 65,536 items that came through the
+/// stages.
 pub fn leaf_until<'p, W: Stop>(
     alloc: Global,
     segment: &'p Segment,
@@ -187,11 +189,12 @@ pub fn leaf_stored<'p, W: Stop>(
         return Ok(part);
     }
     let none = with_room(alloc, segment, walked, window);
-    leaf_until_as::<Brand, W>(none, segment, walked, window, registers, stop)
+    leaf_until_as::<Brand, W>(alloc, none, segment, walked, window, registers, stop)
 }
 
 /// The part that `leaf_until` gives, after a given part, for an end whose type contracts can name.
 fn leaf_until_as<'p, K: EndBrand, W: Stop>(
+    alloc: Global,
     part: Part<'p>,
     segment: &'p Segment,
     walked: Walked,
@@ -211,7 +214,7 @@ fn leaf_until_as<'p, K: EndBrand, W: Stop>(
     if part.is_settled() {
         return Ok(part);
     }
-    let mut sink = PartSink::<K> {
+    let sink = PartSink::<K> {
         part,
         segment,
         stage: segment.first_stage + segment.stages.len() as u32,
@@ -219,10 +222,11 @@ fn leaf_until_as<'p, K: EndBrand, W: Stop>(
         of: PhantomData,
     };
     let line = segment.pipeline(walked.env);
-    let ended = feed_until(&walked.source, line, window, registers, &mut sink, stop)?;
-    let Some(fed) = ended else {
-        return Ok(sink.part);
+    let ended = feed_until(&walked.source, line, window, registers, sink, stop)?;
+    let Some((taken, fed)) = ended else {
+        return Ok(unwalked(alloc, segment, walked.env));
     };
+    let mut sink = taken;
     match fed {
         Fed::More => sink.part.end_with(piece_end(&walked.source, window.to)),
         Fed::Fault(fault) => sink.part.end_with(End::Fault(fault)),

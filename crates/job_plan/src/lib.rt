@@ -27,6 +27,7 @@ mod lent_part;
 mod likely;
 mod link_sink;
 mod links;
+mod looking;
 mod moves;
 mod named;
 mod names;

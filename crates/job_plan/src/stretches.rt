@@ -1,6 +1,6 @@
 //! A piece of a source, a stretch at a time, until a place is known that decides what the walk is for.
 
-ghost use Rattle.std.specs.Prelude.{◌≡◌, ◌≤◌, ◌<◌, ℕ, true, List, Some, Ok, IfOk, IfSome, IfNone, OnErr, length};
+ghost use Rattle.std.specs.Prelude.{◌≡◌, ◌≤◌, ◌<◌, ℕ, true, false, List, Ok, IfOk, IfSome, IfNone, OnErr, length};
 ghost use Rattle.trace.specs.Sinks.{IsFed, flow_after};
 ghost use Rattle.trace.specs.Trace.{trace};
 ghost use Rattle.trace.specs.declared.item.Item.{Item as item};
@@ -11,21 +11,19 @@ ghost use Rattle.batch_eval.specs.Pipelines.{piped};
 ghost use Rattle.job_plan.specs.Parts.{walk_in};
 ghost use Rattle.prefix_walks.specs.Pieces.{elements};
 ghost use Rattle.prefix_walks.specs.Spans.{IsNotAfter};
-ghost use Rattle.job_plan.specs.Stretches.{IsWalked, IsWhole, IsCut};
+ghost use Rattle.job_plan.specs.Stretches.{IsDecided, IsWalked};
 
+use crate::looking::{LeavingSink, Looking, PieceStart, STRETCH};
 use crate::source::Source;
 use batch_eval::{BatchSink, Pipeline, Registers};
 use early_stop::Stop;
 use prefix_walks::Window;
+use std::marker::{Brand, PhantomData};
 use trace::{Fed, Flow, NoMemory};
-
-/// How many positions are walked before the next look for a place that decides.
-const STRETCH: u64 = 65_536;
 
 /// The end of the positions of a piece, as far as it is known.
 fn end_of(source: &Source, to: Option<u64>) -> u64
     ensures given { IfSome to (λ t. result ≡ t) }
-    ensures whole { IfNone to (result ≤ length (walk_in source.now).items) }
 {
     match to {
         Some(to) => to,
@@ -33,30 +31,73 @@ fn end_of(source: &Source, to: Option<u64>) -> u64
     }
 }
 
-/// Whether a place at or before this position is known to decide what the walk is for.
-fn is_past<W: Stop>(stop: &mut W, position: u64) -> bool
-    ensures past { result ≡ true → (c : ℕ) × W.decides stop.old c × (c ≤ position) }
-    ensures still { (c : ℕ) → W.decides stop.new c → W.decides stop.old c }
+/// Takes the items at these positions one after the other through the stages, and gives the sink back with what became
+/// of them. `None` says that the walk was left, since a place is known that decides and lies at or before the first
+/// position: what the sink had taken is freed.
+pub(crate) fn feed_until<S: BatchSink + Drop, W: Stop>(
+    source: &Source,
+    line: Pipeline<'_>,
+    window: Window,
+    registers: &mut Registers,
+    sink: S,
+    stop: &mut W,
+) -> Result<Option<(S, Fed)>, NoMemory>
+    requires wants { S.flow sink ≡ Flow.More }
+    requires ordered { IsNotAfter window.from window.to }
+    ensures fed { IfOk result (λ r. IfSome r (λ f. IsWalked S.has_taken (λ ys. piped line.entry (trace ys end.Done)) (elements window.from window.to (walk_in source.now).items) sink f.1 f.0)) }
+    ensures flow { IfOk result (λ r. IfSome r (λ f. S.flow f.0 ≡ flow_after (Ok f.1))) }
+    ensures left { IfOk result (λ r. IfNone r ((xs : List item) → S.has_taken sink xs → IsDecided (W.decides stop.old) window.from)) }
+    ensures refused { OnErr result S.takes_memory }
 {
-    let place = stop.place();
-    place != u64::MAX && place <= position
+    feed_looking::<Brand, S, W>(source, line, window, registers, sink, stop)
 }
 
-/// Takes the items at these positions one after the other through the stages. `None` says that only those before a
-/// place were taken that is at or after one that decides; the sink wants more.
-pub(crate) fn feed_until<S: BatchSink, W: Stop>(
+/// What `feed_until` gives, for a piece whose start contracts can name.
+fn feed_looking<P: PieceStart, S: BatchSink + Drop, W: Stop>(
+    source: &Source,
+    line: Pipeline<'_>,
+    window: Window,
+    registers: &mut Registers,
+    sink: S,
+    stop: &mut W,
+) -> Result<Option<(S, Fed)>, NoMemory>
+    requires wants { S.flow sink ≡ Flow.More }
+    requires ordered { IsNotAfter window.from window.to }
+    requires from { window.from ≡ P.from }
+    requires decides { (c : ℕ) → W.decides stop.old c → P.decides c }
+    ensures fed { IfOk result (λ r. IfSome r (λ f. IsWalked S.has_taken (λ ys. piped line.entry (trace ys end.Done)) (elements window.from window.to (walk_in source.now).items) sink f.1 f.0)) }
+    ensures flow { IfOk result (λ r. IfSome r (λ f. S.flow f.0 ≡ flow_after (Ok f.1))) }
+    ensures left { IfOk result (λ r. IfNone r ((xs : List item) → S.has_taken sink xs → IsDecided P.decides P.from)) }
+    ensures refused { OnErr result S.takes_memory }
+{
+    let mut looking = Looking::<P, S, W> {
+        inner: sink,
+        stop,
+        from: window.from,
+        until_look: STRETCH,
+        has_left: false,
+        of: PhantomData,
+    };
+    let fed = feed_stretches(source, line, window, registers, &mut looking)?;
+    if looking.has_left {
+        return Ok(None);
+    }
+    Ok(Some((looking.inner, fed)))
+}
+
+/// Takes the items at these positions one after the other through the stages, until the sink leaves.
+fn feed_stretches<S: LeavingSink>(
     source: &Source,
     line: Pipeline<'_>,
     window: Window,
     registers: &mut Registers,
     sink: &mut S,
-    stop: &mut W,
-) -> Result<Option<Fed>, NoMemory>
+) -> Result<Fed, NoMemory>
     requires wants { S.flow sink.old ≡ Flow.More }
     requires ordered { IsNotAfter window.from window.to }
-    ensures whole { IfOk result (λ r. IsWhole S.has_taken (λ ys. piped line.entry (trace ys end.Done)) (elements window.from window.to (walk_in source.now).items) sink.old r sink.new) }
-    ensures cut { IfOk result (λ r. IsCut S.has_taken (λ ys. piped line.entry (trace ys end.Done)) (W.decides stop.old) (walk_in source.now).items window.from window.to sink.old r sink.new) }
-    ensures flow { IfOk result (λ r. IfSome r (λ fed. S.flow sink.new ≡ flow_after (Ok fed))) }
+    ensures fed { IfOk result (λ r. S.has_left sink.new ≡ false → IsWalked S.has_taken (λ ys. piped line.entry (trace ys end.Done)) (elements window.from window.to (walk_in source.now).items) sink.old r sink.new) }
+    ensures flow { IfOk result (λ r. S.has_left sink.new ≡ false → S.flow sink.new ≡ flow_after (Ok r)) }
+    ensures left { IfOk result (λ r. (xs : List item) → S.has_taken sink.old xs → (ys : List item) × S.has_taken sink.new ys) }
     ensures refused { OnErr result S.takes_memory }
 {
     let end = end_of(source, window.to);
@@ -69,16 +110,17 @@ pub(crate) fn feed_until<S: BatchSink, W: Stop>(
         };
         match source.feed(line, stretch, registers, sink)? {
             Fed::More => {}
-            ended => return Ok(Some(ended)),
+            ended => return Ok(ended),
         }
         position = next;
-        if is_past(stop, position) {
-            return Ok(None);
+        if sink.leaves() {
+            return Ok(Fed::Enough);
         }
     }
     let last = Window {
         from: position,
         to: window.to,
     };
-    Ok(Some(source.feed(line, last, registers, sink)?))
+    let fed = source.feed(line, last, registers, sink)?;
+    Ok(fed)
 }

@@ -13,7 +13,7 @@ use Rattle.prefix_walks.specs.Pieces.{elements, piece_of}
 use Rattle.job_plan.specs.Plans.{last_stage, walk_of}
 use Rattle.job_plan.proofs.PartLemmas.{length-stages_of}
 use Rattle.job_plan.proofs.WalkLemmas.{after_enough, after_fault, after_more, enough_is_settled, same_ending, settled_first, taken_none, unpinned}
-use Rattle.job_plan.proofs.EnoughLemmas.{whole_enough, cut_enough}
+use Rattle.job_plan.proofs.EnoughLemmas.{whole_enough, none_enough}
 use Rattle.job_plan.proofs.leaves.leaf_until_as.Goals.{in-More, in-Fault, in-Enough}
 use Rattle.job_plan.proofs.leaves.leaf_until_as.Goals as goal
 
@@ -47,9 +47,9 @@ returns-clause-stands g c =
     let at_first : EndsFor f n named begun (walk_of s env nothing) = subst (λ (b : Part). EndsFor f n named b (walk_of s env nothing)) c.requires.begun (unpinned f e n m named env c.args.part (walk_of s env nothing) (sym ends) (sym c.requires.stage) (sym c.requires.env) none) in
     let w_before = walk_of s env nothing in
     let has = λ (sink : PartSink g.row.K.Denot g.K.EndBrand) (items : List Item). (sink.segment.now.end ≡ g.K.EndBrand.last) × (sink.stage ≡ n) × (sink.env.now ≡ named) × HasTaken f n named begun sink.part items in
-    let piped_fed = (rw c.in-Some.is at c.in_ok-ended.ensures.whole) no_items (c.requires.last, stage ∙ c.requires.stage, c.requires.env, first) in
-    let fed = subst (λ (u : Trace). IsFed has no_items u (Ok c.in-Some.fed) c.feed_until.new.sink) (c.pipeline-line.ensures (trace (elements from to t.items) end.Done)) piped_fed in
-    let part = c.feed_until.new.sink.part in
+    let piped_fed = (rw c.in-Some.is at c.in_ok-ended.ensures.fed) no_items (c.requires.last, stage ∙ c.requires.stage, c.requires.env, first) in
+    let fed = subst (λ (u : Trace). IsFed has no_items u (Ok c.in-Some.fed) c.in-Some.taken) (c.pipeline-line.ensures (trace (elements from to t.items) end.Done)) piped_fed in
+    let part = c.in-Some.taken.part in
     whole_enough s env c.match-fed.sink.0 (g.W.Stop.decides c.args.stop.now) from (piece_of from to t)
     (elim c.match-fed.branch [
       | in-More w ↦
@@ -76,26 +76,13 @@ returns-clause-stands g c =
 pub returns-in_default-clause-stands : goal.returns-in_default-clause-stands
 returns-in_default-clause-stands g c =
     let s = segment_in c.args.segment.now in
-    let e = end_in c.args.segment.now.end in
     let f = end_in g.K.EndBrand.last in
-    let m = last_stage s in
     let n = g.K.EndBrand.stage in
     let env = c.args.walked.env.now in
-    let named = g.K.EndBrand.env in
     let begun = g.K.EndBrand.begun in
-    let t = walk_in c.args.walked.source in
     let len : c.len.result ≡ length c.args.segment.now.stages.items = search rules in
     let stage = ap (λ k. c.args.segment.now.first_stage + k) (len ∙ sym (length-stages_of c.args.segment.now.stages.items)) in
-    let ends : e ≡ f = ap end_in c.requires.last in
     let no_items : List Item = [] in
-    let first : HasTaken f n named begun c.args.part no_items = subst (λ (b : Part). HasTaken f n named b c.args.part no_items) c.requires.begun (taken_none f n named c.args.part) in
-    let none : EndsFor e m env c.args.part nothing = subst (λ (w : Trace). EndsFor e m env c.args.part w) (pipe_ended s.first s.stages env end.Done) c.requires.none in
-    let at_first : EndsFor f n named begun nothing = subst (λ (b : Part). EndsFor f n named b nothing) c.requires.begun (unpinned f e n m named env c.args.part nothing (sym ends) (sym c.requires.stage) (sym c.requires.env) none) in
-    let cut = rw c.in_default.is at c.in_ok-ended.ensures.cut in
-    let has = λ (sink : PartSink g.row.K.Denot g.K.EndBrand) (items : List Item). (sink.segment.now.end ≡ g.K.EndBrand.last) × (sink.stage ≡ n) × (sink.env.now ≡ named) × HasTaken f n named begun sink.part items in
-    let piped_fed = cut.5 no_items (c.requires.last, stage ∙ c.requires.stage, c.requires.env, first) in
-    let fed = subst (λ (u : Trace). IsFed has no_items u (Ok fed.More) c.feed_until.new.sink) (c.pipeline-line.ensures (trace (elements c.args.window.from (Some cut.0) t.items) end.Done)) piped_fed in
-    let part = c.feed_until.new.sink.part in
-    let front : Trace = trace (no_items ++ (walk_of s env (piece_of c.args.window.from (Some cut.0) t)).items) end.Done in
-    cut_enough s env part (g.W.Stop.decides c.args.stop.now) t c.args.window.from cut.0 c.args.window.to cut.1 cut.2 cut.3 cut.4.0 cut.4.1 cut.4.2 fed.1
-    (unpinned e f m n env named part front ends c.requires.stage c.requires.env (fed.0.3.0 nothing at_first))
+    let first : HasTaken f n g.K.EndBrand.env begun c.args.part no_items = subst (λ (b : Part). HasTaken f n g.K.EndBrand.env b c.args.part no_items) c.requires.begun (taken_none f n g.K.EndBrand.env c.args.part) in
+    let known = (rw c.in_default.is at c.in_ok-ended.ensures.left) no_items (c.requires.last, stage ∙ c.requires.stage, c.requires.env, first) in
+    none_enough s env c.unwalked.result (g.W.Stop.decides c.args.stop.now) c.args.window.from (piece_of c.args.window.from c.args.window.to (walk_in c.args.walked.source)) known c.unwalked.ensures.stands

@@ -1,0 +1,137 @@
+//! A sink that leaves a walk which no longer matters, whatever it is given.
+
+ghost use Rattle.std.specs.Prelude.{◌≡◌, ◌≤◌, ℕ, Bool, true, false, List};
+ghost use Rattle.trace.specs.declared.item.Item.{Item as item};
+ghost use Rattle.job_plan.specs.Stretches.{HasLooked, IsDecided, flow_unless};
+
+use batch_eval::{
+    Batch, BatchSink, FlaggedLanes, PlacedValues, accept_each, accept_each_flagged,
+};
+use early_stop::Stop;
+use lambda_values::BoolExpr;
+use std::marker::{Brand, PhantomData};
+use trace::{Fed, Flow, Item, LongSink, NoMemory, SourceItems};
+
+/// After how many items, or positions of the source, a walk looks for a place that decides.
+pub(crate) const STRETCH: u64 = 65_536;
+
+/// Where a piece begins, and which places decide what its walk is for, as contracts see it. No value has this type.
+pub(crate) trait PieceStart {
+    ghost decides: { ℕ → Type 0 };
+
+    ghost from: { ℕ };
+}
+
+impl PieceStart for Brand {
+    ghost decides = { λ _. ⊥ };
+
+    ghost from = { 0 };
+}
+
+/// A sink that may leave a walk.
+pub(crate) trait LeavingSink: BatchSink {
+    // whether it has left
+    ghost has_left: { Self → Bool };
+
+    /// Leaves the walk if it no longer matters, and answers whether it has left.
+    fn leaves(&mut self) -> bool
+        requires { Self.flow self.old ≡ Flow.More }
+        ensures answer { result ≡ has_left self.new }
+        ensures taken { (xs : List item) → Self.has_taken self.old xs → Self.has_taken self.new xs }
+        ensures wants { result ≡ false → Self.flow self.new ≡ Flow.More };
+}
+
+/// A sink that hands items on to another one, until it sees that nothing of its piece matters.
+#[derive(Drop)]
+pub(crate) struct Looking<'w, P: PieceStart, S: Drop, W: Stop> {
+    pub(crate) inner: S,
+    pub(crate) stop: &'w mut W,
+    /// The first position of the piece.
+    pub(crate) from: u64,
+    /// At this many items more it looks.
+    pub(crate) until_look: u64,
+    pub(crate) has_left: bool,
+    pub(crate) of: PhantomData<P>,
+}
+
+/// Whether a place at or before this position is known to decide what the walk is for.
+fn is_past<W: Stop>(stop: &mut W, position: u64) -> bool
+    ensures past { result ≡ true → IsDecided (W.decides stop.old) position }
+    ensures still { (c : ℕ) → W.decides stop.new c → W.decides stop.old c }
+{
+    let place = stop.place();
+    place != u64::MAX && place <= position
+}
+
+/// Whether such a place is known, if a look is due at this many items more.
+fn is_seen<W: Stop>(stop: &mut W, position: u64, until_look: &mut u64, items: u64) -> bool
+    ensures past { result ≡ true → IsDecided (W.decides stop.old) position }
+    ensures still { (c : ℕ) → W.decides stop.new c → W.decides stop.old c }
+{
+    if items < *until_look {
+        *until_look -= items;
+        return false;
+    }
+    *until_look = STRETCH;
+    is_past(stop, position)
+}
+
+impl<P: PieceStart, S: BatchSink + Drop, W: Stop> LongSink for Looking<'_, P, S, W> {
+    ghost has_taken = { λ sink items. HasLooked S.has_taken W.decides P.decides P.from sink.from sink.stop.now sink.has_left sink.inner items };
+
+    ghost flow = { λ sink. flow_unless sink.has_left (S.flow sink.inner) };
+
+    ghost takes_memory = { S.takes_memory };
+
+    fn accept(&mut self, item: Item) -> Result<Flow, NoMemory> {
+        if is_seen(self.stop, self.from, &mut self.until_look, 1) {
+            self.has_left = true;
+            return Ok(Flow::Enough);
+        }
+        self.inner.accept(item)
+    }
+}
+
+impl<P: PieceStart, S: BatchSink + Drop, W: Stop> BatchSink for Looking<'_, P, S, W> {
+    fn accept_batch(&mut self, batch: &Batch, room: &mut [i64]) -> Result<Fed, NoMemory> {
+        if is_seen(self.stop, self.from, &mut self.until_look, batch.count()) {
+            self.until_look = 0;
+            return accept_each(batch, self);
+        }
+        self.inner.accept_batch(batch, room)
+    }
+
+    fn accept_run(&mut self, run: PlacedValues<'_>, room: &mut [i64]) -> Result<Fed, NoMemory> {
+        if is_seen(self.stop, self.from, &mut self.until_look, run.count()) {
+            self.until_look = 0;
+            return accept_each(&run, self);
+        }
+        self.inner.accept_run(run, room)
+    }
+
+    fn takes_flags(&self) -> bool {
+        self.inner.takes_flags()
+    }
+
+    fn accept_flagged(&mut self, lanes: FlaggedLanes<'_>) -> Result<Fed, NoMemory> {
+        let count = lanes.flags.len() as u64;
+        if is_seen(self.stop, self.from, &mut self.until_look, count) {
+            self.until_look = 0;
+            return accept_each_flagged(lanes, self);
+        }
+        self.inner.accept_flagged(lanes)
+    }
+
+    fn test(&self) -> Option<&BoolExpr> {
+        self.inner.test()
+    }
+}
+
+impl<P: PieceStart, S: BatchSink + Drop, W: Stop> LeavingSink for Looking<'_, P, S, W> {
+    ghost has_left = { λ sink. sink.has_left };
+
+    fn leaves(&mut self) -> bool {
+        self.has_left = is_past(self.stop, self.from);
+        self.has_left
+    }
+}
