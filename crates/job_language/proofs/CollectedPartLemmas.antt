@@ -56,6 +56,13 @@ no_name [] h = refl
 no_name (a ∷ []) h = absurd (h refl)
 no_name (a ∷ b ∷ ws) h = no_name_for (word_of a) (word_of b) (words_in ws)
 
+pub three_words : (ws : List code.Word) (d : code.Word) → length ws ≡ 3 → word_of (get_or ws 0 d) ∷ word_of (get_or ws 1 d) ∷ word_of (get_or ws 2 d) ∷ [] ≡ words_in ws
+three_words [] d h = absurd (omega arith)
+three_words (a ∷ []) d h = absurd (omega arith)
+three_words (a ∷ b ∷ []) d h = absurd (omega arith)
+three_words (a ∷ b ∷ c ∷ []) d h = refl
+three_words (a ∷ b ∷ c ∷ e ∷ ws) d h = absurd (omega arith)
+
 -- words too few or too many for a method
 no_method_one : (a : Word) → None ≡ method_in (a ∷ [])
 no_method_one (named v) = refl

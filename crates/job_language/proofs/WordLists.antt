@@ -1,7 +1,7 @@
 -- Which words the words of the program mean, place by place.
 use Rattle.std.proofs.Common.{◌≡◌, ℕ, zero, suc, ◌-◌, ◌<◌, ◌≤◌, true, List, [], ◌∷◌, length, take, drop, get_or, Option, Some, None, refl, ap, ◌∙◌, arith}
 use Rattle.std.specs.Prelude.{is_some, option_map, slice_range}
-use Rattle.lambda_expr.specs.Words.{Word, bad}
+use Rattle.lambda_expr.specs.Words.{bad}
 use Rattle.job_language.specs.Table.{has_words}
 use Rattle.lambda_expr.specs.declared.word.Word as code
 use Rattle.lambda_expr.specs.CodeWords.{word_of, words_in}

@@ -79,11 +79,7 @@ fn op_method(owner: &[u8], name: &[u8]) -> Option<Op>
     }
 }
 
-fn method_of<'a>(
-    owner: Word<'a>,
-    colons: Word<'a>,
-    name: Word<'a>,
-) -> Option<(&'a [u8], &'a [u8])>
+fn method_of<'a>(owner: Word<'a>, colons: Word<'a>, name: Word<'a>) -> Option<(&'a [u8], &'a [u8])>
     ensures { option_map (λ m. (m.0.now, m.1.now)) result
         ≡ method_in (word_of owner.entry ∷ word_of colons.entry ∷ word_of name.entry ∷ []) }
 {
@@ -103,8 +99,8 @@ fn method_of<'a>(
 fn method_in<'a>(words: &[Word<'a>]) -> Option<(&'a [u8], &'a [u8])>
     ensures { option_map (λ m. (m.0.now, m.1.now)) result ≡ method_in (words_in words.now) }
 {
-    match words {
-        [owner, colons, name] => method_of(*owner, *colons, *name),
+    match words.len() {
+        3 => method_of(words[0], words[1], words[2]),
         _ => None,
     }
 }
