@@ -6,6 +6,7 @@ import re
 import sys
 
 import lib
+import loops
 import processes
 import programs
 from running import TOP, options_of, read, write
@@ -26,9 +27,9 @@ def machine():
 def figures(part, words, program):
     """What a part shows, by the titles and the heads of its tables. A row without cells begins a table whose rows are the columns."""
     lib.SHOWN.clear()
-    of_program = hasattr(processes, part)
-    sys.argv = [part, *words.split(), *([program] if of_program else [])]
-    getattr(processes if of_program else programs, part)()
+    module = next(it for it in (processes, loops, programs) if hasattr(it, part))
+    sys.argv = [part, *words.split(), *([] if module is programs else [program])]
+    getattr(module, part)()
     found, heads, group = {}, [], None
     for title, cells in lib.SHOWN:
         if not cells:
