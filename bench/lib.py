@@ -1,4 +1,4 @@
-"""What the benchmarks have in common: programs over crates of the repository, peers, runs that are timed, and tables."""
+"""What the benchmarks have in common: peers, runs that are timed, and tables."""
 import collections
 import os
 import shutil
@@ -7,45 +7,13 @@ import sys
 
 HERE = os.path.dirname(os.path.realpath(__file__))
 TOP = os.path.dirname(HERE)
-sys.path += [os.path.join(TOP, 'tests'), os.path.join(TOP, 'scripts')]
-from repository import script  # noqa: E402
+sys.path.append(os.path.join(TOP, 'tests'))
 from running import measured  # noqa: E402
 
 # (title, cells) of each row that the running part has shown.
 SHOWN = []
 # Least wall time and processor time in milliseconds, most memory in bytes, and what the last run printed.
 Cost = collections.namedtuple('Cost', 'wall processor memory printed')
-
-
-def copy_of(work, stands_on):
-    """Copies crates and all that they stand on, with what is kept of their proofs, to a folder that `rt` takes for a repository."""
-    statements = script('scripts', 'statements')
-    crates = {crate.name: crate for crate in statements.rtlib.crates_below(TOP)}
-    wanted = {crate.name: crate for name in stands_on.split() for crate in [*crates[name].below(), crates[name]]}
-    shutil.copy(os.path.join(TOP, 'HANDLES'), work)
-    statements.write_list(work, wanted.values())
-    for name, crate in wanted.items():
-        shutil.copytree(crate.folder, os.path.join(work, 'crates', name), ignore=shutil.ignore_patterns('must-fail', 'wrong-bodies'))
-
-
-def crate_over(work, name, source, stands_on):
-    """A folder of a crate over crates of the repository, in a copy of these; `source` is its main.rt."""
-    crate = os.path.join(work, 'crates', name)
-    copy_of(work, stands_on)
-    with open(os.path.join(work, 'crates.txt'), 'a', encoding='utf-8') as file:
-        file.write(f'{name}: {stands_on}\n')
-    os.makedirs(os.path.join(crate, 'src'))
-    shutil.copy(source, os.path.join(crate, 'src', 'main.rt'))
-    return crate
-
-
-def build_crate(work, name, source, stands_on, words=()):
-    """Proves and builds a program over crates of the repository, runs it once with these words, and gives its path."""
-    crate = crate_over(work, name, source, stands_on)
-    ended = subprocess.run(['rt', 'run', '--', *words], cwd=crate, stdout=subprocess.PIPE, stderr=subprocess.STDOUT, text=True, check=False)
-    if ended.returncode:
-        sys.exit(f'{ended.stdout[-4000:]}{name} was not built')
-    return os.path.join(crate, 'out', name)
 
 
 def ran(command, is_needed=True, most=None):

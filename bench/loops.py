@@ -82,7 +82,7 @@ def cores():
         starts = {it: jobs.cost('range(0, 1).sum()', it).wall for it in WORKERS}
         row('ms', ['', *map(str, starts), '1 by 4', 'ours by it'])
         for task in tasks.OF_CORES:
-            stream = tasks.JOBS[task].partition(' = ')[2].strip()
+            stream = tasks.JOBS[task][1].partition(' = ')[2].strip()
             costs = {it: jobs.cost(stream, it) for it in starts}
             found = {'streamrun': [max(costs[it].wall - start, 0.0) for it, start in starts.items()]}
             wanted = costs[1].printed.split()[-1]

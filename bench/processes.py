@@ -131,7 +131,7 @@ def peers():
                 found['mawk'] = ['mawk', '-F,', tasks.MAWK[task], table]
             if tools['sqlite3'] and task in tasks.SQL:
                 found['sqlite3'] = tasks.sqlite(table, tasks.SQL[task])
-            row(tasks.TITLES[task], [])
+            row(tasks.JOBS[task][0], [])
             show_turns(options.turns * (10 if task in tasks.SHORT else 1), found, 'here')
 
 
@@ -166,6 +166,31 @@ def tables():
                     found = {name: ['sh', '-c', 'echo 3 > /proc/sys/vm/drop_caches; exec "$@"', 'sh', *it] for name, it in found.items()}
                 row(f'{task}: {rows} rows of {columns} columns, {shape}', [])
                 show_turns(options.turns, found, 'here 4')
+
+
+def job_files():
+    """Times large job files, which take time to read and hardly any to run, beside wc, which counts their lines.
+
+    bench/run job_files [--turns N] [--lines N] [PROGRAM]
+
+    It prints wall time in milliseconds, and the first line of what the program says:
+
+    long       256 jobs of 65,536 bytes each
+    junk       N lines (10000000): the first 256 are jobs and the others are not: the 257th is refused
+    comments   N lines of comments before one job
+    continued  one job on N lines, which is too long
+    """
+    options = options_of(job_files.__doc__, turns=5, lines=10 ** 7)
+    files = {'long': tasks.long_jobs, 'junk': lambda: [*(f'j{at} = of(1).sum()\n' for at in range(256)), 'junk ( , #\n' * (options.lines - 256)],
+             'comments': lambda: ['# a comment\n' * options.lines, 'a = of(1).sum()\n'],
+             'continued': lambda: ['a = of(1)\n', '    .skip(0)\n' * options.lines, '    .sum()\n']}
+    with tempfile.TemporaryDirectory() as folder:
+        row('ms', ['bytes', 'here', 'wc', '  answer'], 12)
+        for name, parts in files.items():
+            path = write(os.path.join(folder, 'jobs'), ''.join(parts()))
+            here = least_of(options.turns, ['sh', '-c', '"$@" 2>&1 || true', 'sh', options.program, path])
+            counted = least_of(options.turns, ['wc', '-l', path])
+            row(name, [os.path.getsize(path), here.wall, counted.wall, '  ' + here.printed.partition('\n')[0]], 12)
 
 
 # What is asked of each tool: a zero divisor on the way, and a sum beyond 64 bits.

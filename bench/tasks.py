@@ -30,33 +30,30 @@ SMALL = "".join(f"j{i} = range(0, 100).map(x -> x * {i}).filter(x -> x % 3 == 0)
 # Each job waits for the one before it.
 CHAIN = "j0 = range(0, 100).sum()\n" + "".join(f"j{i} = range(0, 100).map(x -> x ^ $j{i - 1}).sum()\n" for i in range(1, 256))
 
+# A title, and a job file.
 JOBS = {
-    "one_sum": 's = column("b").sum()\n',
-    "twelve": twelve(*"bcde"),
-    "map_filter_sum": f"s = range(0, 100000000).{MAP_FILTER_SUM}\n",
-    "fifteen": f"s = range(0, 100000000).map(x -> {FIFTEEN}).sum()\n",
-    "to_array": "s = range(0, 1000000).map(x -> x * 7).toArray()\n",
-    "to_array_10": "s = range(0, 10000000).map(x -> x * 7).toArray()\n",
-    "small_jobs": SMALL,
-    "chain": CHAIN,
-    "shallow_find": "s = range(0, 4611686018427387904).filter(x -> x % 1001 == 1000).findFirst()\n",
-    "late_find": "s = range(0, 100000000).filter(x -> x == 90000000).findFirst()\n",
-    "late_match": "s = range(0, 100000000).anyMatch(x -> x == 90000000)\n",
+    "one_sum": ("the sum of a column of 10^6 rows", 's = column("b").sum()\n'),
+    "twelve": ("twelve aggregations over columns of 10^6 rows", twelve(*"bcde")),
+    "map_filter_sum": ("`map`, `filter`, `sum` over 10^8 numbers", f"s = range(0, 100000000).{MAP_FILTER_SUM}\n"),
+    "fifteen": ("fifteen operators and `sum` over 10^8 numbers", f"s = range(0, 100000000).map(x -> {FIFTEEN}).sum()\n"),
+    "to_array": ("`toArray` of 10^6 numbers, printed", "s = range(0, 1000000).map(x -> x * 7).toArray()\n"),
+    "to_array_10": ("`toArray` of 10^7 numbers, printed", "s = range(0, 10000000).map(x -> x * 7).toArray()\n"),
+    "small_jobs": ("256 jobs over 100 numbers each", SMALL),
+    "chain": ("256 jobs, each naming the one above", CHAIN),
+    "shallow_find": ("a find after 1,000 of 2^62 numbers", "s = range(0, 4611686018427387904).filter(x -> x % 1001 == 1000).findFirst()\n"),
+    "late_find": ("`findFirst` at 90 % of 10^8 numbers", "s = range(0, 100000000).filter(x -> x == 90000000).findFirst()\n"),
+    "late_match": ("`anyMatch` at 90 % of 10^8 numbers", "s = range(0, 100000000).anyMatch(x -> x == 90000000)\n"),
 }
 
-TITLES = {
-    "one_sum": "the sum of a column of 10^6 rows",
-    "twelve": "twelve aggregations over columns of 10^6 rows",
-    "map_filter_sum": "`map`, `filter`, `sum` over 10^8 numbers",
-    "fifteen": "fifteen operators and `sum` over 10^8 numbers",
-    "to_array": "`toArray` of 10^6 numbers, printed",
-    "to_array_10": "`toArray` of 10^7 numbers, printed",
-    "small_jobs": "256 jobs over 100 numbers each",
-    "chain": "256 jobs, each naming the one above",
-    "shallow_find": "a find after 1,000 of 2^62 numbers",
-    "late_find": "`findFirst` at 90 % of 10^8 numbers",
-    "late_match": "`anyMatch` at 90 % of 10^8 numbers",
-}
+
+def long_jobs():
+    """256 jobs of 65,536 bytes each over one item: 1,024 values, 30 lambdas of 60 numbers, and one that blanks fill up."""
+    value = "9123456789012345678"
+    body = "x" + "".join(f" {'*' if at % 2 else '+'} {value}" for at in range(1, 60))
+    for number in range(256):
+        job = f"j{number} = of({', '.join([value] * 1024)}).limit(1)" + f".map(x -> {body})" * 30
+        yield f"{job}.map(x -> {' ' * (65536 - len(job) - len('.map(x -> x).sum()'))}x).sum()\n"
+
 
 # The tasks that read the table, and the ones of few milliseconds.
 OF_COLUMNS = ("one_sum", "twelve")
@@ -114,5 +111,5 @@ def write_table(path):
 def write_all(folder):
     """The table, and a file of jobs for each task, in a folder."""
     write_table(f"{folder}/table.csv")
-    for task, jobs in JOBS.items():
+    for task, (_, jobs) in JOBS.items():
         pathlib.Path(f"{folder}/{task}.jobs").write_text(jobs, encoding="ascii")
