@@ -70,8 +70,7 @@ def prefixes():
     bench/run prefixes [--turns N] [PROGRAM]
 
     It prints wall and processor time in milliseconds. C fills an array, scans it and adds it up; Java does so in parallel, by
-    Arrays.parallelPrefix; Rust goes over each part of a range twice on threads of its own, without an array: the first pass of a sum
-    is a formula there, as the compiler finds.
+    Arrays.parallelPrefix; Rust goes over each part of a range twice on threads of its own, without an array.
     """
     options = options_of(prefixes.__doc__, turns=5)
     with tempfile.TemporaryDirectory() as folder:

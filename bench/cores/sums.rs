@@ -21,7 +21,7 @@ fn sum_of(task: &str, from: i64, to: i64) -> i64 {
     match task {
         "map_filter_sum" => sum((from..to).map(|x| x.wrapping_mul(3).wrapping_add(1)).filter(|x| x & 4 == 0)),
         "fifteen" => sum((from..to).map(fifteen)),
-        _ => panic!("no task {task}"),
+        _ => panic!("no task {}", task),
     }
 }
 

@@ -2,12 +2,19 @@
 //! part; then each goes over its part again, from the sum of what lies left of it.
 
 use std::env;
+use std::hint::black_box;
 use std::ops::Range;
 use std::thread;
 
-fn sum_of_sums(before: i64, part: Range<i64>) -> i64 {
+/// The numbers of a range. The compiler can't know them, else it makes a formula of their sums.
+fn numbers(part: &Range<i64>) -> impl Iterator<Item = i64> {
+    let zero = black_box(0);
+    part.clone().map(move |item| item ^ zero)
+}
+
+fn sum_of_sums(before: i64, part: &Range<i64>) -> i64 {
     let mut last = before;
-    part.fold(0i64, |sum, item| {
+    numbers(part).fold(0i64, |sum, item| {
         last = last.wrapping_add(item);
         sum.wrapping_add(last)
     })
@@ -28,10 +35,10 @@ fn main() {
     let parts: Vec<Range<i64>> = (0..threads).map(|at| count * at / threads..count * (at + 1) / threads).collect();
     let mut left = 0i64;
     let mut begun = Vec::new();
-    for (part, sum) in parts.iter().zip(on_threads(&parts, |part| part.clone().fold(0, i64::wrapping_add))) {
+    for (part, sum) in parts.iter().zip(on_threads(&parts, |part| numbers(part).fold(0, i64::wrapping_add))) {
         begun.push((left, part.clone()));
         left = left.wrapping_add(sum);
     }
-    let sums = on_threads(&begun, |(before, part)| sum_of_sums(*before, part.clone()));
+    let sums = on_threads(&begun, |(before, part)| sum_of_sums(*before, part));
     println!("q = {}", sums.into_iter().fold(0i64, i64::wrapping_add));
 }
