@@ -1,4 +1,4 @@
--- Meaning: the walk of one thread: each item goes through all stages before the next one, and no item is asked for after
+-- Design: the walk of one thread: each item goes through all stages before the next one, and no item is asked for after
 -- a slice has ended.
 use Rattle.std.specs.Prelude.{ℕ, suc, ◌-◌, ◌==◌, ◌||◌, nat_lt, Bool, false, is_some, if◌then◌else◌, List, [], ◌∷◌, length, Option, None, Result}
 use Rattle.std.specs.Option.{option_or}
