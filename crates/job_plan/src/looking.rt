@@ -4,9 +4,7 @@ ghost use Rattle.std.specs.Prelude.{◌≡◌, ◌≤◌, ℕ, Bool, true, false
 ghost use Rattle.trace.specs.declared.item.Item.{Item as item};
 ghost use Rattle.job_plan.specs.Stretches.{HasLooked, IsDecided, flow_unless};
 
-use batch_eval::{
-    Batch, BatchSink, FlaggedLanes, PlacedValues, accept_each, accept_each_flagged,
-};
+use batch_eval::{Batch, BatchSink, FlaggedLanes, PlacedValues, accept_each, accept_each_flagged};
 use early_stop::Stop;
 use lambda_values::BoolExpr;
 use std::marker::{Brand, PhantomData};

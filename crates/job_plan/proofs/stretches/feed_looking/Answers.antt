@@ -1,4 +1,4 @@
-use Rattle.std.proofs.Common.{◌≡◌, ℕ, List, Ok, refl, sym, ◌∙◌}
+use Rattle.std.proofs.Common.{List, Ok, sym, ◌∙◌}
 use Rattle.trace.specs.declared.item.Item.{Item}
 use Rattle.job_plan.specs.declared.looking.Looking.{Looking}
 use Rattle.job_plan.specs.Stretches.{HasLooked}

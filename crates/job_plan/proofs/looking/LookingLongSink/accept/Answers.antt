@@ -1,4 +1,4 @@
-use Rattle.std.proofs.Common.{◌≡◌, true≢false, sym, ◌∙◌}
+use Rattle.std.proofs.Common.{true≢false, sym, ◌∙◌}
 use Rattle.job_plan.proofs.LookLemmas.{as_named, inner_flow, inner_wants, not_left, on_err_map, still_taken, unless_left}
 use Rattle.job_plan.proofs.PartLemmas.{on_ok_map}
 use Rattle.job_plan.proofs.PassageLemmas.{if_ok_map}
