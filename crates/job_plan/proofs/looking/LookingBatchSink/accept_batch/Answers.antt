@@ -15,8 +15,8 @@ accept_batch-requires g c = record { wants = inner_wants c.args.self.now.has_lef
 pub returns-clause-fed : goal.returns-clause-fed
 returns-clause-fed g c = λ xs looked.
     let h = g.S.LongSink.has_taken in
-    let decides = g.P.PieceStart.decides in
-    let from = g.P.PieceStart.from in
+    let decides = g.P.StartBrand.decides in
+    let from = g.P.StartBrand.from in
     let self = c.args.self.now in
     let stays = not_left self.has_left (g.S.LongSink.flow self.inner) c.requires.wants in
     fed_as h

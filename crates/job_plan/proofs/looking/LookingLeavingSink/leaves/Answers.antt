@@ -5,8 +5,8 @@ use Rattle.job_plan.proofs.looking.LookingLeavingSink.leaves.Goals as goal
 pub returns-clause-taken : goal.returns-clause-taken
 returns-clause-taken g c = λ xs looked.
     let h = g.S.LongSink.has_taken in
-    let decides = g.P.PieceStart.decides in
-    let from = g.P.PieceStart.from in
+    let decides = g.P.StartBrand.decides in
+    let from = g.P.StartBrand.from in
     let self = c.args.self.now in (
       looked.0,
       (λ d known. looked.1 d (c.is_past-self.ensures.still d known)),
