@@ -7,7 +7,7 @@ from collections import namedtuple
 
 from every_rows import contexts, rows
 from lib import TOP, least_of, ran
-from running import options_of, write
+from running import options_of, read, write
 
 PAGE = """Times every operation that docs/job-language.md names, so a new one is measured as soon as the page has it.
 
@@ -15,21 +15,18 @@ PAGE = """Times every operation that docs/job-language.md names, so a new one is
 
     --items N      how many items a source has at first (4000000); it grows until a run takes 50 ms
     --rows N       how many rows the column has (1000000); a job over it is written up to 256 times, until a run takes 200 ms
-    --rounds N     each figure is the least of so many runs (3)
+    --rounds N     each figure is the least of N runs (3)
     --workers A,B  on how many workers (1,4)
     --only TEXT    only rows whose kind and name have this text
 
 Each row is measured over a range, a column, a concat, after a filter, after a flatMap and after a limit. Whether a job is one at all
 the program decides: what it refuses, or answers by a fault, is left out. The figures of a row:
 
-- of its kind: the time per item, or per value that it gives if these are more, by that of the fastest row of its kind in the same place,
-  on as many workers; beyond 4 it is marked; `-` if a row takes less than 0.1 ns per item: it ends early or walks nothing. The kind is
-  its sort and what it has to do, since a division isn't an addition: WORK in every_rows.py. A new operation is simple until it
-  stands there.
-- of its sort: the same beside the fastest of all rows of its sort: source, stage, terminal, lambda, condition.
+- of its kind: the time per item, or per value that it gives if these are more, divided by the time of the fastest row of its kind in
+  its place, on as many workers; beyond 4 it is marked; `-` if a row takes less than 0.1 ns per item: it ends early or walks nothing.
+  The kind is its sort and what it has to do, since a division isn't an addition: WORK in every_rows.py. A new operation is simple
+  until it stands there.
 - ns per item that enters it: on one worker processor time, on several wall time, without the start and the reading of columns.
-- processors: processor time by wall time. Bytes per item: the most memory that was held, without that of the start; what is below
-  some 14 MB in all isn't seen.
 
 A `toArray` pays for its report. All rows take some minutes, on a machine without other work.
 """
@@ -39,7 +36,7 @@ ENOUGH_BESIDE_READING, MOST_JOBS = 200, 256
 LEAST_NANOSECONDS, MARKED = 0.1, 4
 TEST_ITEMS = 128
 
-Line = namedtuple('Line', 'row place workers nanoseconds cores memory')
+Line = namedtuple('Line', 'row place workers nanoseconds')
 
 
 def each_value(line):
@@ -50,19 +47,15 @@ def each_value(line):
 class Bench:
     def __init__(self, options, folder):
         self.options, self.folder, self.starts = options, folder, {}
-        with open(os.path.join(TOP, 'docs', 'job-language.md'), encoding='utf-8') as page:
-            self.page = page.read()
+        self.page = read(os.path.join(TOP, 'docs', 'job-language.md')).decode()
         for name, length in (('few', TEST_ITEMS), ('many', options.rows)):
-            with open(self.path(f'{name}.csv'), 'w', encoding='utf-8') as file:
-                file.write('a\n')
-                # Line by line: the most memory that this process ever had counts as that of the runs that it starts.
-                file.writelines(f'{it}\n' for it in range(length))
+            write(self.path(f'{name}.csv'), 'a\n' + ''.join(f'{it}\n' for it in range(length)))
 
     def path(self, name):
         return os.path.join(self.folder, name)
 
     def command(self, job, columns, workers, times=1):
-        """The command over so many jobs like this one."""
+        """The command over this job, written some times."""
         jobs = write(self.path('jobs'), ''.join(f'j{it} = {job}\n' for it in range(times)))
         return [self.options.program, '--workers', str(workers), *(['--columns', self.path(columns)] if columns else []), jobs]
 
@@ -102,11 +95,9 @@ class Bench:
                 times = grown
             else:
                 length = grown
-        processor = max(cost.processor - start.processor, 0)
-        cores = processor / taken if taken > 1 else 0
         name = contexts(length)[place][0] if row.source is None else 'itself'
-        counted = processor if workers == 1 else taken
-        return Line(row._replace(kind=kind), name, workers, counted / items * 1e6, cores, max(cost.memory - start.memory, 0) / items)
+        counted = max(cost.processor - start.processor, 0) if workers == 1 else taken
+        return Line(row._replace(kind=kind), name, workers, counted / items * 1e6)
 
     def lines(self):
         for at, row in enumerate(rows(self.page, TEST_ITEMS)):
@@ -120,22 +111,17 @@ class Bench:
 
 
 def factors(lines):
-    """(factor or None, the same beside all of its sort, line), the farthest from the best of its kind first."""
+    """(factor or None, line), the farthest from the best of its kind first."""
     best = {}
     for line in lines:
-        for group in (line.row.kind, line.place, line.workers), (line.row.sort, line.place, line.workers, 'all'):
-            if line.nanoseconds >= LEAST_NANOSECONDS:
-                best[group] = min(each_value(line), best.get(group, each_value(line)))
+        group = line.row.kind, line.place, line.workers
+        if line.nanoseconds >= LEAST_NANOSECONDS:
+            best[group] = min(each_value(line), best.get(group, each_value(line)))
     found = []
     for line in lines:
-        of_kind, of_all = (line.row.kind, line.place, line.workers), (line.row.sort, line.place, line.workers, 'all')
         is_timed = line.nanoseconds >= LEAST_NANOSECONDS
-        found.append((each_value(line) / best[of_kind], each_value(line) / best[of_all], line) if is_timed else (None, None, line))
-    return sorted(found, key=lambda it: (-(it[0] or 0), -(it[1] or 0)))
-
-
-def shown(factor):
-    return '-' if factor is None else f'{factor:.1f}'
+        found.append((each_value(line) / best[line.row.kind, line.place, line.workers] if is_timed else None, line))
+    return sorted(found, key=lambda it: -(it[0] or 0))
 
 
 def every():
@@ -143,15 +129,13 @@ def every():
     with tempfile.TemporaryDirectory() as folder:
         lines = list(Bench(options, folder).lines())
     print(f'{len(os.sched_getaffinity(0))} processors, least of {options.rounds} runs')
-    print('| of its kind | of its sort | ns per item | processors | bytes per item | workers | place | kind | row |')
-    print('|---|---|---|---|---|---|---|---|---|')
+    print('| of its kind | ns per item | workers | place | kind | row |\n|---|---|---|---|---|---|')
     marked = 0
-    for factor, of_all, line in factors(lines):
-        first = shown(factor)
-        if factor is not None and factor > MARKED:
-            marked, first = marked + 1, f'**{first}**'
+    for factor, line in factors(lines):
+        is_marked = factor is not None and factor > MARKED
+        marked += is_marked
+        shown = '-' if factor is None else f'**{factor:.1f}**' if is_marked else f'{factor:.1f}'
         name = line.row.name.replace('|', '\\|')
-        print(f'| {first} | {shown(of_all)} | {line.nanoseconds:.2f} | {line.cores:.1f} | {line.memory:.1f} | {line.workers} | '
-              f'{line.place} | {line.row.kind} | `{name}` |')
+        print(f'| {shown} | {line.nanoseconds:.2f} | {line.workers} | {line.place} | {line.row.kind} | `{name}` |')
     print(f'every: {len(lines)} rows, {marked} beyond {MARKED} times the best of their kind')
     return 0 if lines else 1

@@ -4,14 +4,14 @@
 
 Headings give the sources, stages and terminals, tables the operators of folds and of lambdas, and the paragraph of calls the
 calls and constants. No operation is named to be measured, so a new one is as soon as the page has it. What an argument has
-to be is found by trying: a form stands for several jobs, and those that the program refuses are left out. WORK alone names
+to be is found by trying: a form gives several jobs, and the ones that the program refuses are left out. WORK alone names
 operations: those that take a processor longer than an addition.
 """
 import re
 from collections import namedtuple
 
 # sort: source, stage, terminal, lambda or condition. kind: what it has to do; rows of one kind are compared with each other.
-# source: that of the job, or None: it is measured in each context. values: how many it gives for each item, 1 if fewer.
+# source: the job's, or None: it is measured in each context. values: how many it gives for each item, 1 if fewer.
 Row = namedtuple('Row', 'sort kind name source rest values')
 
 # What an argument may be. Of conditions one is always true, one never, one for every second item.
@@ -70,7 +70,7 @@ def calls(page):
 
 
 def numbers(count, length):
-    """Values for the numbers of an operation that has so many, for a source of so many items."""
+    """Values for this count of numbers of an operation, over a source of this length."""
     return {0: [], 1: [length // 2]}.get(count, [length // 4, length // 2])
 
 
@@ -150,7 +150,7 @@ def contexts(length):
 
 
 def rows(page, length):
-    """The same rows in the same order for every length."""
+    """All rows, in one order for every length."""
     found = []
     for name, text in sources(page, length):
         found.append(Row('source', 'source', name, text, 'sum()', 1))

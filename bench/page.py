@@ -6,8 +6,8 @@ import re
 import sys
 
 import lib
+import loops
 import processes
-import programs
 from running import TOP, options_of, read, write
 
 PAGES = ['README.md', 'docs/benchmarks.md']
@@ -26,9 +26,8 @@ def machine():
 def figures(part, words, program):
     """What a part shows, by the titles and the heads of its tables. A row without cells begins a table whose rows are the columns."""
     lib.SHOWN.clear()
-    of_program = hasattr(processes, part)
-    sys.argv = [part, *words.split(), *([program] if of_program else [])]
-    getattr(processes if of_program else programs, part)()
+    sys.argv = [part, *words.split(), program]
+    getattr(processes if hasattr(processes, part) else loops, part)()
     found, heads, group = {}, [], None
     for title, cells in lib.SHOWN:
         if not cells:
@@ -47,7 +46,7 @@ def shown(figure):
 
 
 def filled(text, program):
-    """The lines of a page with new figures. The command that begins a paragraph is that of the table below it."""
+    """The lines of a page with new figures. The command that begins a paragraph makes the table below it."""
     command, heads = None, None
     for line in text.splitlines():
         begun = COMMAND.match(line)

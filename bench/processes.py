@@ -4,16 +4,15 @@ import shutil
 import sys
 import tempfile
 
-from lib import in_turns, least_of, peer, ran, row
+from lib import in_turns, least_of, peer, row
 from running import TOP, options_of, run, write
 import tasks
 
-ITEMS, COUNT, ALL = 50_000_000, 100_000_000, f'range(0, {2 ** 62})'
-MAP, FILTER, FAULTY = 'map(x -> x * 3 + 1)', 'filter(x -> (x & 7) != 5)', 'map(x -> 9 / (x + 1))'
+ITEMS, COUNT = 50_000_000, 100_000_000
+MAP, FILTER = 'map(x -> x * 3 + 1)', 'filter(x -> (x & 7) != 5)'
 SLICES = ['sum()', 'skip(1).sum()', 'takeWhile(x -> x >= 0).sum()', 'dropWhile(x -> x < 9).sum()', 'dropWhile(x -> x >= 0).sum()',
           f'{MAP}.sum()', f'{MAP}.skip(1).sum()', f'{MAP}.limit({ITEMS - 1}).sum()', f'{MAP}.takeWhile(x -> x > 0).sum()',
           f'{MAP}.dropWhile(x -> x < 9).sum()', f'{MAP}.' + 'skip(1).limit(40000000).' * 4 + 'sum()',
-          f'{FAULTY}.sum()', f'{FAULTY}.skip(1).sum()', f'{FAULTY}.limit({ITEMS - 1}).sum()',
           f'{FILTER}.sum()', f'{FILTER}.skip(1).sum()', f'{FILTER}.limit({ITEMS}).sum()', f'{FILTER}.takeWhile(x -> x >= 0).sum()',
           f'{FILTER}.dropWhile(x -> x < 9).sum()', f'{FILTER}.' + 'skip(1).' * 8 + 'sum()',
           f'{FILTER}.' * 8 + 'sum()', f'{FILTER}.skip(1).' * 8 + 'sum()']
@@ -21,22 +20,6 @@ PREFIXES = [('sum', f'range(0, {COUNT}).prefix(Long::sum).sum()'), ('max', f'ran
             ('affine', f'range(0, {COUNT}).prefix(affine).sum()'),
             ('map, sum (a tenth)', f'range(0, {COUNT // 10}).map(x -> x * 3 + 1).prefix(Long::sum).sum()'),
             ('filter, sum (a tenth kept)', f'range(0, {COUNT // 5}).filter(x -> x % 2 == 0).prefix(Long::sum).sum()')]
-# A loop of lanes/loops.c, and the stages that do its work before a sum.
-OPERATORS = [('map_filter_sum', 'map(x -> x * 3 + 1).filter(x -> (x & 4) == 0)'), ('fifteen_operators', f'map(x -> {tasks.FIFTEEN})'),
-             ('add', 'map(x -> x + 5)'), ('multiply', 'map(x -> x * x)'), ('exact', 'map(x -> Math.addExact(x, 5))'),
-             ('choice', 'map(x -> (x & 4) == 0 ? x * 3 : x + 1)'), ('divide', 'map(x -> x / 7)'), ('remainder', 'map(x -> x % 7)'),
-             ('divide_power', 'map(x -> x / 8)'), ('floor_mod_power', 'map(x -> Math.floorMod(x, 8))'), ('less', 'filter(x -> x < 25000)'),
-             ('even', 'filter(x -> x % 2 == 0)'), ('flat_map', 'flatMap(x -> range(0, x & 3))'), ('flat_map_pair', 'flatMap(x -> of(x, x))')]
-LOOP_ITEMS = 50_000
-FINDS = {'findFirst': 'range(0, 100000000).filter(x -> x == 90000000).findFirst()',
-         'anyMatch': 'range(0, 100000000).anyMatch(x -> x == 90000000)',
-         'noneMatch': 'range(0, 100000000).noneMatch(x -> x == 90000000)'}
-FAULTS = [f'{ALL}.map(x -> x / (x - 5)).{end}' for end in ('sum()', 'count()', 'min()', 'max()', 'reduce(xor)', 'toArray()')] + [
-    f'{ALL}.filter(x -> 9 / (x - 70000) < 2).sum()', f'{ALL}.flatMap(x -> of(x, 1 / (x - 5))).count()',
-    f'{ALL}.skip(1000).map(x -> 1 / (x - 2000)).sum()', f'{ALL}.limit(4611686018427387900).map(x -> 1 / (x - 5)).max()',
-    'concat(of(1, 0), range(0, 2305843009213693952)).map(x -> 1 / x).sum()', 'range(0, 300000000).map(x -> 1 / (x - 5)).sum()',
-    f'{ALL}.map(x -> x / (x - 5)).prefix(sum).max()']
-SETTINGS = [(workers, threshold, nodes) for workers in (2, 4, 64) for threshold in (1, 64, 1000, 2 ** 20) for nodes in (0, 1, 64, 4096)]
 
 
 class Jobs:
@@ -45,10 +28,9 @@ class Jobs:
     def __init__(self, options, folder):
         self.program, self.turns, self.folder, self.answers, self.start = options.program, options.turns, folder, {}, None
 
-    def cost(self, stream, workers, threshold=None, nodes=None):
-        more = [] if threshold is None else ['--threshold', str(threshold), '--nodes', str(nodes)]
+    def cost(self, stream, workers):
         jobs = write(os.path.join(self.folder, 'one.jobs'), f'q = {stream}\n')
-        return self.command([self.program, '--workers', str(workers), *more, jobs], stream)
+        return self.command([self.program, '--workers', str(workers), jobs], stream)
 
     def per_item(self, stream):
         """Nanoseconds for an item of a long range, without the start of the program: processor time of one worker and wall time of
@@ -57,34 +39,13 @@ class Jobs:
             self.start = self.cost('range(0, 1).sum()', 1).processor, self.cost('range(0, 1).sum()', 4).wall
         alone, four = (self.cost(f'range(0, {ITEMS}).{stream}', workers) for workers in (1, 4))
         taken = alone.processor - self.start[0], four.wall - self.start[1]
-        return [*(max(it, 0) / ITEMS * 1e6 for it in taken), max(alone.memory, four.memory) / 1e6]
+        return [*(max(it, 0.0) / ITEMS * 1e6 for it in taken), max(alone.memory, four.memory) / 1e6]
 
     def command(self, command, stream):
         cost = least_of(self.turns, command)
         if self.answers.setdefault(stream, cost.printed) != cost.printed:
             sys.exit(f'{command}: {cost.printed!r} instead of {self.answers[stream]!r}')
         return cost
-
-
-def operators():
-    """Times stages over a range before a sum, beside their loops in C by gcc -O2, which have to give the answers.
-
-    bench/run operators [--turns N] [PROGRAM]
-
-    It prints nanoseconds per item on one worker (processor time) and on four (wall time), without the start of the program, and of
-    the best of 40 loops over 50,000 numbers on one thread.
-    """
-    options = options_of(operators.__doc__, turns=5)
-    with tempfile.TemporaryDirectory() as folder:
-        jobs, loops, best = Jobs(options, folder), peer(folder, 'lanes/loops.c'), {}
-        for name, _, nanos, result in map(str.split, ran(loops).printed.splitlines() if loops else []):
-            best[name] = min([int(nanos) / LOOP_ITEMS, *best.get(name, ())[:1]]), result
-        row('ns per item', ['1 worker', '4 workers', 'C'], 60)
-        for name, stages in OPERATORS:
-            if best and jobs.cost(f'range(0, {LOOP_ITEMS}).{stages}.sum()', 1).printed != f'q = {best[name][1]}\n':
-                sys.exit(f'{stages}: C gives {best[name][1]}')
-            shown = stages.replace(tasks.FIFTEEN, 'fifteen operators')
-            row(shown, [*jobs.per_item(f'{stages}.sum()')[:2], best[name][0] if best else '-'], 60)
 
 
 def slices():
@@ -100,7 +61,7 @@ def slices():
         jobs = Jobs(options, folder)
         row('ns per item', ['1 worker', '4 workers', 'MB'], 60)
         for stream in SLICES:
-            row(stream.replace(FILTER, 'filter').replace(MAP, 'map').replace(FAULTY, 'map with a fault'), jobs.per_item(stream), 60)
+            row(stream.replace(FILTER, 'filter').replace(MAP, 'map'), jobs.per_item(stream), 60)
 
 
 def prefixes():
@@ -119,7 +80,7 @@ def prefixes():
                                                          ('prefixes/two_passes.rs',)))
         rows = [('C, fill and scan', 'sum', fill and [*fill, str(COUNT)])]
         rows += [(f'Java, parallel, {it}', it, java and [*java, it, str(COUNT)]) for it in ('sum', 'max')]
-        rows += [(f'Rust, {it}, {threads} threads', it, rust and [*rust, it, str(COUNT), threads]) for it in ('sum', 'max') for threads in '14']
+        rows += [(f'Rust, sum, {threads} threads', 'sum', rust and [*rust, str(COUNT), threads]) for threads in '14']
         row('ms', ['wall', 'processor'], 40)
         streams = dict(PREFIXES)
         for name, operator, command in rows:
@@ -130,37 +91,9 @@ def prefixes():
                 row(f'{name}, {workers} worker{"s" * (workers > 1)}', jobs.cost(stream, workers)[:2], 40)
 
 
-def early_ends():
-    """Times walks that end before their sources do.
-
-    bench/run early_ends [--turns N] [PROGRAM]
-
-    1. Finds at 90 % of 10^8 items, with one worker and with four, beside Java's streams; and the processor time of four workers by
-       that of one: what is more than 1 is walked beyond the item that is found, or is the price of four workers.
-    2. A find after 1,000 of 2^62 items, with 1 to 64 workers.
-    3. Jobs whose fault stands near the start of a walk of up to 2^62 items: with one worker, and the longest of 48 settings.
-    """
-    options = options_of(early_ends.__doc__, turns=5)
-    with tempfile.TemporaryDirectory() as folder:
-        jobs, java = Jobs(options, folder), peer(folder, 'early_ends/Finds.java')
-        print(f'a process that does nothing: {least_of(options.turns, ["true"]).wall:.1f} ms')
-        row('at 90 % of 10^8 items', ['1 worker', '4 workers', 'processor', 'Java', 'parallel'])
-        for name, stream in FINDS.items():
-            alone, four = jobs.cost(stream, 1), jobs.cost(stream, 4)
-            beside = [jobs.command([*java, mode, name], stream).wall for mode in ('sequential', 'parallel')] if java else []
-            row(name, [alone.wall, four.wall, four.processor / alone.processor, *beside])
-        shallow = [f'{jobs.cost(f"{ALL}.filter(x -> x % 1001 == 1000).findFirst()", it).wall:.1f} with {it}' for it in (1, 2, 4, 16, 64)]
-        print(f'after 1,000 of 2^62 items, by number of workers: {", ".join(shallow)}')
-        row('', ['1 worker', 'longest'])
-        for stream in FAULTS:
-            longest, setting = max((jobs.cost(stream, *setting).wall, setting) for setting in SETTINGS)
-            row('', [jobs.cost(stream, 1).wall, longest, f'  {stream}, longest with (workers, threshold, nodes) {setting}'])
-
-
 def installed():
-    """The tools that are there, and a Python with numpy; a line for each that isn't."""
+    """The tools that are there; a line for each that isn't."""
     found = {name: shutil.which(name) for name in ('mawk', 'sqlite3')}
-    found['numpy'] = next((it for it in ('python3', '/usr/bin/python3') if shutil.which(it) and run([it, '-c', 'import numpy']).status == 0), None)
     for name, path in found.items():
         if not path:
             print(f'{name}: left out, since it is not installed')
@@ -175,13 +108,13 @@ def show_turns(turns, commands, ours):
 
 
 def peers():
-    """Times nine tasks from cold beside Java's streams, mawk, sqlite3 and numpy; every peer has to print the program's answers.
+    """Times eleven tasks from cold beside Java's streams, mawk and sqlite3; every peer has to print the program's answers.
 
     bench/run peers [--turns N] [--only TASK] [PROGRAM]
 
     All take turns, ten times as many for tasks of few milliseconds. A figure is wall time in milliseconds, with reading the table,
-    printing and starting the process; the second one its ratio to the program with its default workers. mawk and numpy keep
-    floating-point sums or look at the columns asked for alone, where the program checks every cell.
+    printing and starting the process; the second one its ratio to the program with its default workers. mawk keeps floating-point
+    sums and looks at the columns asked for alone, while the program checks every cell.
     """
     options = options_of(peers.__doc__, turns=5, only='')
     print(f'{os.cpu_count()} processors, least of {options.turns} turns, from cold')
@@ -198,28 +131,26 @@ def peers():
                 found['mawk'] = ['mawk', '-F,', tasks.MAWK[task], table]
             if tools['sqlite3'] and task in tasks.SQL:
                 found['sqlite3'] = tasks.sqlite(table, tasks.SQL[task])
-            if tools['numpy'] and task in tasks.NUMPY:
-                found['numpy'] = [tools['numpy'], os.path.join(folder, f'{task}.py'), table]
-            row(tasks.TITLES[task], [])
+            row(tasks.JOBS[task][0], [])
             show_turns(options.turns * (10 if task in tasks.SHORT else 1), found, 'here')
 
 
 def tables():
-    """Times one sum and twelve aggregations over tables of several sizes beside mawk, sqlite3, Java and Rust.
+    """Times one sum and twelve aggregations over tables of several sizes beside mawk, sqlite3 and Rust.
 
     bench/run tables [--rows N,..] [--columns N,..] [--shapes mixed,short,long,quoted] [--tasks sum,twelve] [--turns N] [--from-disk]
                      [PROGRAM]
 
     Each peer has to print the program's answers. From four columns on, twelve aggregations follow, beside Rust alone; mawk and
     sqlite3 don't add long numbers in 64 bits. With --from-disk, which takes root, each run of one turn begins with an empty cache of
-    files. Java and Rust parse each cell but check neither its range nor the length of a row.
+    files. Rust parses each cell but checks neither its range nor the length of a row.
     """
     options = options_of(tables.__doc__, rows=['100000', '1000000', '10000000'], columns=['1', '4', '16'],
                          shapes='mixed short long quoted'.split(), tasks=['sum', 'twelve'], turns=3, from_disk=False)
     tools = installed()
     with tempfile.TemporaryDirectory() as folder:
         table = os.path.join(folder, 'data.csv')
-        make, java, rust = (peer(folder, *it) for it in (('tables/make_table.c',), ('tables/Table.java',), ('tables/table.rs', '-C', 'target-cpu=native')))
+        make, rust = peer(folder, 'tables/make_table.c'), peer(folder, 'tables/table.rs', '-C', 'target-cpu=native')
         files = {'sum': 's = column("c0").sum()\n', 'twelve': tasks.twelve('c0', 'c1', 'c2', 'c3')}
         files = {task: write(os.path.join(folder, task + '.jobs'), text) for task, text in files.items()}
         for rows, columns, shape in [(r, c, s) for r in options.rows for c in options.columns for s in options.shapes]:
@@ -229,14 +160,37 @@ def tables():
                 found = {f'here {it}': [options.program, '--workers', it, '--columns', table, files[task]] for it in '412'}
                 if rust:
                     found |= {f'rust {it}': [*rust, table, it, task] for it in '14'}
-                if task == 'sum' and java:
-                    found['java'] = [*java, table]
                 if task == 'sum' and shape != 'long':
                     found |= {name: command for name, command in tasks.sums_of(table).items() if tools[name]}
                 if options.from_disk:
                     found = {name: ['sh', '-c', 'echo 3 > /proc/sys/vm/drop_caches; exec "$@"', 'sh', *it] for name, it in found.items()}
                 row(f'{task}: {rows} rows of {columns} columns, {shape}', [])
                 show_turns(options.turns, found, 'here 4')
+
+
+def job_files():
+    """Times large job files, which take time to read and hardly any to run, beside wc, which counts their lines.
+
+    bench/run job_files [--turns N] [--lines N] [PROGRAM]
+
+    It prints wall time in milliseconds, and the first line of what the program says:
+
+    long       256 jobs of 65,536 bytes each
+    junk       N lines (10000000): the first 256 are jobs and the others are not: the 257th is refused
+    comments   N lines of comments before one job
+    continued  one job on N lines, which is too long
+    """
+    options = options_of(job_files.__doc__, turns=5, lines=10 ** 7)
+    files = {'long': tasks.long_jobs, 'junk': lambda: [*(f'j{at} = of(1).sum()\n' for at in range(256)), 'junk ( , #\n' * (options.lines - 256)],
+             'comments': lambda: ['# a comment\n' * options.lines, 'a = of(1).sum()\n'],
+             'continued': lambda: ['a = of(1)\n', '    .skip(0)\n' * options.lines, '    .sum()\n']}
+    with tempfile.TemporaryDirectory() as folder:
+        row('ms', ['bytes', 'here', 'wc', '  answer'], 12)
+        for name, parts in files.items():
+            path = write(os.path.join(folder, 'jobs'), ''.join(parts()))
+            here = least_of(options.turns, ['sh', '-c', '"$@" 2>&1 || true', 'sh', options.program, path])
+            counted = least_of(options.turns, ['wc', '-l', path])
+            row(name, [os.path.getsize(path), here.wall, counted.wall, '  ' + here.printed.partition('\n')[0]], 12)
 
 
 # What is asked of each tool: a zero divisor on the way, and a sum beyond 64 bits.

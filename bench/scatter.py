@@ -81,7 +81,7 @@ def scatter():
         with cluster, distributed.Client(cluster) as client:
             there = [*by_parts, '--scheduler', cluster.scheduler_address]
             got.append(timed(f'parts by a cluster of {WORKERS} processes', there))
-            got.append(timed('the same', there, kill_a_worker(client)))
+            got.append(timed('this cluster, a worker killed', there, kill_a_worker(client)))
     is_right = all(it == wanted for it in got)
     print('the same bytes in each' if is_right else 'OTHER BYTES')
     return 0 if is_right else 1

@@ -1,4 +1,4 @@
-"""The tasks of the parts peers, cores and tables: their jobs, their table, and the same tasks for tools of tables."""
+"""The tasks of the parts peers, cores and tables: their jobs, their table, and these tasks for tools of tables."""
 import pathlib
 
 ROWS = 1_000_000
@@ -30,35 +30,36 @@ SMALL = "".join(f"j{i} = range(0, 100).map(x -> x * {i}).filter(x -> x % 3 == 0)
 # Each job waits for the one before it.
 CHAIN = "j0 = range(0, 100).sum()\n" + "".join(f"j{i} = range(0, 100).map(x -> x ^ $j{i - 1}).sum()\n" for i in range(1, 256))
 
+# A title, and a job file.
 JOBS = {
-    "one_sum": 's = column("b").sum()\n',
-    "twelve": twelve(*"bcde"),
-    "map_filter_sum": f"s = range(0, 100000000).{MAP_FILTER_SUM}\n",
-    "fifteen": f"s = range(0, 100000000).map(x -> {FIFTEEN}).sum()\n",
-    "to_array": "a = range(0, 1000000).map(x -> x * 7).toArray()\n",
-    "to_array_10": "a = range(0, 10000000).map(x -> x * 7).toArray()\n",
-    "small_jobs": SMALL,
-    "chain": CHAIN,
-    "shallow_find": "f = range(0, 4611686018427387904).filter(x -> x % 1001 == 1000).findFirst()\n",
+    "one_sum": ("the sum of a column of 10^6 rows", 's = column("b").sum()\n'),
+    "twelve": ("twelve aggregations over columns of 10^6 rows", twelve(*"bcde")),
+    "map_filter_sum": ("`map`, `filter`, `sum` over 10^8 numbers", f"s = range(0, 100000000).{MAP_FILTER_SUM}\n"),
+    "fifteen": ("fifteen operators and `sum` over 10^8 numbers", f"s = range(0, 100000000).map(x -> {FIFTEEN}).sum()\n"),
+    "to_array": ("`toArray` of 10^6 numbers, printed", "s = range(0, 1000000).map(x -> x * 7).toArray()\n"),
+    "to_array_10": ("`toArray` of 10^7 numbers, printed", "s = range(0, 10000000).map(x -> x * 7).toArray()\n"),
+    "small_jobs": ("256 jobs over 100 numbers each", SMALL),
+    "chain": ("256 jobs, each naming the one above", CHAIN),
+    "shallow_find": ("a find after 1,000 of 2^62 numbers", "s = range(0, 4611686018427387904).filter(x -> x % 1001 == 1000).findFirst()\n"),
+    "late_find": ("`findFirst` at 90 % of 10^8 numbers", "s = range(0, 100000000).filter(x -> x == 90000000).findFirst()\n"),
+    "late_match": ("`anyMatch` at 90 % of 10^8 numbers", "s = range(0, 100000000).anyMatch(x -> x == 90000000)\n"),
 }
 
-TITLES = {
-    "one_sum": "the sum of a column of 10^6 rows",
-    "twelve": "twelve aggregations over columns of 10^6 rows",
-    "map_filter_sum": "`map`, `filter`, `sum` over 10^8 numbers",
-    "fifteen": "fifteen operators and `sum` over 10^8 numbers",
-    "to_array": "`toArray` of 10^6 numbers, printed",
-    "to_array_10": "`toArray` of 10^7 numbers, printed",
-    "small_jobs": "256 jobs over 100 numbers each",
-    "chain": "256 jobs, each naming the one above",
-    "shallow_find": "a find after 1,000 of 2^62 numbers",
-}
 
-# The tasks that read the table, and those of few milliseconds.
+def long_jobs():
+    """256 jobs of 65,536 bytes each over one item: 1,024 values, 30 lambdas of 60 numbers, and one that blanks fill up."""
+    value = "9123456789012345678"
+    body = "x" + "".join(f" {'*' if at % 2 else '+'} {value}" for at in range(1, 60))
+    for number in range(256):
+        job = f"j{number} = of({', '.join([value] * 1024)}).limit(1)" + f".map(x -> {body})" * 30
+        yield f"{job}.map(x -> {' ' * (65536 - len(job) - len('.map(x -> x).sum()'))}x).sum()\n"
+
+
+# The tasks that read the table, and the ones of few milliseconds.
 OF_COLUMNS = ("one_sum", "twelve")
 SHORT = ("small_jobs", "chain", "shallow_find")
 # The tasks that the part cores times.
-OF_CORES = ("map_filter_sum", "fifteen", "twelve", "small_jobs", "to_array_10")
+OF_CORES = ("map_filter_sum", "fifteen")
 
 MAWK = {
     "one_sum": 'NR > 1 { s += $2 } END { printf "s = %.0f\\n", s }',
@@ -83,40 +84,6 @@ select 'j1 = ' || sum(b), 'j2 = ' || sum(b > 0), 'j3 = OptionalLong[' || min(b) 
 'j10 = ' || case when min(d >= 0) then 'true' else 'false' end,
 'j11 = OptionalLong[' || max(case when e > 5000 then e end) || ']', 'j12 = ' || sum(abs(e)) from t;""",
 }
-
-# What numpy does for a task; `table(..)` reads columns of the table. The shallow find would want an array of 2^62 numbers.
-NUMPY = {
-    "one_sum": """\
-b, = table(1)
-print("s =", b.sum())""",
-    "twelve": """\
-b, c, d, e = table(1, 2, 3, 4)
-print("j1 =", b.sum(), "j2 =", (b > 0).sum(), f"j3 = OptionalLong[{b.min()}] j4 = OptionalLong[{b.max()}]")
-print("j5 =", (c % 1000).sum(), "j6 =", (c[c % 2 == 0] // 2).sum(), "j7 =", str((c < 0).any()).lower())
-print("j8 =", (d * d).sum(), f"j9 = OptionalLong[{d.max()}] j10 =", str((d >= 0).all()).lower())
-print(f"j11 = OptionalLong[{e[e > 5000].max()}] j12 =", np.abs(e).sum())""",
-    "map_filter_sum": """\
-x = np.arange(100_000_000) * 3 + 1
-print("s =", x[(x & 4) == 0].sum())""",
-    "fifteen": """\
-x = np.arange(100_000_000)
-shifted = (x.view(np.uint64) >> np.uint64(3)).view(np.int64)
-print("s =", (((((x * 31 + 7) ^ shifted) * 13 - 5 ^ (x << 2)) + (x & 255)) * 3 - (x ^ 85) + x | 1).sum())""",
-    "to_array": 'print("a = [" + ", ".join(map(str, (np.arange(1_000_000) * 7).tolist())) + "]")',
-    "to_array_10": 'print("a = [" + ", ".join(map(str, (np.arange(10_000_000) * 7).tolist())) + "]")',
-    "small_jobs": """\
-for i in range(256):
-    x = np.arange(100) * i
-    print(f"j{i} =", x[x % 3 == 0].sum())""",
-}
-
-NUMPY_HEAD = """\
-import sys
-import numpy as np
-def table(*columns):
-    return np.loadtxt(sys.argv[1], delimiter=",", skiprows=1, usecols=columns, dtype=np.int64, unpack=True, ndmin=2)
-"""
-
 
 def sqlite(table, query):
     create = "create table t(a integer, b integer, c integer, d integer, e integer, f integer, g integer, h integer);"
@@ -144,7 +111,5 @@ def write_table(path):
 def write_all(folder):
     """The table, and a file of jobs for each task, in a folder."""
     write_table(f"{folder}/table.csv")
-    for task, jobs in JOBS.items():
+    for task, (_, jobs) in JOBS.items():
         pathlib.Path(f"{folder}/{task}.jobs").write_text(jobs, encoding="ascii")
-    for task, script in NUMPY.items():
-        pathlib.Path(f"{folder}/{task}.py").write_text(f"{NUMPY_HEAD}{script}\n", encoding="ascii")

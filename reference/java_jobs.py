@@ -1,4 +1,4 @@
-"""Jobs in Java: the same stages, one after the other in Java's spelling, on Java's sequential LongStream, with Arrays.parallelPrefix
+"""Jobs in Java: their stages, one after the other in Java's spelling, on Java's sequential LongStream, with Arrays.parallelPrefix
 for a prefix and a loop over BigInteger for an exact sum (Walk.java).
 
     report_of(folder, jobs, columns, seconds)    the line that Java prints for each job; the jobs are (name, parts of its text)

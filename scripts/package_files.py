@@ -2,13 +2,15 @@
 import gzip
 import hashlib
 import os
+import pathlib
 import re
 import shutil
 import subprocess
 import tempfile
 
 from page_commands import commands_of
-from page_text import pages_of, read, targets_of
+from page_text import pages_of, targets_of
+from repository import read, write as write_text
 
 PROCESSORS = ('x86-64-v2', 'x86-64-v3')
 # What a reader gets, besides all that the pages link to.
@@ -69,16 +71,17 @@ def copy(source, target, is_program=False):
 
 def write(path, text, is_program=False):
     os.makedirs(os.path.dirname(path), exist_ok=True)
-    with open(path, 'w', encoding='utf-8') as file:
-        file.write(text)
+    write_text(path, text)
     os.chmod(path, 0o755 if is_program else 0o644)
 
 
+def read_bytes(path):
+    return pathlib.Path(path).read_bytes()
+
+
 def zipped(path, epoch):
-    with open(path, 'rb') as file:
-        text = file.read()
     with open(path + '.gz', 'wb') as file:
-        file.write(gzip.compress(text, mtime=epoch))
+        file.write(gzip.compress(read_bytes(path), mtime=epoch))
     os.remove(path)
     os.chmod(path + '.gz', 0o644)
 
@@ -90,8 +93,7 @@ def files_below(folder):
 
 
 def checksum(path, kind='sha256'):
-    with open(path, 'rb') as file:
-        return hashlib.new(kind, file.read()).hexdigest()
+    return hashlib.new(kind, read_bytes(path)).hexdigest()
 
 
 def checksums(folder, kind='sha256'):
@@ -175,7 +177,6 @@ def paths_named(folder, top):
     """A line for each file below a folder that names a path of this machine."""
     words = machine_paths(top)
     for path in files_below(folder):
-        with open(path, 'rb') as file:
-            data = file.read()
+        data = read_bytes(path)
         data = gzip.decompress(data) if path.endswith('.gz') else data
         yield from (f'{os.path.relpath(path, folder)} names {word}' for word in words if word.encode() in data)

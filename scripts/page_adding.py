@@ -7,7 +7,8 @@ import os
 import re
 
 from page_layout import wrapped
-from page_text import files_below, is_text, read
+from page_text import files_below, is_text
+from repository import crates_of, read
 
 # The words of one operation of each kind.
 OPERATIONS = {
@@ -37,14 +38,9 @@ def bases(top, crate, folders):
     return [os.path.join(top, 'crates', crate, folder) for folder in folders]
 
 
-def crates_in_order(top):
-    """The crates, lowest first, as crates.txt has them."""
-    return re.findall(r'^(\w+)[^#\n]*:', read(os.path.join(top, 'crates.txt')), re.M)
-
-
 def rows(top, pattern, apart):
     """A row for each crate, without the files that stand apart."""
-    for crate in crates_in_order(top):
+    for crate in crates_of(top):
         cells = []
         for folders in FOLDERS.values():
             found = [name for base in bases(top, crate, folders) for name in files_that_say(base, pattern)]
@@ -56,28 +52,23 @@ def rows(top, pattern, apart):
 
 def files_apart(top, pattern, apart):
     """The files that stand apart, by their places."""
-    for crate in crates_in_order(top):
+    for crate in crates_of(top):
         for base in bases(top, crate, itertools.chain.from_iterable(FOLDERS.values())):
             for name in files_that_say(base, pattern):
                 if re.search(apart, name):
                     yield os.path.relpath(os.path.join(base, name), os.path.join(top, 'crates'))
 
 
-def list_of(top, name, pattern):
-    apart, purpose = APART.get(name, (None, ''))
-    lines = ['| crate | ' + ' | '.join(FOLDERS) + ' |', '|---' * (len(FOLDERS) + 1) + '|', *rows(top, pattern, apart)]
+def list_of(top, name):
+    """The lines of the list of an operation."""
+    pattern, (apart, purpose) = OPERATIONS[name], APART.get(name, (None, ''))
+    yield '| crate | ' + ' | '.join(FOLDERS) + ' |'
+    yield '|---' * (len(FOLDERS) + 1) + '|'
+    yield from rows(top, pattern, apart)
     if apart:
-        there = ', '.join(f'`{path}`' for path in files_apart(top, pattern, apart))
-        lines += ['', *wrapped([f'{purpose}: {there}.'])]
+        yield ''
+        yield from wrapped([f'{purpose}: ' + ', '.join(f'`{path}`' for path in files_apart(top, pattern, apart)) + '.'])
     found = [os.path.relpath(path, top) for folder in ELSEWHERE for path in files_below(os.path.join(top, folder))
              if not path.endswith('/page_adding.py') and says(path, pattern)]
-    return '\n'.join([*lines, '', *wrapped(['Elsewhere: ' + ', '.join(f'`{name}`' for name in found) + '.'])])
-
-
-def page_with_lists(top, page):
-    """The page with the present list between the two comments of each operation."""
-    for name, pattern in OPERATIONS.items():
-        begin, end = f'<!-- files of {name}: made by scripts/pages --write -->\n', f'<!-- end of {name} -->'
-        before, _, rest = page.partition(begin)
-        page = before + begin + list_of(top, name, pattern) + '\n' + end + rest.partition(end)[2]
-    return page
+    yield ''
+    yield from wrapped(['Elsewhere: ' + ', '.join(f'`{path}`' for path in found) + '.'])

@@ -1,11 +1,10 @@
 """What scripts/pages checks of calls, tests and wrong bodies: that each public call is made, and that what promises.md says is
 shown by tests, or refused, is."""
-import glob
 import os
 import re
 
-from loading import script
-from page_text import TICKED, read
+from page_text import TICKED
+from repository import crates_of, read, script, sources_of
 
 COMMENT = re.compile(r'//.*$')
 # It knows the functions of a source.
@@ -64,8 +63,7 @@ class Function:
 def functions_of(top):
     """Every function of the crates, and for each type the other names that it is given."""
     functions, names = [], {}
-    for path in sorted(glob.glob(os.path.join(top, 'crates', '*', 'src', '**', '*.rt'), recursive=True)):
-        crate = os.path.relpath(path, os.path.join(top, 'crates')).split(os.sep)[0]
+    for crate, path in sources_of(top):
         lines = BUDGET.lines_of(path)
         text = '\n'.join(COMMENT.sub('', line) for line in lines)
         functions += [Function(crate, lines, text, found) for found in BUDGET.functions_of(lines)]
@@ -81,9 +79,8 @@ def functions_of(top):
 
 def below_of(top):
     """For each crate all that it stands on."""
-    rows = [line.split('#')[0].partition(':') for line in read(os.path.join(top, 'crates.txt')).splitlines()]
     found = {}
-    for name, below in [(row[0].split()[0], row[2].split()) for row in rows if row[1]]:
+    for name, below in crates_of(top).items():
         found[name] = {name}.union(*(found.get(it, {it}) for it in below))
     return found
 
@@ -136,30 +133,27 @@ def lacking(top, word, tests, commands):
     return None if all(it in commands for it in word.split()) else '.ci/run does not run it'
 
 
-def shown(top):
-    """Rows of the table of what tests show that name no test, or one that isn't there or isn't run."""
+def lacking_in(top, title, nothing, is_there=lambda word: False):
+    """Rows of a table of promises.md without a word in backquotes, and such words that aren't there or aren't run."""
     tests, commands = tests_of(top), read(os.path.join(top, '.ci', 'run')).split()
-    for promise, cell in rows_of(section(top, 'Shown by tests')):
+    for promise, cell in rows_of(section(top, title)):
         words = TICKED.findall(cell)
         if not words:
-            yield f'promises.md: no test shows {promise}'
+            yield f'promises.md: {nothing} {promise}'
         for word in words:
-            why = lacking(top, word, tests, commands)
+            why = None if is_there(word) else lacking(top, word, tests, commands)
             if why:
                 yield f'promises.md: {word} {why}'
+
+
+def shown(top):
+    """Rows of the table of what tests show that name no test, or one that isn't there or isn't run."""
+    yield from lacking_in(top, 'Shown by tests', 'no test shows')
 
 
 def refused(top):
     """Rows of the table of wrong bodies that name no edit and no test, or one that isn't there."""
-    tests, commands = tests_of(top), read(os.path.join(top, '.ci', 'run')).split()
-    for body, cell in rows_of(section(top, 'Wrong bodies that are refused')):
-        words = TICKED.findall(cell)
-        if not words:
-            yield f'promises.md: nothing refuses: {body}'
-        for word in words:
-            crate, _, edit = word.partition('/')
-            if any(os.path.exists(os.path.join(top, 'crates', crate, folder, f'{edit}.edit')) for folder in BUDGET.FOLDERS_OF_EDITS):
-                continue
-            why = lacking(top, word, tests, commands)
-            if why:
-                yield f'promises.md: {word} {why}'
+    def is_edit(word):
+        crate, _, edit = word.partition('/')
+        return any(os.path.exists(os.path.join(top, 'crates', crate, folder, f'{edit}.edit')) for folder in BUDGET.FOLDERS_OF_EDITS)
+    yield from lacking_in(top, 'Wrong bodies that are refused', 'nothing refuses:', is_edit)

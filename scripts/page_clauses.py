@@ -1,9 +1,8 @@
 """What scripts/pages checks of contracts: the words that contracts of public calls name, and the code that builds calls of jobs."""
-import glob
 import os
 import re
 
-from page_text import read
+from repository import read
 
 BUILDERS = ['crates/job_language/src/row.rt']
 LAST_ARM = re.compile(r'^ *_ => (.*?),?$')

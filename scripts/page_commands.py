@@ -116,8 +116,8 @@ def imports(python, module):
 
 def page_python():
     """The Python that commands of pages run: one that has pandas, if there is one."""
-    found = [python for python in (shutil.which('python3'), '/usr/bin/python3') if python and os.path.exists(python)]
-    return next((python for python in found if imports(python, 'pandas')), found[0])
+    found = [*filter(shutil.which, ('python3', '/usr/bin/python3'))]
+    return shutil.which(next((python for python in found if imports(python, 'pandas')), found[0]))
 
 
 def folder_for(top, work, program):

@@ -4,7 +4,8 @@ import glob
 import os
 import re
 
-from page_text import DEFINITION, TICKED, read
+from page_text import DEFINITION, TICKED
+from repository import read
 
 # Values that mean a refusal: what a last row forgets is then refused, and never given a value. `untyped` has no type and is refused
 # as an operand; `lexeme.Other` is in no expression; `Single Other` is no listed operator.

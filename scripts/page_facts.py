@@ -6,7 +6,8 @@ import re
 import subprocess
 
 from page_commands import commands_of
-from page_text import TICKED, contracts_of, pages_of, read, without_blocks
+from page_text import TICKED, contracts_of, pages_of, without_blocks
+from repository import crates_of, read, sources_of
 
 
 def recipes(top):
@@ -61,19 +62,14 @@ def gallery(top):
     yield from lines_of_script(top, 'reference/gallery', '--check')
 
 
-def crates_of(top, with_tests=False):
-    """For each crate what it stands on; crates of tests are left out, unless they are asked for."""
-    found = {}
-    for line in read(os.path.join(top, 'crates.txt')).splitlines():
-        name, colon, below = line.split('#')[0].partition(':')
-        if colon and (with_tests or not name.startswith('test_')):
-            found[name.split()[0]] = below.split()
-    return found
+def libraries_of(top):
+    """For each crate what it stands on, but for the crates of tests."""
+    return {name: below for name, below in crates_of(top).items() if not name.startswith('test_')}
 
 
 def floors(top):
     """Crates that architecture.md doesn't draw, or not above what they stand on."""
-    crates = crates_of(top)
+    crates = libraries_of(top)
     page = read(os.path.join(top, 'docs', 'architecture.md'))
     drawn, floor = {}, 0
     for line in re.search(r'^## The floors.*?^```\n(.*?)^```$', page, re.M | re.S)[1].splitlines():
@@ -91,8 +87,7 @@ def floors(top):
 def type_names(top):
     """Public types, traits and constants that stand in two crates, exported or not."""
     found = {}
-    for path in sorted(glob.glob(os.path.join(top, 'crates', '*', 'src', '**', '*.rt'), recursive=True)):
-        crate = os.path.relpath(path, os.path.join(top, 'crates')).split(os.sep)[0]
+    for crate, path in sources_of(top):
         for word in re.findall(r'^ *pub (?:struct|enum|trait|type|const) (\w+)', read(path), re.M):
             if found.setdefault(word, crate) != crate:
                 yield f'{word} is a public name of {found[word]} and of {crate}'
@@ -100,12 +95,11 @@ def type_names(top):
 
 def marked(top, crate, name):
     """Whether the comment of a public item, or the page of its crate, says that it is for other programs."""
-    sources = os.path.join(top, 'crates', crate, 'src')
-    page = re.sub(r'\n//! ?', ' ', read(os.path.join(sources, 'lib.rt')).split('#![')[0])
+    page = re.sub(r'\n//! ?', ' ', read(os.path.join(top, 'crates', crate, 'src', 'lib.rt')).split('#![')[0])
     if 'or other programs' in page:
         return True
     item = r'((?:^[ \t]*///.*\n)+)(?:^[ \t]*#\[.*\n)*^[ \t]*pub (?:fn|struct|enum|trait) %s\b' % name
-    texts = (read(path) for path in glob.glob(os.path.join(sources, '**', '*.rt'), recursive=True))
+    texts = (read(path) for _, path in sources_of(top, crate))
     return any('or other programs' in comment for text in texts for comment in re.findall(item, text, re.M))
 
 
@@ -175,11 +169,11 @@ def lines_of_script(top, *command):
 
 def worked(top):
     """The source with the worked answers, if it isn't what they are."""
-    yield from lines_of_script(top, 'tests/soak/worked_jobs', '--check', top)
+    yield from lines_of_script(top, 'tests/soak/worked_jobs', '--check')
 
 
 def shell(top):
-    """Completions, and options and statuses of the man page, that aren't what the tables of completions/ say."""
+    """Completions, and options and statuses of the man page, that aren't what the tables of completions/ say; other versions."""
     yield from lines_of_script(top, 'scripts/shell_files', '--check', top)
 
 

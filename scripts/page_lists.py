@@ -2,16 +2,16 @@
 
 Each list stands between a comment that names it and `<!-- end -->`.
 """
-import glob
+import functools
 import os
 import re
 
-from page_adding import page_with_lists
+from page_adding import OPERATIONS, list_of
 from page_clauses import exported_by, public_heads, words_brought
 from page_definitions import CLOSURE, reached_from, specs_of
-from page_facts import crates_of
+from page_facts import libraries_of
 from page_layout import wrapped
-from page_text import read
+from repository import crates_of, read, sources_of, write
 
 
 def sentence_of(lines):
@@ -33,7 +33,7 @@ def crates(top):
     yield '| crate | is | stands on |'
     yield '|---|---|---|'
     below = {name: [other for other in others if os.path.isdir(os.path.join(top, 'crates', other))]
-             for name, others in crates_of(top, with_tests=True).items()}
+             for name, others in crates_of(top).items()}
     all_below = {}
     for name, others in below.items():
         all_below[name] = set(others).union(*(all_below[other] for other in others))
@@ -43,10 +43,10 @@ def crates(top):
 
 def named_in_contracts(top):
     """The files of definitions that contracts of public calls name."""
-    names = crates_of(top)
+    names = libraries_of(top)
     for crate in names:
         exported = exported_by(top, crate)
-        for path in glob.glob(os.path.join(top, 'crates', crate, 'src', '**', '*.rt'), recursive=True):
+        for _, path in sources_of(top, crate):
             text = read(path)
             brought = words_brought(text, names)
             for _, head in public_heads(text, exported):
@@ -54,12 +54,12 @@ def named_in_contracts(top):
 
 
 def files(top):
-    """An item for each crate: its files of definitions that contracts of public calls name, or that are Designs, beside those of
-    the headline."""
+    """An item for each crate: its files of definitions that contracts of public calls name, or that are Designs, beside the files
+    of the headline."""
     specs = specs_of(top)
     listed = set(named_in_contracts(top)) | {name for name, spec in specs.items() if not spec[1].startswith('-- Condition:')}
     listed -= reached_from(specs, CLOSURE)
-    for crate in crates_of(top):
+    for crate in libraries_of(top):
         of_crate = [name for name in sorted(listed & set(specs)) if name.split('.')[0] == crate]
         said = [f'[{name.split(".", 2)[2]}](../{path}): {sentence_of([first.partition(": ")[2]])}'
                 for name in of_crate for path, first, _ in [specs[name]]]
@@ -67,39 +67,40 @@ def files(top):
             yield from wrapped([f'- `{crate}`. ' + '; '.join(said) + '.'])
 
 
-# The page of each list, what the comment before it says, and what makes it.
-LISTS = [('docs/crates.md', 'crates', crates), ('docs/definitions.md', 'files', files)]
+# The lists of each page: what the comment before each says, and what makes its lines.
+LISTS = {'docs/crates.md': [('crates', crates)], 'docs/definitions.md': [('files', files)],
+         'docs/adding.md': [(f'files of {name}', functools.partial(list_of, name=name)) for name in OPERATIONS]}
 
 
-def pages_with_lists(top):
-    """The path and the text of each page with its lists, as the sources say them now."""
-    for path, name, rows in LISTS:
-        page = read(os.path.join(top, path))
+def page_with_lists(top, path):
+    """A page with its lists, as the sources say them now."""
+    page = read(os.path.join(top, path))
+    for name, lines in LISTS[path]:
         begin, end = f'<!-- {name}: made by scripts/pages --write -->\n', '<!-- end -->\n'
         before, found, rest = page.partition(begin)
         if not found or end not in rest:
             raise SystemExit(f'{path}: no comment {begin.strip()} with its {end.strip()}')
-        after = rest.partition(end)[2]
-        yield path, before + begin + '\n'.join(rows(top)) + '\n' + end + after
+        page = before + begin + '\n'.join(lines(top)) + '\n' + end + rest.partition(end)[2]
+    return page
+
+
+def stale(top, *paths):
+    for path in paths:
+        if page_with_lists(top, path) != read(os.path.join(top, path)):
+            yield f'{path}: a list is not the present one; run scripts/pages --write'
 
 
 def lists(top):
     """Pages whose lists are not what the sources say."""
-    for path, page in pages_with_lists(top):
-        if page != read(os.path.join(top, path)):
-            yield f'{path}: a list is not the present one; run scripts/pages --write'
+    yield from stale(top, 'docs/crates.md', 'docs/definitions.md')
 
 
 def adding(top):
     """Lists of files of docs/adding.md that aren't the present ones."""
-    page = read(os.path.join(top, 'docs', 'adding.md'))
-    if page_with_lists(top, page) != page:
-        yield 'docs/adding.md: a list of files is not the present one; run scripts/pages --write'
+    yield from stale(top, 'docs/adding.md')
 
 
 def write_lists(top):
-    """Writes these lists, and those of docs/adding.md."""
-    adding_page = 'docs/adding.md'
-    for path, page in [*pages_with_lists(top), (adding_page, page_with_lists(top, read(os.path.join(top, adding_page))))]:
-        with open(os.path.join(top, path), 'w', encoding='utf-8') as file:
-            file.write(page)
+    """Writes the lists of all pages."""
+    for path in LISTS:
+        write(os.path.join(top, path), page_with_lists(top, path))

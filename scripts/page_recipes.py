@@ -12,8 +12,8 @@ import re
 import shutil
 import tempfile
 
-from loading import script
 from page_commands import commands_of, folder_for, missing_tools, printed_by
+from repository import read, script
 
 ROWS, TABLES = 1000, 4
 MIN, MAX = -2 ** 63, 2 ** 63 - 1
@@ -138,8 +138,7 @@ def fault_of(name, ours, others, answers, folder, environment):
 def random_recipes(top, page, program):
     """Runs the recipes over random tables, prints a line for each fault, and answers how many passed and failed."""
     passed = failed = 0
-    with open(page, encoding='utf-8') as file:
-        recipes = list(recipes_of(file.read()))
+    recipes = list(recipes_of(read(page)))
     with tempfile.TemporaryDirectory() as work:
         folder, environment = folder_for(top, work, program)
         gallery = pathlib.Path(work, 'random')

@@ -4,6 +4,7 @@ import os
 import re
 
 from page_layout import page_wrapped, too_long, torn as torn_lines
+from repository import read, sources_of, write
 
 MOST_WORDS_OF_THE_README, MOST_WORDS_OF_A_PAGE, MOST_WORDS = 1000, 6500, 46_000
 TICKED = re.compile(r'`([^`]+)`')
@@ -17,11 +18,6 @@ OUTSIDE = {'read_to_end', 'write_all', 'WriteZero', 'perf', 'clock', 'row_2', 'j
 DEFINITION = re.compile(r'^(?:abbrev pub|pub data|pub record|def pub|pub abbrev) ([^\s:({]+)')
 
 
-def read(path):
-    with open(path, encoding='utf-8') as file:
-        return file.read()
-
-
 def files_below(folder):
     return sorted(path for path in glob.glob(os.path.join(folder, '**', '*'), recursive=True) if os.path.isfile(path))
 
@@ -31,7 +27,7 @@ def pages_of(top):
 
 
 def listings(top):
-    """Listings that are no example."""
+    """Blocks that begin with ```text or ```python and are no file of examples/, word for word."""
     examples = {read(path) for path in examples_of(top)}
     for page in pages_of(top):
         for block in re.findall(r'^```(?:text|python)\n(.*?)^```$', read(page), re.M | re.S):
@@ -68,8 +64,7 @@ def is_text(path):
 def contracts_of(top):
     """For each crate, the heads of its functions by name: all that stands before their bodies."""
     crates = {}
-    for path in glob.glob(os.path.join(top, 'crates', '*', 'src', '**', '*.rt'), recursive=True):
-        crate = os.path.relpath(path, os.path.join(top, 'crates')).split(os.sep)[0]
+    for crate, path in sources_of(top):
         heads = crates.setdefault(crate, {})
         text = read(path)
         heads.setdefault('', []).append(text)
@@ -136,12 +131,12 @@ def prose_of(path):
 
 
 def words(top):
-    """Words that plain English does not want."""
+    """Words of the right column of CONTRIBUTING.md's word table in pages, comments and names of tests, but for backquotes."""
     found = re.compile(r'\b(%s)\b' % '|'.join(sorted(forbidden(top), key=len, reverse=True)), re.I)
     paths = pages_of(top) + [os.path.join(top, 'CHANGELOG.md')]
     paths += sorted(glob.glob(os.path.join(top, '*', '**', 'README.md'), recursive=True))
     paths += [os.path.join(top, 'man', 'streamrun.1'), *sorted(glob.glob(os.path.join(top, 'completions', '*.txt')))]
-    paths += sorted(glob.glob(os.path.join(top, 'crates', '*', 'src', '**', '*.rt'), recursive=True))
+    paths += [path for _, path in sources_of(top)]
     paths += sorted(glob.glob(os.path.join(top, 'crates', '*', 'specs', '**', '*.antt'), recursive=True))
     for path in paths:
         for number, line in prose_of(path):
@@ -152,7 +147,8 @@ def words(top):
 def words_of_sources(top):
     """For each source of a crate, each script and each example the words in it, and in its path."""
     found = {}
-    for pattern in ('crates/*/*/**/*.*', 'scripts/*', 'tools/**/*', 'examples/**/*', 'reference/**/*', 'tests/**/*', 'python/**/*', '.ci/*', '*.txt'):
+    for pattern in ('crates/*/*/**/*.*', 'scripts/*', 'tools/**/*', 'examples/**/*', 'reference/**/*', 'tests/**/*', 'python/**/*',
+                    'bench/**/*', '.ci/*', '*.txt'):
         for path in glob.glob(os.path.join(top, pattern), recursive=True):
             name = os.path.relpath(path, top)
             # scripts/planted has the words that must not be found.
@@ -172,11 +168,10 @@ def without_blocks(text):
 
 
 def identifiers(top):
-    """Words in backquotes of docs/ that stand in no source, and in no command of their page."""
+    """Words in backquotes that stand in no source, script or example, in no name of a file, and in no command of their page; of
+    `name::word` both have to stand in one file, or the word in the crate of that name. Words in capitals are placeholders."""
     sources = words_of_sources(top)
     known = set().union(OUTSIDE, *sources.values())
-    for path in glob.glob(os.path.join(top, 'bench', '*', '*')):
-        known.update(WORD.findall(os.path.relpath(path, top)))
     for page in pages_of(top):
         in_commands = {word for block in re.findall(r'^```console\n(.*?)^```$', read(page), re.M | re.S) for word in WORD.findall(block)}
         for number, line in enumerate(without_blocks(read(page)).splitlines(), 1):
@@ -224,8 +219,7 @@ def wrap_pages(pages):
         old = read(page)
         new = page_wrapped(old)
         if new != old:
-            with open(page, 'w', encoding='utf-8') as file:
-                file.write(new)
+            write(page, new)
             print(f'wrapped {os.path.relpath(page)}')
     return 0
 

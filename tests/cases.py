@@ -1,5 +1,5 @@
 """Job files with the reports that they have to give: answers that were worked out by hand or come from Java 17
-(tests/soak/worked.py), and those of examples/."""
+(tests/soak/worked.py), and the answers of examples/."""
 import collections
 import os
 

@@ -1,9 +1,9 @@
-/* Makes chosen calls of a program fail. It is loaded before the C library (LD_PRELOAD), and told what to do by words of the
+/* Makes chosen calls of a program fail. It is loaded before the C library (LD_PRELOAD), and learns what to do by words of the
    environment; faults.py builds it and sets them.
 
      FAULTS_SEEN=FILE    a file of 64 bytes, for six counters of what was called: allocations, reads, writes, opens, threads
                          started, and how many of them were made to fail
-     FAULTS_ALLOC=K      the K-th allocation fails; K..L stands for the K-th to the L-th, K.. for all from the K-th on
+     FAULTS_ALLOC=K      the K-th allocation fails; K..L: the K-th to the L-th; K..: all from the K-th on
      FAULTS_READ=K       the K-th read fails with EIO
      FAULTS_WRITE=K      the K-th write to standard output fails with EIO
      FAULTS_OPEN=K       the K-th opening of a file fails with ENOMEM

@@ -10,6 +10,8 @@ import shutil
 import subprocess
 import sys
 import tempfile
+import threading
+import time
 
 TESTS = os.path.dirname(os.path.realpath(__file__))
 TOP = os.path.dirname(TESTS)
@@ -22,6 +24,8 @@ NOBODY = 65534
 FOLDERS = ['examples', 'examples/gallery', 'examples/tables', 'examples/tutorial', 'tests/answers', 'tests/messages']
 
 Run = collections.namedtuple('Run', 'out err status')
+# What a run took: wall time and processor time in seconds, and the most bytes that it held.
+Cost = collections.namedtuple('Cost', 'wall processor memory')
 
 
 def options_of(page, at=PROGRAM, **defaults):
@@ -97,6 +101,30 @@ def run(command, limit=None, seconds=None, **more):
         return Run(late.stdout or b'', late.stderr or b'', None)
 
 
+def measured(command, limit=None, seconds=None, most=None):
+    """A run of a command, which is killed when its time is up, and its cost. Of what it writes at most
+    `most` bytes are read: what this process holds counts as memory of later runs."""
+    with tempfile.TemporaryFile() as out, tempfile.TemporaryFile() as err:
+        begun = time.perf_counter()
+        running = subprocess.Popen(command, stdin=subprocess.DEVNULL, stdout=out, stderr=err, preexec_fn=limit)
+        late = threading.Timer(seconds or threading.TIMEOUT_MAX, running.kill)
+        if seconds:
+            late.start()
+        _, status, used = os.wait4(running.pid, 0)
+        late.cancel()
+        wall, running.returncode = time.perf_counter() - begun, os.waitstatus_to_exitcode(status)
+        for file in (out, err):
+            file.seek(0)
+        cost = Cost(wall, used.ru_utime + used.ru_stime, used.ru_maxrss * KB)
+        return Run(out.read(most), err.read(most), running.returncode), cost
+
+
+def python_with(module):
+    """A Python of this machine that has a module, or None."""
+    there = filter(shutil.which, ('python3', '/usr/bin/python3'))
+    return next((python for python in there if run([python, '-c', f'import {module}']).status == 0), None)
+
+
 def side_by_side(function, items):
     """What a function gives for each item, in their order; as many run at a time as there are processors."""
     with concurrent.futures.ThreadPoolExecutor(len(os.sched_getaffinity(0))) as pool:
@@ -122,7 +150,7 @@ class Tally:
         self.expect(name, tuple(got[:3]) == tuple(wanted), tuple(got))
 
     def all_right(self, wrong, count):
-        """Counts so many cases, of which these are wrong."""
+        """Counts `count` cases; these are wrong."""
         wrong = list(wrong)
         self.passed += count - len(wrong)
         for said in wrong:

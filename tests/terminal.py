@@ -3,8 +3,8 @@
     python3 tests/terminal.py PROGRAM      called by tests/command_line
 
 What the terminal gets is also given to terminals of 40, 60 and 80 columns that pyte imitates, where it has to stay on one
-line; without pyte (python3-pyte) a line says that this was left out. Each other line that it prints is one fault. The
-status is 0 only if there is none.
+line; without pyte (python3-pyte) a line says that this was left out. The last line is 'how far a run is: N passed, M failed'. The
+status is 0 only if none failed.
 """
 import os
 import pty
@@ -14,6 +14,8 @@ import sys
 import tempfile
 import threading
 import time
+
+from running import Tally, write
 
 try:
     import pyte
@@ -62,11 +64,11 @@ def late(folder, text):
     path = os.path.join(folder, f'late{len(os.listdir(folder))}')
     os.mkfifo(path)
 
-    def write():
+    def give():
         with open(path, 'w', encoding='utf-8') as pipe:
             time.sleep(1.7)
             pipe.write(text)
-    threading.Thread(target=write, daemon=True).start()
+    threading.Thread(target=give, daemon=True).start()
     return path
 
 
@@ -93,10 +95,7 @@ def without_a_terminal(program, folder):
 
 
 def of_a_short_run(program, folder):
-    path = os.path.join(folder, 'short.jobs')
-    with open(path, 'w', encoding='utf-8') as file:
-        file.write(LATE)
-    return run(program, path) == (0, REPORT, '')
+    return run(program, write(os.path.join(folder, 'short.jobs'), LATE)) == (0, REPORT, '')
 
 
 def of_a_long_walk(program, folder):
@@ -104,8 +103,7 @@ def of_a_long_walk(program, folder):
     path = os.path.join(folder, 'long.jobs')
     for power in range(10, 27):
         count = 3 ** power
-        with open(path, 'w', encoding='utf-8') as file:
-            file.write(f'a = range(0, {count}).map(x -> x % 2).sum()\nb = empty().count()\nc = of(5).prefix(sum).max()\n')
+        write(path, f'a = range(0, {count}).map(x -> x % 2).sum()\nb = empty().count()\nc = of(5).prefix(sum).max()\n')
         begin = time.monotonic()
         status, written, shown = run(program, path)
         seconds = time.monotonic() - begin
@@ -149,13 +147,11 @@ def main():
     if pyte is None:
         print('how far a run is: NOT SEEN in narrow terminals, since pyte is not installed (python3-pyte)')
     runs = [of_any_width, while_reading, on_one_terminal, before_a_refusal, without_a_terminal, of_a_short_run, of_a_long_walk]
-    failed = 0
+    tally = Tally('how far a run is')
     with tempfile.TemporaryDirectory() as folder:
         for made in runs:
-            if not made(sys.argv[1], folder):
-                print(f'how far a run is, {made.__name__.replace("_", " ")}: not what should be shown')
-                failed += 1
-    return 1 if failed else 0
+            tally.expect(made.__name__.replace('_', ' '), made(sys.argv[1], folder), 'not what should be shown')
+    return tally.end()
 
 
 if __name__ == '__main__':

@@ -3,7 +3,6 @@ import java.nio.file.Files;
 import java.nio.file.Path;
 import java.util.ArrayList;
 import java.util.List;
-import java.util.OptionalLong;
 import java.util.concurrent.ForkJoinPool;
 import java.util.stream.Collectors;
 import java.util.stream.LongStream;
@@ -11,8 +10,8 @@ import java.util.stream.Stream;
 
 /**
  * The tasks by LongStream. {@code java Tasks sequential|parallel TASK [TABLE]} prints the answers;
- * {@code java Tasks THREADS TASK ROUNDS TABLE} runs the task in parallel in a pool of as many threads and prints
- * a line of nanoseconds and a digest of the answers for each round.
+ * {@code java Tasks THREADS TASK ROUNDS} runs a task of one answer in parallel on THREADS threads, and prints nanoseconds and the
+ * answer of each round.
  */
 public final class Tasks {
     private static boolean parallel = true;
@@ -26,10 +25,15 @@ public final class Tasks {
         return mode(LongStream.of(column));
     }
 
-    private static void readTable(String file, boolean inParallel) throws IOException {
-        try (Stream<String> lines = Files.lines(Path.of(file)).skip(1)) {
-            Stream<String> rows = inParallel ? lines.parallel() : lines;
-            String[][] cells = rows.map(row -> row.split(",", 6)).toArray(String[][]::new);
+    /** The rows of a table, each cut into at most {@code parts} cells. */
+    private static Stream<String[]> rows(Stream<String> lines, int parts) {
+        Stream<String> rows = lines.skip(1);
+        return (parallel ? rows.parallel() : rows).map(row -> row.split(",", parts));
+    }
+
+    private static void readTable(String file) throws IOException {
+        try (Stream<String> lines = Files.lines(Path.of(file))) {
+            String[][] cells = rows(lines, 6).toArray(String[][]::new);
             b = column(cells, 1);
             c = column(cells, 2);
             d = column(cells, 3);
@@ -42,10 +46,9 @@ public final class Tasks {
     }
 
     /** The second column alone. */
-    private static void readOne(String file, boolean inParallel) throws IOException {
-        try (Stream<String> lines = Files.lines(Path.of(file)).skip(1)) {
-            Stream<String> rows = inParallel ? lines.parallel() : lines;
-            b = rows.mapToLong(row -> Long.parseLong(row.split(",", 3)[1])).toArray();
+    private static void readOne(String file) throws IOException {
+        try (Stream<String> lines = Files.lines(Path.of(file))) {
+            b = rows(lines, 3).mapToLong(row -> Long.parseLong(row[1])).toArray();
         }
     }
 
@@ -95,24 +98,10 @@ public final class Tasks {
             case "chain" -> chain();
             case "shallow_find" -> List.of(
                     mode(LongStream.range(0, 1L << 62)).filter(x -> x % 1001 == 1000).findFirst());
+            case "late_find" -> List.of(mode(LongStream.range(0, 100_000_000)).filter(x -> x == 90_000_000).findFirst());
+            case "late_match" -> List.of(mode(LongStream.range(0, 100_000_000)).anyMatch(x -> x == 90_000_000));
             default -> throw new IllegalArgumentException(task);
         };
-    }
-
-    /** One number for an answer. */
-    private static long digest(Object answer) {
-        if (answer instanceof Long number) {
-            return number;
-        } else if (answer instanceof Boolean truth) {
-            return truth ? 1 : 0;
-        } else if (answer instanceof OptionalLong optional) {
-            return optional.orElse(-1);
-        }
-        long all = 0;
-        for (long value : (long[]) answer) {
-            all = all * 31 + value;
-        }
-        return all;
     }
 
     private static String text(Object answer) {
@@ -125,8 +114,7 @@ public final class Tasks {
         List<Object> answers = run(task);
         StringBuilder out = new StringBuilder();
         for (int i = 0; i < answers.size(); i++) {
-            String name = task.equals("small_jobs") || task.equals("chain") ? "j" + i : task.equals("twelve") ? "j" + (i + 1)
-                    : task.startsWith("to_array") ? "a" : task.equals("shallow_find") ? "f" : "s";
+            String name = answers.size() == 1 ? "s" : "j" + (task.equals("twelve") ? i + 1 : i);
             out.append(name).append(" = ").append(text(answers.get(i))).append('\n');
         }
         System.out.print(out);
@@ -136,30 +124,24 @@ public final class Tasks {
         ForkJoinPool pool = new ForkJoinPool(threads);
         for (int round = 0; round < rounds; round++) {
             long start = System.nanoTime();
-            List<Object> answers = pool.submit(() -> run(task)).get();
-            long taken = System.nanoTime() - start;
-            long all = 0;
-            for (Object answer : answers) {
-                all = all * 31 + digest(answer);
-            }
-            System.out.println(taken + " " + all);
+            Object answer = pool.submit(() -> run(task)).get().get(0);
+            System.out.println(System.nanoTime() - start + " " + answer);
         }
         pool.shutdown();
     }
 
     public static void main(String[] words) throws Exception {
-        boolean timed = Character.isDigit(words[0].charAt(0));
         parallel = !words[0].equals("sequential");
         String task = words[1];
-        if (task.equals("one_sum")) {
-            readOne(words[words.length - 1], parallel);
-        } else if (task.equals("twelve")) {
-            readTable(words[words.length - 1], parallel && !timed);
-        }
-        if (timed) {
+        if (Character.isDigit(words[0].charAt(0))) {
             time(task, Integer.parseInt(words[0]), Integer.parseInt(words[2]));
-        } else {
-            print(task);
+            return;
         }
+        if (task.equals("one_sum")) {
+            readOne(words[2]);
+        } else if (task.equals("twelve")) {
+            readTable(words[2]);
+        }
+        print(task);
     }
 }

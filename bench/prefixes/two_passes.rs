@@ -1,46 +1,37 @@
-//! two_passes OPERATOR COUNT THREADS: the sum of a prefix over 0, 1, .., by Rust's own threads, without an array. Each thread folds
-//! its part; then each goes over its part again, from the fold of what lies left of it.
+//! two_passes COUNT THREADS: the sum of the running sums of 0, 1, .., by Rust's own threads, without an array. Each thread adds up its
+//! part; then each goes over its part again, from the sum of what lies left of it.
 
 use std::env;
+use std::ops::Range;
 use std::thread;
 
-type Operator = fn(i64, i64) -> i64;
-
-fn fold(operator: Operator, from: i64, to: i64) -> Option<i64> {
-    (from..to).reduce(operator)
+fn sum_of_sums(before: i64, part: Range<i64>) -> i64 {
+    let mut last = before;
+    part.fold(0i64, |sum, item| {
+        last = last.wrapping_add(item);
+        sum.wrapping_add(last)
+    })
 }
 
-fn sum_of_prefix(operator: Operator, start: Option<i64>, from: i64, to: i64) -> i64 {
-    let mut last = start;
-    (from..to).fold(0i64, |sum, item| {
-        let value = last.map_or(item, |before| operator(before, item));
-        last = Some(value);
-        sum.wrapping_add(value)
+/// What a function gives for each part, on a thread of its own.
+fn on_threads<T: Sync>(parts: &[T], function: impl Fn(&T) -> i64 + Sync) -> Vec<i64> {
+    let function = &function;
+    thread::scope(|scope| {
+        let begun: Vec<_> = parts.iter().map(|part| scope.spawn(move || function(part))).collect();
+        begun.into_iter().map(|part| part.join().unwrap()).collect()
     })
 }
 
 fn main() {
     let words: Vec<String> = env::args().collect();
-    let operator: Operator = if words[1] == "max" { i64::max } else { i64::wrapping_add };
-    let count: i64 = words[2].parse().unwrap();
-    let threads: i64 = words[3].parse().unwrap();
-    let parts: Vec<(i64, i64)> = (0..threads).map(|at| (count * at / threads, count * (at + 1) / threads)).collect();
-    let folds: Vec<Option<i64>> = thread::scope(|scope| {
-        let begun: Vec<_> = parts.iter().map(|&(from, to)| scope.spawn(move || fold(operator, from, to))).collect();
-        begun.into_iter().map(|part| part.join().unwrap()).collect()
-    });
-    let sums: Vec<i64> = thread::scope(|scope| {
-        let mut start = None;
-        let mut begun = Vec::new();
-        for (&(from, to), &part) in parts.iter().zip(&folds) {
-            let before = start;
-            begun.push(scope.spawn(move || sum_of_prefix(operator, before, from, to)));
-            start = match (start, part) {
-                (Some(left), Some(right)) => Some(operator(left, right)),
-                (left, right) => left.or(right),
-            };
-        }
-        begun.into_iter().map(|part| part.join().unwrap()).collect()
-    });
+    let (count, threads): (i64, i64) = (words[1].parse().unwrap(), words[2].parse().unwrap());
+    let parts: Vec<Range<i64>> = (0..threads).map(|at| count * at / threads..count * (at + 1) / threads).collect();
+    let mut left = 0i64;
+    let mut begun = Vec::new();
+    for (part, sum) in parts.iter().zip(on_threads(&parts, |part| part.clone().fold(0, i64::wrapping_add))) {
+        begun.push((left, part.clone()));
+        left = left.wrapping_add(sum);
+    }
+    let sums = on_threads(&begun, |(before, part)| sum_of_sums(*before, part.clone()));
     println!("q = {}", sums.into_iter().fold(0i64, i64::wrapping_add));
 }

@@ -1,5 +1,8 @@
+import java.lang.reflect.Method;
 import java.util.ArrayList;
+import java.util.HashMap;
 import java.util.List;
+import java.util.Map;
 import java.util.concurrent.CountedCompleter;
 
 /**
@@ -8,6 +11,7 @@ import java.util.concurrent.CountedCompleter;
  */
 public class CompleterCalls {
     static final List<String> ran = new ArrayList<>();
+    static final Map<String, Task> tasks = new HashMap<>();
 
     static class Task extends CountedCompleter<Void> {
         final String name;
@@ -24,74 +28,59 @@ public class CompleterCalls {
         public void onCompletion(CountedCompleter<?> caller) {
             ran.add(name);
         }
+
+        @Override
+        public String toString() {
+            return name;
+        }
     }
 
-    static String nameOf(CountedCompleter<?> task) {
-        return task == null ? "null" : ((Task) task).name;
+    /** Begins anew with some tasks, each as its name, the name of its completer or -, and its pending count. */
+    static void tree(String... rows) {
+        ran.clear();
+        tasks.clear();
+        System.out.println(String.join(", ", rows));
+        for (String row : rows) {
+            String[] words = row.split(" ");
+            tasks.put(words[0], new Task(words[0], tasks.get(words[1]), Integer.parseInt(words[2])));
+        }
     }
 
-    static void tell(String call, Object answer, Task task) {
-        System.out.println(call + " -> " + answer + ", pending of " + task.name + " " + task.getPendingCount()
-            + ", done " + task.isDone() + ", ran " + ran);
+    /** Makes a call of a task, such as "left tryComplete", and prints its answer and what became of a task. */
+    static void call(String text, String watched) throws ReflectiveOperationException {
+        String[] words = text.split(" ");
+        boolean hasNumber = words.length > 2;
+        Method method = hasNumber ? Task.class.getMethod(words[1], int.class) : Task.class.getMethod(words[1]);
+        Object answer = hasNumber ? method.invoke(tasks.get(words[0]), Integer.parseInt(words[2])) : method.invoke(tasks.get(words[0]));
+        Task task = tasks.get(watched);
+        System.out.println("    " + text + " -> " + (method.getReturnType() == void.class ? "" : answer) + ", pending of " + watched + " "
+            + task.getPendingCount() + ", done " + task.isDone() + ", ran " + ran);
     }
 
-    public static void main(String[] args) {
-        System.out.println("Java " + System.getProperty("java.version"));
-
-        System.out.println("tryComplete: top with pending 1, left and right below it");
-        ran.clear();
-        Task top = new Task("top", null, 1);
-        Task left = new Task("left", top, 0);
-        Task right = new Task("right", top, 0);
-        left.tryComplete();
-        tell("left.tryComplete()", "", top);
-        right.tryComplete();
-        tell("right.tryComplete()", "", top);
-
-        System.out.println("propagateCompletion: top, middle with pending 1, leaf");
-        ran.clear();
-        top = new Task("top", null, 0);
-        Task middle = new Task("middle", top, 1);
-        Task leaf = new Task("leaf", middle, 0);
-        leaf.propagateCompletion();
-        tell("leaf.propagateCompletion()", "", middle);
-        middle.propagateCompletion();
-        tell("middle.propagateCompletion()", "", top);
-
-        System.out.println("firstComplete: a task with pending 1");
-        ran.clear();
-        Task task = new Task("task", null, 1);
-        tell("firstComplete()", nameOf(task.firstComplete()), task);
-        tell("firstComplete()", nameOf(task.firstComplete()), task);
-
-        System.out.println("nextComplete: top with pending 1, left and right below it");
-        ran.clear();
-        top = new Task("top", null, 1);
-        left = new Task("left", top, 0);
-        right = new Task("right", top, 0);
-        tell("left.firstComplete()", nameOf(left.firstComplete()), left);
-        tell("left.nextComplete()", nameOf(left.nextComplete()), top);
-        tell("right.firstComplete()", nameOf(right.firstComplete()), right);
-        tell("right.nextComplete()", nameOf(right.nextComplete()), top);
-        tell("top.nextComplete()", nameOf(top.nextComplete()), top);
-
-        System.out.println("addToPendingCount: a task with pending 0");
-        ran.clear();
-        task = new Task("task", null, 0);
-        task.addToPendingCount(2);
-        tell("addToPendingCount(2)", "", task);
-        tell("firstComplete()", nameOf(task.firstComplete()), task);
-        tell("firstComplete()", nameOf(task.firstComplete()), task);
-        tell("firstComplete()", nameOf(task.firstComplete()), task);
-
-        System.out.println("getRoot: top, middle, leaf");
-        ran.clear();
-        top = new Task("top", null, 0);
-        middle = new Task("middle", top, 0);
-        leaf = new Task("leaf", middle, 0);
-        tell("leaf.getRoot()", nameOf(leaf.getRoot()), top);
-        tell("top.getRoot()", nameOf(top.getRoot()), top);
-        leaf.tryComplete();
-        tell("leaf.tryComplete()", "", top);
+    public static void main(String[] none) throws ReflectiveOperationException {
+        tree("top - 1", "left top 0", "right top 0");
+        call("left tryComplete", "top");
+        call("right tryComplete", "top");
+        tree("top - 0", "middle top 1", "leaf middle 0");
+        call("leaf propagateCompletion", "middle");
+        call("middle propagateCompletion", "top");
+        tree("task - 1");
+        call("task firstComplete", "task");
+        call("task firstComplete", "task");
+        tree("top - 1", "left top 0", "right top 0");
+        call("left firstComplete", "left");
+        call("left nextComplete", "top");
+        call("right firstComplete", "right");
+        call("right nextComplete", "top");
+        call("top nextComplete", "top");
+        tree("task - 0");
+        call("task addToPendingCount 2", "task");
+        call("task firstComplete", "task");
+        call("task firstComplete", "task");
+        call("task firstComplete", "task");
+        tree("top - 0", "middle top 0", "leaf middle 0");
+        call("leaf getRoot", "top");
+        call("top getRoot", "top");
+        call("leaf tryComplete", "top");
     }
 }

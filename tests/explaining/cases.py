@@ -6,7 +6,7 @@ import shutil
 import sys
 import tempfile
 
-from running import TOP, run as ran
+from running import TOP, read, run as ran, write
 from streamrun_language import explain
 
 from . import mistakes, tables
@@ -129,13 +129,8 @@ def run(*arguments):
 def wrong_commands():
     """What is wrong with the command: its statuses, lines and the object for editors."""
     with tempfile.TemporaryDirectory() as folder:
-        def write(name, text):
-            path = os.path.join(folder, name)
-            with open(path, 'w', encoding='utf-8') as file:
-                file.write(text)
-            return path
-        good, bad = write('good.jobs', 'a = of(1).sum()\n'), write('bad.jobs', 'a = of(1)\n .zum()\n')
-        table = write('t.csv', 'a\nx\n')
+        texts = {'good.jobs': 'a = of(1).sum()\n', 'bad.jobs': 'a = of(1)\n .zum()\n', 't.csv': 'a\nx\n'}
+        good, bad, table = (write(os.path.join(folder, name), text) for name, text in texts.items())
         shown = f'streamrun: jobs: line 1: syntax\n\n{bad}, line 2, column 3:\n     .zum()\n      ^\n{MEANT}\n'
         cell = f'streamrun: columns: bad number in row 1 column 1\n\n{table}, line 2, column 1, row 1 of "a":\n    x\n    ^\n'
         for arguments, wanted in [
@@ -157,8 +152,8 @@ def wrong_commands():
 
 def wrong_editors(bad):
     """What vim's errorformat and the problem matcher of VS Code make of an explanation."""
-    with open(os.path.join(TOP, 'editors', 'vscode', 'package.json'), encoding='utf-8') as file:
-        pattern = json.load(file)['contributes']['problemMatchers'][0]['pattern']
+    package = json.loads(read(os.path.join(TOP, 'editors', 'vscode', 'package.json')))
+    pattern = package['contributes']['problemMatchers'][0]['pattern']
     matched = re.search(pattern['regexp'], run(bad, '--json')[0])
     got = matched and tuple(matched[pattern[it]] for it in ('file', 'line', 'column', 'message'))
     if got != (bad, '2', '3', MEANT):
@@ -168,7 +163,6 @@ def wrong_editors(bad):
                  f'redir! > {bad}.list', 'clist', 'redir END', 'qall!']
         words = [word for step in steps for word in ('-c', step)]
         ran(['vim', '-Nu', 'NONE', '-es', *words, bad])
-        with open(bad + '.list', encoding='utf-8') as file:
-            listed = file.read()
+        listed = read(bad + '.list').decode()
         if '2 col 3' not in listed or MEANT not in listed:
             yield f'vim: {listed!r}'

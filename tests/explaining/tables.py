@@ -1,8 +1,6 @@
-"""Tables that are refused. The sign MARK stands before the place of the caret; beside it are the row, the name of the
+"""Tables that are refused. The sign MARK of mistakes.py stands before the place of the caret; beside it are the row, the name of the
 column and the cell, or None if the refusal is of no cell, and words that the hint has to have. All were worked out by
 hand."""
-
-from .mistakes import MARK
 
 ROWS = [
     # The eight tables of a first day.

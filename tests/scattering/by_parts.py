@@ -78,7 +78,7 @@ class ByHand:
 
 
 def random_outcomes(program, seed, index, folder, seen):
-    """The outcomes of one run and of a run over parts of the same random files."""
+    """The outcomes of one run and of a run over parts of its random files."""
     writer = PartsWriter(seed, index)
     jobs = write(folder, 'jobs', writer.job_file())
     columns = write(folder, 'columns.csv', writer.table(0, writer.rows))
@@ -96,7 +96,7 @@ def random_outcomes(program, seed, index, folder, seen):
 
 
 def refused_outcomes(program, seed, index, folder, seen):
-    """The same of a table that is damaged, and may be refused; in one of three with a job file that is refused."""
+    """These outcomes over a table that is damaged, and may be refused; in one of three with a job file that is refused."""
     writer = PartsWriter(seed, index)
     data = writer.damaged_table()
     jobs = writer.job_file() + (b'last = of(1).average()' if index % 3 == 0 else b'')

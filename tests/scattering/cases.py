@@ -1,13 +1,10 @@
 """Refusals, lines and commands of tools/scatter with what they have to say. Each is worked out by hand from the rules of
 docs/beyond-one-machine.md and docs/job-language.md."""
 import os
-import re
-import shutil
 import sys
 import tempfile
 from unittest import mock
 
-from running import TOP, read, run as ran
 from scatter_lib import tables
 
 from .by_parts import TOOL, one_run, run, write
@@ -216,33 +213,7 @@ def counts(test, folder):
             test.expect(f'rows of {data} in pieces of {size}', got == (b'%d\n' % rows, b'', 0), got)
 
 
-def blocks_of(text):
-    """(commands, what they write or None) of a page: a block of commands, and a listing that stands one paragraph below."""
-    parts = re.split(r'^```(.*)\n', text, flags=re.M)  # prose, 'sh', commands, '', prose, 'text', listing, '', prose, ..
-    for at in range(1, len(parts) - 1, 4):
-        if parts[at] == 'sh':
-            is_written = parts[at + 4:at + 5] == ['text'] and parts[at + 3].strip().count('\n\n') == 0
-            yield parts[at + 1], parts[at + 5] if is_written else None
-
-
-def page(test, folder):
-    """The commands of the page, as printed, in a folder with the examples; the commands of a cluster aside."""
-    os.mkdir(os.path.join(folder, 'bin'))
-    os.symlink(test.program, os.path.join(folder, 'bin', 'streamrun'))
-    for name in ('examples', 'tools'):
-        os.symlink(os.path.join(TOP, name), os.path.join(folder, name))
-    blocks = blocks_of(read(os.path.join(TOP, 'docs', 'beyond-one-machine.md')).decode())
-    outside = ['dask', *([] if shutil.which('parallel') else ['parallel'])]
-    here = [block for block in blocks if not any(word in block[0] for word in outside)]
-    test.expect('the page', len(here) >= 5 and any(block[1] for block in here), here)
-    for commands, written in here:
-        environment = {**os.environ, 'PATH': os.path.join(folder, 'bin') + ':' + os.environ['PATH']}
-        done = ran(['sh', '-e', '-c', commands], cwd=folder, env=environment)
-        is_right = done.status == 0 and (not written or done.out.decode() == written)
-        test.expect('the page', is_right, f'{commands}: {done}')
-
-
 def all_cases(test):
-    for cases in (counts, refusals, merges, processes, dying, page):
+    for cases in (counts, refusals, merges, processes, dying):
         with tempfile.TemporaryDirectory() as folder:
             cases(test, folder)

@@ -87,7 +87,7 @@ class PartsWriter(Writer):
         return (self.pick('', '', '\ufeff', '\n') + between.join(rows) + self.pick(between, between, '')).encode()
 
     def tables(self):
-        """The same rows in several files."""
+        """Its rows in several files."""
         ends = sorted(self.random.randint(0, self.rows) for _ in range(self.random.randint(1, 8)))
         bounds = [0, *ends, self.rows]
         return [self.table(first, last) for first, last in zip(bounds, bounds[1:])]

@@ -2,7 +2,7 @@
 
     generate(seed, index, kinds, most)   (bytes of a job file, bytes of a column file or None)
 
-The same arguments give the same files. kinds are keys of KINDS; most is about how many items a source has whose walk
+Equal arguments give equal files. kinds are keys of KINDS; most is about how many items a source has whose walk
 doesn't end early. Lengths, numbers and places are mostly those at which something changes: the ends of batches, pieces and
 sources, the least and greatest integers, the numbers around a power of two.
 """
@@ -16,7 +16,7 @@ LENGTHS = sorted({*range(10), 31, 33, 62, 100, 3000, 10000, 100000,
                   *(near + by for near in (64, 128, 256, 512, 1000, 1024, 2000, 2048, 3072, 4096, 8192, 2 ** 16, 2 ** 20, 2 ** 21)
                     for by in (-1, 0, 1))})
 MOST_ITEMS_OF_MANY = 50
-# About so many bytes of a column file may be read at once; it is only a guess at where something may go wrong.
+# About how many bytes of a column file may be read at once; it is only a guess at where something may go wrong.
 PIECE_BYTES = 4 * 2 ** 20
 SPELLED = {'sum': ['sum', 'Long::sum', '(a, b) -> a + b', '(a, b) -> Long.sum(a, b)', '(long p, long q) -> (p) + q'],
            'product': ['product', '(a, b) -> a * b', '(a, b) -> (a * b)'],
@@ -254,7 +254,7 @@ class Writer(LambdaWriter):
         return [*parts, *stages, *self.random.choice(ends)]
 
     def endless(self):
-        """The same, with up to six slices among other stages before few of the items are asked for."""
+        """A source that is far too long to walk, with up to six slices among other stages before few of the items are asked for."""
         near, half = self.place(3000), 2 ** 61
         begin = self.pick([f'range(0, {2 ** 62})'], [f'range(0, {2 ** 62})'], [f'range({-half}, {half})', f'skip({half})'],
                           ['of(0, 1)', f'flatMap(x -> range(x, {2 ** 62} - x))'],

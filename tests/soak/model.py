@@ -4,6 +4,7 @@
     tests/soak/model.py [--columns FILE] [--json] JOBS     writes the report, or the refusal's line; ends with its status
     tests/soak/model.py --self-test                        compares with worked answers and with examples/
 """
+import argparse
 import os
 import sys
 
@@ -13,23 +14,23 @@ from streamrun_language.model import outcome  # noqa: E402
 import worked  # noqa: E402
 
 
-def main(arguments):
-    if arguments == ['--self-test']:
+def main():
+    parser = argparse.ArgumentParser(usage=__doc__.split('\n\n')[1].strip())
+    parser.add_argument('--self-test', action='store_true')
+    parser.add_argument('--columns')
+    parser.add_argument('--json', action='store_true')
+    parser.add_argument('jobs', nargs='?')
+    given = parser.parse_args()
+    if given.self_test:
         return worked.compare_all(outcome)
-    form = 'json' if '--json' in arguments else 'text'
-    arguments = [it for it in arguments if it != '--json']
-    columns = None
-    if len(arguments) == 3 and arguments[0] == '--columns':
-        columns = read(arguments[1])
-        arguments = arguments[2:]
-    if len(arguments) != 1:
-        print(__doc__.split('\n\n')[1], file=sys.stderr)
-        return 2
-    out, err, status = outcome(read(arguments[0]), columns, form)
+    if given.jobs is None:
+        parser.error('no job file')
+    columns = read(given.columns) if given.columns else None
+    out, err, status = outcome(read(given.jobs), columns, 'json' if given.json else 'text')
     sys.stdout.buffer.write(out)
     sys.stderr.buffer.write(err)
     return status
 
 
 if __name__ == '__main__':
-    sys.exit(main(sys.argv[1:]))
+    sys.exit(main())

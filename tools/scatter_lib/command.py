@@ -13,7 +13,7 @@ from .processes import NoProgram, Processes
 from .reports import NotAReport, read_report, write_report
 from .running import Ended, Run, demand_mergeable
 
-EPILOG = 'What can be made of parts, and by which rule: docs/beyond-one-machine.md. The statuses are those of streamrun.'
+EPILOG = 'What can be made of parts, and by which rule: docs/beyond-one-machine.md. The exit statuses are as with streamrun.'
 
 
 def options_of(arguments):

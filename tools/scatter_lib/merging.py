@@ -15,7 +15,7 @@ class Disagreement(Exception):
 
 
 def moved(answer, before):
-    """A fault of a part as the whole has it, if so many items of the source lie before the part."""
+    """A fault of a part as the whole has it, if `before` items of the source lie before the part."""
     fault = answer.value
     return answer if fault.item is None else Answer('fault', fault._replace(item=fault.item + before))
 

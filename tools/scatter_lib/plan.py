@@ -133,7 +133,7 @@ class Plan:
         names = self.members(number, answers)[0]
         for report in reports:
             if list(report) != names:
-                raise Disagreement(f'a report of other jobs than those of round {number}')
+                raise Disagreement(f'a report of other jobs than round {number} has')
         found = dict(answers)
         for name, it in self.jobs.items():
             if it.round == number:

@@ -43,7 +43,7 @@ def outcome_of(program, options, jobs, pieces):
 
 
 class Processes:
-    """Runs parts by processes of this machine, so many at once."""
+    """Runs parts by processes of this machine, some at once."""
 
     def __init__(self, program, options, at_once):
         self.program, self.options, self.at_once, self.is_stopped = program, options, at_once, False

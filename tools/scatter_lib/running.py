@@ -107,7 +107,7 @@ class Run:
                 reports = [read_report(out) for _, out, _ in found]
                 answers = plan.merge(number, answers, reports, [part.rows for part in parts])
             except (NotAReport, Disagreement) as wrong:
-                raise Ended(f'scatter: the reports of the parts aren\'t those of round {number}: {wrong}', 3) from None
+                raise Ended(f'scatter: the reports of the parts aren\'t of round {number}: {wrong}', 3) from None
         return answers
 
     def report(self, is_json):
@@ -115,7 +115,7 @@ class Run:
 
 
 def ended_by(outcome, part, before):
-    """The end of a run by a part that failed. A row is reported as the whole counts rows: so many lie before the part."""
+    """The end of a run by a part that failed. A row is reported as the whole counts rows: `before` lie before the part."""
     status, _, said = outcome
     if status < 0:
         return Ended(f'scatter: {part}: ended by signal {-status}, again and again', 3)

@@ -96,7 +96,7 @@ def rows_between(data, start, end):
 
 
 def cuts(data, start, count):
-    """(end, rows) of each of so many parts of about the same size. A part begins where a record does."""
+    """(end, rows) of each of `count` parts of about one size. A part begins where a record does."""
     end, rows, found = len(data), 0, []
     targets = [start + (end - start) * number // count for number in range(1, count)]
     for is_quoted, low, high in spans(data, start):
@@ -115,7 +115,7 @@ def rows_of_span(data, is_quoted, start, end):
 
 
 def parts_of(paths, count):
-    """The bytes of the header, and the parts: of one file so many, of several files each."""
+    """The bytes of the header, and the parts: of one file `count`, of several files each."""
     tables = [open_table(path) for path in paths]
     names, end = header_of(tables[0])
     header = tables[0][:end]

@@ -6,7 +6,7 @@ use std::sync::atomic::Ordering::SeqCst;
 use std::time::Duration;
 
 // How often a worker spins or yields before it sleeps: about 100 microseconds. A shorter wait costs time where tasks
-// are small; bench/pool has figures.
+// are small; docs/DECISIONS.md has figures.
 const PATIENCE: u32 = 256;
 
 // How long a worker sleeps that nothing wakes, in milliseconds.
