@@ -5,8 +5,6 @@ ghost use Rattle.job_language.specs.FaultCauses.{cause_of, fault_of};
 
 use lambda_expr::ReadFault;
 use std::alloc::{AllocError, AllocFailed};
-use std::fmt;
-use std::fmt::{Display, Formatter, Write};
 use stream_tokens::TextFault;
 
 /// Why a job is refused. The numbers are stable codes.
@@ -45,43 +43,6 @@ pub enum Cause {
     NotScalar,
 }
 
-impl Cause {
-    /// What a message says of the cause, before the column of a syntax fault.
-    fn text(&self) -> &'static str {
-        match self {
-            Cause::Syntax => "syntax",
-            Cause::SameName => "same name",
-            Cause::UnknownColumn => "unknown column",
-            Cause::UnknownJob => "unknown job",
-            Cause::NotANumber => "not a number",
-            Cause::NotAnArray => "not an array",
-            Cause::NegativeCount => "negative count",
-            Cause::NotIdentity => "not identity",
-            Cause::NoIdentity => "no identity",
-            Cause::OperatorNotListed => "operator not listed",
-            Cause::BadRange => "bad range",
-            Cause::TooLong => "too long",
-            Cause::NotScalar => "not scalar",
-            Cause::Expr(ReadFault::Syntax { .. }) => "expression syntax",
-            Cause::Expr(ReadFault::WrongType) => "wrong type",
-            Cause::Expr(ReadFault::UnknownName) => "unknown name",
-            Cause::Expr(ReadFault::TooDeep) => "too deep",
-            Cause::Expr(ReadFault::LiteralTooLarge) => "literal too large",
-            Cause::Expr(ReadFault::NoMemory) | Cause::NoMemory => "out of memory",
-        }
-    }
-}
-
-impl Display for Cause {
-    fn fmt<W: Write>(&self, f: &mut Formatter<W>) -> fmt::Result {
-        f.write_str(self.text())?;
-        match self {
-            Cause::Expr(ReadFault::Syntax { column }) => write!(f, " at column {column}"),
-            _ => Ok(()),
-        }
-    }
-}
-
 impl From<AllocError> for Cause {
     ghost from_gives = { λ _ cause. cause ≡ NoMemory };
 
@@ -116,15 +77,6 @@ impl From<ReadFault> for Cause {
 pub struct JobFault {
     pub line: u64,
     pub cause: Cause,
-}
-
-impl Display for JobFault {
-    fn fmt<W: Write>(&self, f: &mut Formatter<W>) -> fmt::Result {
-        match self.cause {
-            Cause::NoMemory => write!(f, "out of memory"),
-            cause => write!(f, "jobs: line {}: {cause}", self.line),
-        }
-    }
 }
 
 impl JobFault {

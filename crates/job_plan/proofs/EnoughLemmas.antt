@@ -1,5 +1,5 @@
 -- Parts that describe enough of a piece.
-use Rattle.std.proofs.Common.{◌≡◌, ℕ, inl, refl}
+use Rattle.std.proofs.Common.{ℕ, inl, refl}
 use Rattle.lambda_values.specs.Earlier.{Numbers}
 use Rattle.trace.specs.Trace.{Trace, nothing}
 use Rattle.early_stop.proofs.Leaving.{enough_left}

@@ -1,5 +1,5 @@
 -- A sink that may leave a walk.
-use Rattle.std.proofs.Common.{◌≡◌, ℕ, ◌≤◌, suc, Bool, true, false, List, ◌++◌, take, Result, Ok, Err, OnErr, refl, true≢false, sym, subst, ◌∙◌}
+use Rattle.std.proofs.Common.{◌≡◌, ℕ, ◌≤◌, suc, Bool, true, false, List, ◌++◌, take, Result, Ok, Err, OnErr, refl, true≢false, sym, subst}
 use Rattle.std.specs.declared.alloc.AllocError.{AllocError}
 use Rattle.trace.specs.declared.item.Item.{Item}
 use Rattle.trace.specs.declared.feeding.Fed.{Fed}

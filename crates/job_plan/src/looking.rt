@@ -4,9 +4,7 @@ ghost use Rattle.std.specs.Prelude.{◌≡◌, ◌≤◌, ℕ, Bool, true, false
 ghost use Rattle.trace.specs.declared.item.Item.{Item as item};
 ghost use Rattle.job_plan.specs.Stretches.{HasLooked, IsDecided, flow_unless};
 
-use batch_eval::{
-    Batch, BatchSink, FlaggedLanes, PlacedValues, accept_each, accept_each_flagged,
-};
+use batch_eval::{Batch, BatchSink, FlaggedLanes, PlacedValues, accept_each, accept_each_flagged};
 use early_stop::Stop;
 use lambda_values::BoolExpr;
 use std::marker::{Brand, PhantomData};
@@ -16,13 +14,13 @@ use trace::{Fed, Flow, Item, LongSink, NoMemory, SourceItems};
 pub(crate) const STRETCH: u64 = 65_536;
 
 /// Where a piece begins, and which places decide what its walk is for, as contracts see it. No value has this type.
-pub(crate) trait PieceStart {
+pub(crate) trait StartBrand {
     ghost decides: { ℕ → Type 0 };
 
     ghost from: { ℕ };
 }
 
-impl PieceStart for Brand {
+impl StartBrand for Brand {
     ghost decides = { λ _. ⊥ };
 
     ghost from = { 0 };
@@ -43,7 +41,7 @@ pub(crate) trait LeavingSink: BatchSink {
 
 /// A sink that hands items on to another one, until it sees that nothing of its piece matters.
 #[derive(Drop)]
-pub(crate) struct Looking<'w, P: PieceStart, S: Drop, W: Stop> {
+pub(crate) struct Looking<'w, P: StartBrand, S: Drop, W: Stop> {
     pub(crate) inner: S,
     pub(crate) stop: &'w mut W,
     /// The first position of the piece.
@@ -76,7 +74,7 @@ fn is_seen<W: Stop>(stop: &mut W, position: u64, until_look: &mut u64, items: u6
     is_past(stop, position)
 }
 
-impl<P: PieceStart, S: BatchSink + Drop, W: Stop> LongSink for Looking<'_, P, S, W> {
+impl<P: StartBrand, S: BatchSink + Drop, W: Stop> LongSink for Looking<'_, P, S, W> {
     ghost has_taken = { λ sink items. HasLooked S.has_taken W.decides P.decides P.from sink.from sink.stop.now sink.has_left sink.inner items };
 
     ghost flow = { λ sink. flow_unless sink.has_left (S.flow sink.inner) };
@@ -92,7 +90,7 @@ impl<P: PieceStart, S: BatchSink + Drop, W: Stop> LongSink for Looking<'_, P, S,
     }
 }
 
-impl<P: PieceStart, S: BatchSink + Drop, W: Stop> BatchSink for Looking<'_, P, S, W> {
+impl<P: StartBrand, S: BatchSink + Drop, W: Stop> BatchSink for Looking<'_, P, S, W> {
     fn accept_batch(&mut self, batch: &Batch, room: &mut [i64]) -> Result<Fed, NoMemory> {
         if is_seen(self.stop, self.from, &mut self.until_look, batch.count()) {
             self.until_look = 0;
@@ -127,7 +125,7 @@ impl<P: PieceStart, S: BatchSink + Drop, W: Stop> BatchSink for Looking<'_, P, S
     }
 }
 
-impl<P: PieceStart, S: BatchSink + Drop, W: Stop> LeavingSink for Looking<'_, P, S, W> {
+impl<P: StartBrand, S: BatchSink + Drop, W: Stop> LeavingSink for Looking<'_, P, S, W> {
     ghost has_left = { λ sink. sink.has_left };
 
     fn leaves(&mut self) -> bool {

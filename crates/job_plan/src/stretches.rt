@@ -13,7 +13,7 @@ ghost use Rattle.prefix_walks.specs.Pieces.{elements};
 ghost use Rattle.prefix_walks.specs.Spans.{IsNotAfter};
 ghost use Rattle.job_plan.specs.Stretches.{IsDecided, IsWalked};
 
-use crate::looking::{LeavingSink, Looking, PieceStart, STRETCH};
+use crate::looking::{LeavingSink, Looking, StartBrand, STRETCH};
 use crate::source::Source;
 use batch_eval::{BatchSink, Pipeline, Registers};
 use early_stop::Stop;
@@ -53,7 +53,7 @@ pub(crate) fn feed_until<S: BatchSink + Drop, W: Stop>(
 }
 
 /// What `feed_until` gives, for a piece whose start contracts can name.
-fn feed_looking<P: PieceStart, S: BatchSink + Drop, W: Stop>(
+fn feed_looking<P: StartBrand, S: BatchSink + Drop, W: Stop>(
     source: &Source,
     line: Pipeline<'_>,
     window: Window,

@@ -2,23 +2,29 @@
 //! file, and writes a report with one answer per job.
 //!
 //! Stands on `engine`, whose `run` is the whole work, on `columns` and `report` for readers and
-//! writers that count their failures, and on `clap` for the command line. It promises nothing of its
-//! own: the promise is the contract of `engine::run`, which this program calls on the two files and on
-//! standard output. Begin with `engine/specs/Run.antt`; here there is only the command line, the
+//! writers that count their failures, and on `clap` for the command line. What it promises is the contract of
+//! `engine::run`, which this program calls on the two files and on standard output: `ended_run` says that the exit
+//! status is the one after such a run. Begin with `engine/specs/Run.antt`; here there is only the command line, the
 //! opening of the files, the exit status, and the line that says on a terminal how far a long run is.
 //! Not promised: that a file can be read or written, or that memory is there; the line on standard
 //! error says which it was.
 #![tactic(auto)]
 
+ghost use Rattle.std.specs.Prelude.{◌≡◌, Result, ⊤};
+ghost use Rattle.engine.specs.Given.{IsAnswered};
+ghost use Rattle.engine.specs.Statuses.{status_after};
+ghost use Rattle.engine.specs.declared.fault.EngineFault.{EngineFault as meant_fault};
+ghost use Rattle.run_settings.specs.SettingsParts.{form_of};
+
 mod command_line;
 mod progress;
 
 use clap::error::ErrorKind as ArgumentErrorKind;
-use columns::Counted;
+use columns::{Counted, CountedRead};
 use command_line::{Arguments, read_arguments};
 use engine::{EngineFault, run, status_after, tell};
 use progress::Progress;
-use report::CountedOut;
+use report::{CountedOut, CountedWrite};
 use run_settings::Settings;
 use std::alloc::AllocError;
 use std::fs::File;
@@ -144,18 +150,45 @@ fn watched_run<H: Threads + Wait + Sync>(rt: &HostRuntime, threads: &H, given: G
             settings,
         } = given;
         let mut writer = CountedOut::new(rt.stdout());
-        let answer = run(
+        let columns = columns.as_mut();
+        ended_run(
+            rt,
             threads,
-            rt.alloc(),
-            columns.as_mut(),
+            columns,
             &mut jobs,
             &mut writer,
             &settings,
             progress,
-        );
-        progress.end();
-        status_after(&answer, &mut rt.stderr())
+        )
     })
+}
+
+/// Runs the jobs, wipes the line, and answers the exit status; after a fault its line is on standard error.
+fn ended_run<H: Threads + Wait + Sync, C: CountedRead, J: CountedRead, W: CountedWrite>(
+    rt: &HostRuntime,
+    threads: &H,
+    columns: Option<&mut C>,
+    jobs: &mut J,
+    writer: &mut W,
+    settings: &Settings,
+    progress: &Progress<'_, H>,
+) -> u8
+    // The status is the status after an answer of the run over these readers and this writer.
+    ensures { (answer : Result ⊤ meant_fault) × (result ≡ status_after answer)
+        × IsAnswered C.remaining columns.entry (J.remaining jobs.old) (form_of settings.now)
+        (W.contents writer.old) (W.contents writer.new) answer }
+{
+    let answer = run(
+        threads,
+        rt.alloc(),
+        columns,
+        jobs,
+        writer,
+        settings,
+        progress,
+    );
+    progress.end();
+    status_after(&answer, &mut rt.stderr())
 }
 
 #[cfg(test)]

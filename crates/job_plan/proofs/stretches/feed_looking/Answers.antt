@@ -1,4 +1,4 @@
-use Rattle.std.proofs.Common.{◌≡◌, ℕ, List, Ok, refl, sym, ◌∙◌}
+use Rattle.std.proofs.Common.{List, Ok, sym, ◌∙◌}
 use Rattle.trace.specs.declared.item.Item.{Item}
 use Rattle.job_plan.specs.declared.looking.Looking.{Looking}
 use Rattle.job_plan.specs.Stretches.{HasLooked}
@@ -9,8 +9,8 @@ use Rattle.job_plan.proofs.stretches.feed_looking.Goals as goal
 pub returns-then-looking-clause-left : goal.returns-then-looking-clause-left
 returns-then-looking-clause-left g c = λ xs took.
     let h = g.S.LongSink.has_taken in
-    let decides = g.P.PieceStart.decides in
-    let from = g.P.PieceStart.from in
+    let decides = g.P.StartBrand.decides in
+    let from = g.P.StartBrand.from in
     let s = c.feed_stretches.new.sink in
     let some = c.in_ok-fed.ensures.left xs (c.requires.from, c.requires.decides, took) in
     left_decided decides from (h s.inner some.0) s.has_left c.if-looking.true some.1.2
@@ -18,8 +18,8 @@ returns-then-looking-clause-left g c = λ xs took.
 pub returns-clause-fed : goal.returns-clause-fed
 returns-clause-fed g c = λ xs took.
     let h = g.S.LongSink.has_taken in
-    let decides = g.P.PieceStart.decides in
-    let from = g.P.PieceStart.from in
+    let decides = g.P.StartBrand.decides in
+    let from = g.P.StartBrand.from in
     let s = c.feed_stretches.new.sink in
     let stays = c.if-looking.false in
     fed_as (λ (l : Looking g.row.P.Denot g.row.S.Denot g.row.W.Denot) (ys : List Item). HasLooked h g.W.Stop.decides decides from l.from l.stop.now l.has_left l.inner ys) h s s.inner

@@ -1,4 +1,4 @@
-use Rattle.std.proofs.Common.{◌≡◌, ◌+◌, ◌≤◌, false, Some, Ok, true≢false, sym, ◌∙◌, arith}
+use Rattle.std.proofs.Common.{◌+◌, ◌≤◌, Some, Ok, true≢false, sym, ◌∙◌, arith}
 use Rattle.trace.specs.declared.feeding.Fed.TheVariants as fed
 use Rattle.job_plan.specs.Parts.{walk_in}
 use Rattle.job_plan.proofs.LookLemmas.{some_taken}
@@ -23,9 +23,9 @@ returns-in_default g c =
     let before : next ≤ c.end_of-end.result = omega (arith, test, left) in
     let low = c.loop-next.invariant.after in
     let walked = ended_walked h c.args.line items c.args.window.from next c.args.window.to c.in_ok-ended.ended c.args.sink.now c.feed.new.sink
-        (omega (arith, low)) (in_order c.end_of-end.result next c.args.window.to c.end_of-end.ensures.given before) c.in_default.not-More
-        (more_walked h c.args.line items c.args.window.from c.loop-next.position (Some next) c.in_ok-ended.ended c.args.sink.now c.loop-next.sink c.feed.new.sink
-        low (omega arith) c.loop-next.invariant.fed c.in_ok-ended.ensures.fed) in record {
+    (omega (arith, low)) (in_order c.end_of-end.result next c.args.window.to c.end_of-end.ensures.given before) c.in_default.not-More
+    (more_walked h c.args.line items c.args.window.from c.loop-next.position (Some next) c.in_ok-ended.ended c.args.sink.now c.loop-next.sink c.feed.new.sink
+    low (omega arith) c.loop-next.invariant.fed c.in_ok-ended.ensures.fed) in record {
       fed = λ stays. walked;
       flow = λ stays. c.in_ok-ended.ensures.flow;
       left = λ xs took. some_taken h xs _ (Ok c.in_ok-ended.ended) c.feed.new.sink (walked xs took);
@@ -43,7 +43,7 @@ returns-then-leaves g c =
       flow = λ stays. absurd (true≢false (sym has_left ∙ stays));
       left = λ xs took.
           let walked = more_walked h c.args.line (walk_in c.args.source.now).items c.args.window.from c.loop-next.position (Some next) fed.More c.args.sink.now c.loop-next.sink c.feed.new.sink
-              low (omega arith) c.loop-next.invariant.fed took_more xs took in
+          low (omega arith) c.loop-next.invariant.fed took_more xs took in
           (_, c.leaves.ensures.taken _ walked.0);
       refused = tt;
     }
@@ -62,7 +62,7 @@ loop-next-preserved g c =
       wants = c.leaves.ensures.wants c.if-leaves.false;
       fed = λ xs took.
           let walked = more_walked g.S.LongSink.has_taken c.args.line (walk_in c.args.source.now).items c.args.window.from c.loop-next.position (Some next) fed.More c.args.sink.now c.loop-next.sink c.feed.new.sink
-              low (omega arith) c.loop-next.invariant.fed took_more xs took in
+          low (omega arith) c.loop-next.invariant.fed took_more xs took in
           (c.leaves.ensures.taken _ walked.0, walked.1);
     }
 
@@ -70,7 +70,7 @@ pub returns : goal.returns
 returns g c =
     let h = g.S.LongSink.has_taken in
     let walked = more_walked h c.args.line (walk_in c.args.source.now).items c.args.window.from c.loop-next.position c.args.window.to c.in_ok-fed.fed c.args.sink.now c.loop-next.sink c.feed-2.new.sink
-        c.loop-next.invariant.after c.loop-next.invariant.within c.loop-next.invariant.fed c.in_ok-fed.ensures.fed in record {
+    c.loop-next.invariant.after c.loop-next.invariant.within c.loop-next.invariant.fed c.in_ok-fed.ensures.fed in record {
       fed = λ stays. walked;
       flow = λ stays. c.in_ok-fed.ensures.flow;
       left = λ xs took. some_taken h xs _ (Ok c.in_ok-fed.fed) c.feed-2.new.sink (walked xs took);

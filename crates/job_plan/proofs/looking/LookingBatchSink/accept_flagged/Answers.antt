@@ -1,4 +1,4 @@
-use Rattle.std.proofs.Common.{◌≡◌, List, true≢false, sym, ◌∙◌}
+use Rattle.std.proofs.Common.{List, true≢false, sym, ◌∙◌}
 use Rattle.trace.specs.declared.item.Item.{Item}
 use Rattle.job_plan.specs.declared.looking.Looking.{Looking}
 use Rattle.job_plan.specs.Stretches.{HasLooked}
@@ -10,13 +10,13 @@ pub returns-then-is_seen-clause-fed : goal.returns-then-is_seen-clause-fed
 returns-then-is_seen-clause-fed g c = λ xs looked. c.accept_each_flagged.ensures.fed xs (looked.0, (λ d known. looked.1 d (c.is_seen.ensures.still d known)), looked.2)
 
 pub accept_flagged-requires : goal.accept_flagged-requires
-accept_flagged-requires g c = record { wants = inner_wants c.args.self.now.has_left (g.S.LongSink.flow c.args.self.now.inner) c.requires.wants; }
+accept_flagged-requires g c = record { wants = inner_wants c.args.self.now.has_left (g.S.LongSink.flow c.args.self.now.inner) c.requires.wants }
 
 pub returns-clause-fed : goal.returns-clause-fed
 returns-clause-fed g c = λ xs looked.
     let h = g.S.LongSink.has_taken in
-    let decides = g.P.PieceStart.decides in
-    let from = g.P.PieceStart.from in
+    let decides = g.P.StartBrand.decides in
+    let from = g.P.StartBrand.from in
     let self = c.args.self.now in
     let stays = not_left self.has_left (g.S.LongSink.flow self.inner) c.requires.wants in
     fed_as h

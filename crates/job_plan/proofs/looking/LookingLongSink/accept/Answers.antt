@@ -1,4 +1,4 @@
-use Rattle.std.proofs.Common.{◌≡◌, true≢false, sym, ◌∙◌}
+use Rattle.std.proofs.Common.{true≢false, sym, ◌∙◌}
 use Rattle.job_plan.proofs.LookLemmas.{as_named, inner_flow, inner_wants, not_left, on_err_map, still_taken, unless_left}
 use Rattle.job_plan.proofs.PartLemmas.{on_ok_map}
 use Rattle.job_plan.proofs.PassageLemmas.{if_ok_map}
@@ -8,7 +8,7 @@ pub returns-then-is_seen-clause-ok : goal.returns-then-is_seen-clause-ok
 returns-then-is_seen-clause-ok g c = λ xs looked. (
   looked.0,
   (λ d known. looked.1 d (c.is_seen.ensures.still d known)),
-  as_named g.W.Stop.decides g.P.PieceStart.decides g.P.PieceStart.from c.args.self.now.from c.args.self.now.stop.now looked.0 looked.1 (c.is_seen.ensures.past c.if-is_seen.true),
+  as_named g.W.Stop.decides g.P.StartBrand.decides g.P.StartBrand.from c.args.self.now.from c.args.self.now.stop.now looked.0 looked.1 (c.is_seen.ensures.past c.if-is_seen.true),
 )
 
 pub accept-requires : goal.accept-requires
@@ -17,8 +17,8 @@ accept-requires g c = inner_wants _ _ c.requires
 pub returns : goal.returns
 returns g c =
     let h = g.S.LongSink.has_taken in
-    let decides = g.P.PieceStart.decides in
-    let from = g.P.PieceStart.from in
+    let decides = g.P.StartBrand.decides in
+    let from = g.P.StartBrand.from in
     let self = c.args.self.now in
     let stays = not_left self.has_left (g.S.LongSink.flow self.inner) c.requires in
     let same = inner_flow self.has_left (g.S.LongSink.flow c.accept.new.self) stays in record {
