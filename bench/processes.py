@@ -90,20 +90,14 @@ def prefixes():
                 row(f'{name}, {workers} worker{"s" * (workers > 1)}', jobs.cost(stream, workers)[:2], 40)
 
 
-def installed():
-    """The tools that are there; a line for each that isn't."""
-    found = {name: shutil.which(name) for name in ('mawk', 'sqlite3')}
-    for name, path in found.items():
-        if not path:
-            print(f'{name}: left out, since it is not installed')
-    return found
-
-
 def show_turns(turns, commands, ours):
-    """Prints the wall time of each command, and its ratio to ours."""
-    costs = in_turns(turns, commands)
+    """Prints the wall time of each command, and its ratio to ours; a line for a tool that isn't installed."""
+    there = {name: command for name, command in commands.items() if shutil.which(command[0])}
+    costs = in_turns(turns, there)
     for name, cost in costs.items():
         row(f'  {name}', [cost.wall, cost.wall / costs[ours].wall])
+    for name in commands.keys() - there.keys():
+        print(f'  {name}: left out, since it is not installed')
 
 
 def peers():
@@ -117,7 +111,6 @@ def peers():
     """
     options = options_of(peers.__doc__, turns=5, only='')
     print(f'{os.cpu_count()} processors, least of {options.turns} turns, from cold')
-    tools = installed()
     print(f'a process that does nothing: {least_of(50, ["true"]).wall:.1f} ms, in each figure')
     with tempfile.TemporaryDirectory() as folder:
         tasks.write_all(folder)
@@ -126,10 +119,8 @@ def peers():
             words = [*(['--columns', table] if task in tasks.OF_COLUMNS else []), os.path.join(folder, f'{task}.jobs')]
             found = {'here': [options.program, *words], '1 worker': [options.program, '--workers', '1', *words]}
             found |= {f'Java, {mode}': [*java, mode, task, table] for mode in ('parallel', 'sequential') if java}
-            if tools['mawk'] and task in tasks.MAWK:
-                found['mawk'] = ['mawk', '-F,', tasks.MAWK[task], table]
-            if tools['sqlite3'] and task in tasks.SQL:
-                found['sqlite3'] = tasks.sqlite(table, tasks.SQL[task])
+            if task in tasks.OF_COLUMNS:
+                found |= {'mawk': ['mawk', '-F,', tasks.MAWK[task], table], 'sqlite3': tasks.sqlite(table, tasks.SQL[task])}
             row(tasks.JOBS[task][0], [])
             show_turns(options.turns * (10 if task in tasks.SHORT else 1), found, 'here')
 
@@ -137,16 +128,13 @@ def peers():
 def tables():
     """Times one sum and twelve aggregations over tables of several sizes beside mawk, sqlite3 and Rust.
 
-    bench/run tables [--rows N,..] [--columns N,..] [--shapes mixed,short,long,quoted] [--tasks sum,twelve] [--turns N] [--from-disk]
-                     [PROGRAM]
+    bench/run tables [--rows N,..] [--columns N,..] [--shapes mixed,short,long,quoted] [--tasks sum,twelve] [--turns N] [PROGRAM]
 
     Each peer has to print the program's answers. From four columns on, twelve aggregations follow, beside Rust alone; mawk and
-    sqlite3 don't add long numbers in 64 bits. With --from-disk, which takes root, each run of one turn begins with an empty cache of
-    files. Rust parses each cell but checks neither its range nor the length of a row.
+    sqlite3 don't add long numbers in 64 bits. Rust parses each cell but checks neither its range nor the length of a row.
     """
     options = options_of(tables.__doc__, rows=['100000', '1000000', '10000000'], columns=['1', '4', '16'],
-                         shapes='mixed short long quoted'.split(), tasks=['sum', 'twelve'], turns=3, from_disk=False)
-    tools = installed()
+                         shapes='mixed short long quoted'.split(), tasks=['sum', 'twelve'], turns=3)
     with tempfile.TemporaryDirectory() as folder:
         table = os.path.join(folder, 'data.csv')
         make, rust = peer(folder, 'tables/make_table.c'), peer(folder, 'tables/table.rs', '-C', 'target-cpu=native')
@@ -160,9 +148,7 @@ def tables():
                 if rust:
                     found |= {f'rust {it}': [*rust, table, it, task] for it in '14'}
                 if task == 'sum' and shape != 'long':
-                    found |= {name: command for name, command in tasks.sums_of(table).items() if tools[name]}
-                if options.from_disk:
-                    found = {name: ['sh', '-c', 'echo 3 > /proc/sys/vm/drop_caches; exec "$@"', 'sh', *it] for name, it in found.items()}
+                    found |= tasks.sums_of(table)
                 row(f'{task}: {rows} rows of {columns} columns, {shape}', [])
                 show_turns(options.turns, found, 'here 4')
 
