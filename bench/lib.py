@@ -12,8 +12,8 @@ from running import measured  # noqa: E402
 
 # (title, cells) of each row that the running part has shown.
 SHOWN = []
-# Least wall time and processor time in milliseconds, most memory in bytes, and what the last run printed.
-Cost = collections.namedtuple('Cost', 'wall processor memory printed')
+# Least wall time and processor time in milliseconds, and what the last run printed.
+Cost = collections.namedtuple('Cost', 'wall processor printed')
 
 
 def ran(command, is_needed=True, most=None):
@@ -21,15 +21,15 @@ def ran(command, is_needed=True, most=None):
     got, cost = measured(command, most=most)
     if got.status and is_needed:
         sys.exit(f'{command[0]} ended with {got.status}: {got.err.decode(errors="replace")}')
-    return None if got.status else Cost(1000 * cost.wall, 1000 * cost.processor, cost.memory, got.out.decode())
+    return None if got.status else Cost(1000 * cost.wall, 1000 * cost.processor, got.out.decode())
 
 
 def least(costs):
-    """The least times of some runs, and the most memory; all have to print the same."""
+    """The least times of some runs; all have to print the same."""
     costs = list(costs)
     if len({cost.printed for cost in costs}) != 1:
         sys.exit(f'the answers differ: {sorted({cost.printed[:200] for cost in costs})}')
-    return Cost(min(cost.wall for cost in costs), min(cost.processor for cost in costs), max(cost.memory for cost in costs), costs[0].printed)
+    return Cost(min(cost.wall for cost in costs), min(cost.processor for cost in costs), costs[0].printed)
 
 
 def least_of(turns, command, **more):

@@ -50,7 +50,7 @@ def operators():
             if wanted != found:
                 sys.exit(f'{name}: {found} instead of {wanted}')
             shown = stream.replace(tasks.FIFTEEN, 'fifteen operators')
-            row(shown, [*jobs.per_item(stream)[:2], int(nanos) / COUNT_OF_LOOPS if nanos else '-'], 60)
+            row(shown, [*jobs.per_item(stream), int(nanos) / COUNT_OF_LOOPS if nanos else '-'], 60)
 
 
 def result_of(report):

@@ -1,5 +1,4 @@
 """The part that makes the tables of the README and of docs/benchmarks.md."""
-import concurrent.futures
 import datetime
 import functools
 import os
@@ -23,21 +22,14 @@ def machine():
     return f'Machine: {os.cpu_count()} processors, {name}, {memory:.0f} GB; {datetime.date.today()}.'
 
 
-def rows_of(part, words, program):
-    """The rows that a part shows."""
-    sys.argv = [part, *words.split(), program]
-    getattr(processes if hasattr(processes, part) else loops, part)()
-    return lib.SHOWN
-
-
 @functools.lru_cache(maxsize=None)
 def figures(part, words, program):
-    """What a part shows, by the titles and the heads of its tables. A row without cells begins a table whose rows are the columns.
-    Each part has a process of its own: what one holds counts as memory of the runs that it begins."""
+    """What a part shows, by the titles and the heads of its tables. A row without cells begins a table whose rows are the columns."""
+    lib.SHOWN.clear()
+    sys.argv = [part, *words.split(), program]
+    getattr(processes if hasattr(processes, part) else loops, part)()
     found, heads, group = {}, [], None
-    with concurrent.futures.ProcessPoolExecutor(1) as process:
-        shown_rows = process.submit(rows_of, part, words, program).result()
-    for title, cells in shown_rows:
+    for title, cells in lib.SHOWN:
         if not cells:
             group = found.setdefault(title, {})
         elif all(isinstance(it, str) for it in cells):

@@ -33,13 +33,11 @@ class Jobs:
         return self.command([self.program, '--workers', str(workers), jobs], stream)
 
     def per_item(self, stream):
-        """Nanoseconds for an item of a long range, without the start of the program: processor time of one worker and wall time of
-        four; and the most memory that a run held, in MB."""
+        """Nanoseconds for an item of a long range, without the start of the program: processor time of one worker, wall time of four."""
         if self.start is None:
             self.start = self.cost('range(0, 1).sum()', 1).processor, self.cost('range(0, 1).sum()', 4).wall
-        alone, four = (self.cost(f'range(0, {ITEMS}).{stream}', workers) for workers in (1, 4))
-        taken = alone.processor - self.start[0], four.wall - self.start[1]
-        return [*(max(it, 0.0) / ITEMS * 1e6 for it in taken), max(alone.memory, four.memory) / 1e6]
+        taken = self.cost(f'range(0, {ITEMS}).{stream}', 1).processor, self.cost(f'range(0, {ITEMS}).{stream}', 4).wall
+        return [max(it - start, 0.0) / ITEMS * 1e6 for it, start in zip(taken, self.start)]
 
     def command(self, command, stream):
         cost = least_of(self.turns, command)
@@ -53,13 +51,12 @@ def slices():
 
     bench/run slices [--turns N] [PROGRAM]
 
-    It prints nanoseconds per item on one worker (processor time) and on four (wall time), without the start of the program, and the
-    most memory that a run held, in MB.
+    It prints nanoseconds per item on one worker (processor time) and on four (wall time), without the start of the program.
     """
     options = options_of(slices.__doc__, turns=5)
     with tempfile.TemporaryDirectory() as folder:
         jobs = Jobs(options, folder)
-        row('ns per item', ['1 worker', '4 workers', 'MB'], 60)
+        row('ns per item', ['1 worker', '4 workers'], 60)
         for stream in SLICES:
             row(stream.replace(FILTER, 'filter').replace(MAP, 'map'), jobs.per_item(stream), 60)
 
