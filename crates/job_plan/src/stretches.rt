@@ -13,7 +13,7 @@ ghost use Rattle.prefix_walks.specs.Pieces.{elements};
 ghost use Rattle.prefix_walks.specs.Spans.{IsNotAfter};
 ghost use Rattle.job_plan.specs.Stretches.{IsDecided, IsWalked};
 
-use crate::looking::{LeavingSink, Looking, StartBrand, STRETCH};
+use crate::looking::{LeavingSink, Looking, STRETCH, StartBrand};
 use crate::source::Source;
 use batch_eval::{BatchSink, Pipeline, Registers};
 use early_stop::Stop;
