@@ -58,7 +58,7 @@ fault_decides plans job segment from to f low h =
     let high = h.high in
     let fold = fold_of h.piece f h.caught.fault in
     later_decides (gives_at chain segment) (walk_at chain segment) h.ends to high
-    (part_decides chain segment h.begins h.ends (part.Fold fold.0) h.ordered (omega arith) (ap is_fault fold.2) refl (subst (PartStands chain segment h.begins h.ends) fold.1 h.stands))
+    (part_decides chain segment h.begins h.ends (part.Fold fold.0) h.ordered (omega arith) (ap is_fault fold.2) (λ first. absurd (let z : false ≡ true = first in cc)) (subst (PartStands chain segment h.begins h.ends) fold.1 h.stands))
 
 -- ---- a fold of a walk that ends in a fault
 
