@@ -27,6 +27,8 @@ OPERATORS = {
     'floor_div_power': 'map(x -> Math.floorDiv(x, 8)).sum()',
     'floor_mod_power': 'map(x -> Math.floorMod(x, 8)).sum()',
 }
+# After eight outer items.
+LONG_INNER = 'flatMap(x -> range(0, 6250000)).sum()'
 COUNT_OF_LOOPS, ROUNDS, WORKERS = 50_000, 8, (1, 2, 4)
 
 
@@ -37,7 +39,7 @@ def operators():
 
     Of the program it is the processor time of one worker over 5 * 10^7 numbers and the wall time of four, without the start of the
     process, the least of N turns (5); of C the best of 40 runs over the numbers below 50,000 on one thread. It stops if the program
-    and the loop give different results over these numbers.
+    and the loop give different results over these numbers. The last rows are a flatMap over eight items, at two thresholds.
     """
     options = options_of(operators.__doc__, turns=5)
     with tempfile.TemporaryDirectory() as folder:
@@ -51,6 +53,8 @@ def operators():
                 sys.exit(f'{name}: {found} instead of {wanted}')
             shown = stream.replace(tasks.FIFTEEN, 'fifteen operators')
             row(shown, [*jobs.per_item(stream), int(nanos) / COUNT_OF_LOOPS if nanos else '-'], 60)
+        for threshold in ('1024', '1'):
+            row(f'threshold {threshold}', jobs.per_item(LONG_INNER, 'range(0, 8)', ['--threshold', threshold]), 60)
 
 
 def result_of(report):

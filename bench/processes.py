@@ -28,15 +28,15 @@ class Jobs:
     def __init__(self, options, folder):
         self.program, self.turns, self.folder, self.answers, self.start = options.program, options.turns, folder, {}, None
 
-    def cost(self, stream, workers):
+    def cost(self, stream, workers, *words):
         jobs = write(os.path.join(self.folder, 'one.jobs'), f'q = {stream}\n')
-        return self.command([self.program, '--workers', str(workers), jobs], stream)
+        return self.command([self.program, '--workers', str(workers), *words, jobs], stream)
 
-    def per_item(self, stream):
-        """Nanoseconds for an item of a long range, without the start of the program: processor time of one worker, wall time of four."""
+    def per_item(self, stream, source=f'range(0, {ITEMS})', words=()):
+        """Nanoseconds for an item of a long walk, without the start of the program: processor time of one worker, wall time of four."""
         if self.start is None:
             self.start = self.cost('range(0, 1).sum()', 1).processor, self.cost('range(0, 1).sum()', 4).wall
-        taken = self.cost(f'range(0, {ITEMS}).{stream}', 1).processor, self.cost(f'range(0, {ITEMS}).{stream}', 4).wall
+        taken = self.cost(f'{source}.{stream}', 1, *words).processor, self.cost(f'{source}.{stream}', 4, *words).wall
         return [max(it - start, 0.0) / ITEMS * 1e6 for it, start in zip(taken, self.start)]
 
     def command(self, command, stream):

@@ -59,11 +59,12 @@ def scatter():
     """Times one run of the program over a table beside runs over its parts: by processes, by a Dask cluster of four processes on this
     machine, and by a cluster whose worker is killed in the middle. Each has to write the same bytes.
 
-    bench/run scatter [--rows N] [--parts N] [PROGRAM]
+    bench/run scatter [--rows N] [--parts N] [--merger PATH] [PROGRAM]
 
     N: 10000000 rows, 8 parts. It wants a C compiler, and Debian's python3-distributed.
     """
-    options = options_of(scatter.__doc__, rows=10 ** 7, parts=8)
+    merger = os.path.join(TOP, 'crates', 'streamrun_merge', 'out', 'streamrun_merge')
+    options = options_of(scatter.__doc__, rows=10 ** 7, parts=8, merger=merger)
     # (another Python, which has the package, may have to begin again)
     sys.argv.insert(1, 'scatter')
     distributed = distributed_or_debian()
@@ -75,7 +76,7 @@ def scatter():
         print(f'{options.rows} rows, {os.path.getsize(table)} bytes, {options.parts} parts, {os.cpu_count()} processors')
         wanted = timed('one run', [options.program, '--columns', table, jobs])
         by_parts = [os.path.join(TOP, 'tools', 'scatter'), 'run', '--parts', str(options.parts), '--program', options.program,
-                    '--columns', table, jobs]
+                    '--merger', options.merger, '--columns', table, jobs]
         got = [timed('parts by processes', by_parts)]
         cluster = distributed.LocalCluster(n_workers=WORKERS, threads_per_worker=1, dashboard_address=':0')
         with cluster, distributed.Client(cluster) as client:

@@ -13,14 +13,16 @@ from page_text import pages_of, targets_of
 from repository import read, write as write_text
 
 PROCESSORS = ('x86-64-v2', 'x86-64-v3')
+PROGRAMS = ('streamrun', 'streamrun-merge')
+PLACES = [(processor, program) for processor in PROCESSORS for program in PROGRAMS]
 # What a reader gets, besides all that the pages link to.
 DOCUMENTS = ('README.md', 'CHANGELOG.md', 'VERSION', 'docs', 'examples', 'editors')
 TOOLS = ('tools/explain', 'tools/scatter', 'tools/scatter_lib')
 PYTHON = ('python/streamrun', 'python/streamrun_language')
-# The start of the tarball's program. A package for Debian chooses once, when it is installed.
+# The start of a program of the tarball. A package for Debian chooses once, when it is installed.
 START = """#!/bin/sh
-lib=$(readlink -f "$0") && lib=${lib%/*/*}/lib
-exec "$lib/$("$lib/processor")/streamrun" "$@"
+lib=$(readlink -f "$0") && lib=${{lib%/*/*}}/lib
+exec "$lib/$("$lib/processor")/{}" "$@"
 """
 ABOUT = """ A job is a pipeline as in Java's LongStream: a source, maps, filters, folds.
  The report has one line per job: its answer, or its first fault. It is byte for
@@ -39,7 +41,9 @@ License: none-yet
 CONFIGURE = """#!/bin/sh
 set -e
 if [ "$1" = configure ]; then
-    ln -sfn "$(/usr/lib/streamrun/processor)/streamrun" /usr/lib/streamrun/streamrun
+    for program in streamrun streamrun-merge; do
+        ln -sfn "$(/usr/lib/streamrun/processor)/$program" "/usr/lib/streamrun/$program"
+    done
     if command -v py3compile > /dev/null; then py3compile -p {name}; fi
 fi
 """
@@ -121,9 +125,9 @@ def shell_files(top, share):
 def programs(build, library):
     """The programs without their tables of symbols, and what says which one a machine runs."""
     copy(os.path.join(build.top, 'scripts', 'processor'), os.path.join(library, 'processor'), True)
-    for processor, path in build.programs.items():
-        target = os.path.join(library, processor, 'streamrun')
-        os.makedirs(os.path.dirname(target))
+    for at, path in build.programs.items():
+        target = os.path.join(library, *at)
+        os.makedirs(os.path.dirname(target), exist_ok=True)
         subprocess.run(['strip', '-o', target, path], check=True)
         os.chmod(target, 0o755)
 
@@ -131,7 +135,8 @@ def programs(build, library):
 def tarball_tree(build, folder):
     """The files of the tarball: the repository's for readers, with programs in bin, lib and share."""
     programs(build, os.path.join(folder, 'lib'))
-    write(os.path.join(folder, 'bin', 'streamrun'), START, True)
+    for program in PROGRAMS:
+        write(os.path.join(folder, 'bin', program), START.format(program), True)
     shell_files(build.top, os.path.join(folder, 'share'))
     copy_documents(build.top, folder, True)
     copy_all(build.top, (*TOOLS, 'python'), folder)
@@ -146,9 +151,10 @@ def debian_tree(build, folder):
     usr = os.path.join(folder, 'usr')
     share, pages = os.path.join(usr, 'share'), os.path.join(usr, 'share', 'doc', build.name)
     programs(build, os.path.join(usr, 'lib', 'streamrun'))
-    os.symlink('x86-64-v2/streamrun', os.path.join(usr, 'lib', 'streamrun', 'streamrun'))
     os.makedirs(os.path.join(usr, 'bin'))
-    os.symlink('../lib/streamrun/streamrun', os.path.join(usr, 'bin', 'streamrun'))
+    for program in PROGRAMS:
+        os.symlink(f'x86-64-v2/{program}', os.path.join(usr, 'lib', 'streamrun', program))
+        os.symlink(f'../lib/streamrun/{program}', os.path.join(usr, 'bin', program))
     shell_files(build.top, share)
     os.rename(os.path.join(share, 'zsh', 'site-functions'), os.path.join(share, 'zsh', 'vendor-completions'))
     for page in files_below(os.path.join(share, 'man')):

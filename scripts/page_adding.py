@@ -21,7 +21,7 @@ APART = {
     'floorMod': (r'dispatch\.rt|power|Power|reciprocal|Reciprocal', 'For the speed of divisions by numbers alone'),
 }
 # Each column of a list, with the folders whose files it names.
-FOLDERS = {'src': ('src',), 'specs': ('specs',), 'proofs': ('proofs',), 'wrong bodies': ('must-fail', 'wrong-bodies')}
+FOLDERS = {'src': ('src',), 'specs': ('specs',), 'proofs': ('proofs',), 'wrong bodies': ('wrong-bodies',)}
 ELSEWHERE = ('editors', 'python/streamrun_language', 'scripts', 'tests')
 
 

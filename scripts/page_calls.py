@@ -86,12 +86,12 @@ def below_of(top):
 
 
 def called(top):
-    """Public calls of the libraries that neither the program nor a test makes, directly or through others, as far as names say."""
+    """Public calls of the libraries that neither a program nor a test makes, directly or through others, as far as names say."""
     functions, names = functions_of(top)
     below, of_name = below_of(top), {}
     for it in functions:
         of_name.setdefault(it.name, []).append(it)
-    reached = {it for it in functions if it.is_test or (it.crate, it.name) == ('streamrun', 'main')}
+    reached = {it for it in functions if it.is_test or it.name == 'main'}
     waiting = list(reached)
     while waiting:
         caller = waiting.pop()
@@ -134,7 +134,7 @@ def lacking(top, word, tests, commands):
 
 
 def lacking_in(top, title, nothing, is_there=lambda word: False):
-    """Rows of a table of promises.md without a word in backquotes, and such words that aren't there or aren't run."""
+    """Rows of a table of promises.md without a word in backquotes, and words in backquotes that aren't there or aren't run."""
     tests, commands = tests_of(top), read(os.path.join(top, '.ci', 'run')).split()
     for promise, cell in rows_of(section(top, title)):
         words = TICKED.findall(cell)
@@ -155,5 +155,5 @@ def refused(top):
     """Rows of the table of wrong bodies that name no edit and no test, or one that isn't there."""
     def is_edit(word):
         crate, _, edit = word.partition('/')
-        return any(os.path.exists(os.path.join(top, 'crates', crate, folder, f'{edit}.edit')) for folder in BUDGET.FOLDERS_OF_EDITS)
+        return os.path.exists(os.path.join(top, 'crates', crate, BUDGET.FOLDER_OF_EDITS, f'{edit}.edit'))
     yield from lacking_in(top, 'Wrong bodies that are refused', 'nothing refuses:', is_edit)

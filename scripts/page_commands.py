@@ -2,7 +2,7 @@
 
 A block that begins with ```console has commands, each after '$ ' (it goes on in the next line after a backslash, and
 while a quote is open), and after each the lines that it prints. A command runs in a folder that has examples/, reference/ and what else the
-repository has, with the program on PATH as `streamrun`. It has to end with status 0 and to print just these lines,
+repository has, with the program on PATH as `streamrun`, and `streamrun-merge` from beside it or from its crate. It has to end with status 0 and to print just these lines,
 standard error among them. Commands of one page share the folder, so a later one may read what an earlier one wrote.
 Answers in the text are run too, all answers of a page as one file over examples/accounts.csv: `JOB` is `ANSWER`, or is a
 number, and `NAME = JOB` gives `NAME = ANSWER`. The recipes are run over random tables too (page_recipes.py).
@@ -129,6 +129,9 @@ def folder_for(top, work, program):
         if not name.startswith('.git'):
             os.symlink(os.path.join(top, name), os.path.join(folder, name))
     os.symlink(program, os.path.join(programs, 'streamrun'))
+    merger = os.path.join(os.path.dirname(program), 'streamrun-merge')
+    built = os.path.join(top, 'crates', 'streamrun_merge', 'out', 'streamrun_merge')
+    os.symlink(merger if os.path.exists(merger) else built, os.path.join(programs, 'streamrun-merge'))
     python = os.path.join(programs, 'python3')
     with open(python, 'w', encoding='utf-8') as file:
         file.write(f'#!/bin/sh\nexec {page_python()} -B "$@"\n')

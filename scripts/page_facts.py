@@ -85,9 +85,12 @@ def floors(top):
 
 
 def type_names(top):
-    """Public types, traits and constants that stand in two crates, exported or not."""
-    found = {}
+    """Public types, traits and constants that stand in two crates, exported or not, and names of a crate that another one gives out."""
+    found, crates = {}, crates_of(top)
     for crate, path in sources_of(top):
+        for other in re.findall(r'^ *pub use (\w+)', read(path), re.M):
+            if other in crates:
+                yield f'{crate} gives out names of {other}'
         for word in re.findall(r'^ *pub (?:struct|enum|trait|type|const) (\w+)', read(path), re.M):
             if found.setdefault(word, crate) != crate:
                 yield f'{word} is a public name of {found[word]} and of {crate}'
@@ -130,8 +133,7 @@ def ends_of_paths(top):
 def is_there(top, known, path):
     """Whether a path is one of the repository, or names a wrong body by its crate."""
     crate, _, edit = path.partition('/')
-    folders = [os.path.join(top, 'crates', crate, kind, edit + '.edit') for kind in ('must-fail', 'wrong-bodies')]
-    return path in known or any(map(os.path.exists, folders))
+    return path in known or os.path.exists(os.path.join(top, 'crates', crate, 'wrong-bodies', edit + '.edit'))
 
 
 def missing_paths(top):

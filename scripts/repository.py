@@ -46,6 +46,11 @@ def toolchain():
     return importlib.import_module('rtlib')
 
 
+def built_crates():
+    """Each crate as the toolchain's module knows it, after those that it stands on. (Copies below .git are none.)"""
+    return toolchain().crates_below(os.path.join(TOP, 'crates'))
+
+
 def parser_of(page):
     """A parser of the command line that the page at the head of a script describes."""
     return argparse.ArgumentParser(description=page, usage=argparse.SUPPRESS, formatter_class=argparse.RawDescriptionHelpFormatter)

@@ -32,7 +32,9 @@ def small():
 def example(name, end='report'):
     """An example with its report, or with `json` its report as JSON, or with `fault` its refusal."""
     path = os.path.join(TOP, 'examples', name)
-    columns = read(path + '.csv') if os.path.exists(path + '.csv') else None
+    # (TABLE.QUESTION is over TABLE.csv)
+    table = next((it for it in (path, path.rpartition('.')[0]) if os.path.exists(it + '.csv')), None)
+    columns = read(table + '.csv') if table else None
     said = read(f'{path}.{end}')
     out, err, status = (b'', said, 1) if end == 'fault' else (said, b'', 0)
     return Case(f'{name}.{end}', read(path + '.jobs'), columns, ['--json'] if end == 'json' else [], out, err, status)

@@ -33,7 +33,7 @@ class Site:
         self.about = self.refused.about
 
     def token(self, by: int = 0) -> Optional[Token]:
-        """The token at the place, or so many tokens after it."""
+        """The token at the place, or the one `by` tokens after it."""
         return self.tokens[self.index + by] if 0 <= self.index + by < len(self.tokens) else None
 
     def word(self, by: int = 0) -> str:

@@ -231,7 +231,7 @@ class JobReader(Reader):
         return Call(name.text, name.start, self.last_end(), numbers, argument)
 
     def numbers_before(self, count: int) -> List[Numeral]:
-        """So many numbers before an argument, each with a comma after it, or none."""
+        """`count` numbers before an argument, each with a comma after it, or none."""
         first = self.number_before_comma() if count else None
         found = [] if first is None else [first]
         while found and len(found) < count:

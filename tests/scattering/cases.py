@@ -1,5 +1,5 @@
-"""Refusals, lines and commands of tools/scatter with what they have to say. Each is worked out by hand from the rules of
-docs/beyond-one-machine.md and docs/job-language.md."""
+"""Refusals, lines and commands of tools/scatter and streamrun-merge with what they have to say. Each is worked out by hand from
+the rules of docs/beyond-one-machine.md and docs/job-language.md."""
 import os
 import sys
 import tempfile
@@ -19,14 +19,11 @@ UNMERGEABLE = [
     ('s = column("b")\n  .dropWhile(x -> x < 9).count()', '1: s isn\'t mergeable: dropWhile(x -> x < 9) beside column("b")'),
     ('s = column("a").prefix(Long::sum).max()', '1: s isn\'t mergeable: prefix(Long::sum) beside column("a")'),
     ('s = column("a").reduce(0, Math::addExact)', '1: s isn\'t mergeable: reduce(0, Math::addExact) beside column("a")'),
-    ('version 2\nt = of(1).sum().onFault(7)\ns = column("a").sum().onFault(0)', '3: s isn\'t mergeable: onFault(0) beside column("a")'),
     ('s = column("a").prefix(1, 2, max).max()', '1: s isn\'t mergeable: prefix(1, 2, max) beside column("a")'),
     ('s = concat(range(0, 3), column("a")).sum()', '1: s isn\'t mergeable: concat with range(0, 3) beside column("a")'),
     ('s = concat(column("a"), column("b")).sum()', '1: s isn\'t mergeable: concat beside column("a")'),
-    ('p = column("a").toArray()\ns = concat(of(1), concat(result(p), of(2))).sum()',
-     '2: s isn\'t mergeable: concat with of(1) beside result(p)'),
-    ('p = column("a").toArray()\nq = result(p).map(x -> x).toArray()\ns = result(q).limit(1).sum()',
-     '3: s isn\'t mergeable: limit(1) beside result(q)'),
+    ('p = column("a").toArray()\nq = column("b").toArray()\ns = concat(of(1), concat(result(p), result(q))).sum()',
+     '3: s isn\'t mergeable: concat with result(q) beside result(p)'),
     ('s = column("a").limit(3).sum()\nt = column("a").map(x -> x + $s).sum()\nu = column("a").skip(1).min()',
      '1: s isn\'t mergeable: limit(3) beside column("a")\nscatter: jobs: line 2: t isn\'t mergeable: it names s\n'
      'scatter: jobs: line 3: u isn\'t mergeable: skip(1) beside column("a")'),
@@ -72,26 +69,43 @@ MERGED = [
      's = true'),
     ('s = column("a").allMatch(x -> x > 5)', '2,2', ['[{"name":"s","truth":true}]', '[{"name":"s","truth":false}]'], 's = false'),
     ('s = column("a").noneMatch(x -> x > 5)', '2,2', ['[{"name":"s","truth":true}]'] * 2, 's = true'),
-    ('p = column("a").filter(x -> x > 1).toArray()\ns = result(p).map(x -> 1 / (x - 9)).sum()', '9,9',
-     ['[{"array":[5,6],"name":"p"},{"name":"s","number":0}]',
-      '[{"array":[7,9],"name":"p"},{"fault":"divide-by-zero","item":1,"name":"s","stage":1}]'],
-     'p = [5, 6, 7, 9]\ns = fault divide-by-zero stage 1 item 3'),
-    ('p = column("a").map(x -> 1 / x).toArray()\ns = result(p).sum()', '1,1',
-     ['[{"array":[1],"name":"p"},{"name":"s","number":1}]',
-      '[{"fault":"divide-by-zero","item":0,"name":"p","stage":1},{"name":"s","unusable":"p"}]'],
-     'p = fault divide-by-zero stage 1 item 1\ns = unusable p'),
     ('s = range(0, 9).limit(2).sum()', '5,5', ['[{"name":"s","number":1}]'] * 2, 's = 1'),
+    ('version 2\ns = column("a").sum().onFault(-1)', '2,2', ['[{"name":"s","number":1}]', '[{"fault":"divide-by-zero","item":0,"name":"s","stage":1}]'],
+     's = -1'),
+    ('version 2\nt = range(0, 0).min()\ns = column("a").map(x -> x + $t).sum().onFault(-1)', '2,2',
+     ['[{"name":"t","optional":null},{"name":"s","unusable":"t"}]'] * 2, 't = OptionalLong.empty\ns = unusable t'),
+    ('s = column("one, two").count()\nt = column("").max()', '1', ['[{"name":"s","number":1},{"name":"t","optional":7}]'],
+     's = 1\nt = OptionalLong[7]'),
+    ('# none', '1,2', ['[]'] * 2, ''),
 ]
 
-# Job file, rows, reports, status, and a word of the line.
+# Job file, rows, reports, status, and what the line says after 'streamrun-merge: ', where JOBS and LAST are the job file and the
+# last report.
+SUM, ONE = 's = column("a").sum()', '[{"name":"s","number":1}]'
 NOT_MERGED = [
-    ('s = column("a").sum()', '1', ['[{"name":"s","number":1}]'] * 2, 2, '2 reports want 2 numbers'),
-    ('s = column("a").sum()', '1,x', ['[{"name":"s","number":1}]'] * 2, 2, '2 reports want 2 numbers'),
-    ('s = column("a").sum()', '1,1', ['[{"name":"s","number":1}]', '[{"name":"t","number":1}]'], 1, 'other jobs'),
-    ('s = column("a").sum()', '1,1', ['[{"name":"s","number":1}]', '[{"name":"s","optional":1}]'], 1, 'another kind'),
-    ('s = column("a").sum()', '1,1', ['[{"name":"s","number":1}]', '[{"name":"s","number":1}'], 1, 'no report'),
-    ('s = column("a").sum()', '1,1', ['[{"name":"s","number":1}]', 's = 1'], 1, 'no report'),
-    ('s = of(1).sum()', '1,1', ['[{"name":"s","number":1}]', '[{"name":"s","number":2}]'], 1, 'different answers'),
+    (SUM, '1', [ONE] * 2, 1, 'LAST: no number of rows'),
+    (SUM, '1,2,3', [ONE] * 2, 1, 'more numbers of rows than reports'),
+    (SUM, '1,x', [ONE] * 2, 2, '--rows: no number: x'),
+    (SUM, '1,-1', [ONE] * 2, 2, '--rows: no number: -1'),
+    (SUM, '4611686018427387904,1', [ONE] * 2, 1, 'more rows than a table has'),
+    (SUM, '1,1', [ONE, '[{"name":"t","number":1}]'], 1, 'LAST: no answer of s at its place'),
+    (SUM, '1,1', [ONE, '[]'], 1, 'LAST: no answer of s at its place'),
+    (SUM, '1,1', [ONE, '[{"name":"s","number":1},{"name":"t","number":1}]'], 1, 'LAST: more answers than jobs'),
+    (SUM, '1,1', [ONE, '[{"name":"s","optional":1}]'], 1, 'LAST: s can\'t have this answer'),
+    (SUM, '1,1', [ONE, '[{"fault":"divide-by-zero","item":1,"name":"s","stage":1}]'], 1, 'LAST: s can\'t have this answer'),
+    *((SUM, '1,1', [ONE, report], 1, 'LAST: no report of streamrun --json') for report in (
+        '', 's = 1', '[{"name":"s","number":1}', '[{"name": "s","number":1}]', '[{"number":1,"name":"s"}]', '[{"name":"s","number":1.0}]',
+        '[{"name":"s","number":9223372036854775808}]', '[{"name":"s","number":01}]', '[{"name":"s","number":1,"optional":2}]',
+        '[{"fault":"overrun","item":0,"name":"s","stage":1}]', '[{"fault":"overflow","name":"s","stage":1}]', '[{"name":"s","unusable":"t"}]',
+        '[{"name":"s"}]', '{}', '[1]', '[{"name":"s","number":1}]\n', '[{"array":[1, 2],"name":"s"}]', '[{"name":"\\u0073","number":1}]')),
+    ('s = column("a").limit(2).sum()', '1', [ONE], 1, 'JOBS: s can\'t be merged: a stage over a column that isn\'t map, filter or flatMap'),
+    ('s = concat(of(1), column("a")).sum()', '1', [ONE], 1, 'JOBS: s can\'t be merged: concat with a column'),
+    ('s = column("a").reduce(0, Math::addExact)', '1', [ONE], 1, 'JOBS: s can\'t be merged: an exact sum of a column'),
+    (SUM + '\nt = of(1).map(x -> x + $s).sum()', '1', [ONE], 1, 'JOBS: t can\'t be merged: it names a job over a column'),
+    ('s = column("a").toArray()\nt = result(s).sum()', '1', [ONE], 1, 'JOBS: t can\'t be merged: it names a job over a column'),
+    ('\n# c\ns = column("a").sum', '1', [ONE], 1, 'JOBS: line 3 is refused; streamrun says why'),
+    ('.sum()', '1', [ONE], 1, 'JOBS: line 1 is refused; streamrun says why'),
+    ('\n'.join(f's{at} = column("{at}").sum()' for at in range(257)), '1', [ONE], 1, 'JOBS: more columns than a table has'),
 ]
 
 PLAN = '''total = column("a").sum()
@@ -102,8 +116,8 @@ any = column("a").anyMatch(x -> x > 5)
 '''
 PLANNED = '''total: round 1: sums added, wrapped to 64 bits
 near: round 2: arrays joined
-inner: round 2: the greatest
-same: round 3: the same in every part
+inner: round 3: over the array of near
+same: round 4: on the whole
 any: round 1: the first part that decides or faults
 '''
 
@@ -128,17 +142,19 @@ def refusals(test, folder):
 
 def merges(test, folder):
     for text, rows, reports, report in MERGED:
-        got = merge_of(folder, text, rows, reports)
-        test.expect(text, got == (report.encode() + b'\n', b'', 0), got)
-    for text, rows, reports, status, word in NOT_MERGED:
-        got = merge_of(folder, text, rows, reports)
-        test.expect(f'{text} {reports}', got[2] == status and word in lines_of(got) and not got[0], got)
+        _, _, got = merge_of(test, folder, text, rows, reports)
+        test.expect(text, got == (report.encode() + b'\n' * bool(report), b'', 0), got)
+    for text, rows, reports, status, line in NOT_MERGED:
+        jobs, last, got = merge_of(test, folder, text, rows, reports)
+        wanted = f'streamrun-merge: {line}\n'.replace('JOBS', jobs).replace('LAST', last)
+        test.expect(f'{text} {reports}', got == (b'', wanted.encode(), status), got)
 
 
-def merge_of(folder, text, rows, reports):
+def merge_of(test, folder, text, rows, reports):
+    """The job file, the last report, and what the merge gives."""
     jobs = write(folder, 'jobs', text.encode())
     paths = [write(folder, f'{number}.json', report.encode() + b'\n') for number, report in enumerate(reports)]
-    return run('merge', '--rows', rows, jobs, *paths)
+    return jobs, paths[-1], one_run(test.merger, '--rows', rows, jobs, *paths)
 
 
 def real(*arguments, **more):
@@ -150,7 +166,7 @@ def processes(test, folder):
     """Files that aren't there, programs that aren't or that die, and the command line itself."""
     columns, jobs = write(folder, 'table.csv', TABLE), write(folder, 'jobs', b's = column("a").sum()\n')
     other = write(folder, 'other.csv', b'a,c\n1,2\n')
-    begin = ['run', '--parts', 2, '--program', test.program, '--columns']
+    begin = ['run', '--parts', 2, '--program', test.program, '--merger', test.merger, '--columns']
     parts = os.path.join(folder, 'parts')
     test.expect('cut', real('cut', '--parts', 3, columns, parts) == (b'2,1,1\n', b'', 0), os.listdir(parts))
     for name, arguments, status, line in [
@@ -163,7 +179,9 @@ def processes(test, folder):
             ('no program', ['run', '--program', '/none', '--columns', columns, jobs], 4, 'scatter: no program /none'),
             ('another program', ['run', '--program', '/bin/true', '--columns', columns, jobs], 4, 'scatter: /bin/true is no streamrun'),
             ('a folder with parts', ['cut', '--parts', 2, columns, parts], 1, f'scatter: {parts} has a part of another cut, part-3.csv'),
-            ('no such round', ['jobs', '--round', 2, jobs], 2, 'scatter: there is no round 2: this job file has 1'),
+            ('no merger', ['run', '--program', test.program, '--merger', '/none', '--columns', columns, jobs], 4, 'scatter: no program /none'),
+            ('rounds by hand', ['jobs', write(folder, 'rounds', b's = column("a").sum()\nt = of(1).map(x -> x + $s).sum()\n')], 1,
+             'scatter: jobs: line 2: t names a job of the table; scatter run takes it in round 2'),
             ('no job at all', ['plan', write(folder, 'bad', b'x\n')], 1,
              'scatter: jobs: line 1: this is no job; streamrun says why')]:
         got = real(*arguments)
@@ -176,6 +194,22 @@ def processes(test, folder):
     test.expect('a full disk', got == (b'', b'scatter: write failed after 0 bytes\n', 4), got)
     got = real('plan', write(folder, 'plan', PLAN.encode()))
     test.expect('plan', got == (PLANNED.encode(), b'', 0), got)
+    report = write(folder, 'report', f'{ONE}\n'.encode())
+    with open('/dev/full', 'wb') as full:
+        for name, words, status, line, more in [
+                ('no job file to merge', ['/none', report], 4, 'cannot open /none', {}),
+                ('no report', [jobs, '/none'], 4, 'cannot open /none', {}),
+                ('a folder as a report', [jobs, folder], 4, f'{folder}: read failed', {}),
+                ('a merge to a full disk', [jobs, report], 4, 'write failed after 0 bytes', {'stdout': full}),
+                ('a name that is no text', [jobs, b'\xff'], 2, 'an argument is no text', {})]:
+            got = one_run(test.merger, '--rows', '1', *words, **more)
+            test.expect(name, got == (b'', f'streamrun-merge: {line}\n'.encode(), status), got)
+    for words in ([], [jobs, report], ['--rows', '1', jobs], ['--rows']):
+        got = one_run(test.merger, *words)
+        test.expect(f'streamrun-merge {words}', got[2] == 2 and not got[0] and got[1], got)
+    for word in ('--help', '-h'):
+        got = one_run(test.merger, word)
+        test.expect(f'streamrun-merge {word}', got[0].startswith(b'streamrun-merge ') and got[1:] == (b'', 0), got)
 
 
 def dying(test, folder):
@@ -186,14 +220,14 @@ def dying(test, folder):
     always = write(folder, 'always', b'#!/bin/sh\nkill -9 $$\n')
     for path in (once, always):
         os.chmod(path, 0o755)
-    got = run('run', '--parts', 3, '--program', once, '--columns', columns, jobs)
+    got = run('run', '--parts', 3, '--program', once, '--merger', test.merger, '--columns', columns, jobs)
     test.expect('a program that is killed once', got == (b's = 3\n', b'', 0) and os.path.isdir(mark), got)
     got = run('run', '--parts', 3, '--program', always, '--columns', columns, jobs)
     test.expect('a program that is killed each time', got[2] == 3 and b'part 1 of 1: ended by signal 9' in got[1], got)
     with open(columns, 'rb') as table:
-        got = real('run', '--parts', 3, '--program', test.program, '--columns', '/dev/stdin', jobs, stdin=table)
+        got = real('run', '--parts', 3, '--program', test.program, '--merger', test.merger, '--columns', '/dev/stdin', jobs, stdin=table)
     test.expect('a table from standard input', got == (b's = 3\n', b'', 0), got)
-    piped = f'cat {columns} | {sys.executable} {TOOL} run --parts 3 --program {test.program} --columns /dev/stdin {jobs}'
+    piped = f'cat {columns} | {sys.executable} {TOOL} run --parts 3 --program {test.program} --merger {test.merger} --columns /dev/stdin {jobs}'
     got = one_run('sh', '-c', piped)
     test.expect('a table from a pipe', got == (b's = 3\n', b'', 0), got)
 

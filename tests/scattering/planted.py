@@ -1,34 +1,22 @@
 """Mistakes that are put into the tool, one after another: random files have to show each. Files that show no mistake are
-worth nothing."""
+worth nothing. What a merge may get wrong the prover refuses (`report_merge`)."""
 from unittest import mock
 
-from streamrun_language import operators
-
-from scatter_lib import merging, plan, running, tables
+from scatter_lib import jobs, plan, running, tables
 
 from . import by_parts
 
 MOST_FILES = 1000
 
 
-def in_another_order(merge):
+def in_another_order(merged):
     """Merges the parts in the order in which they happen to be ready: the last one first."""
-    return lambda self, number, answers, found, rows: merge(self, number, answers, found[::-1], rows[::-1])
+    return lambda program, form, text, rows, reports: merged(program, form, text, rows[::-1], reports[::-1])
 
 
-def without_the_answers_before(members):
-    """Lets each part take its own number for the number of the whole."""
-    def jobs_of_all_rounds(self, number, answers):
-        return members(self, number, answers)[0], set()
-    return jobs_of_all_rounds
-
-
-def with_identity_of_empty_parts(folded):
-    """Takes 0 for what a part without items gives."""
-    return lambda job, values: folded(job, [0 if value is None and job.operator else value for value in values])
-
-
-true_decides = merging.decides
+def with_equal_rows(merged):
+    """Takes all parts for equally long."""
+    return lambda program, form, text, rows, reports: merged(program, form, text, [sum(rows) // len(rows)] * len(rows), reports)
 
 
 def at_bytes(cuts):
@@ -42,15 +30,10 @@ def at_bytes(cuts):
 
 # (what, where, its name, what it becomes)
 MISTAKES = [
-    ('parts merged out of order', plan.Plan, 'merge', in_another_order(plan.Plan.merge)),
-    ('an item that isn\'t moved', merging, 'moved', lambda answer, before: answer),
-    ('a sum that isn\'t wrapped', operators, 'wrap', lambda number: number),
-    ('items moved by the values that went in, and not by the array\'s', plan, 'items_before',
-     lambda job, found, rows: merging.starts(rows)),
-    ('a match that no part decides', merging, 'decides', lambda job, answer: job.kind == 'optional' and true_decides(job, answer)),
-    ('each part with its own number', plan.Plan, 'members', without_the_answers_before(plan.Plan.members)),
-    ('0 for what no item gives', merging, 'folded', with_identity_of_empty_parts(merging.folded)),
-    ('a value that isn\'t counted', merging, 'length_of', lambda array: array.count(b',')),
+    ('parts merged out of order', running, 'merged', in_another_order(running.merged)),
+    ('rows that aren\'t counted', running, 'merged', with_equal_rows(running.merged)),
+    ('each part with its own number', plan, 'given', lambda job, record, is_json: job.written()),
+    ('a number instead of a fault in a part', jobs.Job, 'written', lambda job, array, is_of_part, true=jobs.Job.written: true(job, array)),
     ('a table cut anywhere', tables, 'cuts', at_bytes(tables.cuts)),
 ]
 # This mistake shows over tables that are refused.

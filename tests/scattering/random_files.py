@@ -67,7 +67,7 @@ class PartsWriter(Writer):
                 self.cut_arrays[name] = self.cells_of(parts)
         elif 'Match' not in parts[-1]:
             self.numbers.append(name)
-            if kind == 'other' and self.version == 2:
+            if self.version == 2 and (kind == 'other' or self.often(0.3)):
                 parts.append(f'onFault({self.number()})')
         return f'{name} = {self.spell(parts)}'
 

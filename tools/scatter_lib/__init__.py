@@ -2,8 +2,7 @@
 
     jobs        job files, as far as a merge has to know them
     plan        which jobs can be made of parts, in which round, and the job file of a round
-    reports     reports as JSON, and reports as text
-    merging     the answer over a table of the answers over its parts
+    records     reports in the records of their jobs
     tables      where a table may be cut, and how many rows its parts have
     running     the rounds of a run, and its refusals
     processes   parts on processes of this machine

@@ -7,10 +7,8 @@ import tempfile
 
 from . import tables
 from .jobs import NotRead, read_jobs
-from .merging import Disagreement
 from .plan import Plan, Unmergeable, described
 from .processes import NoProgram, Processes
-from .reports import NotAReport, read_report, write_report
 from .running import Ended, Run, demand_mergeable
 
 EPILOG = 'What can be made of parts, and by which rule: docs/beyond-one-machine.md. The exit statuses are as with streamrun.'
@@ -26,15 +24,11 @@ def options_of(arguments):
         return found
     add_run(command('run', 'Runs a job file over a table in parts, and writes the report of the whole.'))
     plan = command('plan', 'Says of each job whether it can be made of parts; status 1 if one of them can\'t.')
-    add_round(command('jobs', 'Writes the job file that each part runs.'))
-    merge = command('merge', 'Writes the report of the whole, of the reports of the parts.')
-    add_round(merge)
+    jobs = command('jobs', 'Writes the job file that each part runs, for streamrun-merge.')
     cut = command('cut', 'Cuts a table into files, and prints how many rows each has.')
     rows = command('rows', 'Prints how many rows each file of a table has.')
     plan.add_argument('jobs', metavar='JOBS')
-    merge.add_argument('--rows', metavar='N,N,..', required=True, help='how many rows each part has, as cut and rows print it')
-    merge.add_argument('--json', action='store_true', help='write the report as JSON')
-    merge.add_argument('reports', metavar='REPORT', nargs='+', help='what streamrun --json wrote, in the order of the parts')
+    jobs.add_argument('jobs', metavar='JOBS')
     cut.add_argument('--parts', type=positive, required=True, metavar='N', help='into how many parts')
     cut.add_argument('columns', metavar='FILE')
     cut.add_argument('folder', metavar='FOLDER', help='where the parts go, part-1.csv and so on; it is made if need be')
@@ -49,14 +43,9 @@ def add_run(run):
     run.add_argument('--columns', metavar='FILE', nargs='+', required=True, help='a table to cut, or several that are its parts')
     run.add_argument('--json', action='store_true', help='write the report as JSON')
     run.add_argument('--program', default='streamrun', metavar='PATH', help='the program (streamrun), for a worker its own')
+    run.add_argument('--merger', default='streamrun-merge', metavar='PATH', help='the program that merges (streamrun-merge)')
     run.add_argument('--workers', type=positive, metavar='N', help='how many threads a part has')
     run.add_argument('jobs', metavar='JOBS', nargs='?')
-
-
-def add_round(command):
-    command.add_argument('--round', type=positive, default=1, metavar='R', help='which round (1)')
-    command.add_argument('--answers', metavar='FILE', help='what merge wrote of the round before')
-    command.add_argument('jobs', metavar='JOBS')
 
 
 def positive(text):
@@ -85,7 +74,7 @@ def plan_of(path):
     return Plan(read_jobs(opened('jobs', path, read)))
 
 
-# The commands. Each gives the bytes for standard output, and merge a line for standard error too.
+# The commands. Each gives the bytes for standard output.
 
 def plan_command(options):
     plan = plan_of(options.jobs)
@@ -95,44 +84,14 @@ def plan_command(options):
     return b''
 
 
-def round_of(options):
-    """The plan and the answers before the round."""
+def jobs_command(options):
     plan = plan_of(options.jobs)
     plan.demand_mergeable()
-    if options.round > plan.rounds:
-        raise Ended(f'scatter: there is no round {options.round}: this job file has {plan.rounds}', 2)
-    if (options.round > 1) != bool(options.answers):
-        raise Ended('scatter: --answers belongs to each round after the first', 2)
-    answers = report_at(options.answers) if options.answers else {}
-    if list(answers) != [name for name, it in plan.jobs.items() if it.round < options.round]:
-        raise Ended(f'scatter: {options.answers}: not the answers of the rounds before', 1)
-    return plan, answers
-
-
-def report_at(path):
-    try:
-        return read_report(read(path))
-    except NotAReport:
-        raise Ended(f'scatter: {path}: no report of streamrun --json', 1) from None
-    except OSError as wrong:
-        raise Ended(f'scatter: {path}: {wrong.strerror}', 4) from None
-
-
-def jobs_command(options):
-    plan, answers = round_of(options)
-    return plan.job_file(options.round, answers)
-
-
-def merge_command(options):
-    plan, answers = round_of(options)
-    rows = options.rows.split(',')
-    if not all(number.isdecimal() for number in rows) or len(rows) != len(options.reports):
-        raise Ended(f'scatter: {len(options.reports)} reports want {len(options.reports)} numbers of rows', 2)
-    reports = [report_at(path) for path in options.reports]
-    answers = plan.merge(options.round, answers, reports, [int(number) for number in rows])
-    if options.round < plan.rounds:
-        return write_report(answers, True), f'scatter: these are the answers of round {options.round} of {plan.rounds}'
-    return write_report(answers, options.json), ''
+    for it in plan.jobs.values():
+        if it.round > 1:
+            raise Ended(f'scatter: jobs: line {it.job.line}: {it.job.name} names a job of the table; scatter run takes it in round {it.round}', 1)
+    [together] = plan.runs(1, {}, False)
+    return together.part_jobs[1]
 
 
 def cut_command(options):
@@ -169,7 +128,7 @@ def run_command(options):
         at_once = min(options.parts or len(parts), len(parts), processors())
         threads = options.workers or max(1, processors() // at_once)
         runner = Processes(options.program, ['--workers', str(threads)], at_once)
-        return Run(jobs, header, parts, runner).report(options.json)
+        return Run(jobs, header, parts, runner, options.merger).report(options.json)
 
 
 def table_and_jobs(options, folder, count):
@@ -189,19 +148,17 @@ def processors():
     return len(os.sched_getaffinity(0))
 
 
-COMMANDS = {'run': run_command, 'plan': plan_command, 'jobs': jobs_command, 'merge': merge_command, 'cut': cut_command,
-            'rows': rows_command}
+COMMANDS = {'run': run_command, 'plan': plan_command, 'jobs': jobs_command, 'cut': cut_command, 'rows': rows_command}
 
 
 def outcome(arguments):
     """The bytes for standard output, the lines for standard error, and the status."""
     try:
         options = options_of(arguments)
-        found = COMMANDS[options.command](options)
-        return (*found, 0) if isinstance(found, tuple) else (found, '', 0)
+        return COMMANDS[options.command](options), '', 0
     except Ended as ended:
         return b'', ended.lines, ended.status
-    except (Unmergeable, NotRead, tables.OtherHeader, Disagreement) as refused:
+    except (Unmergeable, NotRead, tables.OtherHeader) as refused:
         return b'', '\n'.join(f'scatter: {line}' for line in str(refused).split('\n')), 1
     except NoProgram as missing:
         return b'', f'scatter: no program {missing}', 4

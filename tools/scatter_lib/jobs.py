@@ -5,7 +5,7 @@ It reads every file that streamrun accepts (docs/job-language.md), and many that
 is no concern of a merge.
 """
 from dataclasses import dataclass
-from typing import Dict, List, Optional
+from typing import List, Optional
 
 from streamrun_language.lines import read_lines
 from streamrun_language.operators import read_operator
@@ -13,24 +13,23 @@ from streamrun_language.refusals import Refused, RefusedFile
 from streamrun_language.syntax import JobReader
 from streamrun_language.tokens import Kind
 
-KINDS = {'sum': 'number', 'count': 'number', 'min': 'optional', 'max': 'optional', 'findFirst': 'optional',
-         'toArray': 'array', 'anyMatch': 'truth', 'allMatch': 'truth', 'noneMatch': 'truth'}
-FOLDS = {'sum': 'sum', 'count': 'sum', 'min': 'min', 'max': 'max'}
-
 
 @dataclass
 class Part:
-    """A source that is no concat, a stage, a terminal or a fallback. of: the column or the job that a source names."""
+    """A source that is no concat, a stage, a terminal or a fallback, and where it begins. of: the column or the job that a
+    source names; is_empty: whether it is written without values."""
 
     name: str
     text: str
+    start: int
     of: Optional[str] = None
+    is_empty: bool = False
 
 
 @dataclass
 class Job:
-    """A job. names: 'array' or 'number' for each job that it names, in order of writing. kind: the kind of its answer.
-    operator: the name of the one by which answers are folded, if by any. version: of its file."""
+    """A job. names: the jobs that it names, in order of writing. operator: the name of the one of `reduce`. version: of its
+    file."""
 
     name: str
     line: int
@@ -39,11 +38,22 @@ class Job:
     is_concat: bool
     stages: List[Part]
     terminal: Part
-    names: Dict[str, str]
-    kind: str
+    names: List[str]
     operator: Optional[str]
     fallback: Optional[Part]
     version: int
+
+    def written(self, array=None, is_of_part=False):
+        """Its text. array: a job whose array is a column of this name here. A source without values is a range: to
+        streamrun-merge `of()` would be a column. is_of_part: without onFault, if it is over a column."""
+        text = self.text
+        if is_of_part and self.fallback and self.sources[0].name == 'column':
+            text = text[:text.rindex('.', 0, self.fallback.start)]
+        for source in reversed(self.sources):
+            new = (f'column("{array}")' if source.name == 'result' and source.of == array else
+                   'range(0, 0)' if source.is_empty else source.text)
+            text = text[:source.start] + new + text[source.start + len(source.text):]
+        return text
 
 
 class NotRead(Exception):
@@ -76,26 +86,17 @@ def read_job(job_text, version):
     syntax, text = JobReader(job_text.text, version).job(), job_text.text.decode('latin-1')
 
     def part(it):
-        return Part(it.name, text[it.start:it.end])
+        return Part(it.name, text[it.start:it.end], it.start)
     plain = syntax.source.plain()
-    kind, operator = kind_of(syntax.terminal)
+    operator = read_operator(syntax.terminal.argument).name if syntax.terminal.name == 'reduce' else None
     return Job(syntax.name.text, job_text.line, text,
-               [Part(it.name, text[it.start:it.end], it.word_text() if it.word else None) for it in plain],
+               [Part(it.name, text[it.start:it.end], it.start, it.word_text() if it.word else None,
+                     it.name in ('of', 'empty') and not it.numbers) for it in plain],
                syntax.source.name == 'concat', [part(it) for it in syntax.stages], part(syntax.terminal),
-               names_of(plain, syntax.tokens), kind, operator, part(syntax.fallback) if syntax.fallback else None, version)
+               names_of(plain, syntax.tokens), operator, part(syntax.fallback) if syntax.fallback else None, version)
 
 
 def names_of(sources, tokens):
     """The jobs that a job names: arrays as sources come first, then numbers in lambdas."""
-    names = {source.word_text(): 'array' for source in sources if source.name == 'result'}
-    for token in tokens:
-        if token.kind is Kind.REFERENCE:
-            names.setdefault(token.text[1:], 'number')
-    return names
-
-
-def kind_of(terminal):
-    """The kind of an answer, and the operator by which answers are folded, if by any."""
-    if terminal.name != 'reduce':
-        return KINDS[terminal.name], FOLDS.get(terminal.name)
-    return 'number' if terminal.numbers else 'optional', read_operator(terminal.argument).name
+    names = [source.word_text() for source in sources if source.name == 'result']
+    return list(dict.fromkeys(names + [token.text[1:] for token in tokens if token.kind is Kind.REFERENCE]))

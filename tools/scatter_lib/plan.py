@@ -1,24 +1,27 @@
-"""Which jobs of a file can be answered over a table in parts, and in which round.
+"""Which jobs of a file can be answered over a table in parts, and in which run.
 
-A job is cut if its source is a column, or an array of a cut job: each part then walks its own items, and the answers are
-merged. Every other job reads no part and has the same answer in each.
-
-A job that names the number of a cut job needs the number of the whole, so it runs in a later round. The job file of a
-round has the jobs of that round. For a number of an earlier round that these name, a job stands there that gives it; the
-job of an array that these name runs again, in each part.
+A job over a column is cut: each part walks its own rows, and streamrun-merge merges the answers. A job that names a job of
+the table, by $NAME or result(NAME), needs the answer over the whole, so it runs in the round after: with `NAME = of(N).sum()`
+for a number, and for an array over a table that has it as its column. A job that does neither gives one answer in every part.
 """
 from collections import namedtuple
 
 from streamrun_language.operators import EXACT
 
-from .merging import Disagreement, items_before, merged, same_in_all
-from .reports import Answer
+from .records import array_in, number_in
 
 STAGES_OF_ITEMS = {'map', 'filter', 'flatMap'}
 SHOWN = 60
+# Jobs that give no number and no array, instead of one with a fault.
+NO_NUMBER, NO_ARRAY = '{} = range(0, 0).min()', '{} = of(0).map(x -> 1 / x).toArray()'
 
-# refusal: the text of the call for which a job can't be made of parts, with what it stands beside; None if it can.
-Planned = namedtuple('Planned', 'job is_cut round refusal')
+# is_cut: whether the job is over a column. array: the job of the table whose array it is over, if it is over one. is_of_table:
+# whether it is cut, or names a job that is of the table. refusal: the text of the call for which it can't be made of parts,
+# with what it stands beside; None if it can.
+Planned = namedtuple('Planned', 'job is_cut array is_of_table round refusal')
+# Jobs that run together. names: their own; array: the job whose array is their table, or None; is_cut: whether they run over
+# the parts, and are merged; part_jobs and jobs: the job files of the parts and of the merge, each with the names in it.
+Together = namedtuple('Together', 'names array is_cut part_jobs jobs')
 
 
 class Unmergeable(Exception):
@@ -32,39 +35,30 @@ def shown(text):
     return text if len(text) <= SHOWN else f'{text[:SHOWN]}..'
 
 
-def refusal_of(job, cut_sources, planned):
+def refusal_of(job, columns, arrays, planned):
     """Why a job can't be made of parts, or None."""
     for name in job.names:
         if planned[name].refusal:
             return f'it names {name}'
-    if not cut_sources:
-        return None
-    beside = shown(cut_sources[0].text)
+    others = [source for source in job.sources if source not in columns]
+    if not columns:
+        other = next((source for source in arrays if source.of != arrays[0].of), None)
+        return other and f'concat with {shown(other.text)} beside {shown(arrays[0].text)}'
+    beside = shown(columns[0].text)
     if job.is_concat:
-        others = [source for source in job.sources if source not in cut_sources]
-        what = f' with {shown(others[0].text)}' if others else ''
-        return f'concat{what} beside {beside}'
+        return f'concat with {shown(others[0].text)} beside {beside}' if others else f'concat beside {beside}'
     for stage in job.stages:
         if stage.name not in STAGES_OF_ITEMS:
             return f'{shown(stage.text)} beside {beside}'
-    if job.operator == EXACT.name:
-        return f'{shown(job.terminal.text)} beside {beside}'
-    if job.fallback:
-        return f'{shown(job.fallback.text)} beside {beside}'
-    return None
+    return f'{shown(job.terminal.text)} beside {beside}' if job.operator == EXACT.name else None
 
 
 def planned_job(job, planned):
-    def is_cut(source):
-        return source.name == 'column' or source.name == 'result' and planned[source.of].is_cut
-    cut_sources = [source for source in job.sources if is_cut(source)]
-    number = max([1, *(planned[name].round + (form == 'number' and planned[name].is_cut) for name, form in job.names.items())])
-    return Planned(job, bool(cut_sources), number, refusal_of(job, cut_sources, planned))
-
-
-def is_bad(answer):
-    """Whether a job that names a job with this answer can't be run."""
-    return answer.kind in ('fault', 'unusable') or answer == ('optional', None)
+    columns = [source for source in job.sources if source.name == 'column']
+    arrays = [source for source in job.sources if source.name == 'result' and planned[source.of].is_of_table]
+    before = [planned[name].round for name in job.names if planned[name].is_of_table]
+    return Planned(job, bool(columns), arrays[0].of if arrays else None, bool(columns or before), 1 + max(before, default=0),
+                   refusal_of(job, columns, arrays, planned))
 
 
 class Plan:
@@ -81,70 +75,38 @@ class Plan:
         if refused:
             raise Unmergeable(refused)
 
-    def unusable(self, job, answers):
-        """The answer of a job that can't be run, as far as the answers say so; else None."""
-        for name in job.names:
-            if name in answers and is_bad(answers[name]):
-                return Answer('unusable', name)
-        return None
-
-    def asked(self, number, answers):
-        """The jobs of a round that may have a value, as far as the answers of the rounds before say so."""
-        known, found = dict(answers), []
+    def runs(self, number, records, is_json):
+        """What runs in a round, after the records of the rounds before. The first round is over the parts, so that a bad table is
+        refused."""
+        groups = {None: []} if number == 1 else {}
         for name, it in self.jobs.items():
             if it.round == number:
-                answer = self.unusable(it.job, known)
-                if answer:
-                    known[name] = answer
-                else:
-                    found.append(it.job)
-        return found
+                has_array = it.array and array_in(records[it.array], is_json) is not None
+                groups.setdefault(it.array if has_array else None, []).append(name)
+        for array, names in groups.items():
+            files = [self.job_file(names, array, records, is_json, is_of_parts) for is_of_parts in (True, False)]
+            yield Together(names, array, number == 1 or any(self.jobs[name].is_cut for name in names), *files)
 
-    def members(self, number, answers):
-        """The names of the jobs in the job file of a round, and which of them only give a number."""
-        asked = self.asked(number, answers)
-        members, given, waiting = {job.name for job in asked}, set(), list(asked)
+    def job_file(self, names, array, records, is_json, is_of_parts):
+        """The names in the job file of these jobs, and its bytes."""
+        lines, waiting = {}, list(names)
         while waiting:
-            for name, form in waiting.pop().names.items():
-                if name in members or name in given:
-                    continue
-                if self.jobs[name].round < number and form == 'number':
-                    given.add(name)
-                else:
-                    members.add(name)
-                    waiting.append(self.jobs[name].job)
-        return [name for name in self.jobs if name in members or name in given], given
+            name = waiting.pop()
+            it = self.jobs[name]
+            if name in records and it.is_of_table:
+                lines[name] = given(it.job, records[name], is_json)
+            elif name not in lines:
+                lines[name] = it.job.written(array, is_of_parts)
+                waiting += [other for other in it.job.names if other != array]
+        ordered = [name for name in self.jobs if name in lines]
+        version = ['version 2'] if any(it.job.version == 2 for it in self.jobs.values()) else []
+        return ordered, ''.join(line + '\n' for line in version + [lines[name] for name in ordered]).encode('latin-1')
 
-    def job_file(self, number, answers):
-        """The job file of a round, after the answers of the rounds before it."""
-        names, given = self.members(number, answers)
-        lines = ['version 2'] if any(it.job.version == 2 for it in self.jobs.values()) else []
-        lines += [f'{name} = of({answers[name].value}).sum()' if name in given else self.jobs[name].job.text for name in names]
-        return ''.join(line + '\n' for line in lines).encode('latin-1')
 
-    def needs_parts(self, number, answers):
-        """Whether the jobs of a round read the table. The first round always does, so that a bad table is refused."""
-        names, given = self.members(number, answers)
-        return number == 1 or any(self.jobs[name].is_cut for name in names if name not in given)
-
-    def merge(self, number, answers, reports, rows):
-        """The answers up to a round, of the answers before it and of the reports of the parts, in the order of
-        the file. rows: how many rows each part has."""
-        names = self.members(number, answers)[0]
-        for report in reports:
-            if list(report) != names:
-                raise Disagreement(f'a report of other jobs than round {number} has')
-        found = dict(answers)
-        for name, it in self.jobs.items():
-            if it.round == number:
-                found[name] = self.unusable(it.job, found) or self.merged_job(it, reports, rows)
-        return {name: found[name] for name in self.jobs if name in found}
-
-    def merged_job(self, planned, reports, rows):
-        job, given = planned.job, [report[planned.job.name] for report in reports]
-        if not planned.is_cut:
-            return same_in_all(job, given)
-        return merged(job, given, items_before(job, reports, rows))
+def given(job, record, is_json):
+    """The text of a job that gives what the record of another one gives."""
+    value = number_in(record, is_json)
+    return f'{job.name} = of({value}).sum()' if value else (NO_ARRAY if job.terminal.name == 'toArray' else NO_NUMBER).format(job.name)
 
 
 def described(it):
@@ -152,7 +114,8 @@ def described(it):
     if it.refusal:
         return f'no: {it.refusal}'
     if not it.is_cut:
-        return f'round {it.round}: the same in every part'
+        over = f'over the array of {it.array}' if it.array else 'on the whole'
+        return f'round {it.round}: {over if it.is_of_table else "the same in every part"}'
     name = it.job.terminal.name
     rule = {'toArray': 'arrays joined', 'findFirst': 'the first part that finds or faults', 'count': 'counts added',
             'sum': 'sums added, wrapped to 64 bits', 'min': 'the least', 'max': 'the greatest',

@@ -21,7 +21,7 @@ def outcome_of(program, options, jobs, pieces):
         with open(jobs_path, 'wb') as file:
             file.write(jobs)
         with tempfile.TemporaryFile(dir=folder) as out, tempfile.TemporaryFile(dir=folder) as err:
-            command = [program, '--json', *options, '--columns', '/dev/stdin', jobs_path]
+            command = [program, *options, '--columns', '/dev/stdin', jobs_path]
             try:
                 running = subprocess.Popen(command, stdin=subprocess.PIPE, stdout=out, stderr=err)
             except OSError:
@@ -48,24 +48,24 @@ class Processes:
     def __init__(self, program, options, at_once):
         self.program, self.options, self.at_once, self.is_stopped = program, options, at_once, False
 
-    def outcome(self, jobs, part):
+    def outcome(self, form, jobs, part):
         """What comes of a part. A run that a signal ends is tried again."""
         for tried in range(MOST_TRIES):
-            found = outcome_of(self.program, self.options, jobs, pieces_of(part))
+            found = outcome_of(self.program, [*self.options, *form], jobs, pieces_of(part))
             if found[0] is None:
                 raise NoProgram(self.program)
             if found[0] >= 0 or self.is_stopped:
                 break
         return found
 
-    def run_all(self, jobs, parts, step, is_failure):
-        """What comes of each part; None for parts that weren't begun since one before them failed."""
+    def run_all(self, form, jobs, parts, step, is_failure):
+        """What comes of each part, with the option of this form of the report; None for parts that weren't begun since one before them failed."""
         failures = [len(parts)]
 
         def run(index):
             if index > min(failures):
                 return None
-            found = self.outcome(jobs, parts[index])
+            found = self.outcome(form, jobs, parts[index])
             if is_failure(found):
                 failures.append(index)
             step()

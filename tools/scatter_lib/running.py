@@ -1,12 +1,15 @@
 """The rounds of a run over the parts of a table, and its refusals, in the order of one run: first the table, then the job
 file, both before a job runs; then the rounds."""
+import os
 import re
+import subprocess
 import sys
+import tempfile
 
 from .jobs import NotRead, read_jobs
-from .merging import Disagreement
 from .plan import Plan
-from .reports import NotAReport, read_report, write_report
+from .processes import NoProgram
+from .records import array_in, records_of, report_of
 from .tables import Part
 
 LINE_OF_JOBS = re.compile(rb'streamrun: jobs: line (\d+): .*\n')
@@ -61,21 +64,38 @@ def demand_mergeable(jobs):
     plan.demand_mergeable()
 
 
-class Run:
-    """A job file over the parts of a table. runner: Processes or Workers."""
+def merged(program, form, jobs, rows, reports):
+    """What the program of the merge writes of the parts' reports."""
+    with tempfile.TemporaryDirectory() as folder:
+        paths = [os.path.join(folder, name) for name in ('jobs', *map(str, range(1, len(reports) + 1)))]
+        for path, data in zip(paths, [jobs, *reports]):
+            with open(path, 'wb') as file:
+                file.write(data)
+        try:
+            ended = subprocess.run([program, *form, '--rows', ','.join(map(str, rows)), *paths], stdin=subprocess.DEVNULL, capture_output=True, check=False)
+        except OSError:
+            raise NoProgram(program) from None
+        if ended.returncode:
+            raise Ended(f'scatter: the parts\' reports: {ended.stderr.decode(errors="replace")}'.rstrip('\n'), 3)
+        return ended.stdout
 
-    def __init__(self, jobs, header, parts, runner, progress=None):
-        self.jobs, self.parts, self.runner = jobs, parts, runner
+
+class Run:
+    """A job file over the parts of a table. runner: Processes or Workers; merger: the program that merges reports."""
+
+    def __init__(self, jobs, header, parts, runner, merger, progress=None):
+        self.jobs, self.parts, self.runner, self.merger = jobs, parts, runner, merger
         self.header = Part(None, header, 0, 0, 0)
         self.progress = progress or Progress(sys.stderr)
 
-    def outcomes(self, jobs, parts, text, expected=None):
-        """What comes of each part, if none of them fails. expected: lines on standard error that are no failure."""
+    def outcomes(self, jobs, parts, text, form=(), expected=None):
+        """What comes of each part, if none of them fails. form: the option of the report's form; expected: lines on standard
+        error that are no failure."""
         def is_failure(outcome):
             return outcome[0] != 0 and not (expected and expected.fullmatch(outcome[2]))
         self.progress.begin(text, len(parts))
         try:
-            found = self.runner.run_all(jobs, parts, self.progress.step, is_failure)
+            found = self.runner.run_all(form, jobs, parts, self.progress.step, is_failure)
         finally:
             self.progress.end()
         before = 0
@@ -88,30 +108,40 @@ class Run:
     def demand_accepted(self):
         """Ends as one run would if it refuses the header, or the job file; a bad row then comes first."""
         probe, line = probe_of(self.jobs)
-        [(_, _, said)] = self.outcomes(probe, [self.header], 'job file', LINE_OF_JOBS)
+        [(_, _, said)] = self.outcomes(probe, [self.header], 'job file', expected=LINE_OF_JOBS)
         refused = LINE_OF_JOBS.fullmatch(said)
         if not refused:
             raise Ended(f'scatter: {self.runner.program} is no streamrun', 4)
         if int(refused[1]) < line:
-            self.outcomes(probe, self.parts, 'job file', LINE_OF_JOBS)
+            self.outcomes(probe, self.parts, 'job file', expected=LINE_OF_JOBS)
             raise Ended(said.decode().rstrip('\n'), 1)
 
-    def answers(self):
-        """The answers of the whole table."""
-        self.demand_accepted()
-        plan, answers = Plan(read_jobs(self.jobs)), {}
-        for number in range(1, plan.rounds + 1):
-            parts = self.parts if plan.needs_parts(number, answers) else [self.header]
-            found = self.outcomes(plan.job_file(number, answers), parts, f'round {number} of {plan.rounds}')
-            try:
-                reports = [read_report(out) for _, out, _ in found]
-                answers = plan.merge(number, answers, reports, [part.rows for part in parts])
-            except (NotAReport, Disagreement) as wrong:
-                raise Ended(f'scatter: the reports of the parts aren\'t of round {number}: {wrong}', 3) from None
-        return answers
+    def report_together(self, together, records, form, text):
+        """The report of jobs that run together."""
+        jobs = together.jobs[1]
+        if together.is_cut:
+            found = self.outcomes(together.part_jobs[1], self.parts, text, ['--json'])
+            return merged(self.merger, form, jobs, [part.rows for part in self.parts], [out for _, out, _ in found])
+        table = self.header
+        if together.array:
+            numbers = array_in(records[together.array], bool(form))
+            table = Part(None, f'{together.array}\n'.encode() + numbers, 0, 0, numbers.count(b'\n'))
+        [(_, out, _)] = self.outcomes(jobs, [table], text, form)
+        return out
 
     def report(self, is_json):
-        return write_report(self.answers(), is_json)
+        """The report of the whole table. What was merged goes out as it is, if all jobs ran together."""
+        self.demand_accepted()
+        form = ['--json'] if is_json else []
+        plan, records = Plan(read_jobs(self.jobs)), {}
+        for number in range(1, plan.rounds + 1):
+            for together in list(plan.runs(number, records, is_json)):
+                report = self.report_together(together, records, form, f'round {number} of {plan.rounds}')
+                if len(together.names) == len(plan.jobs):
+                    return report
+                found = dict(zip(together.jobs[0], records_of(report, is_json)))
+                records.update((name, found[name]) for name in together.names)
+        return report_of([records[name] for name in plan.jobs], is_json)
 
 
 def ended_by(outcome, part, before):

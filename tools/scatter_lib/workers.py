@@ -75,10 +75,11 @@ class Workers:
             warnings.simplefilter('ignore')  # A part is large on purpose.
             return self.client.submit(lambda *given: function(*given), *arguments, pure=False, workers=worker)
 
-    def send_part(self, jobs, part):
+    def send_part(self, form, jobs, part):
+        options = [*self.options, *form]
         if isinstance(part, There):
-            return self.send(run_there, self.program, self.options, jobs, part.path, worker=[part.worker])
-        return self.send(run_sent, self.program, self.options, jobs, b''.join(pieces_of(part)))
+            return self.send(run_there, self.program, options, jobs, part.path, worker=[part.worker])
+        return self.send(run_sent, self.program, options, jobs, b''.join(pieces_of(part)))
 
     def result(self, future, part):
         """What a worker gave."""
@@ -99,8 +100,8 @@ class Workers:
             raise NoProgram(f'{self.program} at a worker')
         return None if found[0] < 0 and self.tries[number] < MOST_TRIES else found
 
-    def run_all(self, jobs, parts, step, is_failure):
-        """What comes of each part; None for parts that weren't sent since one before them failed."""
+    def run_all(self, form, jobs, parts, step, is_failure):
+        """What comes of each part, with the option of this form of the report; None for parts that weren't sent since one before them failed."""
         self.tries.clear()
         found, waiting, numbers, end = [None] * len(parts), list(range(len(parts))), {}, len(parts)
         results = self.distributed.as_completed(loop=self.client.loop)
@@ -108,7 +109,7 @@ class Workers:
             while waiting and len(numbers) < self.at_once():
                 at = waiting.pop(0)
                 if at < end:
-                    future = self.send_part(jobs, parts[at])
+                    future = self.send_part(form, jobs, parts[at])
                     numbers[future.key] = at
                     results.add(future)
             if not numbers:
@@ -142,7 +143,7 @@ def run_on_workers(options, folder):
         else:
             count = options.parts or max(1, sum(client.nthreads().values()))
             header, parts, jobs = table_and_jobs(options, folder, count)
-        return Run(jobs, header, parts, runner).report(options.json)
+        return Run(jobs, header, parts, runner, options.merger).report(options.json)
 
 
 def parts_there(runner, words):

@@ -1,5 +1,5 @@
 -- How a walk into a sink goes on with a batch.
-use Rattle.std.proofs.Common.{◌≡◌, ◌+◌, List, [], ◌∷◌, ◌++◌, ℕ, take, Result, Ok, Err, Some, refl, sym, ap, subst, ◌∙◌, append_assoc, add-one}
+use Rattle.std.proofs.Common.{◌≡◌, ◌+◌, List, [], ◌∷◌, ◌++◌, ℕ, take, Result, Ok, Err, Some, refl, sym, ap, subst, ◌∙◌, append_assoc, arith}
 use Rattle.std.proofs.lemmas.List.{append-nil, take_more}
 use Rattle.std.proofs.lemmas.Option.{slice_get_within, get_or_from_slice_get}
 use Rattle.std.specs.List.{slice_get}
@@ -49,7 +49,7 @@ module _ {S : Type 0} (h : S → List Item → Type 0) (xs : List Item) where
 
   -- the sink had enough after this one
   pub IsFed_enough : (t : Trace) (i : ℕ) (y : Item) (s : S) → slice_get t.items i ≡ Some y → h s ((xs ++ take i t.items) ++ y ∷ []) → IsFed h xs t (Ok fed.Enough) s
-  IsFed_enough t i y s here took = (i, slice_get_within t.items i y here, rw (← add-one) (one_taken t.items i y s here took))
+  IsFed_enough t i y s here took = (i + 1, omega (arith, slice_get_within t.items i y here), one_taken t.items i y s here took)
 
   -- the sink refused this one
   pub IsFed_refused : (t : Trace) (i : ℕ) (y : Item) (e : AllocError) (s : S) → slice_get t.items i ≡ Some y → h s (xs ++ take i t.items) → IsFed h xs t (Err e) s

@@ -16,7 +16,7 @@ use Rattle.batch_eval.proofs.Steps.{Reaches_same, Reaches_on}
 abbrev one_if : Bool → ℕ → List ℕ
 one_if b n = if b then n ∷ [] else []
 
--- a lane that is picked stands behind those before it
+-- a lane that is picked stands after those before it
 abbrev StandsAt : (ℕ → Bool) → ℕ → ℕ → Type 0
 StandsAt p i n = (length (picked p i) < length (picked p n)) × (get_or (picked p n) (length (picked p i)) 0 ≡ i)
 

@@ -24,7 +24,7 @@ kept_unset p i kept b is unset so_far =
     rw (more, append-nil) so_far
 
 module _ {A : Type 0} (p : ℕ → Bool) (source : ℕ → A) (column : List A) (kept i : ℕ) (v d : A) where
-  -- what stands in front, with what lane i has written behind it
+  -- what stands in front, and after it what lane i has written
   pub front_more : (b : Bool) → b ≡ p i → v ≡ source i → kept < length column → kept ≡ length (picked p i) → ((j : ℕ) → j < kept → get_or column j d ≡ source (get_or (picked p i) j 0)) → (j : ℕ) → j < length (picked p (i + 1)) → get_or (set column kept v) j d ≡ source (get_or (picked p (i + 1)) j 0)
   front_more true is here within so_far front j below =
       let xs = picked p i in
@@ -43,6 +43,6 @@ module _ {A : Type 0} (p : ℕ → Bool) (source : ℕ → A) (column : List A) 
       let inside : j < length xs = subst (λ (ys : List ℕ). j < length ys) same below in
       rw same (get_or-set_other column kept j v d (λ e. absurd (omega arith)) ∙ front j (omega arith))
 
-  -- what lies behind lane i
+  -- what lies after lane i
   pub rest_more : kept ≤ i → ((k : ℕ) → i ≤ k → get_or column k d ≡ source k) → (k : ℕ) → i + 1 ≤ k → get_or (set column kept v) k d ≡ source k
   rest_more behind rest k after = get_or-set_other column kept k v d (λ e. absurd (omega arith)) ∙ rest k (omega arith)

@@ -1,11 +1,11 @@
 pub mod BatchWalkLemmas
 pub mod ChoiceLemmas
 pub mod FewLemmas
-pub mod Flags
+pub mod FlagLemmas
 pub mod FlaggedLemmas
 pub mod Items
 pub mod KeptLaneLemmas
-pub mod OneValueLemmas
+pub mod MadeFlags
 pub mod PlaceLemmas
 pub mod PowerLemmas
 pub mod ReciprocalLemmas

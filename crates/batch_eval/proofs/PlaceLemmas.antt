@@ -33,7 +33,7 @@ placed_item items first p k v counts h =
     let place : h.0.origin ≡ first + p + k = counts.places (p + k) h.0 h.1 ∙ omega arith in
     h.1 ∙ ap Some (same_item h.0 (first + p + k) v place h.2)
 
--- that of a lane
+-- an item of a lane, whose place is counted up
 pub counted_item : (items : List Item) (first p k : ℕ) (origins : List ℕ) (values : List ℤ) → CountsFrom first items → HasValue items (p + k) (at values k) → slice_get items (p + k) ≡ Some (item_at (Some (first + p)) origins values k)
 counted_item items first p k origins values counts h = placed_item items first p k (at values k) counts h
 

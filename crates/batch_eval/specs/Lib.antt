@@ -1,8 +1,10 @@
 -- Condition: the files of this crate's definitions; the first line of each says what it is.
 pub mod Batches
-pub mod Bounds
 pub mod Choices
+pub mod InnerColumns
 pub mod Lanes
+pub mod MadeFlags
+pub mod NumberTests
 pub mod Pipelines
 pub mod Places
 pub mod Pours

@@ -1,10 +1,12 @@
 //! A batch of items in registers, and the stages over it.
 
-ghost use Rattle.batch_eval.specs.Batches.{CountsUp, StopsInside, counted_item, end_after, item_at, lanes, listed_items, origin_at};
+ghost use Rattle.batch_eval.specs.Batches.{CountsUp, StopsInside, counted_item, end_after, item_at, lanes};
+ghost use Rattle.batch_eval.specs.Batches.{listed_items, origin_at};
 ghost use Rattle.batch_eval.specs.Lanes.{at};
 ghost use Rattle.batch_eval.specs.Rooms.{Fits};
 ghost use Rattle.lambda_values.specs.Term.{long_of};
-ghost use Rattle.std.specs.Prelude.{◌≡◌, ◌+◌, ◌<◌, ◌≤◌, ◌^◌, List, [], ◌++◌, IfOk, IsTrue, None, Some, length, map, take};
+ghost use Rattle.std.specs.Prelude.{◌≡◌, ◌+◌, ◌<◌, ◌≤◌, ◌^◌, List, [], ◌++◌, IfOk, IsTrue, None, Some, length, map};
+ghost use Rattle.std.specs.Prelude.{take};
 ghost use Rattle.trace.specs.Stages.{of_item};
 ghost use Rattle.trace.specs.Stages.{map as abstract_map};
 ghost use Rattle.trace.specs.Cover.{placed};
@@ -109,7 +111,8 @@ impl Batch {
     /// `map` of `LongStream`: the image of each item, at the place of that item.
     pub(crate) fn map(&mut self, image: &LongExpr, line: Pipeline<'_>, room: &mut [i64])
         requires { Fits (long_of image.now) (length room.old) }
-        ensures { self.new ≡ each (of_item line.entry.first (abstract_map (long_of image.now)) line.entry.env.now) self.old.items self.old.ending }
+        ensures { self.new ≡ each (of_item line.entry.first (abstract_map (long_of image.now)) line.entry.env.now)
+            self.old.items self.old.ending }
     {
         let inputs = Inputs {
             env: line.env,
@@ -122,13 +125,6 @@ impl Batch {
         mem::swap(&mut self.values, &mut self.spare);
     }
 
-    /// No items; the walk ends as before.
-    pub(crate) fn drop_items(&mut self)
-        ensures { self.new ≡ trace [] self.old.ending }
-    {
-        self.live = 0;
-    }
-
     /// Starts again with the images of values that lie elsewhere.
     pub(crate) fn map_run(
         &mut self,
@@ -139,7 +135,8 @@ impl Batch {
     )
         requires lanes { length run.values.now ≤ 1024 }
         requires room { Fits (long_of image.now) (length room.old) }
-        ensures { self.new ≡ each (of_item line.entry.first (abstract_map (long_of image.now)) line.entry.env.now) (placed run.entry.origin run.entry.values.now) End.Done }
+        ensures { self.new ≡ each (of_item line.entry.first (abstract_map (long_of image.now)) line.entry.env.now)
+            (placed run.entry.origin run.entry.values.now) End.Done }
     {
         let live = run.values.len();
         let start = Some(run.origin);
@@ -154,8 +151,8 @@ impl Batch {
         self.start = start;
     }
 
-    /// Starts again with the images of numbers that count up, at places that do, if there are loops for it that read no register;
-    /// else answers false.
+    /// Starts again with the images of numbers that count up, at places that do, if there are loops for it that read no
+    /// register; else answers false.
     pub(crate) fn map_counted(
         &mut self,
         place: u64,
@@ -166,7 +163,9 @@ impl Batch {
     ) -> bool
         requires lanes { count ≤ 1024 }
         requires few { place ≤ 2 ^ 62 }
-        ensures { IsTrue result → self.new ≡ each (of_item line.entry.first (abstract_map (long_of image.now)) line.entry.env.now) (lanes count (counted_item place first)) End.Done }
+        ensures { IsTrue result → self.new ≡ each
+            (of_item line.entry.first (abstract_map (long_of image.now)) line.entry.env.now)
+            (lanes count (counted_item place first)) End.Done }
     {
         let live = count as usize;
         let Some(reached) = eval_counted(image, line.env, first, live, &mut self.values) else {
@@ -212,7 +211,8 @@ impl Batch {
         requires within { position + count ≤ length (I.items source.now) }
         requires bound { length (I.items source.now) < 2 ^ 64 }
         requires lanes { count ≤ 1024 }
-        ensures items { take (position + count) (I.items source.now) ≡ take position (I.items source.now) ++ self.new.items }
+        ensures items { take (position + count) (I.items source.now) ≡ take position (I.items source.now)
+            ++ self.new.items }
         ensures ending { self.new.ending ≡ End.Done }
     {
         match source.first_place() {
@@ -235,7 +235,8 @@ impl Batch {
         requires within { position + count ≤ length (I.items source.now) }
         requires bound { length (I.items source.now) < 2 ^ 64 }
         requires space { length self.old.items + count ≤ 1024 }
-        ensures items { (part : List Item) × (self.new.items ≡ self.old.items ++ part) × (take (position + count) (I.items source.now) ≡ take position (I.items source.now) ++ part) }
+        ensures items { (part : List Item) × (self.new.items ≡ self.old.items ++ part)
+            × (take (position + count) (I.items source.now) ≡ take position (I.items source.now) ++ part) }
         ensures ending { self.new.ending ≡ self.old.ending }
     {
         let count = count as usize;

@@ -22,7 +22,8 @@ pub(crate) fn by_operator<A: Lanes>(
     requires a { live ≤ A.count a }
     requires beside { HasBeside beside live }
     requires out { live ≤ length out.old }
-    ensures { Reaches (λ k. beside_value (binary_value operator) beside.entry (A.number a (at out.old k) k) k) (at out.new) live result }
+    ensures { Reaches (λ k. beside_value (binary_value operator) beside.entry (A.number a (at out.old k) k) k)
+        (at out.new) live result }
 {
     match operator {
         BinaryOperator::Add => by_kernel::<Add, A>(a, beside, live, out),

@@ -29,7 +29,8 @@ pub(crate) fn eval_chosen(
     requires xs { inputs.live ≤ length inputs.xs.now }
     requires out { inputs.live ≤ length out.old }
     requires room { FitsChosen (truth_of condition.now) a b (length room.old) }
-    ensures { Reaches (at_each inputs.entry (λ x env. chosen_value (truth_value (truth_of condition.now) x env) (operand_value a.entry x env) (operand_value b.entry x env))) (at out.new) inputs.entry.live result }
+    ensures { Reaches (at_each inputs.entry (λ x env. chosen_value (truth_value (truth_of condition.now) x env)
+        (operand_value a.entry x env) (operand_value b.entry x env))) (at out.new) inputs.entry.live result }
 {
     let (flags, rest) = room.split_at_mut(LANES);
     let tested = eval_bool(condition, inputs, flags, rest);
@@ -59,7 +60,8 @@ fn eval_parted(
     requires xs { inputs.live ≤ length inputs.xs.now }
     requires out { inputs.live ≤ length out.old }
     requires room { FitsParted a b (length room.old) }
-    ensures { Reaches (λ k. by_flag (at flags.now k) (at_each inputs.entry (operand_value a.entry) k) (at_each inputs.entry (operand_value b.entry) k)) (at out.new) inputs.entry.live result }
+    ensures { Reaches (λ k. by_flag (at flags.now k) (at_each inputs.entry (operand_value a.entry) k)
+        (at_each inputs.entry (operand_value b.entry) k)) (at out.new) inputs.entry.live result }
 {
     let (items, rest) = room.split_at_mut(LANES);
     let (ones, rest) = rest.split_at_mut(LANES);
@@ -112,7 +114,9 @@ fn eval_both(
     requires xs { inputs.live ≤ length inputs.xs.now }
     requires out { inputs.live ≤ length out.old }
     requires room { FitsParted a b (length room.old) }
-    ensures { IsTrue result → (k : ℕ) → k < inputs.entry.live → by_flag (at flags.now k) (at_each inputs.entry (operand_value a.entry) k) (at_each inputs.entry (operand_value b.entry) k) ≡ Ok (at out.new k) }
+    ensures { IsTrue result → (k : ℕ) → k < inputs.entry.live
+        → by_flag (at flags.now k) (at_each inputs.entry (operand_value a.entry) k)
+        (at_each inputs.entry (operand_value b.entry) k) ≡ Ok (at out.new k) }
 {
     if !is_cheap(a) || !is_cheap(b) {
         return false;

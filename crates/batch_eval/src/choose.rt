@@ -4,11 +4,15 @@
 ghost use Rattle.batch_eval.specs.Batches.{wanted, wants};
 ghost use Rattle.batch_eval.specs.Lanes.{Reaches, at, is_set as is_set_flag};
 ghost use Rattle.lambda_values.specs.declared.fault.FaultKind.{FaultKind};
-ghost use Rattle.std.specs.Prelude.{◌≡◌, ℕ, ℤ, ◌<◌, ◌≤◌, IsTrue, Result, false, length, slice_index, true, if◌then◌else◌};
+ghost use Rattle.std.specs.Prelude.{◌≡◌, ℕ, ℤ, ◌<◌, ◌≤◌, IsTrue, Result, false, length, slice_index, true};
+ghost use Rattle.std.specs.Prelude.{if◌then◌else◌};
 
+use crate::exact::lanes_pass;
 use crate::flag::is_set;
-use crate::lanes::Lanes;
+use crate::lanes::{Lanes, Register};
+use crate::number_test::NumberTest;
 use crate::reached::{Reached, all};
+use lambda_values::Comparison;
 
 /// Whether a flag is as it is wanted.
 fn is_wanted(flag: i64, kind: bool) -> bool
@@ -17,16 +21,13 @@ fn is_wanted(flag: i64, kind: bool) -> bool
     if kind { flag != 0 } else { flag == 0 }
 }
 
-/// Whether each flag is as it is wanted. There is no early end, so that the loop has no branch.
+/// Whether each flag is as it is wanted.
 pub(crate) fn all_flags(flags: &[i64], kind: bool, live: usize) -> bool
     requires { live ≤ length flags.now }
     ensures { IsTrue result → (k : ℕ) → k < live → is_set_flag (at flags.now k) ≡ kind }
 {
-    let mut same = true;
-    for i in 0..live {
-        same = same & (is_set(flags[i]) == kind);
-    }
-    same
+    let set = NumberTest::new(Comparison::NotEqual, 0);
+    lanes_pass(Register(flags), set, kind, live)
 }
 
 /// The numbers of the lanes whose flag is as it is wanted, one after the other, and how many they are.
@@ -69,8 +70,10 @@ pub(crate) fn merge(
     requires others { others.reached.live ≤ length others.values.now }
     requires out { live ≤ length out.old }
     ensures { (f : ℕ → Result ℤ FaultKind)
-        → Reaches (λ j. f (slice_index (wanted true flags.now live) j)) (at ones.entry.values.now) (length (wanted true flags.now live)) ones.entry.reached
-        → Reaches (λ j. f (slice_index (wanted false flags.now live) j)) (at others.entry.values.now) (length (wanted false flags.now live)) others.entry.reached
+        → Reaches (λ j. f (slice_index (wanted true flags.now live) j)) (at ones.entry.values.now)
+        (length (wanted true flags.now live)) ones.entry.reached
+        → Reaches (λ j. f (slice_index (wanted false flags.now live) j)) (at others.entry.values.now)
+        (length (wanted false flags.now live)) others.entry.reached
         → Reaches f (at out.new) live result }
 {
     let mut y = 0;
@@ -105,7 +108,8 @@ pub(crate) fn select<A: Lanes, B: Lanes>(flags: &[i64], a: A, b: B, live: usize,
     requires a { live ≤ A.count a }
     requires b { live ≤ B.count b }
     requires out { live ≤ length out.old }
-    ensures { (k : ℕ) → k < live → at out.new k ≡ (if is_set_flag (at flags.now k) then A.number a (at out.old k) k else B.number b (at out.old k) k) }
+    ensures { (k : ℕ) → k < live → at out.new k
+        ≡ (if is_set_flag (at flags.now k) then A.number a (at out.old k) k else B.number b (at out.old k) k) }
 {
     for i in 0..live {
         let old = out[i];

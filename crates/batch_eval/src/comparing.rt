@@ -22,7 +22,8 @@ pub(crate) fn by_comparison<A: Lanes>(
     requires a { live ≤ A.count a }
     requires beside { HasBeside beside live }
     requires out { live ≤ length out.old }
-    ensures { Reaches (λ k. beside_value (compared comparison) beside.entry (A.number a (at out.old k) k) k) (at out.new) live result }
+    ensures { Reaches (λ k. beside_value (compared comparison) beside.entry (A.number a (at out.old k) k) k)
+        (at out.new) live result }
 {
     match comparison {
         Comparison::Equal => by_kernel::<Equal, A>(a, beside, live, out),

@@ -10,7 +10,8 @@ use lambda_values::{Env, LongExpr, UnaryOperator};
 
 /// The number of an operator on a number, if it has no fault.
 fn applied(operator: UnaryOperator, operand: &LongExpr) -> Option<i64>
-    ensures { IfSome result (λ z. (x : ℤ) (env : Numbers) → on (long_value (long_of operand.now) x env) (λ v. unary_value operator v) ≡ Ok z) }
+    ensures { IfSome result (λ z. (x : ℤ) (env : Numbers)
+        → on (long_value (long_of operand.now) x env) (λ v. unary_value operator v) ≡ Ok z) }
 {
     match operand {
         LongExpr::Number(number) => match operator.apply(*number) {

@@ -17,8 +17,8 @@ use crate::reached::Reached;
 use crate::step::{last_step, no_step};
 use lambda_values::{BinaryOperator, Env, LongExpr};
 
-/// Puts the values of an expression over numbers that count up from this one into a register, up to the first fault. It is for
-/// a chain of operators by numbers. For other expressions the register isn't to be read.
+/// Puts the values of an expression over numbers that count up from this one into a register, up to the first fault. It
+/// is for a chain of operators by numbers. For other expressions the register isn't to be read.
 pub(crate) fn eval_counted(
     expr: &LongExpr,
     env: &Env,
@@ -28,7 +28,8 @@ pub(crate) fn eval_counted(
 ) -> Option<Reached>
     requires lanes { live ≤ 1024 }
     requires out { live ≤ length out.old }
-    ensures { IfSome result (λ reached. Reaches (λ k. long_value (long_of expr.now) (wrap (first +ℤ pos k)) env.now) (at out.new) live reached) }
+    ensures { IfSome result (λ reached. Reaches (λ k. long_value (long_of expr.now) (wrap (first +ℤ pos k)) env.now)
+        (at out.new) live reached) }
 {
     let LongExpr::Binary(operator, a, b) = expr else {
         return None;
@@ -59,7 +60,8 @@ fn by_counted(
 ) -> Option<Reached>
     requires lanes { live ≤ 1024 }
     requires out { live ≤ length out.old }
-    ensures { IfSome result (λ reached. Reaches (λ k. binary_value operator (step_value step (wrap (a.0 +ℤ pos k))) y) (at out.new) live reached) }
+    ensures { IfSome result (λ reached. Reaches (λ k. binary_value operator (step_value step (wrap (a.0 +ℤ pos k))) y)
+        (at out.new) live reached) }
 {
     let b = Number(y);
     Some(match operator {

@@ -1,7 +1,8 @@
 //! An operator over lanes: which of its loops is run. An operator has a loop for any operands, in `binary.rt`; here are
 //! the shorter ways if the right operand is a number.
 
-ghost use Rattle.batch_eval.specs.Lanes.{HasBeside, HasHeld, Reaches, at, beside_value, held_at, infix_value, step_value};
+ghost use Rattle.batch_eval.specs.Lanes.{HasBeside, HasHeld, Reaches, at, beside_value, held_at, infix_value};
+ghost use Rattle.batch_eval.specs.Lanes.{step_value};
 ghost use Rattle.batch_eval.specs.Powers.{power};
 ghost use Rattle.lambda_values.specs.Operators.{binary_value};
 ghost use Rattle.std.specs.Prelude.{◌≡◌, ◌≤◌, ◌≤ℤ◌, ℤ, length, pos};
@@ -55,7 +56,8 @@ pub(crate) fn by_infix(
     requires held { HasHeld held live }
     requires beside { HasBeside beside live }
     requires out { live ≤ length out.old }
-    ensures { Reaches (λ k. beside_value (infix_value op) beside.entry (held_at held.entry out.old k) k) (at out.new) live result }
+    ensures { Reaches (λ k. beside_value (infix_value op) beside.entry (held_at held.entry out.old k) k)
+        (at out.new) live result }
 {
     match held {
         Held::Out => by_infix_lanes::<Own>(op, Own, beside, live, out),
@@ -73,15 +75,12 @@ fn by_infix_lanes<A: Lanes>(
     requires a { live ≤ A.count a }
     requires beside { HasBeside beside live }
     requires out { live ≤ length out.old }
-    ensures { Reaches (λ k. beside_value (infix_value op) beside.entry (A.number a (at out.old k) k) k) (at out.new) live result }
+    ensures { Reaches (λ k. beside_value (infix_value op) beside.entry (A.number a (at out.old k) k) k)
+        (at out.new) live result }
 {
     match op {
         Infix::Compute(operator) => match beside {
-            Beside::Number(Step::Stay, y) => match exponent_of(y) {
-                Some(exponent) => by_power(operator, a, y, exponent, live, out),
-                None => by_any_number(operator, a, y, live, out),
-            },
-            Beside::Number(step, y) => by_step_and_number(operator, a, step, y, live, out),
+            Beside::Number(step, y) => by_number(operator, a, step, y, live, out),
             _ => by_operator(operator, a, beside, live, out),
         },
         Infix::Compare(comparison) => by_comparison(comparison, a, beside, live, out),
@@ -89,7 +88,7 @@ fn by_infix_lanes<A: Lanes>(
 }
 
 /// An operator between lanes after a step and a number.
-fn by_step_and_number<A: Lanes>(
+fn by_number<A: Lanes>(
     operator: BinaryOperator,
     a: A,
     step: Step,
@@ -99,78 +98,37 @@ fn by_step_and_number<A: Lanes>(
 ) -> Reached
     requires a { live ≤ A.count a }
     requires out { live ≤ length out.old }
-    ensures { Reaches (λ k. binary_value operator (step_value step (A.number a (at out.old k) k)) y) (at out.new) live result }
+    ensures { Reaches (λ k. binary_value operator (step_value step (A.number a (at out.old k) k)) y)
+        (at out.new) live result }
 {
     let beside = Beside::Number(step, y);
-    match operator {
-        BinaryOperator::Multiply if is_half(y) => {
+    match (operator, step) {
+        (BinaryOperator::Multiply, _) if is_half(y) => {
             by_kernel::<MultiplyByHalf, A>(a, beside, live, out)
         }
-        _ => by_operator(operator, a, beside, live, out),
-    }
-}
-
-/// An operator between lanes and a power of two, which has this exponent: a division by it needs none of the
-/// processor.
-fn by_power<A: Lanes>(
-    operator: BinaryOperator,
-    a: A,
-    y: i64,
-    exponent: i64,
-    live: usize,
-    out: &mut [i64],
-) -> Reached
-    requires power { y ≡ pos (power exponent) }
-    requires a { live ≤ A.count a }
-    requires out { live ≤ length out.old }
-    ensures { Reaches (λ k. binary_value operator (A.number a (at out.old k) k) y) (at out.new) live result }
-{
-    match operator {
-        BinaryOperator::Divide => run::<DivideByPower, A, Number>(a, Number(exponent), live, out),
-        BinaryOperator::Remainder => {
-            run::<RemainderByPower, A, Number>(a, Number(exponent), live, out)
+        (BinaryOperator::Divide, Step::Stay) => {
+            by_divisor::<DivideByPower, DivideByReciprocal, Divide, A>(a, y, live, out)
         }
-        BinaryOperator::FloorDivide => {
-            run::<FloorDivideByPower, A, Number>(a, Number(exponent), live, out)
+        (BinaryOperator::Remainder, Step::Stay) => {
+            by_divisor::<RemainderByPower, RemainderByReciprocal, Remainder, A>(a, y, live, out)
         }
-        BinaryOperator::FloorRemainder => {
-            run::<FloorRemainderByPower, A, Number>(a, Number(exponent), live, out)
+        (BinaryOperator::FloorDivide, Step::Stay) => {
+            by_divisor::<FloorDivideByPower, FloorDivideByReciprocal, FloorDivide, A>(
+                a, y, live, out,
+            )
         }
-        _ => by_any_number(operator, a, y, live, out),
-    }
-}
-
-fn by_any_number<A: Lanes>(
-    operator: BinaryOperator,
-    a: A,
-    y: i64,
-    live: usize,
-    out: &mut [i64],
-) -> Reached
-    requires a { live ≤ A.count a }
-    requires out { live ≤ length out.old }
-    ensures { Reaches (λ k. binary_value operator (A.number a (at out.old k) k) y) (at out.new) live result }
-{
-    match operator {
-        BinaryOperator::Divide => by_divisor::<DivideByReciprocal, Divide, A>(a, y, live, out),
-        BinaryOperator::Remainder => by_divisor::<RemainderByReciprocal, Remainder, A>(
-            a, y, live, out,
-        ),
-        BinaryOperator::FloorDivide => by_divisor::<FloorDivideByReciprocal, FloorDivide, A>(
-            a, y, live, out,
-        ),
-        BinaryOperator::FloorRemainder => by_divisor::<
-            FloorRemainderByReciprocal,
-            FloorRemainder,
-            A,
-        >(a, y, live, out),
-        BinaryOperator::AddExact => {
+        (BinaryOperator::FloorRemainder, Step::Stay) => {
+            by_divisor::<FloorRemainderByPower, FloorRemainderByReciprocal, FloorRemainder, A>(
+                a, y, live, out,
+            )
+        }
+        (BinaryOperator::AddExact, Step::Stay) => {
             by_exact_number::<AddExact, Add, A>(sums_within(y), a, y, live, out)
         }
-        BinaryOperator::SubtractExact => {
+        (BinaryOperator::SubtractExact, Step::Stay) => {
             by_exact_number::<SubtractExact, Subtract, A>(differences_within(y), a, y, live, out)
         }
-        _ => by_step_and_number(operator, a, Step::Stay, y, live, out),
+        _ => by_operator(operator, a, beside, live, out),
     }
 }
 
@@ -194,20 +152,25 @@ pub(crate) fn by_exact_number<K: Kernel, W: Kernel, A: Lanes>(
     }
 }
 
-/// A division of lanes by a number: by its short reciprocal if it has one and no operand needs more than 32 bits, else by its
-/// reciprocal if it has one, else as the processor divides. If no operand is below 0 either, nothing is done for signs.
+/// A division of lanes by a number: by its exponent if it is a power of two; by its short reciprocal if it has one and
+/// no operand needs more than 32 bits; by its reciprocal if it has one; else as the processor divides. If no operand is
+/// below 0 either, nothing is done for signs.
 #[tactic(auto, using(crate::proofs::ReciprocalLemmas::within_64, crate::proofs::ReciprocalLemmas::short_within, crate::proofs::ReciprocalLemmas::natural_within))]
-fn by_divisor<D: Division, K: Kernel, A: Lanes>(
+fn by_divisor<P: Kernel, D: Division, K: Kernel, A: Lanes>(
     a: A,
     y: i64,
     live: usize,
     out: &mut [i64],
 ) -> Reached
+    requires shifts { (x e : ℤ) → P.value x e ≡ K.value x (pos (power e)) }
     requires divides { (x : ℤ) → D.value x y ≡ K.value x y }
     requires a { live ≤ A.count a }
     requires out { live ≤ length out.old }
     ensures { Reaches (λ k. K.value (A.number a (at out.old k) k) y) (at out.new) live result }
 {
+    if let Some(exponent) = exponent_of(y) {
+        return run::<P, A, Number>(a, Number(exponent), live, out);
+    }
     if let Some(by) = short_reciprocal_of(y) {
         if lanes_within(a, NATURAL, live, out) {
             let naturals: Stepped<Natural, A> = Stepped {

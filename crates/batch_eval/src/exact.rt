@@ -1,10 +1,13 @@
-//! Whether operands are within bounds: those in which exact operators by a number can't overflow, and those of 32 bits.
+//! What is looked for in all lanes at once: bounds in which exact operators by a number can't overflow, those of 32
+//! bits, and what a test asks for.
 
 ghost use Rattle.batch_eval.specs.Lanes.{at};
+ghost use Rattle.lambda_values.specs.Operators.{comparison_value};
 ghost use Rattle.std.specs.Int.{w64};
-ghost use Rattle.std.specs.Prelude.{◌≤◌, ◌<◌, ℕ, ℤ, ◌+ℤ◌, ◌-ℤ◌, ◌≤ℤ◌, FitsSigned, IsTrue, length};
+ghost use Rattle.std.specs.Prelude.{◌≡◌, ◌≤◌, ◌<◌, ℕ, ℤ, pos, ◌+ℤ◌, ◌-ℤ◌, ◌≤ℤ◌, FitsSigned, IsTrue, length};
 
 use crate::lanes::Lanes;
+use crate::number_test::NumberTest;
 
 /// The integers from 0 that need no more than 32 bits.
 pub(crate) const NATURAL: (i64, i64) = (0, 2_147_483_647);
@@ -38,7 +41,8 @@ pub(crate) fn differences_within(y: i64) -> (i64, i64)
 pub(crate) fn lanes_within<A: Lanes>(a: A, bounds: (i64, i64), live: usize, out: &[i64]) -> bool
     requires a { live ≤ A.count a }
     requires out { live ≤ length out.now }
-    ensures { IsTrue result → (k : ℕ) → k < live → (bounds.0 ≤ℤ A.number a (at out.now k) k) × (A.number a (at out.now k) k ≤ℤ bounds.1) }
+    ensures { IsTrue result → (k : ℕ) → k < live
+        → (bounds.0 ≤ℤ A.number a (at out.now k) k) × (A.number a (at out.now k) k ≤ℤ bounds.1) }
 {
     let (least, greatest) = bounds;
     let mut within = true;
@@ -47,4 +51,18 @@ pub(crate) fn lanes_within<A: Lanes>(a: A, bounds: (i64, i64), live: usize, out:
         within = within & (least <= value) & (value <= greatest);
     }
     within
+}
+
+/// Whether a comparison with a number is as it is wanted at each of these lanes. There is no early end, so that the
+/// loop has no branch.
+pub(crate) fn lanes_pass<A: Lanes>(a: A, test: NumberTest, wanted: bool, live: usize) -> bool
+    requires { live ≤ A.count a }
+    ensures { IsTrue result → (k : ℕ) → k < live
+        → comparison_value test.comparison (A.number a (pos 0) k) test.number ≡ wanted }
+{
+    let mut same = true;
+    for i in 0..live {
+        same = same & (test.holds(a.get(i, 0)) == wanted);
+    }
+    same
 }

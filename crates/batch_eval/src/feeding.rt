@@ -138,8 +138,10 @@ fn feed_piece<I: BatchSource, S: BatchSink>(
     requires within { position + count ≤ length (I.items source.now) }
     requires bound { length (I.items source.now) < 2 ^ 64 }
     ensures fed { (xs : List Item)
-        → IsFed S.has_taken xs (piped line.entry (trace (take position (I.items source.now)) end.Done)) (Ok fed.More) sink.old
-        → IsFed S.has_taken xs (piped line.entry (trace (take (position + count) (I.items source.now)) end.Done)) result sink.new }
+        → IsFed S.has_taken xs (piped line.entry (trace (take position (I.items source.now)) end.Done))
+        (Ok fed.More) sink.old
+        → IsFed S.has_taken xs (piped line.entry (trace (take (position + count) (I.items source.now)) end.Done))
+        result sink.new }
     ensures flow { S.flow sink.new ≡ flow_after result }
     ensures refused { OnErr result S.takes_memory }
     ensures room { length space.new.room.items ≡ length space.old.room.items }
@@ -180,7 +182,8 @@ fn feed_listed<S: BatchSink>(
     requires room { FitsStages (stages_of line.stages.now) (length space.old.room.items) }
     requires lanes { length listed.values.now ≤ 1024 }
     ensures fed { (xs : List Item) → S.has_taken sink.old xs → IsFed S.has_taken xs
-        (piped line.entry (trace (listed_items listed.entry.places.now listed.entry.values.now) end.Done)) result sink.new }
+        (piped line.entry (trace (listed_items listed.entry.places.now listed.entry.values.now) end.Done))
+        result sink.new }
     ensures flow { S.flow sink.new ≡ flow_after result }
     ensures refused { OnErr result S.takes_memory }
     ensures room { length space.new.room.items ≡ length space.old.room.items }

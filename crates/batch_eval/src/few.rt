@@ -1,21 +1,24 @@
 //! The values of inner streams of few values each, put into a batch without a call for each item.
 
-ghost use Rattle.batch_eval.specs.Batches.{CountsUp, gathered, item_at, lanes, origin_at};
-ghost use Rattle.batch_eval.specs.Bounds.{HaveBounds, IsMore, given, values_at};
+ghost use Rattle.batch_eval.specs.Batches.{CountsUp, item_at, lanes, origin_at};
+ghost use Rattle.batch_eval.specs.InnerColumns.{ArePut, HaveOperands, IsMore, given, row};
 ghost use Rattle.batch_eval.specs.Lanes.{at};
 ghost use Rattle.lambda_values.specs.Earlier.{Numbers};
-ghost use Rattle.lambda_values.specs.Streams.{distance, inner_of, run_or_listed, through, up_from};
+ghost use Rattle.lambda_values.specs.Streams.{distance, inner_of, run_values, through, up_from};
 ghost use Rattle.lambda_values.specs.declared.fault.FaultKind.{FaultKind};
-ghost use Rattle.std.specs.Prelude.{◌≡◌, ◌+◌, ◌-◌, ◌<◌, ◌≤◌, ℕ, ℤ, List, Result, [], ◌∷◌, ◌++◌, Err, IfErr, IfOk, None, Ok, length};
-ghost use Rattle.trace.specs.Stages.{at_place, flat_map, of_item};
+ghost use Rattle.std.specs.Prelude.{◌≡◌, ◌+◌, ◌*◌, ◌-◌, ◌<◌, ◌≤◌, ℕ, ℤ, List, Result, ◌++◌, IfSome, None, Ok, length};
+ghost use Rattle.trace.specs.Stages.{flat_map, of_item};
 ghost use Rattle.trace.specs.declared.item.Item.{Item};
 
 use crate::batch::{Batch, origin_of};
-use crate::bounds::{Bounds, closed_range, range};
-use crate::listing::{list_items, list_places};
+use crate::columns::Columns;
+use crate::listing::{list_items, list_places, list_row};
 use crate::register::LANES;
-use lambda_values::{FaultKind, InnerExpr, Run};
-use trace::{InnerItems, SourceItems};
+use lambda_values::{InnerExpr, Run};
+use trace::InnerItems;
+
+/// The most values of a range; more are a fault.
+const MAX_VALUES: u64 = 1 << 62;
 
 /// How far values were put: of how many items, and the lane after the last value.
 #[derive(Clone, Copy)]
@@ -32,17 +35,19 @@ struct Places<'a> {
 }
 
 impl Batch {
-    /// Adds the values of the inner streams at the items of a batch, from a position on, up to the first item that has
-    /// no bounds, whose values have a fault, or for whose values there is no space. The result is the position of that
-    /// item.
-    pub(crate) fn add_few(&mut self, bounds: Bounds<'_>, batch: &Batch, position: u64) -> u64
+    /// Adds the values of the inner streams at the items of a batch, from a position on, up to the first item whose
+    /// operands are not there, whose values have a fault, or for whose values there is no space. The result is the
+    /// position of that item.
+    pub(crate) fn add_few(&mut self, columns: Columns<'_>, batch: &Batch, position: u64) -> u64
         requires position { position ≤ length batch.now.items }
-        requires froms { length bounds.froms.now ≤ length batch.now.items }
-        requires tos { length bounds.froms.now ≤ length bounds.tos.now }
+        requires lanes { columns.lanes ≤ length batch.now.items }
         ensures reached { position ≤ result }
         ensures within { result ≤ length batch.now.items }
-        ensures added { (stage : ℕ) (env : Numbers) → HaveBounds (inner_of bounds.entry.inner.now) env batch.now.items bounds.entry.froms.now bounds.entry.tos.now
-            → (part : List Item) × (self.new.items ≡ self.old.items ++ part) × IsMore (of_item stage (flat_map (inner_of bounds.entry.inner.now)) env) batch.now.items position result part }
+        ensures added { (stage : ℕ) (env : Numbers) → HaveOperands (inner_of columns.entry.inner.now)
+            env batch.now.items columns.entry.lanes columns.entry.registers.now
+            → (part : List Item) × (self.new.items ≡ self.old.items ++ part)
+            × IsMore (of_item stage (flat_map (inner_of columns.entry.inner.now)) env)
+            batch.now.items position result part }
     {
         list_places(self.start, self.live, &mut self.origins);
         self.start = None;
@@ -51,7 +56,7 @@ impl Batch {
             listed: &batch.origins,
         };
         let put = put_values(
-            bounds,
+            columns,
             places,
             position as usize,
             self.live,
@@ -63,123 +68,183 @@ impl Batch {
     }
 }
 
-/// How the values of an inner stream come from two numbers.
-trait FromTwo {
+/// How the values of a range come from its bounds.
+trait RangeKind {
     ghost values: { ℤ → ℤ → Result (List ℤ) FaultKind };
 
-    /// The integers in a row that come from two numbers; without them these two are the values.
-    fn run(from: i64, to: i64) -> Result<Option<Run>, FaultKind>
-        ensures ok { IfOk result (λ run. values from to ≡ Ok (run_or_listed run (from ∷ (to ∷ [])))) }
-        ensures fault { IfErr result (λ kind. values from to ≡ Err kind) };
+    /// The integers of the range, unless they are too many.
+    fn run(from: i64, to: i64) -> Option<Run>
+        ensures { IfSome result (λ run. values from to ≡ Ok (run_values run)) };
 }
 
-/// The values of `range`.
+/// `range`.
 struct Below;
 
-impl FromTwo for Below {
+impl RangeKind for Below {
     ghost values = { λ v w. up_from v (distance v w) };
 
-    fn run(from: i64, to: i64) -> Result<Option<Run>, FaultKind> {
-        Ok(Some(range(from, to)?))
+    fn run(from: i64, to: i64) -> Option<Run> {
+        let count = if from < to { to.abs_diff(from) } else { 0 };
+        if count > MAX_VALUES {
+            return None;
+        }
+        Some(Run { first: from, count })
     }
 }
 
-/// The values of `rangeClosed`.
+/// `rangeClosed`.
 struct Through;
 
-impl FromTwo for Through {
+impl RangeKind for Through {
     ghost values = { λ v w. up_from v (through v w) };
 
-    fn run(from: i64, to: i64) -> Result<Option<Run>, FaultKind> {
-        Ok(Some(closed_range(from, to)?))
+    fn run(from: i64, to: i64) -> Option<Run> {
+        if to < from {
+            return Some(Run {
+                first: from,
+                count: 0,
+            });
+        }
+        let gap = to.abs_diff(from);
+        if gap >= MAX_VALUES {
+            return None;
+        }
+        Some(Run {
+            first: from,
+            count: gap + 1,
+        })
     }
 }
 
-/// The two values of `of`.
-struct Both;
-
-impl FromTwo for Both {
-    ghost values = { λ v w. Ok (v ∷ (w ∷ [])) };
-
-    fn run(_from: i64, _to: i64) -> Result<Option<Run>, FaultKind> {
-        Ok(None)
-    }
-}
-
-/// Puts the values that come from the numbers at lanes, from one on, into registers, after those that are there.
+/// Puts the values that come from the operands at lanes, from one on, into registers, after those that are there.
 fn put_values(
-    bounds: Bounds<'_>,
+    columns: Columns<'_>,
     places: Places<'_>,
     from: usize,
     first: usize,
     origins: &mut [u64],
     values: &mut [i64],
 ) -> Put
-    requires tos { length bounds.froms.now ≤ length bounds.tos.now }
-    requires places { length bounds.froms.now ≤ length places.listed.now }
-    requires counts { CountsUp places.start (length bounds.froms.now) }
+    requires lanes { columns.lanes ≤ 1024 }
+    requires places { columns.lanes ≤ length places.listed.now }
+    requires counts { CountsUp places.start columns.lanes }
     requires first { first ≤ 1024 }
     requires origins { length origins.old ≡ 1024 }
     requires values { length values.old ≡ 1024 }
-    ensures lanes { result.items ≤ length bounds.entry.froms.now - from }
-    ensures valid { (k : ℕ) → k < result.items → given (inner_of bounds.entry.inner.now) (at bounds.entry.froms.now (from + k)) (at bounds.entry.tos.now (from + k)) ≡ Ok (values_at (inner_of bounds.entry.inner.now) bounds.entry.froms.now bounds.entry.tos.now (from + k)) }
-    ensures put { lanes result.next (item_at None origins.new values.new) ≡ lanes first (item_at None origins.old values.old) ++ gathered result.items (λ k. at_place (origin_at places.entry.start places.entry.listed.now (from + k)) (values_at (inner_of bounds.entry.inner.now) bounds.entry.froms.now bounds.entry.tos.now (from + k))) }
-    ensures within { result.next ≤ 1024 }
+    ensures items { result.items ≤ columns.entry.lanes - from }
+    ensures put { ArePut (inner_of columns.entry.inner.now) columns.entry.registers.now from
+        (origin_at places.entry.start places.entry.listed.now) (lanes first (item_at None origins.old values.old))
+        result.items result.next (item_at None origins.new values.new) }
 {
-    match bounds.inner {
-        InnerExpr::Range(..) => put_values_by::<Below>(
-            bounds, places, from, first, origins, values,
-        ),
-        InnerExpr::RangeClosed(..) => put_values_by::<Through>(
-            bounds, places, from, first, origins, values,
-        ),
-        InnerExpr::Of(_) => put_values_by::<Both>(bounds, places, from, first, origins, values),
+    match columns.inner {
+        InnerExpr::Range(..) => put_ranges::<Below>(columns, places, from, first, origins, values),
+        InnerExpr::RangeClosed(..) => {
+            put_ranges::<Through>(columns, places, from, first, origins, values)
+        }
+        InnerExpr::Of(operands) => match operands.exprs().len() {
+            0 => Put {
+                items: columns.lanes.saturating_sub(from),
+                next: first,
+            },
+            1 => put_rows::<1>(columns, places, from, first, origins, values),
+            2 => put_rows::<2>(columns, places, from, first, origins, values),
+            3 => put_rows::<3>(columns, places, from, first, origins, values),
+            4 => put_rows::<4>(columns, places, from, first, origins, values),
+            _ => Put {
+                items: 0,
+                next: first,
+            },
+        },
     }
 }
 
-/// Puts the values of inner streams of one kind into registers, after the values that are there. Each kind has a loop
-/// of its own: to ask for the kind at each item takes as long as to put its values.
-fn put_values_by<V: FromTwo>(
-    bounds: Bounds<'_>,
+/// Puts the values of ranges of one kind into registers, after the values that are there. Each kind has a loop of its
+/// own: to ask for the kind at each item takes as long as to put its values.
+fn put_ranges<R: RangeKind>(
+    columns: Columns<'_>,
     places: Places<'_>,
     from: usize,
     first: usize,
     origins: &mut [u64],
     values: &mut [i64],
 ) -> Put
-    requires kind { (v w : ℤ) → given (inner_of bounds.inner.now) v w ≡ V.values v w }
-    requires tos { length bounds.froms.now ≤ length bounds.tos.now }
-    requires places { length bounds.froms.now ≤ length places.listed.now }
-    requires counts { CountsUp places.start (length bounds.froms.now) }
+    requires kind { (k : ℕ) → given (inner_of columns.inner.now) columns.registers.now k
+        ≡ R.values (at columns.registers.now k) (at columns.registers.now (1024 + k)) }
+    requires lanes { columns.lanes ≤ 1024 }
+    requires places { columns.lanes ≤ length places.listed.now }
+    requires counts { CountsUp places.start columns.lanes }
     requires first { first ≤ 1024 }
     requires origins { length origins.old ≡ 1024 }
     requires values { length values.old ≡ 1024 }
-    ensures lanes { result.items ≤ length bounds.entry.froms.now - from }
-    ensures valid { (k : ℕ) → k < result.items → given (inner_of bounds.entry.inner.now) (at bounds.entry.froms.now (from + k)) (at bounds.entry.tos.now (from + k)) ≡ Ok (values_at (inner_of bounds.entry.inner.now) bounds.entry.froms.now bounds.entry.tos.now (from + k)) }
-    ensures put { lanes result.next (item_at None origins.new values.new) ≡ lanes first (item_at None origins.old values.old) ++ gathered result.items (λ k. at_place (origin_at places.entry.start places.entry.listed.now (from + k)) (values_at (inner_of bounds.entry.inner.now) bounds.entry.froms.now bounds.entry.tos.now (from + k))) }
-    ensures within { result.next ≤ 1024 }
+    ensures items { result.items ≤ columns.entry.lanes - from }
+    ensures put { ArePut (inner_of columns.entry.inner.now) columns.entry.registers.now from
+        (origin_at places.entry.start places.entry.listed.now) (lanes first (item_at None origins.old values.old))
+        result.items result.next (item_at None origins.new values.new) }
 {
-    let count = bounds.froms.len().saturating_sub(from);
     let mut next = first;
+    if columns.registers.len() < 2 * LANES {
+        return Put { items: 0, next };
+    }
+    let count = columns.lanes.saturating_sub(from);
     for items in 0..count {
         let lane = from + items;
-        let low = bounds.froms[lane];
-        let high = bounds.tos[lane];
-        let Ok(run) = V::run(low, high) else {
+        let Some(run) = R::run(columns.registers[lane], columns.registers[LANES + lane]) else {
             return Put { items, next };
         };
-        let pair = [low, high];
-        let stream = InnerItems {
-            origin: origin_of(places.start, places.listed, lane),
-            run,
-            listed: &pair,
-        };
-        let size = stream.count();
-        if size > (LANES - next) as u64 {
+        if run.count > (LANES - next) as u64 {
             return Put { items, next };
         }
-        list_items(&stream, 0, next, size as usize, origins, values);
-        next += size as usize;
+        let stream = InnerItems {
+            origin: origin_of(places.start, places.listed, lane),
+            run: Some(run),
+            listed: &[],
+        };
+        list_items(&stream, 0, next, run.count as usize, origins, values);
+        next += run.count as usize;
     }
     Put { items: count, next }
+}
+
+/// Puts the values of `of` with N operands into registers, after the values that are there. Each number of operands has
+/// a loop of its own.
+fn put_rows<const N: usize>(
+    columns: Columns<'_>,
+    places: Places<'_>,
+    from: usize,
+    first: usize,
+    origins: &mut [u64],
+    values: &mut [i64],
+) -> Put
+    requires some { 0 < N }
+    requires kind { (k : ℕ)
+        → given (inner_of columns.inner.now) columns.registers.now k ≡ Ok (row columns.registers.now k N) }
+    requires lanes { columns.lanes ≤ 1024 }
+    requires places { columns.lanes ≤ length places.listed.now }
+    requires counts { CountsUp places.start columns.lanes }
+    requires first { first ≤ 1024 }
+    requires origins { length origins.old ≡ 1024 }
+    requires values { length values.old ≡ 1024 }
+    ensures items { result.items ≤ columns.entry.lanes - from }
+    ensures put { ArePut (inner_of columns.entry.inner.now) columns.entry.registers.now from
+        (origin_at places.entry.start places.entry.listed.now) (lanes first (item_at None origins.old values.old))
+        result.items result.next (item_at None origins.new values.new) }
+{
+    if columns.registers.len() / LANES < N {
+        return Put {
+            items: 0,
+            next: first,
+        };
+    }
+    let count = columns.lanes.saturating_sub(from);
+    let items = count.min((LANES - first) / N);
+    for item in 0..items {
+        let lane = from + item;
+        let origin = origin_of(places.start, places.listed, lane);
+        let next = first + item * N;
+        list_row::<N>(columns.registers, lane, origin, next, origins, values);
+    }
+    Put {
+        items,
+        next: first + items * N,
+    }
 }

@@ -13,10 +13,11 @@ ghost use Rattle.trace.specs.declared.item.Item.{Item};
 
 use crate::batch::{Batch, stopped};
 use crate::flagged::{LiveLanes, give_passing};
-use crate::keep::{keep_from, keep_lanes, keep_listed};
+use crate::keep::{keep, keep_lanes};
 use crate::lanes::Register;
 use crate::listed::ListedItems;
 use crate::pipeline::Pipeline;
+use crate::places::{CountedPlaces, ListedPlaces};
 use crate::register::{Inputs, eval_bool};
 use crate::sink::BatchSink;
 use lambda_values::BoolExpr;
@@ -26,7 +27,8 @@ impl Batch {
     /// `filter` of `LongStream`: the items at which the test is true, moved to the front.
     pub(crate) fn filter(&mut self, test: &BoolExpr, line: Pipeline<'_>, room: &mut [i64])
         requires { FitsTest (truth_of test.now) (length room.old) }
-        ensures { self.new ≡ each (of_item line.entry.first (filter (truth_of test.now)) line.entry.env.now) self.old.items self.old.ending }
+        ensures { self.new ≡ each (of_item line.entry.first (filter (truth_of test.now)) line.entry.env.now)
+            self.old.items self.old.ending }
     {
         let inputs = Inputs {
             env: line.env,
@@ -55,7 +57,8 @@ impl Batch {
     )
         requires lanes { length run.values.now ≤ 1024 }
         requires room { FitsTest (truth_of test.now) (length room.old) }
-        ensures { self.new ≡ each (of_item line.entry.first (filter (truth_of test.now)) line.entry.env.now) (placed run.entry.origin run.entry.values.now) End.Done }
+        ensures { self.new ≡ each (of_item line.entry.first (filter (truth_of test.now)) line.entry.env.now)
+            (placed run.entry.origin run.entry.values.now) End.Done }
     {
         let live = run.values.len();
         let start = Some(run.origin);
@@ -66,10 +69,10 @@ impl Batch {
         };
         let reached = eval_bool(test, inputs, &mut self.spare, room);
         self.end = stopped(End::Done, line.first, start, &self.origins, reached);
-        self.live = keep_from::<Register<'_>>(
+        self.live = keep(
             &self.spare,
             reached.live,
-            run.origin,
+            CountedPlaces(run.origin),
             Register(run.values),
             &mut self.values,
             &mut self.origins,
@@ -87,7 +90,8 @@ impl Batch {
     )
         requires lanes { length listed.values.now ≤ 1024 }
         requires room { FitsTest (truth_of test.now) (length room.old) }
-        ensures { self.new ≡ each (of_item line.entry.first (filter (truth_of test.now)) line.entry.env.now) (listed_items listed.entry.places.now listed.entry.values.now) End.Done }
+        ensures { self.new ≡ each (of_item line.entry.first (filter (truth_of test.now)) line.entry.env.now)
+            (listed_items listed.entry.places.now listed.entry.values.now) End.Done }
     {
         let live = listed.values.len();
         let inputs = Inputs {
@@ -97,11 +101,11 @@ impl Batch {
         };
         let reached = eval_bool(test, inputs, &mut self.spare, room);
         self.end = stopped(End::Done, line.first, None, listed.places, reached);
-        self.live = keep_listed(
+        self.live = keep(
             &self.spare,
             reached.live,
-            listed.places,
-            listed.values,
+            ListedPlaces(listed.places),
+            Register(listed.values),
             &mut self.values,
             &mut self.origins,
         );
@@ -119,7 +123,8 @@ impl Batch {
         requires room { FitsTest (truth_of test.now) (length room.old) }
         requires wants { S.flow sink.old ≡ Flow.More }
         ensures fed { (xs : List Item) → S.has_taken sink.old xs → IsFed S.has_taken xs
-            (each (of_item line.entry.first (filter (truth_of test.now)) line.entry.env.now) self.old.items self.old.ending) result sink.new }
+            (each (of_item line.entry.first (filter (truth_of test.now)) line.entry.env.now) self.old.items
+            self.old.ending) result sink.new }
         ensures flow { S.flow sink.new ≡ flow_after result }
         ensures refused { OnErr result S.takes_memory }
     {
@@ -146,7 +151,8 @@ impl Batch {
         requires room { FitsTest (truth_of test.now) (length room.old) }
         requires wants { S.flow sink.old ≡ Flow.More }
         ensures fed { (xs : List Item) → S.has_taken sink.old xs → IsFed S.has_taken xs
-            (each (of_item line.entry.first (filter (truth_of test.now)) line.entry.env.now) (placed run.entry.origin run.entry.values.now) End.Done) result sink.new }
+            (each (of_item line.entry.first (filter (truth_of test.now)) line.entry.env.now)
+            (placed run.entry.origin run.entry.values.now) End.Done) result sink.new }
         ensures flow { S.flow sink.new ≡ flow_after result }
         ensures refused { OnErr result S.takes_memory }
     {

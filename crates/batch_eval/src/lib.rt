@@ -14,10 +14,10 @@
 
 mod batch;
 mod binary;
-mod bounds;
 mod cheap;
 mod choice;
 mod choose;
+mod columns;
 mod comparing;
 mod constant;
 mod counted;
@@ -36,10 +36,11 @@ mod listed;
 mod listing;
 mod loops;
 mod multiply;
-mod one_value;
+mod number_test;
 mod operands;
 mod passing;
 mod pipeline;
+mod places;
 mod power;
 mod reached;
 mod reciprocal;
@@ -54,7 +55,7 @@ mod unary;
 
 pub use batch::Batch;
 pub use feeding::{feed_at_once, feed_batches};
-pub use flag::is_set;
+pub use flag::Flags;
 pub use flagged::{FlaggedLanes, accept_each_flagged};
 pub use listed::ListedItems;
 pub use passing::count_passing;
@@ -62,4 +63,3 @@ pub use pipeline::Pipeline;
 pub use registers::Registers;
 pub use sink::{BatchSink, accept_each};
 pub use source::{BatchSource, SourcePart};
-pub use trace::PlacedValues;

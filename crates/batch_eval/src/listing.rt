@@ -3,8 +3,10 @@
 ghost use Rattle.batch_eval.specs.Batches.{CountsUp, item_at, origin_at};
 ghost use Rattle.batch_eval.specs.Lanes.{at};
 ghost use Rattle.batch_eval.specs.Places.{HasValue};
-ghost use Rattle.std.specs.Prelude.{◌≡◌, ℕ, ◌+◌, ◌<◌, ◌≤◌, ◌^◌, None, Some, length, slice_get, slice_index, take};
+ghost use Rattle.std.specs.Prelude.{◌≡◌, ℕ, ◌+◌, ◌*◌, ◌<◌, ◌≤◌, ◌^◌, None};
+ghost use Rattle.std.specs.Prelude.{Some, length, slice_get, slice_index, take};
 
+use crate::register::LANES;
 use trace::SourceItems;
 
 /// Copies elements to the front of others.
@@ -59,12 +61,38 @@ pub(crate) fn list_items<I: SourceItems>(
     requires bound { length (I.items source.now) < 2 ^ 64 }
     requires origins { first + count ≤ length origins.old }
     requires values { first + count ≤ length values.old }
-    ensures items { (k : ℕ) → k < count → slice_get (I.items source.now) (position + k) ≡ Some (item_at None origins.new values.new (first + k)) }
-    ensures before { (k : ℕ) → k < first → item_at None origins.new values.new k ≡ item_at None origins.old values.old k }
+    ensures items { (k : ℕ) → k < count
+        → slice_get (I.items source.now) (position + k) ≡ Some (item_at None origins.new values.new (first + k)) }
+    ensures before { (k : ℕ) → k < first
+        → item_at None origins.new values.new k ≡ item_at None origins.old values.old k }
 {
     for lane in 0..count {
         let item = source.item_at(position + lane as u64);
         origins[first + lane] = item.origin;
         values[first + lane] = item.value;
+    }
+}
+
+/// What N registers hold at a lane, as items at one place from another lane on; the lanes before that stay.
+pub(crate) fn list_row<const N: usize>(
+    registers: &[i64],
+    lane: usize,
+    origin: u64,
+    first: usize,
+    origins: &mut [u64],
+    values: &mut [i64],
+)
+    requires lane { lane < 1024 }
+    requires registers { N * 1024 ≤ length registers.now }
+    requires origins { first + N ≤ length origins.old }
+    requires values { first + N ≤ length values.old }
+    ensures items { (k : ℕ) → k < N → item_at None origins.new values.new (first + k)
+        ≡ record { origin = origin; value = at registers.now (k * 1024 + lane) } }
+    ensures before { (k : ℕ) → k < first
+        → item_at None origins.new values.new k ≡ item_at None origins.old values.old k }
+{
+    for k in 0..N {
+        values[first + k] = registers[k * LANES + lane];
+        origins[first + k] = origin;
     }
 }

@@ -20,7 +20,8 @@ pub(crate) fn run<K: Kernel, A: Lanes, B: Lanes>(
     requires a { live ≤ A.count a }
     requires b { live ≤ B.count b }
     requires out { live ≤ length out.old }
-    ensures { Reaches (λ k. K.value (A.number a (at out.old k) k) (B.number b (at out.old k) k)) (at out.new) live result }
+    ensures { Reaches (λ k. K.value (A.number a (at out.old k) k) (B.number b (at out.old k) k))
+        (at out.new) live result }
 {
     for i in 0..live {
         let old = out[i];

@@ -1,14 +1,18 @@
 //! An operator over lanes: the loop for where its operands are.
 
-ghost use Rattle.batch_eval.specs.Lanes.{HasBeside, HasBranch, Reaches, at, beside_value, branch_at, is_set, step_value};
-ghost use Rattle.std.specs.Prelude.{◌≡◌, ◌<◌, ◌≤◌, ℕ, Ok, length, if◌then◌else◌};
+ghost use Rattle.batch_eval.specs.Lanes.{HasBeside, HasBranch, HasHeld, Reaches, at, beside_value, branch_at, held_at};
+ghost use Rattle.batch_eval.specs.Lanes.{is_set, step_value};
+ghost use Rattle.lambda_values.specs.Operators.{comparison_value};
+ghost use Rattle.std.specs.Prelude.{◌≡◌, ◌<◌, ◌≤◌, ℕ, IsTrue, Ok, length, if◌then◌else◌};
 
 use crate::binary::{Add, And, Or, ShiftLeft, ShiftRight, ShiftRightUnsigned, Subtract, Xor};
 use crate::choose::select;
+use crate::exact::lanes_pass;
 use crate::kernel::{First, Kernel, Swapped};
 use crate::lanes::{Lanes, Number, Register, Stepped};
 use crate::loops::run;
 use crate::multiply::MultiplyByHalf;
+use crate::number_test::NumberTest;
 use crate::reached::Reached;
 use std::marker::PhantomData;
 
@@ -17,6 +21,19 @@ use std::marker::PhantomData;
 pub(crate) enum Held<'a> {
     Out,
     Register(&'a [i64]),
+}
+
+impl<'a> Held<'a> {
+    /// The register, if the results go to this one.
+    pub(crate) fn register(self, out: &'a [i64]) -> &'a [i64]
+        ensures numbers { (k : ℕ) → at result.now k ≡ held_at self.entry out.now k }
+        ensures count { (n : ℕ) → n ≤ length out.now → HasHeld self.entry n → n ≤ length result.now }
+    {
+        match self {
+            Held::Out => out,
+            Held::Register(xs) => xs,
+        }
+    }
 }
 
 /// An operator by a number that has no fault, done to an operand in the loop of the next operator.
@@ -53,7 +70,8 @@ pub(crate) enum Branch<'a> {
 /// Does this with lanes after a step.
 macro_rules! after_step {
     ($step:expr, $of:ty, $a:expr, $lanes:ident => $done:expr) => {
-        after_step!($step, $of, $a, $lanes => $done, Add Subtract MultiplyByHalf ShiftLeft ShiftRight ShiftRightUnsigned And Xor Or)
+        after_step!($step, $of, $a, $lanes => $done,
+            Add Subtract MultiplyByHalf ShiftLeft ShiftRight ShiftRightUnsigned And Xor Or)
     };
     ($step:expr, $of:ty, $a:expr, $lanes:ident => $done:expr, $($kernel:ident)*) => {
         match $step {
@@ -91,7 +109,8 @@ pub(crate) fn by_kernel<K: Kernel, A: Lanes>(
     requires a { live ≤ A.count a }
     requires beside { HasBeside beside live }
     requires out { live ≤ length out.old }
-    ensures { Reaches (λ k. beside_value K.value beside.entry (A.number a (at out.old k) k) k) (at out.new) live result }
+    ensures { Reaches (λ k. beside_value K.value beside.entry (A.number a (at out.old k) k) k)
+        (at out.new) live result }
 {
     match beside {
         Beside::Register(ys, step) => {
@@ -113,7 +132,8 @@ pub(crate) fn by_step<K: Kernel, A: Lanes, B: Lanes>(
     requires a { live ≤ A.count a }
     requires b { live ≤ B.count b }
     requires out { live ≤ length out.old }
-    ensures { Reaches (λ k. K.value (step_value step (A.number a (at out.old k) k)) (B.number b (at out.old k) k)) (at out.new) live result }
+    ensures { Reaches (λ k. K.value (step_value step (A.number a (at out.old k) k)) (B.number b (at out.old k) k))
+        (at out.new) live result }
 {
     after_step!(step, A, a, lanes => run::<K, _, B>(lanes, b, live, out))
 }
@@ -124,7 +144,8 @@ pub(crate) fn blend(flags: &[i64], one: Branch<'_>, other: Branch<'_>, live: usi
     requires one { HasBranch one live }
     requires other { HasBranch other live }
     requires out { live ≤ length out.old }
-    ensures { (k : ℕ) → k < live → at out.new k ≡ (if is_set (at flags.now k) then branch_at one.entry k else branch_at other.entry k) }
+    ensures { (k : ℕ) → k < live → at out.new k
+        ≡ (if is_set (at flags.now k) then branch_at one.entry k else branch_at other.entry k) }
 {
     match one {
         Branch::Number(number) => blend_with(flags, Number(number), other, live, out),
@@ -139,7 +160,8 @@ fn blend_with<A: Lanes>(flags: &[i64], a: A, other: Branch<'_>, live: usize, out
     requires a { live ≤ A.count a }
     requires other { HasBranch other live }
     requires out { live ≤ length out.old }
-    ensures { (k : ℕ) → k < live → at out.new k ≡ (if is_set (at flags.now k) then A.number a (at out.old k) k else branch_at other.entry k) }
+    ensures { (k : ℕ) → k < live → at out.new k
+        ≡ (if is_set (at flags.now k) then A.number a (at out.old k) k else branch_at other.entry k) }
 {
     match other {
         Branch::Number(number) => select(flags, a, Number(number), live, out),
@@ -147,4 +169,19 @@ fn blend_with<A: Lanes>(flags: &[i64], a: A, other: Branch<'_>, live: usize, out
             after_step!(step, Register<'_>, Register(xs), lanes => select(flags, a, lanes, live, out))
         }
     }
+}
+
+/// Whether a comparison with a number is as it is wanted at each of these numbers after a step.
+pub(crate) fn steps_pass(
+    xs: &[i64],
+    step: Step,
+    test: NumberTest,
+    wanted: bool,
+    live: usize,
+) -> bool
+    requires { live ≤ length xs.now }
+    ensures { IsTrue result → (k : ℕ) → k < live
+        → comparison_value test.comparison (step_value step (at xs.now k)) test.number ≡ wanted }
+{
+    after_step!(step, Register<'_>, Register(xs), lanes => lanes_pass(lanes, test, wanted, live))
 }

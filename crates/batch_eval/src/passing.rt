@@ -3,11 +3,14 @@
 ghost use Rattle.batch_eval.specs.Lanes.{at, is_set as is_set_flag};
 ghost use Rattle.lambda_values.specs.Term.{truth_of};
 ghost use Rattle.lambda_values.specs.Value.{truth_value};
-ghost use Rattle.std.specs.Prelude.{◌≡◌, ◌≢◌, ◌<◌, ◌≤◌, ℕ, Ok, length};
+ghost use Rattle.batch_eval.specs.Rooms.{FitsTest};
+ghost use Rattle.std.specs.Prelude.{◌≡◌, ◌≢◌, ◌<◌, ◌≤◌, ℕ, IsTrue, Ok, length};
 
 use crate::choose::all_flags;
 use crate::flag::is_set;
-use crate::register::{Inputs, LANES, eval_bool};
+use crate::number_test::compared_with;
+use crate::operands::steps_pass;
+use crate::register::{Inputs, LANES, eval_bool, eval_held};
 use crate::room::test_fits;
 use lambda_values::{BoolExpr, Env};
 
@@ -24,7 +27,8 @@ pub fn count_passing(
 ) -> usize
     ensures within { result ≤ length values.now }
     ensures passed { (k : ℕ) → k < result → truth_value (truth_of test.now) (at values.now k) env.now ≡ Ok wanted }
-    ensures stop { result < length values.now → truth_value (truth_of test.now) (at values.now result) env.now ≢ Ok wanted }
+    ensures stop { result < length values.now
+        → truth_value (truth_of test.now) (at values.now result) env.now ≢ Ok wanted }
 {
     let live = values.len();
     if live > LANES || room.len() < LANES || !test_fits(test, room.len() - LANES) {
@@ -36,8 +40,43 @@ pub fn count_passing(
         xs: values,
         live,
     };
+    if all_pass(test, wanted, inputs, flags, rest) {
+        return live;
+    }
     let reached = eval_bool(test, inputs, flags, rest);
     count_flags(flags, wanted, reached.live)
+}
+
+/// Whether a test is a comparison with a number, and as it is wanted at each of the values. One loop does the last step
+/// of what is compared, and compares; no flag is written.
+fn all_pass(
+    test: &BoolExpr,
+    wanted: bool,
+    inputs: Inputs<'_>,
+    register: &mut [i64],
+    room: &mut [i64],
+) -> bool
+    requires lanes { inputs.live ≤ 1024 }
+    requires xs { inputs.live ≤ length inputs.xs.now }
+    requires register { inputs.live ≤ length register.old }
+    requires room { FitsTest (truth_of test.now) (length room.old) }
+    ensures { IsTrue result → (k : ℕ) → k < inputs.entry.live
+        → truth_value (truth_of test.now) (at inputs.entry.xs.now k) inputs.entry.env.now ≡ Ok wanted }
+{
+    let Some((last, test)) = compared_with(test, inputs.env) else {
+        return false;
+    };
+    let (held, reached) = eval_held(last.of, inputs, register, room);
+    if reached.live < inputs.live {
+        return false;
+    }
+    steps_pass(
+        held.register(register),
+        last.step,
+        test,
+        wanted,
+        inputs.live,
+    )
 }
 
 /// How many values come before the first one at which the test isn't `wanted`, or faults, by a walk over the tree of
@@ -45,7 +84,8 @@ pub fn count_passing(
 fn count_one_by_one(test: &BoolExpr, wanted: bool, env: &Env, values: &[i64]) -> usize
     ensures within { result ≤ length values.now }
     ensures passed { (k : ℕ) → k < result → truth_value (truth_of test.now) (at values.now k) env.now ≡ Ok wanted }
-    ensures stop { result < length values.now → truth_value (truth_of test.now) (at values.now result) env.now ≢ Ok wanted }
+    ensures stop { result < length values.now
+        → truth_value (truth_of test.now) (at values.now result) env.now ≢ Ok wanted }
 {
     for position in 0..values.len() {
         if test.eval(values[position], env) != Ok(wanted) {

@@ -97,7 +97,8 @@ fn product_above(n: u64, low: u32, high: u32) -> u64
 
 /// The reciprocal for magnitudes up to 2^31 of a number other than -1, 0 and 1 whose own is no more than that.
 pub(crate) fn short_reciprocal_of(y: i64) -> Option<ShortReciprocal>
-    ensures { MatchOption result ((unsigned_abs y < 2) ⊎ (2 ^ 31 < unsigned_abs y)) (λ r. (r.divisor ≡ y) × IsShortReciprocal r) }
+    ensures { MatchOption result ((unsigned_abs y < 2) ⊎ (2 ^ 31 < unsigned_abs y))
+        (λ r. (r.divisor ≡ y) × IsShortReciprocal r) }
 {
     let magnitude = y.unsigned_abs();
     if magnitude < 2 || magnitude > MOST_SHORT {

@@ -86,7 +86,7 @@ pub(crate) fn eval_long(
 
 /// Puts the booleans of a test into a register as flags, up to its first fault.
 #[cycle(register)]
-#[tactic(auto, using(crate::proofs::Flags::flagged_between, crate::proofs::Flags::flagged_opposite, crate::proofs::Flags::flagged_chosen))]
+#[tactic(auto, using(crate::proofs::FlagLemmas::flagged_between, crate::proofs::FlagLemmas::flagged_opposite, crate::proofs::FlagLemmas::flagged_chosen))]
 pub(crate) fn eval_bool(
     test: &BoolExpr,
     inputs: Inputs<'_>,
@@ -97,7 +97,8 @@ pub(crate) fn eval_bool(
     requires xs { inputs.live ≤ length inputs.xs.now }
     requires out { inputs.live ≤ length out.old }
     requires room { FitsTest (truth_of test.now) (length room.old) }
-    ensures { Reaches (at_each inputs.entry (λ x env. flagged (truth_value (truth_of test.now) x env))) (at out.new) inputs.entry.live result }
+    ensures { Reaches (at_each inputs.entry (λ x env. flagged (truth_value (truth_of test.now) x env)))
+        (at out.new) inputs.entry.live result }
 {
     match test {
         BoolExpr::Literal(value) => fill(flag(*value), inputs.live, out),
@@ -161,7 +162,8 @@ pub(crate) fn eval_branch<'a>(
     requires register { inputs.live ≤ length register.old }
     requires room { FitsOperand operand (length room.old) }
     ensures branch { HasBranch result.0 inputs.entry.live }
-    ensures reached { Reaches (at_each inputs.entry (operand_value operand.entry)) (branch_at result.0) inputs.entry.live result.1 }
+    ensures reached { Reaches (at_each inputs.entry (operand_value operand.entry))
+        (branch_at result.0) inputs.entry.live result.1 }
 {
     match operand {
         Operand::Long(expr) => {
@@ -197,7 +199,8 @@ fn eval_between(
     requires xs { inputs.live ≤ length inputs.xs.now }
     requires out { inputs.live ≤ length out.old }
     requires room { FitsBoth (long_of a.now) (long_of b.now) (length room.old) }
-    ensures { Reaches (at_each inputs.entry (λ x env. between (infix_value op) (long_value (long_of a.now) x env) (long_value (long_of b.now) x env))) (at out.new) inputs.entry.live result }
+    ensures { Reaches (at_each inputs.entry (λ x env. between (infix_value op) (long_value (long_of a.now) x env)
+        (long_value (long_of b.now) x env))) (at out.new) inputs.entry.live result }
 {
     if let Some(y) = number_in(b, inputs.env) {
         return eval_before_number(op, a, y, inputs, out, room);
@@ -238,7 +241,8 @@ fn eval_before_number(
     requires xs { inputs.live ≤ length inputs.xs.now }
     requires out { inputs.live ≤ length out.old }
     requires room { Fits (long_of a.now) (length room.old) }
-    ensures { Reaches (at_each inputs.entry (λ x env. on (long_value (long_of a.now) x env) (λ v. infix_value op v y))) (at out.new) inputs.entry.live result }
+    ensures { Reaches (at_each inputs.entry (λ x env. on (long_value (long_of a.now) x env) (λ v. infix_value op v y)))
+        (at out.new) inputs.entry.live result }
 {
     let last = if has_shorter_way(op) {
         no_step(a)
@@ -252,7 +256,7 @@ fn eval_before_number(
 
 /// An operand in a register, which needs none of its own if it is the item.
 #[cycle(register)]
-fn eval_held<'a>(
+pub(crate) fn eval_held<'a>(
     expr: &LongExpr,
     inputs: Inputs<'a>,
     out: &mut [i64],
@@ -263,7 +267,8 @@ fn eval_held<'a>(
     requires out { inputs.live ≤ length out.old }
     requires room { Fits (long_of expr.now) (length room.old) }
     ensures held { HasHeld result.0 inputs.entry.live }
-    ensures reached { Reaches (at_each inputs.entry (long_value (long_of expr.now))) (held_at result.0 out.new) inputs.entry.live result.1 }
+    ensures reached { Reaches (at_each inputs.entry (long_value (long_of expr.now)))
+        (held_at result.0 out.new) inputs.entry.live result.1 }
 {
     match expr {
         LongExpr::Parameter(_) => (Held::Register(inputs.xs), all(inputs.live)),

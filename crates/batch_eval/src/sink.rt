@@ -1,6 +1,7 @@
 //! Sinks that take the items of a batch at once.
 
 ghost use Rattle.batch_eval.specs.Batches.{flagged_items};
+ghost use Rattle.batch_eval.specs.MadeFlags.{flags_of};
 ghost use Rattle.std.specs.Prelude.{◌≡◌, List, OnErr};
 ghost use Rattle.trace.specs.Cover.{placed};
 ghost use Rattle.trace.specs.Sinks.{IsFed, flow_after};
@@ -22,7 +23,8 @@ pub trait BatchSink: LongSink {
     /// `accept_each` does this for any sink.
     fn accept_batch(&mut self, batch: &Batch, room: &mut [i64]) -> Result<Fed, NoMemory>
         requires wants { Self.flow self.old ≡ Flow.More }
-        ensures fed { (xs : List Item) → Self.has_taken self.old xs → IsFed Self.has_taken xs (trace batch.now.items end.Done) result self.new }
+        ensures fed { (xs : List Item) → Self.has_taken self.old xs
+            → IsFed Self.has_taken xs (trace batch.now.items end.Done) result self.new }
         ensures flow { Self.flow self.new ≡ flow_after result }
         ensures refused { OnErr result Self.takes_memory };
 
@@ -30,7 +32,8 @@ pub trait BatchSink: LongSink {
     /// it takes them one by one.
     fn accept_run(&mut self, run: PlacedValues<'_>, room: &mut [i64]) -> Result<Fed, NoMemory>
         requires wants { Self.flow self.old ≡ Flow.More }
-        ensures fed { (xs : List Item) → Self.has_taken self.old xs → IsFed Self.has_taken xs (trace (placed run.entry.origin run.entry.values.now) end.Done) result self.new }
+        ensures fed { (xs : List Item) → Self.has_taken self.old xs
+            → IsFed Self.has_taken xs (trace (placed run.entry.origin run.entry.values.now) end.Done) result self.new }
         ensures flow { Self.flow self.new ≡ flow_after result }
         ensures refused { OnErr result Self.takes_memory }
     {
@@ -48,7 +51,8 @@ pub trait BatchSink: LongSink {
     fn accept_flagged(&mut self, lanes: FlaggedLanes<'_>) -> Result<Fed, NoMemory>
         requires wants { Self.flow self.old ≡ Flow.More }
         ensures fed { (xs : List Item) → Self.has_taken self.old xs → IsFed Self.has_taken xs
-            (trace (flagged_items lanes.entry.start lanes.entry.origins.now lanes.entry.values.now lanes.entry.flags.now) end.Done) result self.new }
+            (trace (flagged_items lanes.entry.start lanes.entry.origins.now lanes.entry.values.now
+            (flags_of lanes.entry.flags)) end.Done) result self.new }
         ensures flow { Self.flow self.new ≡ flow_after result }
         ensures refused { OnErr result Self.takes_memory }
     {
@@ -64,7 +68,8 @@ pub trait BatchSink: LongSink {
 /// Gives a sink items one after the other, until it has enough.
 pub fn accept_each<I: SourceItems, S: LongSink>(source: &I, sink: &mut S) -> Result<Fed, NoMemory>
     requires wants { S.flow sink.old ≡ Flow.More }
-    ensures fed { (xs : List Item) → S.has_taken sink.old xs → IsFed S.has_taken xs (trace (I.items source.now) end.Done) result sink.new }
+    ensures fed { (xs : List Item) → S.has_taken sink.old xs
+        → IsFed S.has_taken xs (trace (I.items source.now) end.Done) result sink.new }
     ensures flow { S.flow sink.new ≡ flow_after result }
     ensures refused { OnErr result S.takes_memory }
 {

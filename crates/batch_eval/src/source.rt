@@ -4,7 +4,8 @@ ghost use Rattle.batch_eval.specs.Batches.{item_at};
 ghost use Rattle.batch_eval.specs.Lanes.{at};
 ghost use Rattle.batch_eval.specs.Places.{CountsFrom, HasValue};
 ghost use Rattle.lambda_values.specs.Wrap.{wrap};
-ghost use Rattle.std.specs.Prelude.{◌≡◌, ◌+◌, ◌+ℤ◌, ◌<◌, ◌≤◌, ◌^◌, ℕ, List, IfSome, None, OnErr, Some, drop, length, pos, slice_get, take};
+ghost use Rattle.std.specs.Prelude.{◌≡◌, ◌+◌, ◌+ℤ◌, ◌<◌, ◌≤◌, ◌^◌, ℕ, List, IfSome, None, OnErr, Some, drop, length};
+ghost use Rattle.std.specs.Prelude.{pos, slice_get, take};
 ghost use Rattle.trace.specs.Sinks.{IsFed, flow_after};
 ghost use Rattle.trace.specs.Trace.{trace};
 ghost use Rattle.trace.specs.declared.item.End.TheVariants as end;
@@ -27,25 +28,30 @@ pub trait BatchSource: SourceItems {
     fn values_at(&self, position: u64, count: u64) -> Option<&[i64]>
         requires within { position + count ≤ length (Self.items self.now) }
         ensures count { IfSome result (λ values. length values.now ≡ count) }
-        ensures values { IfSome result (λ values. (k : ℕ) → k < count → HasValue (Self.items self.now) (position + k) (at values.now k)) }
+        ensures values { IfSome result (λ values. (k : ℕ) → k < count
+            → HasValue (Self.items self.now) (position + k) (at values.now k)) }
     {
         None
     }
 
-    /// The value at a position, if the values after it count up from it. A `map` that comes first then need not read them.
+    /// The value at a position, if the values after it count up from it. A `map` that comes first then need not read
+    /// them.
     fn value_from(&self, position: u64) -> Option<i64>
         requires within { position < length (Self.items self.now) }
-        ensures { IfSome result (λ first. (k : ℕ) → position + k < length (Self.items self.now) → HasValue (Self.items self.now) (position + k) (wrap (first +ℤ pos k))) }
+        ensures { IfSome result (λ first. (k : ℕ) → position + k < length (Self.items self.now)
+            → HasValue (Self.items self.now) (position + k) (wrap (first +ℤ pos k))) }
     {
         None
     }
 
-    /// The items of `count` positions from one on, if their places and their values lie side by side in memory. A `filter` that
-    /// comes first reads them there.
+    /// The items of `count` positions from one on, if their places and their values lie side by side in memory. A
+    /// `filter` that comes first reads them there.
     fn items_at(&self, position: u64, count: u64) -> Option<ListedItems<'_>>
         requires within { position + count ≤ length (Self.items self.now) }
         ensures count { IfSome result (λ listed. length listed.values.now ≡ count) }
-        ensures items { IfSome result (λ listed. (k : ℕ) → k < count → slice_get (Self.items self.now) (position + k) ≡ Some (item_at None listed.places.now listed.values.now k)) }
+        ensures items { IfSome result (λ listed. (k : ℕ) → k < count
+            → slice_get (Self.items self.now) (position + k)
+            ≡ Some (item_at None listed.places.now listed.values.now k)) }
     {
         None
     }
@@ -54,7 +60,8 @@ pub trait BatchSource: SourceItems {
     /// others one by one.
     fn give<S: BatchSink>(&self, _room: &mut [i64], sink: &mut S) -> Result<Fed, NoMemory>
         requires wants { S.flow sink.old ≡ Flow.More }
-        ensures fed { (xs : List Item) → S.has_taken sink.old xs → IsFed S.has_taken xs (trace (Self.items self.now) end.Done) result sink.new }
+        ensures fed { (xs : List Item) → S.has_taken sink.old xs
+            → IsFed S.has_taken xs (trace (Self.items self.now) end.Done) result sink.new }
         ensures flow { S.flow sink.new ≡ flow_after result }
         ensures refused { OnErr result S.takes_memory }
     {

@@ -14,13 +14,14 @@ ghost use Rattle.trace.specs.declared.feeding.Fed.TheVariants as fed;
 ghost use Rattle.trace.specs.declared.item.Item.{Item};
 
 use crate::batch::Batch;
-use crate::bounds::{Bounds, bound_room, eval_bounds};
-use crate::one_value::map_to_one;
+use crate::columns::{Columns, column_room, eval_columns};
 use crate::pipeline::Pipeline;
 use crate::register::LANES;
 use crate::sink::BatchSink;
 use lambda_values::{FaultKind, InnerExpr, ListedValues};
-use trace::{End, Fault, Fed, Flow, InnerItems, Item, NoMemory, SourceItems, Stage, feed_all};
+use trace::{
+    End, Fault, Fed, Flow, InnerItems, Item, NoMemory, SourceItems, Stage, asked, feed_all,
+};
 
 /// A `flatMap` of a pipeline: its number, its expression, and the stages after it.
 #[derive(Clone, Copy)]
@@ -61,22 +62,17 @@ pub(crate) fn feed_batch<S: BatchSink>(
             batch.filter(test, line, room);
             feed_batch(later, batch, nested, room, sink)
         }
-        Stage::FlatMap(inner) => {
-            if map_to_one(batch, inner, line, room) {
-                return feed_batch(later, batch, nested, room, sink);
+        Stage::FlatMap(inner) => match nested.split_first_mut() {
+            Some((pending, rest)) => {
+                let stage = FlatMapStage {
+                    number: line.first,
+                    inner,
+                    later,
+                };
+                feed_inner(stage, batch, pending, rest, room, sink)
             }
-            match nested.split_first_mut() {
-                Some((pending, rest)) => {
-                    let stage = FlatMapStage {
-                        number: line.first,
-                        inner,
-                        later,
-                    };
-                    feed_inner(stage, batch, pending, rest, room, sink)
-                }
-                None => feed_lanes(line, batch, sink),
-            }
-        }
+            None => feed_lanes(line, batch, sink),
+        },
     }
 }
 
@@ -94,28 +90,28 @@ fn feed_inner<S: BatchSink>(
     requires wants { S.flow sink.old ≡ Flow.More }
     requires room { FitsStages (stages_of stage.later.stages.now) (length room.old) }
     ensures fed { (xs : List Item) → S.has_taken sink.old xs → IsFed S.has_taken xs
-        (piped stage.entry.later (each (of_item stage.entry.number (flat_map (inner_of stage.entry.inner.now)) stage.entry.later.env.now) batch.now.items batch.now.ending)) result sink.new }
+        (piped stage.entry.later (each (of_item stage.entry.number (flat_map (inner_of stage.entry.inner.now))
+        stage.entry.later.env.now) batch.now.items batch.now.ending)) result sink.new }
     ensures flow { S.flow sink.new ≡ flow_after result }
     ensures refused { OnErr result S.takes_memory }
 {
     let inner = stage.inner;
     let later = stage.later;
     pending.clear();
-    let part = bound_room(inner, later.stages, room.len());
-    let (froms, room) = room.split_at_mut(part);
-    let (tos, room) = room.split_at_mut(part);
-    let lanes = eval_bounds(inner, later.env, batch.values(), froms, tos, room);
-    let bounds = Bounds {
+    let part = column_room(inner, later.stages, room.len());
+    let (registers, room) = room.split_at_mut(part);
+    let lanes = eval_columns(inner, later.env, batch.values(), registers, room);
+    let columns = Columns {
         inner,
-        froms: &froms[..lanes],
-        tos: &tos[..lanes],
+        registers,
+        lanes,
     };
     let mut listed = ListedValues::new();
     let count = batch.count();
-    let mut position = pending.add_few(bounds, batch, 0);
+    let mut position = pending.add_few(columns, batch, 0);
     while position < count {
         let item = batch.item_at(position);
-        match bounds.eval_at(position as usize, item.value, later.env, &mut listed) {
+        match inner.eval_into(item.value, later.env, &mut listed) {
             Ok(run) => {
                 let values = InnerItems {
                     origin: item.origin,
@@ -132,7 +128,7 @@ fn feed_inner<S: BatchSink>(
                 return finish(later, end, pending, rest, room, sink);
             }
         }
-        position = pending.add_few(bounds, batch, position + 1);
+        position = pending.add_few(columns, batch, position + 1);
     }
     let end = batch.end();
     finish(later, end, pending, rest, room, sink)
@@ -152,7 +148,8 @@ fn pour<S: BatchSink>(
     requires wants { S.flow sink.old ≡ Flow.More }
     requires room { FitsStages (stages_of line.stages.now) (length room.old) }
     ensures poured { (xs whole : List Item) → Holds S.has_taken line.entry xs whole pending.old.items sink.old
-        → Poured S.has_taken line.entry xs (whole ++ at_place values.now.origin (run_or_listed values.now.run values.now.listed.now)) result pending.new.items sink.new }
+        → Poured S.has_taken line.entry xs (whole ++ at_place values.now.origin
+        (run_or_listed values.now.run values.now.listed.now)) result pending.new.items sink.new }
     ensures flow { S.flow sink.new ≡ flow_after result }
     ensures refused { OnErr result S.takes_memory }
 {
@@ -193,7 +190,7 @@ fn make_space<S: BatchSink>(
     pending.end_with(End::Done);
     let fed = feed_batch(line, pending, rest, room, sink)?;
     pending.clear();
-    Ok(fed)
+    Ok(asked(fed, LANES as u64, sink))
 }
 
 /// Takes the values that wait through the stages, after which the walk ends so.

@@ -1,6 +1,7 @@
 //! Operators by a number that go into the loop of the next operator.
 
 ghost use Rattle.batch_eval.specs.Lanes.{step_value};
+ghost use Rattle.batch_eval.specs.MadeFlags.{masked};
 ghost use Rattle.batch_eval.specs.Rooms.{Fits, size};
 ghost use Rattle.lambda_values.specs.Operators.{binary_value, on};
 ghost use Rattle.lambda_values.specs.Term.{long_of};
@@ -21,7 +22,8 @@ pub(crate) struct LastStep<'a> {
 
 /// The last operator of an expression as a step, if it is one by a number that has no fault.
 pub(crate) fn last_step<'a>(expr: &'a LongExpr, env: &Env) -> LastStep<'a>
-    ensures value { (x : ℤ) → long_value (long_of expr.now) x env.now ≡ on (long_value (long_of result.of.now) x env.now) (λ v. Ok (step_value result.step v)) }
+    ensures value { (x : ℤ) → long_value (long_of expr.now) x env.now
+        ≡ on (long_value (long_of result.of.now) x env.now) (λ v. Ok (step_value result.step v)) }
     ensures room { (room : ℕ) → Fits (long_of expr.now) room → Fits (long_of result.of.now) room }
     ensures size { size result.of.now ≤ size expr.now }
 {
@@ -35,7 +37,7 @@ pub(crate) fn last_step<'a>(expr: &'a LongExpr, env: &Env) -> LastStep<'a>
     no_step(expr)
 }
 
-/// The whole expression.
+/// The whole expression, with no step after it.
 pub(crate) fn no_step(expr: &LongExpr) -> LastStep<'_>
     ensures of { result.of.now ≡ expr.now }
     ensures step { result.step ≡ Step.Stay }
@@ -60,6 +62,17 @@ fn step_of(operator: BinaryOperator, number: i64) -> Option<Step>
         BinaryOperator::And => Some(Step::And(number)),
         BinaryOperator::Xor => Some(Step::Xor(number)),
         BinaryOperator::Or => Some(Step::Or(number)),
+        _ => None,
+    }
+}
+
+/// The mask of a step: none if it changes nothing. Other steps are no masks.
+pub(crate) fn mask_of(step: Step) -> Option<Option<i64>>
+    ensures { IfSome result (λ mask. (v : ℤ) → step_value step v ≡ masked mask v) }
+{
+    match step {
+        Step::Stay => Some(None),
+        Step::And(mask) => Some(Some(mask)),
         _ => None,
     }
 }

@@ -30,7 +30,8 @@ pub(crate) fn columns_by_records<R: CountedRead>(
     ensures answer { (gone : List ℕ) × Consumes (R.remaining reader.old) (R.remaining reader.new) gone
         × IsAnswerTo (bytes.items ++ gone) result }
     ensures end { IsReadWhole (R.remaining reader.new) result }
-    ensures read { IfErr result (λ fault. fault ≡ ColumnFault.Read → HasRisen (R.failures reader.old) (R.failures reader.new)) }
+    ensures read { IfErr result (λ fault. fault ≡ ColumnFault.Read
+        → HasRisen (R.failures reader.old) (R.failures reader.new)) }
     ensures counts { R.failures reader.old ≤ R.failures reader.new }
 {
     if !read_on(reader, &mut bytes, usize::MAX)? {
@@ -50,7 +51,8 @@ pub(crate) fn put_by_records<R: CountedRead>(
     ensures put { IsPutBy (R.remaining reader.old) (R.remaining reader.new) bytes.now
         (map named columns.old) result (map named columns.new) }
     ensures end { IsReadWhole (R.remaining reader.new) result }
-    ensures read { IfErr result (λ fault. fault ≡ ColumnFault.Read → HasRisen (R.failures reader.old) (R.failures reader.new)) }
+    ensures read { IfErr result (λ fault. fault ≡ ColumnFault.Read
+        → HasRisen (R.failures reader.old) (R.failures reader.new)) }
     ensures counts { R.failures reader.old ≤ R.failures reader.new }
 {
     // The mark that `csv` skips stands before the bytes, so it skips none of theirs.

@@ -1,5 +1,6 @@
 //! The number that a cell spells.
-ghost use Rattle.std.specs.Prelude.{◌≡◌, ◌<◌, ◌^◌, ◌⊎◌, ◌≤◌, ℤ, pos, neg_ℤ, IfSome, IfNone, Some, length, true, false, reverse, if◌then◌else◌, ◌==◌, ◌||◌, FitsSigned};
+ghost use Rattle.std.specs.Prelude.{◌≡◌, ◌<◌, ◌^◌, ◌⊎◌, ◌≤◌, ℤ, pos, neg_ℤ, IfSome, IfNone, Some};
+ghost use Rattle.std.specs.Prelude.{length, true, false, reverse, if◌then◌else◌, ◌==◌, ◌||◌, FitsSigned};
 ghost use Rattle.std.specs.Option.{SomeIff};
 ghost use Rattle.std.specs.Int.{w64};
 ghost use Rattle.std.specs.List.{list_all};

@@ -24,7 +24,8 @@ pub(crate) fn without_mark(bytes: &[u8]) -> &[u8]
 
 fn has_mark(bytes: &[u8]) -> bool
     ensures length { result ≡ true → 3 ≤ length bytes.now }
-    ensures is { result ≡ (nat_lt 2 (length bytes.now) && is_bom (get_or bytes.now 0 0) (get_or bytes.now 1 0) (get_or bytes.now 2 0)) }
+    ensures is { result
+        ≡ (nat_lt 2 (length bytes.now) && is_bom (get_or bytes.now 0 0) (get_or bytes.now 1 0) (get_or bytes.now 2 0)) }
 {
     bytes.len() >= 3 && bytes[0] == 0xEF && bytes[1] == 0xBB && bytes[2] == 0xBF
 }

@@ -28,7 +28,6 @@ mod rows;
 mod table;
 
 pub use cell::read_cell;
-pub use counted_io::{Counted, CountedRead};
 pub use fault::ColumnFault;
 pub use reading::{read_columns, read_columns_by};
 pub use table::Columns;

@@ -205,7 +205,8 @@ fn line_start(text: &[u8], at: usize) -> usize
 /// Where the last piece ends, if all were read, the first from `from` on, and each starts where the one before it ends.
 fn end_of_pieces(text: &[u8], from: usize, pieces: &[TextPiece]) -> Option<usize>
     requires within { from ≤ length text.now }
-    ensures read { IfSome result (λ to. (columns : List NamedColumn) → All (IsPieceThere text.now (length columns)) pieces.now
+    ensures read { IfSome result (λ to. (columns : List NamedColumn)
+        → All (IsPieceThere text.now (length columns)) pieces.now
         → AreRead (drop from text.now) (drop to text.now) columns (append_pieces columns pieces.now)) }
     ensures ends { IfSome result (λ to. to ≤ length text.now) }
 {
@@ -256,7 +257,8 @@ pub(crate) fn put_plain_text<H: Threads + Sync>(
 ) -> Result<bool, AllocError>
     requires some_column { 0 < length columns.old }
     ensures { IfOk result (λ is_plain. MatchBool is_plain
-        (AreRead text.now [] (map named columns.old) (map named columns.new)) (map named columns.new ≡ map named columns.old)) }
+        (AreRead text.now [] (map named columns.old) (map named columns.new))
+        (map named columns.new ≡ map named columns.old)) }
 {
     read_pieces(rt, text, 0, bytes, pieces, columns.len());
     let Some(end) = end_of_pieces(text, 0, pieces) else {

@@ -2,7 +2,8 @@
 //!
 //! A row is read so if each cell is a number, bare or whole in quotes, and there is one for each column. What is read
 //! is what `csv` reads there; of every other row nothing is said, and `csv` reads it.
-ghost use Rattle.std.specs.Prelude.{◌≡◌, ◌∷◌, ◌++◌, [], ◌<◌, ◌≤◌, ◌-◌, ◌^◌, ◌||◌, ◌==◌, ℤ, true, Some, IfSome, length, map, take, drop, get_or};
+ghost use Rattle.std.specs.Prelude.{◌≡◌, ◌∷◌, ◌++◌, [], ◌<◌, ◌≤◌, ◌-◌, ◌^◌, ◌||◌, ◌==◌, ℤ};
+ghost use Rattle.std.specs.Prelude.{true, Some, IfSome, length, map, take, drop, get_or};
 ghost use Rattle.std.specs.List.{list_all};
 ghost use Rattle.std.specs.Char.{is_ascii_digit};
 ghost use Rattle.columns.specs.Cell.{digits_value};
@@ -27,7 +28,8 @@ struct PlainCell {
 pub(crate) fn read_plain_rows(text: &[u8], from: usize, to: usize, columns: &mut [Column]) -> bool
     requires within { (from ≤ to) × (to ≤ length text.now) }
     requires some_column { 0 < length columns.old }
-    ensures { result ≡ true → AreRead (drop from text.now) (drop to text.now) (map named columns.old) (map named columns.new) }
+    ensures { result ≡ true
+        → AreRead (drop from text.now) (drop to text.now) (map named columns.old) (map named columns.new) }
 {
     let mut at = from;
     while at < to {
@@ -85,7 +87,8 @@ fn put_cell(text: &[u8], at: usize, column: &mut Column, is_last: bool) -> Optio
 #[inline(always)]
 fn plain_cell(text: &[u8], at: usize) -> Option<PlainCell>
     requires { at ≤ length text.now }
-    ensures read { IfSome result (λ cell. IsCellThere (drop at text.now) cell.value cell.is_last (drop cell.next text.now)) }
+    ensures read { IfSome result (λ cell. IsCellThere (drop at text.now) cell.value cell.is_last
+        (drop cell.next text.now)) }
     ensures on { IfSome result (λ cell. (at < cell.next) × (cell.next ≤ length text.now)) }
 {
     if let Some((value, end)) = short_number(text, at) {
@@ -220,7 +223,8 @@ fn more_digits(text: &[u8], at: usize, from: usize, so_far: u64) -> (u64, usize)
 #[inline(never)]
 fn other_cell(text: &[u8], at: usize) -> Option<PlainCell>
     requires { at ≤ length text.now }
-    ensures read { IfSome result (λ cell. IsCellThere (drop at text.now) cell.value cell.is_last (drop cell.next text.now)) }
+    ensures read { IfSome result (λ cell. IsCellThere (drop at text.now) cell.value cell.is_last
+        (drop cell.next text.now)) }
     ensures on { IfSome result (λ cell. (at < cell.next) × (cell.next ≤ length text.now)) }
 {
     let end = field_end(text, at);
@@ -233,7 +237,8 @@ fn other_cell(text: &[u8], at: usize) -> Option<PlainCell>
 fn quoted_cell(text: &[u8], at: usize) -> Option<PlainCell>
     requires within { at < length text.now }
     requires quote { get_or text.now at 0 ≡ 34 }
-    ensures read { IfSome result (λ cell. IsCellThere (drop at text.now) cell.value cell.is_last (drop cell.next text.now)) }
+    ensures read { IfSome result (λ cell. IsCellThere (drop at text.now) cell.value cell.is_last
+        (drop cell.next text.now)) }
     ensures on { IfSome result (λ cell. (at < cell.next) × (cell.next ≤ length text.now)) }
 {
     if let Some((value, end)) = short_number(text, at + 1) {
@@ -250,7 +255,8 @@ fn quoted_cell(text: &[u8], at: usize) -> Option<PlainCell>
 fn other_quoted_cell(text: &[u8], at: usize) -> Option<PlainCell>
     requires within { at < length text.now }
     requires quote { get_or text.now at 0 ≡ 34 }
-    ensures read { IfSome result (λ cell. IsCellThere (drop at text.now) cell.value cell.is_last (drop cell.next text.now)) }
+    ensures read { IfSome result (λ cell. IsCellThere (drop at text.now) cell.value cell.is_last
+        (drop cell.next text.now)) }
     ensures on { IfSome result (λ cell. (at < cell.next) × (cell.next ≤ length text.now)) }
 {
     let end = quote_from(text, at + 1);

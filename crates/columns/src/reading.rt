@@ -1,5 +1,6 @@
 //! Column files, read whole.
-ghost use Rattle.std.specs.Prelude.{◌≡◌, ◌≢◌, ◌<◌, ◌≤◌, ◌⊎◌, [], ℕ, List, Ok, IfErr, IfOk, IfSome, OnOk, length, map, take};
+ghost use Rattle.std.specs.Prelude.{◌≡◌, ◌≢◌, ◌<◌, ◌≤◌, ◌⊎◌, [], ℕ, List, Ok};
+ghost use Rattle.std.specs.Prelude.{IfErr, IfOk, IfSome, OnOk, length, map, take};
 ghost use Rattle.std.specs.Io.KnownBytes.{Consumes, IsAtEnd};
 ghost use Rattle.counted_io.specs.CountedRead.{GaveSome};
 ghost use Rattle.counted_io.specs.FailureCounts.{HasRisen};
@@ -58,9 +59,9 @@ pub fn read_columns<R: CountedRead>(alloc: Global, reader: &mut R) -> Result<Col
 /// A file of no more than a piece for each worker is read whole first. Of a longer file only these are held: the pieces
 /// in hand, the pieces that are read meanwhile, their cells, and 8 bytes for each cell. A thread is started for each
 /// worker whenever that many pieces are parsed. If there are at least that many columns, threads are started again to
-/// put the cells under the columns. One worker reads and parses in turns: for it, and for a file of one piece, no thread
-/// is started. If a row isn't plain, all bytes from its pieces on are read whole and parsed on one thread: if the file
-/// is refused, or a number is quoted in part.
+/// put the cells under the columns. One worker reads and parses in turns: for it, and for a file of one piece, no
+/// thread is started. If a row isn't plain, all bytes from its pieces on are read whole and parsed on one thread: if
+/// the file is refused, or a number is quoted in part.
 pub fn read_columns_by<H: Threads + Sync, R: CountedRead>(
     rt: &H,
     alloc: Global,
@@ -93,7 +94,8 @@ fn columns_up_to<H: Threads + Sync, R: CountedRead>(
     limit: usize,
 ) -> Result<Columns, ColumnFault>
     requires { 0 < limit }
-    ensures answer { (gone : List ℕ) × Consumes (R.remaining reader.old) (R.remaining reader.new) gone × IsAnswerTo gone result }
+    ensures answer { (gone : List ℕ) × Consumes (R.remaining reader.old) (R.remaining reader.new) gone
+        × IsAnswerTo gone result }
     ensures end { IsReadWhole (R.remaining reader.new) result }
     ensures read { IfErr result (λ fault. fault ≡ ColumnFault.Read
         → HasRisen (R.failures reader.old) (R.failures reader.new)) }

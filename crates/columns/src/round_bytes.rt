@@ -16,11 +16,13 @@ pub(crate) fn read_on<R: CountedRead>(
     bytes: &mut Vec<u8>,
     limit: usize,
 ) -> Result<bool, ColumnFault>
-    ensures bytes { OnOk result (HasGiven (R.remaining reader.old) (R.remaining reader.new) bytes.old.items bytes.new.items) }
+    ensures bytes { OnOk result
+        (HasGiven (R.remaining reader.old) (R.remaining reader.new) bytes.old.items bytes.new.items) }
     ensures end { IfOk result (λ is_end. is_end ≡ true → IsAtEnd (R.remaining reader.new)) }
     ensures gave { GaveSome (R.remaining reader.old) (R.remaining reader.new) }
     ensures refused { IfErr result (λ fault. (fault ≡ ColumnFault.Read) ⊎ (fault ≡ ColumnFault.NoMemory)) }
-    ensures read { IfErr result (λ fault. fault ≡ ColumnFault.Read → HasRisen (R.failures reader.old) (R.failures reader.new)) }
+    ensures read { IfErr result (λ fault. fault ≡ ColumnFault.Read
+        → HasRisen (R.failures reader.old) (R.failures reader.new)) }
     ensures counts { R.failures reader.old ≤ R.failures reader.new }
 {
     match read_up_to(reader, bytes, limit) {

@@ -1,12 +1,14 @@
 //! Long column files, read and parsed at the same time.
 //!
 //! A file is read in rounds. While the whole lines of one round are parsed in pieces, or after it with one worker, the
-//! bytes of the next one are read into another buffer, after the beginning of its first line. So few bytes of the file are held at a time, and
-//! one piece of memory takes all of them: memory that is new to the system costs more time than the reading.
+//! bytes of the next one are read into another buffer, after the beginning of its first line. So few bytes of the file
+//! are held at a time, and one piece of memory takes all of them: memory that is new to the system costs more time than
+//! the reading.
 //!
 //! From the first round on that has a row that isn't plain, all bytes are read whole, and `csv` puts their rows under
 //! the columns.
-ghost use Rattle.std.specs.Prelude.{◌≡◌, ◌⊎◌, ◌++◌, ◌+◌, ◌<◌, ◌≤◌, ◌-◌, [], ℕ, List, true, IfErr, IfOk, OnOk, length, map, take, drop, vec_len};
+ghost use Rattle.std.specs.Prelude.{◌≡◌, ◌⊎◌, ◌++◌, ◌+◌, ◌<◌, ◌≤◌, ◌-◌, [], ℕ, List, true};
+ghost use Rattle.std.specs.Prelude.{IfErr, IfOk, OnOk, length, map, take, drop, vec_len};
 ghost use denote.Param.Send.{IsSync};
 ghost use Rattle.std.specs.Bool.{MatchBool};
 ghost use Rattle.std.specs.Io.KnownBytes.{Consumes, IsAtEnd};
@@ -33,11 +35,11 @@ use std::{mem, thread};
 /// How a round ended.
 #[derive(Clone, Copy)]
 enum Round {
-    /// Its rows are put, and the reader may have more bytes.
+    /// The rows of the round are put, and the reader may have more bytes.
     Put,
-    /// Its rows are put, and the reader has no more bytes.
+    /// The rows of the round are put, and the reader has no more bytes.
     Last,
-    /// It has a row that isn't plain, and none is put.
+    /// The round has a row that isn't plain, and none is put.
     Other,
 }
 
@@ -46,7 +48,7 @@ enum Round {
 struct Rounds {
     /// The bytes of this round.
     bytes: Vec<u8>,
-    /// Those of the next one.
+    /// The bytes of the next round.
     spare: Vec<u8>,
     /// How many bytes a round has at most, if a line isn't longer.
     limit: usize,
@@ -65,7 +67,8 @@ pub(crate) fn columns_in_rounds<H: Threads + Sync, R: CountedRead>(
     ensures answer { (gone : List ℕ) × Consumes (R.remaining reader.old) (R.remaining reader.new) gone
         × IsAnswerTo (bytes.items ++ gone) result }
     ensures end { IsReadWhole (R.remaining reader.new) result }
-    ensures read { IfErr result (λ fault. fault ≡ ColumnFault.Read → HasRisen (R.failures reader.old) (R.failures reader.new)) }
+    ensures read { IfErr result (λ fault. fault ≡ ColumnFault.Read
+        → HasRisen (R.failures reader.old) (R.failures reader.new)) }
     ensures counts { R.failures reader.old ≤ R.failures reader.new }
 {
     let total = bytes.len().saturating_add(reader.likely_size());
@@ -94,7 +97,8 @@ fn columns_after<H: Threads + Sync, R: CountedRead>(
     ensures answer { (gone : List ℕ) × Consumes (R.remaining reader.old) (R.remaining reader.new) gone
         × IsAnswerTo (bytes.items ++ gone) result }
     ensures end { IsReadWhole (R.remaining reader.new) result }
-    ensures read { IfErr result (λ fault. fault ≡ ColumnFault.Read → HasRisen (R.failures reader.old) (R.failures reader.new)) }
+    ensures read { IfErr result (λ fault. fault ≡ ColumnFault.Read
+        → HasRisen (R.failures reader.old) (R.failures reader.new)) }
     ensures counts { R.failures reader.old ≤ R.failures reader.new }
 {
     put_rows_after(team, alloc, reader, bytes, end, columns.as_mut_slice())?;
@@ -115,7 +119,8 @@ fn put_rows_after<H: Threads + Sync, R: CountedRead>(
     ensures put { IsPutBy (R.remaining reader.old) (R.remaining reader.new) (drop end (strip_bom bytes.items))
         (map named columns.old) result (map named columns.new) }
     ensures end { IsReadWhole (R.remaining reader.new) result }
-    ensures read { IfErr result (λ fault. fault ≡ ColumnFault.Read → HasRisen (R.failures reader.old) (R.failures reader.new)) }
+    ensures read { IfErr result (λ fault. fault ≡ ColumnFault.Read
+        → HasRisen (R.failures reader.old) (R.failures reader.new)) }
     ensures counts { R.failures reader.old ≤ R.failures reader.new }
 {
     let limit = bytes.len();
@@ -165,7 +170,8 @@ fn put_rounds<H: Threads + Sync, R: CountedRead>(
     ensures put { IsPutBy (R.remaining reader.old) (R.remaining reader.new) rounds.old.bytes.items
         (map named columns.old) result (map named columns.new) }
     ensures end { IsReadWhole (R.remaining reader.new) result }
-    ensures read { IfErr result (λ fault. fault ≡ ColumnFault.Read → HasRisen (R.failures reader.old) (R.failures reader.new)) }
+    ensures read { IfErr result (λ fault. fault ≡ ColumnFault.Read
+        → HasRisen (R.failures reader.old) (R.failures reader.new)) }
     ensures counts { R.failures reader.old ≤ R.failures reader.new }
 {
     for _ in 0..u64::MAX {
@@ -187,12 +193,14 @@ fn next_round<H: Threads + Sync, R: CountedRead>(
     columns: &mut [Column],
 ) -> Result<Round, ColumnFault>
     requires some_column { 0 < length columns.old }
-    ensures goes { OnOk result (Goes (R.remaining reader.old) (R.remaining reader.new) rounds.old.bytes.items rounds.new.bytes.items
+    ensures goes { OnOk result (Goes (R.remaining reader.old)
+        (R.remaining reader.new) rounds.old.bytes.items rounds.new.bytes.items
         (map named columns.old) (map named columns.new)) }
     ensures end { IfOk result (λ round. round ≡ Round.Last → IsAtEnd (R.remaining reader.new)) }
     ensures gave { GaveSome (R.remaining reader.old) (R.remaining reader.new) }
     ensures refused { IfErr result (λ fault. (fault ≡ ColumnFault.Read) ⊎ (fault ≡ ColumnFault.NoMemory)) }
-    ensures read { IfErr result (λ fault. fault ≡ ColumnFault.Read → HasRisen (R.failures reader.old) (R.failures reader.new)) }
+    ensures read { IfErr result (λ fault. fault ≡ ColumnFault.Read
+        → HasRisen (R.failures reader.old) (R.failures reader.new)) }
     ensures counts { R.failures reader.old ≤ R.failures reader.new }
 {
     let end = last_line_end(&rounds.bytes);
@@ -211,8 +219,8 @@ fn next_round<H: Threads + Sync, R: CountedRead>(
     Ok(if is_end { Round::Last } else { Round::Put })
 }
 
-/// Puts the rows of the whole lines before `end` under the columns, on threads, and reads on into `spare` on this one; with
-/// one piece both are done on this one, in turn.
+/// Puts the rows of the whole lines before `end` under the columns, on threads, and reads on into `spare` on this one;
+/// with one piece both are done on this one, in turn.
 fn put_and_read<H: Threads + Sync, R: CountedRead>(
     rt: &H,
     reader: &mut R,
@@ -223,13 +231,16 @@ fn put_and_read<H: Threads + Sync, R: CountedRead>(
     requires within { end ≤ vec_len rounds.old.bytes }
     requires some_column { 0 < length columns.old }
     ensures put { IfOk result.0 (λ is_plain. MatchBool is_plain
-        (AreRead (take end rounds.old.bytes.items) [] (map named columns.old) (map named columns.new)) (map named columns.new ≡ map named columns.old)) }
+        (AreRead (take end rounds.old.bytes.items) [] (map named columns.old) (map named columns.new))
+        (map named columns.new ≡ map named columns.old)) }
     ensures same { rounds.new.bytes ≡ rounds.old.bytes }
-    ensures bytes { OnOk result.1 (HasGiven (R.remaining reader.old) (R.remaining reader.new) rounds.old.spare.items rounds.new.spare.items) }
+    ensures bytes { OnOk result.1
+        (HasGiven (R.remaining reader.old) (R.remaining reader.new) rounds.old.spare.items rounds.new.spare.items) }
     ensures end { IfOk result.1 (λ is_end. is_end ≡ true → IsAtEnd (R.remaining reader.new)) }
     ensures gave { GaveSome (R.remaining reader.old) (R.remaining reader.new) }
     ensures refused { IfErr result.1 (λ fault. (fault ≡ ColumnFault.Read) ⊎ (fault ≡ ColumnFault.NoMemory)) }
-    ensures read { IfErr result.1 (λ fault. fault ≡ ColumnFault.Read → HasRisen (R.failures reader.old) (R.failures reader.new)) }
+    ensures read { IfErr result.1 (λ fault. fault ≡ ColumnFault.Read
+        → HasRisen (R.failures reader.old) (R.failures reader.new)) }
     ensures counts { R.failures reader.old ≤ R.failures reader.new }
 {
     let text = &rounds.bytes[..end];
@@ -245,11 +256,13 @@ fn put_and_read<H: Threads + Sync, R: CountedRead>(
             (map named columns.exit.now ≡ map named columns.entry.now)) }
     { put_plain_text(rt, text, piece, pieces, columns) };
     let mut read = || -> Result<bool, ColumnFault>
-        ensures bytes { OnOk result (HasGiven (R.remaining reader.entry.now) (R.remaining reader.exit.now) spare.entry.now.items spare.exit.now.items) }
+        ensures bytes { OnOk result (HasGiven (R.remaining reader.entry.now)
+            (R.remaining reader.exit.now) spare.entry.now.items spare.exit.now.items) }
         ensures end { IfOk result (λ is_end. is_end ≡ true → IsAtEnd (R.remaining reader.exit.now)) }
         ensures gave { GaveSome (R.remaining reader.entry.now) (R.remaining reader.exit.now) }
         ensures refused { IfErr result (λ fault. (fault ≡ ColumnFault.Read) ⊎ (fault ≡ ColumnFault.NoMemory)) }
-        ensures read { IfErr result (λ fault. fault ≡ ColumnFault.Read → HasRisen (R.failures reader.entry.now) (R.failures reader.exit.now)) }
+        ensures read { IfErr result (λ fault. fault ≡ ColumnFault.Read
+            → HasRisen (R.failures reader.entry.now) (R.failures reader.exit.now)) }
         ensures counts { R.failures reader.entry.now ≤ R.failures reader.exit.now }
     { read_on(reader, spare, limit) };
     if is_alone {
@@ -271,7 +284,8 @@ fn put_last<H: Threads + Sync, R: CountedRead>(
     ensures put { IsPutBy (R.remaining reader.old) (R.remaining reader.new) rounds.old.bytes.items
         (map named columns.old) result (map named columns.new) }
     ensures end { IsReadWhole (R.remaining reader.new) result }
-    ensures read { IfErr result (λ fault. fault ≡ ColumnFault.Read → HasRisen (R.failures reader.old) (R.failures reader.new)) }
+    ensures read { IfErr result (λ fault. fault ≡ ColumnFault.Read
+        → HasRisen (R.failures reader.old) (R.failures reader.new)) }
     ensures counts { R.failures reader.old ≤ R.failures reader.new }
 {
     let Rounds {

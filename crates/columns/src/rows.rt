@@ -1,5 +1,6 @@
 //! The header and the rows of a column file, from their records.
-ghost use Rattle.std.specs.Prelude.{◌≡◌, ◌≢◌, [], ℕ, List, None, Some, IfErr, IfOk, MatchResult, OnOk, length, map, option_and_then, slice_get};
+ghost use Rattle.std.specs.Prelude.{◌≡◌, ◌≢◌, [], ℕ, List, None, Some, IfErr, IfOk};
+ghost use Rattle.std.specs.Prelude.{MatchResult, OnOk, length, map, option_and_then, slice_get};
 ghost use Rattle.std.specs.List.{list_any};
 ghost use Rattle.std.specs.Str.{bytes_eq};
 ghost use Rattle.csv.specs.Records.{fields_of};

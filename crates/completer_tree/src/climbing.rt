@@ -6,7 +6,8 @@ ghost use Rattle.pending_count.specs.declared.place.Side.TheVariants.{Left, Righ
 ghost use Rattle.completer_tree.specs.Places.{Goes, place_by};
 ghost use Rattle.completer_tree.specs.Roots.{HasKept};
 ghost use Rattle.completer_tree.specs.Trees.{table_id_of, CanHand, RanBy};
-ghost use Rattle.completer_tree.specs.Climbs.{CanFinish, HasArrived, IsHandedAt, WasHanded, WasPending, IfLast, IfHandedOn, IfNextLast, IfWhole, first_seat, first_reply, next_seat};
+ghost use Rattle.completer_tree.specs.Climbs.{CanFinish, HasArrived, IsHandedAt, WasHanded, WasPending, IfLast};
+ghost use Rattle.completer_tree.specs.Climbs.{IfHandedOn, IfNextLast, IfWhole, first_seat, first_reply, next_seat};
 
 use crate::completer::Completer;
 use crate::continuation::Continuation;
@@ -62,7 +63,8 @@ impl<T: PartValue, C: Continuation<T>> Finisher<Handed<T>, Completer<T, C>> {
     pub fn finish(self) -> (Handed<T>, Option<Place<T::Tag>>)
         requires left { T.fits (C.tag_of self.finish.kept.run) Left self.finish.left }
         requires right { T.fits (C.tag_of self.finish.kept.run) Right self.finish.right }
-        ensures place { result.1 ≡ place_by self.finish.kept.parent self.finish.kept.root (C.goes_to self.finish.kept.run) }
+        ensures place { result.1 ≡ place_by self.finish.kept.parent self.finish.kept.root
+            (C.goes_to self.finish.kept.run) }
         ensures goes { Goes T.fits (C.tag_of self.finish.kept.run) (C.goes_to self.finish.kept.run) result.0 }
     {
         let Finisher { finish } = self;
@@ -109,7 +111,8 @@ impl<'a, T: PartValue, C: Continuation<T>> Tree<'a, Handed<T>, Completer<T, C>> 
         requires can { CanHand (table_id_of self.now.counts.now) at seat }
         requires fits { T.fits at.tag at.side value }
         ensures seat { IsSameSeat seat (first_seat result) }
-        ensures handed { (n : ℕ) × (first_reply result ≡ reply_of_arrival (n - 1)) × IsHandedAt self.now.counts.now at seat n (first_seat result) }
+        ensures handed { (n : ℕ) × (first_reply result ≡ reply_of_arrival (n - 1))
+            × IsHandedAt self.now.counts.now at seat n (first_seat result) }
         ensures last { IfLast result (λ later finisher. HasArrived self.now.counts.now at seat later finisher) }
     {
         match self.counts.arrive_with(seat, at, value) {
@@ -127,9 +130,14 @@ impl<'a, T: PartValue, C: Continuation<T>> Tree<'a, Handed<T>, Completer<T, C>> 
     ) -> Next<Handed<T>, Completer<T, C>>
         requires can { CanFinish (table_id_of self.now.counts.now) seat finisher }
         ensures seat { IsSameSeat seat (next_seat result) }
-        ensures handed { IfHandedOn result (λ later reply. (p : Place T.Tag) × (place_by finisher.finish.kept.parent finisher.finish.kept.root (C.goes_to finisher.finish.kept.run) ≡ Some p) × (n : ℕ) × (reply ≡ reply_of_arrival (n - 1)) × IsHandedAt self.now.counts.now p seat n later) }
-        ensures last { IfNextLast result (λ later next. (p : Place T.Tag) × (place_by finisher.finish.kept.parent finisher.finish.kept.root (C.goes_to finisher.finish.kept.run) ≡ Some p) × HasArrived self.now.counts.now p seat later next) }
-        ensures whole { IfWhole result (λ later v. (C.goes_to finisher.finish.kept.run ≡ None) × (later ≡ seat) × T.fits (C.tag_of finisher.finish.kept.run) Whole v × T.result (C.tag_of finisher.finish.kept.run) v) }
+        ensures handed { IfHandedOn result (λ later reply. (p : Place T.Tag)
+            × (place_by finisher.finish.kept.parent finisher.finish.kept.root (C.goes_to finisher.finish.kept.run)
+            ≡ Some p) × (n : ℕ) × (reply ≡ reply_of_arrival (n - 1)) × IsHandedAt self.now.counts.now p seat n later) }
+        ensures last { IfNextLast result (λ later next. (p : Place T.Tag)
+            × (place_by finisher.finish.kept.parent finisher.finish.kept.root (C.goes_to finisher.finish.kept.run)
+            ≡ Some p) × HasArrived self.now.counts.now p seat later next) }
+        ensures whole { IfWhole result (λ later v. (C.goes_to finisher.finish.kept.run ≡ None) × (later ≡ seat)
+            × T.fits (C.tag_of finisher.finish.kept.run) Whole v × T.result (C.tag_of finisher.finish.kept.run) v) }
     {
         self.next_complete_with(seat, finisher, &mut Unwatched)
     }
@@ -144,9 +152,14 @@ impl<'a, T: PartValue, C: Continuation<T>> Tree<'a, Handed<T>, Completer<T, C>> 
     ) -> Next<Handed<T>, Completer<T, C>>
         requires can { CanFinish (table_id_of self.now.counts.now) seat finisher }
         ensures seat { IsSameSeat seat (next_seat result) }
-        ensures handed { IfHandedOn result (λ later reply. (p : Place T.Tag) × (place_by finisher.finish.kept.parent finisher.finish.kept.root (C.goes_to finisher.finish.kept.run) ≡ Some p) × (n : ℕ) × (reply ≡ reply_of_arrival (n - 1)) × IsHandedAt self.now.counts.now p seat n later) }
-        ensures last { IfNextLast result (λ later next. (p : Place T.Tag) × (place_by finisher.finish.kept.parent finisher.finish.kept.root (C.goes_to finisher.finish.kept.run) ≡ Some p) × HasArrived self.now.counts.now p seat later next) }
-        ensures whole { IfWhole result (λ later v. (C.goes_to finisher.finish.kept.run ≡ None) × (later ≡ seat) × T.fits (C.tag_of finisher.finish.kept.run) Whole v × T.result (C.tag_of finisher.finish.kept.run) v) }
+        ensures handed { IfHandedOn result (λ later reply. (p : Place T.Tag)
+            × (place_by finisher.finish.kept.parent finisher.finish.kept.root (C.goes_to finisher.finish.kept.run)
+            ≡ Some p) × (n : ℕ) × (reply ≡ reply_of_arrival (n - 1)) × IsHandedAt self.now.counts.now p seat n later) }
+        ensures last { IfNextLast result (λ later next. (p : Place T.Tag)
+            × (place_by finisher.finish.kept.parent finisher.finish.kept.root (C.goes_to finisher.finish.kept.run)
+            ≡ Some p) × HasArrived self.now.counts.now p seat later next) }
+        ensures whole { IfWhole result (λ later v. (C.goes_to finisher.finish.kept.run ≡ None) × (later ≡ seat)
+            × T.fits (C.tag_of finisher.finish.kept.run) Whole v × T.result (C.tag_of finisher.finish.kept.run) v) }
     {
         let (answer, onward) = finisher.finish();
         let Some(place) = onward else {
@@ -215,7 +228,8 @@ impl<'a, T: PartValue, C: Continuation<T>> Tree<'a, Handed<T>, Completer<T, C>> 
         at: Option<Place<T::Tag>>,
         failure: Failure,
     ) -> (TreeSeat<T, C>, Option<Handed<T>>)
-        requires can { IfSome at (λ p. CanHand (table_id_of self.now.counts.now) p seat × T.fits p.tag p.side (Err failure)) }
+        requires can { IfSome at (λ p. CanHand (table_id_of self.now.counts.now) p seat
+            × T.fits p.tag p.side (Err failure)) }
         ensures seat { IsSameSeat seat result.0 }
         ensures none { at ≡ None → (result.0 ≡ seat) × (result.1 ≡ Some (Err failure)) }
         ensures found { IfSome at (λ p. IfSome result.1 (λ v. T.result p.tag v)) }
@@ -239,8 +253,12 @@ fn climb<T: PartValue, C: Continuation<T>, L: Looker<T>>(
     requires can { CanFinish (table_id_of tree.now.counts.now) seat finisher }
     ensures seat { IsSameSeat seat result.0 }
     ensures found { IfSome result.1 (λ v. T.result (C.tag_of finisher.finish.kept.run) v) }
-    ensures ran { IfSome (place_by finisher.finish.kept.parent finisher.finish.kept.root (C.goes_to finisher.finish.kept.run)) (λ p. IfSome result.1 (λ _. RanBy tree.now.counts.now seat p.root)) }
-    ensures kept { IfSome (place_by finisher.finish.kept.parent finisher.finish.kept.root (C.goes_to finisher.finish.kept.run)) (λ p. IfSome result.1 (λ _. HasKept p (view_of seat) (view_of result.0))) }
+    ensures ran { IfSome
+        (place_by finisher.finish.kept.parent finisher.finish.kept.root (C.goes_to finisher.finish.kept.run))
+        (λ p. IfSome result.1 (λ _. RanBy tree.now.counts.now seat p.root)) }
+    ensures kept { IfSome
+        (place_by finisher.finish.kept.parent finisher.finish.kept.root (C.goes_to finisher.finish.kept.run))
+        (λ p. IfSome result.1 (λ _. HasKept p (view_of seat) (view_of result.0))) }
     ensures top { C.goes_to finisher.finish.kept.run ≡ None → result.0 ≡ seat }
     ensures pending { IfNone result.1 (WasPending tree.now.counts.now seat result.0) }
 {

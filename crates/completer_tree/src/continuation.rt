@@ -36,7 +36,9 @@ pub trait Continuation<T: PartValue>: Drop {
 
     /// A node's place in the tree leads to the parent: the whole tree gives one answer for both. At the top it is the
     /// node's own answer.
-    ghost leads: { (c : Self) (p : T.Tag × Bool) → goes_to c ≡ Some p → (v : Result T Failure) → T.result p.0 v → T.result (tag_of c) v };
+    ghost leads: { (c : Self) (p : T.Tag × Bool) → goes_to c ≡ Some p → (v : Result T Failure) → T.result p.0 v
+        → T.result (tag_of c) v };
 
-    ghost ends: { (c : Self) → goes_to c ≡ None → (v : Result T Failure) → T.fits (tag_of c) Whole v → T.result (tag_of c) v };
+    ghost ends: { (c : Self) → goes_to c ≡ None → (v : Result T Failure) → T.fits (tag_of c) Whole v
+        → T.result (tag_of c) v };
 }

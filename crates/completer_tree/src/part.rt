@@ -26,6 +26,6 @@ pub trait PartValue: Drop {
     // The fact about a tag, a side of its node or the whole of it, and what is handed in there.
     ghost fits: { Self.Tag → Side → Result Self Failure → Type 0 };
 
-    // What the whole tree gives in which a node with this tag stands.
+    // What the whole tree gives that has a node with this tag.
     ghost result: { Self.Tag → Result Self Failure → Type 0 };
 }

@@ -15,7 +15,8 @@ impl<'a, V, K: Fits<V>> Tree<'a, V, K> {
         requires table { IsSeatOf self.now.counts.now seat }
         requires path { IsPath path.now (view_of seat) }
         ensures seat { IsSameSeat seat result.0 }
-        ensures finished { Propagates (Content V K) (nodes_of self.now.counts.now) (actor_of seat) path.now (view_of seat) (view_of result.0) result.1 }
+        ensures finished { Propagates (Content V K) (nodes_of self.now.counts.now) (actor_of seat) path.now
+            (view_of seat) (view_of result.0) result.1 }
         ensures most { result.1 ≤ length path.now }
     {
         let Some((&node, rest)) = path.split_first() else {

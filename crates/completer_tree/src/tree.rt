@@ -65,16 +65,22 @@ impl<'a, T: PartValue, C: Continuation<T>> Tree<'a, Handed<T>, Completer<T, C>> 
         run: C,
     ) -> Forked<Handed<T>, Completer<T, C>, C>
         requires table { IsSeatOf self.now.counts.now seat }
-        requires at { IfSome at (λ p. CanFork (table_id_of self.now.counts.now) p seat × (at ≡ place_by p.node p.root (C.goes_to run))) }
+        requires at { IfSome at (λ p. CanFork (table_id_of self.now.counts.now) p seat
+            × (at ≡ place_by p.node p.root (C.goes_to run))) }
         requires top { at ≡ None → (C.goes_to run ≡ None) × CanKeep self.now.onward.now (view_of seat) }
         requires rooted { Rooted (view_of seat).places }
-        ensures split { IfSplit result (λ l r. CanFork (table_id_of self.now.counts.now) l.place l.seat × CanFork (table_id_of self.now.counts.now) r.place r.seat) }
-        ensures places { IfSplit result (λ l r. (l.place ≡ place_at l.place.node l.place.root (C.tag_of run, true)) × (r.place ≡ place_at l.place.node l.place.root (C.tag_of run, false))) }
-        ensures tops { IfSplit result (λ l r. KnowsTop at self.now.onward.now l.place (view_of seat) (view_of l.seat) × KnowsTop at self.now.onward.now r.place (view_of seat) (view_of r.seat)) }
-        ensures credit { IfSplit result (λ l r. HalvesCredit (view_of seat).credit (view_of l.seat).credit (view_of r.seat).credit) }
+        ensures split { IfSplit result (λ l r. CanFork (table_id_of self.now.counts.now) l.place l.seat
+            × CanFork (table_id_of self.now.counts.now) r.place r.seat) }
+        ensures places { IfSplit result (λ l r. (l.place ≡ place_at l.place.node l.place.root (C.tag_of run, true))
+            × (r.place ≡ place_at l.place.node l.place.root (C.tag_of run, false))) }
+        ensures tops { IfSplit result (λ l r. KnowsTop at self.now.onward.now l.place (view_of seat) (view_of l.seat)
+            × KnowsTop at self.now.onward.now r.place (view_of seat) (view_of r.seat)) }
+        ensures credit { IfSplit result
+            (λ l r. HalvesCredit (view_of seat).credit (view_of l.seat).credit (view_of r.seat).credit) }
         ensures why { IfWhole result (λ later _. ((view_of seat).credit ≡ 0) ⊎ ((view_of later).none_left ≡ true)) }
         ensures still { IfWhole result (λ later _. IfSome at (λ p. CanFork (table_id_of self.now.counts.now) p later)) }
-        ensures whole { IfWhole result (λ later same. (same ≡ run) × IsSeatOf self.now.counts.now later × IsUnchanged seat later) }
+        ensures whole { IfWhole result (λ later same. (same ≡ run) × IsSeatOf self.now.counts.now later
+            × IsUnchanged seat later) }
     {
         let (parent, _root) = above(at, END);
         let below = [parent];
@@ -102,15 +108,21 @@ fn fork_keeping<T: PartValue, C: Continuation<T>>(
     run: C,
 ) -> Forked<Handed<T>, Completer<T, C>, C>
     requires table { IsSeatOf counts.now seat }
-    requires at { IfSome at (λ p. CanFork (table_id_of counts.now) p seat × (onward.now ≡ p.node ∷ []) × (at ≡ place_by p.node p.root (C.goes_to run))) }
+    requires at { IfSome at (λ p. CanFork (table_id_of counts.now) p seat × (onward.now ≡ p.node ∷ [])
+        × (at ≡ place_by p.node p.root (C.goes_to run))) }
     requires top { at ≡ None → C.goes_to run ≡ None }
     requires rooted { Rooted (view_of seat).places }
     requires have { (i : ℕ) → count i onward.now ≤ count i (view_of seat).held }
-    requires one_side { (i : ℕ) → 0 < count i onward.now → count (left_slot i) (view_of seat).sides + count (right_slot i) (view_of seat).sides ≤ 1 }
-    ensures split { IfSplit result (λ l r. CanFork (table_id_of counts.now) l.place l.seat × CanFork (table_id_of counts.now) r.place r.seat) }
-    ensures places { IfSplit result (λ l r. (l.place ≡ place_at l.place.node l.place.root (C.tag_of run, true)) × (r.place ≡ place_at l.place.node l.place.root (C.tag_of run, false))) }
-    ensures tops { IfSplit result (λ l r. KnowsTop at onward.now l.place (view_of seat) (view_of l.seat) × KnowsTop at onward.now r.place (view_of seat) (view_of r.seat)) }
-    ensures credit { IfSplit result (λ l r. HalvesCredit (view_of seat).credit (view_of l.seat).credit (view_of r.seat).credit) }
+    requires one_side { (i : ℕ) → 0 < count i onward.now
+        → count (left_slot i) (view_of seat).sides + count (right_slot i) (view_of seat).sides ≤ 1 }
+    ensures split { IfSplit result (λ l r. CanFork (table_id_of counts.now) l.place l.seat
+        × CanFork (table_id_of counts.now) r.place r.seat) }
+    ensures places { IfSplit result (λ l r. (l.place ≡ place_at l.place.node l.place.root (C.tag_of run, true))
+        × (r.place ≡ place_at l.place.node l.place.root (C.tag_of run, false))) }
+    ensures tops { IfSplit result (λ l r. KnowsTop at onward.now l.place (view_of seat) (view_of l.seat)
+        × KnowsTop at onward.now r.place (view_of seat) (view_of r.seat)) }
+    ensures credit { IfSplit result (λ l r. HalvesCredit (view_of seat).credit (view_of l.seat).credit
+        (view_of r.seat).credit) }
     ensures why { IfWhole result (λ later _. ((view_of seat).credit ≡ 0) ⊎ ((view_of later).none_left ≡ true)) }
     ensures still { IfWhole result (λ later _. IfSome at (λ p. CanFork (table_id_of counts.now) p later)) }
     ensures whole { IfWhole result (λ later same. (same ≡ run) × IsSeatOf counts.now later × IsUnchanged seat later) }

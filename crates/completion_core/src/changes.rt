@@ -15,7 +15,8 @@ impl Graph {
     /// Takes an action that is legal.
     pub(crate) fn take(&mut self, action: Action) -> Result<Reply, AllocError>
         requires { IsAllowed action self.old }
-        ensures { MatchResult result (λ answer. IsTaken action self.old self.new answer) (λ _. (self.new ≡ self.old) × MayWant action self.old) }
+        ensures { MatchResult result (λ answer. IsTaken action self.old self.new answer)
+            (λ _. (self.new ≡ self.old) × MayWant action self.old) }
     {
         match action {
             Action::Claim { actor } => self.claim(actor),
@@ -34,7 +35,8 @@ impl Graph {
     }
 
     fn claim(&mut self, actor: Actor) -> Result<Reply, AllocError>
-        ensures { MatchResult result (λ answer. IsTaken (Claim actor) self.old self.new answer) (λ _. (self.new ≡ self.old) × MayWant (Claim actor) self.old) }
+        ensures { MatchResult result (λ answer. IsTaken (Claim actor) self.old self.new answer)
+            (λ _. (self.new ≡ self.old) × MayWant (Claim actor) self.old) }
     {
         let node = self.states.len();
         if node > self.nodes as usize {
@@ -52,7 +54,8 @@ impl Graph {
         onward: Nodes,
     ) -> Result<Reply, AllocError>
         requires { IsAllowed (Arm actor node pending onward) self.old }
-        ensures { MatchResult result (λ answer. IsTaken (Arm actor node pending onward) self.old self.new answer) (λ _. self.new ≡ self.old) }
+        ensures { MatchResult result (λ answer. IsTaken (Arm actor node pending onward) self.old self.new answer)
+            (λ _. self.new ≡ self.old) }
     {
         self.holdings.reserve(1)?;
         let owed = pending as u64 + 1;
@@ -79,7 +82,8 @@ impl Graph {
 
     fn give(&mut self, from: Actor, to: Actor, node: Node, k: u64) -> Result<Reply, AllocError>
         requires { IsAllowed (Give from to node k) self.old }
-        ensures { MatchResult result (λ answer. IsTaken (Give from to node k) self.old self.new answer) (λ _. (self.new ≡ self.old) × MayWant (Give from to node k) self.old) }
+        ensures { MatchResult result (λ answer. IsTaken (Give from to node k) self.old self.new answer)
+            (λ _. (self.new ≡ self.old) × MayWant (Give from to node k) self.old) }
     {
         if from != to && k != 0 {
             self.holdings.reserve(1)?;
@@ -99,7 +103,8 @@ impl Graph {
 
     fn run(&mut self, actor: Actor, node: Node) -> Result<Reply, AllocError>
         requires { IsAllowed (Run actor node) self.old }
-        ensures { MatchResult result (λ answer. IsTaken (Run actor node) self.old self.new answer) (λ _. (self.new ≡ self.old) × MayWant (Run actor node) self.old) }
+        ensures { MatchResult result (λ answer. IsTaken (Run actor node) self.old self.new answer)
+            (λ _. (self.new ≡ self.old) × MayWant (Run actor node) self.old) }
     {
         let entries = self.states[node as usize].kept.len();
         self.holdings.reserve(entries)?;

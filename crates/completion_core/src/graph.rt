@@ -32,7 +32,8 @@ impl Model for Graph {
 
     ghost view = { λ a. record { nodes = a.nodes; states = a.states.items; holdings = a.holdings.entries.entries } };
 
-    ghost invariant = { λ a. IsBook (record { nodes = a.nodes; states = a.states.items; holdings = a.holdings.entries.entries }) };
+    ghost invariant = { λ a.
+        IsBook (record { nodes = a.nodes; states = a.states.items; holdings = a.holdings.entries.entries }) };
 }
 
 impl Graph {
@@ -55,7 +56,9 @@ impl Graph {
 
     /// What is kept of a node that was drawn; `None` for END too.
     pub(crate) fn drawn(&self, node: Node) -> Option<&NodeState>
-        ensures { MatchOption result (0 < node → length self.now.states ≤ node) (λ state. (0 < node) × (node < length self.now.states) × (state.now ≡ state_of self.now.states node) × (state.now.owed ≤ 2 ^ 62)) }
+        ensures { MatchOption result (0 < node → length self.now.states ≤ node) (λ state. (0 < node)
+            × (node < length self.now.states) × (state.now ≡ state_of self.now.states node)
+            × (state.now.owed ≤ 2 ^ 62)) }
     {
         if node == END {
             return None;

@@ -25,7 +25,8 @@ pub struct NodeState {
 impl NodeState {
     /// A node that an actor claims, with `owed` arrivals to begin with.
     pub fn new(alloc: Global, claimer: Actor, owed: u64) -> NodeState
-        ensures { result ≡ record { claimer = claimer; armed = false; ran = false; owed = owed; left = owed; last = None; kept = [] } }
+        ensures { result ≡
+            record { claimer = claimer; armed = false; ran = false; owed = owed; left = owed; last = None; kept = [] } }
     {
         NodeState {
             claimer,
@@ -41,7 +42,10 @@ impl NodeState {
     /// Takes one made arrival more into account.
     pub fn arrive(&mut self, actor: Actor) -> Reply
         requires { 0 < self.old.left }
-        ensures state { self.new ≡ record self.old { left = self.old.left - 1; last = (if self.old.left - 1 == 0 then Some actor else self.old.last) } }
+        ensures state { self.new ≡ record self.old {
+          left = self.old.left - 1;
+          last = (if self.old.left - 1 == 0 then Some actor else self.old.last);
+        } }
         ensures reply { result ≡ reply_of_arrival (self.old.left - 1) }
     {
         self.left -= 1;

@@ -33,7 +33,8 @@ pub fn play(
 
     // The refusal is the one of the first action that can't be taken. It is for memory or room only where the list
     // isn't legal.
-    ensures refused { IfErr result (λ e. IsFirstRefused e.0 e.1 actions.now (start nodes ends) ⊎ ((e.0 ≡ 0) × (e.1 ≡ NoMemory))) }
+    ensures refused { IfErr result (λ e. IsFirstRefused e.0 e.1 actions.now (start nodes ends)
+        ⊎ ((e.0 ≡ 0) × (e.1 ≡ NoMemory))) }
     ensures illegal { IfErr result (λ e. rank e.1 < 7 → ¬ LegalAll actions.now (start nodes ends)) }
 {
     let Ok(mut graph) = Graph::new(alloc, nodes, ends) else {
@@ -50,9 +51,11 @@ pub fn play(
 
 /// One action of a list, which stays in the list. A run goes into the log.
 fn replay(graph: &mut Graph, runs: &mut Vec<Node>, action: &Action) -> Result<(), Illegal>
-    ensures taken { IfOk result (λ _. (g : PureGraph) → StandsFor graph.old g → Legal action.now g × StandsFor graph.new (after action.now g)) }
+    ensures taken { IfOk result (λ _. (g : PureGraph) → StandsFor graph.old g
+        → Legal action.now g × StandsFor graph.new (after action.now g)) }
     ensures logged { OnOk result (runs.new.items ≡ runs.old.items ++ log (action.now ∷ [])) }
-    ensures refused { IfErr result (λ reason. (g : PureGraph) → StandsFor graph.old g → IsRefusal reason action.now g ⊎ LacksLog reason action.now g) }
+    ensures refused { IfErr result (λ reason. (g : PureGraph) → StandsFor graph.old g
+        → IsRefusal reason action.now g ⊎ LacksLog reason action.now g) }
 {
     graph.refusal_of(action)?;
     graph.take(action.clone()?)?;

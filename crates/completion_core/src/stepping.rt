@@ -19,7 +19,8 @@ pub fn step(graph: &mut Graph, action: Action) -> Result<Reply, Illegal>
 
     // A refusal names the first demand that isn't met. All but the two limits of the store are parts of `Legal`.
     ensures refused { IfErr result (λ reason. (g : PureGraph) → StandsFor graph.old g → IsRefusal reason action g) }
-    ensures illegal { IfErr result (λ reason. rank reason < 7 → (g : PureGraph) → StandsFor graph.old g → ¬ Legal action g) }
+    ensures illegal { IfErr result (λ reason. rank reason < 7 → (g : PureGraph) → StandsFor graph.old g
+        → ¬ Legal action g) }
     ensures unchanged { OnErr result (graph.new ≡ graph.old) }
 {
     graph.refusal_of(&action)?;

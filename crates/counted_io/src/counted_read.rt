@@ -1,5 +1,6 @@
 //! Readers that count their failed reads, and the whole of what one gives.
-ghost use Rattle.std.specs.Prelude.{◌≡◌, ◌≢◌, ◌+◌, ◌<◌, ◌≤◌, ℕ, true, List, length, take, drop, vec_len, IfOk, IfErr, IfSome, OnOk, OnErr, Option};
+ghost use Rattle.std.specs.Prelude.{◌≡◌, ◌≢◌, ◌+◌, ◌<◌, ◌≤◌, ℕ, true, List, length, take};
+ghost use Rattle.std.specs.Prelude.{drop, vec_len, IfOk, IfErr, IfSome, OnOk, OnErr, Option};
 ghost use Rattle.std.specs.Io.{ReadsAtMost};
 ghost use Rattle.std.specs.Io.KnownBytes.{Consumes, IsAtEnd, Keeps, ReadConsumes};
 ghost use Rattle.counted_io.specs.CountedRead.{GaveSome, HasGiven, counted_reader, failed_reads, failures_after};
@@ -148,7 +149,8 @@ pub fn read_up_to<R: CountedRead>(
     bytes: &mut Vec<u8>,
     limit: usize,
 ) -> Result<bool, ReadAllFault>
-    ensures bytes { OnOk result (HasGiven (R.remaining reader.old) (R.remaining reader.new) bytes.old.items bytes.new.items) }
+    ensures bytes { OnOk result
+        (HasGiven (R.remaining reader.old) (R.remaining reader.new) bytes.old.items bytes.new.items) }
     ensures end { IfOk result (λ is_end. is_end ≡ true → IsAtEnd (R.remaining reader.new)) }
     ensures failed { IfErr result (λ fault. fault ≡ ReadAllFault.Failed
         → HasRisen (R.failures reader.old) (R.failures reader.new)) }

@@ -1,5 +1,6 @@
 //! Writers that count their failed writes, and writing all of some bytes to one.
-ghost use Rattle.std.specs.Prelude.{◌≡◌, ◌<◌, ◌≤◌, ℕ, List, Option, length, take, IfOk, IfErr, IfSome, IfNone, OnOk, OnErr};
+ghost use Rattle.std.specs.Prelude.{◌≡◌, ◌<◌, ◌≤◌, ℕ, List, Option, length, take};
+ghost use Rattle.std.specs.Prelude.{IfOk, IfErr, IfSome, IfNone, OnOk, OnErr};
 ghost use Rattle.std.specs.Io.{WritesAtMost};
 ghost use Rattle.std.specs.Io.KnownBytes.{Appends, Keeps, WriteAppends};
 ghost use Rattle.counted_io.specs.CountedWrite.{counted_writer, failed_writes, failures_after_write};
@@ -96,7 +97,8 @@ pub struct WriteFault {
 /// tried again, as std's writers do it, and its failure stays counted.
 pub fn write_all_of<W: CountedWrite>(writer: &mut W, bytes: &[u8]) -> Result<(), WriteFault>
     ensures ok { OnOk result (Appends (W.contents writer.old) (W.contents writer.new) bytes.now) }
-    ensures err { IfErr result (λ fault. Appends (W.contents writer.old) (W.contents writer.new) (take fault.written bytes.now)) }
+    ensures err { IfErr result (λ fault. Appends (W.contents writer.old) (W.contents writer.new)
+        (take fault.written bytes.now)) }
     ensures short { IfErr result (λ fault. fault.written < length bytes.now) }
     ensures failed { OnErr result (HasRisen (W.failures writer.old) (W.failures writer.new)) }
     ensures counts { W.failures writer.old ≤ W.failures writer.new }

@@ -1,6 +1,7 @@
 //! The handles of a deque and of an inbox.
 ghost use Rattle.std.specs.Prelude.{◌≡◌, ◌≤◌, length};
-ghost use Rattle.crossbeam_deque.specs.Handles.{IsPassOf, stealer_deque, worker_capacity, worker_flavor, worker_index, worker_view};
+ghost use Rattle.crossbeam_deque.specs.Handles.{IsPassOf, stealer_deque, worker_capacity};
+ghost use Rattle.crossbeam_deque.specs.Handles.{worker_flavor, worker_index, worker_view};
 
 use crate::calls::Calls;
 use crate::rule::History;

@@ -36,7 +36,8 @@ impl<T: Drop> Inbox<T> {
     pub fn put<R: Wait>(&self, rt: &R, pass: Pass<T>, task: T) -> (Pass<T>, Result<(), T>)
         requires { IsOf self.now pass }
         ensures same { IsOf self.now result.0 }
-        ensures put { MatchResult result.1 (λ _. IsAdded (pass_calls pass) (pass_calls result.0) task) (λ back. (back ≡ task) × (pass_calls result.0 ≡ pass_calls pass)) }
+        ensures put { MatchResult result.1 (λ _. IsAdded (pass_calls pass) (pass_calls result.0) task)
+            (λ back. (back ≡ task) × (pass_calls result.0 ≡ pass_calls pass)) }
     {
         let Pass { mut pass } = pass;
         let put = self.injector.push_as::<Put, R>(rt, &mut pass, task);
@@ -48,7 +49,8 @@ impl<T: Drop> Inbox<T> {
     pub fn take<R: Wait>(&self, rt: &R, pass: Pass<T>) -> (Pass<T>, Option<T>)
         requires { IsOf self.now pass }
         ensures same { IsOf self.now result.0 }
-        ensures taken { MatchOption result.1 ((pass_calls result.0 ≡ pass_calls pass) × WasEmpty (pass_calls pass)) (λ task. IsOldestOut (pass_calls pass) (pass_calls result.0) task) }
+        ensures taken { MatchOption result.1 ((pass_calls result.0 ≡ pass_calls pass) × WasEmpty (pass_calls pass))
+            (λ task. IsOldestOut (pass_calls pass) (pass_calls result.0) task) }
     {
         let Pass { mut pass } = pass;
         for _ in rt.forever() {

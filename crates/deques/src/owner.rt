@@ -32,7 +32,8 @@ impl<T: Drop> Owner<T> {
     #[tactic(auto, using(crate::proofs::Keeps::adds))]
     pub fn push(&mut self, task: T) -> Result<(), T>
         ensures same { SameDeque self.old self.new }
-        ensures pushed { MatchResult result (λ _. IsAdded (owner_calls self.old) (owner_calls self.new) task) (λ back. (back ≡ task) × (owner_calls self.new ≡ owner_calls self.old)) }
+        ensures pushed { MatchResult result (λ _. IsAdded (owner_calls self.old) (owner_calls self.new) task)
+            (λ back. (back ≡ task) × (owner_calls self.new ≡ owner_calls self.old)) }
         ensures refused { IfErr result (λ _. 64 ≤ length (owner_calls self.old)) }
     {
         self.worker.push_as::<Put>(task)
@@ -42,7 +43,9 @@ impl<T: Drop> Owner<T> {
     #[tactic(auto, using(crate::proofs::Keeps::pops))]
     pub fn pop(&mut self) -> Option<T>
         ensures same { SameDeque self.old self.new }
-        ensures popped { MatchOption result ((owner_calls self.new ≡ owner_calls self.old) × WasEmpty (owner_calls self.old)) (λ task. IsNewestOut (owner_calls self.old) (owner_calls self.new) task) }
+        ensures popped { MatchOption result
+            ((owner_calls self.new ≡ owner_calls self.old) × WasEmpty (owner_calls self.old))
+            (λ task. IsNewestOut (owner_calls self.old) (owner_calls self.new) task) }
     {
         self.worker.pop_as::<Pop>()
     }

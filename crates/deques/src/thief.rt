@@ -27,7 +27,9 @@ impl<T: Drop> Thief<T> {
     #[tactic(auto, using(crate::proofs::Keeps::takes))]
     pub fn steal(&mut self) -> Option<T>
         ensures same { SamePrey self.old self.new }
-        ensures stolen { MatchOption result ((thief_calls self.new ≡ thief_calls self.old) × ((thief_seen self.old < thief_seen self.new) ⊎ WasNearlyEmpty (thief_calls self.old))) (λ task. IsOldestOut (thief_calls self.old) (thief_calls self.new) task) }
+        ensures stolen { MatchOption result ((thief_calls self.new ≡ thief_calls self.old)
+            × ((thief_seen self.old < thief_seen self.new) ⊎ WasNearlyEmpty (thief_calls self.old)))
+            (λ task. IsOldestOut (thief_calls self.old) (thief_calls self.new) task) }
     {
         match self.stealer.steal_as::<Theft>(&mut self.pass) {
             Steal::Success(task) => Some(task),

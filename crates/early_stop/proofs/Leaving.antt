@@ -1,5 +1,5 @@
 -- What may be left unwalked.
-use Rattle.std.proofs.Common.{◌≡◌, ℕ, zero, suc, ◌+◌, ◌-◌, ◌<◌, ◌≤◌, min, List, [], ◌∷◌, ◌++◌, length, take, drop, sym, refl, ap, ◌∙◌, subst, inl, inr, ⊎_elim, arith, length-append}
+use Rattle.std.proofs.Common.{◌≡◌, ℕ, zero, suc, ◌+◌, ◌-◌, ◌≤◌, min, List, [], ◌∷◌, ◌++◌, length, take, drop, sym, refl, ap, ◌∙◌, subst, inl, inr, ⊎_elim, arith, length-append}
 use Rattle.std.specs.Prelude.{◌⊎◌}
 use Rattle.std.proofs.Math.Seq.{take-append-add}
 use Rattle.std.proofs.lemmas.List.{take-append-le}
@@ -8,7 +8,7 @@ use native.Mathlib.Decide.{ℕ_discrete, dec_le}
 use Rattle.trace.specs.declared.item.Item.{Item}
 use Rattle.trace.specs.declared.item.End.{End}
 use Rattle.trace.specs.declared.item.End.TheVariants as end
-use Rattle.trace.specs.Trace.{Trace, trace, nothing, then_on, append}
+use Rattle.trace.specs.Trace.{Trace, trace, then_on, append}
 use Rattle.early_stop.specs.Decisive.{BeginsAs, Decides}
 use Rattle.early_stop.specs.Leaving.{IsEnough}
 
@@ -75,10 +75,6 @@ module _ (decides : ℕ → Type 0) where
   -- a piece that begins at or right of a decisive place
   pub enough_left : (at c : ℕ) (s t : Trace) → decides c → c ≤ at → IsEnough decides at s t
   enough_left at c s t ok h = let z : c - at ≡ 0 = omega arith in inr (c, ok, subst (λ k. BeginsAs k s t) (sym z) ((λ low. refl), λ few. absurd (omega arith)))
-
-  -- a piece whose first part alone was walked, up to a decisive place or beyond it
-  pub enough_begun : (at c m : ℕ) (s t b : Trace) → decides c → c ≤ at + m → length s.items ≡ m → IsEnough decides at (append s b) (append s nothing)
-  enough_begun at c m s t b ok h l = inr (c, ok, begins_cut (c - at) s s b nothing (omega arith) ((λ low. refl), λ few. refl))
 
   -- pieces side by side
   pub enough_joined : (at : ℕ) (s t b d : Trace) → IsEnough decides at s t → IsEnough decides (at + length s.items) b d → IsEnough decides at (append s b) (append t d)

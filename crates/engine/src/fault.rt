@@ -46,7 +46,8 @@ impl Error for EngineFault {}
 
 /// Writes what a message says of a refused job file.
 fn write_refusal<W: Write>(refused: &JobFault, f: &mut Formatter<W>) -> fmt::Result
-    ensures { DisplaysOnOk W.write_str_gives f.old result (Some (refusal_text refused.now.line refused.now.cause)) f.new }
+    ensures { DisplaysOnOk W.write_str_gives f.old result
+        (Some (refusal_text refused.now.line refused.now.cause)) f.new }
 {
     let line = refused.line;
     match refused.cause {

@@ -33,7 +33,8 @@ pub fn settings_change_no_byte()
     ensures written { (input : Input) (before : List ℕ) (after other : Option (List ℕ))
         → Reported input (Some before) after → Reported input (Some before) other → after ≡ other }
     ensures cut { (input : Input) (before report : List ℕ) (after : Option (List ℕ)) (n : ℕ)
-        → Faulted input (Some before) after (engine_fault.Write n) → IsReport input report → after ≡ Some (before ++ take n report) }
+        → Faulted input (Some before) after (engine_fault.Write n) → IsReport input report
+        → after ≡ Some (before ++ take n report) }
 {}
 
 /// What the definitions give for a small job file, from its bytes on: a number after a fault in a file of version 2,

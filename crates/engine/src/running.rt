@@ -16,13 +16,13 @@ ghost use Rattle.stream_tokens.specs.Forms.{IsName};
 
 use crate::fault::EngineFault;
 use crate::gate::RunGate;
-use columns::{ColumnFault, Columns, CountedRead, read_columns_by};
-use counted_io::{ReadAllFault, read_all_of};
+use columns::{ColumnFault, Columns, read_columns_by};
+use counted_io::{CountedRead, CountedWrite, ReadAllFault, WriteFault, read_all_of};
 use job_language::{Job, read_jobs};
 use job_meaning::Answer;
 use job_plan::{JobPlan, Plan};
 use job_table::{RunFault, run_jobs};
-use report::{CountedWrite, Report, WriteFault, json_by, text_by, write_report};
+use report::{Report, json_by, text_by, write_report};
 use run_settings::{Form, Settings};
 use std::alloc::Global;
 use std::sync::Wait;
@@ -193,7 +193,8 @@ fn written<H: Threads + Wait + Sync, G: RunGate + Sync>(
 ) -> Result<Report, NoMemory>
     requires names { All IsName (names_of (jobs_of jobs.items)) }
     ensures { IfOk result (λ report. report
-        ≡ report_in (form_of settings.now) (names_of (jobs_of jobs.entry.items)) (meaning_of (jobs_of jobs.entry.items))) }
+        ≡ report_in (form_of settings.now) (names_of (jobs_of jobs.entry.items))
+        (meaning_of (jobs_of jobs.entry.items))) }
 {
     let plan = Plan::of(alloc, jobs)?;
     let plan = plan.with_slices_first(alloc)?;

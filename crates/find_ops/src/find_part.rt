@@ -14,9 +14,9 @@ use trace::{Chunk, End, Fault, Item, SourceItems};
 /// The answer of a find or a match.
 #[derive(Clone, Copy, PartialEq, Eq)]
 pub enum Found {
-    /// Of `findFirst`: the first value, if there is one.
+    /// The answer of `findFirst`: the first value, if there is one.
     Value(Option<i64>),
-    /// Of a match.
+    /// The answer of a match.
     Truth(bool),
 }
 
@@ -34,7 +34,8 @@ pub struct FindPart {
 impl FindPart {
     /// The part of a piece without items that ended so.
     pub fn none(terminal: &FindTerminal, end: End) -> FindPart
-        ensures stands { (stage : ℕ) (env : Numbers) → StandsFor (find_of terminal.now) stage env result (trace [] end) }
+        ensures stands { (stage : ℕ) (env : Numbers)
+            → StandsFor (find_of terminal.now) stage env result (trace [] end) }
     {
         FindPart {
             decision: decision_at(end),
@@ -79,7 +80,8 @@ impl FindPart {
         source: &I,
         position: u64,
     ) -> FindPart
-        requires undecided { first_decision (find_of terminal.now) stage env.now (take position (I.items source.now)) ≡ None }
+        requires undecided { first_decision (find_of terminal.now) stage env.now
+            (take position (I.items source.now)) ≡ None }
         ensures stands { (t : Trace) → StandsFor (find_of terminal.now) stage env.now self t
             → StandsFor (find_of terminal.now) stage env.now result (append t (trace (I.items source.now) end.Done)) }
     {
@@ -123,7 +125,8 @@ impl FindPart {
 
     /// The answer of the terminal, or the fault that comes before it.
     pub fn finish(self) -> Result<Found, Fault>
-        ensures { (d : Find) (stage : ℕ) (env : Numbers) (t : Trace) → StandsFor d stage env self t → result ≡ find_answer d stage env t }
+        ensures { (d : Find) (stage : ℕ) (env : Numbers) (t : Trace) → StandsFor d stage env self t
+            → result ≡ find_answer d stage env t }
     {
         match self.decision {
             Some(decision) => decision,

@@ -48,7 +48,8 @@ impl<'a> Finder<'a> {
 }
 
 impl LongSink for Finder<'_> {
-    ghost has_taken = { λ finder items. StandsFor (find_of finder.terminal.now) finder.stage finder.env.now finder.part (trace items end.Done) };
+    ghost has_taken = { λ finder items.
+        StandsFor (find_of finder.terminal.now) finder.stage finder.env.now finder.part (trace items end.Done) };
 
     ghost flow = { λ finder. if is_some finder.part.decision then flow.Enough else flow.More };
 

@@ -80,7 +80,8 @@ impl FindTerminal {
         env: &Env,
         pieces: &[Vec<Item>],
     ) -> Option<Result<Found, Fault>>
-        ensures { result ≡ first_decision (find_of self.now) stage env.now (flat_map (λ piece. piece.items) pieces.now) }
+        ensures { result ≡ first_decision (find_of self.now) stage env.now
+            (flat_map (λ piece. piece.items) pieces.now) }
     {
         for piece in pieces {
             if let Some(decision) = self.first_decision(stage, env, piece) {
@@ -99,7 +100,8 @@ impl FindTerminal {
         source: &I,
         position: u64,
     ) -> Option<Result<Found, Fault>>
-        requires undecided { first_decision (find_of self.now) stage env.now (take position (I.items source.now)) ≡ None }
+        requires undecided { first_decision (find_of self.now) stage env.now (take position (I.items source.now))
+            ≡ None }
         ensures { result ≡ first_decision (find_of self.now) stage env.now (I.items source.now) }
     {
         for next in position..source.count() {

@@ -30,18 +30,11 @@ fit_again o n i (a ∷ xs) h = ap (λ b. b && fits_from o n (suc i) xs) h.0 ∙ 
 -- nothing is no part
 nothing_fits : (p : Param) → fits p [] ≡ false
 nothing_fits param.Number = refl
-nothing_fits param.Text = refl
-nothing_fits param.Name = refl
-nothing_fits param.Long = refl
-nothing_fits param.Bool = refl
-nothing_fits param.Stream = refl
-nothing_fits param.Operator = refl
+nothing_fits x = refl
 
 no_empty : (o : Operation) (n i : ℕ) (xs : List (List Word)) → FitFrom o n i xs → AreNoEmpty xs
-no_empty o n i [] h = tt
 no_empty o n i ([] ∷ []) h = let e : true ≡ false = sym h.0 ∙ nothing_fits (param_of o n i) in absurd cc
-no_empty o n i ([] ∷ b ∷ xs) h = tt
-no_empty o n i ((w ∷ a) ∷ xs) h = tt
+no_empty o n i x h = tt
 
 -- a call is read as it was written
 pub reads_call : (c : Call) (rest ws : List Word) → Completes c rest ws → reads start ws ≡ closed c.parts

@@ -47,9 +47,7 @@ grown j (as_source t) a ks g e h le = let w = what source (taken t a ks) g e in 
 grown j as_concat a ks g e h le = absurd cc
 grown j (as_stage t) a ks g e h le =
     let w = what stage (taken t a ks) g e in
-    let lt = below (length j.stages) h in
-    let one = length-append j.stages (w.0 ∷ []) in
-    let more : length (added j (stage w.0)).stages ≤ 32 = omega arith in
+    let more : length (added j (stage w.0)).stages ≤ 32 = omega (arith, length-append j.stages (w.0 ∷ []), below (length j.stages) h) in
     subst (λ v. length (added j v).stages ≤ 32) w.1 more
 grown j (as_terminal t) a ks g e h le = let w = what terminal (taken t a ks) g e in subst (λ v. length (added j v).stages ≤ 32) w.1 le
 grown j (as_fallback t) a ks g e h le = let w = what fallback (taken t a ks) g e in subst (λ v. length (added j v).stages ≤ 32) w.1 le
@@ -68,8 +66,7 @@ after_turn j s t c g r le = in_turn j s t c g (stage_cause (length j.stages) (ro
 
 by_terminal : (d : Gives) (j : BegunJob) (z : ℤ) (g : AbstractCall) → fallback_for d z ≡ Ok g → length j.stages ≤ 32 → length (added j g).stages ≤ 32
 by_terminal gives.Number j z g h le = let same : fallback z ≡ g = cc in subst (λ v. length (added j v).stages ≤ 32) same le
-by_terminal gives.Boolean j z g h le = absurd cc
-by_terminal gives.Array j z g h le = absurd cc
+by_terminal x j z g h le = absurd cc
 
 by_below : (d : Option AbstractTerminal) (j : BegunJob) (z : ℤ) (g : AbstractCall) → fallback_below d z ≡ Ok g → length j.stages ≤ 32 → length (added j g).stages ≤ 32
 by_below None j z g h le = absurd cc
@@ -115,10 +112,7 @@ stages_push (x ∷ xs) ys = ap (λ v. job_stage_of x ∷ v) (stages_push xs ys)
 -- the stages after a push that may fail
 pub few_pushed : (pushed : Bool) (gs hs : List JobStage) (g : JobStage) → hs ≡ (if pushed then gs ++ g ∷ [] else gs) → length (job_stages_of gs ++ job_stage_of g ∷ []) ≤ 32 → length gs ≤ 32 → length hs ≤ 32
 few_pushed true gs hs g e more few =
-    let one = length-append (job_stages_of gs) (job_stage_of g ∷ []) in
-    let same = length_stages gs in
-    let two = length-append gs (g ∷ []) in
-    subst (λ v. length v ≤ 32) (sym e) (omega arith)
+    subst (λ v. length v ≤ 32) (sym e) (omega (arith, length-append gs (g ∷ []), length_stages gs, length-append (job_stages_of gs) (job_stage_of g ∷ [])))
 few_pushed false gs hs g e more few = subst (λ v. length v ≤ 32) (sym e) few
 
 pub none_left : (s : Scope) (t : TokenizedText) (j : BegunJob) (ws : List Word) (cs : List written.WrittenCall) (i : ℕ) → length cs ≤ i → AreRead s t j (all_placed ws (drop i cs)) (finished j)

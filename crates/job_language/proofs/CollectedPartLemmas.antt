@@ -1,7 +1,5 @@
 -- What is collected of a call: its numbers, its last part.
-use Rattle.std.proofs.Common.{◌≡◌, ◌≢◌, ℕ, suc, ◌+◌, ◌<◌, false, List, [], ◌∷◌, ◌++◌, length, drop, get_or, Some, None, Err, refl, sym, ap, ◌∙◌, arith}
-use Rattle.std.specs.Prelude.{nat_eq, if◌then◌else◌}
-use Rattle.std.specs.Cmp.Lexicographic.{pointwise}
+use Rattle.std.proofs.Common.{◌≡◌, ◌≢◌, ℕ, suc, ◌+◌, ◌<◌, List, [], ◌∷◌, ◌++◌, length, drop, get_or, None, Err, refl, sym, ap, ◌∙◌, arith}
 use Rattle.std.proofs.lemmas.List.{drop_more}
 use Rattle.stream_tokens.specs.declared.symbol.Symbol.TheVariants as symbol
 use Rattle.lambda_expr.specs.Words.{Word, named, quoted, sign}
@@ -9,7 +7,6 @@ use Rattle.lambda_expr.specs.Refusals.{IsRefused}
 use Rattle.lambda_expr.specs.declared.fault.ReadFault.{ReadFault}
 use Rattle.lambda_expr.specs.declared.fault.ReadFault.TheVariants as fault
 use Rattle.lambda_expr.specs.declared.want.Want.{Want}
-use Rattle.reduce_ops.specs.declared.op.Op.{Op}
 use Rattle.lambda_expr.specs.declared.word.Word as code
 use Rattle.job_language.specs.declared.operation.Operation.{Operation}
 use Rattle.job_language.specs.declared.fault.Cause.{Cause}
@@ -18,12 +15,8 @@ use Rattle.job_language.specs.Table.{name_in, param_of, string_in}
 use Rattle.lambda_expr.specs.CodeWords.{word_of, words_in}
 use Rattle.job_language.specs.FaultCauses.{cause_of}
 use Rattle.job_language.specs.Causes.{Scope, number_in, numbers_of}
-use Rattle.job_language.specs.Operators.{method_in, op_name, op_among}
+use Rattle.job_language.specs.Operators.{method_in}
 use Rattle.job_language.specs.Arguments.{IsLambdaRead}
-
--- an operator with another name is skipped
-pub op_more : (os : List Op) (i : ℕ) (w : List ℕ) (d : Op) → i < length os → pointwise nat_eq w (op_name (get_or os i d)) ≡ false → op_among (drop i os) w ≡ op_among (drop (i + 1) os) w
-op_more os i w d lt other = ap (λ v. op_among v w) (drop_more os i d lt) ∙ ap (λ b. if b then Some (get_or os i d) else op_among (drop (i + 1) os) w) other
 
 -- the numbers of a call from a part on
 pub values_more : (o : Operation) (n i : ℕ) (xs : List (List Word)) → i < length xs → numbers_of o n i (drop i xs) ≡ number_in (param_of o n i) (get_or xs i []) ++ numbers_of o n (i + 1) (drop (i + 1) xs)
@@ -38,9 +31,8 @@ no_string_for (quoted w) b ws = refl
 no_string_for a b ws = refl
 
 pub one_word : (ws : List code.Word) (d : code.Word) → length ws ≡ 1 → word_of (get_or ws 0 d) ∷ [] ≡ words_in ws
-one_word [] d h = absurd (omega arith)
 one_word (a ∷ []) d h = refl
-one_word (a ∷ b ∷ ws) d h = absurd (omega arith)
+one_word x d h = absurd (omega arith)
 
 pub no_string : (ws : List code.Word) → (length ws ≡ 1 → ⊥) → None ≡ string_in (words_in ws)
 no_string [] h = refl
@@ -57,11 +49,8 @@ no_name (a ∷ []) h = absurd (h refl)
 no_name (a ∷ b ∷ ws) h = no_name_for (word_of a) (word_of b) (words_in ws)
 
 pub three_words : (ws : List code.Word) (d : code.Word) → length ws ≡ 3 → word_of (get_or ws 0 d) ∷ word_of (get_or ws 1 d) ∷ word_of (get_or ws 2 d) ∷ [] ≡ words_in ws
-three_words [] d h = absurd (omega arith)
-three_words (a ∷ []) d h = absurd (omega arith)
-three_words (a ∷ b ∷ []) d h = absurd (omega arith)
 three_words (a ∷ b ∷ c ∷ []) d h = refl
-three_words (a ∷ b ∷ c ∷ e ∷ ws) d h = absurd (omega arith)
+three_words x d h = absurd (omega arith)
 
 -- words too few or too many for a method
 no_method_one : (a : Word) → None ≡ method_in (a ∷ [])
@@ -70,13 +59,10 @@ no_method_one a = refl
 
 no_method_two : (a b : Word) → None ≡ method_in (a ∷ b ∷ [])
 no_method_two (named v) (sign symbol.DoubleColon) = refl
-no_method_two (named v) b = refl
 no_method_two a b = refl
 
 no_method_for : (a b c d : Word) (ws : List Word) → None ≡ method_in (a ∷ b ∷ c ∷ d ∷ ws)
 no_method_for (named v) (sign symbol.DoubleColon) (named w) d ws = refl
-no_method_for (named v) (sign symbol.DoubleColon) c d ws = refl
-no_method_for (named v) b c d ws = refl
 no_method_for a b c d ws = refl
 
 pub no_method : (ws : List code.Word) → (length ws ≡ 3 → ⊥) → None ≡ method_in (words_in ws)
@@ -88,9 +74,5 @@ no_method (a ∷ b ∷ c ∷ d ∷ ws) h = no_method_for (word_of a) (word_of b)
 
 -- a lambda that is refused
 pub lambda_refused : (s : Scope) (text : List ℕ) (w : Want) (f : ReadFault) (e : Cause) → IsRefused text w f → e ≡ cause_of f → e ≢ cause.NoMemory → IsLambdaRead s text w (Err e)
-lambda_refused s text w (fault.Syntax n) e h is other = (Err (fault.Syntax n), h, ap Err (sym is))
-lambda_refused s text w fault.WrongType e h is other = (Err fault.WrongType, h, ap Err (sym is))
-lambda_refused s text w fault.UnknownName e h is other = (Err fault.UnknownName, h, ap Err (sym is))
-lambda_refused s text w fault.TooDeep e h is other = (Err fault.TooDeep, h, ap Err (sym is))
-lambda_refused s text w fault.LiteralTooLarge e h is other = (Err fault.LiteralTooLarge, h, ap Err (sym is))
 lambda_refused s text w fault.NoMemory e h is other = absurd (other is)
+lambda_refused s text w f e h is other = (Err f, h, ap Err (sym is))

@@ -98,8 +98,7 @@ after_token text ts b cut lt f =
 step : (text : List ℕ) (ts : List Token) (b : ℕ) → CutBetween text 0 ts b → b < length text → (q : Bool) → is_blank (slice_index text b) ≡ q → (c : ℕ) × (us : List Token) × (b < c) × (c ≤ length text) × CutBetween text 0 us c
 step text ts b cut lt true h = (b + 1, ts, omega arith, omega arith, cut_blank text 0 ts b lt cut h)
 step text ts b cut lt false h =
-    let left = length-drop b text in
-    after_token text ts b cut lt (each_first (drop b text) (omega arith) (ap is_blank (front_byte text b) ∙ h))
+    after_token text ts b cut lt (each_first (drop b text) (omega (arith, length-drop b text)) (ap is_blank (front_byte text b) ∙ h))
 
 cut_from : (size : ℕ) (text : List ℕ) (ts : List Token) (b : ℕ) → CutBetween text 0 ts b → b ≤ length text → length text - b ≤ size → IsCutFrom text
 cut_from zero text ts b cut le few = let end : b ≡ length text = omega arith in (ts, subst (CutBetween text 0 ts) end cut)

@@ -73,13 +73,11 @@ no_piece_by w ws none_first p rest k e =
 
 -- signs
 sign_first : (p : Piece) (s : Symbol) → mark_of_symbol s ≡ None → first_word p ≡ sign s → ⊥
-sign_first (call c) s h e = absurd cc
-sign_first begin_concat s h e = absurd cc
-sign_first owner s h e = absurd cc
 sign_first comma s h e = let same : symbol.Comma ≡ s = cc in let f : Some mark.Comma ≡ None = ap mark_of_symbol same ∙ h in absurd cc
 sign_first close s h e = let same : symbol.Close ≡ s = cc in let f : Some mark.Close ≡ None = ap mark_of_symbol same ∙ h in absurd cc
 sign_first dot s h e = let same : symbol.Dot ≡ s = cc in let f : Some mark.Dot ≡ None = ap mark_of_symbol same ∙ h in absurd cc
 sign_first semicolon s h e = let same : symbol.Semicolon ≡ s = cc in let f : Some mark.Semicolon ≡ None = ap mark_of_symbol same ∙ h in absurd cc
+sign_first x s h e = absurd cc
 
 front_sign : (s : Symbol) (ws : List Word) → Fronted (sign s ∷ ws)
 front_sign symbol.Comma ws = inl (comma, ws, tt, refl)
@@ -93,14 +91,9 @@ unnamed : (p : Piece) (n : List ℕ) → (n ≡ codes "LongStream" → ⊥) → 
 unnamed (call c) n other h e = let same : name_of c.operation ≡ n = cc in let f : Some c.operation ≡ None = sym (named_back c.operation) ∙ ap operation_of same ∙ h in absurd cc
 unnamed begin_concat n other h e = let same : name_of op.Concat ≡ n = cc in let f : Some op.Concat ≡ None = sym (named_back op.Concat) ∙ ap operation_of same ∙ h in absurd cc
 unnamed owner n other h e = other (let same : codes "LongStream" ≡ n = cc in sym same)
-unnamed comma n other h e = absurd cc
-unnamed close n other h e = absurd cc
-unnamed dot n other h e = absurd cc
-unnamed semicolon n other h e = absurd cc
+unnamed x n other h e = absurd cc
 
 name_alone : (n : List ℕ) → (n ≡ codes "LongStream" → ⊥) → IsNoPiece (named n ∷ [])
-name_alone n other (call c) rest k e = absurd cc
-name_alone n other begin_concat rest k e = absurd cc
 name_alone n other owner rest k e = other (let same : codes "LongStream" ≡ n = cc in sym same)
 name_alone n other p rest k e = absurd cc
 
@@ -163,8 +156,7 @@ AreNoPieces ws = (ps : List Piece) → ArePieces ps → pieces_words ps ≡ ws �
 shorter : (p : Piece) (rest ws : List Word) → piece_words p ++ rest ≡ ws → length rest < length ws
 shorter p rest ws e =
     let all : length (first_word p ∷ (later_words p ++ rest)) ≡ length ws = ap length (ap (λ v. v ++ rest) (sym (words_of_piece p)) ∙ e) in
-    let later = length-append (later_words p) rest in
-    omega arith
+    omega (arith, length-append (later_words p) rest)
 
 no_pieces_there : (w : Word) (ws : List Word) → IsNoPiece (w ∷ ws) → AreNoPieces (w ∷ ws)
 no_pieces_there w ws none_first [] k e = absurd cc

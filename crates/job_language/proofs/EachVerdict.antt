@@ -31,12 +31,8 @@ use Rattle.job_language.proofs.EachCut.{each_cut}
 use Rattle.job_language.proofs.EachJob.{each_job}
 
 refused : (text : List ℕ) (w : Want) (f : ReadFault) → f ≢ fault.NoMemory → IsRefused text w f → IsOutcome text w (Err f)
-refused text w (fault.Syntax n) other h = h
-refused text w fault.WrongType other h = h
-refused text w fault.UnknownName other h = h
-refused text w fault.TooDeep other h = h
-refused text w fault.LiteralTooLarge other h = h
 refused text w fault.NoMemory other h = absurd (other refl)
+refused text w x other h = h
 
 outcome : (text : List ℕ) (w : Want) → HasAnswer text w → (o : Result AbstractLambda ReadFault) × IsOutcome text w o
 outcome text w (inl l) = (Ok l.0, l.1)

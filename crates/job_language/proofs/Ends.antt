@@ -52,16 +52,12 @@ goes_on ws at d e es lt is bound s =
 
 comma_parts : (done : List (List Word)) (a : List Word) (b : Bracket) → (b ≡ bracket.Close → ⊥) → parted done a b ≡ inside (done ++ a ∷ []) [] 0
 comma_parts done a bracket.Close n = absurd (n refl)
-comma_parts done a bracket.Comma n = refl
-comma_parts done a bracket.Open n = refl
-comma_parts done a bracket.Plain n = refl
+comma_parts done a x n = refl
 
 none_at_zero : (d : ℕ) (b : Bracket) → nest d b ≡ None → d ≡ 0
 none_at_zero zero b h = refl
 none_at_zero (suc d) bracket.Close h = absurd cc
-none_at_zero (suc d) bracket.Comma h = absurd cc
-none_at_zero (suc d) bracket.Open h = absurd cc
-none_at_zero (suc d) bracket.Plain h = absurd cc
+none_at_zero (suc d) x h = absurd cc
 
 -- a comma after a part
 pub parts_on : (ws : List Word) (at d : ℕ) (es fs : List ℕ) → at < length ws → nest d (bracket_of (get_or ws at bad)) ≡ None → (bracket_of (get_or ws at bad) ≡ bracket.Close → ⊥) → fs ≡ es ++ at ∷ [] → IsAt ws at d es → IsAt ws (at + 1) d fs
@@ -87,17 +83,15 @@ first_none [] k = refl
 first_none (e ∷ es) k = let l = k.1 in absurd (omega arith)
 
 some_slice : (ws : List Word) (at : ℕ) → 0 < at → at < length ws → slice_range ws 0 at ≡ [] → ⊥
-some_slice [] at h lt e = absurd (omega arith)
-some_slice (w ∷ ws) zero h lt e = absurd (omega arith)
 some_slice (w ∷ ws) (suc at) h lt e =
     let one : suc at - 0 ≡ suc at = omega arith in
     let f : w ∷ take at ws ≡ [] = ap (λ n. take n (w ∷ ws)) (sym one) ∙ e in
     absurd cc
+some_slice x at h lt e = absurd (omega arith)
 
 last_whole : (done : List (List Word)) (a : List Word) → (done ≡ [] → a ≡ [] → ⊥) → with_last done a ≡ done ++ a ∷ []
 last_whole [] [] n = absurd (n refl refl)
-last_whole [] (w ∷ a) n = refl
-last_whole (b ∷ done) a n = refl
+last_whole x a n = refl
 
 reads_all : (ws : List Word) (n : ℕ) (xs : List (List Word)) → reads start (take n ws) ≡ closed xs → reads start ws ≡ closed xs
 reads_all ws n xs h = ap (reads start) (sym (take-append-drop n ws)) ∙ reads_append start (take n ws) (drop n ws) ∙ ap (λ s. reads s (drop n ws)) h ∙ closed_stays xs (drop n ws)

@@ -10,7 +10,7 @@ use Rattle.job_language.specs.Table.{role_of}
 use Rattle.job_language.specs.Calls.{Call, call_words}
 use Rattle.job_language.specs.Arguments.{PlacedCall}
 use Rattle.job_language.specs.Verdicts.{placed}
-use Rattle.job_language.specs.Grammar.{Source, Sources, plain, concat, two, more, Job, Piece, call, begin_concat, owner, close, comma, dot, semicolon, piece_words, job_pieces, calls_of, source_pieces, sources_pieces, plain_sources, fallback_calls, job_calls, IsCallAs, IsSource, AreSources, AreStages, IsFallback, IsSpelled, IsJob}
+use Rattle.job_language.specs.Grammar.{Source, Sources, plain, concat, two, more, Job, Piece, call, close, comma, piece_words, job_pieces, calls_of, source_pieces, sources_pieces, plain_sources, fallback_calls, job_calls, IsCallAs, IsSource, AreSources, AreStages, IsFallback, IsSpelled, IsJob}
 use Rattle.job_language.specs.Shapes.{call_in, calls_in, all_placed, StandsIn, StandIn, AreCallsIn, one_if_source, sources_in, is_fallback, ends_in_fallback, first_name}
 use Rattle.job_language.specs.Causes.{Scope, first_cause, when, version_cause, name_causes, sources_cause, causes_of}
 use Rattle.job_language.proofs.PieceLemmas.{calls_append}
@@ -62,13 +62,8 @@ fallback_counts (Some c) h = ap (λ r. one_if_source r + 0) h.role
 pub sources_of_job : (ws : List Word) (j : Job) → IsSpelled ws j → sources_in (job_calls j) ≡ length (plain_sources j.source)
 sources_of_job ws j h =
     let tail = j.terminal ∷ fallback_calls j.fallback in
-    let a = both_count (plain_sources j.source) (j.stages ++ tail) in
-    let b = both_count j.stages tail in
-    let c = source_counts j.source h.source in
-    let d = stages_count j.stages h.stages in
     let e : one_if_source (role_of j.terminal.operation) ≡ 0 = ap one_if_source h.terminal.role in
-    let f = fallback_counts j.fallback h.fallback in
-    omega arith
+    omega (arith, both_count (plain_sources j.source) (j.stages ++ tail), both_count j.stages tail, source_counts j.source h.source, stages_count j.stages h.stages, fallback_counts j.fallback h.fallback)
 
 pub name_of_job : (ws : List Word) (j : Job) → IsJob ws j → j.name ≡ first_name ws
 name_of_job ws j h = ap first_name h.spelled.spelled
@@ -84,12 +79,7 @@ only_all ws (c ∷ cs) = ap (λ v. call_in ws c ∷ v) (only_all ws cs)
 only_placed : (n : ℕ) (ps : List Piece) → only (placed n ps) ≡ calls_of ps
 only_placed n [] = refl
 only_placed n (call c ∷ ps) = ap (λ v. c ∷ v) (only_placed (n + length (call_words c)) ps)
-only_placed n (begin_concat ∷ ps) = only_placed (n + length (piece_words begin_concat)) ps
-only_placed n (owner ∷ ps) = only_placed (n + length (piece_words owner)) ps
-only_placed n (comma ∷ ps) = only_placed (n + length (piece_words comma)) ps
-only_placed n (close ∷ ps) = only_placed (n + length (piece_words close)) ps
-only_placed n (dot ∷ ps) = only_placed (n + length (piece_words dot)) ps
-only_placed n (semicolon ∷ ps) = only_placed (n + length (piece_words semicolon)) ps
+only_placed n (p ∷ ps) = only_placed (n + length (piece_words p)) ps
 
 calls_of_job : (ws : List Word) (cs : List written.WrittenCall) (j : Job) → AreCallsIn ws (all_placed ws cs) → IsJob ws j → calls_in ws cs ≡ job_calls j
 calls_of_job ws cs j a h = sym (only_all ws cs) ∙ ap only a.calls ∙ only_placed 2 (job_pieces a.job) ∙ calls_job a.job ∙ ap job_calls (one_spelled ws a.job j a.is.spelled h.spelled)
@@ -105,9 +95,8 @@ many n h = grind (arith, common_steps)
 
 -- the fallback is the last call, if there is one
 ends_append : (xs : List Call) (y : Call) (ys : List Call) → ends_in_fallback (xs ++ y ∷ ys) ≡ ends_in_fallback (y ∷ ys)
-ends_append [] y ys = refl
-ends_append (x ∷ []) y ys = refl
 ends_append (x ∷ w ∷ xs) y ys = ends_append (w ∷ xs) y ys
+ends_append p y ys = refl
 
 ends_tail : (c : Call) (o : Option Call) → IsCallAs role.Terminal c → IsFallback o → ends_in_fallback (c ∷ fallback_calls o) ≡ is_some o
 ends_tail c None h k = ap is_fallback h.role
@@ -120,11 +109,9 @@ ends_job ws j h =
     ∙ ends_tail j.terminal j.fallback h.terminal h.fallback
 
 pub last_call : (ws : List Word) (cs : List written.WrittenCall) (n : ℕ) (d : written.WrittenCall) → suc n ≡ length cs → is_fallback (role_of (get_or cs n d).operation) ≡ ends_in_fallback (calls_in ws cs)
-last_call ws [] n d h = absurd (omega arith)
 last_call ws (c ∷ []) zero d h = refl
-last_call ws (c ∷ []) (suc n) d h = absurd (omega arith)
-last_call ws (c ∷ e ∷ cs) zero d h = absurd (omega arith)
 last_call ws (c ∷ e ∷ cs) (suc n) d h = last_call ws (e ∷ cs) n d (omega arith)
+last_call ws x n d h = absurd (omega arith)
 
 pub version_is : (s : Scope) (ws : List Word) (cs : List written.WrittenCall) (j : Job) → AreCallsIn ws (all_placed ws cs) → IsJob ws j
     → when (ends_in_fallback (calls_in ws cs) && nat_lt s.version 2) Syntax ≡ version_cause s j
@@ -146,12 +133,10 @@ after_name s ws j h k = first_append (name_causes s j.name) (sources_cause j ∷
 
 pub by_sources : (s : Scope) (ws : List Word) (cs : List written.WrittenCall) (j : Job) → AreCallsIn ws (all_placed ws cs) → IsJob ws j → first_cause (name_causes s (first_name ws)) ≡ None → 8 < sources_in (calls_in ws cs) → first_cause (name_causes s j.name ++ sources_cause j ∷ []) ≡ Some TooLong
 by_sources s ws cs j a h k over =
-    let same = sources_are ws cs j a h in
     let n = length (plain_sources j.source) in
-    after_name s ws j h k ∙ ap (λ d. first_cause (d ∷ [])) (many n (omega arith))
+    after_name s ws j h k ∙ ap (λ d. first_cause (d ∷ [])) (many n (omega (arith, sources_are ws cs j a h)))
 
 pub by_none : (s : Scope) (ws : List Word) (cs : List written.WrittenCall) (j : Job) → AreCallsIn ws (all_placed ws cs) → IsJob ws j → first_cause (name_causes s (first_name ws)) ≡ None → sources_in (calls_in ws cs) ≤ 8 → first_cause (name_causes s j.name ++ sources_cause j ∷ []) ≡ None
 by_none s ws cs j a h k within =
-    let same = sources_are ws cs j a h in
     let n = length (plain_sources j.source) in
-    after_name s ws j h k ∙ ap (λ d. first_cause (d ∷ [])) (few n (omega arith))
+    after_name s ws j h k ∙ ap (λ d. first_cause (d ∷ [])) (few n (omega (arith, sources_are ws cs j a h)))

@@ -143,26 +143,18 @@ stages_more (g ∷ gs) c h k = (h.0, stages_more gs c h.1 k)
 
 keeps_leaf : (ps : List Piece) (fs : List Frame) (q : Bool) (c : Call) (r : Role) → role_of c.operation ≡ r → IsCall c → before fs ++ owned q ≡ ps → Are fs → Stands (ps ++ call c ∷ []) (leaf q fs c r)
 keeps_leaf ps fs q c role.Source is k h a = (put ps (call c) (before fs) (owned q) h, a, record { role = is; call = k })
-keeps_leaf ps fs q c role.Concatenation is k h a = tt
-keeps_leaf ps fs q c role.Stage is k h a = tt
-keeps_leaf ps fs q c role.Terminal is k h a = tt
-keeps_leaf ps fs q c role.Fallback is k h a = tt
+keeps_leaf ps fs q c x is k h a = tt
 
 keeps_step : (ps : List Piece) (s : Source) (gs : List Call) (c : Call) (r : Role) → role_of c.operation ≡ r → IsCall c → Stands ps (asks s gs) → Stands (ps ++ call c ∷ []) (stepped s gs c r)
-keeps_step ps s gs c role.Source is k h = tt
-keeps_step ps s gs c role.Concatenation is k h = tt
 keeps_step ps s gs c role.Stage is k h =
     (ap (λ v. source_pieces s ++ v) (steps_more gs c) ∙ put_two ps (call c) (source_pieces s) (steps_pieces gs) (dot ∷ []) h.0, h.1, stages_more gs c h.2 (record { role = is; call = k }))
 keeps_step ps s gs c role.Terminal is k h = (put_two ps (call c) (source_pieces s) (steps_pieces gs) (dot ∷ []) h.0, h.1, h.2, record { role = is; call = k })
-keeps_step ps s gs c role.Fallback is k h = tt
+keeps_step ps s gs c x is k h = tt
 
 keeps_fall : (ps : List Piece) (s : Source) (gs : List Call) (c f : Call) (r : Role) → role_of f.operation ≡ r → IsCall f → Stands ps (falls s gs c) → Stands (ps ++ call f ∷ []) (fallen s gs c f r)
-keeps_fall ps s gs c f role.Source is k h = tt
-keeps_fall ps s gs c f role.Concatenation is k h = tt
-keeps_fall ps s gs c f role.Stage is k h = tt
-keeps_fall ps s gs c f role.Terminal is k h = tt
 keeps_fall ps s gs c f role.Fallback is k h =
     (put_two ps (call f) (source_pieces s) (steps_pieces gs) (dot ∷ call c ∷ dot ∷ []) h.0, h.1, h.2, h.3, record { role = is; call = k })
+keeps_fall ps s gs c f x is k h = tt
 
 nothing : (ps : List Piece) (fs : List Frame) → before fs ≡ ps → before fs ++ owned false ≡ ps
 nothing ps fs h = append-nil (before fs) ∙ h
@@ -205,53 +197,31 @@ no_concat op.Concat n h k = absurd cc
 no_concat o n h k = absurd cc
 
 follows_leaf : (q : Bool) (fs : List Frame) (c : Call) (r : Role) → role_of c.operation ≡ r → IsCall c → coded (leaf q fs c r) ≡ at_source (commas fs) (mark.Call r)
-follows_leaf q fs c role.Source h k = refl
 follows_leaf q fs c role.Concatenation h k = absurd (no_concat c.operation (length c.parts) h k.allowed)
-follows_leaf q fs c role.Stage h k = refl
-follows_leaf q fs c role.Terminal h k = refl
-follows_leaf q fs c role.Fallback h k = refl
+follows_leaf q fs c x h k = refl
 
 follows_step : (s : Source) (gs : List Call) (c : Call) (r : Role) → coded (stepped s gs c r) ≡ moved mode.Step [] (mark.Call r)
 follows_step s gs c role.Source = refl
-follows_step s gs c role.Concatenation = refl
-follows_step s gs c role.Stage = refl
-follows_step s gs c role.Terminal = refl
-follows_step s gs c role.Fallback = refl
+follows_step s gs c x = refl
 
 follows_fall : (s : Source) (gs : List Call) (c f : Call) (r : Role) → coded (fallen s gs c f r) ≡ moved mode.Fallback [] (mark.Call r)
 follows_fall s gs c f role.Source = refl
-follows_fall s gs c f role.Concatenation = refl
-follows_fall s gs c f role.Stage = refl
-follows_fall s gs c f role.Terminal = refl
-follows_fall s gs c f role.Fallback = refl
+follows_fall s gs c f x = refl
 
 -- the program's mode and list of commas follow the reader
 pub follows : (s : State) (p : Piece) → IsPiece p → coded (read s p) ≡ moves (coded s) (mark_of p)
 follows (wants fs) (call c) h = follows_leaf false fs c (role_of c.operation) refl h
-follows (wants fs) p h = refl
 follows (owns fs) dot h = refl
-follows (owns fs) p h = refl
 follows (bare fs) (call c) h = follows_leaf true fs c (role_of c.operation) refl h
-follows (bare fs) p h = refl
 follows (has [] s) (call c) h = refl
-follows (has [] s) p h = refl
 follows (has (opened q ∷ fs) s) dot h = refl
-follows (has (opened q ∷ fs) s) p h = refl
 follows (has (first q a ∷ fs) s) dot h = refl
-follows (has (first q a ∷ fs) s) p h = refl
 follows (has (several q ss ∷ fs) s) dot h = refl
-follows (has (several q ss ∷ fs) s) p h = refl
 follows (asks s gs) (call c) h = follows_step s gs c (role_of c.operation)
-follows (asks s gs) p h = refl
 follows (staged s gs) dot h = refl
-follows (staged s gs) p h = refl
 follows (ended s gs c) dot h = refl
-follows (ended s gs c) p h = refl
 follows (falls s gs c) (call f) h = follows_fall s gs c f (role_of f.operation)
-follows (falls s gs c) p h = refl
 follows (replaced s gs c f) dot h = refl
-follows (replaced s gs c f) p h = refl
 follows (finished s gs c o) dot h = refl
-follows (finished s gs c o) p h = refl
 follows stuck dot h = refl
-follows stuck p h = refl
+follows x p h = refl

@@ -41,20 +41,13 @@ pub before_of : (ws : List Word) (a : ℕ) (es : List ℕ) → 0 < length es →
 before_of ws a [] lt h = absurd (omega arith)
 before_of ws a (e ∷ []) lt h = let zero_before : before_last (pieces ws a (e ∷ [])) ≡ 0 = refl in omega arith
 before_of ws a (e ∷ f ∷ es) lt h =
-    let l = length_slice ws a e h.1 in
-    let rest = before_of ws (e + 1) (f ∷ es) (omega arith) h.2 in
-    let step = start_step a e f es in
-    let low = h.0 in
-    omega arith
+    omega (arith, length_slice ws a e h.1, before_of ws (e + 1) (f ∷ es) (omega arith) h.2, start_step a e f es, h.0)
 
 pub last_length : (ws : List Word) (a : ℕ) (es : List ℕ) → 0 < length es → AreEnds a es (length ws) → length (last_part (pieces ws a es)) + start_before a es (length es - 1) ≡ get_or es (length es - 1) 0
 last_length ws a [] lt h = absurd (omega arith)
 last_length ws a (e ∷ []) lt h = let l = length_slice ws a e h.1 in let low = h.0 in omega arith
 last_length ws a (e ∷ f ∷ es) lt h =
-    let rest = last_length ws (e + 1) (f ∷ es) (omega arith) h.2 in
-    let step = start_step a e f es in
-    let end = end_step e f es in
-    omega arith
+    omega (arith, last_length ws (e + 1) (f ∷ es) (omega arith) h.2, start_step a e f es, end_step e f es)
 
 -- where the last part of a call begins and ends in the words, by these ends and this start
 pub last_places : (ws : List Word) (c : written.WrittenCall) (es : List ℕ) (start size : ℕ) → StandsIn ws c → 0 < length c.ends.items → es ≡ c.ends.items → start ≡ start_before 0 es (length es - 1) → size ≡ length ws

@@ -1,5 +1,5 @@
 -- A text has one verdict, and a job a name.
-use Rattle.std.proofs.Common.{◌≡◌, ℕ, ◌-◌, Bool, true, false, inl, inr, List, [], ◌∷◌, length, drop, Option, Some, None, Result, Ok, Err, refl, sym, ap, subst, ◌∙◌, arith}
+use Rattle.std.proofs.Common.{◌≡◌, ℕ, ◌-◌, Bool, false, inl, inr, List, [], ◌∷◌, length, drop, Option, Some, None, Result, Ok, Err, refl, sym, ap, subst, ◌∙◌, arith}
 use Rattle.stream_tokens.specs.declared.token.Token.{Token}
 use Rattle.stream_tokens.specs.declared.symbol.Symbol.TheVariants as symbol
 use Rattle.stream_tokens.specs.declared.token.TokenKind.{TokenKind}
@@ -20,7 +20,7 @@ use Rattle.reduce_ops.specs.declared.op.Op.{Op}
 use Rattle.job_language.specs.declared.fault.Cause.{Cause}
 use Rattle.job_language.specs.declared.operation.Param.{Param}
 use Rattle.job_language.specs.declared.operation.Param.TheVariants as param
-use Rattle.job_language.specs.Rows.{AbstractCall, Argument, source, stage, terminal, fallback}
+use Rattle.job_language.specs.Rows.{AbstractCall, Argument, source}
 use Rattle.job_language.specs.Table.{role_of}
 use Rattle.job_language.specs.Grammar.{Job, IsJob, IsNoJob, pieces_words, job_pieces}
 use Rattle.job_language.specs.Jobs.{AbstractJob, AbstractTerminal}
@@ -46,18 +46,15 @@ one_lambda : (s : Scope) (text : List ℕ) (w : Want) (r q : Result Argument Cau
 one_lambda s text w r q h k = sym h.2 ∙ ap (lambda_answer s) (one_outcome text w h.0 k.0 (to_outcome text w h.0 h.1) (to_outcome text w k.0 k.1)) ∙ k.2
 
 one_operator : (b : Bool) (o : Option (Option Op)) (s : Scope) (text : List ℕ) (r q : Result Argument Cause) → IsOperatorRead b o s text r → IsOperatorRead b o s text q → r ≡ q
-one_operator true o s text r q h k = sym h ∙ k
-one_operator false (Some f) s text r q h k = sym h ∙ k
 one_operator false None s text r q h k = one_lambda s text want.Pair r q h k
+one_operator x o s text r q h k = sym h ∙ k
 
 one_by : (p : Param) (s : Scope) (ws : List Word) (text : List ℕ) (r q : Result Argument Cause) → IsReadBy p s ws text r → IsReadBy p s ws text q → r ≡ q
-one_by param.Number s ws text r q h k = sym h ∙ k
-one_by param.Text s ws text r q h k = sym h ∙ k
-one_by param.Name s ws text r q h k = sym h ∙ k
 one_by param.Long s ws text r q h k = one_lambda s text want.Long r q h k
 one_by param.Bool s ws text r q h k = one_lambda s text want.Bool r q h k
 one_by param.Stream s ws text r q h k = one_lambda s text want.Stream r q h k
 one_by param.Operator s ws text r q h k = one_operator (is_add_exact ws) (spelled_op ws) s text r q h k
+one_by x s ws text r q h k = sym h ∙ k
 
 one_argument : (s : Scope) (t : TokenizedText) (c : PlacedCall) (r q : Result Argument Cause) → IsArgumentRead s t c r → IsArgumentRead s t c q → r ≡ q
 one_argument s t c r q h k = one_by (last_param c.call.operation c.call.parts) s (last_part c.call.parts) (argument_text t c).bytes r q h k
@@ -115,9 +112,7 @@ one_read s text r q (verdict.inside a) (verdict.inside b) = both_inside s text r
 -- the name of a job is the first word of its text
 same_name : (j : BegunJob) (g : AbstractCall) → (added j g).name ≡ j.name
 same_name j (source s) = refl
-same_name j (stage s) = refl
-same_name j (terminal d) = refl
-same_name j (fallback z) = refl
+same_name j x = refl
 
 name_finished : (j : BegunJob) (k : AbstractJob) (d : Option AbstractTerminal) → finished_by j d ≡ Ok k → k.name ≡ j.name
 name_finished j k None h = absurd cc

@@ -30,12 +30,7 @@ later_words p = []
 
 pub words_of_piece : (p : Piece) → piece_words p ≡ first_word p ∷ later_words p
 words_of_piece (call c) = refl
-words_of_piece begin_concat = refl
-words_of_piece owner = refl
-words_of_piece comma = refl
-words_of_piece close = refl
-words_of_piece dot = refl
-words_of_piece semicolon = refl
+words_of_piece x = refl
 
 -- a call of no operation is `concat`, and none is `LongStream`
 pub not_concat : (c : Call) → IsCall c → name_of c.operation ≡ name_of op.Concat → ⊥
@@ -83,12 +78,7 @@ pieces_append (p ∷ ps) qs = ap (λ v. piece_words p ++ v) (pieces_append ps qs
 pub calls_append : (ps qs : List Piece) → calls_of (ps ++ qs) ≡ calls_of ps ++ calls_of qs
 calls_append [] qs = refl
 calls_append (call c ∷ ps) qs = ap (λ v. c ∷ v) (calls_append ps qs)
-calls_append (begin_concat ∷ ps) qs = calls_append ps qs
-calls_append (owner ∷ ps) qs = calls_append ps qs
-calls_append (comma ∷ ps) qs = calls_append ps qs
-calls_append (close ∷ ps) qs = calls_append ps qs
-calls_append (dot ∷ ps) qs = calls_append ps qs
-calls_append (semicolon ∷ ps) qs = calls_append ps qs
+calls_append (w ∷ ps) qs = calls_append ps qs
 
 pub are_append : (ps qs : List Piece) → ArePieces ps → ArePieces qs → ArePieces (ps ++ qs)
 are_append [] qs h k = k

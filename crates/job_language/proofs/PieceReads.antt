@@ -4,7 +4,7 @@ use Rattle.std.specs.Prelude.{slice_range, nat_eq, if◌then◌else◌}
 use Rattle.std.specs.Cmp.Lexicographic.{pointwise, same_text}
 use Rattle.std.proofs.lemmas.List.{drop_more, drop-drop}
 use Rattle.stream_tokens.specs.declared.symbol.Symbol.TheVariants as symbol
-use Rattle.lambda_expr.specs.Words.{Word, named, sign, bad, numeral, quoted, referred}
+use Rattle.lambda_expr.specs.Words.{Word, named, sign, bad}
 use Rattle.job_language.specs.declared.operation.Operation.{Operation}
 use Rattle.job_language.specs.declared.operation.Operation.TheVariants as op
 use Rattle.job_language.specs.declared.operation.Role.TheVariants as role
@@ -41,11 +41,7 @@ named_row (p ∷ os) w o h = named_by os p w o (pointwise nat_eq w (name_of p)) 
 
 pub names : (w : Word) (o : Operation) → operation_in w ≡ Some o → w ≡ named (name_of o)
 names (named n) o h = ap named (named_row operations n o h)
-names (numeral n) o h = absurd cc
-names (quoted n) o h = absurd cc
-names (referred n) o h = absurd cc
-names (sign s) o h = absurd cc
-names bad o h = absurd cc
+names x o h = absurd cc
 
 pub is_concat : (o : Operation) → role_of o ≡ role.Concatenation → o ≡ op.Concat
 is_concat op.Concat h = refl
@@ -57,11 +53,7 @@ length_slice ws a e lt = let k = length-take (e - a) (drop a ws) in let l = leng
 width_from : (ws : List Word) (a e : ℕ) (es : List ℕ) → AreEnds a (e ∷ es) (length ws) → length (parts_words (pieces ws a (e ∷ es))) + a + 1 ≡ width (e ∷ es)
 width_from ws a e [] h = let k = length_slice ws a e h.1 in let low = h.0 in omega arith
 width_from ws a e (d ∷ es) h =
-    let k = length_slice ws a e h.1 in
-    let low = h.0 in
-    let l = width_from ws (e + 1) d es h.2 in
-    let m = length-append (slice_range ws a e) (sign symbol.Comma ∷ parts_words (pieces ws (e + 1) (d ∷ es))) in
-    omega arith
+    omega (arith, length_slice ws a e h.1, h.0, width_from ws (e + 1) d es h.2, length-append (slice_range ws a e) (sign symbol.Comma ∷ parts_words (pieces ws (e + 1) (d ∷ es))))
 
 pub width_is : (ws : List Word) (es : List ℕ) → AreEnds 0 es (length ws) → length (parts_words (pieces ws 0 es)) + 1 ≡ width es
 width_is ws [] h = refl

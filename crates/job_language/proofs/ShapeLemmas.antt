@@ -12,8 +12,8 @@ use Rattle.job_language.specs.declared.piece.WrittenCall as written
 use Rattle.lambda_expr.specs.declared.word.Word as coded_word
 use Rattle.lambda_expr.specs.CodeWords.{word_of, words_in}
 use Rattle.job_language.specs.Calls.{Call}
-use Rattle.job_language.specs.Grammar.{Source, Sources, plain, concat, two, more, Job, Piece, call, begin_concat, owner, comma, close, dot, semicolon, piece_words, pieces_words, source_pieces, sources_pieces, steps_pieces, ending, fallback_pieces, fallback_calls, job_pieces, IsSource, AreSources, AreStages, IsFallback, IsSpelled, IsNoJob, is_sound, calls_of, plain_sources}
-use Rattle.job_language.specs.Reading.{Place, State, wants, owns, bare, has, asks, staged, ended, falls, replaced, finished, stuck, read, reads, begins, coded, moves, moved, mark_of, ArePieces}
+use Rattle.job_language.specs.Grammar.{Source, Sources, plain, concat, two, more, Job, Piece, call, comma, close, dot, piece_words, pieces_words, source_pieces, sources_pieces, steps_pieces, ending, fallback_pieces, fallback_calls, job_pieces, IsSource, AreSources, AreStages, IsFallback, IsSpelled, IsNoJob, is_sound, calls_of, plain_sources}
+use Rattle.job_language.specs.Reading.{Place, State, ended, replaced, finished, stuck, read, reads, begins, coded, moves, moved, mark_of, ArePieces}
 use Rattle.job_language.specs.Shapes.{begins_job, IsNotSpelled, AreCallsOf, IsNoPiece, Begins, is_last, call_in, all_placed, placed_in, piece_from, IsReading, StandIn, StandsIn}
 use Rattle.job_language.specs.Verdicts.{placed}
 use Rattle.job_language.proofs.JobReaderLemmas.{Stands, keeps, reads_append, reads_job, stuck_stays, follows, last_after, last_state}
@@ -126,16 +126,7 @@ same_mode k l bs cs h = ap mode_in h
 
 is_stuck : (s : State) → coded s ≡ None → s ≡ stuck
 is_stuck stuck h = refl
-is_stuck (wants fs) h = absurd cc
-is_stuck (owns fs) h = absurd cc
-is_stuck (bare fs) h = absurd cc
-is_stuck (has fs s) h = absurd cc
-is_stuck (asks s gs) h = absurd cc
-is_stuck (staged s gs) h = absurd cc
-is_stuck (ended s gs c) h = absurd cc
-is_stuck (falls s gs c) h = absurd cc
-is_stuck (replaced s gs c f) h = absurd cc
-is_stuck (finished s gs c o) h = absurd cc
+is_stuck x h = absurd cc
 
 last_mode : (j : Job) → (k : Mode) × (bs : List Bool) × (coded (last_state j) ≡ Some (k, bs)) × (is_last k ≡ true)
 last_mode j = last_of j.fallback j.semicolon
@@ -177,28 +168,17 @@ after_both n p ps = let both = length-append (piece_words p) (pieces_words ps) i
 placed_append : (n : ℕ) (ps qs : List Piece) → placed n (ps ++ qs) ≡ placed n ps ++ placed (n + length (pieces_words ps)) qs
 placed_append n [] qs = let e : n ≡ n + 0 = omega arith in ap (λ k. placed k qs) e
 placed_append n ((call c) ∷ ps) qs = ap (λ v. record { opened = suc n; call = c } ∷ v) (placed_append (n + length (piece_words (call c))) ps qs ∙ ap (λ m. placed (n + length (piece_words (call c))) ps ++ placed m qs) (after_both n (call c) ps))
-placed_append n (begin_concat ∷ ps) qs = placed_append (n + length (piece_words begin_concat)) ps qs ∙ ap (λ m. placed (n + length (piece_words begin_concat)) ps ++ placed m qs) (after_both n begin_concat ps)
-placed_append n (owner ∷ ps) qs = placed_append (n + length (piece_words owner)) ps qs ∙ ap (λ m. placed (n + length (piece_words owner)) ps ++ placed m qs) (after_both n owner ps)
-placed_append n (comma ∷ ps) qs = placed_append (n + length (piece_words comma)) ps qs ∙ ap (λ m. placed (n + length (piece_words comma)) ps ++ placed m qs) (after_both n comma ps)
-placed_append n (close ∷ ps) qs = placed_append (n + length (piece_words close)) ps qs ∙ ap (λ m. placed (n + length (piece_words close)) ps ++ placed m qs) (after_both n close ps)
-placed_append n (dot ∷ ps) qs = placed_append (n + length (piece_words dot)) ps qs ∙ ap (λ m. placed (n + length (piece_words dot)) ps ++ placed m qs) (after_both n dot ps)
-placed_append n (semicolon ∷ ps) qs = placed_append (n + length (piece_words semicolon)) ps qs ∙ ap (λ m. placed (n + length (piece_words semicolon)) ps ++ placed m qs) (after_both n semicolon ps)
+placed_append n (p ∷ ps) qs = placed_append (n + length (piece_words p)) ps qs ∙ ap (λ m. placed (n + length (piece_words p)) ps ++ placed m qs) (after_both n p ps)
 
 ends_there : (ws : List Word) (at to : ℕ) (p : Piece) (n : ℕ) → Begins ws at p to → at ≡ n → to ≡ n + length (piece_words p)
 ends_there ws at to p n b e =
     let whole : length (drop at ws) ≡ length (piece_words p ++ drop to ws) = ap length b.spelled in
-    let both = length-append (piece_words p) (drop to ws) in
-    let left = length-drop at ws in
-    let right = length-drop to ws in
-    let further = b.further in
-    let within = b.within in
-    omega arith
+    omega (arith, length-append (piece_words p) (drop to ws), length-drop at ws, length-drop to ws, b.further, b.within)
 
 longer : (ps : List Piece) (p : Piece) → 2 + length (pieces_words (ps ++ p ∷ [])) ≡ 2 + length (pieces_words ps) + length (piece_words p)
 longer ps p =
     let all : length (pieces_words (ps ++ p ∷ [])) ≡ length (pieces_words ps ++ piece_words p) = ap length (pieces_append ps (p ∷ []) ∙ ap (λ v. pieces_words ps ++ v) (append-nil (piece_words p))) in
-    let both = length-append (pieces_words ps) (piece_words p) in
-    omega arith
+    omega (arith, length-append (pieces_words ps) (piece_words p))
 
 pub reading_on : (ws : List Word) (r s : code.Reader) (p : Piece) → (h : IsReading ws r) → Begins ws r.at p s.at → moved r.mode (reverse r.commas.items) (mark_of p) ≡ Some (s.mode, reverse s.commas.items) → all_placed ws s.calls.items ≡ all_placed ws r.calls.items ++ placed r.at (p ∷ []) → StandIn ws s.calls.items → IsReading ws s
 reading_on ws r s p h b m c k =
@@ -224,12 +204,7 @@ other_mode : (k l : Mode) (bs cs : List Bool) → at_mode k bs ≡ at_mode l cs 
 other_mode k l bs cs h n m = let e : k ≡ l = same_mode k l bs cs h in let f : false ≡ true = sym n ∙ ap is_last e ∙ m in absurd cc
 
 job_of : (ws : List Word) (name : List ℕ) (ps : List Piece) (s : State) (k : Mode) (bs : List Bool) → coded s ≡ Some (k, bs) → is_last k ≡ true → Stands ps s → named name ∷ sign symbol.Assign ∷ pieces_words ps ≡ ws → AreCallsOf ws (placed 2 ps)
-job_of ws name ps (wants fs) k bs h l st e = absurd (other_mode mode.Source k _ bs h refl l)
-job_of ws name ps (owns fs) k bs h l st e = absurd (other_mode mode.Owner k _ bs h refl l)
-job_of ws name ps (bare fs) k bs h l st e = absurd (other_mode mode.Bare k _ bs h refl l)
-job_of ws name ps (has fs s) k bs h l st e = absurd (other_mode mode.AfterSource k _ bs h refl l)
-job_of ws name ps (asks s gs) k bs h l st e = absurd (other_mode mode.Step k _ bs h refl l)
-job_of ws name ps (staged s gs) k bs h l st e = absurd (other_mode mode.AfterStage k _ bs h refl l)
+job_of ws name ps stuck k bs h l st e = absurd cc
 job_of ws name ps (ended s gs c) k bs h l st e =
     let j : Job = record { name = name; source = s; stages = gs; terminal = c; fallback = None; semicolon = false } in
     record {
@@ -237,7 +212,6 @@ job_of ws name ps (ended s gs c) k bs h l st e =
       spelled = record { source = st.1; stages = st.2; terminal = st.3; fallback = tt; spelled = ap (λ v. named name ∷ sign symbol.Assign ∷ pieces_words v) st.0 ∙ e };
       calls = ap (placed 2) (sym st.0);
     }
-job_of ws name ps (falls s gs c) k bs h l st e = absurd (other_mode mode.Fallback k _ bs h refl l)
 job_of ws name ps (replaced s gs c f) k bs h l st e =
     let j : Job = record { name = name; source = s; stages = gs; terminal = c; fallback = Some f; semicolon = false } in
     record {
@@ -252,7 +226,7 @@ job_of ws name ps (finished s gs c o) k bs h l st e =
       spelled = record { source = st.1; stages = st.2; terminal = st.3; fallback = st.4; spelled = ap (λ v. named name ∷ sign symbol.Assign ∷ pieces_words v) st.0 ∙ e };
       calls = ap (placed 2) (sym st.0);
     }
-job_of ws name ps stuck k bs h l st e = absurd cc
+job_of ws name ps x k bs h l st e = absurd (other_mode _ k _ bs h refl l)
 
 heads : (ws : List Word) → begins_job ws ≡ true → (name : List ℕ) × (named name ∷ sign symbol.Assign ∷ drop 2 ws ≡ ws)
 heads (named n ∷ sign symbol.Assign ∷ ws) h = (n, refl)

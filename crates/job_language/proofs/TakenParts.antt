@@ -12,8 +12,7 @@ use Rattle.lambda_values.specs.References.{names_of}
 use Rattle.lambda_expr.specs.Checks.{depth, fit, literals, names_known}
 use Rattle.lambda_expr.specs.Grammar.{Shape}
 use Rattle.lambda_expr.specs.Heads.{BodyShape, expression, operands, parameters, IsBody}
-use Rattle.lambda_expr.specs.PairForms.{whole_form}
-use Rattle.lambda_expr.specs.PairForms.{form as form_of}
+use Rattle.lambda_expr.specs.PairForms.{whole_form, form as form_of}
 use Rattle.lambda_expr.specs.StreamChecks.{all_fit, all_known, deepest, numbers, stream_of}
 use Rattle.lambda_values.specs.Streams.{Inner}
 use Rattle.lambda_values.specs.Term.{Long}
@@ -27,7 +26,6 @@ use Rattle.lambda_values.specs.declared.lambda.PairForm.TheVariants as form
 use Rattle.lambda_expr.specs.declared.want.Want.{Want}
 use Rattle.lambda_expr.specs.declared.want.Want.TheVariants as want
 use Rattle.reduce_ops.specs.declared.op.Op.{Op}
-use Rattle.reduce_ops.specs.declared.op.Op.TheVariants as op
 use Rattle.reduce_ops.specs.Operators.{identity_of}
 use Rattle.job_language.specs.declared.fault.Cause.{Cause}
 use Rattle.job_language.specs.declared.fault.Cause.TheVariants as cause
@@ -142,10 +140,8 @@ no_part : (p : Param) (s : Scope) (ws : List Word) (text : List ℕ) → IsReadB
 no_part param.Number s ws text e = absurd cc
 no_part param.Text s ws text e = no_text s (string_in ws) e
 no_part param.Name s ws text e = no_name s (name_in ws) e
-no_part param.Long s ws text (o, out, e) = no_lambda s o e
-no_part param.Bool s ws text (o, out, e) = no_lambda s o e
-no_part param.Stream s ws text (o, out, e) = no_lambda s o e
 no_part param.Operator s ws text e = no_operator _ _ s text e
+no_part x s ws text (o, out, e) = no_lambda s o e
 
 -- ---- what a row takes
 
@@ -217,48 +213,25 @@ unless_err : (b : Bool) (f : ReadFault) (r : Result AbstractLambda ReadFault) (l
 unless_err true f r l e = absurd cc
 unless_err false f r l e = e
 
-abbrev IsLong : AbstractLambda → Type 0
-IsLong (long e) = Unit {0}
-IsLong (boolean p) = ⊥
-IsLong (inner_stream g) = ⊥
-IsLong (pair f) = ⊥
-
-abbrev IsBoolean : AbstractLambda → Type 0
-IsBoolean (boolean p) = Unit {0}
-IsBoolean (long e) = ⊥
-IsBoolean (inner_stream g) = ⊥
-IsBoolean (pair f) = ⊥
-
-abbrev IsInner : AbstractLambda → Type 0
-IsInner (inner_stream g) = Unit {0}
-IsInner (long e) = ⊥
-IsInner (boolean p) = ⊥
-IsInner (pair f) = ⊥
-
-abbrev IsPair : AbstractLambda → Type 0
-IsPair (pair f) = Unit {0}
-IsPair (long e) = ⊥
-IsPair (boolean p) = ⊥
-IsPair (inner_stream g) = ⊥
-
 -- a lambda is of the want that it was read with
 abbrev IsOfWant : Want → AbstractLambda → Type 0
-IsOfWant want.Long l = IsLong l
-IsOfWant want.Bool l = IsBoolean l
-IsOfWant want.Stream l = IsInner l
-IsOfWant want.Pair l = IsPair l
+IsOfWant want.Long (long e) = Unit {0}
+IsOfWant want.Bool (boolean p) = Unit {0}
+IsOfWant want.Stream (inner_stream g) = Unit {0}
+IsOfWant want.Pair (pair f) = Unit {0}
+IsOfWant w l = ⊥
 
 of_want : (w : Want) (t : Typed) (f : PairForm) (l : AbstractLambda) → wanted w t f ≡ Ok l → IsOfWant w l
-of_want want.Long (typing.long a) f l e = let same : long a ≡ l = cc in subst IsLong same tt
-of_want want.Bool (typing.boolean a) f l e = let same : boolean a ≡ l = cc in subst IsBoolean same tt
-of_want want.Pair (typing.long a) f l e = let same : pair f ≡ l = cc in subst IsPair same tt
+of_want want.Long (typing.long a) f l e = let same : long a ≡ l = cc in subst (IsOfWant want.Long) same tt
+of_want want.Bool (typing.boolean a) f l e = let same : boolean a ≡ l = cc in subst (IsOfWant want.Bool) same tt
+of_want want.Pair (typing.long a) f l e = let same : pair f ≡ l = cc in subst (IsOfWant want.Pair) same tt
 of_want w t f l e = absurd cc
 
-of_some : (g : Option Inner) (l : AbstractLambda) → lambda_of g ≡ Ok l → IsInner l
+of_some : (g : Option Inner) (l : AbstractLambda) → lambda_of g ≡ Ok l → IsOfWant want.Stream l
 of_some None l e = absurd cc
-of_some (Some g) l e = let same : inner_stream g ≡ l = cc in subst IsInner same tt
+of_some (Some g) l e = let same : inner_stream g ≡ l = cc in subst (IsOfWant want.Stream) same tt
 
-of_inner : (s : _) (o : Option (List Long)) (l : AbstractLambda) → streamed s o ≡ Ok l → IsInner l
+of_inner : (s : _) (o : Option (List Long)) (l : AbstractLambda) → streamed s o ≡ Ok l → IsOfWant want.Stream l
 of_inner s None l e = absurd cc
 of_inner s (Some es) l e = of_some (stream_of s es) l e
 
@@ -269,7 +242,7 @@ by_expression w h x l e =
     (unless_err (nat_lt 64 (depth x)) TooDeep _ l
     (unless_err (not (fit (literals x))) LiteralTooLarge _ l e)))
 
-by_operands : (h : Names) (s : _) (es : List Shape) (l : AbstractLambda) → stream_verdict h s es ≡ Ok l → IsInner l
+by_operands : (h : Names) (s : _) (es : List Shape) (l : AbstractLambda) → stream_verdict h s es ≡ Ok l → IsOfWant want.Stream l
 by_operands h s es l e =
     of_inner s (numbers h es) l
     (unless_err (not (all_known 1 es)) UnknownName (streamed s (numbers h es)) l
@@ -300,17 +273,8 @@ of_listed None a e = absurd cc
 of_listed (Some f) a e = subst (IsRead want.Pair) (ok_same (operator f) a e) tt
 
 of_pair : (f : PairForm) (a : Argument) → pair_argument f ≡ Ok a → IsRead want.Pair a
-of_pair form.First a e = subst (IsRead want.Pair) (ok_same (operator op.First) a e) tt
-of_pair form.Second a e = subst (IsRead want.Pair) (ok_same (operator op.Last) a e) tt
-of_pair form.Sum a e = subst (IsRead want.Pair) (ok_same (operator op.Sum) a e) tt
-of_pair form.Product a e = subst (IsRead want.Pair) (ok_same (operator op.Product) a e) tt
-of_pair form.Min a e = subst (IsRead want.Pair) (ok_same (operator op.Min) a e) tt
-of_pair form.Max a e = subst (IsRead want.Pair) (ok_same (operator op.Max) a e) tt
-of_pair form.And a e = subst (IsRead want.Pair) (ok_same (operator op.And) a e) tt
-of_pair form.Or a e = subst (IsRead want.Pair) (ok_same (operator op.Or) a e) tt
-of_pair form.Xor a e = subst (IsRead want.Pair) (ok_same (operator op.Xor) a e) tt
-of_pair form.ExactSum a e = subst (IsRead want.Pair) (ok_same exact a e) tt
 of_pair form.Other a e = absurd cc
+of_pair f a e = subst (IsRead want.Pair) (ok_same _ a e) tt
 
 of_lambda : (w : Want) (l : AbstractLambda) (a : Argument) → IsOfWant w l → argument_of l ≡ Ok a → IsRead w a
 of_lambda want.Long (long e) a is h = subst (IsRead want.Long) (ok_same (number e) a h) tt
@@ -402,9 +366,8 @@ column_is s None a fit r = let e : false ≡ true = fit in absurd cc
 column_is s (Some w) a fit r = by_cells _ a r
 
 by_given : (w : List ℕ) (g : Option Gives) (a : Argument) → result_answer w g ≡ Ok a → Accepted params.Job a []
-by_given w None a r = absurd cc
 by_given w (Some gives.Array) a r = subst (λ v. Accepted params.Job v []) (ok_same (job w) a r) tt
-by_given w (Some g) a r = absurd cc
+by_given w x a r = absurd cc
 
 job_is : (s : Scope) (o : Option (List ℕ)) (a : Argument) → is_some o ≡ true → name_answer s o ≡ Ok a → Accepted params.Job a []
 job_is s None a fit r = let e : false ≡ true = fit in absurd cc
@@ -442,8 +405,7 @@ identity_is a k v h = absurd h
 
 bounds_are : (j k : Option ℤ) → HasValue j → HasValue k → Accepted params.Bounds nothing (as_list j ++ as_list k)
 bounds_are (Some j) (Some k) v w = tt
-bounds_are None k v w = absurd cc
-bounds_are j None v w = absurd cc
+bounds_are j k v w = absurd cc
 
 number_is : (k : Option ℤ) → HasValue k → Accepted params.Number nothing (as_list k) × Accepted params.Count nothing (as_list k)
 number_is (Some k) v = (tt, tt)
@@ -459,43 +421,27 @@ same_two j k = ap (λ v. as_list j ++ v) (sym (append-nil (as_list k)))
 accepted : (p : Params) (xs : List (List Word)) (s : Scope) (text : List ℕ) (a : Argument) → allowed p (length xs) ≡ true → FitAt p (length xs) 0 xs → AreRead p (length xs) 0 xs → IsReadBy (last_at p xs) s (last_part xs) text (Ok a) → Accepted p a (numbers_at p (length xs) 0 xs)
 accepted params.Nothing [] s text a al fit read r = no_number_read params.Nothing [] a tt r
 accepted params.Nothing (x ∷ xs) s text a al fit read r = let e = eqb-true (length (x ∷ xs)) 0 al in absurd (omega arith)
-accepted params.Bounds [] s text a al fit read r = absurd cc
-accepted params.Bounds (x ∷ []) s text a al fit read r = absurd cc
 accepted params.Bounds (x ∷ y ∷ []) s text a al fit read r = no_number_read params.Bounds (as_list (number_read x) ++ (as_list (number_read y) ++ [])) a (subst (Accepted params.Bounds nothing) (same_two (number_read x) (number_read y)) (bounds_are (number_read x) (number_read y) read.0 read.1.0)) r
 accepted params.Bounds (x ∷ y ∷ z ∷ xs) s text a al fit read r = let e = eqb-true (length (x ∷ y ∷ z ∷ xs)) 2 al in absurd (omega arith)
 accepted params.Values [] s text a al fit read r = no_number_read params.Values [] a tt r
 accepted params.Values (x ∷ xs) s text a al fit read r = no_number_read params.Values (numbers_at params.Values (length (x ∷ xs)) 0 (x ∷ xs)) a tt r
-accepted params.Number [] s text a al fit read r = absurd cc
 accepted params.Number (x ∷ []) s text a al fit read r = no_number_read params.Number (as_list (number_read x) ++ []) a (subst (Accepted params.Number nothing) (sym (append-nil (as_list (number_read x)))) (number_is (number_read x) read.0).0) r
-accepted params.Number (x ∷ y ∷ xs) s text a al fit read r = let e = eqb-true (length (x ∷ y ∷ xs)) 1 al in absurd (omega arith)
-accepted params.Count [] s text a al fit read r = absurd cc
 accepted params.Count (x ∷ []) s text a al fit read r = no_number_read params.Count (as_list (number_read x) ++ []) a (subst (Accepted params.Count nothing) (sym (append-nil (as_list (number_read x)))) (number_is (number_read x) read.0).1) r
-accepted params.Count (x ∷ y ∷ xs) s text a al fit read r = let e = eqb-true (length (x ∷ y ∷ xs)) 1 al in absurd (omega arith)
-accepted params.Column [] s text a al fit read r = absurd cc
 accepted params.Column (x ∷ []) s text a al fit read r = column_is s (string_in x) a fit.0 r
-accepted params.Column (x ∷ y ∷ xs) s text a al fit read r = let e = eqb-true (length (x ∷ y ∷ xs)) 1 al in absurd (omega arith)
-accepted params.Job [] s text a al fit read r = absurd cc
 accepted params.Job (x ∷ []) s text a al fit read r = job_is s (name_in x) a fit.0 r
-accepted params.Job (x ∷ y ∷ xs) s text a al fit read r = let e = eqb-true (length (x ∷ y ∷ xs)) 1 al in absurd (omega arith)
-accepted params.Long [] s text a al fit read r = absurd cc
 accepted params.Long (x ∷ []) s text a al fit read r = long_is a (lambda_is s text want.Long a r)
-accepted params.Long (x ∷ y ∷ xs) s text a al fit read r = let e = eqb-true (length (x ∷ y ∷ xs)) 1 al in absurd (omega arith)
-accepted params.Test [] s text a al fit read r = absurd cc
 accepted params.Test (x ∷ []) s text a al fit read r = test_is a (lambda_is s text want.Bool a r)
-accepted params.Test (x ∷ y ∷ xs) s text a al fit read r = let e = eqb-true (length (x ∷ y ∷ xs)) 1 al in absurd (omega arith)
-accepted params.Stream [] s text a al fit read r = absurd cc
 accepted params.Stream (x ∷ []) s text a al fit read r = stream_is a (lambda_is s text want.Stream a r)
-accepted params.Stream (x ∷ y ∷ xs) s text a al fit read r = let e = eqb-true (length (x ∷ y ∷ xs)) 1 al in absurd (omega arith)
-accepted params.Positions [] s text a al fit read r = absurd cc
 accepted params.Positions (x ∷ []) s text a al fit read r = (pair_is a (operator_is (is_add_exact x) (spelled_op x) s text a r)).0
-accepted params.Positions (x ∷ y ∷ []) s text a al fit read r = absurd cc
 accepted params.Positions (x ∷ y ∷ z ∷ []) s text a al fit read r = subst (Accepted params.Positions a) (same_two (number_read x) (number_read y)) (positions_are a (number_read x) (number_read y) read.0 read.1.0 (operator_is (is_add_exact z) (spelled_op z) s text a r))
 accepted params.Positions (x ∷ y ∷ z ∷ w ∷ xs) s text a al fit read r = absurd (far (length (x ∷ y ∷ z ∷ w ∷ xs)) 1 3 al (omega arith) (omega arith))
-accepted params.Identity [] s text a al fit read r = absurd cc
 accepted params.Identity (x ∷ []) s text a al fit read r = (pair_is a (operator_is (is_add_exact x) (spelled_op x) s text a r)).1
 accepted params.Identity (x ∷ y ∷ []) s text a al fit read r = subst (Accepted params.Identity a) (sym (append-nil (as_list (number_read x)))) (identity_is a (number_read x) read.0 (operator_is (is_add_exact y) (spelled_op y) s text a r))
 accepted params.Identity (x ∷ y ∷ z ∷ xs) s text a al fit read r = absurd (far (length (x ∷ y ∷ z ∷ xs)) 1 2 al (omega arith) (omega arith))
+accepted params.Positions (x ∷ y ∷ []) s text a al fit read r = absurd cc
 accepted params.Sources xs s text a al fit read r = absurd cc
+accepted p (x ∷ y ∷ xs) s text a al fit read r = let e = eqb-true (length (x ∷ y ∷ xs)) 1 al in absurd (omega arith)
+accepted p xs s text a al fit read r = absurd cc
 
 by_cause : (f : Option Cause) (s : Scope) (t : TokenizedText) (c : PlacedCall) → IsCall c.call → (f ≡ None → AreRead (params_of c.call.operation) (length c.call.parts) 0 c.call.parts) → (f ≡ Some cause.Syntax → ⊥) → IsReadAfter f s t c (Err cause.Syntax) → ⊥
 by_cause (Some e) s t c call valued h r = let same : e ≡ cause.Syntax = cc in h (ap Some same)

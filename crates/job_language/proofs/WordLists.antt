@@ -16,14 +16,12 @@ word_at (w ∷ ws) zero d h = refl
 word_at (w ∷ ws) (suc i) d h = word_at ws i d (omega arith)
 
 pub words_drop : (n : ℕ) (ws : List code.Word) → words_in (drop n ws) ≡ drop n (words_in ws)
-words_drop zero ws = refl
-words_drop (suc n) [] = refl
 words_drop (suc n) (w ∷ ws) = words_drop n ws
+words_drop x ws = refl
 
 pub words_take : (n : ℕ) (ws : List code.Word) → words_in (take n ws) ≡ take n (words_in ws)
-words_take zero ws = refl
-words_take (suc n) [] = refl
 words_take (suc n) (w ∷ ws) = ap (λ vs. word_of w ∷ vs) (words_take n ws)
+words_take x ws = refl
 
 pub words_slice : (ws : List code.Word) (a b : ℕ) → words_in (slice_range ws a b) ≡ slice_range (words_in ws) a b
 words_slice ws a b = words_take (b - a) (drop a ws) ∙ ap (take (b - a)) (words_drop a ws)

@@ -1,5 +1,6 @@
 -- Meaning: what the last part of a call is read as, if it is no number.
-use Rattle.std.specs.Prelude.{◌≡◌, ℕ, suc, ◌+◌, ℤ, Bool, true, false, List, [], ◌∷◌, length, get_or, Option, Some, None, Result, Ok, Err}
+use Rattle.std.specs.Prelude.{◌≡◌, ℕ, suc, ◌+◌, ℤ, Bool, true, false, List, [], ◌∷◌, length, get_or, Option, Some, None}
+use Rattle.std.specs.Prelude.{Result, Ok, Err}
 use Rattle.stream_tokens.specs.declared.token.Token.{Token}
 use Rattle.stream_tokens.specs.declared.token.TokenKind.TheVariants.{Bad}
 use Rattle.stream_tokens.specs.CutTexts.{TokenizedText, between}
@@ -151,4 +152,5 @@ IsReadBy param.Operator scope ws text r = IsOperatorRead (is_add_exact ws) (spel
 
 -- what the last part of a call of a job is read as
 abbrev pub IsArgumentRead : Scope → TokenizedText → PlacedCall → Result Argument Cause → Type 0
-IsArgumentRead scope t c r = IsReadBy (last_param c.call.operation c.call.parts) scope (last_part c.call.parts) (argument_text t c).bytes r
+IsArgumentRead scope t c r =
+    IsReadBy (last_param c.call.operation c.call.parts) scope (last_part c.call.parts) (argument_text t c).bytes r

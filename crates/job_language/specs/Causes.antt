@@ -1,5 +1,6 @@
 -- Meaning: what a part of a job is refused for: the causes in order of writing, and the first that there is.
-use Rattle.std.specs.Prelude.{ℕ, suc, ℤ, pos, int_lt, Bool, true, false, ◌||◌, ◌&&◌, nat_eq, nat_lt, nat_le, if◌then◌else◌, List, [], ◌∷◌, ◌++◌, length, take, drop, ◌-◌, Option, Some, None}
+use Rattle.std.specs.Prelude.{ℕ, suc, ℤ, pos, int_lt, Bool, true, false, ◌||◌, ◌&&◌, nat_eq, nat_lt, nat_le}
+use Rattle.std.specs.Prelude.{if◌then◌else◌, List, [], ◌∷◌, ◌++◌, length, take, drop, ◌-◌, Option, Some, None}
 use Rattle.std.specs.Option.{is_none, is_some}
 use Rattle.std.specs.Cmp.Lexicographic.{pointwise}
 use Rattle.lambda_expr.specs.NumberWords.{number_read}
@@ -51,7 +52,8 @@ version_cause scope j = when (is_some j.fallback && nat_lt scope.version 2) caus
 
 -- a name of at most 64 bytes, which no earlier job has
 abbrev pub name_causes : Scope → List ℕ → List (Option Cause)
-name_causes scope w = when (nat_lt 64 (length w)) cause.TooLong ∷ when (is_some (given scope.jobs w)) cause.SameName ∷ []
+name_causes scope w =
+    when (nat_lt 64 (length w)) cause.TooLong ∷ when (is_some (given scope.jobs w)) cause.SameName ∷ []
 
 -- `of` has at most 1,024 values
 abbrev pub count_of : Params → ℕ → Option Cause

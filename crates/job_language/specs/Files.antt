@@ -28,15 +28,18 @@ fault_at t c = record { line = t.line; cause = c }
 
 -- the texts of a file of this version in order, below these jobs: the first that is refused, at the line that begins
 -- it, or all jobs
-abbrev pub AreJobsRead : ℕ → List NamedColumn → List AbstractJob → List JobText → Result (List AbstractJob) JobFault → Type 0
+abbrev pub AreJobsRead : ℕ → List NamedColumn → List AbstractJob → List JobText → Result (List AbstractJob) JobFault
+    → Type 0
 AreJobsRead version columns above [] r = r ≡ Ok above
 AreJobsRead version columns above (t ∷ ts) r =
     ((c : Cause) × IsNext version columns above t.text (Err c) × (r ≡ Err (fault_at t c)))
-    ⊎ ((j : AbstractJob) × IsNext version columns above t.text (Ok j) × AreJobsRead version columns (above ++ j ∷ []) ts r)
+    ⊎ ((j : AbstractJob) × IsNext version columns above t.text (Ok j)
+    × AreJobsRead version columns (above ++ j ∷ []) ts r)
 
 -- helper: the texts that are left, read in order below these jobs; a line that continues no job is refused instead of
 -- all of them
-abbrev pub AreJobsLeft : ℕ → List NamedColumn → List AbstractJob → Result (List JobText) TextFault → Result (List AbstractJob) JobFault → Type 0
+abbrev pub AreJobsLeft : ℕ → List NamedColumn → List AbstractJob → Result (List JobText) TextFault
+    → Result (List AbstractJob) JobFault → Type 0
 AreJobsLeft version columns above (Ok texts) r = AreJobsRead version columns above texts r
 AreJobsLeft version columns above (Err (text.Syntax line)) r = r ≡ Err (record { line = line; cause = Syntax })
 AreJobsLeft version columns above (Err text.NoMemory) r = ⊥

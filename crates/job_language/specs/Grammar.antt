@@ -98,7 +98,9 @@ fallback_pieces (Some c) = dot ∷ call c ∷ []
 
 -- the pieces of a job, in order of writing
 abbrev pub job_pieces : Job → List Piece
-job_pieces j = source_pieces j.source ++ (steps_pieces j.stages ++ dot ∷ call j.terminal ∷ (fallback_pieces j.fallback ++ ending j.semicolon))
+job_pieces j =
+    source_pieces j.source
+    ++ (steps_pieces j.stages ++ dot ∷ call j.terminal ∷ (fallback_pieces j.fallback ++ ending j.semicolon))
 
 -- the words of a job: its name, `=`, and its pieces
 abbrev pub job_words : Job → List Word

@@ -101,7 +101,14 @@ terminal_of terminal.ExactSum = exact_sum
 
 -- helper: the abstract job of a job of the program
 abbrev pub job_of : Job → AbstractJob
-job_of j = record { name = j.name; sources = sources_of j.sources.items; stages = job_stages_of j.stages.items; terminal = terminal_of j.terminal; on_fault = j.on_fault }
+job_of j =
+    record {
+      name = j.name;
+      sources = sources_of j.sources.items;
+      stages = job_stages_of j.stages.items;
+      terminal = terminal_of j.terminal;
+      on_fault = j.on_fault;
+    }
 
 -- helper: each of several jobs
 abbrev pub jobs_of : List Job → List AbstractJob

@@ -1,5 +1,6 @@
 -- Meaning: the operators of `prefix` and `reduce`, by how they are written.
-use Rattle.std.specs.Prelude.{ℕ, Bool, true, false, ◌&&◌, if◌then◌else◌, List, [], ◌∷◌, codes, Option, Some, None, option_map}
+use Rattle.std.specs.Prelude.{ℕ, Bool, true, false, ◌&&◌, if◌then◌else◌, List, [], ◌∷◌, codes, Option, Some, None}
+use Rattle.std.specs.Prelude.{option_map}
 use Rattle.std.specs.Option.{option_map_or, option_or}
 use Rattle.stream_tokens.specs.declared.symbol.Symbol.TheVariants as symbol
 use Rattle.lambda_expr.specs.Members.{is_named}
@@ -68,4 +69,5 @@ spelled_op ws = option_or (option_map op_named (name_in ws)) (option_map (λ m. 
 
 -- whether words are `Math::addExact`
 abbrev pub is_add_exact : List Word → Bool
-is_add_exact ws = option_map_or (λ m. is_named m.0 (codes "Math") && is_named m.1 (codes "addExact")) (method_in ws) false
+is_add_exact ws =
+    option_map_or (λ m. is_named m.0 (codes "Math") && is_named m.1 (codes "addExact")) (method_in ws) false

@@ -11,7 +11,8 @@ use Rattle.job_language.specs.declared.fault.Cause.{Cause}
 use Rattle.job_language.specs.declared.fault.Cause.TheVariants.{NoMemory}
 use Rattle.job_language.specs.Grammar.{Job}
 use Rattle.job_language.specs.Causes.{Scope, first_cause, causes_of}
-use Rattle.job_language.specs.Rows.{Argument, nothing, column, job, number, test, stream, operator, exact, AbstractCall, source, stage, terminal, fallback}
+use Rattle.job_language.specs.Rows.{Argument, nothing, column, job, number, test, stream, operator, exact, AbstractCall}
+use Rattle.job_language.specs.Rows.{source, stage, terminal, fallback}
 use Rattle.job_language.specs.Jobs.{AbstractJob, source_of, sources_of, job_stage_of, job_stages_of, terminal_of}
 use Rattle.job_language.specs.Verdicts.{BegunJob, finished}
 
@@ -35,7 +36,14 @@ part_in (code_part.Fallback z) = fallback z
 
 -- the abstract form of a job that is being read
 abbrev pub begun_of : begun.BegunJob → BegunJob
-begun_of j = record { name = j.name; sources = sources_of j.sources.items; stages = job_stages_of j.stages.items; terminal = option_map terminal_of j.terminal; on_fault = j.on_fault }
+begun_of j =
+    record {
+      name = j.name;
+      sources = sources_of j.sources.items;
+      stages = job_stages_of j.stages.items;
+      terminal = option_map terminal_of j.terminal;
+      on_fault = j.on_fault;
+    }
 
 -- an answer, as the definitions have it
 abbrev pub answer_in : {A T : Type 0} → (A → T) → Result A Cause → Result T Cause

@@ -8,7 +8,8 @@ use Rattle.job_language.specs.declared.mode.Mode.{Mode}
 use Rattle.job_language.specs.declared.mode.Mode.TheVariants as mode
 use Rattle.job_language.specs.Table.{role_of}
 use Rattle.job_language.specs.Calls.{Call, IsCall}
-use Rattle.job_language.specs.Grammar.{Source, Sources, plain, concat, two, more, Piece, call, begin_concat, owner, comma, close, dot, semicolon}
+use Rattle.job_language.specs.Grammar.{Source, Sources, plain, concat, two, more, Piece, call, begin_concat, owner}
+use Rattle.job_language.specs.Grammar.{comma, close, dot, semicolon}
 
 -- a `concat` that is open, with the sources before its last comma
 pub data Frame : Type 0 where

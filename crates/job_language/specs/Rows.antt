@@ -1,5 +1,6 @@
 -- Meaning: what a row of the table of operations takes between the parentheses of a call, and what it builds.
-use Rattle.std.specs.Prelude.{ℕ, ℤ, pos, unsigned_abs, if◌then◌else◌, List, [], ◌∷◌, Option, Some, None, Result, Ok, Err}
+use Rattle.std.specs.Prelude.{ℕ, ℤ, pos, unsigned_abs, if◌then◌else◌, List, [], ◌∷◌, Option, Some, None, Result, Ok}
+use Rattle.std.specs.Prelude.{Err}
 use Rattle.std.specs.Ordering.{int_eq}
 use Rattle.lambda_values.specs.Term.{Long, Truth}
 use Rattle.lambda_values.specs.Streams.{Inner}

@@ -1,5 +1,6 @@
 -- Condition: what the program keeps of a job that it has read.
-use Rattle.std.specs.Prelude.{◌≡◌, ℕ, ◌+◌, ◌<◌, ◌≤◌, Bool, true, false, List, [], ◌∷◌, ◌++◌, length, drop, reverse, Option, Some, None, zero, suc, get_or}
+use Rattle.std.specs.Prelude.{◌≡◌, ℕ, ◌+◌, ◌<◌, ◌≤◌, Bool, true, false, List, [], ◌∷◌, ◌++◌, length, drop, reverse}
+use Rattle.std.specs.Prelude.{Option, Some, None, zero, suc, get_or}
 use Rattle.stream_tokens.specs.declared.symbol.Symbol.{Symbol}
 use Rattle.stream_tokens.specs.declared.symbol.Symbol.TheVariants as symbol
 use Rattle.lambda_expr.specs.Words.{Word, named, sign}
@@ -16,7 +17,8 @@ use Rattle.job_language.specs.declared.shape.Reader as shape
 use Rattle.job_language.specs.Table.{operation_of, role_of}
 use Rattle.job_language.specs.Calls.{Call}
 use Rattle.job_language.specs.Splitting.{call_at, AreEnds}
-use Rattle.job_language.specs.Grammar.{Piece, call, begin_concat, owner, comma, close, dot, semicolon, piece_words, pieces_words, Job, IsSpelled, IsJob}
+use Rattle.job_language.specs.Grammar.{Piece, call, begin_concat, owner, comma, close, dot, semicolon, piece_words}
+use Rattle.job_language.specs.Grammar.{pieces_words, Job, IsSpelled, IsJob}
 use Rattle.job_language.specs.Arguments.{PlacedCall}
 use Rattle.job_language.specs.Verdicts.{placed, placed_calls}
 use Rattle.job_language.specs.Reading.{mark_of, IsPiece, ArePieces, coded, reads, begins}

@@ -1,5 +1,6 @@
 -- Condition: a call taken apart, word by word, after its opening parenthesis.
-use Rattle.std.specs.Prelude.{◌≡◌, ℕ, suc, ◌+◌, Bool, true, ◌&&◌, List, [], ◌∷◌, ◌++◌, length, Option, Some, None, slice_range, take, ◌≤◌, ◌<◌}
+use Rattle.std.specs.Prelude.{◌≡◌, ℕ, suc, ◌+◌, Bool, true, ◌&&◌, List, [], ◌∷◌, ◌++◌, length, Option, Some, None}
+use Rattle.std.specs.Prelude.{slice_range, take, ◌≤◌, ◌<◌}
 use Rattle.stream_tokens.specs.declared.symbol.Symbol.TheVariants as symbol
 use Rattle.lambda_expr.specs.Words.{Word, sign}
 use Rattle.job_language.specs.declared.operation.Operation.{Operation}
@@ -89,4 +90,5 @@ pub record IsReadAs (o : Operation) (ws : List Word) (es : List ℕ) : Type 0 wh
   pub ends : AreEnds 0 es (length ws)
 
 abbrev pub IsNoCallOf : Operation → List Word → Type 0
-IsNoCallOf o ws = (parts : List (List Word)) (rest : List Word) → Completes (record { operation = o; parts = parts }) rest ws → ⊥
+IsNoCallOf o ws =
+    (parts : List (List Word)) (rest : List Word) → Completes (record { operation = o; parts = parts }) rest ws → ⊥

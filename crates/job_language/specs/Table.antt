@@ -1,6 +1,7 @@
 -- Meaning: the operations of jobs, one row each: where it stands, what a call of it takes between its parentheses, and
 -- what it builds.
-use Rattle.std.specs.Prelude.{ℕ, ◌+◌, ℤ, Bool, true, false, ◌==◌, ◌||◌, nat_eq, nat_lt, List, [], ◌∷◌, codes, if◌then◌else◌, Option, Some, None, is_some, Result}
+use Rattle.std.specs.Prelude.{ℕ, ◌+◌, ℤ, Bool, true, false, ◌==◌, ◌||◌, nat_eq, nat_lt, List, [], ◌∷◌, codes}
+use Rattle.std.specs.Prelude.{if◌then◌else◌, Option, Some, None, is_some, Result}
 use Rattle.std.specs.Cmp.Lexicographic.{pointwise}
 use Rattle.lambda_expr.specs.NumberWords.{is_number}
 use Rattle.lambda_expr.specs.Words.{Word, named, quoted}
@@ -16,7 +17,10 @@ use Rattle.job_language.specs.declared.operation.Param.TheVariants as param
 use Rattle.job_language.specs.declared.operation.Params.{Params}
 use Rattle.job_language.specs.declared.operation.Params.TheVariants as params
 use Rattle.job_language.specs.Jobs as job
-use Rattle.job_language.specs.Rows.{Argument, AbstractCall, Row, as_source, as_concat, as_stage, as_terminal, as_fallback, of_nothing, of_bounds, of_values, of_number, of_count, of_column, of_job, of_long, of_test, of_stream, of_positions, of_identity, role_in, params_in, built_by}
+use Rattle.job_language.specs.Rows.{Argument, AbstractCall, Row, as_source, as_concat, as_stage, as_terminal}
+use Rattle.job_language.specs.Rows.{as_fallback, of_nothing, of_bounds, of_values, of_number, of_count, of_column}
+use Rattle.job_language.specs.Rows.{of_job, of_long, of_test, of_stream, of_positions, of_identity, role_in, params_in}
+use Rattle.job_language.specs.Rows.{built_by}
 
 -- how an operation is written
 abbrev pub name_of : Operation → List ℕ
@@ -49,7 +53,10 @@ name_of op.OnFault = codes "onFault"
 
 -- all operations
 abbrev pub operations : List Operation
-operations = op.Range ∷ op.RangeClosed ∷ op.Of ∷ op.Empty ∷ op.Column ∷ op.Result ∷ op.Concat ∷ op.Map ∷ op.Filter ∷ op.FlatMap ∷ op.Limit ∷ op.Skip ∷ op.TakeWhile ∷ op.DropWhile ∷ op.Prefix ∷ op.Sum ∷ op.Count ∷ op.Min ∷ op.Max ∷ op.FindFirst ∷ op.ToArray ∷ op.Reduce ∷ op.AnyMatch ∷ op.AllMatch ∷ op.NoneMatch ∷ op.OnFault ∷ []
+operations =
+    op.Range ∷ op.RangeClosed ∷ op.Of ∷ op.Empty ∷ op.Column ∷ op.Result ∷ op.Concat ∷ op.Map ∷ op.Filter
+    ∷ op.FlatMap ∷ op.Limit ∷ op.Skip ∷ op.TakeWhile ∷ op.DropWhile ∷ op.Prefix ∷ op.Sum ∷ op.Count ∷ op.Min ∷ op.Max
+    ∷ op.FindFirst ∷ op.ToArray ∷ op.Reduce ∷ op.AnyMatch ∷ op.AllMatch ∷ op.NoneMatch ∷ op.OnFault ∷ []
 
 -- the first of these operations with this name
 abbrev pub operation_among : List Operation → List ℕ → Option Operation

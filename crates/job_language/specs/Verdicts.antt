@@ -1,5 +1,6 @@
 -- Meaning: what the text of a job is read as: the job, or the first cause for which it is refused.
-use Rattle.std.specs.Prelude.{◌≡◌, ℕ, suc, ◌+◌, ◌<◌, ◌≤◌, ℤ, ◌⊎◌, List, [], ◌∷◌, ◌++◌, length, Option, Some, None, Result, Ok, Err}
+use Rattle.std.specs.Prelude.{◌≡◌, ℕ, suc, ◌+◌, ◌<◌, ◌≤◌, ℤ, ◌⊎◌, List, [], ◌∷◌, ◌++◌, length, Option, Some, None}
+use Rattle.std.specs.Prelude.{Result, Ok, Err}
 use Rattle.stream_tokens.specs.declared.token.Token.{Token}
 use Rattle.stream_tokens.specs.Tokens.{AreTokensOf}
 use Rattle.stream_tokens.specs.CutTexts.{TokenizedText}
@@ -55,7 +56,8 @@ added j (fallback z) = record j { on_fault = Some z }
 -- the job after its last call; in the grammar none is without a terminal
 abbrev pub finished_by : BegunJob → Option AbstractTerminal → Result AbstractJob Cause
 finished_by j None = Err cause.Syntax
-finished_by j (Some d) = Ok (record { name = j.name; sources = j.sources; stages = j.stages; terminal = d; on_fault = j.on_fault })
+finished_by j (Some d) =
+    Ok (record { name = j.name; sources = j.sources; stages = j.stages; terminal = d; on_fault = j.on_fault })
 
 abbrev pub finished : BegunJob → Result AbstractJob Cause
 finished j = finished_by j j.terminal
@@ -81,7 +83,8 @@ below_terminal d (Err e) = Err e
 -- what the next call of a job is read as
 abbrev pub IsNextCall : BegunJob → Scope → TokenizedText → PlacedCall → Result AbstractCall Cause → Type 0
 IsNextCall j scope t c r =
-    (q : Result AbstractCall Cause) × IsReadInTurn (stage_cause (length j.stages) (role_of c.call.operation)) scope t c q
+    (q : Result AbstractCall Cause)
+    × IsReadInTurn (stage_cause (length j.stages) (role_of c.call.operation)) scope t c q
     × (below_terminal j.terminal q ≡ r)
 
 -- the calls that are left, in order of writing: the first that is refused gives the cause

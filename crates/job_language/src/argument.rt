@@ -7,7 +7,10 @@ ghost use Rattle.job_language.specs.Shapes.{StandsIn, call_in, placed_in};
 ghost use Rattle.job_language.specs.Scopes.{scope_of};
 ghost use Rattle.job_language.specs.Causes.{first_cause};
 ghost use Rattle.job_language.specs.Operators.{is_add_exact, spelled_op};
-ghost use Rattle.job_language.specs.Arguments.{column_answer, text_answer, result_answer, name_answer, argument_of, pair_argument, reference_cause, reference_causes, lambda_answer, argument_text, last_param, last_part, listed, IsLambdaRead, IsOperatorRead, IsReadBy, IsArgumentRead};
+ghost use Rattle.job_language.specs.Arguments.{text_answer, name_answer, argument_of, pair_argument};
+ghost use Rattle.job_language.specs.Arguments.{reference_cause, reference_causes, lambda_answer, argument_text};
+ghost use Rattle.job_language.specs.Arguments.{last_param, last_part};
+ghost use Rattle.job_language.specs.Arguments.{IsLambdaRead, IsOperatorRead, IsReadBy, IsArgumentRead};
 ghost use Rattle.job_language.specs.Rows.{job as named_job};
 ghost use Rattle.job_language.specs.Parts.{argument_in, Answers};
 
@@ -43,23 +46,17 @@ pub enum Argument<'c> {
     ExactSum,
 }
 
-fn column<'c>(cells: Option<&'c [i64]>) -> Result<Argument<'c>, Cause>
-    ensures { Answers argument_in (λ r. column_answer (option_map (λ cells. cells.now) cells.entry) ≡ r) result }
-{
-    match cells {
-        Some(cells) => Ok(Argument::Column(cells)),
-        None => Err(Cause::UnknownColumn),
-    }
-}
-
 /// The column that a string names.
 fn read_string<'c>(scope: Scope<'_, 'c>, string: Option<&[u8]>) -> Result<Argument<'c>, Cause>
     ensures { let w = option_map (λ w. w.now) string.entry in
         Answers argument_in (λ r. text_answer (scope_of scope.entry) w ≡ r) result }
 {
-    match string {
-        Some(string) => column(scope.columns.get(inside_quotes(string))),
-        None => Ok(Argument::Nothing),
+    let Some(string) = string else {
+        return Ok(Argument::Nothing);
+    };
+    match scope.columns.get(inside_quotes(string)) {
+        Some(cells) => Ok(Argument::Column(cells)),
+        None => Err(Cause::UnknownColumn),
     }
 }
 
@@ -70,34 +67,18 @@ fn copy_name<'c>(alloc: Global, name: &[u8]) -> Result<Argument<'c>, AllocError>
     Ok(Argument::Job(Bytes::from(bytes)))
 }
 
-/// An earlier job that gives this.
-fn read_result<'c>(alloc: Global, name: &[u8], gives: Option<Gives>) -> Result<Argument<'c>, Cause>
-    ensures { Answers argument_in (λ r. result_answer name.now gives ≡ r) result }
-{
-    match gives {
-        None => Err(Cause::UnknownJob),
-        Some(Gives::Array) => Ok(copy_name(alloc, name)?),
-        Some(_) => Err(Cause::NotAnArray),
-    }
-}
-
-/// The earlier job with this name.
+/// The earlier job with this name, if it gives an array.
 fn read_name<'c>(alloc: Global, scope: Scope, name: Option<&[u8]>) -> Result<Argument<'c>, Cause>
     ensures { let w = option_map (λ w. w.now) name.entry in
         Answers argument_in (λ r. name_answer (scope_of scope.entry) w ≡ r) result }
 {
-    match name {
-        Some(name) => read_result(alloc, name, given(scope.jobs, name)),
-        None => Ok(Argument::Nothing),
-    }
-}
-
-fn listed<'c>(op: Option<Op>) -> Result<Argument<'c>, Cause>
-    ensures { Answers argument_in (λ r. listed op ≡ r) result }
-{
-    match op {
-        Some(op) => Ok(Argument::Operator(op)),
-        None => Err(Cause::OperatorNotListed),
+    let Some(name) = name else {
+        return Ok(Argument::Nothing);
+    };
+    match given(scope.jobs, name) {
+        None => Err(Cause::UnknownJob),
+        Some(Gives::Array) => Ok(copy_name(alloc, name)?),
+        Some(_) => Err(Cause::NotAnArray),
     }
 }
 
@@ -193,7 +174,8 @@ fn read_operator<'c>(
         return Ok(Argument::ExactSum);
     }
     match spelled_op(words) {
-        Some(op) => listed(op),
+        Some(Some(op)) => Ok(Argument::Operator(op)),
+        Some(None) => Err(Cause::OperatorNotListed),
         None => read_lambda_part(alloc, scope, text, Want::Pair),
     }
 }

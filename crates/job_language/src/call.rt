@@ -4,7 +4,8 @@ ghost use Rattle.lambda_expr.specs.Words.{Word as meant};
 ghost use Rattle.job_language.specs.declared.operation.Operation.{Operation as operation};
 ghost use Rattle.job_language.specs.Calls.{Call as call};
 ghost use Rattle.lambda_expr.specs.CodeWords.{words_in};
-ghost use Rattle.job_language.specs.Splitting.{reads, start, pieces, fits_from, IsSplit, IsReadAs, IsNoCallOf, AreEnds, IsOpen, Completes};
+ghost use Rattle.job_language.specs.Splitting.{reads, start, pieces, fits_from, IsSplit, IsReadAs};
+ghost use Rattle.job_language.specs.Splitting.{IsNoCallOf, AreEnds, IsOpen, Completes};
 
 use crate::operation::Operation;
 use crate::params::{allows, param_of};

@@ -42,10 +42,10 @@ pub enum JobStage {
 #[derive(Drop)]
 pub struct Job<'c> {
     pub name: Bytes,
-    /// The plain sources in order of writing, 1 to 8; more than one if the source is a `concat`. Those of a
-    /// `concat` in a `concat` stand in its place.
+    /// The plain sources in order of writing, 1 to 8; more than one if the source is a `concat`. For a
+    /// `concat` in a `concat`, its parts stand here.
     pub sources: Vec<PlainSource<'c>>,
-    /// In order of writing; at most 32.
+    /// The stages in order of writing, at most 32.
     pub stages: Vec<JobStage>,
     pub terminal: Terminal,
     /// `onFault(number)`: the number that the job gives after a fault; only if the terminal gives a number.

@@ -51,7 +51,7 @@ pub use laws::{
     a_call_is_no_syntax_fault, a_job_has_a_name, each_file_has_an_answer, each_text_has_a_verdict,
     one_file, one_verdict,
 };
-pub use operation::{Operation, Param, Params, Role, name_of, one_operation, operation_of};
+pub use operation::{Operation, Param, Params, Role, one_operation, operation_of};
 pub use params::{allows, param_of, params_of, role_of};
 pub use piece::WrittenCall;
 pub use read::read_job;

@@ -5,7 +5,8 @@ ghost use Rattle.job_language.specs.Table.{params_of};
 ghost use Rattle.lambda_expr.specs.CodeWords.{words_in};
 ghost use Rattle.lambda_expr.specs.NumberWords.{number_read};
 ghost use Rattle.job_language.specs.Shapes.{StandsIn, call_in};
-ghost use Rattle.job_language.specs.Causes.{first_cause, when, count_of, number_cause, number_causes, number_in, numbers_of, values_cause, early_causes};
+ghost use Rattle.job_language.specs.Causes.{first_cause, when, count_of, number_cause, number_causes};
+ghost use Rattle.job_language.specs.Causes.{number_in, numbers_of, values_cause, early_causes};
 
 use crate::causes::{part_of, when};
 use crate::fault::Cause;
@@ -73,31 +74,19 @@ fn read_numbers(alloc: Global, words: &[Word], call: &WrittenCall) -> Result<Vec
     Ok(numbers)
 }
 
-fn count_below(numbers: &[i64]) -> Option<Cause>
-    ensures { result ≡ values_cause Params.Count numbers.now }
-{
-    match numbers {
-        [count] => when(*count < 0, Cause::NegativeCount),
-        _ => None,
-    }
-}
-
-fn bad_range(numbers: &[i64]) -> Option<Cause>
-    ensures { result ≡ values_cause Params.Positions numbers.now }
-{
-    match numbers {
-        [from, to] => when(*from < 0 || *to < *from, Cause::BadRange),
-        _ => None,
-    }
-}
-
 /// Why the numbers of a call are refused.
 fn values_cause(params: Params, numbers: &[i64]) -> Option<Cause>
     ensures { result ≡ values_cause params numbers.now }
 {
     match params {
-        Params::Count => count_below(numbers),
-        Params::Positions => bad_range(numbers),
+        Params::Count => match numbers {
+            [count] => when(*count < 0, Cause::NegativeCount),
+            _ => None,
+        },
+        Params::Positions => match numbers {
+            [from, to] => when(*from < 0 || *to < *from, Cause::BadRange),
+            _ => None,
+        },
         _ => None,
     }
 }

@@ -3,60 +3,36 @@ ghost use Rattle.std.specs.Prelude.{◌≡◌};
 ghost use Rattle.job_language.specs.declared.operation.Operation.{Operation as operation};
 ghost use Rattle.job_language.specs.Table.{name_of, operation_of};
 
-/// An operation of a job.
+use crate::row::row;
+
+/// An operation of a job; `row` says how it is written, and what a call of it takes.
 #[derive(Clone, Copy, PartialEq, Eq)]
 pub enum Operation {
-    /// `range(NUM, NUM)`.
     Range,
-    /// `rangeClosed(NUM, NUM)`.
     RangeClosed,
-    /// `of(NUM, ..)`.
     Of,
-    /// `empty()`.
     Empty,
-    /// `column("name")`.
     Column,
-    /// `result(NAME)`.
     Result,
-    /// `concat(SOURCE, SOURCE, ..)`.
     Concat,
-    /// `map(LAMBDA)`.
     Map,
-    /// `filter(LAMBDA)`.
     Filter,
-    /// `flatMap(LAMBDA)`.
     FlatMap,
-    /// `limit(NUM)`.
     Limit,
-    /// `skip(NUM)`.
     Skip,
-    /// `takeWhile(LAMBDA)`.
     TakeWhile,
-    /// `dropWhile(LAMBDA)`.
     DropWhile,
-    /// `prefix(OPERATOR)` or `prefix(NUM, NUM, OPERATOR)`.
     Prefix,
-    /// `sum()`.
     Sum,
-    /// `count()`.
     Count,
-    /// `min()`.
     Min,
-    /// `max()`.
     Max,
-    /// `findFirst()`.
     FindFirst,
-    /// `toArray()`.
     ToArray,
-    /// `reduce(OPERATOR)` or `reduce(NUM, OPERATOR)`.
     Reduce,
-    /// `anyMatch(LAMBDA)`.
     AnyMatch,
-    /// `allMatch(LAMBDA)`.
     AllMatch,
-    /// `noneMatch(LAMBDA)`.
     NoneMatch,
-    /// `onFault(NUM)`.
     OnFault,
 }
 
@@ -152,46 +128,12 @@ const OPERATIONS: [Operation; 26] = [
     Operation::OnFault,
 ];
 
-/// How an operation is written.
-pub fn name_of(operation: Operation) -> &'static str
-    ensures { result.now ≡ name_of operation }
-{
-    match operation {
-        Operation::Range => "range",
-        Operation::RangeClosed => "rangeClosed",
-        Operation::Of => "of",
-        Operation::Empty => "empty",
-        Operation::Column => "column",
-        Operation::Result => "result",
-        Operation::Concat => "concat",
-        Operation::Map => "map",
-        Operation::Filter => "filter",
-        Operation::FlatMap => "flatMap",
-        Operation::Limit => "limit",
-        Operation::Skip => "skip",
-        Operation::TakeWhile => "takeWhile",
-        Operation::DropWhile => "dropWhile",
-        Operation::Prefix => "prefix",
-        Operation::Sum => "sum",
-        Operation::Count => "count",
-        Operation::Min => "min",
-        Operation::Max => "max",
-        Operation::FindFirst => "findFirst",
-        Operation::ToArray => "toArray",
-        Operation::Reduce => "reduce",
-        Operation::AnyMatch => "anyMatch",
-        Operation::AllMatch => "allMatch",
-        Operation::NoneMatch => "noneMatch",
-        Operation::OnFault => "onFault",
-    }
-}
-
 /// The operation with this name.
 pub fn operation_of(name: &[u8]) -> Option<Operation>
     ensures { result ≡ operation_of name.now }
 {
     for operation in OPERATIONS {
-        if name == name_of(operation).as_bytes() {
+        if name == row(operation).0.as_bytes() {
             return Some(operation);
         }
     }

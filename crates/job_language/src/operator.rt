@@ -1,6 +1,7 @@
 //! The operators of `prefix` and `reduce`: the table of how they are written.
 ghost use Rattle.std.specs.Prelude.{◌≡◌, ◌∷◌, [], option_map};
-ghost use Rattle.job_language.specs.Operators.{op_name, op_named, op_method, in_math, in_long, is_add_exact, method_in, spelled_op};
+ghost use Rattle.job_language.specs.Operators.{op_named, op_method, in_math, in_long};
+ghost use Rattle.job_language.specs.Operators.{is_add_exact, method_in, spelled_op};
 ghost use Rattle.lambda_expr.specs.CodeWords.{word_of, words_in};
 
 use crate::word::name_in;
@@ -8,48 +9,33 @@ use lambda_expr::Word;
 use reduce_ops::Op;
 use stream_tokens::Symbol;
 
-/// All operators.
-const OPS: [Op; 10] = [
-    Op::Sum,
-    Op::Product,
-    Op::Min,
-    Op::Max,
-    Op::And,
-    Op::Or,
-    Op::Xor,
-    Op::Affine,
-    Op::First,
-    Op::Last,
-];
-
-/// The name of an operator.
-fn op_name(op: Op) -> &'static str
-    ensures { result.now ≡ op_name op }
-{
-    match op {
-        Op::Sum => "sum",
-        Op::Product => "product",
-        Op::Min => "min",
-        Op::Max => "max",
-        Op::And => "and",
-        Op::Or => "or",
-        Op::Xor => "xor",
-        Op::Affine => "affine",
-        Op::First => "first",
-        Op::Last => "last",
-    }
-}
-
 /// The operator with this name.
 fn op_named(name: &[u8]) -> Option<Op>
     ensures { result ≡ op_named name.now }
 {
-    for op in OPS {
-        if name == op_name(op).as_bytes() {
-            return Some(op);
-        }
+    if name == b"sum".as_slice() {
+        Some(Op::Sum)
+    } else if name == b"product".as_slice() {
+        Some(Op::Product)
+    } else if name == b"min".as_slice() {
+        Some(Op::Min)
+    } else if name == b"max".as_slice() {
+        Some(Op::Max)
+    } else if name == b"and".as_slice() {
+        Some(Op::And)
+    } else if name == b"or".as_slice() {
+        Some(Op::Or)
+    } else if name == b"xor".as_slice() {
+        Some(Op::Xor)
+    } else if name == b"affine".as_slice() {
+        Some(Op::Affine)
+    } else if name == b"first".as_slice() {
+        Some(Op::First)
+    } else if name == b"last".as_slice() {
+        Some(Op::Last)
+    } else {
+        None
     }
-    None
 }
 
 /// Whether `Math` has the operator as a method.

@@ -1,7 +1,7 @@
 //! What the table of operations says of an operation: where it stands, how many arguments it takes, and what each is.
 
 ghost use Rattle.std.specs.Prelude.{◌≡◌, ◌<◌};
-ghost use Rattle.job_language.specs.Table.{role_of, params_of, allowed, allows, param_at, param_of};
+ghost use Rattle.job_language.specs.Table.{role_of, params_of, allows, param_of};
 
 use crate::operation::{Operation, Param, Params, Role};
 use crate::row::row;
@@ -10,20 +10,21 @@ use crate::row::row;
 pub fn role_of(operation: Operation) -> Role
     ensures { result ≡ role_of operation }
 {
-    row(operation).0
+    row(operation).1
 }
 
 /// What stands between the parentheses of a call.
 pub fn params_of(operation: Operation) -> Params
     ensures { result ≡ params_of operation }
 {
-    row(operation).1
+    row(operation).2
 }
 
-fn allowed(params: Params, count: usize) -> bool
-    ensures { result ≡ allowed params count }
+/// Whether a call may have this number of parts.
+pub fn allows(operation: Operation, count: usize) -> bool
+    ensures { result ≡ allows operation count }
 {
-    match params {
+    match params_of(operation) {
         Params::Nothing => count == 0,
         Params::Bounds => count == 2,
         Params::Values => true,
@@ -40,18 +41,12 @@ fn allowed(params: Params, count: usize) -> bool
     }
 }
 
-/// Whether a call may have this number of parts.
-pub fn allows(operation: Operation, count: usize) -> bool
-    ensures { result ≡ allows operation count }
-{
-    allowed(params_of(operation), count)
-}
-
-fn param_at(params: Params, count: usize, place: usize) -> Param
+/// What part `place` of a call of `count` parts is.
+pub fn param_of(operation: Operation, count: usize, place: usize) -> Param
     requires { place < count }
-    ensures { result ≡ param_at params count place }
+    ensures { result ≡ param_of operation count place }
 {
-    match params {
+    match params_of(operation) {
         Params::Nothing
         | Params::Bounds
         | Params::Values
@@ -71,12 +66,4 @@ fn param_at(params: Params, count: usize, place: usize) -> Param
             }
         }
     }
-}
-
-/// What part `place` of a call of `count` parts is.
-pub fn param_of(operation: Operation, count: usize, place: usize) -> Param
-    requires { place < count }
-    ensures { result ≡ param_of operation count place }
-{
-    param_at(params_of(operation), count, place)
 }

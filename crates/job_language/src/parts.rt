@@ -2,11 +2,11 @@
 ghost use Rattle.std.specs.Prelude.{◌≡◌, ◌≤◌, IfOk, Ok, length, option_map};
 ghost use Rattle.lambda_expr.specs.Words.{words_of};
 ghost use Rattle.lambda_expr.specs.CodeWords.{words_in};
-ghost use Rattle.job_language.specs.Table.{role_of};
 ghost use Rattle.job_language.specs.Shapes.{StandsIn, StandIn, placed_in, all_placed};
 ghost use Rattle.job_language.specs.Scopes.{scope_of};
 ghost use Rattle.job_language.specs.Causes.{stage_cause};
-ghost use Rattle.job_language.specs.Verdicts.{added, below_terminal, fallback_below, finished, job_named, IsCallRead, IsNextCall, IsReadInTurn, AreRead};
+ghost use Rattle.job_language.specs.Verdicts.{added, below_terminal, fallback_below, finished, job_named};
+ghost use Rattle.job_language.specs.Verdicts.{IsCallRead, IsNextCall, AreRead};
 ghost use Rattle.job_language.specs.Jobs.{job_of, terminal_of};
 ghost use Rattle.job_language.specs.Parts.{part_in, begun_of, answer_in, Answers, Leads};
 
@@ -70,20 +70,6 @@ impl<'c> BegunJob<'c> {
     }
 }
 
-/// A job before its calls.
-fn named<'c>(alloc: Global, name: &[u8]) -> Result<BegunJob<'c>, AllocError>
-    ensures { IfOk result (λ job. begun_of job ≡ job_named name.now) }
-{
-    let bytes = name.to_vec(alloc)?;
-    Ok(BegunJob {
-        name: Bytes::from(bytes),
-        sources: Vec::new(alloc),
-        stages: Vec::new(alloc),
-        terminal: None,
-        on_fault: None,
-    })
-}
-
 /// Puts what a call builds after the others.
 fn add<'c>(job: &mut BegunJob<'c>, part: CallPart<'c>) -> Result<(), AllocError>
     requires { length (added (begun_of job.old) (part_in part)).stages ≤ 32 }
@@ -113,26 +99,6 @@ fn stage_cause(stages: usize, role: Role) -> Option<Cause>
     match role {
         Role::Stage if stages >= MAX_STAGES => Some(Cause::TooLong),
         _ => None,
-    }
-}
-
-/// Reads a call that stands after some stages.
-fn read_in_turn<'c>(
-    stages: usize,
-    alloc: Global,
-    scope: Scope<'_, 'c>,
-    text: &CutText,
-    words: &[Word],
-    call: &WrittenCall,
-) -> Result<CallPart<'c>, Cause>
-    requires words { words_in words.now ≡ words_of text.now.bytes text.now.tokens }
-    requires stands { StandsIn (words_in words.now) call.now }
-    ensures { Answers part_in (IsReadInTurn (stage_cause stages (role_of call.now.operation))
-        (scope_of scope.entry) text.now (placed_in (words_in words.now) call.now)) result }
-{
-    match stage_cause(stages, role_of(call.operation)) {
-        Some(cause) => Err(cause),
-        None => read_call(alloc, scope, text, words, call),
     }
 }
 
@@ -177,7 +143,10 @@ fn read_next_call<'c>(
     ensures { Answers part_in (IsNextCall (begun_of job.now) (scope_of scope.entry) text.now
         (placed_in (words_in words.now) call.now)) result }
 {
-    let part = read_in_turn(job.stages.len(), alloc, scope, text, words, call)?;
+    if let Some(cause) = stage_cause(job.stages.len(), role_of(call.operation)) {
+        return Err(cause);
+    }
+    let part = read_call(alloc, scope, text, words, call)?;
     below_terminal(&job.terminal, part)
 }
 
@@ -216,7 +185,14 @@ pub fn read_parts<'c>(
     ensures { Answers job_of (AreRead (scope_of scope.entry) text.now (job_named name.now)
         (all_placed (words_in words.now) calls.now)) result }
 {
-    let mut job = named(alloc, name)?;
+    let bytes = name.to_vec(alloc)?;
+    let mut job = BegunJob {
+        name: Bytes::from(bytes),
+        sources: Vec::new(alloc),
+        stages: Vec::new(alloc),
+        terminal: None,
+        on_fault: None,
+    };
     add_parts(&mut job, alloc, scope, text, words, calls)?;
     job.finished()
 }

@@ -3,7 +3,8 @@ ghost use Rattle.std.specs.Prelude.{◌≡◌, ◌≤◌, ◌<◌, ◌+◌, ◌�
 ghost use Rattle.lambda_expr.specs.Words.{Word as meant, named, sign, bad};
 ghost use Rattle.job_language.specs.Table.{name_of};
 ghost use Rattle.lambda_expr.specs.CodeWords.{word_of, words_in};
-ghost use Rattle.job_language.specs.Shapes.{mark_of_symbol, width, is_open, operation_in, IsNoPiece, IsPieceRead, IsMarkOf};
+ghost use Rattle.job_language.specs.Shapes.{mark_of_symbol, width, is_open, operation_in};
+ghost use Rattle.job_language.specs.Shapes.{IsNoPiece, IsPieceRead, IsMarkOf};
 
 use crate::call::read_call;
 use crate::operation::{Operation, Role, operation_of};

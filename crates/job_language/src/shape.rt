@@ -5,7 +5,9 @@ ghost use Rattle.job_language.specs.declared.piece.Mark.{Mark as meant_mark};
 ghost use Rattle.lambda_expr.specs.CodeWords.{words_in};
 ghost use Rattle.job_language.specs.Verdicts.{placed};
 ghost use Rattle.job_language.specs.Grammar.{Job as job, IsSpelled, IsNoJob};
-ghost use Rattle.job_language.specs.Shapes.{begins_job, all_placed, OpensAfter, piece_from, is_last, IsNotSpelled, AreCallsOf, AreCallsIn, IsReading, Advances, StandIn, MayStandIn};
+ghost use Rattle.job_language.specs.Shapes.{begins_job, all_placed, OpensAfter, piece_from, is_last};
+ghost use Rattle.job_language.specs.Shapes.{IsNotSpelled, AreCallsOf, AreCallsIn, IsReading, Advances};
+ghost use Rattle.job_language.specs.Shapes.{StandIn, MayStandIn};
 
 use crate::mode::{Mode, moved};
 use crate::piece::{ReadPiece, WrittenCall, piece_at};
@@ -112,18 +114,6 @@ pub struct ParsedJob<'a> {
     pub calls: Vec<WrittenCall>,
 }
 
-fn with_words<'a>(alloc: Global, words: Vec<Word<'a>>) -> Result<Option<ParsedJob<'a>>, AllocError>
-    ensures { let ws = words_in words.entry.items in
-        IfOk result (λ found. MatchOption found (IsNotSpelled ws)
-        (λ job. (words_in job.words.items ≡ ws) × AreCallsOf ws (all_placed ws job.calls.items)
-        × StandIn ws job.calls.items)) }
-{
-    match read_calls(alloc, &words)? {
-        Some(calls) => Ok(Some(ParsedJob { words, calls })),
-        None => Ok(None),
-    }
-}
-
 /// The words and calls of the job that a text is, or `None` if the text is no job.
 ///
 /// Takes memory for a word for each token and for the places of each call's parts, and time in
@@ -134,8 +124,11 @@ pub fn parse_job<'a>(alloc: Global, text: &CutText<'a>) -> Result<Option<ParsedJ
         (λ job. (words_in job.words.items ≡ ws) × AreCallsIn ws (all_placed ws job.calls.items)
         × StandIn ws job.calls.items)) }
 {
-    match sound_words(alloc, text)? {
-        Some(words) => with_words(alloc, words),
+    let Some(words) = sound_words(alloc, text)? else {
+        return Ok(None);
+    };
+    match read_calls(alloc, &words)? {
+        Some(calls) => Ok(Some(ParsedJob { words, calls })),
         None => Ok(None),
     }
 }

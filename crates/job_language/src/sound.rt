@@ -1,7 +1,7 @@
 //! The words of a text, if each of them may stand in a grammar.
-ghost use Rattle.std.specs.Prelude.{◌≡◌, ◌<◌, IfOk, MatchOption, length, get_or, true, false};
+ghost use Rattle.std.specs.Prelude.{◌≡◌, IfOk, MatchOption, true, false};
 ghost use Rattle.std.specs.List.{list_all};
-ghost use Rattle.lambda_expr.specs.Words.{words_of, bad};
+ghost use Rattle.lambda_expr.specs.Words.{words_of};
 ghost use Rattle.lambda_expr.specs.CodeWords.{word_of, words_in};
 ghost use Rattle.job_language.specs.Grammar.{is_sound};
 
@@ -22,14 +22,6 @@ fn is_sound(word: Word) -> bool
     }
 }
 
-/// The word at a place.
-fn word_at<'a>(text: &CutText<'a>, place: usize) -> Word<'a>
-    requires { place < length text.now.tokens }
-    ensures { word_of result ≡ get_or (words_of text.now.bytes text.now.tokens) place bad }
-{
-    word_for(text.kind(place), text.word(place))
-}
-
 /// The words of a text, or `None` if one of them stands in no grammar: a bad byte, `++`, `--`, or a
 /// number of two or more digits that begins with 0.
 pub fn sound_words<'a>(
@@ -42,7 +34,7 @@ pub fn sound_words<'a>(
 {
     let mut words = Vec::with_capacity(alloc, text.len())?;
     for place in 0..text.len() {
-        let word = word_at(text, place);
+        let word = word_for(text.kind(place), text.word(place));
         if !is_sound(word) {
             return Ok(None);
         }

@@ -1,7 +1,6 @@
 //! What is asked of the items of a job, and what that gives to jobs that name it.
 ghost use Rattle.std.specs.Prelude.{◌≡◌};
-ghost use Rattle.find_ops.specs.Finds.{find_of};
-ghost use Rattle.job_language.specs.Jobs.{find as find_terminal, given_by, terminal_of};
+ghost use Rattle.job_language.specs.Jobs.{given_by, terminal_of};
 
 use find_ops::FindTerminal;
 use reduce_ops::Op;
@@ -45,7 +44,10 @@ impl Terminal {
     {
         match self {
             Terminal::ToArray => Gives::Array,
-            Terminal::Find(find) => found_by(find),
+            Terminal::Find(find) => match find {
+                FindTerminal::First => Gives::Number,
+                _ => Gives::Boolean,
+            },
             Terminal::Sum
             | Terminal::Count
             | Terminal::Min
@@ -53,17 +55,6 @@ impl Terminal {
             | Terminal::Reduce(_)
             | Terminal::ReduceFrom { .. }
             | Terminal::ExactSum => Gives::Number,
-        }
-    }
-}
-
-fn found_by(find: &FindTerminal) -> Gives
-    ensures { result ≡ given_by (find_terminal (find_of find.now)) }
-{
-    match find {
-        FindTerminal::First => Gives::Number,
-        FindTerminal::AnyMatch(_) | FindTerminal::AllMatch(_) | FindTerminal::NoneMatch(_) => {
-            Gives::Boolean
         }
     }
 }

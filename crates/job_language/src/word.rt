@@ -1,13 +1,13 @@
 //! The words of a job: what its tokens are to the grammar.
-ghost use Rattle.std.specs.Prelude.{◌≡◌, ◌≤◌, ◌<◌, ◌+◌, length, get_or, drop, slice_range, IfSome, IfSome, is_some, option_map, ◌∷◌, []};
-ghost use Rattle.lambda_expr.specs.NumberWords.{is_number};
+ghost use Rattle.std.specs.Prelude.{◌≡◌, ◌≤◌, ◌<◌, ◌+◌, length, get_or, drop, slice_range, IfSome};
+ghost use Rattle.std.specs.Prelude.{option_map, ◌∷◌, []};
 ghost use Rattle.lambda_expr.specs.Words.{bad};
 ghost use Rattle.job_language.specs.Table.{fits, has_words, name_in, string_in};
 ghost use Rattle.job_language.specs.Calls.{bracket_of, nest};
 ghost use Rattle.lambda_expr.specs.CodeWords.{word_of, words_in};
 
 use crate::operation::Param;
-use lambda_expr::{Word, number_in};
+use lambda_expr::{Word, is_number};
 use stream_tokens::Symbol;
 
 /// What a word is to the nesting of parentheses.
@@ -71,24 +71,6 @@ pub fn part<'a, 'b>(words: &'b [Word<'a>], from: usize, to: usize) -> &'b [Word<
     &words[from..to]
 }
 
-fn is_number(words: &[Word]) -> bool
-    ensures { result ≡ is_number (words_in words.now) }
-{
-    number_in(words).is_some()
-}
-
-fn is_text(words: &[Word]) -> bool
-    ensures { result ≡ is_some (string_in (words_in words.now)) }
-{
-    string_in(words).is_some()
-}
-
-fn is_name(words: &[Word]) -> bool
-    ensures { result ≡ is_some (name_in (words_in words.now)) }
-{
-    name_in(words).is_some()
-}
-
 fn has_words(words: &[Word]) -> bool
     ensures { result ≡ has_words (words_in words.now) }
 {
@@ -104,8 +86,8 @@ pub fn fits(param: Param, words: &[Word]) -> bool
 {
     match param {
         Param::Number => is_number(words),
-        Param::Text => is_text(words),
-        Param::Name => is_name(words),
+        Param::Text => string_in(words).is_some(),
+        Param::Name => name_in(words).is_some(),
         Param::Long | Param::Bool | Param::Stream | Param::Operator => has_words(words),
     }
 }

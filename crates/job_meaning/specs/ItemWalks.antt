@@ -66,8 +66,8 @@ walked n gs env (x ∷ xs) e =
     if is_over gs then nothing
     else append (after_stages n gs env (alone x)) (walked n (stages_after n gs env (alone x)) env xs e)
 
--- what a find decides, the stage with the first number, at the end of such a walk; no item is asked for after one that
--- decides
+-- what a find, the stage with the first number, decides at the end of a walk over items and their end; no item is asked
+-- for after one that decides
 abbrev pub decided_in : Find → ℕ → ℕ → List AbstractJobStage → Numbers → List Item → End → Option (Result Found Fault)
 decided_in d m n gs env [] e = decision_of d m env (after_stages n gs env (trace [] e))
 decided_in d m n gs env (x ∷ xs) e =

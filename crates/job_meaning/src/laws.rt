@@ -14,9 +14,11 @@ ghost use Rattle.job_meaning.specs.Walks.{after_stages};
 /// ended, meets the items and the fault that the stages give one after the other. With a find or a match at the end it
 /// asks for no item after the one that decides. A `prefix` looks at a whole walk, so the stages have none.
 pub fn walks_go_item_by_item()
-    ensures walk { (n : ℕ) (gs : List AbstractJobStage) (env : Numbers) (xs : List meant_item) (e : meant_end) → HasNoPrefix gs
+    ensures walk { (n : ℕ) (gs : List AbstractJobStage) (env : Numbers) (xs : List meant_item) (e : meant_end)
+        → HasNoPrefix gs
         → after_stages n gs env (trace xs e) ≡ walked n gs env xs e }
-    ensures find { (d : Find) (m n : ℕ) (gs : List AbstractJobStage) (env : Numbers) (xs : List meant_item) (e : meant_end) → HasNoPrefix gs
+    ensures find { (d : Find) (m n : ℕ) (gs : List AbstractJobStage) (env : Numbers) (xs : List meant_item)
+        (e : meant_end) → HasNoPrefix gs
         → decision_of d m env (after_stages n gs env (trace xs e)) ≡ decided_in d m n gs env xs e }
     ensures over { (n : ℕ) (gs : List AbstractJobStage) (env : Numbers) (t : Trace) → HasNoPrefix gs → is_over gs ≡ true
         → after_stages n gs env t ≡ nothing }

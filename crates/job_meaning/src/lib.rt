@@ -5,7 +5,7 @@
 //! by `engine`, whose contract cites it.
 //! Begin with `meaning_of` of `specs/FileAnswers.antt`, then `specs/Walks.antt`: the walk of a job, and the answer that
 //! its terminal gives. The code is the answer as a value: `Answer`, and the `Values` of an array in the pieces in which
-//! they were made.
+//! they were made; and `names_in_job`, the names in a job.
 //! What it promises to its users: what an answer is to a job that names it (`is_usable`, `number`, `array`), and that
 //! no call of `Values` changes a value or its place.
 //! Not promised: that anything is run. `job_plan` does that, a piece at a time.
@@ -13,8 +13,10 @@
 
 mod answer;
 mod laws;
+mod names;
 mod values;
 
 pub use answer::Answer;
 pub use laws::walks_go_item_by_item;
+pub use names::names_in_job;
 pub use values::Values;

@@ -1,13 +1,16 @@
 -- Walks through links.
-use Rattle.std.proofs.Common.{◌≡◌, true, false, List, [], ◌∷◌, refl, sym, ap, subst, ◌∙◌, ◌++◌, append_assoc}
+use Rattle.std.proofs.Common.{◌≡◌, true, false, is_some, List, [], ◌∷◌, Option, Some, None, length, arith, refl, sym, ap, subst, ◌∙◌, ◌++◌, append_assoc}
 use Rattle.lambda_values.specs.Earlier.{Numbers}
 use Rattle.trace.specs.Trace.{Trace}
-use Rattle.slice_ops.specs.Slices.{sliced}
+use Rattle.slice_ops.specs.Slices.{AbstractSlice, sliced}
+use Rattle.job_meaning.specs.declared.answer.Answer.{Answer}
+use Rattle.job_plan.specs.declared.outcome.Outcome.{Outcome}
+use Rattle.job_plan.specs.declared.outcome.Outcome.TheVariants as outcome
 use Rattle.job_plan.specs.declared.links.Link.{Link}
 use Rattle.job_plan.specs.declared.segment.Segment.{Segment}
-use Rattle.job_plan.specs.Links.{AbstractLink, link_walk, linked, link_by, link_in, each_link_in, first_links, after_by, after_links, ends_in_slice, goes_through, Fits, AllFit, walked_segments, walked_source}
-use Rattle.job_plan.specs.Parts.{segment_in, segments_in}
-use Rattle.job_plan.specs.Plans.{AbstractEnd, slicing, AbstractPlan, AbstractSegment, planned_answer, ended, last_stage, on_outcome, slice_in, walk_of, segments_answer}
+use Rattle.job_plan.specs.Links.{AbstractLeg, AbstractLink, Fits, AllFit, after_by, after_links, each_link_in, first_links, is_linked, leg_by, legs_answer, legs_of, link_by, link_in, link_walk, linked, plan_legs}
+use Rattle.job_plan.specs.Parts.{end_in, segment_in, segments_in}
+use Rattle.job_plan.specs.Plans.{AbstractEnd, slicing, AbstractPlan, AbstractSegment, planned_answer, ended, last_stage, on_outcome, outcome_of, slice_in, walk_of, segments_answer}
 use Rattle.job_meaning.specs.Walks.{instead_of_fault, source_walk}
 use Rattle.job_plan.specs.Windows.{later_segments, selected_source}
 use Rattle.job_plan.proofs.WindowLemmas.{later_answer}
@@ -17,17 +20,73 @@ pub linked_last : (ls : List AbstractLink) (l : AbstractLink) (env : Numbers) (t
 linked_last [] l env t = refl
 linked_last (k ∷ ls) l env t = linked_last ls l env (link_walk k env t)
 
--- the answer of segments is the answer of the segments after the slices, over what these make of the walk
-pub links_answer : (ss : List AbstractSegment) (env : Numbers) (t : Trace) → segments_answer ss env t ≡ segments_answer (after_links ss) env (linked (first_links ss) env t)
-links_answer [] env t = refl
-links_answer (s ∷ ss) env t = by (links_answer ss env) s.ending refl
-  where
-    by : ((u : Trace) → segments_answer ss env u ≡ segments_answer (after_links ss) env (linked (first_links ss) env u)) → (e : AbstractEnd) → s.ending ≡ e → segments_answer (s ∷ ss) env t ≡ segments_answer (after_by (slice_in e) (s ∷ ss) (after_links ss)) env (linked (link_by (slice_in e) s (first_links ss)) env t)
-    by later (slicing d) is = ap (λ e. on_outcome (ended e (last_stage s) env (walk_of s env t)) (segments_answer ss env)) is ∙ later (sliced d (last_stage s) env (walk_of s env t))
-    by later e is = refl
+-- ---- legs
 
-pub walked_answer : (env : Numbers) (plan : AbstractPlan) → instead_of_fault plan.fallback (segments_answer (walked_segments plan) env (walked_source env plan)) ≡ planned_answer env plan
-walked_answer env plan = ap (instead_of_fault plan.fallback) (sym (links_answer (later_segments plan.segments) env (selected_source plan)) ∙ later_answer env plan.segments (source_walk plan.sources))
+-- helper: two ways to go on that agree give one answer
+on_same : (o : Outcome) (f g : Trace → Answer) → ((u : Trace) → f u ≡ g u) → on_outcome o f ≡ on_outcome o g
+on_same (outcome.Source t) f g same = same t
+on_same (outcome.Answer a) f g same = refl
+
+-- helper: a slice before legs is the first link of the first of them
+linked_first : (ls : List AbstractLeg) (s : AbstractSegment) (d : AbstractSlice) (env : Numbers) (t : Trace) → legs_answer ls env (sliced d (last_stage s) env (walk_of s env t)) ≡ legs_answer (leg_by (Some d) s ls) env t
+linked_first [] s d env t = refl
+linked_first (l ∷ ls) s d env t = refl
+
+-- the answer of segments is the answer of their legs
+legs_give : (ss : List AbstractSegment) (env : Numbers) (t : Trace) → segments_answer ss env t ≡ legs_answer (legs_of ss) env t
+legs_give [] env t = refl
+legs_give (s ∷ ss) env t = by (legs_give ss env) s.ending refl
+  where
+    by : ((u : Trace) → segments_answer ss env u ≡ legs_answer (legs_of ss) env u) → (e : AbstractEnd) → s.ending ≡ e → segments_answer (s ∷ ss) env t ≡ legs_answer (leg_by (slice_in e) s (legs_of ss)) env t
+    by later (slicing d) is =
+        ap (λ e. on_outcome (ended e (last_stage s) env (walk_of s env t)) (segments_answer ss env)) is
+        ∙ later (sliced d (last_stage s) env (walk_of s env t)) ∙ linked_first (legs_of ss) s d env t
+    by later e is = on_same (outcome_of s env t) (segments_answer ss env) (legs_answer (legs_of ss) env) later
+
+pub legs_planned : (env : Numbers) (plan : AbstractPlan) → instead_of_fault plan.fallback (legs_answer (plan_legs plan) env (selected_source plan)) ≡ planned_answer env plan
+legs_planned env plan = ap (instead_of_fault plan.fallback) (sym (legs_give (later_segments plan.segments) env (selected_source plan)) ∙ later_answer env plan.segments (source_walk plan.sources))
+
+-- the first leg of segments, and the legs after it
+legs_first : (ss later : List AbstractSegment) (s : AbstractSegment) → after_links ss ≡ s ∷ later → legs_of ss ≡ record { links = first_links ss; last = s } ∷ legs_of later
+legs_first [] later s e = absurd (let z : [] ≡ s ∷ later = e in cc)
+legs_first (r ∷ ss) later s e = by (λ h. legs_first ss later s h) (slice_in r.ending) e
+  where
+    by : (after_links ss ≡ s ∷ later → legs_of ss ≡ record { links = first_links ss; last = s } ∷ legs_of later) → (o : Option AbstractSlice) → after_by o (r ∷ ss) (after_links ss) ≡ s ∷ later → leg_by o r (legs_of ss) ≡ record { links = link_by o r (first_links ss); last = s } ∷ legs_of later
+    by rest None e =
+        let same : r ≡ s = (let z : r ∷ ss ≡ s ∷ later = e in cc) in
+        let tail : ss ≡ later = (let z : r ∷ ss ≡ s ∷ later = e in cc) in
+        λ i. record { links = []; last = same i } ∷ legs_of (tail i)
+    by rest (Some d) e = ap (leg_by (Some d) r) (rest e)
+
+no_legs : (ss : List AbstractSegment) → after_links ss ≡ [] → legs_of ss ≡ []
+no_legs [] e = refl
+no_legs (r ∷ ss) e = by (λ h. no_legs ss h) (slice_in r.ending) e
+  where
+    by : (after_links ss ≡ [] → legs_of ss ≡ []) → (o : Option AbstractSlice) → after_by o (r ∷ ss) (after_links ss) ≡ [] → leg_by o r (legs_of ss) ≡ []
+    by rest None e = absurd (let z : r ∷ ss ≡ [] = e in cc)
+    by rest (Some d) e = ap (leg_by (Some d) r) (rest e)
+
+-- of segments of the program: the leg with a number, by the segments after the slices
+pub leg_first : (ss rest later : List Segment) (s : Segment) → segments_in rest ≡ after_links (segments_in ss) → rest ≡ s ∷ later
+    → legs_of (segments_in ss) ≡ record { links = first_links (segments_in ss); last = segment_in s } ∷ legs_of (segments_in later)
+leg_first ss rest later s after is = legs_first (segments_in ss) (segments_in later) (segment_in s) (sym after ∙ ap segments_in is)
+
+pub no_leg : (ss rest : List Segment) → segments_in rest ≡ after_links (segments_in ss) → length rest ≡ 0 → legs_of (segments_in ss) ≡ []
+no_leg ss [] after none = no_legs (segments_in ss) (sym after)
+no_leg ss (s ∷ rest) after none = absurd (omega (arith, none))
+
+-- whether there is a slice, by the first segment
+pub first_linked : (ss later : List Segment) (s : Segment) → ss ≡ s ∷ later → is_some (slice_in (end_in s.end)) ≡ is_linked (first_links (segments_in ss))
+first_linked ss later s is = by (slice_in (end_in s.end)) ∙ ap (λ xs. is_linked (first_links (segments_in xs))) (sym is)
+  where
+    by : (o : Option AbstractSlice) → is_some o ≡ is_linked (link_by o (segment_in s) (first_links (segments_in later)))
+    by None = refl
+    by (Some d) = refl
+
+-- without a slice a walk stays as it is
+pub unlinked : (ls : List AbstractLink) (env : Numbers) (t : Trace) → is_linked ls ≡ false → linked ls env t ≡ t
+unlinked [] env t none = refl
+unlinked (l ∷ ls) env t none = absurd (let z : true ≡ false = none in cc)
 
 -- ---- links of the program
 
@@ -51,12 +110,3 @@ pushed_links new mid old l s ss later more is some e =
 
 pub pushed_fit : (mid old : List Link) (l : Link) → mid ≡ old ++ l ∷ [] → Fits (link_in l) → AllFit (each_link_in old) → AllFit (each_link_in mid)
 pushed_fit mid old l more one fit = subst AllFit (sym (ap each_link_in more ∙ each_link_more old l)) (all_fit_more (each_link_in old) (link_in l) fit one)
-
--- without a slice a walk stays as it is
-pub unlinked : (ss : List AbstractSegment) (env : Numbers) (t : Trace) → goes_through ss ≡ false → linked (first_links ss) env t ≡ t
-unlinked [] env t none = refl
-unlinked (s ∷ ss) env t none = by s.ending none
-  where
-    by : (e : AbstractEnd) → ends_in_slice e ≡ false → linked (link_by (slice_in e) s (first_links ss)) env t ≡ t
-    by (slicing d) is = absurd (let z : true ≡ false = is in cc)
-    by e is = refl

@@ -1,5 +1,5 @@
 -- A sink that may leave a walk.
-use Rattle.std.proofs.Common.{◌≡◌, ℕ, ◌≤◌, suc, Bool, true, false, List, ◌++◌, take, Result, Ok, Err, OnErr, refl, true≢false, sym, subst}
+use Rattle.std.proofs.Common.{◌≡◌, ℕ, ◌≤◌, Bool, true, false, List, ◌++◌, take, Result, Ok, Err, OnErr, refl, true≢false, sym, subst}
 use Rattle.std.specs.declared.alloc.AllocError.{AllocError}
 use Rattle.trace.specs.declared.item.Item.{Item}
 use Rattle.trace.specs.declared.feeding.Fed.{Fed}
@@ -15,7 +15,7 @@ pub not_left : (b : Bool) (f : Flow) → flow_unless b f ≡ flow.More → b ≡
 not_left false f h = refl
 not_left true f h = cc
 
--- and the sink behind it wants one
+-- and the sink that it gives items to wants one
 pub inner_wants : (b : Bool) (f : Flow) → flow_unless b f ≡ flow.More → f ≡ flow.More
 inner_wants false f h = h
 inner_wants true f h = cc
@@ -45,7 +45,7 @@ as_named places decides from start w is to seen = (seen.0, to seen.0 seen.1, sub
 pub some_taken : {S : Type 0} (h : S → List Item → Type 0) (xs : List Item) (t : Trace) (r : Result Fed AllocError) (s : S) → IsFed h xs t r s → (ys : List Item) × h s ys
 some_taken h xs t (Ok fed.More) s p = (xs ++ t.items, p.0)
 some_taken h xs t (Ok (fed.Fault f)) s p = (xs ++ t.items, p.0)
-some_taken h xs t (Ok fed.Enough) s p = (xs ++ take (suc p.0) t.items, p.2)
+some_taken h xs t (Ok fed.Enough) s p = (xs ++ take p.0 t.items, p.2)
 some_taken h xs t (Err e) s p = (xs ++ take p.0 t.items, p.2)
 
 pub on_err_map : {A E P Q : Type 0} (r : Result A E) → (P → Q) → OnErr r P → OnErr r Q

@@ -1,5 +1,5 @@
 -- What goes on from a slice in the middle of a walk.
-use Rattle.std.proofs.Common.{◌≡◌, ℕ, suc, ◌<◌, List, [], ◌++◌, length, take, drop, Result, Ok, Err, IfOk, refl, sym, ap, subst, ◌∙◌, append_assoc}
+use Rattle.std.proofs.Common.{◌≡◌, ℕ, List, [], ◌++◌, take, drop, Result, Ok, Err, IfOk, refl, sym, ap, subst, ◌∙◌, append_assoc}
 use Rattle.std.proofs.lemmas.List.{append-nil, take-append-drop}
 use Rattle.lambda_values.specs.Earlier.{Numbers}
 use Rattle.trace.specs.declared.item.Item.{Item}
@@ -29,12 +29,12 @@ answered_flow fed.More passage.Refused e left f next wants = absurd next
 answered_flow (fed.Fault x) p e left f next wants = ap (λ (q : Passage). passage_flow q f) next ∙ sym (ap (λ (q : Passage). flow_after (Ok (fed_by q))) next)
 answered_flow fed.Enough p e left f next wants = ap (λ (q : Passage). passage_flow q f) next ∙ sym (ap (λ (q : Passage). flow_after (Ok (fed_by q))) next)
 
--- all items were taken: the last one is the one after which the slice had enough, if it had
-pub answered : {T : Type 0} (has : T → List Item → Type 0) (t : T) (xs items : List Item) (p : Passage) → 0 < length items → has t (xs ++ items) → IsFed has xs (trace items end.Done) (Ok (fed_by p)) t
-answered has t xs items passage.Open some_item took = (took, refl)
-answered has t xs items passage.Enough some_item took = enough_at_last (has t) xs items some_item took
-answered has t xs items (passage.Ended e) some_item took = enough_at_last (has t) xs items some_item took
-answered has t xs items passage.Refused some_item took = enough_at_last (has t) xs items some_item took
+-- all items were taken
+pub answered : {T : Type 0} (has : T → List Item → Type 0) (t : T) (xs items : List Item) (p : Passage) → has t (xs ++ items) → IsFed has xs (trace items end.Done) (Ok (fed_by p)) t
+answered has t xs items passage.Open took = (took, refl)
+answered has t xs items passage.Enough took = enough_at_last (has t) xs items took
+answered has t xs items (passage.Ended e) took = enough_at_last (has t) xs items took
+answered has t xs items passage.Refused took = enough_at_last (has t) xs items took
 
 pub if_ok_map : {A E : Type 0} (P Q : A → Type 0) (r : Result A E) → ((a : A) → P a → Q a) → IfOk r P → IfOk r Q
 if_ok_map P Q (Ok a) f h = f a h
@@ -118,7 +118,7 @@ module _ {S : Type 0} (h : S → List Item → Type 0) (f : S → Flow) (begun :
     -- the next sink has enough
     went_enough : IsFed h ys w (Ok fed.Enough) s → f s ≡ flow.Enough → Passed left passage.Enough s (xs ++ items)
     went_enough took enough =
-        let k = suc took.0 in
+        let k = took.0 in
         let front : Trace = trace (take k w.items) end.Done in
         let back : Trace = trace (drop k w.items) w.ending in (
           ys ++ take k w.items,

@@ -69,7 +69,7 @@ pub fed_as : {S T : Type 0} (h : S → List Item → Type 0) (k : T → List Ite
     → (xs : List Item) (t : Trace) (r : Result Fed AllocError) → IsFed h xs t r s → IsFed k xs t r u
 fed_as h k s u f xs t (Ok fed.More) p = (f (xs ++ t.items) p.0, p.1)
 fed_as h k s u f xs t (Ok (fed.Fault x)) p = (f (xs ++ t.items) p.0, p.1)
-fed_as h k s u f xs t (Ok fed.Enough) p = (p.0, p.1, f (xs ++ take (suc p.0) t.items) p.2)
+fed_as h k s u f xs t (Ok fed.Enough) p = (p.0, p.1, f (xs ++ take p.0 t.items) p.2)
 fed_as h k s u f xs t (Err e) p = (p.0, p.1, f (xs ++ take p.0 t.items) p.2)
 
 -- before any item
@@ -128,10 +128,9 @@ pub unpinned : (e f : AbstractEnd) (m n : ℕ) (env named : Numbers) (p : Part) 
 unpinned e f m n env named p t a b c h =
     subst (λ (x : AbstractEnd). EndsFor x m env p t) (sym a) (subst (λ (x : ℕ). EndsFor f x env p t) (sym b) (subst (λ (x : Numbers). EndsFor f n x p t) (sym c) h))
 
--- all of these items were taken, and nothing more matters: the last one is the one after which it did not
-pub enough_at_last : (h : List Item → Type 0) (xs items : List Item) → 0 < length items → h (xs ++ items) → (k : ℕ) × (k < length items) × h (xs ++ take (suc k) items)
-enough_at_last h xs [] some_item took = absurd (omega (arith, some_item))
-enough_at_last h xs (y ∷ ys) some_item took = (length ys, omega arith, subst (λ (zs : List Item). h (xs ++ y ∷ zs)) (sym (take_all (length ys) ys (omega arith))) took)
+-- all of these items were taken, and nothing more matters
+pub enough_at_last : (h : List Item → Type 0) (xs items : List Item) → h (xs ++ items) → (k : ℕ) × (k ≤ length items) × h (xs ++ take k items)
+enough_at_last h xs items took = (length items, omega arith, subst (λ (zs : List Item). h (xs ++ zs)) (sym (take_all (length items) items (omega arith))) took)
 
 -- an answer, if there is one
 pub same_answer : (r : Result Answer AllocError) (x y : Answer) → x ≡ y → IfOk r (λ a. a ≡ x) → IfOk r (λ a. a ≡ y)

@@ -1,13 +1,17 @@
 -- Condition: slices that a walk goes through one after the other.
-use Rattle.std.specs.Prelude.{◌≡◌, Bool, false, is_some, List, [], ◌∷◌, Option, Some, None}
+use Rattle.std.specs.Prelude.{◌≡◌, pos, Bool, true, false, List, [], ◌∷◌, Option, Some, None, slice_get}
 use Rattle.lambda_values.specs.Earlier.{Numbers}
 use Rattle.trace.specs.Trace.{Trace}
 use Rattle.slice_ops.specs.Rests.{rest_of}
 use Rattle.slice_ops.specs.Slices.{AbstractSlice, sliced}
+use Rattle.job_meaning.specs.declared.answer.Answer.{Answer}
+use Rattle.job_meaning.specs.declared.answer.Answer.TheVariants as answer
+use Rattle.job_plan.specs.declared.links.Leg.{Leg}
 use Rattle.job_plan.specs.declared.links.Link.{Link}
-use Rattle.job_plan.specs.Parts.{segment_in}
-use Rattle.job_plan.specs.Plans.{AbstractEnd, slicing, AbstractSegment, AbstractPlan, last_stage, slice_in, walk_of}
-use Rattle.job_plan.specs.Windows.{later_segments, selected_source}
+use Rattle.job_plan.specs.declared.outcome.Outcome.{Outcome}
+use Rattle.job_plan.specs.Parts.{segment_in, segments_in}
+use Rattle.job_plan.specs.Plans.{slicing, AbstractSegment, AbstractPlan, last_stage, on_outcome, outcome_of, slice_in, walk_of}
+use Rattle.job_plan.specs.Windows.{later_segments}
 
 -- a segment that ends in a slice, and this slice
 pub record AbstractLink : Type 0 where
@@ -43,25 +47,48 @@ abbrev pub after_links : List AbstractSegment → List AbstractSegment
 after_links [] = []
 after_links (s ∷ ss) = after_by (slice_in s.ending) (s ∷ ss) (after_links ss)
 
--- whether a segment ends in a slice
-abbrev pub ends_in_slice : AbstractEnd → Bool
-ends_in_slice e = is_some (slice_in e)
+-- slices that a walk goes through one after the other, and the segment after them
+pub record AbstractLeg : Type 0 where
+  pub links : List AbstractLink
+  pub last : AbstractSegment
 
--- whether the first of these segments does
-abbrev pub goes_through : List AbstractSegment → Bool
-goes_through [] = false
-goes_through (s ∷ ss) = ends_in_slice s.ending
+-- helper: a segment before these legs: a leg of its own, or the first link of the first of them
+abbrev pub leg_by : Option AbstractSlice → AbstractSegment → List AbstractLeg → List AbstractLeg
+leg_by None s ls = record { links = []; last = s } ∷ ls
+leg_by (Some d) s [] = []
+leg_by (Some d) s (l ∷ ls) = record { links = record { segment = s; rest = d } ∷ l.links; last = l.last } ∷ ls
 
--- whether the walk of a job's sources goes through slices that don't select positions, the segments after these, and
--- what the first of them goes over
+-- segments as legs; slices without a segment after them are in none
+abbrev pub legs_of : List AbstractSegment → List AbstractLeg
+legs_of [] = []
+legs_of (s ∷ ss) = leg_by (slice_in s.ending) s (legs_of ss)
+
+-- what a leg makes of a walk
+abbrev pub leg_outcome : AbstractLeg → Numbers → Trace → Outcome
+leg_outcome l env t = outcome_of l.last env (linked l.links env t)
+
+-- the answer of legs, where each takes what the one before it gives
+abbrev pub legs_answer : List AbstractLeg → Numbers → Trace → Answer
+legs_answer [] env t = answer.Number (pos 0)
+legs_answer (l ∷ ls) env t = on_outcome (leg_outcome l env t) (legs_answer ls env)
+
+-- the links of a leg, if it is there
+abbrev pub links_there : Option AbstractLeg → List AbstractLink
+links_there None = []
+links_there (Some l) = l.links
+
+-- whether there is a slice among these
+abbrev pub is_linked : List AbstractLink → Bool
+is_linked [] = false
+is_linked (l ∷ ls) = true
+
+-- the legs of a job, which go over the positions of its sources that slices before every other stage select, and
+-- whether the first of them goes through slices
+abbrev pub plan_legs : AbstractPlan → List AbstractLeg
+plan_legs plan = legs_of (later_segments plan.segments)
+
 abbrev pub plan_streams : AbstractPlan → Bool
-plan_streams plan = goes_through (later_segments plan.segments)
-
-abbrev pub walked_segments : AbstractPlan → List AbstractSegment
-walked_segments plan = after_links (later_segments plan.segments)
-
-abbrev pub walked_source : Numbers → AbstractPlan → Trace
-walked_source env plan = linked (first_links (later_segments plan.segments)) env (selected_source plan)
+plan_streams plan = is_linked (links_there (slice_get (plan_legs plan) 0))
 
 -- the segment ends in this slice
 abbrev pub Fits : AbstractLink → Type 0
@@ -78,3 +105,7 @@ link_in l = record { segment = segment_in l.segment.now; rest = rest_of l.rest }
 abbrev pub each_link_in : List Link → List AbstractLink
 each_link_in [] = []
 each_link_in (l ∷ ls) = link_in l ∷ each_link_in ls
+
+-- a leg of the program
+abbrev pub leg_in : Leg → AbstractLeg
+leg_in l = record { links = first_links (segments_in l.segments.now); last = segment_in l.last.now }

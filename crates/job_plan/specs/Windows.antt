@@ -37,7 +37,7 @@ slice_closes (skip n) = false
 slice_closes (take_while p) = false
 slice_closes (drop_while p) = false
 
--- helper: whether such a stage is there, and is
+-- helper: whether there is a slice, and it is `limit(0)`
 abbrev pub some_closes : Option AbstractSlice → Bool
 some_closes None = false
 some_closes (Some d) = slice_closes d

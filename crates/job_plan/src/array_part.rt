@@ -136,8 +136,10 @@ impl EndPart for ArrayPart {
 
 /// Adds values to the last piece, or as the first one.
 fn add_values(pieces: &mut Vec<Vec<i64>>, values: &[i64]) -> Result<(), NoMemory>
-    ensures ok { OnOk result (flat_map (λ piece. piece.items) pieces.new.items ≡ flat_map (λ piece. piece.items) pieces.old.items ++ values.now) }
-    ensures err { OnErr result (flat_map (λ piece. piece.items) pieces.new.items ≡ flat_map (λ piece. piece.items) pieces.old.items) }
+    ensures ok { OnOk result (flat_map (λ piece. piece.items) pieces.new.items
+        ≡ flat_map (λ piece. piece.items) pieces.old.items ++ values.now) }
+    ensures err { OnErr result
+        (flat_map (λ piece. piece.items) pieces.new.items ≡ flat_map (λ piece. piece.items) pieces.old.items) }
 {
     match pieces.last_mut() {
         Some(piece) => piece.extend_from_slice(values)?,

@@ -27,8 +27,10 @@ pub(crate) trait Closing: BatchSink + Drop {
     /// What the sink makes of the items that it took, if the walk ends with `ending` after them. If the sink has
     /// enough, it makes equal parts of all walks that begin with them.
     fn close(self, ending: End) -> Result<Self::Made, NoMemory>
-        ensures closed { IfOk result (λ made. (xs : List Item) → Self.has_taken self xs → Self.stands made (append (trace xs end.Done) (trace [] ending))) }
-        ensures enough { IfOk result (λ made. Self.flow self ≡ Flow.Enough → (xs : List Item) (later : Trace) → Self.has_taken self xs → Self.stands made (append (trace xs end.Done) later)) };
+        ensures closed { IfOk result (λ made. (xs : List Item) → Self.has_taken self xs
+            → Self.stands made (append (trace xs end.Done) (trace [] ending))) }
+        ensures enough { IfOk result (λ made. Self.flow self ≡ Flow.Enough → (xs : List Item) (later : Trace)
+            → Self.has_taken self xs → Self.stands made (append (trace xs end.Done) later)) };
 }
 
 impl<'p, K: EndBrand> Closing for PartSink<'p, '_, K> {

@@ -29,7 +29,8 @@ pub(crate) fn counted_part<'p>(
     source: &Source,
     window: Window,
 ) -> Option<Part<'p>>
-    ensures { IfSome result (λ part. (env : Numbers) → StandsFor (segment_in segment.now) env part (piece_of window.from window.to (walk_in source.now))) }
+    ensures { IfSome result (λ part. (env : Numbers)
+        → StandsFor (segment_in segment.now) env part (piece_of window.from window.to (walk_in source.now))) }
 {
     let SegmentEnd::Fold(fold) = &segment.end else {
         return None;
@@ -62,7 +63,8 @@ impl FoldPart {
         requires adds { fold.op ≡ Op.Sum }
         requires counts { fold.counts ≡ true }
         requires few { count ≤ 2 ^ 62 }
-        ensures { (t : Trace) → length t.items ≡ count → t.ending ≡ ending → IsFold fold.op fold.start fold.counts result t }
+        ensures { (t : Trace) → length t.items ≡ count → t.ending ≡ ending
+            → IsFold fold.op fold.start fold.counts result t }
     {
         let mut partial = sum_of_ones(count);
         partial.end_with(ending);

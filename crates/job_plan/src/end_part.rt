@@ -1,7 +1,9 @@
 //! What is asked of the parts that pieces give to an end of a segment, whichever kind of end it is.
 
 ghost use Rattle.batch_eval.specs.Batches.{flagged_values};
-ghost use Rattle.std.specs.Prelude.{◌≡◌, ◌<◌, ◌≤◌, ℕ, false, true, List, [], ◌∷◌, length, map, IfOk, IfErr, OnOk, OnErr};
+ghost use Rattle.batch_eval.specs.MadeFlags.{flags_of};
+ghost use Rattle.std.specs.Prelude.{◌≡◌, ◌<◌, ◌≤◌, ℕ, false, true, List, [], ◌∷◌, length, map, IfOk, IfErr, OnOk};
+ghost use Rattle.std.specs.Prelude.{OnErr};
 ghost use Rattle.lambda_values.specs.Earlier.{Numbers};
 ghost use Rattle.trace.specs.Trace.{Trace, trace, append};
 ghost use Rattle.trace.specs.declared.item.End.TheVariants as end;
@@ -11,6 +13,7 @@ ghost use Rattle.job_plan.specs.Plans.{AbstractEnd};
 ghost use Rattle.job_plan.specs.declared.part.Part.{Part as any_part};
 
 use crate::ends::SegmentEnd;
+use batch_eval::Flags;
 use lambda_values::Env;
 use prefix_walks::ItemPiece;
 use trace::{End, Item, NoMemory, SourceItems};
@@ -35,8 +38,10 @@ pub(crate) trait EndPart: Drop + Sized {
     /// If the allocation fails, the part stays as it was.
     fn push(&mut self, last: LastStage<'_>, item: Item) -> Result<(), NoMemory>
         requires { is_settled (as_part self.old) ≡ false }
-        ensures ok { OnOk result ((t : Trace) → EndsFor (end_in last.entry.end.now) last.entry.number last.entry.env.now (as_part self.old) t
-            → EndsFor (end_in last.entry.end.now) last.entry.number last.entry.env.now (as_part self.new) (append t (trace (item ∷ []) end.Done))) }
+        ensures ok { OnOk result ((t : Trace)
+            → EndsFor (end_in last.entry.end.now) last.entry.number last.entry.env.now (as_part self.old) t
+            → EndsFor (end_in last.entry.end.now) last.entry.number last.entry.env.now (as_part self.new)
+            (append t (trace (item ∷ []) end.Done))) }
         ensures err { OnErr result (self.new ≡ self.old) }
         ensures memory { OnErr result (keeps_items (as_part self.old) ≡ true) }
         ensures kind { may_search (as_part self.new) ≡ may_search (as_part self.old) }
@@ -59,22 +64,26 @@ pub(crate) trait EndPart: Drop + Sized {
     ) -> Result<(), NoMemory>
         requires going { is_settled (as_part self.old) ≡ false }
         requires values { map (λ x. x.value) (I.items source.now) ≡ values.now }
-        ensures ok { OnOk result ((t : Trace) → EndsFor (end_in last.entry.end.now) last.entry.number last.entry.env.now (as_part self.old) t
-            → EndsFor (end_in last.entry.end.now) last.entry.number last.entry.env.now (as_part self.new) (append t (trace (I.items source.now) end.Done))) }
+        ensures ok { OnOk result ((t : Trace)
+            → EndsFor (end_in last.entry.end.now) last.entry.number last.entry.env.now (as_part self.old) t
+            → EndsFor (end_in last.entry.end.now) last.entry.number last.entry.env.now (as_part self.new)
+            (append t (trace (I.items source.now) end.Done))) }
         ensures err { OnErr result (self.new ≡ self.old) }
         ensures refused { OnErr result (0 < length (I.items source.now)) }
         ensures memory { OnErr result (keeps_items (as_part self.old) ≡ true) }
         ensures kind { may_search (as_part self.new) ≡ may_search (as_part self.old) }
         ensures keeps { keeps_items (as_part self.new) ≡ keeps_items (as_part self.old) };
 
-    /// Adds the values whose flag isn't 0, if the end is a fold by an operator that has an identity, and answers
+    /// Adds the values whose flag is set, if the end is a fold by an operator that has an identity, and answers
     /// whether it is.
-    fn push_flagged(&mut self, _values: &[i64], _flags: &[i64]) -> bool
+    fn push_flagged(&mut self, _values: &[i64], _flags: Flags<'_>) -> bool
         requires open { is_settled (as_part self.old) ≡ false }
-        requires flagged { length _flags.now ≤ length _values.now }
+        requires flagged { length (flags_of _flags) ≤ length _values.now }
         ensures taken { result ≡ true → (e : AbstractEnd) (stage : ℕ) (env : Numbers) (t : Trace) (xs : List item)
-            → map (λ x. x.value) xs ≡ flagged_values _values.now _flags.now (length _flags.now)
-            → EndsFor e stage env (as_part self.old) t → EndsFor e stage env (as_part self.new) (append t (trace xs end.Done)) }
+            → map (λ x. x.value) xs ≡ flagged_values _values.now (flags_of _flags.entry)
+            (length (flags_of _flags.entry))
+            → EndsFor e stage env (as_part self.old) t
+            → EndsFor e stage env (as_part self.new) (append t (trace xs end.Done)) }
         ensures open { is_settled (as_part self.new) ≡ false }
         ensures other { result ≡ false → self.new ≡ self.old }
         ensures kind { may_search (as_part self.new) ≡ may_search (as_part self.old) }
@@ -85,7 +94,8 @@ pub(crate) trait EndPart: Drop + Sized {
 
     /// Ends the piece as said, unless it is settled. It takes no memory.
     fn end_with(&mut self, ending: End)
-        ensures stands { (e : AbstractEnd) (stage : ℕ) (env : Numbers) (t : Trace) → EndsFor e stage env (as_part self.old) t
+        ensures stands { (e : AbstractEnd) (stage : ℕ) (env : Numbers) (t : Trace)
+            → EndsFor e stage env (as_part self.old) t
             → EndsFor e stage env (as_part self.new) (append t (trace [] ending)) }
         ensures kind { may_search (as_part self.new) ≡ may_search (as_part self.old) };
 
@@ -97,7 +107,8 @@ pub(crate) trait EndPart: Drop + Sized {
     ///
     /// If the allocation fails, both parts come back.
     fn merge(self, right: Self) -> Result<Self, (Self, Self)>
-        ensures ok { IfOk result (λ part. (e : AbstractEnd) (stage : ℕ) (env : Numbers) (a b : Trace) → EndsFor e stage env (as_part self) a
+        ensures ok { IfOk result (λ part. (e : AbstractEnd) (stage : ℕ) (env : Numbers) (a b : Trace)
+            → EndsFor e stage env (as_part self) a
             → EndsFor e stage env (as_part right) b → EndsFor e stage env (as_part part) (append a b)) }
         ensures err { IfErr result (λ parts. (parts.0 ≡ self) × (parts.1 ≡ right)) }
         ensures memory { OnErr result (keeps_items (as_part self) ≡ true) };

@@ -14,7 +14,8 @@ use slice_ops::{Slice, SliceRest};
 
 /// How many items with these values, from the first on, decide nothing.
 pub(crate) fn undecided(find: &FindTerminal, env: &Env, values: &[i64], room: &mut [i64]) -> u64
-    ensures { (stage : ℕ) (xs : List item) → map (λ x. x.value) xs ≡ values.now → first_decision (find_of find.now) stage env.now (take result xs) ≡ None }
+    ensures { (stage : ℕ) (xs : List item) → map (λ x. x.value) xs ≡ values.now
+        → first_decision (find_of find.now) stage env.now (take result xs) ≡ None }
 {
     match find {
         FindTerminal::First => 0,
@@ -26,7 +27,8 @@ pub(crate) fn undecided(find: &FindTerminal, env: &Env, values: &[i64], room: &m
 
 /// How many items with these values come before the first one at which the test of a `takeWhile` isn't true.
 pub(crate) fn front(slice: &Slice, env: &Env, values: &[i64], room: &mut [i64]) -> u64
-    ensures { (stage : ℕ) (xs : List item) → map (λ x. x.value) xs ≡ values.now → IsFront (slice_of slice.now) stage env.now xs result }
+    ensures { (stage : ℕ) (xs : List item) → map (λ x. x.value) xs ≡ values.now
+        → IsFront (slice_of slice.now) stage env.now xs result }
 {
     match slice {
         Slice::TakeWhile(test) => count_passing(test, true, env, values, room) as u64,
@@ -36,7 +38,8 @@ pub(crate) fn front(slice: &Slice, env: &Env, values: &[i64], room: &mut [i64]) 
 
 /// How many items with these values come before the first one at which the test of a slice isn't true.
 pub(crate) fn tested(rest: &SliceRest, env: &Env, values: &[i64], room: &mut [i64]) -> u64
-    ensures { (stage : ℕ) (xs : List item) → map (λ x. x.value) xs ≡ values.now → IsTested (rest_of rest.now) stage env.now xs result }
+    ensures { (stage : ℕ) (xs : List item) → map (λ x. x.value) xs ≡ values.now
+        → IsTested (rest_of rest.now) stage env.now xs result }
 {
     match *rest {
         SliceRest::TakeWhile(test) => count_passing(test, true, env, values, room) as u64,

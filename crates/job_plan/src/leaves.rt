@@ -3,7 +3,8 @@
 ghost use Rattle.std.specs.Prelude.{◌≡◌, false, true, IfOk, OnErr};
 ghost use Rattle.trace.specs.Trace.{Trace, nothing, append};
 ghost use Rattle.prefix_walks.specs.Spans.{IsNotAfter};
-ghost use Rattle.job_plan.specs.Parts.{StandsEnough, StandsFor, end_in, end_keeps_items, keeps_items, may_search, segment_in, walk_in};
+ghost use Rattle.job_plan.specs.Parts.{StandsEnough, StandsFor, end_in, end_keeps_items};
+ghost use Rattle.job_plan.specs.Parts.{keeps_items, may_search, segment_in, walk_in};
 ghost use Rattle.prefix_walks.specs.Pieces.{piece_of};
 ghost use Rattle.job_plan.specs.Plans.{last_stage};
 
@@ -38,7 +39,8 @@ pub fn leaf<'p>(
     walked: Walked<'_, 'p, '_, '_>,
     window: Window,
 ) -> Result<Part<'p>, NoMemory>
-    ensures stands { IfOk result (λ part. StandsFor (segment_in segment.now) walked.entry.env.now part (piece_of window.from window.to (walk_in walked.entry.source))) }
+    ensures stands { IfOk result (λ part. StandsFor (segment_in segment.now) walked.entry.env.now part
+        (piece_of window.from window.to (walk_in walked.entry.source))) }
     ensures memory { OnErr result (end_keeps_items (end_in segment.now.end) ≡ true) }
 {
     let mut registers = Registers::new(alloc);
@@ -54,7 +56,8 @@ pub fn leaf_with<'p>(
     window: Window,
     registers: &mut Registers,
 ) -> Result<Part<'p>, NoMemory>
-    ensures stands { IfOk result (λ part. StandsFor (segment_in segment.now) walked.entry.env.now part (piece_of window.from window.to (walk_in walked.entry.source))) }
+    ensures stands { IfOk result (λ part. StandsFor (segment_in segment.now) walked.entry.env.now part
+        (piece_of window.from window.to (walk_in walked.entry.source))) }
     ensures memory { OnErr result (end_keeps_items (end_in segment.now.end) ≡ true) }
 {
     if let Some(part) = lent_part(alloc, segment, &walked.source, window, registers)? {
@@ -71,7 +74,8 @@ pub(crate) fn leaf_copied<'p>(
     window: Window,
     registers: &mut Registers,
 ) -> Result<Part<'p>, NoMemory>
-    ensures stands { IfOk result (λ part. StandsFor (segment_in segment.now) walked.entry.env.now part (piece_of window.from window.to (walk_in walked.entry.source))) }
+    ensures stands { IfOk result (λ part. StandsFor (segment_in segment.now) walked.entry.env.now part
+        (piece_of window.from window.to (walk_in walked.entry.source))) }
     ensures memory { OnErr result (end_keeps_items (end_in segment.now.end) ≡ true) }
 {
     if let Some(part) = counted_part(segment, &walked.source, window) {
@@ -88,7 +92,8 @@ pub fn leaf_in_order<'p>(
     walked: Walked,
     registers: &mut Registers,
 ) -> Result<Part<'p>, NoMemory>
-    ensures stands { IfOk result (λ part. StandsFor (segment_in segment.now) walked.entry.env.now part (walk_in walked.entry.source)) }
+    ensures stands { IfOk result (λ part. StandsFor (segment_in segment.now) walked.entry.env.now part
+        (walk_in walked.entry.source)) }
     ensures kind { IfOk result (λ part. may_search part ≡ false) }
     ensures memory { OnErr result (end_keeps_items (end_in segment.now.end) ≡ true) }
 {
@@ -105,8 +110,10 @@ pub(crate) fn leaf_from<'p>(
     window: Window,
     registers: &mut Registers,
 ) -> Result<Part<'p>, NoMemory>
-    ensures stands { IfOk result (λ made. (before : Trace) → StandsFor (segment_in segment.now) walked.entry.env.now part.entry before
-        → StandsFor (segment_in segment.now) walked.entry.env.now made (append before (piece_of window.from window.to (walk_in walked.entry.source)))) }
+    ensures stands { IfOk result (λ made. (before : Trace)
+        → StandsFor (segment_in segment.now) walked.entry.env.now part.entry before
+        → StandsFor (segment_in segment.now) walked.entry.env.now made
+        (append before (piece_of window.from window.to (walk_in walked.entry.source)))) }
     ensures kind { IfOk result (λ made. may_search made ≡ may_search part.entry) }
     ensures memory { OnErr result (keeps_items part.entry ≡ true) }
 {
@@ -126,8 +133,10 @@ fn leaf_as<'p, K: EndBrand>(
     requires stage { last_stage (segment_in segment.now) ≡ K.stage }
     requires env { walked.env.now ≡ K.env }
     requires begun { part ≡ K.begun }
-    ensures stands { IfOk result (λ made. (before : Trace) → StandsFor (segment_in segment.now) walked.entry.env.now part.entry before
-        → StandsFor (segment_in segment.now) walked.entry.env.now made (append before (piece_of window.from window.to (walk_in walked.entry.source)))) }
+    ensures stands { IfOk result (λ made. (before : Trace)
+        → StandsFor (segment_in segment.now) walked.entry.env.now part.entry before
+        → StandsFor (segment_in segment.now) walked.entry.env.now made
+        (append before (piece_of window.from window.to (walk_in walked.entry.source)))) }
     ensures kind { IfOk result (λ made. may_search made ≡ may_search part.entry) }
     ensures memory { OnErr result (keeps_items part.entry ≡ true) }
 {
@@ -150,10 +159,9 @@ fn leaf_as<'p, K: EndBrand>(
     Ok(sink.part)
 }
 
-/// The part of the items at these positions, unless `stop` names a place at or before the first one that decides what the
-/// segment gives: then the walk may be left, and the part is that of a piece that isn't walked. The walk looks for such a
-/// place every 65,536 positions, and also where it is within inner streams, after 65,536 items that came through the
-/// stages.
+/// The part of the items at these positions, unless `stop` names a place at or before the first one that decides what
+/// the segment gives: then the walk may be left, with the part of a piece that isn't walked. The walk looks for a place
+/// that decides every 65,536 positions, and within inner streams every 65,536 values.
 pub fn leaf_until<'p, W: Stop>(
     alloc: Global,
     segment: &'p Segment,
@@ -163,7 +171,8 @@ pub fn leaf_until<'p, W: Stop>(
     stop: &mut W,
 ) -> Result<Part<'p>, NoMemory>
     requires ordered { IsNotAfter window.from window.to }
-    ensures stands { IfOk result (λ part. StandsEnough (W.decides stop.old) (segment_in segment.now) walked.entry.env.now part window.from (piece_of window.from window.to (walk_in walked.entry.source))) }
+    ensures stands { IfOk result (λ part. StandsEnough (W.decides stop.old) (segment_in segment.now)
+        walked.entry.env.now part window.from (piece_of window.from window.to (walk_in walked.entry.source))) }
     ensures memory { OnErr result (end_keeps_items (end_in segment.now.end) ≡ true) }
 {
     if let Some(part) = lent_part(alloc, segment, &walked.source, window, registers)? {
@@ -182,7 +191,8 @@ pub fn leaf_stored<'p, W: Stop>(
     stop: &mut W,
 ) -> Result<Part<'p>, NoMemory>
     requires ordered { IsNotAfter window.from window.to }
-    ensures stands { IfOk result (λ part. StandsEnough (W.decides stop.old) (segment_in segment.now) walked.entry.env.now part window.from (piece_of window.from window.to (walk_in walked.entry.source))) }
+    ensures stands { IfOk result (λ part. StandsEnough (W.decides stop.old) (segment_in segment.now)
+        walked.entry.env.now part window.from (piece_of window.from window.to (walk_in walked.entry.source))) }
     ensures memory { OnErr result (end_keeps_items (end_in segment.now.end) ≡ true) }
 {
     if let Some(part) = counted_part(segment, &walked.source, window) {
@@ -208,7 +218,8 @@ fn leaf_until_as<'p, K: EndBrand, W: Stop>(
     requires begun { part ≡ K.begun }
     requires none { StandsFor (segment_in segment.now) walked.env.now part nothing }
     requires ordered { IsNotAfter window.from window.to }
-    ensures stands { IfOk result (λ made. StandsEnough (W.decides stop.old) (segment_in segment.now) walked.entry.env.now made window.from (piece_of window.from window.to (walk_in walked.entry.source))) }
+    ensures stands { IfOk result (λ made. StandsEnough (W.decides stop.old) (segment_in segment.now)
+        walked.entry.env.now made window.from (piece_of window.from window.to (walk_in walked.entry.source))) }
     ensures memory { OnErr result (keeps_items part.entry ≡ true) }
 {
     if part.is_settled() {

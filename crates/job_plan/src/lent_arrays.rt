@@ -24,7 +24,7 @@ pub(crate) fn lent_arrays(alloc: Global, jobs: &[JobPlan]) -> Result<Vec<bool>, 
     Ok(lent)
 }
 
-/// Notes the jobs that another one names.
+/// Notes the jobs with these names, which another job takes.
 fn lend(lent: &mut [bool], named: &[Named]) {
     for name in named {
         if let Some(known) = lent.get_mut(name.job) {

@@ -1,7 +1,8 @@
 //! The part of a prefix that nothing or cheap maps come before: it borrows the values of the job's sources and the
 //! maps.
 
-ghost use Rattle.std.specs.Prelude.{◌≡◌, ◌+◌, ◌<◌, ◌≤◌, ◌^◌, pos, ◌+ℤ◌, length, take, drop, true, IfOk, IfSome, OnErr, OnOk};
+ghost use Rattle.std.specs.Prelude.{◌≡◌, ◌+◌, ◌<◌, ◌≤◌, ◌^◌, pos, ◌+ℤ◌, length};
+ghost use Rattle.std.specs.Prelude.{take, drop, true, IfOk, IfSome, OnErr, OnOk};
 ghost use Rattle.lambda_values.specs.Earlier.{Numbers};
 ghost use Rattle.trace.specs.Cover.{counted, distance, placed};
 ghost use Rattle.trace.specs.Stages.{stages_of};
@@ -27,7 +28,7 @@ use std::alloc::Global;
 use trace::NoMemory;
 
 /// The part of the items at these positions, if a prefix goes over the sources of a job with no stage but cheap maps
-/// before it. It takes memory for each 4,096 of them, and none for values.
+/// before it. It takes memory for each 1,024 of them, and none for values.
 pub(crate) fn lent_part<'p>(
     alloc: Global,
     segment: &'p Segment,
@@ -35,7 +36,8 @@ pub(crate) fn lent_part<'p>(
     window: Window,
     registers: &mut Registers,
 ) -> Result<Option<Part<'p>>, NoMemory>
-    ensures stands { IfOk result (λ found. IfSome found (λ part. (env : Numbers) → StandsFor (segment_in segment.now) env part (piece_of window.from window.to (walk_in source.now)))) }
+    ensures stands { IfOk result (λ found. IfSome found (λ part. (env : Numbers)
+        → StandsFor (segment_in segment.now) env part (piece_of window.from window.to (walk_in source.now)))) }
     ensures memory { OnErr result (end_keeps_items (end_in segment.now.end) ≡ true) }
 {
     let SegmentEnd::Prefix(prefix) = &segment.end else {
@@ -63,7 +65,9 @@ fn push_plain<'a>(
     registers: &mut Registers,
 ) -> Result<(), NoMemory>
     requires open { part.old.walk.ending ≡ end.Done }
-    ensures { OnOk result (part.new ≡ scan_append part.old (trace (imaged (stages_of maps.entry.stages.now) (elements window.from window.to (windowed plain.now.window.from plain.now.window.to (source_walk (sources_of plain.now.sources.now))).items)) end.Done)) }
+    ensures { OnOk result (part.new ≡ scan_append part.old
+        (trace (imaged (stages_of maps.entry.stages.now) (elements window.from window.to (windowed plain.now.window.from
+        plain.now.window.to (source_walk (sources_of plain.now.sources.now))).items)) end.Done)) }
 {
     if plain.is_too_long {
         return Ok(());
@@ -83,7 +87,8 @@ fn push_sources<'a>(
 ) -> Result<(), NoMemory>
     requires open { part.old.walk.ending ≡ end.Done }
     requires few { origin + length (values_of (sources_of sources.now)) ≤ 2 ^ 62 }
-    ensures { OnOk result (part.new ≡ scan_append part.old (trace (imaged (stages_of maps.entry.stages.now) (elements window.from window.to (placed origin (values_of (sources_of sources.now))))) end.Done)) }
+    ensures { OnOk result (part.new ≡ scan_append part.old (trace (imaged (stages_of maps.entry.stages.now)
+        (elements window.from window.to (placed origin (values_of (sources_of sources.now))))) end.Done)) }
 {
     match sources.split_first() {
         None => Ok(()),
@@ -111,7 +116,8 @@ fn push_one<'a>(
     requires within { portion.start + portion.count ≤ length (plain_values (source_of source.now)) }
     requires short { length (plain_values (source_of source.now)) ≤ 2 ^ 62 }
     requires few { origin + portion.count ≤ 2 ^ 62 }
-    ensures { OnOk result (part.new ≡ scan_append part.old (trace (imaged (stages_of maps.entry.stages.now) (placed origin (take portion.count (drop portion.start (plain_values (source_of source.now)))))) end.Done)) }
+    ensures { OnOk result (part.new ≡ scan_append part.old (trace (imaged (stages_of maps.entry.stages.now)
+        (placed origin (take portion.count (drop portion.start (plain_values (source_of source.now)))))) end.Done)) }
 {
     if portion.count == 0 {
         return Ok(());
@@ -159,7 +165,8 @@ fn push_range<'a>(
     requires within { portion.start + portion.count ≤ distance range.from (range.to +ℤ pos 1) }
     requires short { portion.start + portion.count ≤ 2 ^ 62 }
     requires few { origin + portion.count ≤ 2 ^ 62 }
-    ensures { OnOk result (part.new ≡ scan_append part.old (trace (imaged (stages_of maps.entry.stages.now) (placed origin (counted (range.from +ℤ pos portion.start) portion.count))) end.Done)) }
+    ensures { OnOk result (part.new ≡ scan_append part.old (trace (imaged (stages_of maps.entry.stages.now)
+        (placed origin (counted (range.from +ℤ pos portion.start) portion.count))) end.Done)) }
 {
     let piece = range_piece(origin, range.from, portion.start, portion.count);
     part.push_range(maps, &piece, registers)

@@ -53,16 +53,14 @@ pub use array_part::ArrayPart;
 pub use ends::{Fold, SegmentEnd};
 pub use fallback::Fallback;
 pub use fold_part::FoldPart;
-pub use job_meaning::Answer;
 pub use leaves::{leaf, leaf_in_order, leaf_stored, leaf_until, leaf_with, unwalked};
+pub use links::Leg;
 pub use outcome::Outcome;
 pub use part::Part;
 pub use plan_laws::{
-    later_segments_give_the_answers, plans_give_the_answers, plans_have_the_meaning,
-    walked_segments_give_the_answers,
+    later_segments_give_the_answers, legs_give_the_answers, plans_give_the_answers,
+    plans_have_the_meaning,
 };
-pub use prefix_walks::{GivenWalk, Prefix, PrefixPart, Window};
-pub use run_settings::{Form, Settings};
 pub use segment::{JobPlan, Named, Plan, Segment};
 pub use source::{Source, Walked};
 pub use sources::PlainSources;

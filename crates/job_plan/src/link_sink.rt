@@ -1,7 +1,7 @@
 //! A slice that comes after other stages, as a sink: what passes goes on at once, a batch at a time, through the stages
 //! after the slice and into the next sink. Nothing is kept.
 
-ghost use Rattle.std.specs.Prelude.{◌≡◌, ◌-◌, ◌<◌, ◌≤◌, ◌^◌, ℕ, List, [], drop, length, map, take, ⊤};
+ghost use Rattle.std.specs.Prelude.{◌≡◌, ◌-◌, ◌<◌, ◌≤◌, ◌^◌, ℕ, List, [], drop, length, map, take, ⊤, ◌++◌, OnOk};
 ghost use Rattle.lambda_values.specs.Earlier.{Numbers};
 ghost use Rattle.trace.specs.Sinks.{IsFed, flow_after};
 ghost use Rattle.trace.specs.Trace.{Trace, trace};
@@ -19,16 +19,15 @@ use crate::closing::Closing;
 use crate::fronts::tested;
 use crate::segment::Segment;
 use batch_eval::{
-    Batch, BatchSink, BatchSource, Pipeline, PlacedValues, Registers, SourcePart, accept_each,
-    feed_at_once,
+    Batch, BatchSink, BatchSource, Pipeline, Registers, SourcePart, accept_each, feed_at_once,
 };
 use lambda_values::{BoolExpr, Env};
 use prefix_walks::ItemPiece;
 use slice_ops::{SliceCut, SliceRest};
 use std::marker::{Brand, PhantomData};
-use trace::{End, Fed, Flow, Item, LongSink, NoMemory, SourceItems, feed_all};
+use trace::{End, Fed, Flow, Item, LongSink, NoMemory, PlacedValues, SourceItems, feed_all};
 
-/// So few items go through stages one by one.
+/// At most this number of items go through stages one by one.
 const FEW_ITEMS: u64 = 8;
 
 /// How a link of a walk began, and what comes after it, as contracts see it. No value has this type.
@@ -55,7 +54,7 @@ impl LinkBrand for Brand {
 /// Whether items go on from a slice.
 #[derive(Clone, Copy)]
 pub(crate) enum Passage {
-    /// They do.
+    /// Items go on from the slice.
     Open,
     /// The next sink has enough.
     Enough,
@@ -144,7 +143,8 @@ fn hand_on<I: BatchSource, S: BatchSink>(
     requires ordered { cut.now.from ≤ cut.now.to }
     requires within { cut.now.to ≤ length (I.items source.now) }
     ensures fed { (xs : List item) → S.has_taken sink.old xs → IsFed S.has_taken xs
-        (piped line.entry (trace (take (cut.now.to - cut.now.from) (drop cut.now.from (I.items source.now))) end.Done)) result sink.new }
+        (piped line.entry (trace (take (cut.now.to - cut.now.from) (drop cut.now.from (I.items source.now))) end.Done))
+        result sink.new }
     ensures flow { S.flow sink.new ≡ flow_after result }
 {
     let size = source.count();
@@ -179,8 +179,18 @@ fn pass<I: BatchSource, S: BatchSink + Drop>(
 ) -> Result<Fed, NoMemory>
     requires wants { passage_flow passing.old.passage (S.flow passing.old.inner) ≡ Flow.More }
     requires values { map (λ x. x.value) (I.items source.now) ≡ values.now }
-    ensures fed { (begun : AbstractSlice) (xs : List item) → HasPassed S.has_taken S.flow begun junction.entry.stage (segment_in junction.entry.next.now) junction.entry.env.now (rest_of passing.old.rest) passing.old.passage passing.old.inner xs
-        → IsFed (λ p. HasPassed S.has_taken S.flow begun junction.entry.stage (segment_in junction.entry.next.now) junction.entry.env.now (rest_of p.rest) p.passage p.inner) xs (trace (I.items source.now) end.Done) result passing.new }
+    ensures fed { (begun : AbstractSlice) (xs : List item)
+        → HasPassed S.has_taken S.flow begun junction.entry.stage (segment_in junction.entry.next.now)
+        junction.entry.env.now (rest_of passing.old.rest) passing.old.passage passing.old.inner xs
+        → IsFed (λ p. HasPassed S.has_taken S.flow begun junction.entry.stage
+        (segment_in junction.entry.next.now) junction.entry.env.now (rest_of p.rest) p.passage p.inner) xs
+        (trace (I.items source.now) end.Done) result passing.new }
+    ensures all { OnOk result ((begun : AbstractSlice) (xs : List item)
+        → HasPassed S.has_taken S.flow begun junction.entry.stage (segment_in junction.entry.next.now)
+        junction.entry.env.now (rest_of passing.old.rest) passing.old.passage passing.old.inner xs
+        → HasPassed S.has_taken S.flow begun junction.entry.stage (segment_in junction.entry.next.now)
+        junction.entry.env.now (rest_of passing.new.rest) passing.new.passage passing.new.inner
+        (xs ++ I.items source.now)) }
     ensures flow { passage_flow passing.new.passage (S.flow passing.new.inner) ≡ flow_after result }
 {
     let Passage::Open = passing.passage else {
@@ -208,8 +218,10 @@ fn pass<I: BatchSource, S: BatchSink + Drop>(
 }
 
 impl<K: LinkBrand, S: Closing> LongSink for LinkSink<'_, '_, K, S> {
-    ghost has_taken = { λ sink items. (segment_in sink.junction.next.now ≡ K.next) × (sink.junction.stage ≡ K.stage) × (sink.junction.env.now ≡ K.env)
-        × HasPassed S.has_taken S.flow K.rest K.stage K.next K.env (rest_of sink.passing.rest) sink.passing.passage sink.passing.inner items };
+    ghost has_taken = { λ sink items. (segment_in sink.junction.next.now ≡ K.next) × (sink.junction.stage ≡ K.stage)
+        × (sink.junction.env.now ≡ K.env)
+        × HasPassed S.has_taken S.flow K.rest K.stage K.next K.env
+        (rest_of sink.passing.rest) sink.passing.passage sink.passing.inner items };
 
     ghost flow = { λ sink. passage_flow sink.passing.passage (S.flow sink.passing.inner) };
 

@@ -1,16 +1,16 @@
-//! A sink that leaves a walk which no longer matters, whatever it is given.
+//! A sink that leaves a walk which no longer matters, in the middle of inner streams too.
 
 ghost use Rattle.std.specs.Prelude.{◌≡◌, ◌≤◌, ℕ, Bool, true, false, List};
 ghost use Rattle.trace.specs.declared.item.Item.{Item as item};
 ghost use Rattle.job_plan.specs.Stretches.{HasLooked, IsDecided, flow_unless};
 
-use batch_eval::{Batch, BatchSink, FlaggedLanes, PlacedValues, accept_each, accept_each_flagged};
+use batch_eval::{Batch, BatchSink, FlaggedLanes};
 use early_stop::Stop;
 use lambda_values::BoolExpr;
 use std::marker::{Brand, PhantomData};
-use trace::{Fed, Flow, Item, LongSink, NoMemory, SourceItems};
+use trace::{Fed, Flow, Item, LongSink, NoMemory, PlacedValues};
 
-/// After how many items, or positions of the source, a walk looks for a place that decides.
+/// After how many positions of the source, or values of inner streams, a walk looks for a place that decides.
 pub(crate) const STRETCH: u64 = 65_536;
 
 /// Where a piece begins, and which places decide what its walk is for, as contracts see it. No value has this type.
@@ -46,7 +46,7 @@ pub(crate) struct Looking<'w, P: StartBrand, S: Drop, W: Stop> {
     pub(crate) stop: &'w mut W,
     /// The first position of the piece.
     pub(crate) from: u64,
-    /// At this many items more it looks.
+    /// After this number of values of inner streams it looks.
     pub(crate) until_look: u64,
     pub(crate) has_left: bool,
     pub(crate) of: PhantomData<P>,
@@ -61,13 +61,13 @@ fn is_past<W: Stop>(stop: &mut W, position: u64) -> bool
     place != u64::MAX && place <= position
 }
 
-/// Whether such a place is known, if a look is due at this many items more.
-fn is_seen<W: Stop>(stop: &mut W, position: u64, until_look: &mut u64, items: u64) -> bool
+/// Whether a place is known that decides, if a look is due after this number of values.
+fn is_seen<W: Stop>(stop: &mut W, position: u64, until_look: &mut u64, values: u64) -> bool
     ensures past { result ≡ true → IsDecided (W.decides stop.old) position }
     ensures still { (c : ℕ) → W.decides stop.new c → W.decides stop.old c }
 {
-    if items < *until_look {
-        *until_look -= items;
+    if values < *until_look {
+        *until_look -= values;
         return false;
     }
     *until_look = STRETCH;
@@ -75,35 +75,32 @@ fn is_seen<W: Stop>(stop: &mut W, position: u64, until_look: &mut u64, items: u6
 }
 
 impl<P: StartBrand, S: BatchSink + Drop, W: Stop> LongSink for Looking<'_, P, S, W> {
-    ghost has_taken = { λ sink items. HasLooked S.has_taken W.decides P.decides P.from sink.from sink.stop.now sink.has_left sink.inner items };
+    ghost has_taken = { λ sink items.
+        HasLooked S.has_taken W.decides P.decides P.from sink.from sink.stop.now sink.has_left sink.inner items };
 
     ghost flow = { λ sink. flow_unless sink.has_left (S.flow sink.inner) };
 
     ghost takes_memory = { S.takes_memory };
 
     fn accept(&mut self, item: Item) -> Result<Flow, NoMemory> {
-        if is_seen(self.stop, self.from, &mut self.until_look, 1) {
-            self.has_left = true;
-            return Ok(Flow::Enough);
-        }
         self.inner.accept(item)
+    }
+
+    fn still_wants(&mut self, values: u64) -> Flow {
+        if is_seen(self.stop, self.from, &mut self.until_look, values) {
+            self.has_left = true;
+            return Flow::Enough;
+        }
+        Flow::More
     }
 }
 
 impl<P: StartBrand, S: BatchSink + Drop, W: Stop> BatchSink for Looking<'_, P, S, W> {
     fn accept_batch(&mut self, batch: &Batch, room: &mut [i64]) -> Result<Fed, NoMemory> {
-        if is_seen(self.stop, self.from, &mut self.until_look, batch.count()) {
-            self.until_look = 0;
-            return accept_each(batch, self);
-        }
         self.inner.accept_batch(batch, room)
     }
 
     fn accept_run(&mut self, run: PlacedValues<'_>, room: &mut [i64]) -> Result<Fed, NoMemory> {
-        if is_seen(self.stop, self.from, &mut self.until_look, run.count()) {
-            self.until_look = 0;
-            return accept_each(&run, self);
-        }
         self.inner.accept_run(run, room)
     }
 
@@ -112,11 +109,6 @@ impl<P: StartBrand, S: BatchSink + Drop, W: Stop> BatchSink for Looking<'_, P, S
     }
 
     fn accept_flagged(&mut self, lanes: FlaggedLanes<'_>) -> Result<Fed, NoMemory> {
-        let count = lanes.flags.len() as u64;
-        if is_seen(self.stop, self.from, &mut self.until_look, count) {
-            self.until_look = 0;
-            return accept_each_flagged(lanes, self);
-        }
         self.inner.accept_flagged(lanes)
     }
 

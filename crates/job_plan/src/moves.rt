@@ -5,7 +5,8 @@
 
 ghost use Rattle.std.specs.Prelude.{◌≡◌, ◌++◌, ◌∷◌, List, [], None, map, true, IfOk, OnOk};
 ghost use Rattle.trace.specs.Stages.{stage_of, stages_of};
-ghost use Rattle.job_plan.specs.Moves.{IsSamePlan, SameAnswers, all_keep, comes_first, moved_in, stage_keeps, waiting_in};
+ghost use Rattle.job_plan.specs.Moves.{IsSamePlan, SameAnswers, all_keep, comes_first};
+ghost use Rattle.job_plan.specs.Moves.{moved_in, stage_keeps, waiting_in};
 ghost use Rattle.job_plan.specs.Parts.{end_in, plan_in, plans_in, segment_in, segments_in};
 ghost use Rattle.job_plan.specs.PlannedAnswers.{planned_meaning};
 ghost use Rattle.job_plan.specs.Plans.{AbstractPlan, AbstractSegment};
@@ -88,7 +89,8 @@ impl Moved {
     /// Takes the maps that are held into the segment after them.
     fn take_held(&mut self, next: Segment) -> Result<Segment, NoMemory>
         ensures segments { IfOk result (λ one. (later : List AbstractSegment)
-            → SameAnswers (moved_in self.new ++ segment_in one ∷ later) (moved_in self.old ++ segment_in next ∷ later)) }
+            → SameAnswers (moved_in self.new ++ segment_in one ∷ later)
+            (moved_in self.old ++ segment_in next ∷ later)) }
         ensures none_held { OnOk result (self.new.held ≡ None) }
     {
         let Some(held) = self.held.take() else {
@@ -112,7 +114,8 @@ impl Moved {
     fn add_slice(&mut self, alloc: Global, segment: Segment) -> Result<(), NoMemory>
         requires comes_first { comes_first (segment_in segment).stages (segment_in segment).ending ≡ true }
         requires none_held { self.old.held ≡ None }
-        ensures { OnOk result ((later : List AbstractSegment) → SameAnswers (moved_in self.new ++ later) (moved_in self.old ++ segment_in segment ∷ later)) }
+        ensures { OnOk result ((later : List AbstractSegment) → SameAnswers (moved_in self.new
+            ++ later) (moved_in self.old ++ segment_in segment ∷ later)) }
     {
         let Segment {
             first_stage,
@@ -135,7 +138,8 @@ impl Moved {
 
     /// Adds the next segment.
     fn add(&mut self, alloc: Global, segment: Segment) -> Result<(), NoMemory>
-        ensures { OnOk result ((later : List AbstractSegment) → SameAnswers (moved_in self.new ++ later) (moved_in self.old ++ segment_in segment ∷ later)) }
+        ensures { OnOk result ((later : List AbstractSegment) → SameAnswers (moved_in self.new
+            ++ later) (moved_in self.old ++ segment_in segment ∷ later)) }
     {
         let segment = self.take_held(segment)?;
         if self.is_front && comes_first(&segment.stages, &segment.end) {
@@ -213,8 +217,10 @@ impl<'c> Plan<'c> {
     ///
     /// Stages keep their numbers. Takes time for each stage, and memory for each segment.
     pub fn with_slices_first(self, alloc: Global) -> Result<Plan<'c>, NoMemory>
-        ensures meaning { IfOk result (λ moved. planned_meaning (plans_in moved.jobs.items) ≡ planned_meaning (plans_in self.entry.jobs.items)) }
-        ensures names { IfOk result (λ moved. map (λ (p : AbstractPlan). p.name) (plans_in moved.jobs.items) ≡ map (λ (p : AbstractPlan). p.name) (plans_in self.entry.jobs.items)) }
+        ensures meaning { IfOk result (λ moved. planned_meaning (plans_in moved.jobs.items)
+            ≡ planned_meaning (plans_in self.entry.jobs.items)) }
+        ensures names { IfOk result (λ moved. map (λ (p : AbstractPlan). p.name) (plans_in moved.jobs.items)
+            ≡ map (λ (p : AbstractPlan). p.name) (plans_in self.entry.jobs.items)) }
     {
         let Plan { jobs: all, lent } = self;
         let mut jobs = Vec::new(alloc);

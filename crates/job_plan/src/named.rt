@@ -11,7 +11,8 @@ use job_language::PlainSource;
 
 /// Whether a source is the array of an earlier job.
 fn has_array(sources: &[PlainSource]) -> bool
-    ensures { result ≡ false → (before : List answer) (names : List named) → all_put_at before names (sources_of sources.now) ≡ sources_of sources.now }
+    ensures { result ≡ false → (before : List answer) (names : List named)
+        → all_put_at before names (sources_of sources.now) ≡ sources_of sources.now }
 {
     let Some((source, later)) = sources.split_first() else {
         return false;
@@ -22,7 +23,8 @@ fn has_array(sources: &[PlainSource]) -> bool
 impl JobPlan<'_> {
     /// Whether a source is the array of an earlier job, `result(NAME)`.
     pub fn takes_arrays(&self) -> bool
-        ensures { result ≡ false → (before : List answer) (names : List named) → all_put_at before names (sources_of self.now.sources.items) ≡ sources_of self.now.sources.items }
+        ensures { result ≡ false → (before : List answer) (names : List named)
+            → all_put_at before names (sources_of self.now.sources.items) ≡ sources_of self.now.sources.items }
     {
         has_array(&self.sources)
     }

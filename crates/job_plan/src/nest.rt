@@ -40,7 +40,8 @@ pub(crate) trait Nest {
     ) -> Result<S::Made, NoMemory>
         requires few { length links.now ≤ Self.depth }
         requires begun { S.has_taken sink [] }
-        ensures { IfOk result (λ made. S.stands made (walk_of (segment_in next.now) walked.entry.env.now (linked (each_link_in links.now) walked.entry.env.now (walk_in walked.entry.source)))) };
+        ensures { IfOk result (λ made. S.stands made (walk_of (segment_in next.now) walked.entry.env.now
+            (linked (each_link_in links.now) walked.entry.env.now (walk_in walked.entry.source)))) };
 }
 
 /// No sink but the one that is given.
@@ -109,7 +110,9 @@ fn feed_link<'p, K: LinkBrand, N: Nest, S: Closing>(
     requires env { walked.env.now ≡ K.env }
     requires few { length chain.before.now ≤ N.depth }
     requires begun { S.has_taken sink [] }
-    ensures { IfOk result (λ made. S.stands made (walk_of (segment_in next.now) walked.entry.env.now (linked (link_in chain.entry.last.now ∷ []) walked.entry.env.now (linked (each_link_in chain.entry.before.now) walked.entry.env.now (walk_in walked.entry.source))))) }
+    ensures { IfOk result (λ made. S.stands made (walk_of (segment_in next.now) walked.entry.env.now
+        (linked (link_in chain.entry.last.now ∷ []) walked.entry.env.now
+        (linked (each_link_in chain.entry.before.now) walked.entry.env.now (walk_in walked.entry.source))))) }
 {
     let LinkChain { before, last } = chain;
     let segment = last.segment;
@@ -140,7 +143,8 @@ fn feed_source<S: Closing>(
     sink: S,
 ) -> Result<S::Made, NoMemory>
     requires begun { S.has_taken sink [] }
-    ensures { IfOk result (λ made. S.stands made (walk_of (segment_in next.now) walked.entry.env.now (walk_in walked.entry.source))) }
+    ensures { IfOk result
+        (λ made. S.stands made (walk_of (segment_in next.now) walked.entry.env.now (walk_in walked.entry.source))) }
 {
     if sink.has_enough() {
         return sink.close(End::Done);

@@ -1,13 +1,15 @@
 //! What a piece of a segment's source gives to the end of the segment.
 
 ghost use Rattle.batch_eval.specs.Batches.{flagged_values};
-ghost use Rattle.std.specs.Prelude.{◌≡◌, ◌<◌, ◌≤◌, ℕ, false, true, List, [], ◌∷◌, length, map, IfOk, IfErr, IfNone, IfSome, OnOk, OnErr, if◌then◌else◌};
+ghost use Rattle.std.specs.Prelude.{◌≡◌, ◌<◌, ◌≤◌, ℕ, false, true, List, [], ◌∷◌, length, map};
+ghost use Rattle.std.specs.Prelude.{IfOk, IfErr, IfNone, IfSome, OnOk, OnErr, if◌then◌else◌};
 ghost use Rattle.lambda_values.specs.Earlier.{Numbers};
 ghost use Rattle.trace.specs.Trace.{Trace, trace, nothing, append};
 ghost use Rattle.trace.specs.declared.item.End.TheVariants as end;
 ghost use Rattle.trace.specs.declared.item.Item.{Item as item};
 ghost use Rattle.job_plan.specs.FoldFaults.{end_fault, fold_fault};
-ghost use Rattle.job_plan.specs.Parts.{EndsFor, StandsFor, end_in, end_keeps_items, is_fault, is_running, is_settled, keeps_items, may_search, settles};
+ghost use Rattle.job_plan.specs.Parts.{EndsFor, StandsFor, end_in, end_keeps_items, is_fault};
+ghost use Rattle.job_plan.specs.Parts.{is_running, is_settled, keeps_items, may_search, settles};
 ghost use Rattle.job_plan.specs.Plans.{AbstractEnd, AbstractSegment, outcome_of};
 
 use crate::array_part::ArrayPart;
@@ -15,6 +17,7 @@ use crate::end_part::{EndPart, LastStage};
 use crate::ends::SegmentEnd;
 use crate::fold_part::FoldPart;
 use crate::outcome::{Outcome, answer_of, exact_answer};
+use batch_eval::Flags;
 use find_ops::FindPart;
 use lambda_values::Env;
 use prefix_walks::{GivenWalk, PrefixPart};
@@ -142,7 +145,8 @@ impl<'p> Part<'p> {
     /// Only slices, arrays and prefixes may need memory; if the allocation fails, both parts come back. Parts of
     /// different ends don't merge: the left one stays.
     pub fn merge(self, right: Part<'p>) -> Result<Part<'p>, (Part<'p>, Part<'p>)>
-        ensures ok { IfOk result (λ part. (s : AbstractSegment) (env : Numbers) (a b : Trace) → StandsFor s env self.entry a
+        ensures ok { IfOk result (λ part. (s : AbstractSegment) (env : Numbers) (a b : Trace)
+            → StandsFor s env self.entry a
             → StandsFor s env right.entry b → StandsFor s env part (append a b)) }
         ensures err { IfErr result (λ parts. (parts.0 ≡ self.entry) × (parts.1 ≡ right.entry)) }
         ensures memory { OnErr result (keeps_items self.entry ≡ true) }
@@ -153,7 +157,8 @@ impl<'p> Part<'p> {
     /// What the segment gives. `None` if the source has to be walked once more, in order. An array takes no memory: its
     /// pieces are moved into the answer.
     pub fn finish(self, alloc: Global, env: &Env) -> Result<Option<Outcome<'p>>, NoMemory>
-        ensures some { IfOk result (λ found. IfSome found (λ outcome. (s : AbstractSegment) (t : Trace) → StandsFor s env.now self.entry t
+        ensures some { IfOk result (λ found. IfSome found (λ outcome. (s : AbstractSegment) (t : Trace)
+            → StandsFor s env.now self.entry t
             → outcome ≡ outcome_of s env.now t)) }
         ensures none { IfOk result (λ found. IfNone found (may_search self.entry ≡ true)) }
         ensures memory { OnErr result (keeps_items self.entry ≡ true) }
@@ -189,7 +194,7 @@ impl<'a> EndPart for Part<'a> {
         of_any_kind!(self, part => EndPart::push_all(part, last, source, values, room))
     }
 
-    fn push_flagged(&mut self, values: &[i64], flags: &[i64]) -> bool {
+    fn push_flagged(&mut self, values: &[i64], flags: Flags<'_>) -> bool {
         of_any_kind!(self, part => EndPart::push_flagged(part, values, flags))
     }
 

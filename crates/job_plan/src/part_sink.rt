@@ -16,10 +16,10 @@ ghost use Rattle.job_plan.specs.declared.ends.SegmentEnd.TheVariants as ends;
 use crate::end_part::{EndPart, LastStage};
 use crate::part::Part;
 use crate::segment::Segment;
-use batch_eval::{Batch, BatchSink, FlaggedLanes, PlacedValues, accept_each_flagged};
+use batch_eval::{Batch, BatchSink, FlaggedLanes, accept_each_flagged};
 use lambda_values::{BoolExpr, Env};
 use std::marker::{Brand, PhantomData};
-use trace::{Fed, Flow, Item, LongSink, NoMemory, SourceItems};
+use trace::{Fed, Flow, Item, LongSink, NoMemory, PlacedValues, SourceItems};
 
 /// The end of a walk, as contracts see it. No value has this type.
 pub(crate) trait EndBrand {
@@ -122,8 +122,10 @@ fn accept_all<I: SourceItems>(
 ) -> Result<Fed, NoMemory>
     requires wants { is_settled part.old ≡ false }
     requires values { map (λ x. x.value) (I.items source.now) ≡ values.now }
-    ensures fed { (begun : part_kept) (xs : List item) → HasTaken (end_in last.entry.end.now) last.entry.number last.entry.env.now begun part.old xs
-        → IsFed (HasTaken (end_in last.entry.end.now) last.entry.number last.entry.env.now begun) xs (trace (I.items source.now) end.Done) result part.new }
+    ensures fed { (begun : part_kept) (xs : List item)
+        → HasTaken (end_in last.entry.end.now) last.entry.number last.entry.env.now begun part.old xs
+        → IsFed (HasTaken (end_in last.entry.end.now) last.entry.number last.entry.env.now begun) xs
+        (trace (I.items source.now) end.Done) result part.new }
     ensures flow { flow_of (is_settled part.new) ≡ flow_after result }
     ensures memory { OnErr result (keeps_items part.old ≡ true) }
     ensures keeps { keeps_items part.new ≡ keeps_items part.old }

@@ -2,7 +2,8 @@
 
 ghost use Rattle.std.specs.Prelude.{◌≡◌, ◌≤◌, ◌+◌, List, [], ◌∷◌, ◌++◌, length, IfOk, OnOk};
 ghost use Rattle.trace.specs.Stages.{stages_of};
-ghost use Rattle.job_language.specs.Jobs.{AbstractJobStage, AbstractTerminal, job_of, jobs_of, job_stage_of, job_stages_of, terminal_of};
+ghost use Rattle.job_language.specs.Jobs.{AbstractJobStage, AbstractTerminal, job_of};
+ghost use Rattle.job_language.specs.Jobs.{jobs_of, job_stage_of, job_stages_of, terminal_of};
 ghost use Rattle.job_plan.specs.Parts.{end_in, plan_in, plan_names, plans_in, segment_in, segments_in};
 ghost use Rattle.job_plan.specs.Plans.{plan_of, plans_of, segments_from};
 
@@ -88,9 +89,11 @@ impl Begun {
     /// Takes the segment of the stages, with this end, and begins the next one.
     fn next_segment(&mut self, end: SegmentEnd) -> Segment
         requires few { self.old.first_stage + length self.old.stages.items ≤ 33 }
-        ensures segment { segment_in result ≡ record { first = self.old.first_stage; stages = stages_of self.old.stages.items; ending = end_in end } }
+        ensures segment { segment_in result
+            ≡ record { first = self.old.first_stage; stages = stages_of self.old.stages.items; ending = end_in end } }
         ensures kept { self.new.segments.items ≡ self.old.segments.items }
-        ensures next { (self.new.first_stage ≡ self.old.first_stage + length self.old.stages.items + 1) × (self.new.stages.items ≡ []) }
+        ensures next { (self.new.first_stage ≡ self.old.first_stage + length self.old.stages.items + 1)
+            × (self.new.stages.items ≡ []) }
     {
         let first_stage = self.first_stage;
         let stages = mem::replace(&mut self.stages, Vec::new(self.alloc));
@@ -106,8 +109,11 @@ impl Begun {
     fn end(&mut self, end: SegmentEnd) -> Result<(), NoMemory>
         requires few { self.old.first_stage + length self.old.stages.items ≤ 33 }
         ensures segments { OnOk result (segments_in self.new.segments.items
-            ≡ segments_in self.old.segments.items ++ record { first = self.old.first_stage; stages = stages_of self.old.stages.items; ending = end_in end } ∷ []) }
-        ensures next { (self.new.first_stage ≡ self.old.first_stage + length self.old.stages.items + 1) × (self.new.stages.items ≡ []) }
+            ≡ segments_in self.old.segments.items
+            ++ record { first = self.old.first_stage; stages = stages_of self.old.stages.items; ending = end_in end }
+            ∷ []) }
+        ensures next { (self.new.first_stage ≡ self.old.first_stage + length self.old.stages.items + 1)
+            × (self.new.stages.items ≡ []) }
     {
         let segment = self.next_segment(end);
         self.segments.push(segment)?;
@@ -118,9 +124,12 @@ impl Begun {
     fn add(&mut self, stage: JobStage) -> Result<(), NoMemory>
         requires few { self.old.first_stage + length self.old.stages.items ≤ 32 }
         ensures cut { OnOk result ((later : List AbstractJobStage) (d : AbstractTerminal)
-            → segments_in self.new.segments.items ++ segments_from self.new.first_stage (stages_of self.new.stages.items) later d
-            ≡ segments_in self.old.segments.items ++ segments_from self.old.first_stage (stages_of self.old.stages.items) (job_stage_of stage ∷ later) d) }
-        ensures few { OnOk result (self.new.first_stage + length self.new.stages.items ≤ self.old.first_stage + length self.old.stages.items + 1) }
+            → segments_in self.new.segments.items ++ segments_from self.new.first_stage
+            (stages_of self.new.stages.items) later d
+            ≡ segments_in self.old.segments.items ++ segments_from self.old.first_stage
+            (stages_of self.old.stages.items) (job_stage_of stage ∷ later) d) }
+        ensures few { OnOk result (self.new.first_stage + length self.new.stages.items
+            ≤ self.old.first_stage + length self.old.stages.items + 1) }
     {
         match stage {
             JobStage::Item(stage) => self.stages.push(stage)?,
@@ -137,7 +146,8 @@ impl Begun {
 /// The segments of stages and a terminal.
 fn cut(alloc: Global, stages: Vec<JobStage>, terminal: Terminal) -> Result<Vec<Segment>, NoMemory>
     requires few { length stages.items ≤ 32 }
-    ensures ok { IfOk result (λ segments. segments_in segments.items ≡ segments_from 1 [] (job_stages_of stages.items) (terminal_of terminal)) }
+    ensures ok { IfOk result (λ segments. segments_in segments.items
+        ≡ segments_from 1 [] (job_stages_of stages.items) (terminal_of terminal)) }
 {
     let last = SegmentEnd::of(terminal);
     let mut begun = Begun::none(alloc);

@@ -51,7 +51,7 @@ pub(crate) struct Held {
 #[derive(Drop)]
 pub struct Named {
     pub name: Bytes,
-    /// Its place in the file, from 0.
+    /// The place of the earlier job in the file, from 0.
     pub job: usize,
 }
 

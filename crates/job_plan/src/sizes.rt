@@ -26,7 +26,8 @@ impl Source<'_, '_, '_> {
 impl PlainSources<'_, '_> {
     /// How many items there are at these positions: none, if the sources have more than 2^62 values.
     fn size(&self) -> u64
-        ensures { result ≡ min (length (windowed self.now.window.from self.now.window.to (source_walk (sources_of self.now.sources.now))).items) (2 ^ 64 - 1) }
+        ensures { result ≡ min (length (windowed self.now.window.from self.now.window.to
+            (source_walk (sources_of self.now.sources.now))).items) (2 ^ 64 - 1) }
     {
         if self.is_too_long {
             return 0;

@@ -18,11 +18,11 @@ ghost use Rattle.job_plan.specs.Windows.{selected_source, selected_walk};
 use crate::segment::JobPlan;
 use crate::sources::{PlainSources, plain_size};
 use crate::windows::selected_window;
-use batch_eval::{BatchSink, Pipeline, PlacedValues, Registers, feed_batches};
+use batch_eval::{BatchSink, Pipeline, Registers, feed_batches};
 use job_language::PlainSource;
 use lambda_values::{Env, FaultKind};
 use prefix_walks::{GivenWalk, Portion, Window, feed_given, feed_values, within};
-use trace::{End, Fault, Fed, Flow, NoMemory, RangeItems};
+use trace::{End, Fault, Fed, Flow, NoMemory, PlacedValues, RangeItems};
 
 /// The fault of sources of more than 2^62 values.
 const TOO_LONG: Fault = Fault {
@@ -105,7 +105,8 @@ impl<'g, 'a, 'c> Source<'g, 'a, 'c> {
     ) -> Result<Fed, NoMemory>
         requires wants { S.flow sink.old ≡ Flow.More }
         ensures fed { (xs : List item) → S.has_taken sink.old xs → IsFed S.has_taken xs
-            (piped line.entry (trace (elements window.from window.to (walk_in self.now).items) end.Done)) result sink.new }
+            (piped line.entry (trace (elements window.from window.to (walk_in self.now).items) end.Done))
+            result sink.new }
         ensures flow { S.flow sink.new ≡ flow_after result }
         ensures refused { OnErr result S.takes_memory }
     {
@@ -144,7 +145,8 @@ fn feed_plain<S: BatchSink>(
     requires wants { S.flow sink.old ≡ Flow.More }
     requires few { origin + length (values_of (sources_of sources.now)) ≤ 2 ^ 62 }
     ensures fed { (xs : List item) → S.has_taken sink.old xs → IsFed S.has_taken xs
-        (piped line.entry (trace (elements window.from window.to (placed origin (values_of (sources_of sources.now)))) end.Done)) result sink.new }
+        (piped line.entry (trace (elements window.from window.to (placed origin (values_of (sources_of sources.now))))
+        end.Done)) result sink.new }
     ensures flow { S.flow sink.new ≡ flow_after result }
     ensures refused { OnErr result S.takes_memory }
 {
@@ -178,7 +180,8 @@ fn feed_one<S: BatchSink>(
     requires short { length (plain_values (source_of source.now)) ≤ 2 ^ 62 }
     requires few { origin + portion.count ≤ 2 ^ 62 }
     ensures fed { (xs : List item) → S.has_taken sink.old xs → IsFed S.has_taken xs
-        (piped line.entry (trace (placed origin (take portion.count (drop portion.start (plain_values (source_of source.now))))) end.Done)) result sink.new }
+        (piped line.entry (trace (placed origin
+        (take portion.count (drop portion.start (plain_values (source_of source.now))))) end.Done)) result sink.new }
     ensures flow { S.flow sink.new ≡ flow_after result }
     ensures refused { OnErr result S.takes_memory }
 {
@@ -236,7 +239,8 @@ fn feed_range<S: BatchSink>(
     requires short { portion.start + portion.count ≤ 2 ^ 62 }
     requires few { origin + portion.count ≤ 2 ^ 62 }
     ensures fed { (xs : List item) → S.has_taken sink.old xs → IsFed S.has_taken xs
-        (piped line.entry (trace (placed origin (counted (range.from +ℤ pos portion.start) portion.count)) end.Done)) result sink.new }
+        (piped line.entry (trace (placed origin (counted (range.from +ℤ pos portion.start) portion.count)) end.Done))
+        result sink.new }
     ensures flow { S.flow sink.new ≡ flow_after result }
     ensures refused { OnErr result S.takes_memory }
 {

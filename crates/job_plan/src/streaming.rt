@@ -3,12 +3,12 @@
 
 ghost use Rattle.std.specs.Prelude.{◌≡◌, ◌≤◌, false, IfOk, length};
 ghost use Rattle.trace.specs.Trace.{nothing};
-ghost use Rattle.job_plan.specs.Links.{AllFit, Fits, each_link_in, first_links, link_in, link_walk, linked};
-ghost use Rattle.job_plan.specs.Parts.{GoesOnFrom, StandsFor, end_in, may_search, segment_in, segments_in, walk_in};
+ghost use Rattle.job_plan.specs.Links.{AllFit, Fits, each_link_in, leg_in, link_in, link_walk, linked};
+ghost use Rattle.job_plan.specs.Parts.{GoesOnFrom, StandsFor, end_in, may_search, segment_in, walk_in};
 ghost use Rattle.job_plan.specs.Plans.{last_stage, walk_of};
 
 use crate::leaves::first_part;
-use crate::links::{Link, push_links};
+use crate::links::{Leg, Link, push_links};
 use crate::nest::{DEEPEST, Deepest, Nest};
 use crate::outcome::Outcome;
 use crate::part::Part;
@@ -21,24 +21,23 @@ use std::alloc::Global;
 use std::marker::{Brand, PhantomData};
 use trace::{Chunk, End, NoMemory};
 
-/// The part of a segment after slices: the whole walk of a source goes through the first of these segments, as far as
-/// they end in slices, and then through `last`. It stops when nothing more matters, and keeps nothing but the part: a
-/// batch of items at most lies between two slices. Only of more than eight slices, what passes every ninth one is kept,
-/// 16 bytes an item.
+/// The part of a leg: the whole walk of a source goes through the slices of the leg and then through its last segment.
+/// It stops when nothing more matters, and keeps nothing but the part: a batch of items at most lies between two
+/// slices. Only of more than eight slices, what passes every ninth one is kept, 16 bytes an item.
 pub fn streamed<'p>(
     alloc: Global,
-    segments: &'p [Segment],
-    last: &'p Segment,
+    leg: Leg<'p>,
     walked: Walked,
     registers: &mut Registers,
 ) -> Result<Part<'p>, NoMemory>
-    ensures stands { IfOk result (λ part. StandsFor (segment_in last.now) walked.entry.env.now part (linked (first_links (segments_in segments.now)) walked.entry.env.now (walk_in walked.entry.source))) }
+    ensures stands { IfOk result (λ part. StandsFor (leg_in leg.entry).last walked.entry.env.now part
+        (linked (leg_in leg.entry).links walked.entry.env.now (walk_in walked.entry.source))) }
     ensures kind { IfOk result (λ part. may_search part ≡ false) }
 {
-    let none = first_part(alloc, last, walked.env);
+    let none = first_part(alloc, leg.last, walked.env);
     let mut links = Vec::new(alloc);
-    push_links(&mut links, segments)?;
-    through_links(alloc, none, &links, last, walked, registers)
+    push_links(&mut links, leg.segments)?;
+    through_links(alloc, none, &links, leg.last, walked, registers)
 }
 
 /// The part after a walk through these links.
@@ -52,7 +51,8 @@ fn through_links<'p>(
 ) -> Result<Part<'p>, NoMemory>
     requires none { StandsFor (segment_in last.now) walked.env.now none nothing }
     requires fit { AllFit (each_link_in links.now) }
-    ensures stands { IfOk result (λ part. StandsFor (segment_in last.now) walked.entry.env.now part (linked (each_link_in links.now) walked.entry.env.now (walk_in walked.entry.source))) }
+    ensures stands { IfOk result (λ part. StandsFor (segment_in last.now) walked.entry.env.now part
+        (linked (each_link_in links.now) walked.entry.env.now (walk_in walked.entry.source))) }
     ensures kind { IfOk result (λ part. may_search part ≡ may_search none.entry) }
 {
     if links.len() <= DEEPEST {
@@ -80,7 +80,8 @@ fn gathered<'p>(
 ) -> Result<GivenWalk<'p>, NoMemory>
     requires few { length links.now ≤ 8 }
     requires fits { Fits (link_in link.now) }
-    ensures { IfOk result (λ given. given ≡ link_walk (link_in link.now) walked.entry.env.now (linked (each_link_in links.now) walked.entry.env.now (walk_in walked.entry.source))) }
+    ensures { IfOk result (λ given. given ≡ link_walk (link_in link.now) walked.entry.env.now
+        (linked (each_link_in links.now) walked.entry.env.now (walk_in walked.entry.source))) }
 {
     let none = first_part(alloc, link.segment, walked.env);
     let part = through_few(alloc, none, links, link.segment, walked, registers)?;
@@ -102,7 +103,8 @@ fn through_few<'p>(
 ) -> Result<Part<'p>, NoMemory>
     requires none { StandsFor (segment_in last.now) walked.env.now none nothing }
     requires few { length links.now ≤ 8 }
-    ensures stands { IfOk result (λ part. StandsFor (segment_in last.now) walked.entry.env.now part (linked (each_link_in links.now) walked.entry.env.now (walk_in walked.entry.source))) }
+    ensures stands { IfOk result (λ part. StandsFor (segment_in last.now) walked.entry.env.now part
+        (linked (each_link_in links.now) walked.entry.env.now (walk_in walked.entry.source))) }
     ensures kind { IfOk result (λ part. may_search part ≡ may_search none.entry) }
 {
     nested::<Brand>(alloc, none, links, last, walked, registers)
@@ -122,7 +124,8 @@ fn nested<'p, K: EndBrand>(
     requires env { walked.env.now ≡ K.env }
     requires begun { none ≡ K.begun }
     requires few { length links.now ≤ 8 }
-    ensures { IfOk result (λ part. GoesOnFrom (end_in K.last) K.stage K.env K.begun part (walk_of (segment_in last.now) walked.entry.env.now (linked (each_link_in links.now) walked.entry.env.now (walk_in walked.entry.source)))) }
+    ensures { IfOk result (λ part. GoesOnFrom (end_in K.last) K.stage K.env K.begun part (walk_of (segment_in last.now)
+        walked.entry.env.now (linked (each_link_in links.now) walked.entry.env.now (walk_in walked.entry.source)))) }
 {
     let sink = PartSink::<K> {
         part: none,

@@ -44,9 +44,11 @@ pub(crate) fn feed_until<S: BatchSink + Drop, W: Stop>(
 ) -> Result<Option<(S, Fed)>, NoMemory>
     requires wants { S.flow sink ≡ Flow.More }
     requires ordered { IsNotAfter window.from window.to }
-    ensures fed { IfOk result (λ r. IfSome r (λ f. IsWalked S.has_taken (λ ys. piped line.entry (trace ys end.Done)) (elements window.from window.to (walk_in source.now).items) sink f.1 f.0)) }
+    ensures fed { IfOk result (λ r. IfSome r (λ f. IsWalked S.has_taken (λ ys. piped line.entry (trace ys end.Done))
+        (elements window.from window.to (walk_in source.now).items) sink f.1 f.0)) }
     ensures flow { IfOk result (λ r. IfSome r (λ f. S.flow f.0 ≡ flow_after (Ok f.1))) }
-    ensures left { IfOk result (λ r. IfNone r ((xs : List item) → S.has_taken sink xs → IsDecided (W.decides stop.old) window.from)) }
+    ensures left { IfOk result
+        (λ r. IfNone r ((xs : List item) → S.has_taken sink xs → IsDecided (W.decides stop.old) window.from)) }
     ensures refused { OnErr result S.takes_memory }
 {
     feed_looking::<Brand, S, W>(source, line, window, registers, sink, stop)
@@ -65,7 +67,8 @@ fn feed_looking<P: StartBrand, S: BatchSink + Drop, W: Stop>(
     requires ordered { IsNotAfter window.from window.to }
     requires from { window.from ≡ P.from }
     requires decides { (c : ℕ) → W.decides stop.old c → P.decides c }
-    ensures fed { IfOk result (λ r. IfSome r (λ f. IsWalked S.has_taken (λ ys. piped line.entry (trace ys end.Done)) (elements window.from window.to (walk_in source.now).items) sink f.1 f.0)) }
+    ensures fed { IfOk result (λ r. IfSome r (λ f. IsWalked S.has_taken (λ ys. piped line.entry (trace ys end.Done))
+        (elements window.from window.to (walk_in source.now).items) sink f.1 f.0)) }
     ensures flow { IfOk result (λ r. IfSome r (λ f. S.flow f.0 ≡ flow_after (Ok f.1))) }
     ensures left { IfOk result (λ r. IfNone r ((xs : List item) → S.has_taken sink xs → IsDecided P.decides P.from)) }
     ensures refused { OnErr result S.takes_memory }
@@ -95,9 +98,12 @@ fn feed_stretches<S: LeavingSink>(
 ) -> Result<Fed, NoMemory>
     requires wants { S.flow sink.old ≡ Flow.More }
     requires ordered { IsNotAfter window.from window.to }
-    ensures fed { IfOk result (λ r. S.has_left sink.new ≡ false → IsWalked S.has_taken (λ ys. piped line.entry (trace ys end.Done)) (elements window.from window.to (walk_in source.now).items) sink.old r sink.new) }
+    ensures fed { IfOk result (λ r. S.has_left sink.new ≡ false
+        → IsWalked S.has_taken (λ ys. piped line.entry (trace ys end.Done))
+        (elements window.from window.to (walk_in source.now).items) sink.old r sink.new) }
     ensures flow { IfOk result (λ r. S.has_left sink.new ≡ false → S.flow sink.new ≡ flow_after (Ok r)) }
-    ensures left { IfOk result (λ r. (xs : List item) → S.has_taken sink.old xs → (ys : List item) × S.has_taken sink.new ys) }
+    ensures left { IfOk result (λ r. (xs : List item) → S.has_taken sink.old xs
+        → (ys : List item) × S.has_taken sink.new ys) }
     ensures refused { OnErr result S.takes_memory }
 {
     let end = end_of(source, window.to);

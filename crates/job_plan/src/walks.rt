@@ -23,7 +23,7 @@ use trace::NoMemory;
 pub enum SplitTree {
     /// The items in one piece.
     Leaf,
-    /// This number of items for the left tree, or all if there are fewer, and the others for the right one.
+    /// A tree for this number of items, or for all if there are fewer, and a tree for the items after them.
     Node(u64, Box<SplitTree>, Box<SplitTree>),
 }
 
@@ -123,7 +123,8 @@ fn walk_piece<'p>(
     registers: &mut Registers,
 ) -> Result<Part<'p>, NoMemory>
     requires ordered { IfSome window.to (λ last. window.from ≤ last) }
-    ensures { IfOk result (λ part. StandsFor (segment_in segment.now) walked.entry.env.now part (piece_of window.from window.to (walk_in walked.entry.source))) }
+    ensures { IfOk result (λ part. StandsFor (segment_in segment.now) walked.entry.env.now part
+        (piece_of window.from window.to (walk_in walked.entry.source))) }
 {
     let Window { from, to } = window;
     match tree {

@@ -9,7 +9,8 @@ ghost use Rattle.job_plan.specs.Parts.{end_in, plan_in, segment_in, segments_in}
 ghost use Rattle.prefix_walks.specs.Spans.{after};
 ghost use Rattle.job_meaning.specs.Walks.{source_walk};
 ghost use Rattle.job_plan.specs.Plans.{slice_in};
-ghost use Rattle.job_plan.specs.Windows.{closes, end_selected, end_selects, is_unasked, later_segments, selected_walk, selects, slice_selected, slice_selects, some_closes, windowed};
+ghost use Rattle.job_plan.specs.Windows.{closes, end_selected, end_selects, is_unasked, later_segments, selected_walk};
+ghost use Rattle.job_plan.specs.Windows.{selects, slice_selected, slice_selects, some_closes, windowed};
 
 use crate::ends::SegmentEnd;
 use crate::segment::{JobPlan, Segment};
@@ -19,7 +20,8 @@ use slice_ops::Slice;
 /// The positions of a window that a slice selects.
 fn sliced(window: Window, slice: &Slice) -> Window
     requires { slice_selects (slice_of slice.now) ≡ true }
-    ensures { (ss : List AbstractPlainSource) → slice_selected (slice_of slice.now) (windowed window.from window.to (source_walk ss))
+    ensures { (ss : List AbstractPlainSource)
+        → slice_selected (slice_of slice.now) (windowed window.from window.to (source_walk ss))
         ≡ windowed result.from result.to (source_walk ss) }
 {
     match slice {
@@ -32,7 +34,8 @@ fn sliced(window: Window, slice: &Slice) -> Window
 /// The positions of a window that the end of a segment selects.
 fn selected(window: Window, end: &SegmentEnd) -> Window
     requires { end_selects (end_in end.now) ≡ true }
-    ensures { (ss : List AbstractPlainSource) → end_selected (end_in end.now) (windowed window.from window.to (source_walk ss))
+    ensures { (ss : List AbstractPlainSource)
+        → end_selected (end_in end.now) (windowed window.from window.to (source_walk ss))
         ≡ windowed result.from result.to (source_walk ss) }
 {
     match end.slice() {
@@ -116,7 +119,8 @@ fn later_segments(segments: &[Segment]) -> &[Segment]
 
 /// The positions of a window that the first segments select.
 pub(crate) fn selected_window(segments: &[Segment], window: Window) -> Window
-    ensures { (ss : List AbstractPlainSource) → selected_walk (segments_in segments.now) (windowed window.from window.to (source_walk ss))
+    ensures { (ss : List AbstractPlainSource)
+        → selected_walk (segments_in segments.now) (windowed window.from window.to (source_walk ss))
         ≡ windowed result.from result.to (source_walk ss) }
 {
     let Some((segment, later)) = segments.split_first() else {
@@ -134,8 +138,8 @@ pub(crate) fn selected_window(segments: &[Segment], window: Window) -> Window
 
 impl<'c> JobPlan<'c> {
     /// The segments that are walked. The first ones that only select positions of the job's sources are left out;
-    /// `Source::of_selected` is what the first of the others goes over. All before the last `limit(0)` are left out too,
-    /// since nothing is walked for it.
+    /// `Source::of_selected` is what the first of the others goes over. All before the last `limit(0)` are left out
+    /// too, since nothing is walked for it.
     pub fn later_segments(&self) -> &[Segment]
         ensures { segments_in result.now ≡ later_segments (plan_in self.now).segments }
     {

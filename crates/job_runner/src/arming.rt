@@ -11,8 +11,7 @@ use crate::NoMemory;
 use crate::cut::{TableCounts, TableSeat};
 use crate::segments::JobSegments;
 use crate::start::{Start, Waiting};
-use completion_core::END;
-use pending_count::Node;
+use completion_core::{END, Node};
 use std::alloc::Global;
 use std::mem;
 
@@ -48,7 +47,8 @@ fn onward_of(alloc: Global, waiting: &[Waiting]) -> Result<Vec<Node>, NoMemory>
 
 /// Takes out those that wait for a job.
 fn take_waiting(alloc: Global, all: &mut Vec<Vec<Waiting>>, job: usize) -> Vec<Waiting>
-    ensures { (i : ℕ) → count i (all_waiting all.new.items) + count i (nodes_in result.items) ≡ count i (all_waiting all.old.items) }
+    ensures { (i : ℕ)
+        → count i (all_waiting all.new.items) + count i (nodes_in result.items) ≡ count i (all_waiting all.old.items) }
 {
     if job < all.len() {
         mem::replace(&mut all[job], Vec::new(alloc))
@@ -59,7 +59,8 @@ fn take_waiting(alloc: Global, all: &mut Vec<Vec<Waiting>>, job: usize) -> Vec<W
 
 /// Has a job wait for another one.
 fn wait_for(all: &mut Vec<Vec<Waiting>>, named: usize, job: Waiting) -> Result<(), NoMemory>
-    ensures { OnOk result ((i : ℕ) → count i (all_waiting all.new.items) ≤ count i (job.node ∷ []) + count i (all_waiting all.old.items)) }
+    ensures { OnOk result ((i : ℕ) → count i (all_waiting all.new.items) ≤ count i (job.node
+        ∷ []) + count i (all_waiting all.old.items)) }
 {
     if named < all.len() {
         all[named].push(job)?;
@@ -69,7 +70,8 @@ fn wait_for(all: &mut Vec<Vec<Waiting>>, named: usize, job: Waiting) -> Result<(
 
 /// Has a job wait for each of the jobs that it names.
 fn wait_for_all(all: &mut Vec<Vec<Waiting>>, names: &[usize], job: Waiting) -> Result<(), NoMemory>
-    ensures { OnOk result ((i : ℕ) → count i (all_waiting all.new.items) ≤ count i (copies (length names.now) job.node) + count i (all_waiting all.old.items)) }
+    ensures { OnOk result ((i : ℕ) → count i (all_waiting all.new.items) ≤ count i (copies (length names.now)
+        job.node) + count i (all_waiting all.old.items)) }
 {
     for named in names {
         wait_for(all, *named, job)?;
@@ -90,8 +92,10 @@ fn arm_one<S: JobSegments>(
     requires table { IsSeatOf counts.now seat }
     requires has { HasStarts (job + 1) armed.old.starts.items (all_waiting armed.old.waiting.items) (view_of seat) }
     ensures table { IfOk result (λ found. IfSome found (λ later. IsSeatOf counts.now later)) }
-    ensures count { IfOk result (λ found. IfSome found (λ _. length armed.new.starts.items ≡ length armed.old.starts.items + 1)) }
-    ensures has { IfOk result (λ found. IfSome found (λ later. HasStarts job armed.new.starts.items (all_waiting armed.new.waiting.items) (view_of later))) }
+    ensures count { IfOk result (λ found. IfSome found (λ _. length armed.new.starts.items
+        ≡ length armed.old.starts.items + 1)) }
+    ensures has { IfOk result (λ found. IfSome found
+        (λ later. HasStarts job armed.new.starts.items (all_waiting armed.new.waiting.items) (view_of later))) }
 {
     let names = jobs.names(alloc, job)?;
     let Ok(pending) = u32::try_from(names.len()) else {

@@ -40,8 +40,10 @@ impl<'a, S: JobSegments, R: RunBrand> JobWork<'a, S, TablePart<S>, TableKept<S>,
         spare: &mut Option<TableSpare<S, R>>,
     ) -> TableJobSeat<S, R>
         ensures job { result.job ≡ begun.job }
-        ensures paid { IfSome spare.old (λ s. (view_of result.seat).credit ≡ min ((view_of begun.seat).credit + min self.now.share (view_of s.seat).credit) (2 ^ 62)) }
-        ensures left { IfSome spare.old (λ s. IfSome spare.new (λ t. (view_of t.seat).credit ≡ (view_of s.seat).credit - min self.now.share (view_of s.seat).credit)) }
+        ensures paid { IfSome spare.old (λ s. (view_of result.seat).credit
+            ≡ min ((view_of begun.seat).credit + min self.now.share (view_of s.seat).credit) (2 ^ 62)) }
+        ensures left { IfSome spare.old (λ s. IfSome spare.new (λ t. (view_of t.seat).credit
+            ≡ (view_of s.seat).credit - min self.now.share (view_of s.seat).credit)) }
     {
         let Some(
             Spare {

@@ -26,9 +26,11 @@ impl CutPiece {
     /// A cut in the middle. If the two sides can't be equally long, the right one is one longer.
     pub(crate) fn halves(piece: Piece) -> CutPiece
         requires { piece.from + 1 < piece.to }
-        ensures of { (result.job ≡ piece.job) × (result.segment ≡ piece.segment) × (result.from ≡ piece.from) × (result.to ≡ piece.to) }
+        ensures of { (result.job ≡ piece.job) × (result.segment ≡ piece.segment) × (result.from ≡ piece.from)
+            × (result.to ≡ piece.to) }
         ensures within { (piece.from < result.middle) × (result.middle < piece.to) }
-        ensures middle { (result.middle - piece.from ≤ piece.to - result.middle) × (piece.to - result.middle ≤ result.middle - piece.from + 1) }
+        ensures middle { (result.middle - piece.from ≤ piece.to - result.middle)
+            × (piece.to - result.middle ≤ result.middle - piece.from + 1) }
     {
         let Piece {
             job,
@@ -58,7 +60,8 @@ pub(crate) fn is_left(place: &Place<CutPiece>) -> bool
 pub(crate) fn side_at(place: &Place<CutPiece>) -> Piece
     requires { place.now.side ≢ Whole }
     ensures of { (result.job ≡ place.now.tag.job) × (result.segment ≡ place.now.tag.segment) }
-    ensures positions { (result.from ≡ begins place.now.tag place.now.side) × (result.to ≡ ends_at place.now.tag place.now.side) }
+    ensures positions { (result.from ≡ begins place.now.tag place.now.side)
+        × (result.to ≡ ends_at place.now.tag place.now.side) }
 {
     let cut = place.tag;
     let (from, to) = if is_left(place) {
@@ -77,9 +80,9 @@ pub(crate) fn side_at(place: &Place<CutPiece>) -> Piece
 /// What comes of pieces that were merged.
 #[derive(Drop)]
 pub enum Merged<P, I> {
-    /// Their part.
+    /// The part that they were merged to.
     Part(P),
-    /// At the top of a tree whose pieces have a fault: what the job gives in its place.
+    /// At the top of a tree whose pieces have a fault: what the job gives instead of the fault.
     Caught(I),
 }
 
@@ -123,7 +126,8 @@ pub struct Join<S: JobSegments> {
     ghost within: { (cut.from < cut.middle) × (cut.middle < cut.to) },
     ghost side: { (p : _) → parent ≡ Some p → IsSideOf cut p },
     ghost top: { parent ≡ None → (cut.from ≡ 0) × (cut.to ≡ S.size_of cut.job cut.segment) },
-    ghost caught: { parent ≡ None → IsInstead S.faults_with S.size_of S.is_instead cut.job instead } by { one_instead S.faults_with S.size_of S.is_instead S.one_instead cut.job instead (parent ≡ None) },
+    ghost caught: { parent ≡ None → IsInstead S.faults_with S.size_of S.is_instead cut.job instead } by { one_instead
+        S.faults_with S.size_of S.is_instead S.one_instead cut.job instead (parent ≡ None) },
 }
 
 impl<S: JobSegments> Continuation<SegmentPart<S>> for Join<S> {
@@ -131,9 +135,11 @@ impl<S: JobSegments> Continuation<SegmentPart<S>> for Join<S> {
 
     ghost goes_to = { λ c. c.parent };
 
-    ghost leads = { λ c p e v h. stands_moved S.stands_for S.is_instead S.size_of (λ x. x.found) v (c.side p e).0 (c.side p e).1 h };
+    ghost leads = { λ c p e v h.
+        stands_moved S.stands_for S.is_instead S.size_of (λ x. x.found) v (c.side p e).0 (c.side p e).1 h };
 
-    ghost ends = { λ c e v h. stands_whole S.stands_for S.is_instead S.size_of (λ x. x.found) v c.cut.job c.cut.segment (c.top e).0 (c.top e).1 h };
+    ghost ends = { λ c e v h. stands_whole S.stands_for S.is_instead S.size_of
+        (λ x. x.found) v c.cut.job c.cut.segment (c.top e).0 (c.top e).1 h };
 
     fn tag(&self) -> CutPiece {
         self.cut

@@ -24,7 +24,7 @@ pub struct Earlier<'a, S: JobSegments> {
 }
 
 impl<'a, S: JobSegments> Earlier<'a, S> {
-    /// Those in these places.
+    /// The answers that these places have.
     pub(crate) fn in_places(places: &'a [JobPlaces<S>]) -> Earlier<'a, S> {
         Earlier {
             places,
@@ -32,7 +32,7 @@ impl<'a, S: JobSegments> Earlier<'a, S> {
         }
     }
 
-    /// These ones, of the first jobs.
+    /// These answers, which the first jobs have.
     pub(crate) fn listed(answers: &'a [S::Answer]) -> Earlier<'a, S>
         requires { AreAnswers S.is_answer 0 answers.now }
     {

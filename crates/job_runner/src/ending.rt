@@ -152,8 +152,10 @@ impl<'a, S: JobSegments, R: RunBrand> JobWork<'a, S, TablePart<S>, TableKept<S>,
         spawn: &mut P,
         tools: &mut TableTools<'_, S, R>,
     ) -> Result<Option<TableFinishedSegment<S, R>>, TableJobSeat<S, R>>
-        requires { StandsWhole S.stands_for S.is_instead S.size_of whole.job.job whole.segment (λ x. x.found) whole.part }
-        ensures { IfOk result (λ next. IfSome next (λ whole. StandsWhole S.stands_for S.is_instead S.size_of whole.job.job whole.segment (λ x. x.found) whole.part)) }
+        requires { StandsWhole S.stands_for S.is_instead S.size_of whole.job.job whole.segment
+            (λ x. x.found) whole.part }
+        ensures { IfOk result (λ next. IfSome next (λ whole.
+            StandsWhole S.stands_for S.is_instead S.size_of whole.job.job whole.segment (λ x. x.found) whole.part)) }
     {
         let FinishedSegment { job, segment, part } = whole;
         match self.leave(gate, job.job, segment, part, &mut tools.scratch) {
@@ -162,8 +164,8 @@ impl<'a, S: JobSegments, R: RunBrand> JobWork<'a, S, TablePart<S>, TableKept<S>,
         }
     }
 
-    /// Ends one segment after the other, while this worker has the last part of one. Each is a later one of the same job. `Some` if the
-    /// job is over.
+    /// Ends one segment after the other, while this worker has the last part of one. Each is a later one of the same
+    /// job. `Some` if the job is over.
     fn go_on<G: Gate, P: Spawn<TableTask<S, R>>>(
         &self,
         gate: &G,
@@ -171,7 +173,8 @@ impl<'a, S: JobSegments, R: RunBrand> JobWork<'a, S, TablePart<S>, TableKept<S>,
         spawn: &mut P,
         tools: &mut TableTools<'_, S, R>,
     ) -> Option<TableJobSeat<S, R>>
-        requires { IfSome first (λ whole. StandsWhole S.stands_for S.is_instead S.size_of whole.job.job whole.segment (λ x. x.found) whole.part) }
+        requires { IfSome first (λ whole. StandsWhole S.stands_for S.is_instead S.size_of whole.job.job whole.segment
+            (λ x. x.found) whole.part) }
     {
         let mut left = first;
         for _ in 0..u64::MAX {

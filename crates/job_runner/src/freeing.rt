@@ -19,7 +19,8 @@ impl<'a, S: JobSegments, R: RunBrand> JobWork<'a, S, TablePart<S>, TableKept<S>,
     ) -> (TableSeat<S>, Option<TableJobSeat<S, R>>)
         requires has { HasKept R.table R.jobs R.start R.keeps (waiting.node ∷ []) seat }
         requires parts { 0 < parts }
-        ensures { (left : List ℕ) → HasKept R.table R.jobs R.start R.keeps (waiting.node ∷ left) seat → HasKept R.table R.jobs R.start R.keeps left result.0 }
+        ensures { (left : List ℕ) → HasKept R.table R.jobs R.start R.keeps (waiting.node ∷ left) seat
+            → HasKept R.table R.jobs R.start R.keeps left result.0 }
     {
         let share = seat.credit() / parts;
         if waiting.job >= self.starts.len() || self.start(waiting.job).node != waiting.node {

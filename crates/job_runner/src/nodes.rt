@@ -5,8 +5,9 @@ ghost use Rattle.run_settings.specs.SettingsParts.{nodes_of, threshold_of};
 use crate::segments::JobSegments;
 use run_settings::Settings;
 
-/// How many pieces a segment is cut into for each worker, if its positions, the threshold and the nodes are enough. While the last
-/// pieces are walked some workers have nothing left, so there are many; each costs a node, so there aren't more.
+/// How many pieces a segment is cut into for each worker, if its positions, the threshold and the nodes are enough.
+/// While the last pieces are walked some workers have nothing left, so there are many; each costs a node, so there
+/// aren't more.
 const PIECES_FOR_WORKER: u64 = 64;
 
 /// The most pieces that a segment is cut into before some of them are cut once more, since halves differ in length.
@@ -108,9 +109,9 @@ fn cuts_of_segments<S: JobSegments>(jobs: &S, settings: Settings, from: usize) -
     cuts
 }
 
-/// The most positions of a piece that isn't cut: the threshold, or more if there are too few nodes for pieces as short as that: an even
-/// share of all positions, doubled until there are nodes for all cuts, as long as something is cut. So no piece is left long because
-/// others were cut small before it, and the last of many jobs is cut as the first one is.
+/// The most positions of a piece that isn't cut: the threshold, or more if there are too few nodes for pieces as short
+/// as that: an even share of all positions, doubled until there are nodes for all cuts, as long as something is cut. So
+/// no piece is left long because others were cut small before it, and the last of many jobs is cut as the first one is.
 pub(crate) fn most_positions<S: JobSegments>(jobs: &S, settings: Settings) -> u64
     ensures some { 0 < result }
     ensures threshold { threshold_of settings ≤ result }
@@ -129,9 +130,9 @@ pub(crate) fn most_positions<S: JobSegments>(jobs: &S, settings: Settings) -> u6
     longest
 }
 
-/// One start node for each job, and no more nodes for cuts than the settings allow and the jobs can use, if pieces longer than
-/// `longest` are cut; 2^32 - 1 at most. A later segment may have more positions than the first one, as `flatMap` makes them, and how
-/// many isn't known before it begins.
+/// One start node for each job, and no more nodes for cuts than the settings allow and the jobs can use, if pieces
+/// longer than `longest` are cut; 2^32 - 1 at most. A later segment may have more positions than the first one, as
+/// `flatMap` makes them, and how many isn't known before it begins.
 pub(crate) fn node_count<S: JobSegments>(jobs: &S, settings: Settings, longest: u64) -> u32
     ensures starts { min S.job_count (2 ^ 32 - 1) ≤ result }
     ensures few { result ≤ S.job_count + nodes_of settings }

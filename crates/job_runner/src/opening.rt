@@ -28,7 +28,8 @@ use run_settings::Settings;
 use std::alloc::Global;
 use std::marker::PhantomData;
 
-/// The counts of a run that hasn't begun, the start nodes of its jobs, and the seat that has an arrival at each of them.
+/// The counts of a run that hasn't begun, the start nodes of its jobs, and the seat that has an arrival at each of
+/// them.
 #[derive(Drop)]
 pub struct FreshCounts<S: JobSegments, V, K: Fits<V, Tag = CutPiece>> {
     pub(crate) counts: Counts<V, K>,
@@ -48,7 +49,8 @@ pub struct FreshCounts<S: JobSegments, V, K: Fits<V, Tag = CutPiece>> {
 pub type TableFreshCounts<S> = FreshCounts<S, TablePart<S>, TableKept<S>>;
 
 impl<S: JobSegments> FreshCounts<S, TablePart<S>, TableKept<S>> {
-    /// Makes the counts of a run, and no more nodes than its jobs can use. `None` if there can't be a node for each job.
+    /// Makes the counts of a run, and no more nodes than its jobs can use. `None` if there can't be a node for each
+    /// job.
     pub fn new(
         alloc: Global,
         jobs: &S,

@@ -61,7 +61,8 @@ fn left_out<S: JobSegments, R: RunBrand>(
     piece: Piece,
 ) -> Result<S::Part, NoMemory>
     requires piece { IsPiece S.job_count S.last_of S.size_of piece.job piece.segment piece.from piece.to }
-    requires decided { (c : ℕ) × (c ≤ piece.from) × Decides (S.gives piece.job piece.segment) (S.goes_over piece.job piece.segment) c }
+    requires decided { (c : ℕ) × (c ≤ piece.from)
+        × Decides (S.gives piece.job piece.segment) (S.goes_over piece.job piece.segment) c }
     ensures { IfOk result (λ part. S.stands_for piece.job piece.segment piece.from piece.to part) }
 {
     match kept_given(&work.places, piece.job) {

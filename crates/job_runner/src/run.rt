@@ -116,10 +116,12 @@ where
     S::Instead: Send,
     S::Scratch: Send,
     requires count { length opened.starts.items ≡ S.job_count }
-    requires started { (j : ℕ) → (R.start j ≡ node_at opened.starts.items (R.jobs - 1 - j)) × (R.keeps j ≡ kept_at opened.starts.items (R.jobs - 1 - j)) }
+    requires started { (j : ℕ) → (R.start j ≡ node_at opened.starts.items (R.jobs - 1 - j))
+        × (R.keeps j ≡ kept_at opened.starts.items (R.jobs - 1 - j)) }
     requires table { table_id_of opened.counts ≡ R.table }
     requires stops { stop_id_of opened.stops ≡ R.stops }
-    requires planned { (R.jobs ≡ S.job_count) × ((j : ℕ) → R.last j ≡ S.last_of j) × ((j k : ℕ) → R.size j k ≡ S.size_of j k) }
+    requires planned { (R.jobs ≡ S.job_count) × ((j : ℕ) → R.last j ≡ S.last_of j)
+        × ((j k : ℕ) → R.size j k ≡ S.size_of j k) }
 {
     let (work, tasks, idles) = TableWork::<S, R>::new(alloc, jobs, settings, opened)?;
     run_tasks(rt, alloc, gate, &work, tasks, idles);

@@ -17,9 +17,9 @@ use trace::Fault;
 /// What is known of a job before it is walked.
 #[derive(Drop)]
 pub enum Begun<G, A> {
-    /// Its segments are to be walked, with this of the answers that it names.
+    /// The segments are to be walked, with what the job takes of the answers that it names.
     Walk(G),
-    /// Its answer: there is nothing to walk.
+    /// The answer of the job: there is nothing to walk.
     Known(A),
 }
 
@@ -98,7 +98,8 @@ pub trait JobSegments {
     ghost one_given: { (job : ℕ) (given : Self.Given) → IsProp (is_given job given) };
 
     // A fault among some positions is one among more of them.
-    ghost faults_among: { (job segment from to : ℕ) (fault : Fault) (a b : ℕ) → a ≤ from → to ≤ b → faults_with job segment from to fault → faults_with job segment a b fault };
+    ghost faults_among: { (job segment from to : ℕ) (fault : Fault) (a b : ℕ) → a ≤ from → to ≤ b
+        → faults_with job segment from to fault → faults_with job segment a b fault };
 
     /// How many jobs there are.
     fn jobs(&self) -> usize
@@ -156,7 +157,8 @@ pub trait JobSegments {
     fn left_out(&self, alloc: Global, piece: Piece, given: &Self::Given) -> Self::Part
         requires given { is_given piece.job given.now }
         requires piece { IsPiece job_count last_of size_of piece.job piece.segment piece.from piece.to }
-        requires decided { (c : ℕ) × (c ≤ piece.from) × Decides (gives piece.job piece.segment) (goes_over piece.job piece.segment) c }
+        requires decided { (c : ℕ) × (c ≤ piece.from)
+            × Decides (gives piece.job piece.segment) (goes_over piece.job piece.segment) c }
         ensures { stands_for piece.job piece.segment piece.from piece.to result };
 
     /// Whether nothing after a piece with this part matters.
@@ -165,7 +167,8 @@ pub trait JobSegments {
         requires segment { piece.segment ≤ last_of piece.job }
         requires within { (piece.from ≤ piece.to) × (piece.to < size_of piece.job piece.segment) }
         requires part { stands_for piece.job piece.segment piece.from piece.to part.now }
-        ensures { result ≡ true → Decides (gives piece.job piece.segment) (goes_over piece.job piece.segment) piece.to };
+        ensures { result ≡ true
+            → Decides (gives piece.job piece.segment) (goes_over piece.job piece.segment) piece.to };
 
     /// Whether nothing after positions with this fault matters.
     fn is_settled_by(&self, piece: Piece, fault: Fault) -> bool
@@ -173,7 +176,8 @@ pub trait JobSegments {
         requires segment { piece.segment ≤ last_of piece.job }
         requires within { piece.to < size_of piece.job piece.segment }
         requires fault { faults_with piece.job piece.segment piece.from piece.to fault }
-        ensures { result ≡ true → Decides (gives piece.job piece.segment) (goes_over piece.job piece.segment) piece.to };
+        ensures { result ≡ true
+            → Decides (gives piece.job piece.segment) (goes_over piece.job piece.segment) piece.to };
 
     /// The fault that ends a piece, if the job gives another answer after a fault.
     fn fault(&self, piece: Piece, given: &Self::Given, part: &Self::Part) -> Option<Fault>
@@ -203,7 +207,8 @@ pub trait JobSegments {
         scratch: &mut Self::Scratch,
         stop: &mut W,
     ) -> Result<Self::Part, NoMemory>
-        requires stop { (c : ℕ) → W.decides stop.old c → Decides (gives piece.job piece.segment) (goes_over piece.job piece.segment) c }
+        requires stop { (c : ℕ) → W.decides stop.old c
+            → Decides (gives piece.job piece.segment) (goes_over piece.job piece.segment) c }
         requires piece { IsPiece job_count last_of size_of piece.job piece.segment piece.from piece.to }
         requires source { is_source piece.job piece.segment input.source.now }
         requires given { is_given piece.job input.given.now }

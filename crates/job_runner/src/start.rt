@@ -2,7 +2,7 @@
 ghost use Rattle.std.specs.Prelude.{◌≡◌, ◌++◌, ◌∷◌, []};
 ghost use Rattle.job_runner.specs.Waits.{nodes_in};
 
-use pending_count::Node;
+use completion_core::Node;
 
 /// A job that waits for another one, and its start node.
 #[derive(Clone, Copy)]

@@ -69,7 +69,8 @@ pub struct SideTask<V, K: Fits<V, Tag = CutPiece>, R: RunBrand> {
     ghost can: { CanFork R.table half.place half.seat },
     ghost top: { KnowsTop (R.keeps half.place.tag.job) half.place.root (view_of half.seat) },
     ghost knows: { KnowsStarts R.jobs R.start R.keeps (view_of half.seat) },
-    ghost piece: { IsPiece R.jobs R.last R.size half.place.tag.job half.place.tag.segment (begins half.place.tag half.place.side) (ends_at half.place.tag half.place.side) },
+    ghost piece: { IsPiece R.jobs R.last R.size half.place.tag.job half.place.tag.segment
+        (begins half.place.tag half.place.side) (ends_at half.place.tag half.place.side) },
 }
 
 /// What a worker takes.

@@ -30,8 +30,10 @@ fn fault_of<S: JobSegments, R: RunBrand>(
 ) -> Result<Option<Fault>, NoMemory>
     requires piece { IsPiece S.job_count S.last_of S.size_of piece.job piece.segment piece.from piece.to }
     requires part { S.stands_for piece.job piece.segment piece.from piece.to part.now }
-    ensures among { IfOk result (λ found. IfSome found (λ fault. S.faults_with piece.job piece.segment piece.from piece.to fault)) }
-    ensures caught { IfOk result (λ found. (fault : Fault) → S.is_caught piece.job piece.segment part.now fault → found ≡ Some fault) }
+    ensures among { IfOk result (λ found. IfSome found
+        (λ fault. S.faults_with piece.job piece.segment piece.from piece.to fault)) }
+    ensures caught { IfOk result (λ found. (fault : Fault) → S.is_caught piece.job piece.segment part.now fault
+        → found ≡ Some fault) }
 {
     match kept_given(&work.places, piece.job) {
         Some(given) => Ok(work.jobs.fault(piece, given, part)),
@@ -48,8 +50,10 @@ fn handed<S: JobSegments, R: RunBrand, G: Gate>(
     tools: &mut TableTools<'_, S, R>,
 ) -> TablePart<S>
     requires piece { IsPiece S.job_count S.last_of S.size_of piece.job piece.segment piece.from piece.to }
-    ensures handed { HandedIn S.stands_for S.faults_with (λ x. x.found) piece.job piece.segment piece.from piece.to result }
-    ensures caught { IfOk result (λ x. IfMerged (λ part. (fault : Fault) → S.is_caught piece.job piece.segment part fault → ⊥) (λ answer. ⊥) x.found) }
+    ensures handed { HandedIn S.stands_for S.faults_with
+        (λ x. x.found) piece.job piece.segment piece.from piece.to result }
+    ensures caught { IfOk result (λ x.
+        IfMerged (λ part. (fault : Fault) → S.is_caught piece.job piece.segment part fault → ⊥) (λ answer. ⊥) x.found) }
 {
     let Ok(part) = part_of(work, gate, piece, tools) else {
         return Err(Failure::NoMemory);
@@ -69,7 +73,8 @@ fn leaf<S: JobSegments, R: RunBrand, G: Gate>(
     side: TableSideTask<S, R>,
     tools: &mut TableTools<'_, S, R>,
 ) -> Option<TableFinishedSegment<S, R>>
-    ensures { IfSome result (λ whole. StandsWhole S.stands_for S.is_instead S.size_of whole.job.job whole.segment (λ x. x.found) whole.part) }
+    ensures { IfSome result (λ whole. StandsWhole S.stands_for S.is_instead S.size_of whole.job.job whole.segment
+        (λ x. x.found) whole.part) }
 {
     let SideTask { half, of: _ } = side;
     let Half { seat, place } = half;
@@ -100,8 +105,8 @@ fn is_left_out<S: JobSegments, R: RunBrand>(watch: &mut Watch<'_, S, R>, piece: 
     watch.seen() <= piece.from
 }
 
-/// The most positions of a piece of a segment that isn't cut. A segment that turns out longer than it was counted with isn't cut into
-/// more pieces than others, so that no worker spends all nodes on its beginning.
+/// The most positions of a piece of a segment that isn't cut. A segment that turns out longer than it was counted with
+/// isn't cut into more pieces than others, so that no worker spends all nodes on its beginning.
 fn longest_of<S: JobSegments, R: RunBrand>(
     work: &TableWork<S, R>,
     job: usize,
@@ -123,8 +128,10 @@ impl<'a, S: JobSegments, R: RunBrand> JobWork<'a, S, TablePart<S>, TableKept<S>,
         &self,
         side: TableSideTask<S, R>,
     ) -> Result<(TableSideTask<S, R>, TableSideTask<S, R>), TableSideTask<S, R>>
-        requires long { begins side.half.place.tag side.half.place.side + 1 < ends_at side.half.place.tag side.half.place.side }
-        ensures shorter { IfOk result (λ cut. (positions_at cut.0.half.place < positions_at side.half.place) × (positions_at cut.1.half.place < positions_at side.half.place)) }
+        requires long { begins side.half.place.tag side.half.place.side + 1
+            < ends_at side.half.place.tag side.half.place.side }
+        ensures shorter { IfOk result (λ cut. (positions_at cut.0.half.place < positions_at side.half.place)
+            × (positions_at cut.1.half.place < positions_at side.half.place)) }
     {
         let SideTask { half, of: _ } = side;
         let piece = side_at(&half.place);
@@ -158,8 +165,8 @@ impl<'a, S: JobSegments, R: RunBrand> JobWork<'a, S, TablePart<S>, TableKept<S>,
         }
     }
 
-    /// Walks one side of a cut. While it has more positions than `longest_of` says and a node can be claimed, it is cut in two, and the
-    /// right side goes to the pool. `Some` is the whole segment, if this was its last part.
+    /// Walks one side of a cut. While it has more positions than `longest_of` says and a node can be claimed, it is cut
+    /// in two, and the right side goes to the pool. `Some` is the whole segment, if this was its last part.
     #[cycle(walk)]
     #[tactic(auto, using(crate::proofs::SameRun::as_planned))]
     pub(crate) fn walk<G: Gate, P: Spawn<TableTask<S, R>>>(
@@ -169,7 +176,8 @@ impl<'a, S: JobSegments, R: RunBrand> JobWork<'a, S, TablePart<S>, TableKept<S>,
         spawn: &mut P,
         tools: &mut TableTools<'_, S, R>,
     ) -> Option<TableFinishedSegment<S, R>>
-        ensures { IfSome result (λ whole. StandsWhole S.stands_for S.is_instead S.size_of whole.job.job whole.segment (λ x. x.found) whole.part) }
+        ensures { IfSome result (λ whole. StandsWhole S.stands_for S.is_instead S.size_of whole.job.job whole.segment
+            (λ x. x.found) whole.part) }
     {
         let piece = side_at(&side.half.place);
         let longest = longest_of(self, piece.job, piece.segment);
@@ -192,7 +200,8 @@ impl<'a, S: JobSegments, R: RunBrand> JobWork<'a, S, TablePart<S>, TableKept<S>,
         spawn: &mut P,
         tools: &mut TableTools<'_, S, R>,
     ) -> Option<TableFinishedSegment<S, R>>
-        ensures { IfSome result (λ whole. StandsWhole S.stands_for S.is_instead S.size_of whole.job.job whole.segment (λ x. x.found) whole.part) }
+        ensures { IfSome result (λ whole. StandsWhole S.stands_for S.is_instead S.size_of whole.job.job whole.segment
+            (λ x. x.found) whole.part) }
     {
         let pushed = spawn.push(Task::Walk(other));
         let first = self.walk(gate, own, spawn, tools);
@@ -228,7 +237,8 @@ fn walk_whole<S: JobSegments, R: RunBrand, G: Gate>(
 }
 
 impl<'a, S: JobSegments, R: RunBrand> JobWork<'a, S, TablePart<S>, TableKept<S>, R> {
-    /// Cuts a segment in two, at the top of its tree, if a node can be claimed. If not, the right to end the job comes back.
+    /// Cuts a segment in two, at the top of its tree, if a node can be claimed. If not, the right to end the job comes
+    /// back.
     #[tactic(auto, using(crate::proofs::SeatLemmas::can_keep, crate::proofs::SameRun::as_planned))]
     fn cut_segment(
         &self,
@@ -269,7 +279,8 @@ impl<'a, S: JobSegments, R: RunBrand> JobWork<'a, S, TablePart<S>, TableKept<S>,
         }
     }
 
-    /// Begins the tree of a segment, for which this worker pays. `Some` is the whole segment, if no part of it is left to others.
+    /// Begins the tree of a segment, for which this worker pays. `Some` is the whole segment, if no part of it is left
+    /// to others.
     pub(crate) fn begin<G: Gate, P: Spawn<TableTask<S, R>>>(
         &self,
         gate: &G,
@@ -281,7 +292,8 @@ impl<'a, S: JobSegments, R: RunBrand> JobWork<'a, S, TablePart<S>, TableKept<S>,
     ) -> Option<TableFinishedSegment<S, R>>
         requires known { segment ≤ R.last begun.job }
         requires size { size ≡ R.size begun.job segment }
-        ensures { IfSome result (λ whole. StandsWhole S.stands_for S.is_instead S.size_of whole.job.job whole.segment (λ x. x.found) whole.part) }
+        ensures { IfSome result (λ whole. StandsWhole S.stands_for S.is_instead S.size_of whole.job.job whole.segment
+            (λ x. x.found) whole.part) }
     {
         if size <= self.threshold || !self.jobs.is_divided(begun.job, segment) {
             return Some(walk_whole(self, gate, begun, segment, size, tools));

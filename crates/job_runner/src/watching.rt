@@ -28,7 +28,8 @@ impl<S: JobSegments, R: RunBrand> Watch<'_, S, R> {
 
     /// A place that decides what the segment gives; the greatest u64 if none is known. One load.
     pub(crate) fn seen(&mut self) -> u64
-        ensures decisive { IsDecisive (S.gives self.old.job self.old.segment) (S.goes_over self.old.job self.old.segment) result }
+        ensures decisive { IsDecisive (S.gives self.old.job self.old.segment)
+            (S.goes_over self.old.job self.old.segment) result }
         ensures same { (self.new.job ≡ self.old.job) × (self.new.segment ≡ self.old.segment) }
     {
         if self.word < self.stops.segments() {
@@ -40,7 +41,8 @@ impl<S: JobSegments, R: RunBrand> Watch<'_, S, R> {
 
     /// Lowers the word of the segment to a place that decides what it gives. One `fetch_min`.
     pub(crate) fn lower(&mut self, place: u64)
-        requires decisive { Decides (S.gives self.old.job self.old.segment) (S.goes_over self.old.job self.old.segment) place }
+        requires decisive { Decides (S.gives self.old.job self.old.segment)
+            (S.goes_over self.old.job self.old.segment) place }
     {
         if self.word < self.stops.segments() {
             self.stops.lower_with(&mut self.seat, self.word, place);

@@ -45,9 +45,11 @@ pub struct JobWork<'a, S: JobSegments, V, K: Fits<V, Tag = CutPiece>, R: RunBran
     pub(crate) stops: RunStops<S>,
     pub(crate) of: PhantomData<R>,
     ghost table: { table_id_of counts ≡ R.table },
-    ghost planned: { (R.jobs ≡ S.job_count) × ((j : ℕ) → R.last j ≡ S.last_of j) × ((j k : ℕ) → R.size j k ≡ S.size_of j k) },
+    ghost planned: { (R.jobs ≡ S.job_count) × ((j : ℕ) → R.last j ≡ S.last_of j)
+        × ((j k : ℕ) → R.size j k ≡ S.size_of j k) },
     ghost count: { length starts.items ≡ R.jobs },
-    ghost started: { (j : ℕ) → (R.start j ≡ node_at starts.items (R.jobs - 1 - j)) × (R.keeps j ≡ kept_at starts.items (R.jobs - 1 - j)) },
+    ghost started: { (j : ℕ) → (R.start j ≡ node_at starts.items (R.jobs - 1 - j))
+        × (R.keeps j ≡ kept_at starts.items (R.jobs - 1 - j)) },
     ghost splits: { 0 < threshold },
     ghost stopping: { stop_id_of stops ≡ R.stops },
     ghost counted: { count_of stops ≡ (segments_of stops).count },
@@ -72,10 +74,12 @@ impl<'a, S: JobSegments, R: RunBrand> JobWork<'a, S, TablePart<S>, TableKept<S>,
         NoMemory,
     >
         requires count { length opened.starts.items ≡ S.job_count }
-        requires started { (j : ℕ) → (R.start j ≡ node_at opened.starts.items (R.jobs - 1 - j)) × (R.keeps j ≡ kept_at opened.starts.items (R.jobs - 1 - j)) }
+        requires started { (j : ℕ) → (R.start j ≡ node_at opened.starts.items (R.jobs - 1 - j))
+            × (R.keeps j ≡ kept_at opened.starts.items (R.jobs - 1 - j)) }
         requires table { table_id_of opened.counts ≡ R.table }
         requires stops { stop_id_of opened.stops ≡ R.stops }
-        requires planned { (R.jobs ≡ S.job_count) × ((j : ℕ) → R.last j ≡ S.last_of j) × ((j k : ℕ) → R.size j k ≡ S.size_of j k) }
+        requires planned { (R.jobs ≡ S.job_count) × ((j : ℕ) → R.last j ≡ S.last_of j)
+            × ((j k : ℕ) → R.size j k ≡ S.size_of j k) }
         ensures tasks { IfOk result (λ made. length made.1.items ≤ S.job_count) }
         ensures idles { IfOk result (λ made. length made.2.items ≡ workers_of settings) }
     {

@@ -1,12 +1,12 @@
 -- A piece that ends in a fault: what the whole segment gives, and what the job answers.
-use Rattle.std.proofs.Common.{◌≡◌, ◌≢◌, ℕ, ℤ, ◌+◌, ◌-◌, ◌<◌, ◌≤◌, ◌==◌, Bool, true, false, List, length, take, drop, Option, Some, None, IfSome, slice_get, option_map, if◌then◌else◌, ap, sym, subst, refl, ◌∙◌, le_refl, arith}
+use Rattle.std.proofs.Common.{◌≡◌, ◌≢◌, ℕ, ◌+◌, ◌-◌, ◌<◌, ◌≤◌, ◌==◌, Bool, true, false, List, length, drop, Option, Some, None, IfSome, slice_get, option_map, if◌then◌else◌, ap, sym, subst, refl, ◌∙◌, le_refl, arith}
 use Rattle.std.proofs.lemmas.List.{length-take}
 use Rattle.lambda_values.specs.Earlier.{Numbers}
 use Rattle.trace.specs.declared.item.Fault.{Fault}
 use Rattle.trace.specs.declared.item.Item.{Item}
 use Rattle.trace.specs.declared.item.End.{End}
 use Rattle.trace.specs.declared.item.End.TheVariants as end
-use Rattle.trace.specs.Trace.{Trace, trace, append, nothing, then_on}
+use Rattle.trace.specs.Trace.{Trace, append, nothing, then_on}
 use Rattle.trace.proofs.JoinLemmas.{append_faulted, append_nothing, pipe_append}
 use Rattle.early_stop.specs.Decisive.{Decides}
 use Rattle.early_stop.specs.Leaving.{IsEnough}
@@ -14,7 +14,6 @@ use Rattle.early_stop.proofs.Leaving.{enough_gives, enough_joined, enough_walked
 use Rattle.early_stop.proofs.Settling.{later_decides}
 use Rattle.job_meaning.specs.declared.answer.Answer.{Answer}
 use Rattle.job_meaning.specs.declared.answer.Answer.TheVariants as answer
-use Rattle.job_plan.specs.declared.outcome.Outcome.{Outcome}
 use Rattle.job_plan.specs.declared.outcome.Outcome.TheVariants as outcome
 use Rattle.job_plan.specs.declared.fallback.Fallback.{Fallback}
 use Rattle.job_plan.specs.declared.fold_part.FoldPart.{FoldPart}
@@ -22,20 +21,20 @@ use Rattle.job_plan.specs.declared.part.Part.{Part}
 use Rattle.job_plan.specs.declared.part.Part.TheVariants as part
 use Rattle.job_plan.specs.Parts.{EndsFor, StandsEnough, fallback_in, is_fault}
 use Rattle.job_plan.specs.FoldFaults.{end_fault, fold_fault}
-use Rattle.job_plan.specs.Links.{walked_segments}
+use Rattle.job_plan.specs.Links.{AbstractLeg, legs_answer, plan_legs}
 use Rattle.prefix_walks.specs.Pieces.{piece_of}
 use Rattle.job_plan.specs.PlannedAnswers.{first_unusable_at, put_into}
 use Rattle.prefix_walks.specs.Batches.{counted_as}
-use Rattle.job_plan.specs.Plans.{AbstractEnd, slicing, folding, finding, collecting, exactly, scanning, AbstractPlan, AbstractSegment, ended, folded, last_stage, outcome_of, walk_of, segments_answer}
+use Rattle.job_plan.specs.Plans.{AbstractEnd, slicing, folding, finding, collecting, exactly, scanning, AbstractPlan, AbstractSegment, ended, folded, last_stage, outcome_of, walk_of}
 use Rattle.job_meaning.specs.Walks.{instead_of_fault, unless_fault}
 use Rattle.prefix_walks.proofs.Elements.{length_dropped}
 use Rattle.prefix_walks.proofs.SideBySide.{pieces_joined, whole_piece}
 use Rattle.job_table.specs.Caught.{FaultAmong, IsCaught}
 use Rattle.job_runner.specs.Cuts.{IsInstead}
-use Rattle.job_table.specs.PlanSegments.{AbstractChain, PartStands, answer_of, answers_before, chain_at, gives_at, given_by, piece_between, plan_at, size_at, slices_first, upto, walk_at}
+use Rattle.job_table.specs.PlanSegments.{AbstractChain, PartStands, answer_of, answers_before, chain_at, gives_at, piece_between, plan_at, size_at, prefixes_first, source_at, walk_at}
 use Rattle.job_table.proofs.PlanAnswers.{answer_at, answer_there, given_answer}
-use Rattle.job_table.proofs.PlanParts.{chain_answer, part_decides, size_within}
-use Rattle.job_table.proofs.PlanSources.{same_segments}
+use Rattle.job_table.proofs.PlanParts.{chain_answer, part_decides, size_within, there_walk}
+use Rattle.job_table.proofs.PlanSources.{legs_there}
 use Rattle.job_table.proofs.PlannedAnswers.{walked_answer}
 
 -- the fold that ended in a fault
@@ -118,9 +117,9 @@ whole_of decides w size from to t h low enough =
     (subst (λ (n : ℕ). IsEnough decides n (piece_of from None w) (append t rest)) (sym (left_long w from low)) right))
 
 -- so the segment gives a fault
-pub segment_faults : (chain : AbstractChain) (segment from to : ℕ) (p : FoldPart) (f : Fault) (s : AbstractSegment) → slice_get chain.segments segment ≡ Some s → from ≤ to → to ≤ size_at chain segment → PartStands chain segment from to (part.Fold p) → p.partial.end ≡ end.Fault f
-    → (g : Fault) × (outcome_of s chain.numbers (walk_at chain segment) ≡ outcome.Answer (answer.Fault g))
-segment_faults chain segment from to p f s there h within stands faulted = by (subst (λ (o : Option AbstractSegment). IfSome o Is) there stands)
+pub segment_faults : (chain : AbstractChain) (segment from to : ℕ) (p : FoldPart) (f : Fault) (l : AbstractLeg) → slice_get chain.legs segment ≡ Some l → from ≤ to → to ≤ size_at chain segment → PartStands chain segment from to (part.Fold p) → p.partial.end ≡ end.Fault f
+    → (g : Fault) × (outcome_of l.last chain.numbers (walk_at chain segment) ≡ outcome.Answer (answer.Fault g))
+segment_faults chain segment from to p f l there h within stands faulted = by (subst (λ (o : Option AbstractLeg). IfSome o (λ l. Is l.last)) there stands)
   where
     w : Trace
     w = walk_at chain segment
@@ -128,16 +127,16 @@ segment_faults chain segment from to p f s there h within stands faulted = by (s
     Is : AbstractSegment → Type 0
     Is r = StandsEnough (Decides (outcome_of r chain.numbers) (walk_at chain segment)) r chain.numbers (part.Fold p) from (piece_between (size_at chain segment) from to (walk_at chain segment))
 
-    by : Is s → (g : Fault) × (outcome_of s chain.numbers (walk_at chain segment) ≡ outcome.Answer (answer.Fault g))
+    by : Is l.last → (g : Fault) × (outcome_of l.last chain.numbers (walk_at chain segment) ≡ outcome.Answer (answer.Fault g))
     by (t, enough, is) =
         let rest = right_of (size_at chain segment) to (walk_at chain segment) in
         let left = piece_of 0 (Some from) (walk_at chain segment) in
         let fits = size_within chain segment in
-        let all = whole_of (Decides (outcome_of s chain.numbers) (walk_at chain segment)) (walk_at chain segment) (size_at chain segment) from to t h (omega arith) enough in
-        let inside = faulted_inside s chain.numbers left t rest f (fold_walk s.ending (last_stage s) chain.numbers p (walk_of s chain.numbers t) f is faulted) in (
+        let all = whole_of (Decides (outcome_of l.last chain.numbers) (walk_at chain segment)) (walk_at chain segment) (size_at chain segment) from to t h (omega arith) enough in
+        let inside = faulted_inside l.last chain.numbers left t rest f (fold_walk l.last.ending (last_stage l.last) chain.numbers p (walk_of l.last chain.numbers t) f is faulted) in (
           inside.0,
-          sym (enough_gives (outcome_of s chain.numbers) (walk_at chain segment) (append left (append t rest)) all)
-              ∙ fold_gives s.ending (last_stage s) chain.numbers p (walk_of s chain.numbers t) (walk_of s chain.numbers (append left (append t rest))) f inside.0 is inside.1,
+          sym (enough_gives (outcome_of l.last chain.numbers) (walk_at chain segment) (append left (append t rest)) all)
+              ∙ fold_gives l.last.ending (last_stage l.last) chain.numbers p (walk_of l.last chain.numbers t) (walk_of l.last chain.numbers (append left (append t rest))) f inside.0 is inside.1,
         )
 
 -- and the job answers what it gives in its place
@@ -146,13 +145,14 @@ caught_answer plans job segment to f a gives h =
     let chain = chain_at plans job in
     let fold = fold_of h.piece f h.caught.fault in
     let faults = segment_faults chain segment h.begins h.ends fold.0 f h.caught.of h.caught.there h.ordered h.within (subst (PartStands chain segment h.begins h.ends) fold.1 h.stands) fold.2 in
-    let answers : segments_answer chain.segments chain.numbers chain.source ≡ answer.Fault faults.0 =
-    answer_there chain.numbers chain.segments chain.source
-    ∙ ap (λ (k : ℕ). answer_at chain.numbers (slice_get chain.segments k) (walk_at chain k)) (sym h.caught.last)
-    ∙ ap (λ (o : Option AbstractSegment). answer_at chain.numbers o (walk_at chain segment)) h.caught.there
+    let answers : legs_answer chain.legs chain.numbers chain.source ≡ answer.Fault faults.0 =
+    answer_there chain.numbers chain.legs chain.source
+    ∙ ap (λ (k : ℕ). answer_at chain.numbers (slice_get chain.legs k) (source_at chain k)) (sym h.caught.last)
+    ∙ ap (λ (o : Option AbstractLeg). answer_at chain.numbers o (source_at chain segment)) h.caught.there
+    ∙ ap (λ (t : Trace). given_answer (outcome_of h.caught.of.last chain.numbers t)) (there_walk chain segment h.caught.of h.caught.there)
     ∙ ap given_answer faults.1 in
     ap (λ (x : Answer). instead_of_fault (Some a) x) (sym answers)
-    ∙ ap (λ (o : Option Answer). instead_of_fault o (segments_answer chain.segments chain.numbers chain.source)) (sym gives)
+    ∙ ap (λ (o : Option Answer). instead_of_fault o (legs_answer chain.legs chain.numbers chain.source)) (sym gives)
     ∙ chain_answer chain.numbers (put_into (answers_before plans job) (plan_at plans job))
     ∙ walked_answer plans job h.known h.usable
 
@@ -165,14 +165,14 @@ some_of (Some a) h = (a, refl)
 
 -- the fault of a piece of a job that catches it
 pub piece_fault : (plans : List AbstractPlan) (job segment from to : ℕ) (p : AbstractPlan) (q : Part) (r : Option Fault) → job < length plans → first_unusable_at (answers_before plans job) (plan_at plans job).named ≡ None → p ≡ plan_at plans job
-    → p.fallback ≢ None → segment ≡ slices_first (walked_segments p) → slice_get (walked_segments p) segment ≢ None → from ≤ to → to ≤ size_at (chain_at plans job) segment → PartStands (chain_at plans job) segment from to q
+    → p.fallback ≢ None → segment ≡ prefixes_first (plan_legs p) → slice_get (plan_legs p) segment ≢ None → from ≤ to → to ≤ size_at (chain_at plans job) segment → PartStands (chain_at plans job) segment from to q
     → r ≡ fold_fault q → IfSome r (λ f. FaultAmong plans job segment from to f)
 piece_fault plans job segment from to p q None low usable same caught last there ordered within stands h = tt
 piece_fault plans job segment from to p q (Some f) low usable same caught last there ordered within stands h =
     let chain = chain_at plans job in
-    let segments = same_segments plans job p same in
+    let legs = legs_there plans job p same in
     let b = some_of p.fallback caught in
-    let o = some_of (slice_get chain.segments segment) (λ e. there (ap (λ (ss : List AbstractSegment). slice_get ss segment) (sym segments) ∙ e)) in
+    let o = some_of (slice_get chain.legs segment) (λ e. there (ap (λ (ls : List AbstractLeg). slice_get ls segment) (sym legs) ∙ e)) in
     record {
       known = low;
       usable = usable;
@@ -187,7 +187,7 @@ piece_fault plans job segment from to p q (Some f) low usable same caught last t
       caught = record {
         instead = b.0;
         gives = ap (λ (x : AbstractPlan). x.fallback) (sym same) ∙ b.1;
-        last = last ∙ ap slices_first (sym segments);
+        last = last ∙ ap prefixes_first (sym legs);
         of = o.0;
         there = o.1;
         fault = sym h;
@@ -196,12 +196,12 @@ piece_fault plans job segment from to p q (Some f) low usable same caught last t
 
 -- a job with a fault that it catches gives an answer in its place, and so on
 pub catches_it : (plans : List AbstractPlan) (job segment : ℕ) (q : Part) (f : Fault) (p : AbstractPlan) → p ≡ plan_at plans job → IsCaught plans job segment q f
-    → (p.fallback ≢ None) × (segment ≡ slices_first (walked_segments p)) × (slice_get (walked_segments p) segment ≢ None)
+    → (p.fallback ≢ None) × (segment ≡ prefixes_first (plan_legs p)) × (slice_get (plan_legs p) segment ≢ None)
 catches_it plans job segment q f p same h =
-    let segments = same_segments plans job p same in (
+    let legs = legs_there plans job p same in (
       λ e. (let z : None ≡ Some h.instead = sym e ∙ ap (λ (x : AbstractPlan). x.fallback) same ∙ h.gives in cc),
-      h.last ∙ ap slices_first segments,
-      λ e. (let z : None ≡ Some h.of = sym e ∙ ap (λ (ss : List AbstractSegment). slice_get ss segment) (sym segments) ∙ h.there in cc),
+      h.last ∙ ap prefixes_first legs,
+      λ e. (let z : None ≡ Some h.of = sym e ∙ ap (λ (ls : List AbstractLeg). slice_get ls segment) (sym legs) ∙ h.there in cc),
     )
 
 -- what a job gives after a fault

@@ -1,5 +1,5 @@
--- Parts of a segment: two side by side, and the one for all positions.
-use Rattle.std.proofs.Common.{◌≡◌, ℕ, zero, suc, ◌+◌, ◌-◌, ◌<◌, ◌≤◌, drop, length, pos, Bool, true, false, Option, Some, None, IfSome, Result, Ok, Err, IfOk, slice_get, if◌then◌else◌, ◌==◌, ap, sym, subst, ◌∙◌, refl, arith, eq-eqb, ne_eqb}
+-- Parts of a leg: two side by side, and the one for all positions.
+use Rattle.std.proofs.Common.{◌≡◌, ℕ, suc, ◌+◌, ◌-◌, ◌<◌, ◌≤◌, drop, length, pos, Bool, true, false, List, [], ◌∷◌, Option, Some, None, IfSome, Result, Ok, Err, IfOk, slice_get, if◌then◌else◌, ◌==◌, ap, sym, subst, ◌∙◌, refl, arith, eq-eqb, ne_eqb}
 use Rattle.trace.specs.Trace.{Trace, append, nothing}
 use Rattle.lambda_values.specs.Earlier.{Numbers}
 use Rattle.job_meaning.specs.declared.answer.Answer.TheVariants as answer
@@ -14,12 +14,13 @@ use Rattle.prefix_walks.proofs.Elements.{length_dropped}
 use Rattle.job_plan.proofs.EnoughLemmas.{whole_enough}
 use Rattle.job_plan.proofs.PartLemmas.{other_ends, settled_decides}
 use Rattle.prefix_walks.specs.Pieces.{piece_of}
-use Rattle.job_plan.specs.Plans.{AbstractSegment, AbstractPlan, last_stage, outcome_of, walk_of, planned_answer, segments_answer}
+use Rattle.job_plan.specs.Links.{AbstractLeg, AbstractLink, is_linked, legs_answer, linked, links_there}
+use Rattle.job_plan.specs.Plans.{AbstractSegment, AbstractPlan, last_stage, outcome_of, walk_of, planned_answer}
 use Rattle.job_meaning.specs.Walks.{instead_of_fault}
 use Rattle.prefix_walks.specs.Spans.{IsNotAfter}
 use Rattle.prefix_walks.proofs.SideBySide.{pieces_joined, whole_piece}
-use Rattle.job_plan.proofs.LinkLemmas.{walked_answer}
-use Rattle.job_table.specs.PlanSegments.{AbstractChain, PartStands, chain_of, given_by, given_walk, gives_at, piece_between, size_at, slices_first, upto, walk_at, walk_size}
+use Rattle.job_plan.proofs.LinkLemmas.{legs_planned, unlinked}
+use Rattle.job_table.specs.PlanSegments.{AbstractChain, PartStands, chain_of, given_by, given_walk, gives_at, piece_between, positions_of, prefixes_first, size_at, source_at, upto, walk_at, walk_size}
 use Rattle.job_table.proofs.PlanAnswers.{answer_at, answer_there, given_answer, goes_on, not_exact, stands_there}
 
 upto_middle : (size middle : ℕ) → middle < size → upto size middle ≡ Some middle
@@ -34,24 +35,26 @@ not_after false middle to h = h
 
 -- no more positions than items
 pub size_within : (chain : AbstractChain) (segment : ℕ) → size_at chain segment ≤ length (walk_at chain segment).items
-size_within chain zero = by chain.streams
+size_within chain segment = by (links_there (slice_get chain.legs segment))
   where
-    by : (b : Bool) → (if b then 0 else walk_size chain.source) ≤ length chain.source.items
-    by true = omega arith
-    by false = omega arith
-size_within chain (suc k) = omega arith
+    by : (ls : List AbstractLink) → positions_of ls (walk_size (source_at chain segment)) ≤ length (linked ls chain.numbers (source_at chain segment)).items
+    by [] = omega arith
+    by (l ∷ ls) = omega arith
 
--- a walk of a later segment, or one that goes through no slice
-pub later_size : (chain : AbstractChain) (segment : ℕ) → 0 < segment → size_at chain segment ≡ walk_size (walk_at chain segment)
-later_size chain zero h = absurd (omega (arith, h))
-later_size chain (suc k) h = refl
+-- a leg that is there: what comes through its slices, and how many positions it has
+pub there_walk : (chain : AbstractChain) (segment : ℕ) (l : AbstractLeg) → slice_get chain.legs segment ≡ Some l → linked l.links chain.numbers (source_at chain segment) ≡ walk_at chain segment
+there_walk chain segment l got = ap (λ (o : Option AbstractLeg). linked (links_there o) chain.numbers (source_at chain segment)) (sym got)
 
-pub own_size : (chain : AbstractChain) (segment : ℕ) → segment ≡ 0 → chain.streams ≡ false → size_at chain segment ≡ walk_size (walk_at chain segment)
-own_size chain segment first streams =
-    ap (size_at chain) first ∙ ap (λ (b : Bool). if b then 0 else walk_size chain.source) streams ∙ ap (λ k. walk_size (walk_at chain k)) (sym first)
+there_size : (chain : AbstractChain) (segment : ℕ) (l : AbstractLeg) → slice_get chain.legs segment ≡ Some l → positions_of l.links (walk_size (source_at chain segment)) ≡ size_at chain segment
+there_size chain segment l got = ap (λ (o : Option AbstractLeg). positions_of (links_there o) (walk_size (source_at chain segment))) (sym got)
 
-pub streamed_size : (chain : AbstractChain) → chain.streams ≡ true → size_at chain 0 ≡ 0
-streamed_size chain streams = ap (λ (b : Bool). if b then 0 else walk_size chain.source) streams
+no_positions : (ls : List AbstractLink) (size : ℕ) → is_linked ls ≡ true → positions_of ls size ≡ 0
+no_positions [] size h = absurd (let z : false ≡ true = h in cc)
+no_positions (l ∷ ls) size h = refl
+
+all_positions : (ls : List AbstractLink) (size : ℕ) → is_linked ls ≡ false → positions_of ls size ≡ size
+all_positions [] size h = refl
+all_positions (l ∷ ls) size h = absurd (let z : true ≡ false = h in cc)
 
 between_joined : (t : Trace) (size from middle to : ℕ) → from < middle → middle < to → to ≤ size → append (piece_between size from middle t) (piece_between size middle to t) ≡ piece_between size from to t
 between_joined t size from middle to l h w =
@@ -70,7 +73,7 @@ pub merged : (chain : AbstractChain) (segment from middle to : ℕ) (p q r : Par
     → PartStands chain segment from middle p → PartStands chain segment middle to q
     → ((s : AbstractSegment) (env : Numbers) (a b : Trace) → StandsFor s env p a → StandsFor s env q b → StandsFor s env r (append a b))
     → PartStands chain segment from to r
-merged chain segment from middle to p q r l h w left right merges = by (slice_get chain.segments segment) left right
+merged chain segment from middle to p q r l h w left right merges = by (slice_get chain.legs segment) left right
   where
     Is : AbstractSegment → Part → ℕ → ℕ → Type 0
     Is s p from to = StandsEnough (Decides (outcome_of s chain.numbers) (walk_at chain segment)) s chain.numbers p from (piece_between (size_at chain segment) from to (walk_at chain segment))
@@ -84,27 +87,27 @@ merged chain segment from middle to p q r l h w left right merges = by (slice_ge
       merges s chain.numbers a b sa sb,
     )
 
-    by : (o : Option AbstractSegment) → IfSome o (λ s. Is s p from middle) → IfSome o (λ s. Is s q middle to) → IfSome o (λ s. Is s r from to)
+    by : (o : Option AbstractLeg) → IfSome o (λ l. Is l.last p from middle) → IfSome o (λ l. Is l.last q middle to) → IfSome o (λ l. Is l.last r from to)
     by None a b = tt
-    by (Some s) a b = both s a b
+    by (Some l) a b = both l.last a b
 
 -- a piece that is left out
-pub left_stands : (chain : AbstractChain) (segment from to : ℕ) (p : Part) (c : ℕ) → c ≤ from → Decides (gives_at chain segment) (walk_at chain segment) c → IfSome (slice_get chain.segments segment) (λ s. StandsFor s chain.numbers p nothing) → PartStands chain segment from to p
-left_stands chain segment from to p c h ok stands = by (slice_get chain.segments segment) ok stands
+pub left_stands : (chain : AbstractChain) (segment from to : ℕ) (p : Part) (c : ℕ) → c ≤ from → Decides (gives_at chain segment) (walk_at chain segment) c → IfSome (slice_get chain.legs segment) (λ l. StandsFor l.last chain.numbers p nothing) → PartStands chain segment from to p
+left_stands chain segment from to p c h ok stands = by (slice_get chain.legs segment) ok stands
   where
-    by : (o : Option AbstractSegment) → Decides (given_by chain.numbers o) (walk_at chain segment) c → IfSome o (λ s. StandsFor s chain.numbers p nothing)
-        → IfSome o (λ s. StandsEnough (Decides (outcome_of s chain.numbers) (walk_at chain segment)) s chain.numbers p from (piece_between (size_at chain segment) from to (walk_at chain segment)))
+    by : (o : Option AbstractLeg) → Decides (given_by chain.numbers o) (walk_at chain segment) c → IfSome o (λ l. StandsFor l.last chain.numbers p nothing)
+        → IfSome o (λ l. StandsEnough (Decides (outcome_of l.last chain.numbers) (walk_at chain segment)) l.last chain.numbers p from (piece_between (size_at chain segment) from to (walk_at chain segment)))
     by None d a = tt
-    by (Some s) d a = (nothing, enough_left (Decides (outcome_of s chain.numbers) (walk_at chain segment)) from c (piece_between (size_at chain segment) from to (walk_at chain segment)) nothing d h, a)
+    by (Some l) d a = (nothing, enough_left (Decides (outcome_of l.last chain.numbers) (walk_at chain segment)) from c (piece_between (size_at chain segment) from to (walk_at chain segment)) nothing d h, a)
 
 -- after a settled part nothing matters
 pub part_decides : (chain : AbstractChain) (segment from to : ℕ) (p : Part) → from ≤ to → to < size_at chain segment → is_settled p ≡ true → (is_running p ≡ true → from ≡ 0) → PartStands chain segment from to p → Decides (gives_at chain segment) (walk_at chain segment) to
-part_decides chain segment from to p h w settled first stands = by (slice_get chain.segments segment) stands
+part_decides chain segment from to p h w settled first stands = by (slice_get chain.legs segment) stands
   where
-    by : (o : Option AbstractSegment) → IfSome o (λ s. StandsEnough (Decides (outcome_of s chain.numbers) (walk_at chain segment)) s chain.numbers p from (piece_between (size_at chain segment) from to (walk_at chain segment))) → Decides (given_by chain.numbers o) (walk_at chain segment) to
+    by : (o : Option AbstractLeg) → IfSome o (λ l. StandsEnough (Decides (outcome_of l.last chain.numbers) (walk_at chain segment)) l.last chain.numbers p from (piece_between (size_at chain segment) from to (walk_at chain segment))) → Decides (given_by chain.numbers o) (walk_at chain segment) to
     by None a = λ t b. refl
-    by (Some s) a = let fits = size_within chain segment in settled_decides s chain.numbers p (walk_at chain segment) from to h (omega arith) settled first
-        (subst (λ (o : Option ℕ). StandsEnough (Decides (outcome_of s chain.numbers) (walk_at chain segment)) s chain.numbers p from (piece_of from o (walk_at chain segment))) (upto_middle (size_at chain segment) to w) a)
+    by (Some l) a = let fits = size_within chain segment in settled_decides l.last chain.numbers p (walk_at chain segment) from to h (omega arith) settled first
+        (subst (λ (o : Option ℕ). StandsEnough (Decides (outcome_of l.last chain.numbers) (walk_at chain segment)) l.last chain.numbers p from (piece_of from o (walk_at chain segment))) (upto_middle (size_at chain segment) to w) a)
 
 module _ (chain : AbstractChain) (segment : ℕ) (part : Part) (o : Outcome) (ends : (s : AbstractSegment) (t : Trace) → StandsFor s chain.numbers part t → o ≡ outcome_of s chain.numbers t) where
   abbrev Whole : AbstractSegment → Type 0
@@ -114,48 +117,68 @@ module _ (chain : AbstractChain) (segment : ℕ) (part : Part) (o : Outcome) (en
   outcome_all s (t, enough, h) =
       ends s t h ∙ enough_gives (outcome_of s chain.numbers) (walk_at chain segment) t (subst (λ (u : Trace). IsEnough (Decides (outcome_of s chain.numbers) (walk_at chain segment)) 0 u t) (between_all (walk_at chain segment) (size_at chain segment)) enough)
 
-  -- the next segment goes over what this one gave
-  pub goes_over : segment < slices_first chain.segments → PartStands chain segment 0 (size_at chain segment) part → given_walk o ≡ walk_at chain (suc segment)
-  goes_over before stands = by (slice_get chain.segments segment) refl stands
+  -- the next leg goes over what this one gave
+  pub goes_over : segment < prefixes_first chain.legs → PartStands chain segment 0 (size_at chain segment) part → given_walk o ≡ source_at chain (suc segment)
+  goes_over before stands = by (slice_get chain.legs segment) refl stands
     where
-      by : (x : Option AbstractSegment) → slice_get chain.segments segment ≡ x → IfSome x Whole → given_walk o ≡ walk_at chain (suc segment)
-      by None e h = absurd (stands_there chain.segments segment before e)
-      by (Some s) e h = ap given_walk (outcome_all s h) ∙ sym (goes_on chain.numbers segment chain.segments s chain.source e)
+      by : (x : Option AbstractLeg) → slice_get chain.legs segment ≡ x → IfSome x (λ l. Whole l.last) → given_walk o ≡ source_at chain (suc segment)
+      by None e h = absurd (stands_there chain.legs segment before e)
+      by (Some l) e h =
+          ap given_walk (outcome_all l.last h)
+          ∙ ap (λ (t : Trace). given_walk (outcome_of l.last chain.numbers t)) (sym (there_walk chain segment l e))
+          ∙ sym (goes_on chain.numbers segment chain.legs l chain.source e)
 
-  -- the last segment gives the answer of the job
-  pub last_answer : segment ≡ slices_first chain.segments → (s : AbstractSegment) → slice_get chain.segments segment ≡ Some s → PartStands chain segment 0 (size_at chain segment) part → given_answer o ≡ segments_answer chain.segments chain.numbers chain.source
-  last_answer last s e stands =
-      ap given_answer (outcome_all s (subst (λ (x : Option AbstractSegment). IfSome x Whole) e stands))
-      ∙ ap (λ (x : Option AbstractSegment). answer_at chain.numbers x (walk_at chain segment)) (sym e)
-      ∙ ap (λ (k : ℕ). answer_at chain.numbers (slice_get chain.segments k) (walk_at chain k)) last
-      ∙ sym (answer_there chain.numbers chain.segments chain.source)
+  -- the last leg gives the answer of the job
+  pub last_answer : segment ≡ prefixes_first chain.legs → (l : AbstractLeg) → slice_get chain.legs segment ≡ Some l → PartStands chain segment 0 (size_at chain segment) part → given_answer o ≡ legs_answer chain.legs chain.numbers chain.source
+  last_answer last l e stands =
+      ap given_answer (outcome_all l.last (subst (λ (x : Option AbstractLeg). IfSome x (λ l. Whole l.last)) e stands))
+      ∙ ap (λ (t : Trace). given_answer (outcome_of l.last chain.numbers t)) (sym (there_walk chain segment l e))
+      ∙ ap (λ (x : Option AbstractLeg). answer_at chain.numbers x (source_at chain segment)) (sym e)
+      ∙ ap (λ (k : ℕ). answer_at chain.numbers (slice_get chain.legs k) (source_at chain k)) last
+      ∙ sym (answer_there chain.numbers chain.legs chain.source)
 
--- a job whose segments end before its answer
-pub no_answer : (chain : AbstractChain) → slice_get chain.segments (slices_first chain.segments) ≡ None → answer.Number (pos 0) ≡ segments_answer chain.segments chain.numbers chain.source
-no_answer chain e = sym (answer_there chain.numbers chain.segments chain.source ∙ ap (λ (x : Option AbstractSegment). answer_at chain.numbers x (walk_at chain (slices_first chain.segments))) e)
+-- a job whose legs end before its answer
+pub no_answer : (chain : AbstractChain) → slice_get chain.legs (prefixes_first chain.legs) ≡ None → answer.Number (pos 0) ≡ legs_answer chain.legs chain.numbers chain.source
+no_answer chain e = sym (answer_there chain.numbers chain.legs chain.source ∙ ap (λ (x : Option AbstractLeg). answer_at chain.numbers x (source_at chain (prefixes_first chain.legs))) e)
 
--- the part of a segment before the answer never leaves it open what it gives
-pub never_searches : (chain : AbstractChain) (segment : ℕ) (p : Part) → segment < slices_first chain.segments → PartStands chain segment 0 (size_at chain segment) p → may_search p ≡ true → ⊥
-never_searches chain segment p before stands may = by (slice_get chain.segments segment) refl stands
+-- the part of a leg before the answer never leaves it open what it gives
+pub never_searches : (chain : AbstractChain) (segment : ℕ) (p : Part) → segment < prefixes_first chain.legs → PartStands chain segment 0 (size_at chain segment) p → may_search p ≡ true → ⊥
+never_searches chain segment p before stands may = by (slice_get chain.legs segment) refl stands
   where
-    by : (x : Option AbstractSegment) → slice_get chain.segments segment ≡ x
-        → IfSome x (λ s. StandsEnough (Decides (outcome_of s chain.numbers) (walk_at chain segment)) s chain.numbers p 0 (piece_between (size_at chain segment) 0 (size_at chain segment) (walk_at chain segment))) → ⊥
-    by None e h = stands_there chain.segments segment before e
-    by (Some s) e (t, enough, h) =
-        let shut = other_ends s.ending (last_stage s) chain.numbers p (walk_of s chain.numbers t) (not_exact chain.segments segment s before e) h in
+    by : (x : Option AbstractLeg) → slice_get chain.legs segment ≡ x
+        → IfSome x (λ l. StandsEnough (Decides (outcome_of l.last chain.numbers) (walk_at chain segment)) l.last chain.numbers p 0 (piece_between (size_at chain segment) 0 (size_at chain segment) (walk_at chain segment))) → ⊥
+    by None e h = stands_there chain.legs segment before e
+    by (Some l) e (t, enough, h) =
+        let shut = other_ends l.last.ending (last_stage l.last) chain.numbers p (walk_of l.last chain.numbers t) (not_exact chain.legs segment l before e) h in
         let z : true ≡ false = sym may ∙ shut in cc
 
--- the part of a whole walk
-pub all_stands : {F : Type 0} (chain : AbstractChain) (segment : ℕ) (s : AbstractSegment) (r : Result Part F) (env : Numbers) (w : Trace) → slice_get chain.segments segment ≡ Some s → env ≡ chain.numbers → w ≡ walk_at chain segment
-    → IfOk r (λ part. StandsFor s env part w) → IfOk r (λ part. PartStands chain segment 0 (size_at chain segment) part)
-all_stands chain segment s (Ok p) env w got alone walks h =
+-- the part of all that comes through a leg's slices
+pub all_stands : {F : Type 0} (chain : AbstractChain) (segment : ℕ) (l : AbstractLeg) (r : Result Part F) (env : Numbers) (w : Trace) → slice_get chain.legs segment ≡ Some l → env ≡ chain.numbers → w ≡ source_at chain segment
+    → IfOk r (λ part. StandsFor l.last env part (linked l.links env w)) → IfOk r (λ part. PartStands chain segment 0 (size_at chain segment) part)
+all_stands chain segment l (Ok p) env w got alone walks h =
     let size = size_at chain segment in
     let t = walk_at chain segment in
-    let whole : w ≡ piece_between size 0 size t = walks ∙ sym (between_all t size) in
-    let stands = subst (λ (e : Numbers). StandsFor s e p (piece_between size 0 size t)) alone (subst (λ (u : Trace). StandsFor s env p u) whole h) in
-    subst (λ (o : Option AbstractSegment). IfSome o (λ s. StandsEnough (Decides (outcome_of s chain.numbers) t) s chain.numbers p 0 (piece_between size 0 size t))) (sym got)
-    (whole_enough s chain.numbers p (Decides (outcome_of s chain.numbers) t) 0 (piece_between size 0 size t) stands)
-all_stands chain segment s (Err e) env w got alone walks h = tt
+    let whole : linked l.links chain.numbers w ≡ piece_between size 0 size t = ap (linked l.links chain.numbers) walks ∙ there_walk chain segment l got ∙ sym (between_all t size) in
+    let stands = subst (λ (u : Trace). StandsFor l.last chain.numbers p u) whole (subst (λ (e : Numbers). StandsFor l.last e p (linked l.links e w)) alone h) in
+    subst (λ (o : Option AbstractLeg). IfSome o (λ l. StandsEnough (Decides (outcome_of l.last chain.numbers) t) l.last chain.numbers p 0 (piece_between size 0 size t))) (sym got)
+    (whole_enough l.last chain.numbers p (Decides (outcome_of l.last chain.numbers) t) 0 (piece_between size 0 size t) stands)
+all_stands chain segment l (Err e) env w got alone walks h = tt
+
+-- the part of a whole leg without slices
+pub plain_stands : {F : Type 0} (chain : AbstractChain) (segment : ℕ) (l : AbstractLeg) (r : Result Part F) (env : Numbers) (w : Trace) → slice_get chain.legs segment ≡ Some l → is_linked l.links ≡ false → env ≡ chain.numbers
+    → w ≡ source_at chain segment → IfOk r (λ part. StandsFor l.last env part w) → IfOk r (λ part. PartStands chain segment 0 (size_at chain segment) part)
+plain_stands chain segment l r env w got plain alone walks h =
+    all_stands chain segment l r env w got alone walks (subst (λ (t : Trace). IfOk r (λ part. StandsFor l.last env part t)) (sym (unlinked l.links env w plain)) h)
+
+-- the part of the one piece of a leg that goes through slices
+pub streamed_stands : {F : Type 0} (chain : AbstractChain) (segment from to : ℕ) (l : AbstractLeg) (r : Result Part F) (env : Numbers) (w : Trace) → slice_get chain.legs segment ≡ Some l → is_linked l.links ≡ true → env ≡ chain.numbers
+    → w ≡ source_at chain segment → from ≤ to → to ≤ size_at chain segment → IfOk r (λ part. StandsFor l.last env part (linked l.links env w)) → IfOk r (λ part. PartStands chain segment from to part)
+streamed_stands chain segment from to l r env w got linked_so alone walks ordered within h =
+    let none : size_at chain segment ≡ 0 = sym (there_size chain segment l got) ∙ no_positions l.links (walk_size (source_at chain segment)) linked_so in
+    let begins : 0 ≡ from = omega (arith, none, ordered, within) in
+    let ends : size_at chain segment ≡ to = omega (arith, none, within) in
+    subst (λ (n : ℕ). IfOk r (λ part. PartStands chain segment n to part)) begins
+    (subst (λ (n : ℕ). IfOk r (λ part. PartStands chain segment 0 n part)) ends (all_stands chain segment l r env w got alone walks h))
 
 -- the end of a piece, by a test whether it is the last position
 pub upto_all : (size n to : ℕ) (u : Option ℕ) → n ≡ size → to ≡ n → u ≡ None → u ≡ upto size to
@@ -164,40 +187,27 @@ upto_all size n to u same here e = e ∙ sym (ap (λ (b : Bool). if b then None 
 pub upto_some : (size n to : ℕ) (u : Option ℕ) → n ≡ size → (to ≡ n → ⊥) → u ≡ Some to → u ≡ upto size to
 upto_some size n to u same other e = e ∙ sym (ap (λ (b : Bool). if b then None else Some to) (ne_eqb to size (λ x. other (x ∙ sym same))))
 
--- the part of a piece
-pub piece_stands : {F : Type 0} (chain : AbstractChain) (segment from to : ℕ) (s : AbstractSegment) (w : Trace) (env : Numbers) (u : Option ℕ) (decides : ℕ → Type 0) (r : Result Part F)
-    → slice_get chain.segments segment ≡ Some s → env ≡ chain.numbers → w ≡ walk_at chain segment → u ≡ upto (size_at chain segment) to → ((c : ℕ) → decides c → Decides (gives_at chain segment) (walk_at chain segment) c)
-    → IfOk r (λ part. StandsEnough decides s env part from (piece_of from u w)) → IfOk r (λ part. PartStands chain segment from to part)
-piece_stands chain segment from to s w env u decides (Ok p) got alone walks ends more h =
-    let a = subst (λ (e : Numbers). StandsEnough decides s e p from (piece_of from u w)) alone h in
-    let b = subst (λ (v : Option ℕ). StandsEnough decides s chain.numbers p from (piece_of from v w)) ends a in
-    let d = subst (λ (t : Trace). StandsEnough decides s chain.numbers p from (piece_between (size_at chain segment) from to t)) walks b in
-    let m : (c : ℕ) → decides c → Decides (outcome_of s chain.numbers) (walk_at chain segment) c = subst (λ (o : Option AbstractSegment). (c : ℕ) → decides c → Decides (given_by chain.numbers o) (walk_at chain segment) c) got more in
-    subst (λ (o : Option AbstractSegment). IfSome o (λ s. StandsEnough (Decides (outcome_of s chain.numbers) (walk_at chain segment)) s chain.numbers p from (piece_between (size_at chain segment) from to (walk_at chain segment)))) (sym got)
-    (d.0, enough_as decides (Decides (outcome_of s chain.numbers) (walk_at chain segment)) from (piece_between (size_at chain segment) from to (walk_at chain segment)) d.0 m d.1, d.2)
-piece_stands chain segment from to s w env u decides (Err e) got alone walks ends more h = tt
+-- the part of a piece of a leg without slices
+pub piece_stands : {F : Type 0} (chain : AbstractChain) (segment from to : ℕ) (l : AbstractLeg) (w : Trace) (env : Numbers) (u : Option ℕ) (decides : ℕ → Type 0) (r : Result Part F)
+    → slice_get chain.legs segment ≡ Some l → is_linked l.links ≡ false → env ≡ chain.numbers → w ≡ source_at chain segment → u ≡ upto (walk_size w) to → ((c : ℕ) → decides c → Decides (gives_at chain segment) (walk_at chain segment) c)
+    → IfOk r (λ part. StandsEnough decides l.last env part from (piece_of from u w)) → IfOk r (λ part. PartStands chain segment from to part)
+piece_stands chain segment from to l w env u decides (Ok p) got plain alone walks ends more h =
+    let over : w ≡ walk_at chain segment = walks ∙ sym (unlinked l.links chain.numbers (source_at chain segment) plain) ∙ there_walk chain segment l got in
+    let size : walk_size w ≡ size_at chain segment = ap walk_size walks ∙ sym (all_positions l.links (walk_size (source_at chain segment)) plain) ∙ there_size chain segment l got in
+    let last : u ≡ upto (size_at chain segment) to = ends ∙ ap (λ (n : ℕ). upto n to) size in
+    let a = subst (λ (e : Numbers). StandsEnough decides l.last e p from (piece_of from u w)) alone h in
+    let b = subst (λ (v : Option ℕ). StandsEnough decides l.last chain.numbers p from (piece_of from v w)) last a in
+    let d = subst (λ (t : Trace). StandsEnough decides l.last chain.numbers p from (piece_between (size_at chain segment) from to t)) over b in
+    let m : (c : ℕ) → decides c → Decides (outcome_of l.last chain.numbers) (walk_at chain segment) c = subst (λ (o : Option AbstractLeg). (c : ℕ) → decides c → Decides (given_by chain.numbers o) (walk_at chain segment) c) got more in
+    subst (λ (o : Option AbstractLeg). IfSome o (λ l. StandsEnough (Decides (outcome_of l.last chain.numbers) (walk_at chain segment)) l.last chain.numbers p from (piece_between (size_at chain segment) from to (walk_at chain segment)))) (sym got)
+    (d.0, enough_as decides (Decides (outcome_of l.last chain.numbers) (walk_at chain segment)) from (piece_between (size_at chain segment) from to (walk_at chain segment)) d.0 m d.1, d.2)
+piece_stands chain segment from to l w env u decides (Err e) got plain alone walks ends more h = tt
 
--- of a segment that isn't there, any part
-pub any_part : (chain : AbstractChain) (segment from to : ℕ) (p : Part) → slice_get chain.segments segment ≡ None → PartStands chain segment from to p
+-- of a leg that isn't there, any part
+pub any_part : (chain : AbstractChain) (segment from to : ℕ) (p : Part) → slice_get chain.legs segment ≡ None → PartStands chain segment from to p
 any_part chain segment from to p none_there =
-    subst (λ (o : Option AbstractSegment). IfSome o (λ s. StandsEnough (Decides (outcome_of s chain.numbers) (walk_at chain segment)) s chain.numbers p from (piece_between (size_at chain segment) from to (walk_at chain segment)))) (sym none_there) tt
+    subst (λ (o : Option AbstractLeg). IfSome o (λ l. StandsEnough (Decides (outcome_of l.last chain.numbers) (walk_at chain segment)) l.last chain.numbers p from (piece_between (size_at chain segment) from to (walk_at chain segment)))) (sym none_there) tt
 
--- the segments that a run walks give the answer of the job, or the fault that its fallback replaces
-pub chain_answer : (env : Numbers) (plan : AbstractPlan) → instead_of_fault plan.fallback (segments_answer (chain_of env plan).segments env (chain_of env plan).source) ≡ planned_answer env plan
-chain_answer env plan = walked_answer env plan
-
--- the one piece of a walk that goes through slices
-pub streamed_stands : {F : Type 0} (chain : AbstractChain) (s : AbstractSegment) (r : Result Part F) (env : Numbers) (w : Trace) → slice_get chain.segments 0 ≡ Some s → env ≡ chain.numbers → chain.streams ≡ true → w ≡ chain.source
-    → IfOk r (λ part. StandsFor s env part w) → IfOk r (λ part. PartStands chain 0 0 0 part)
-streamed_stands chain s (Ok p) env w got alone streams walks h =
-    let whole : w ≡ piece_between (size_at chain 0) 0 0 (walk_at chain 0) =
-    walks ∙ sym (between_all chain.source 0) ∙ ap (λ n. piece_between n 0 0 chain.source) (sym (streamed_size chain streams)) in
-    let stands = subst (λ (e : Numbers). StandsFor s e p (piece_between (size_at chain 0) 0 0 (walk_at chain 0))) alone (subst (λ (t : Trace). StandsFor s env p t) whole h) in
-    subst (λ (o : Option AbstractSegment). IfSome o (λ s. StandsEnough (Decides (outcome_of s chain.numbers) (walk_at chain 0)) s chain.numbers p 0 (piece_between (size_at chain 0) 0 0 (walk_at chain 0)))) (sym got)
-    (whole_enough s chain.numbers p (Decides (outcome_of s chain.numbers) (walk_at chain 0)) 0 (piece_between (size_at chain 0) 0 0 (walk_at chain 0)) stands)
-streamed_stands chain s (Err e) env w got alone streams walks h = tt
-
-pub whole_job : {F : Type 0} (chain : AbstractChain) (segment from to : ℕ) (r : Result Part F) → segment ≡ 0 → from ≡ 0 → to ≡ 0 → IfOk r (λ part. PartStands chain 0 0 0 part) → IfOk r (λ part. PartStands chain segment from to part)
-whole_job chain segment from to r first begins ends h =
-    subst (λ (k : ℕ). IfOk r (λ part. PartStands chain k from to part)) (sym first)
-    (subst (λ (k : ℕ). IfOk r (λ part. PartStands chain 0 k to part)) (sym begins) (subst (λ (k : ℕ). IfOk r (λ part. PartStands chain 0 0 k part)) (sym ends) h))
+-- the legs that a run walks give the answer of the job, or the fault that its fallback replaces
+pub chain_answer : (env : Numbers) (plan : AbstractPlan) → instead_of_fault plan.fallback (legs_answer (chain_of env plan).legs env (chain_of env plan).source) ≡ planned_answer env plan
+chain_answer env plan = legs_planned env plan

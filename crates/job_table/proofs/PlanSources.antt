@@ -1,5 +1,5 @@
--- What the first segment of a job goes over, and the answer of its last one.
-use Rattle.std.proofs.Common.{◌≡◌, ℕ, ◌+◌, ◌<◌, Bool, false, List, [], ◌∷◌, ◌++◌, Some, None, Result, Ok, Err, IfOk, length, get_or, drop, append_assoc, ap, sym, subst, ◌∙◌, refl}
+-- What the first leg of a job goes over, and the answer of its last one.
+use Rattle.std.proofs.Common.{◌≡◌, ℕ, ◌+◌, ◌<◌, List, [], ◌∷◌, ◌++◌, Some, None, Result, Ok, Err, IfOk, length, get_or, drop, append_assoc, ap, sym, subst, ◌∙◌, refl}
 use Rattle.std.proofs.lemmas.List.{drop_more}
 use Rattle.lambda_values.specs.Earlier.{Numbers}
 use Rattle.job_language.specs.declared.job.PlainSource.{PlainSource}
@@ -10,12 +10,11 @@ use Rattle.job_meaning.specs.declared.answer.Answer.TheVariants as answer
 use Rattle.job_plan.specs.declared.part.Part.{Part}
 use Rattle.job_plan.specs.declared.segment.Named.{Named}
 use Rattle.job_plan.specs.PlannedAnswers.{all_put_at, first_unusable_at, put_at, put_into}
-use Rattle.job_plan.specs.Plans.{AbstractPlan, segments_answer}
+use Rattle.job_plan.specs.Plans.{AbstractPlan}
 use Rattle.job_meaning.specs.Walks.{instead_of_fault, source_walk}
-use Rattle.job_plan.specs.Links.{first_links, linked, plan_streams, walked_segments}
-use Rattle.job_plan.specs.Windows.{later_segments, selected_source, selected_walk}
-use Rattle.job_plan.proofs.LinkLemmas.{unlinked}
-use Rattle.job_table.specs.PlanSegments.{AbstractChain, PartStands, answer_of, answers_before, chain_at, plan_at, size_at, slices_first, walk_at}
+use Rattle.job_plan.specs.Links.{legs_answer, plan_legs}
+use Rattle.job_plan.specs.Windows.{selected_walk}
+use Rattle.job_table.specs.PlanSegments.{AbstractChain, PartStands, answer_of, answers_before, chain_at, plan_at, prefixes_first, size_at, source_at}
 use Rattle.job_table.specs.declared.kept.SegmentSource.{SegmentSource}
 use Rattle.job_table.specs.declared.kept.SegmentSource.TheVariants.{Own, Kept}
 use Rattle.job_runner.specs.declared.segments.Begun.{Begun}
@@ -27,37 +26,25 @@ use Rattle.job_table.proofs.PlannedAnswers.{unusable_answer, walked_answer}
 
 module _ (plans : List AbstractPlan) (job : ℕ) (p : AbstractPlan) (same : p ≡ plan_at plans job) where
   -- the sources of a job with the arrays put in
-  pub put_walk : (segment : ℕ) (sources : List AbstractPlainSource) → segment ≡ 0 → sources ≡ all_put_at (answers_before plans job) p.named p.sources → plan_streams p ≡ false
-      → selected_walk p.segments (source_walk sources) ≡ walk_at (chain_at plans job) segment
-  put_walk segment sources first put alone =
+  pub put_walk : (segment : ℕ) (sources : List AbstractPlainSource) → segment ≡ 0 → sources ≡ all_put_at (answers_before plans job) p.named p.sources → selected_walk p.segments (source_walk sources) ≡ source_at (chain_at plans job) segment
+  put_walk segment sources first put =
       ap (λ (ss : List AbstractPlainSource). selected_walk p.segments (source_walk ss)) put
       ∙ ap (λ (q : AbstractPlan). selected_walk q.segments (source_walk (all_put_at (answers_before plans job) q.named q.sources))) same
-      ∙ sym (unlinked (later_segments (plan_at plans job).segments) (chain_at plans job).numbers (selected_source (put_into (answers_before plans job) (plan_at plans job))) (sym (ap plan_streams same) ∙ alone))
-      ∙ ap (walk_at (chain_at plans job)) (sym first)
+      ∙ ap (source_at (chain_at plans job)) (sym first)
 
-  -- and what slices make of them
-  pub put_streamed : (env : Numbers) (sources : List AbstractPlainSource) → env ≡ (chain_at plans job).numbers → sources ≡ all_put_at (answers_before plans job) p.named p.sources
-      → linked (first_links (later_segments p.segments)) env (selected_walk p.segments (source_walk sources)) ≡ (chain_at plans job).source
-  put_streamed env sources numbers put =
-      (λ i. linked (first_links (later_segments p.segments)) (numbers i) (selected_walk p.segments (source_walk (put i))))
-      ∙ ap (λ (q : AbstractPlan). linked (first_links (later_segments q.segments)) (chain_at plans job).numbers (selected_walk q.segments (source_walk (all_put_at (answers_before plans job) q.named q.sources)))) same
-
-  pub same_streams : (b : Bool) → plan_streams p ≡ b → (chain_at plans job).streams ≡ b
-  same_streams b is = sym (ap plan_streams same) ∙ is
-
-  pub same_segments : (chain_at plans job).segments ≡ walked_segments p
-  same_segments = sym (ap (λ (q : AbstractPlan). walked_segments q) same)
+  pub legs_there : (chain_at plans job).legs ≡ plan_legs p
+  legs_there = sym (ap plan_legs same)
 
   -- the answer of a job that is walked
   pub answered : {F : Type 0} (env : Numbers) (part : Part) (r : Result Answer F) → job < length plans → first_unusable_at (answers_before plans job) (plan_at plans job).named ≡ None → env ≡ (chain_at plans job).numbers
-      → PartStands (chain_at plans job) (slices_first (chain_at plans job).segments) 0 (size_at (chain_at plans job) (slices_first (chain_at plans job).segments)) part
-      → IfOk r (λ answer. (chain : AbstractChain) → chain.segments ≡ walked_segments p → chain.numbers ≡ env → PartStands chain (slices_first chain.segments) 0 (size_at chain (slices_first chain.segments)) part
-      → answer ≡ instead_of_fault p.fallback (segments_answer chain.segments chain.numbers chain.source))
+      → PartStands (chain_at plans job) (prefixes_first (chain_at plans job).legs) 0 (size_at (chain_at plans job) (prefixes_first (chain_at plans job).legs)) part
+      → IfOk r (λ answer. (chain : AbstractChain) → chain.legs ≡ plan_legs p → chain.numbers ≡ env → PartStands chain (prefixes_first chain.legs) 0 (size_at chain (prefixes_first chain.legs)) part
+      → answer ≡ instead_of_fault p.fallback (legs_answer chain.legs chain.numbers chain.source))
       → IfOk r (λ answer. answer ≡ answer_of plans job)
   answered env part (Ok a) low usable numbers stands h =
       let chain = chain_at plans job in
-      h chain same_segments (sym numbers) stands
-      ∙ (λ i. instead_of_fault (same i).fallback (segments_answer chain.segments chain.numbers chain.source))
+      h chain legs_there (sym numbers) stands
+      ∙ (λ i. instead_of_fault (same i).fallback (legs_answer chain.legs chain.numbers chain.source))
       ∙ chain_answer chain.numbers (put_into (answers_before plans job) (plan_at plans job))
       ∙ walked_answer plans job low usable
   answered env part (Err e) low usable numbers stands h = tt
@@ -88,8 +75,8 @@ module _ (plans : List AbstractPlan) (job : ℕ) (p : AbstractPlan) (same : p �
   known_of a low known =
       known.2 ∙ unusable_answer plans job known.0 low (ap (λ (q : AbstractPlan). first_unusable_at (answers_before plans job) q.named) (sym same) ∙ known.1)
 
--- the source of a later segment
-pub kept_walk : (chain : AbstractChain) (segment : ℕ) (source : SegmentSource) (w : Trace) → source ≡ Kept w → IsKept chain segment source → (0 < segment) × (w ≡ walk_at chain segment)
+-- what a later leg goes over
+pub kept_walk : (chain : AbstractChain) (segment : ℕ) (source : SegmentSource) (w : Trace) → source ≡ Kept w → IsKept chain segment source → (0 < segment) × (w ≡ source_at chain segment)
 kept_walk chain segment source w is kept = subst (IsKept chain segment) is kept
 
 pub own_first : (chain : AbstractChain) (segment : ℕ) (source : SegmentSource) → source ≡ Own → IsKept chain segment source → segment ≡ 0

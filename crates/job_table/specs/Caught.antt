@@ -1,24 +1,25 @@
 -- Condition: faults that the jobs of a plan catch.
-use Rattle.std.specs.Prelude.{◌≡◌, ◌<◌, ◌≤◌, ℕ, List, length, Option, Some, None, slice_get}
+use Rattle.std.specs.Prelude.{◌≡◌, ◌<◌, ◌≤◌, ℕ, List, length, Some, None, slice_get}
 use Rattle.trace.specs.declared.item.Fault.{Fault}
 use Rattle.job_meaning.specs.declared.answer.Answer.{Answer}
 use Rattle.job_plan.specs.declared.part.Part.{Part}
 use Rattle.job_plan.specs.FoldFaults.{fold_fault}
 use Rattle.job_plan.specs.PlannedAnswers.{first_unusable_at}
-use Rattle.job_plan.specs.Plans.{AbstractPlan, AbstractSegment}
-use Rattle.job_table.specs.PlanSegments.{PartStands, answers_before, chain_at, plan_at, size_at, slices_first}
+use Rattle.job_plan.specs.Plans.{AbstractPlan}
+use Rattle.job_plan.specs.Links.{AbstractLeg}
+use Rattle.job_table.specs.PlanSegments.{PartStands, answers_before, chain_at, plan_at, size_at, prefixes_first}
 
--- a part of this segment of the job ends in this fault; the segment gives the job's answer, by a fold; and the job
+-- a part of this leg of the job ends in this fault; the leg gives the job's answer, by a fold; and the job
 -- gives another answer after a fault
 pub record IsCaught (plans : List AbstractPlan) (job segment : ℕ) (p : Part) (f : Fault) : Type 0 where
   pub instead : Answer
   pub gives : (plan_at plans job).fallback ≡ Some instead
-  pub last : segment ≡ slices_first (chain_at plans job).segments
-  pub of : AbstractSegment
-  pub there : slice_get (chain_at plans job).segments segment ≡ Some of
+  pub last : segment ≡ prefixes_first (chain_at plans job).legs
+  pub of : AbstractLeg
+  pub there : slice_get (chain_at plans job).legs segment ≡ Some of
   pub fault : fold_fault p ≡ Some f
 
--- the job is walked, and a piece of this segment among these positions ends in this fault, which the job catches
+-- the job is walked, and a piece of this leg among these positions ends in this fault, which the job catches
 pub record FaultAmong (plans : List AbstractPlan) (job segment from to : ℕ) (f : Fault) : Type 0 where
   pub known : job < length plans
   pub usable : first_unusable_at (answers_before plans job) (plan_at plans job).named ≡ None

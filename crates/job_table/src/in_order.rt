@@ -1,13 +1,13 @@
-//! The last segment of a job of a plan, walked in order.
+//! The last leg of a job of a plan, walked in order.
 ghost use Rattle.std.specs.Prelude.{◌≡◌, ◌<◌, ℕ, false, length, IfOk};
 ghost use Rattle.job_meaning.specs.declared.answer.Answer.{Answer as answers};
 ghost use Rattle.job_plan.specs.Parts.{may_search, plans_in};
-ghost use Rattle.job_table.specs.PlanSegments.{PartStands, answer_of, chain_at, size_at, slices_first};
+ghost use Rattle.job_table.specs.PlanSegments.{PartStands, answer_of, chain_at, prefixes_first, size_at};
 ghost use Rattle.job_table.specs.Sources.{IsKept};
 ghost use Rattle.job_table.specs.Takings.{IsTaken};
 
 use crate::kept::{SegmentSource, Taken};
-use crate::plan_parts::{part_in_order, slices_first, streamed_piece};
+use crate::plan_parts::{last_leg, part_in_order};
 use crate::planned::{PlanBrand, PlanJobs};
 use batch_eval::Registers;
 use job_meaning::Answer;
@@ -16,7 +16,7 @@ use job_runner::{EarlierAnswers, NoMemory, SegmentInput};
 use std::alloc::Global;
 
 impl<'a, 'c, P: PlanBrand> PlanJobs<'a, 'c, P> {
-    /// The part of the last segment of a job, whose source is walked in order.
+    /// The part of the last leg of a job, whose source is walked in order.
     pub(crate) fn in_order<E: EarlierAnswers<Answer>>(
         &self,
         alloc: Global,
@@ -25,39 +25,32 @@ impl<'a, 'c, P: PlanBrand> PlanJobs<'a, 'c, P> {
         registers: &mut Registers,
     ) -> Result<Part<'a>, NoMemory>
         requires job { job < length P.jobs }
-        requires source { IsKept (chain_at (plans_in P.jobs) job) (slices_first (chain_at (plans_in P.jobs) job).segments) input.source.now }
+        requires source { IsKept (chain_at (plans_in P.jobs) job)
+            (prefixes_first (chain_at (plans_in P.jobs) job).legs) input.source.now }
         requires given { IsTaken (plans_in P.jobs) job input.given.now }
         requires earlier { (j : ℕ) (a : answers) → E.is_answer j a → a ≡ answer_of (plans_in P.jobs) j }
-        ensures stands { IfOk result (λ part. PartStands (chain_at (plans_in P.jobs) job) (slices_first (chain_at (plans_in P.jobs) job).segments) 0
-            (size_at (chain_at (plans_in P.jobs) job) (slices_first (chain_at (plans_in P.jobs) job).segments)) part) }
+        ensures stands { IfOk result (λ part. PartStands (chain_at (plans_in P.jobs) job)
+            (prefixes_first (chain_at (plans_in P.jobs) job).legs) 0
+            (size_at (chain_at (plans_in P.jobs) job) (prefixes_first (chain_at (plans_in P.jobs) job).legs)) part) }
         ensures kind { IfOk result (λ part. may_search part ≡ false) }
     {
         let plan = self.job(job);
         let env = &input.given.numbers;
+        let last = last_leg(plan.later_segments());
         match input.source {
             SegmentSource::Own if plan.takes_arrays() => {
                 let own = self.own(job);
                 let sources = self.put_sources(alloc, job, own, input.earlier)?;
                 let source = Source::of_sources(&sources, own);
-                let walked = Walked { source, env };
-                if plan.streams() {
-                    return streamed_piece(alloc, plan, walked, registers);
-                }
-                part_in_order(alloc, plan, 0, walked, registers)
+                part_in_order(alloc, plan, last, Walked { source, env }, registers)
             }
             SegmentSource::Own => {
                 let source = Source::of_selected(plan);
-                let walked = Walked { source, env };
-                if plan.streams() {
-                    return streamed_piece(alloc, plan, walked, registers);
-                }
-                part_in_order(alloc, plan, 0, walked, registers)
+                part_in_order(alloc, plan, last, Walked { source, env }, registers)
             }
             SegmentSource::Kept(walk) => {
-                let last = slices_first(plan.walked_segments());
                 let source = Source::of_given(walk);
-                let walked = Walked { source, env };
-                part_in_order(alloc, plan, last, walked, registers)
+                part_in_order(alloc, plan, last, Walked { source, env }, registers)
             }
         }
     }

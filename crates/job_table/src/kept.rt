@@ -1,7 +1,7 @@
 //! What jobs of a plan take of others, and what their segments go over, as it is kept between them.
 
-use job_plan::GivenWalk;
 use lambda_values::Env;
+use prefix_walks::GivenWalk;
 
 /// What a segment goes over.
 #[derive(Drop)]

@@ -18,5 +18,4 @@ mod plan_parts;
 mod plan_segments;
 mod planned;
 
-pub use job_runner::{Idle, JobWork, Task};
 pub use planned::{PlanBrand, PlanJobs, RunFault, run_jobs};

@@ -4,7 +4,8 @@ ghost use Rattle.std.specs.Option.{option_map};
 ghost use Rattle.job_language.specs.Jobs.{source_of, sources_of, values};
 ghost use Rattle.job_meaning.specs.Walks.{array_of};
 ghost use Rattle.job_plan.specs.Parts.{plan_in, plans_in};
-ghost use Rattle.job_plan.specs.PlannedAnswers.{all_put_at, array_at, first_unusable_at, number_there, numbers_at, place_in, put_at, unusable_there};
+ghost use Rattle.job_plan.specs.PlannedAnswers.{all_put_at, array_at, first_unusable_at, number_there};
+ghost use Rattle.job_plan.specs.PlannedAnswers.{numbers_at, place_in, put_at, unusable_there};
 ghost use Rattle.job_meaning.specs.declared.answer.Answer.{Answer as answers};
 ghost use Rattle.job_meaning.specs.declared.answer.Answer.TheVariants as answer;
 ghost use Rattle.job_runner.specs.Begins.{IsBegun};
@@ -83,7 +84,8 @@ impl<'a, 'c, P: PlanBrand> PlanJobs<'a, 'c, P> {
     ) -> Result<Option<&'e Answer>, NoMemory>
         requires job { job < length P.jobs }
         requires earlier { (j : ℕ) (a : answers) → E.is_answer j a → a ≡ answer_of (plans_in P.jobs) j }
-        ensures { IfOk result (λ found. option_map (λ a. a.now) found ≡ slice_get (answers_before (plans_in P.jobs) job) named) }
+        ensures { IfOk result (λ found. option_map (λ a. a.now) found
+            ≡ slice_get (answers_before (plans_in P.jobs) job) named) }
     {
         if named >= job {
             return Ok(None);
@@ -105,8 +107,11 @@ impl<'a, 'c, P: PlanBrand> PlanJobs<'a, 'c, P> {
     ) -> Result<bool, NoMemory>
         requires job { job < length P.jobs }
         requires earlier { (j : ℕ) (a : answers) → E.is_answer j a → a ≡ answer_of (plans_in P.jobs) j }
-        ensures usable { IfOk result (λ usable. unusable_there name.now.job (slice_get (answers_before (plans_in P.jobs) job) name.now.job) ≡ (if usable then None else Some name.now.job)) }
-        ensures number { IfOk result (λ usable. usable ≡ true → numbers.new ≡ numbers.old ++ number_there name.now.name (slice_get (answers_before (plans_in P.jobs) job) name.now.job)) }
+        ensures usable { IfOk result
+            (λ usable. unusable_there name.now.job (slice_get (answers_before (plans_in P.jobs) job) name.now.job)
+            ≡ (if usable then None else Some name.now.job)) }
+        ensures number { IfOk result (λ usable. usable ≡ true → numbers.new ≡ numbers.old
+            ++ number_there name.now.name (slice_get (answers_before (plans_in P.jobs) job) name.now.job)) }
     {
         let Some(answer) = self.named_answer(job, name.job, earlier)? else {
             return Ok(true);
@@ -130,8 +135,10 @@ impl<'a, 'c, P: PlanBrand> PlanJobs<'a, 'c, P> {
         requires job { job < length P.jobs }
         requires earlier { (j : ℕ) (a : answers) → E.is_answer j a → a ≡ answer_of (plans_in P.jobs) j }
         ensures { IfOk result (λ begun. IsBegun
-            (λ env. (first_unusable_at (answers_before (plans_in P.jobs) job) named.now ≡ None) × (env ≡ numbers_at (answers_before (plans_in P.jobs) job) named.now))
-            (λ a. (place : ℕ) × (first_unusable_at (answers_before (plans_in P.jobs) job) named.now ≡ Some place) × (a ≡ answer.Unusable place)) begun) }
+            (λ env. (first_unusable_at (answers_before (plans_in P.jobs) job) named.now ≡ None)
+            × (env ≡ numbers_at (answers_before (plans_in P.jobs) job) named.now))
+            (λ a. (place : ℕ) × (first_unusable_at (answers_before (plans_in P.jobs) job) named.now ≡ Some place)
+            × (a ≡ answer.Unusable place)) begun) }
     {
         let mut numbers = Env::empty(alloc);
         for name in named {
@@ -153,7 +160,8 @@ impl<'a, 'c, P: PlanBrand> PlanJobs<'a, 'c, P> {
     ) -> Result<PlainSource<'e>, NoMemory>
         requires job { job < length P.jobs }
         requires earlier { (j : ℕ) (a : answers) → E.is_answer j a → a ≡ answer_of (plans_in P.jobs) j }
-        ensures { IfOk result (λ array. source_of array ≡ values (array_at (answers_before (plans_in P.jobs) job) (place_in plan.now.named.items name.now))) }
+        ensures { IfOk result (λ array. source_of array
+            ≡ values (array_at (answers_before (plans_in P.jobs) job) (place_in plan.now.named.items name.now))) }
     {
         let Some(named) = plan.job_named(name) else {
             return Ok(PlainSource::Column(&[]));
@@ -175,7 +183,8 @@ impl<'a, 'c, P: PlanBrand> PlanJobs<'a, 'c, P> {
     ) -> Result<PlainSource<'x>, NoMemory>
         requires job { job < length P.jobs }
         requires earlier { (j : ℕ) (a : answers) → E.is_answer j a → a ≡ answer_of (plans_in P.jobs) j }
-        ensures { IfOk result (λ put. source_of put ≡ put_at (answers_before (plans_in P.jobs) job) plan.now.named.items (source_of source.now)) }
+        ensures { IfOk result (λ put. source_of put
+            ≡ put_at (answers_before (plans_in P.jobs) job) plan.now.named.items (source_of source.now)) }
     {
         match source {
             PlainSource::Range { from, to } => Ok(PlainSource::Range {
@@ -202,7 +211,8 @@ impl<'a, 'c, P: PlanBrand> PlanJobs<'a, 'c, P> {
     ) -> Result<Vec<PlainSource<'x>>, NoMemory>
         requires job { job < length P.jobs }
         requires earlier { (j : ℕ) (a : answers) → E.is_answer j a → a ≡ answer_of (plans_in P.jobs) j }
-        ensures { IfOk result (λ sources. sources_of sources.items ≡ all_put_at (answers_before (plans_in P.jobs) job) plan.now.named.items (sources_of plan.now.sources.items)) }
+        ensures { IfOk result (λ sources. sources_of sources.items ≡ all_put_at (answers_before (plans_in P.jobs) job)
+            plan.now.named.items (sources_of plan.now.sources.items)) }
     {
         let mut sources = Vec::new(alloc);
         for source in &plan.sources {

@@ -1,69 +1,69 @@
-//! The segments of one job of a plan: how a piece is walked, and what comes of a whole segment.
-ghost use Rattle.std.specs.Prelude.{◌≡◌, ◌≢◌, ◌+◌, ◌<◌, ◌≤◌, ℕ, false, true, length, slice_get, None, IfNone, IfOk, IfSome};
+//! The legs of one job of a plan: how a piece is walked, and what comes of a whole leg.
+ghost use Rattle.std.specs.Prelude.{◌≡◌, ◌≢◌, ◌+◌, ◌<◌, ◌≤◌, ℕ, false, true};
+ghost use Rattle.std.specs.Prelude.{length, slice_get, None, IfNone, IfOk, IfSome};
 ghost use Rattle.trace.specs.Trace.{nothing};
 ghost use Rattle.early_stop.specs.Decisive.{Decides};
-ghost use Rattle.job_plan.specs.Parts.{StandsFor, end_in, may_search, plan_in, segments_in, walk_in};
-ghost use Rattle.job_plan.specs.Plans.{segments_answer};
+ghost use Rattle.job_plan.specs.Parts.{StandsFor, may_search, plan_in, segments_in, walk_in};
 ghost use Rattle.prefix_walks.specs.Spans.{IsNotAfter};
-ghost use Rattle.job_plan.specs.Links.{first_links, linked, walked_segments};
+ghost use Rattle.job_plan.specs.Links.{legs_answer, legs_of, links_there, plan_legs};
 ghost use Rattle.job_meaning.specs.Walks.{instead_of_fault};
-ghost use Rattle.job_plan.specs.Windows.{later_segments};
-ghost use Rattle.job_table.specs.PlanSegments.{AbstractChain, PartStands, end_divides, gives_at, segment_divides, size_at, slices_first, upto, walk_at, walk_size};
+ghost use Rattle.job_table.specs.PlanSegments.{AbstractChain, PartStands, gives_at, leg_divides, positions_of};
+ghost use Rattle.job_table.specs.PlanSegments.{prefixes_first, size_at, source_at, upto, walk_at, walk_size};
 
 use batch_eval::Registers;
 use early_stop::Stop;
+use job_meaning::Answer;
 use job_plan::{
-    Answer, ArrayPart, GivenWalk, JobPlan, Outcome, Part, Segment, SegmentEnd, Source, Walked,
-    Window, leaf_in_order, leaf_stored, leaf_until, streamed, unwalked,
+    ArrayPart, JobPlan, Outcome, Part, Segment, SegmentEnd, Source, Walked, leaf_in_order,
+    leaf_stored, leaf_until, streamed, unwalked,
 };
 use job_runner::{NoMemory, Piece};
 use lambda_values::Env;
-use slice_ops::Slice;
+use prefix_walks::{GivenWalk, Window};
 use std::alloc::Global;
 use trace::{Chunk, End};
 
-/// How many of the first segments end in a slice or a prefix: the number of the segment that gives the answer.
-pub(crate) fn slices_first(segments: &[Segment]) -> usize
-    ensures value { result ≡ slices_first (segments_in segments.now) }
+/// How many of the first legs of segments end in a prefix: the number of the leg that gives the answer.
+pub(crate) fn last_leg(segments: &[Segment]) -> usize
+    ensures value { result ≡ prefixes_first (legs_of (segments_in segments.now)) }
     ensures few { result ≤ length segments.now }
 {
     let Some((segment, later)) = segments.split_first() else {
         return 0;
     };
-    if segment.end.gives_walk() {
-        slices_first(later) + 1
-    } else {
-        0
+    match &segment.end {
+        SegmentEnd::Slice(_) => last_leg(later),
+        SegmentEnd::Prefix(_) => last_leg(later) + 1,
+        SegmentEnd::Fold(_) | SegmentEnd::Find(_) | SegmentEnd::Array | SegmentEnd::ExactSum => 0,
     }
 }
 
-/// Whether a segment with this end is walked in pieces: not if `limit` or `takeWhile` ends it, since pieces after the
-/// place at which it ends would keep items for nothing.
-fn end_divides(end: &SegmentEnd) -> bool
-    ensures { result ≡ end_divides (end_in end.now) }
+/// Whether a leg of a job is walked in pieces: not if it goes through slices.
+pub(crate) fn is_divided(plan: &JobPlan, leg: usize) -> bool
+    ensures { result ≡ leg_divides (slice_get (plan_legs (plan_in plan.now)) leg) }
 {
-    match end.slice() {
-        Some(Slice::Limit(_) | Slice::TakeWhile(_)) => false,
-        Some(Slice::Skip(_) | Slice::DropWhile(_)) | None => true,
-    }
-}
-
-/// Whether a segment of a job is walked in pieces. Segments are numbered from the first of its `walked_segments`.
-pub(crate) fn is_divided(plan: &JobPlan, segment: usize) -> bool
-    ensures { result ≡ segment_divides (slice_get (walked_segments (plan_in plan.now)) segment) }
-{
-    match plan.walked_segments().get(segment) {
-        Some(of) => end_divides(&of.end),
+    match plan.leg(leg) {
+        Some(leg) => !leg.streams(),
         None => false,
     }
 }
 
-/// The part of a piece that isn't walked. A segment that isn't there has a part that says nothing.
-pub(crate) fn left_out<'a>(alloc: Global, plan: &'a JobPlan, segment: usize, env: &Env) -> Part<'a>
-    ensures { IfSome (slice_get (walked_segments (plan_in plan.now)) segment) (λ s. StandsFor s env.now result nothing) }
+/// How many positions a leg of a job has for a run, if it goes over a walk of this size.
+pub(crate) fn positions(plan: &JobPlan, leg: usize, size: u64) -> u64
+    ensures { result ≡ positions_of (links_there (slice_get (plan_legs (plan_in plan.now)) leg)) size }
 {
-    match plan.walked_segments().get(segment) {
-        Some(of) => unwalked(alloc, of, env),
+    match plan.leg(leg) {
+        Some(leg) if leg.streams() => 0,
+        Some(_) | None => size,
+    }
+}
+
+/// The part of a piece that isn't walked. A leg that isn't there has a part that says nothing.
+pub(crate) fn left_out<'a>(alloc: Global, plan: &'a JobPlan, leg: usize, env: &Env) -> Part<'a>
+    ensures { IfSome (slice_get (plan_legs (plan_in plan.now)) leg) (λ l. StandsFor l.last env.now result nothing) }
+{
+    match plan.leg(leg) {
+        Some(leg) => unwalked(alloc, leg.last, env),
         None => Part::Array(ArrayPart::none(alloc)),
     }
 }
@@ -81,7 +81,7 @@ fn end_of(piece: Piece, source: &Source) -> Option<u64>
     }
 }
 
-/// Walks a piece of a segment, as far as it matters. A segment that isn't there has a part that says nothing.
+/// Walks a piece of a leg, as far as it matters. A leg that isn't there has a part that says nothing.
 pub(crate) fn lent_piece<'a, W: Stop>(
     alloc: Global,
     plan: &'a JobPlan,
@@ -91,22 +91,26 @@ pub(crate) fn lent_piece<'a, W: Stop>(
     stop: &mut W,
 ) -> Result<Part<'a>, NoMemory>
     requires ordered { piece.from ≤ piece.to }
-    ensures { (chain : AbstractChain) → chain.segments ≡ walked_segments (plan_in plan.now) → chain.numbers ≡ walked.entry.env.now
-        → walk_in walked.entry.source ≡ walk_at chain piece.segment → size_at chain piece.segment ≡ walk_size (walk_at chain piece.segment) → ((c : ℕ) → W.decides stop.old c → Decides (gives_at chain piece.segment) (walk_at chain piece.segment) c)
+    ensures { (chain : AbstractChain) → chain.legs ≡ plan_legs (plan_in plan.now) → chain.numbers ≡ walked.entry.env.now
+        → walk_in walked.entry.source ≡ source_at chain piece.segment → piece.to ≤ size_at chain piece.segment
+        → ((c : ℕ) → W.decides stop.old c → Decides (gives_at chain piece.segment) (walk_at chain piece.segment) c)
         → IfOk result (λ part. PartStands chain piece.segment piece.from piece.to part) }
 {
-    let Some(of) = plan.walked_segments().get(piece.segment) else {
+    let Some(leg) = plan.leg(piece.segment) else {
         return Ok(Part::Array(ArrayPart::none(alloc)));
     };
+    if leg.streams() {
+        return streamed(alloc, leg, walked, registers);
+    }
     let window = Window {
         from: piece.from,
         to: end_of(piece, &walked.source),
     };
-    leaf_until(alloc, of, walked, window, registers, stop)
+    leaf_until(alloc, leg.last, walked, window, registers, stop)
 }
 
-/// Walks a piece of a segment, as far as it matters, into a part that borrows no value of the source: the source may go
-/// before the part. A segment that isn't there has a part that says nothing.
+/// Walks a piece of a leg, as far as it matters, into a part that borrows no value of the source: the source may go
+/// before the part. A leg that isn't there has a part that says nothing.
 pub(crate) fn stored_piece<'a, W: Stop>(
     alloc: Global,
     plan: &'a JobPlan,
@@ -116,47 +120,33 @@ pub(crate) fn stored_piece<'a, W: Stop>(
     stop: &mut W,
 ) -> Result<Part<'a>, NoMemory>
     requires ordered { piece.from ≤ piece.to }
-    ensures { (chain : AbstractChain) → chain.segments ≡ walked_segments (plan_in plan.now) → chain.numbers ≡ walked.entry.env.now
-        → walk_in walked.entry.source ≡ walk_at chain piece.segment → size_at chain piece.segment ≡ walk_size (walk_at chain piece.segment) → ((c : ℕ) → W.decides stop.old c → Decides (gives_at chain piece.segment) (walk_at chain piece.segment) c)
+    ensures { (chain : AbstractChain) → chain.legs ≡ plan_legs (plan_in plan.now) → chain.numbers ≡ walked.entry.env.now
+        → walk_in walked.entry.source ≡ source_at chain piece.segment → piece.to ≤ size_at chain piece.segment
+        → ((c : ℕ) → W.decides stop.old c → Decides (gives_at chain piece.segment) (walk_at chain piece.segment) c)
         → IfOk result (λ part. PartStands chain piece.segment piece.from piece.to part) }
 {
-    let Some(of) = plan.walked_segments().get(piece.segment) else {
+    let Some(leg) = plan.leg(piece.segment) else {
         return Ok(Part::Array(ArrayPart::none(alloc)));
     };
+    if leg.streams() {
+        return streamed(alloc, leg, walked, registers);
+    }
     let window = Window {
         from: piece.from,
         to: end_of(piece, &walked.source),
     };
-    leaf_stored(alloc, of, walked, window, registers, stop)
+    leaf_stored(alloc, leg.last, walked, window, registers, stop)
 }
 
-/// Walks all of a job's sources through the slices before its first segment, and through this. `last_answer` gives an
-/// answer of the part. A segment that isn't there has a part that says nothing.
-pub(crate) fn streamed_piece<'a>(
-    alloc: Global,
-    plan: &'a JobPlan,
-    walked: Walked,
-    registers: &mut Registers,
-) -> Result<Part<'a>, NoMemory>
-    ensures stands { (chain : AbstractChain) → chain.segments ≡ walked_segments (plan_in plan.now) → chain.numbers ≡ walked.entry.env.now → chain.streams ≡ true
-        → linked (first_links (later_segments (plan_in plan.now).segments)) walked.entry.env.now (walk_in walked.entry.source) ≡ chain.source
-        → IfOk result (λ part. PartStands chain 0 0 0 part) }
-    ensures kind { IfOk result (λ part. may_search part ≡ false) }
-{
-    let Some(first) = plan.walked_segments().get(0) else {
-        return Ok(Part::Array(ArrayPart::none(alloc)));
-    };
-    streamed(alloc, plan.later_segments(), first, walked, registers)
-}
-
-/// What the next segment goes over, of the part of a whole segment.
+/// What the next leg goes over, of the part of a whole leg.
 pub(crate) fn next_walk<'a>(
     alloc: Global,
     part: Part<'a>,
     env: &Env,
 ) -> Result<GivenWalk<'a>, NoMemory>
-    ensures { IfOk result (λ given. (chain : AbstractChain) (segment : ℕ) → chain.numbers ≡ env.now → segment < slices_first chain.segments
-        → PartStands chain segment 0 (size_at chain segment) part.entry → given ≡ walk_at chain (segment + 1)) }
+    ensures { IfOk result (λ given. (chain : AbstractChain) (k : ℕ) → chain.numbers ≡ env.now
+        → k < prefixes_first chain.legs
+        → PartStands chain k 0 (size_at chain k) part.entry → given ≡ source_at chain (k + 1)) }
 {
     let Some(outcome) = part.finish(alloc, env)? else {
         return Ok(GivenWalk::of(alloc, Chunk::ending(alloc, End::Done)));
@@ -167,43 +157,47 @@ pub(crate) fn next_walk<'a>(
     }
 }
 
-/// The part of a whole segment, whose source is walked in order, so that `last_answer` gives an answer. A segment that
-/// isn't there has a part that says nothing.
+/// The part of a whole leg, whose source is walked in order, so that `last_answer` gives an answer. A leg that isn't
+/// there has a part that says nothing.
 pub(crate) fn part_in_order<'a>(
     alloc: Global,
     plan: &'a JobPlan,
-    segment: usize,
+    leg: usize,
     walked: Walked,
     registers: &mut Registers,
 ) -> Result<Part<'a>, NoMemory>
-    ensures stands { (chain : AbstractChain) → chain.segments ≡ walked_segments (plan_in plan.now) → chain.numbers ≡ walked.entry.env.now
-        → walk_in walked.entry.source ≡ walk_at chain segment → IfOk result (λ part. PartStands chain segment 0 (size_at chain segment) part) }
+    ensures stands { (chain : AbstractChain) → chain.legs ≡ plan_legs (plan_in plan.now)
+        → chain.numbers ≡ walked.entry.env.now
+        → walk_in walked.entry.source ≡ source_at chain leg
+        → IfOk result (λ part. PartStands chain leg 0 (size_at chain leg) part) }
     ensures kind { IfOk result (λ part. may_search part ≡ false) }
 {
-    let Some(of) = plan.walked_segments().get(segment) else {
+    let Some(leg) = plan.leg(leg) else {
         return Ok(Part::Array(ArrayPart::none(alloc)));
     };
-    leaf_in_order(alloc, of, walked, registers)
+    if leg.streams() {
+        return streamed(alloc, leg, walked, registers);
+    }
+    leaf_in_order(alloc, leg.last, walked, registers)
 }
 
-/// The answer that the part of the whole last segment of a job gives. It is 0 if there is no last segment. `None` if
-/// the source of the segment has to be walked once more, in order.
+/// The answer that the part of the whole last leg of a job gives. It is 0 if there is no last leg. `None` if what the
+/// leg goes over has to be walked once more, in order.
 pub(crate) fn last_answer(
     alloc: Global,
     plan: &JobPlan,
     part: Part<'_>,
     env: &Env,
 ) -> Result<Option<Answer>, NoMemory>
-    ensures some { IfOk result (λ found. IfSome found (λ answer. (chain : AbstractChain) → chain.segments ≡ walked_segments (plan_in plan.now) → chain.numbers ≡ env.now
-        → PartStands chain (slices_first chain.segments) 0 (size_at chain (slices_first chain.segments)) part.entry
-        → answer ≡ segments_answer chain.segments chain.numbers chain.source)) }
+    ensures some { IfOk result (λ found. IfSome found (λ answer. (chain : AbstractChain)
+        → chain.legs ≡ plan_legs (plan_in plan.now) → chain.numbers ≡ env.now
+        → PartStands chain (prefixes_first chain.legs) 0 (size_at chain (prefixes_first chain.legs)) part.entry
+        → answer ≡ legs_answer chain.legs chain.numbers chain.source)) }
     ensures none { IfOk result (λ found. IfNone found (may_search part.entry ≡ true)) }
 {
-    let segments = plan.walked_segments();
-    let last = slices_first(segments);
-    if last == segments.len() {
+    let Some(_leg) = plan.leg(last_leg(plan.later_segments())) else {
         return Ok(Some(Answer::Number(0)));
-    }
+    };
     let Some(outcome) = part.finish(alloc, env)? else {
         return Ok(None);
     };
@@ -213,16 +207,17 @@ pub(crate) fn last_answer(
     }
 }
 
-/// The answer of a job, of the part of its whole last segment, or what the job gives after a fault.
+/// The answer of a job, of the part of its whole last leg, or what the job gives after a fault.
 pub(crate) fn job_answer(
     alloc: Global,
     plan: &JobPlan,
     part: Part<'_>,
     env: &Env,
 ) -> Result<Option<Answer>, NoMemory>
-    ensures some { IfOk result (λ found. IfSome found (λ answer. (chain : AbstractChain) → chain.segments ≡ walked_segments (plan_in plan.now) → chain.numbers ≡ env.now
-        → PartStands chain (slices_first chain.segments) 0 (size_at chain (slices_first chain.segments)) part.entry
-        → answer ≡ instead_of_fault (plan_in plan.now).fallback (segments_answer chain.segments chain.numbers chain.source))) }
+    ensures some { IfOk result (λ found. IfSome found (λ answer. (chain : AbstractChain)
+        → chain.legs ≡ plan_legs (plan_in plan.now) → chain.numbers ≡ env.now
+        → PartStands chain (prefixes_first chain.legs) 0 (size_at chain (prefixes_first chain.legs)) part.entry
+        → answer ≡ instead_of_fault (plan_in plan.now).fallback (legs_answer chain.legs chain.numbers chain.source))) }
     ensures none { IfOk result (λ found. IfNone found (may_search part.entry ≡ true)) }
 {
     match last_answer(alloc, plan, part, env)? {
@@ -231,17 +226,16 @@ pub(crate) fn job_answer(
     }
 }
 
-/// Whether this segment gives the answer of a job that gives another answer after a fault.
-pub(crate) fn catches(plan: &JobPlan, segment: usize) -> bool
+/// Whether this leg gives the answer of a job that gives another answer after a fault.
+pub(crate) fn catches(plan: &JobPlan, leg: usize) -> bool
     ensures instead { result ≡ true → (plan_in plan.now).fallback ≢ None }
-    ensures last { result ≡ true → segment ≡ slices_first (walked_segments (plan_in plan.now)) }
-    ensures there { result ≡ true → slice_get (walked_segments (plan_in plan.now)) segment ≢ None }
-    ensures all { (plan_in plan.now).fallback ≢ None → segment ≡ slices_first (walked_segments (plan_in plan.now))
-        → slice_get (walked_segments (plan_in plan.now)) segment ≢ None → result ≡ true }
+    ensures last { result ≡ true → leg ≡ prefixes_first (plan_legs (plan_in plan.now)) }
+    ensures there { result ≡ true → slice_get (plan_legs (plan_in plan.now)) leg ≢ None }
+    ensures all { (plan_in plan.now).fallback ≢ None → leg ≡ prefixes_first (plan_legs (plan_in plan.now))
+        → slice_get (plan_legs (plan_in plan.now)) leg ≢ None → result ≡ true }
 {
-    let segments = plan.walked_segments();
-    if segment >= segments.len() {
+    if plan.leg(leg).is_none() {
         return false;
     }
-    plan.fallback.is_some() && segment == slices_first(segments)
+    plan.fallback.is_some() && leg == last_leg(plan.later_segments())
 }

@@ -1,4 +1,4 @@
-//! The jobs of a plan as segments of a run.
+//! The jobs of a plan as segments of a run. A segment of the run is a leg of the plan.
 ghost use Rattle.std.specs.Prelude.{◌≡◌, ◌<◌, ◌≤◌, ◌+◌, ℕ, length, slice_get, IfOk};
 ghost use Rattle.job_meaning.specs.declared.answer.Answer.{Answer as answers};
 ghost use Rattle.job_plan.specs.Parts.{fallback_in, plans_in};
@@ -6,7 +6,8 @@ ghost use Rattle.job_table.specs.Caught.{FaultAmong, IsCaught};
 ghost use Rattle.job_table.specs.CaughtLaws.{among_more};
 ghost use Rattle.job_runner.specs.Cuts.{IsPiece};
 ghost use Rattle.early_stop.specs.Decisive.{Decides};
-ghost use Rattle.job_table.specs.PlanSegments.{PartStands, answer_of, chain_at, gives_at, segment_divides, size_at, slices_first, walk_at};
+ghost use Rattle.job_table.specs.PlanSegments.{PartStands, answer_of, chain_at, gives_at};
+ghost use Rattle.job_table.specs.PlanSegments.{leg_divides, prefixes_first, size_at, walk_at};
 ghost use Rattle.job_table.specs.Sources.{IsKept, one_kept};
 ghost use Rattle.job_table.specs.PlanLaws.{one_answer};
 ghost use Rattle.job_table.specs.Takings.{IsTaken, one_taken};
@@ -14,8 +15,8 @@ ghost use Rattle.job_table.specs.Takings.{IsTaken, one_taken};
 use crate::kept::{SegmentSource, Taken};
 use crate::plan_names::different;
 use crate::plan_parts::{
-    catches, is_divided, job_answer, left_out, lent_piece, next_walk, slices_first, stored_piece,
-    streamed_piece,
+    catches, is_divided, job_answer, last_leg, left_out, lent_piece, next_walk, positions,
+    stored_piece,
 };
 use crate::planned::{PlanBrand, PlanJobs};
 use batch_eval::Registers;
@@ -43,7 +44,7 @@ impl<'a, 'c, P: PlanBrand> JobSegments for PlanJobs<'a, 'c, P> {
 
     ghost job_count = { length P.jobs };
 
-    ghost last_of = { λ job. slices_first (chain_at (plans_in P.jobs) job).segments };
+    ghost last_of = { λ job. prefixes_first (chain_at (plans_in P.jobs) job).legs };
 
     ghost size_of = { λ job segment. size_at (chain_at (plans_in P.jobs) job) segment };
 
@@ -55,7 +56,8 @@ impl<'a, 'c, P: PlanBrand> JobSegments for PlanJobs<'a, 'c, P> {
 
     ghost faults_with = { λ job segment from to fault. FaultAmong (plans_in P.jobs) job segment from to fault };
 
-    ghost faults_among = { λ job segment from to fault a b low high among. among_more (plans_in P.jobs) job segment from to fault a b low high among };
+    ghost faults_among = { λ job segment from to fault a b low high among. among_more
+        (plans_in P.jobs) job segment from to fault a b low high among };
 
     ghost is_caught = { λ job segment part fault. IsCaught (plans_in P.jobs) job segment part fault };
 
@@ -108,24 +110,24 @@ impl<'a, 'c, P: PlanBrand> JobSegments for PlanJobs<'a, 'c, P> {
     }
 
     fn last_segment(&self, job: usize) -> usize {
-        slices_first(self.job(job).walked_segments())
+        last_leg(self.job(job).later_segments())
     }
 
     fn first_source(&self, _job: usize) -> SegmentSource<'a> {
         SegmentSource::Own
     }
 
-    fn size(&self, _job: usize, _segment: usize, source: &SegmentSource<'a>, given: &Taken) -> u64 {
+    fn size(&self, job: usize, segment: usize, source: &SegmentSource<'a>, given: &Taken) -> u64 {
         match source {
             SegmentSource::Own => given.size,
-            SegmentSource::Kept(walk) => Source::of_given(walk).size(),
+            SegmentSource::Kept(walk) => positions(self.job(job), segment, walk.size()),
         }
     }
 
     fn is_divided(&self, job: usize, segment: usize) -> bool
         requires job { job < length P.jobs }
-        requires segment { segment ≤ slices_first (chain_at (plans_in P.jobs) job).segments }
-        ensures { result ≡ segment_divides (slice_get (chain_at (plans_in P.jobs) job).segments segment) }
+        requires segment { segment ≤ prefixes_first (chain_at (plans_in P.jobs) job).legs }
+        ensures { result ≡ leg_divides (slice_get (chain_at (plans_in P.jobs) job).legs segment) }
     {
         is_divided(self.job(job), segment)
     }
@@ -170,12 +172,17 @@ impl<'a, 'c, P: PlanBrand> JobSegments for PlanJobs<'a, 'c, P> {
         registers: &mut Registers,
         stop: &mut W,
     ) -> Result<Part<'a>, NoMemory>
-        requires stop { (c : ℕ) → W.decides stop.old c → Decides (gives_at (chain_at (plans_in P.jobs) piece.job) piece.segment) (walk_at (chain_at (plans_in P.jobs) piece.job) piece.segment) c }
-        requires piece { IsPiece (length P.jobs) (λ job. slices_first (chain_at (plans_in P.jobs) job).segments) (λ job segment. size_at (chain_at (plans_in P.jobs) job) segment) piece.job piece.segment piece.from piece.to }
+        requires stop { (c : ℕ) → W.decides stop.old c
+            → Decides (gives_at (chain_at (plans_in P.jobs) piece.job) piece.segment)
+            (walk_at (chain_at (plans_in P.jobs) piece.job) piece.segment) c }
+        requires piece { IsPiece (length P.jobs) (λ job. prefixes_first (chain_at (plans_in P.jobs) job).legs)
+            (λ job segment. size_at (chain_at (plans_in P.jobs) job) segment)
+            piece.job piece.segment piece.from piece.to }
         requires source { IsKept (chain_at (plans_in P.jobs) piece.job) piece.segment input.source.now }
         requires given { IsTaken (plans_in P.jobs) piece.job input.given.now }
         requires earlier { (j : ℕ) (a : answers) → E.is_answer j a → a ≡ answer_of (plans_in P.jobs) j }
-        ensures { IfOk result (λ part. PartStands (chain_at (plans_in P.jobs) piece.job) piece.segment piece.from piece.to part) }
+        ensures { IfOk result
+            (λ part. PartStands (chain_at (plans_in P.jobs) piece.job) piece.segment piece.from piece.to part) }
     {
         let plan = self.job(piece.job);
         let env = &input.given.numbers;
@@ -184,34 +191,27 @@ impl<'a, 'c, P: PlanBrand> JobSegments for PlanJobs<'a, 'c, P> {
                 let own = self.own(piece.job);
                 let sources = self.put_sources(alloc, piece.job, own, input.earlier)?;
                 let source = Source::of_sources(&sources, own);
-                let walked = Walked { source, env };
-                if plan.streams() {
-                    return streamed_piece(alloc, plan, walked, registers);
-                }
-                stored_piece(alloc, plan, piece, walked, registers, stop)
+                stored_piece(alloc, plan, piece, Walked { source, env }, registers, stop)
             }
             SegmentSource::Own => {
                 let source = Source::of_selected(plan);
-                let walked = Walked { source, env };
-                if plan.streams() {
-                    return streamed_piece(alloc, plan, walked, registers);
-                }
-                lent_piece(alloc, plan, piece, walked, registers, stop)
+                lent_piece(alloc, plan, piece, Walked { source, env }, registers, stop)
             }
             SegmentSource::Kept(walk) => {
                 let source = Source::of_given(walk);
-                let walked = Walked { source, env };
-                lent_piece(alloc, plan, piece, walked, registers, stop)
+                lent_piece(alloc, plan, piece, Walked { source, env }, registers, stop)
             }
         }
     }
 
     fn merge(cut: CutPiece, left: Part<'a>, right: Part<'a>) -> Result<Part<'a>, NoMemory>
-        requires piece { IsPiece (length P.jobs) (λ job. slices_first (chain_at (plans_in P.jobs) job).segments) (λ job segment. size_at (chain_at (plans_in P.jobs) job) segment) cut.job cut.segment cut.from cut.to }
+        requires piece { IsPiece (length P.jobs) (λ job. prefixes_first (chain_at (plans_in P.jobs) job).legs)
+            (λ job segment. size_at (chain_at (plans_in P.jobs) job) segment) cut.job cut.segment cut.from cut.to }
         requires within { (cut.from < cut.middle) × (cut.middle < cut.to) }
         requires left { PartStands (chain_at (plans_in P.jobs) cut.job) cut.segment cut.from cut.middle left }
         requires right { PartStands (chain_at (plans_in P.jobs) cut.job) cut.segment cut.middle cut.to right }
-        ensures { IfOk result (λ part. PartStands (chain_at (plans_in P.jobs) cut.job) cut.segment cut.from cut.to part) }
+        ensures { IfOk result
+            (λ part. PartStands (chain_at (plans_in P.jobs) cut.job) cut.segment cut.from cut.to part) }
     {
         match left.merge(right) {
             Ok(part) => Ok(part),
@@ -239,10 +239,13 @@ impl<'a, 'c, P: PlanBrand> JobSegments for PlanJobs<'a, 'c, P> {
         registers: &mut Registers,
     ) -> Result<Answer, NoMemory>
         requires job { job < length P.jobs }
-        requires source { IsKept (chain_at (plans_in P.jobs) job) (slices_first (chain_at (plans_in P.jobs) job).segments) input.source.now }
+        requires source { IsKept (chain_at (plans_in P.jobs) job)
+            (prefixes_first (chain_at (plans_in P.jobs) job).legs) input.source.now }
         requires given { IsTaken (plans_in P.jobs) job input.given.now }
         requires earlier { (j : ℕ) (a : answers) → E.is_answer j a → a ≡ answer_of (plans_in P.jobs) j }
-        requires part { PartStands (chain_at (plans_in P.jobs) job) (slices_first (chain_at (plans_in P.jobs) job).segments) 0 (size_at (chain_at (plans_in P.jobs) job) (slices_first (chain_at (plans_in P.jobs) job).segments)) part }
+        requires part { PartStands (chain_at (plans_in P.jobs) job)
+            (prefixes_first (chain_at (plans_in P.jobs) job).legs) 0
+            (size_at (chain_at (plans_in P.jobs) job) (prefixes_first (chain_at (plans_in P.jobs) job).legs)) part }
         ensures { IfOk result (λ answer. answer ≡ answer_of (plans_in P.jobs) job) }
     {
         let plan = self.job(job);

@@ -35,11 +35,9 @@ judged_ok text ts ws w ss (Err f) is x v = tt
 pub judged_refused : (text : List ℕ) (ts : List Token) (ws : List Lexeme) (w : Want) (ss : BodySteps) (r : Result Lambda ReadFault) → IsRead text ts ws → IsWritten w ws ss → IsVerdict text ts w ss r → IfErr r (λ f. IsRefused text w f)
 judged_refused text ts ws w ss (Ok l) is x v = tt
 judged_refused text ts ws w ss (Err (fault.Syntax n)) is x v = absurd (v x.0 x.2)
-judged_refused text ts ws w ss (Err fault.WrongType) is x v = record { body = x.0; spelled = spelled text ts ws w x.0 is x.1; gives = v x.0 x.2 }
-judged_refused text ts ws w ss (Err fault.UnknownName) is x v = record { body = x.0; spelled = spelled text ts ws w x.0 is x.1; gives = v x.0 x.2 }
 judged_refused text ts ws w ss (Err fault.TooDeep) is x v = inr (record { body = x.0; spelled = spelled text ts ws w x.0 is x.1; gives = v x.0 x.2 })
-judged_refused text ts ws w ss (Err fault.LiteralTooLarge) is x v = record { body = x.0; spelled = spelled text ts ws w x.0 is x.1; gives = v x.0 x.2 }
 judged_refused text ts ws w ss (Err fault.NoMemory) is x v = tt
+judged_refused text ts ws w ss y is x v = record { body = x.0; spelled = spelled text ts ws w x.0 is x.1; gives = v x.0 x.2 }
 
 pub stopped : (text : List ℕ) (ts : List Token) (ws : List Lexeme) (w : Want) (n at : ℕ) → IsRead text ts ws → StopsAt (ALambda w) ws n → at ≡ column text ts n → IsNoLambda text w at
 stopped text ts ws w n at is s here = record { tokens = ts; cut = is.cut; few = is.few; place = n; stops = subst (λ ws. StopsAt (ALambda w) ws n) is.words s; here = here }

@@ -36,8 +36,7 @@ front_stops : (ws : List Lexeme) (r : Result Opened ℕ) (n : ℕ) → IsFound A
 front_stops ws (Ok o) n f is = absurd cc
 front_stops ws (Err k) n f is =
     let same : k ≡ n = cc in
-    let count = f.1 in
-    let there : f.0 ≡ n = omega arith in
+    let there : f.0 ≡ n = omega (arith, f.1) in
     as_body ws n (subst (StopsAt AStream ws) there f.2)
 
 -- the words stop in the front
@@ -74,19 +73,15 @@ IsPlain want.Stream = ⊥
 IsPlain w = Unit {0}
 
 pub plain_body : (w : Want) (ws : List Lexeme) (e : Shape) → IsPlain w → IsExpression ws e → IsBody w ws (expression e)
-plain_body want.Long ws e p x = x
-plain_body want.Bool ws e p x = x
 plain_body want.Stream ws e p x = absurd p
-plain_body want.Pair ws e p x = x
+plain_body y ws e p x = x
 
 plain_from : (w : Want) (ws : List Lexeme) (b : BodyShape) → IsPlain w → IsBody w ws b → Expression ws
-plain_from want.Long ws (expression e) p x = (e, x)
 plain_from want.Long ws (operands s es) p x = absurd x
-plain_from want.Bool ws (expression e) p x = (e, x)
 plain_from want.Bool ws (operands s es) p x = absurd x
 plain_from want.Stream ws b p x = absurd p
-plain_from want.Pair ws (expression e) p x = (e, x)
 plain_from want.Pair ws (operands s es) p x = absurd x
+plain_from y ws (expression e) p x = (e, x)
 
 pub plain_stops : (w : Want) (ws : List Lexeme) (n : ℕ) → IsPlain w → StopsAt Expression ws n → StopsAt (ABody w) ws n
 plain_stops w ws n p s = stop_same Expression (ABody w) ws n (λ m x. (expression x.0, plain_body w m x.0 p x.1)) (λ m b. plain_from w m b.0 p b.1) s
@@ -104,10 +99,8 @@ each_body want.Pair ws = by_answer want.Pair ws tt (each_answer ws)
 -- ---- what the reader of bodies answers
 
 pub plain_of : (w : Want) → (w ≡ want.Stream → ⊥) → IsPlain w
-plain_of want.Long h = tt
-plain_of want.Bool h = tt
 plain_of want.Stream h = absurd (h refl)
-plain_of want.Pair h = tt
+plain_of x h = tt
 
 pub plain_stop : (w : Want) (ws : List Lexeme) (stop : ParseStop) → IsPlain w → IsStop Expression ws stop → IsStop (ABody w) ws stop
 plain_stop w ws (At n) p s = plain_stops w ws n p s

@@ -30,16 +30,14 @@ below_or_not : (m n : ℕ) → (m < n) ⊎ (m < n → ⊥)
 below_or_not m n = ⊎_elim (λ (lt : m < n). inl lt) (λ (ge : n ≤ m). inr (λ lt. omega arith)) (order m n)
 
 takes_or_not : (s : StreamSource) (n : ℕ) → Takes s n ⊎ (Takes s n → ⊥)
-takes_or_not source.Range n = same_or_not n 2
-takes_or_not source.RangeClosed n = same_or_not n 2
 takes_or_not source.Of n = inl tt
 takes_or_not source.Empty n = same_or_not n 0
+takes_or_not x n = same_or_not n 2
 
 more_or_not : (s : StreamSource) (n : ℕ) → TakesMore s n ⊎ (TakesMore s n → ⊥)
-more_or_not source.Range n = below_or_not n 2
-more_or_not source.RangeClosed n = below_or_not n 2
 more_or_not source.Of n = inl tt
 more_or_not source.Empty n = inr (λ t. t)
+more_or_not x n = below_or_not n 2
 
 -- a comma, the parenthesis that closes, or another word
 abbrev Ending : Lexeme → Type 0
@@ -188,9 +186,8 @@ each_operands s (w ∷ ws) = by_ending s w ws (ending w)
 -- ---- what the reader sees first
 
 pub closed_front : (ws rest : List Lexeme) → after_close ws ≡ Some rest → ws ≡ word.Close ∷ rest
-closed_front [] rest h = absurd cc
 closed_front (word.Close ∷ ws) rest h = let same : ws ≡ rest = cc in ap (λ v. word.Close ∷ v) same
-closed_front (w ∷ ws) rest h = absurd cc
+closed_front x rest h = absurd cc
 
 pub not_closed : (ws : List Lexeme) → after_close ws ≡ None → IsNotClosed ws
 not_closed [] h = tt

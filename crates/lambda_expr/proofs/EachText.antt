@@ -19,33 +19,20 @@ use Rattle.lambda_expr.specs.Stops.{StopsAt}
 use Rattle.lambda_expr.specs.StreamChecks.{all_fit, all_known, deepest, numbers, stream_of}
 use Rattle.lambda_values.specs.Streams.{Inner}
 use Rattle.lambda_values.specs.Term.{Long}
-use Rattle.lambda_expr.specs.Typing.{Typed, long, boolean, longs, untyped}
+use Rattle.lambda_expr.specs.Typing.{Typed, long, boolean}
 use Rattle.lambda_expr.proofs.Heads.{each_lambda}
 
 -- what a verdict may be
 abbrev IsVerdict : Result AbstractLambda ReadFault → Type 0
-IsVerdict (Ok t) = Unit {0}
 IsVerdict (Err (fault.Syntax n)) = ⊥
 IsVerdict (Err fault.NoMemory) = ⊥
-IsVerdict (Err f) = Unit {0}
+IsVerdict x = Unit {0}
 
 wanted_verdict : (w : Want) (t : Typed) (f : PairForm) → IsVerdict (wanted w t f)
 wanted_verdict want.Long (long a) f = tt
-wanted_verdict want.Long (boolean a) f = tt
-wanted_verdict want.Long (longs a b) f = tt
-wanted_verdict want.Long untyped f = tt
-wanted_verdict want.Bool (long a) f = tt
 wanted_verdict want.Bool (boolean a) f = tt
-wanted_verdict want.Bool (longs a b) f = tt
-wanted_verdict want.Bool untyped f = tt
-wanted_verdict want.Stream (long a) f = tt
-wanted_verdict want.Stream (boolean a) f = tt
-wanted_verdict want.Stream (longs a b) f = tt
-wanted_verdict want.Stream untyped f = tt
 wanted_verdict want.Pair (long a) f = tt
-wanted_verdict want.Pair (boolean a) f = tt
-wanted_verdict want.Pair (longs a b) f = tt
-wanted_verdict want.Pair untyped f = tt
+wanted_verdict w t f = tt
 
 either_verdict : (b : Bool) (r s : Result AbstractLambda ReadFault) → IsVerdict r → IsVerdict s → IsVerdict (if b then r else s)
 either_verdict true r s h k = h
@@ -69,12 +56,11 @@ HasAnswer text w = ((t : AbstractLambda) × Judged text w (Ok t)) ⊎ ((f : Read
 
 by_verdict : (text : List ℕ) (w : Want) (r : Result AbstractLambda ReadFault) → IsVerdict r → Judged text w r → HasAnswer text w
 by_verdict text w (Ok t) v j = inl (t, j)
-by_verdict text w (Err (fault.Syntax n)) v j = absurd v
 by_verdict text w (Err fault.WrongType) v j = inr (fault.WrongType, (λ e. cc), j)
 by_verdict text w (Err fault.UnknownName) v j = inr (fault.UnknownName, (λ e. cc), j)
 by_verdict text w (Err fault.TooDeep) v j = inr (fault.TooDeep, (λ e. cc), inr j)
 by_verdict text w (Err fault.LiteralTooLarge) v j = inr (fault.LiteralTooLarge, (λ e. cc), j)
-by_verdict text w (Err fault.NoMemory) v j = absurd v
+by_verdict text w x v j = absurd v
 
 by_words : (text : List ℕ) (ts : List Token) (w : Want) → AreTokensOf ts text → length ts ≤ 4096 → ALambda w (lexemes_of text ts) ⊎ ((n : ℕ) × StopsAt (ALambda w) (lexemes_of text ts) n) → HasAnswer text w
 by_words text ts w cut few (inl l) = by_verdict text w (verdict w (names_in text ts) l.0) (is_verdict w (names_in text ts) l.0) (record { body = l.0; spelled = record { tokens = ts; cut = cut; few = few; lambda = l.1 }; gives = refl })

@@ -5,7 +5,7 @@ use Rattle.lambda_expr.specs.declared.step.ParseStep.{ParseStep}
 use Rattle.lambda_expr.specs.declared.step.ParseStep.TheVariants as step
 use Rattle.lambda_expr.specs.declared.step.Opening.TheVariants.{Paren, Call}
 use Rattle.lambda_expr.specs.Elaborating.{operands_of, typed_of, typed_step, typed_steps, top_typed}
-use Rattle.lambda_expr.specs.Grammar.{Shape, name, number, truth, reference, constant, prefix, binary, ternary, enclosed, postfix}
+use Rattle.lambda_expr.specs.Grammar.{Shape, prefix, binary, ternary, enclosed, postfix}
 use Rattle.lambda_expr.specs.Lexemes.{Names}
 use Rattle.lambda_expr.specs.Stacks.{below, stacked}
 use Rattle.lambda_expr.specs.Typing.{Typed, typed, untyped}
@@ -25,11 +25,6 @@ typed_append h ts [] s = refl
 typed_append h ts (x ∷ ss) s = typed_append h (typed_step h x ts) ss s
 
 pub by_steps : (h : Names) (e : Shape) (ts : List Typed) (ss : List ParseStep) → typed_steps h ts (postfix e ++ ss) ≡ typed_steps h (typed h e ∷ ts) ss
-by_steps h (name i) ts ss = refl
-by_steps h (number i) ts ss = refl
-by_steps h (truth i) ts ss = refl
-by_steps h (reference i) ts ss = refl
-by_steps h (constant i) ts ss = refl
 by_steps h (prefix s a) ts ss = ap (typed_steps h ts) (append_assoc (postfix a) (step.Prefix s ∷ []) ss) ∙ by_steps h a ts (step.Prefix s ∷ ss)
 by_steps h (binary s a b) ts ss =
     ap (typed_steps h ts) (append_assoc (postfix a) (postfix b ++ step.Binary s ∷ []) ss ∙ ap (λ v. postfix a ++ v) (append_assoc (postfix b) (step.Binary s ∷ []) ss))
@@ -42,3 +37,4 @@ by_steps h (ternary c p q) ts ss =
     ∙ by_steps h q (typed h p ∷ typed h c ∷ ts) (step.Ternary ∷ ss)
 by_steps h (enclosed Paren a) ts ss = ap (typed_steps h ts) (append_assoc (postfix a) (step.Enclose Paren ∷ []) ss) ∙ by_steps h a ts (step.Enclose Paren ∷ ss)
 by_steps h (enclosed (Call o n) a) ts ss = ap (typed_steps h ts) (append_assoc (postfix a) (step.Enclose (Call o n) ∷ []) ss) ∙ by_steps h a ts (step.Enclose (Call o n) ∷ ss)
+by_steps h x ts ss = refl

@@ -100,7 +100,6 @@ past_late s ws at k front steps f p is count lt =
 -- the end of the words after a comma, or before any operand
 pub past_end : (s : StreamSource) (ws : List Lexeme) (at : ℕ) (front : List Shape) → length ws ≤ at → IsPast s ws at front → StopsAt (Next s 0) ws (length ws)
 past_end s ws at front le p =
-    let low = p.within in
     let none : drop at ws ≡ [] = drop_all at ws le in
-    let same : at + 0 ≡ length ws = omega arith in
+    let same : at + 0 ≡ length ws = omega (arith, p.within) in
     subst (StopsAt (Next s 0) ws) same (p.stops 0 (subst (λ v. StopsAt (Next s (length front)) v 0) (sym none) (stops_open s (length front) [] p.more (word.Number 0 ∷ [], (number 0, record { binds = tt; spelled = refl })))))

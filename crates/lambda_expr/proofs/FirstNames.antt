@@ -3,7 +3,7 @@ use Rattle.std.proofs.Common.{◌≡◌, ℕ, Bool, true, false, ◌||◌, if◌
 use Rattle.std.specs.Option.{option_or}
 use Rattle.lambda_expr.specs.Members.{is_named}
 use Rattle.lambda_expr.specs.Lexemes.{first_name, is_reserved, is_taken, order_of}
-use Rattle.lambda_expr.specs.Words.{Word, named, numeral, quoted, referred, sign, bad}
+use Rattle.lambda_expr.specs.Words.{Word, named}
 
 -- the first two names of words
 abbrev pub first_of : List Word → Option (List ℕ)
@@ -20,11 +20,7 @@ or_later false v all front later h = refl
 pub first_of_both : (taken : Option (List ℕ)) (xs ys : List Word) → first_name taken (xs ++ ys) ≡ option_or (first_name taken xs) (first_name taken ys)
 first_of_both taken [] ys = refl
 first_of_both taken (named v ∷ xs) ys = or_later (is_taken taken v) v (first_name taken (xs ++ ys)) (first_name taken xs) (first_name taken ys) (first_of_both taken xs ys)
-first_of_both taken (numeral v ∷ xs) ys = first_of_both taken xs ys
-first_of_both taken (quoted v ∷ xs) ys = first_of_both taken xs ys
-first_of_both taken (referred v ∷ xs) ys = first_of_both taken xs ys
-first_of_both taken (sign s ∷ xs) ys = first_of_both taken xs ys
-first_of_both taken (bad ∷ xs) ys = first_of_both taken xs ys
+first_of_both taken (w ∷ xs) ys = first_of_both taken xs ys
 
 -- it stays once it is known
 pub first_stays : (taken : Option (List ℕ)) (xs ys : List Word) (x : List ℕ) → first_name taken xs ≡ Some x → first_name taken (xs ++ ys) ≡ Some x
@@ -38,11 +34,7 @@ none_left_of false c v all left h further = cc
 none_left : (x : List ℕ) (ws : List Word) → first_of ws ≡ None → first_name (Some x) ws ≡ None
 none_left x [] h = refl
 none_left x (named v ∷ ws) h = none_left_of (is_reserved v) (is_named v x) v (first_of ws) (first_name (Some x) ws) h (none_left x ws)
-none_left x (numeral v ∷ ws) h = none_left x ws h
-none_left x (quoted v ∷ ws) h = none_left x ws h
-none_left x (referred v ∷ ws) h = none_left x ws h
-none_left x (sign s ∷ ws) h = none_left x ws h
-none_left x (bad ∷ ws) h = none_left x ws h
+none_left x (w ∷ ws) h = none_left x ws h
 
 none_beside : (taken : Option (List ℕ)) (ws : List Word) → first_of ws ≡ None → first_name taken ws ≡ None
 none_beside None ws h = h

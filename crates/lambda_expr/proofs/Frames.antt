@@ -8,7 +8,7 @@ use Rattle.lambda_expr.specs.declared.step.Opening.{Opening}
 use Rattle.lambda_expr.specs.declared.step.Opening.TheVariants.{Paren, Call}
 use Rattle.lambda_expr.specs.declared.lexeme.Lexeme.{Lexeme}
 use Rattle.lambda_expr.specs.declared.lexeme.Lexeme.TheVariants as word
-use Rattle.lambda_expr.specs.Grammar.{Shape, name, number, truth, reference, constant, prefix, binary, ternary, enclosed, opening, inside, spells, Binds}
+use Rattle.lambda_expr.specs.Grammar.{Shape, number, prefix, binary, ternary, enclosed, opening, inside, spells, Binds}
 use Rattle.lambda_expr.specs.Signs.{level, is_infix, is_prefix}
 use Rattle.lambda_expr.specs.Reader.{Frame, opened, signed, left, question, colon, Top, joined, in_call, takes}
 
@@ -23,12 +23,10 @@ before (colon c p ∷ fs) = before fs ++ (spells c ++ word.Question ∷ (spells 
 
 -- the level of the operand that is waited for
 abbrev pub wanted : List Frame → ℕ
-wanted [] = 1
 wanted (opened o ∷ fs) = inside o
 wanted (signed s ∷ fs) = 12
 wanted (left a s ∷ fs) = suc (level s)
-wanted (question c ∷ fs) = 1
-wanted (colon c p ∷ fs) = 1
+wanted x = 1
 
 abbrev pub Ordered : List Frame → Type 0
 Ordered [] = Unit {0}
@@ -42,10 +40,8 @@ Ordered (colon c p ∷ fs) = (wanted fs ≤ 1) × Binds 2 c × Binds 1 p × Orde
 abbrev pub after : List Frame → List Lexeme
 after [] = []
 after (opened o ∷ fs) = word.Close ∷ after fs
-after (signed s ∷ fs) = after fs
-after (left a s ∷ fs) = after fs
 after (question c ∷ fs) = word.Colon ∷ word.Number 0 ∷ after fs
-after (colon c p ∷ fs) = after fs
+after (w ∷ fs) = after fs
 
 abbrev pub filled : List Frame → Shape → Shape
 filled [] e = e
@@ -71,23 +67,16 @@ inside_low Paren = omega arith
 inside_low (Call o i) = omega arith
 
 pub wanted_high : (fs : List Frame) → wanted fs ≤ 12
-wanted_high [] = omega arith
 wanted_high (opened o ∷ fs) = omega (arith, inside_low o)
-wanted_high (signed s ∷ fs) = omega arith
 wanted_high (left a s ∷ fs) = omega (arith, level_high s)
-wanted_high (question c ∷ fs) = omega arith
-wanted_high (colon c p ∷ fs) = omega arith
+wanted_high x = omega arith
 
 pub binds_lower : (e : Shape) (m n : ℕ) → n ≤ m → Binds m e → Binds n e
-binds_lower (name i) m n h b = tt
-binds_lower (number i) m n h b = tt
-binds_lower (truth i) m n h b = tt
-binds_lower (reference i) m n h b = tt
-binds_lower (constant i) m n h b = tt
 binds_lower (prefix s a) m n h b = (omega (arith, b.0), b.1, b.2)
 binds_lower (binary s a c) m n h b = (omega (arith, b.0), b.1, b.2, b.3)
 binds_lower (ternary c p q) m n h b = (omega (arith, b.0), b.1, b.2, b.3)
 binds_lower (enclosed o a) m n h b = b
+binds_lower x m n h b = tt
 
 pub binds_filled : (fs : List Frame) (e : Shape) → Ordered fs → Binds (wanted fs) e → Binds 1 (filled fs e)
 binds_filled [] e h b = b
@@ -140,59 +129,31 @@ join_keeps n (colon c p ∷ fs) e h o t b = by_test (Keeps n (colon c p ∷ fs) 
 
 -- nothing that binds as tightly is left
 pub join_stops : (n : ℕ) (fs : List Frame) (e : Shape) → 2 ≤ n → wanted (joined n fs e).frames ≤ n
-join_stops n [] e h = omega arith
 join_stops n (opened o ∷ fs) e h = omega (arith, inside_low o)
 join_stops n (signed s ∷ fs) e h = join_stops n fs (prefix s e) h
 join_stops n (left a s ∷ fs) e h = by_test (λ (t : Top). wanted t.frames ≤ n) (nat_lt (level s) n) _ _ (λ y. test_below (level s) n y) (λ y. join_stops n fs (binary s a e) h)
-join_stops n (question c ∷ fs) e h = omega arith
 join_stops n (colon c p ∷ fs) e h = by_test (λ (t : Top). wanted t.frames ≤ n) (nat_lt 1 n) _ _ (λ y. omega arith) (λ y. join_stops n fs (ternary c p e) h)
+join_stops n x e h = omega arith
 
 -- no operator has level 1
 pub not_two : (fs : List Frame) → wanted fs ≤ 2 → wanted fs ≤ 1
 not_two [] h = omega arith
 not_two (opened o ∷ fs) h = inside_low o
-not_two (signed s ∷ fs) h = absurd (omega arith)
 not_two (left a sign.Comma ∷ fs) h = omega arith
-not_two (left a sign.Or ∷ fs) h = absurd (omega arith)
-not_two (left a sign.And ∷ fs) h = absurd (omega arith)
-not_two (left a sign.BitOr ∷ fs) h = absurd (omega arith)
-not_two (left a sign.BitXor ∷ fs) h = absurd (omega arith)
-not_two (left a sign.BitAnd ∷ fs) h = absurd (omega arith)
-not_two (left a sign.Equal ∷ fs) h = absurd (omega arith)
-not_two (left a sign.NotEqual ∷ fs) h = absurd (omega arith)
-not_two (left a sign.Less ∷ fs) h = absurd (omega arith)
-not_two (left a sign.LessOrEqual ∷ fs) h = absurd (omega arith)
-not_two (left a sign.Greater ∷ fs) h = absurd (omega arith)
-not_two (left a sign.GreaterOrEqual ∷ fs) h = absurd (omega arith)
-not_two (left a sign.ShiftLeft ∷ fs) h = absurd (omega arith)
-not_two (left a sign.ShiftRight ∷ fs) h = absurd (omega arith)
-not_two (left a sign.ShiftRightUnsigned ∷ fs) h = absurd (omega arith)
-not_two (left a sign.Add ∷ fs) h = absurd (omega arith)
-not_two (left a sign.Subtract ∷ fs) h = absurd (omega arith)
-not_two (left a sign.Multiply ∷ fs) h = absurd (omega arith)
-not_two (left a sign.Divide ∷ fs) h = absurd (omega arith)
-not_two (left a sign.Remainder ∷ fs) h = absurd (omega arith)
-not_two (left a sign.Complement ∷ fs) h = absurd (omega arith)
-not_two (left a sign.Not ∷ fs) h = absurd (omega arith)
 not_two (question c ∷ fs) h = omega arith
 not_two (colon c p ∷ fs) h = omega arith
+not_two (w ∷ fs) h = absurd (omega arith)
 
 -- where an operand of level n is wanted, nothing is joined by level n
 pub stays : (k : ℕ) (fs : List Frame) (e : Shape) → wanted fs ≤ k → k ≤ 11 → 2 ≤ k → joined k fs e ≡ record { frames = fs; shape = e }
-stays k [] e h l m = refl
-stays k (opened o ∷ fs) e h l m = refl
 stays k (signed s ∷ fs) e h l m = absurd (omega arith)
 stays k (left a s ∷ fs) e h l m = rw (below_test (level s) k (omega arith)) refl
-stays k (question c ∷ fs) e h l m = refl
 stays k (colon c p ∷ fs) e h l m = rw (below_test 1 k (omega arith)) refl
+stays k x e h l m = refl
 
 pub stays_in_call : (fs : List Frame) (e : Shape) → wanted fs ≤ 0 → joined 0 fs e ≡ record { frames = fs; shape = e }
-stays_in_call [] e h = absurd (omega arith)
 stays_in_call (opened o ∷ fs) e h = refl
-stays_in_call (signed s ∷ fs) e h = absurd (omega arith)
-stays_in_call (left a s ∷ fs) e h = absurd (omega arith)
-stays_in_call (question c ∷ fs) e h = absurd (omega arith)
-stays_in_call (colon c p ∷ fs) e h = absurd (omega arith)
+stays_in_call x e h = absurd (omega arith)
 
 pub stays_at : (s : Sign) (fs : List Frame) (e : Shape) → is_infix s ≡ true → wanted fs ≤ level s → joined (level s) fs e ≡ record { frames = fs; shape = e }
 stays_at sign.Comma fs e i h = stays_in_call fs e h
@@ -203,10 +164,6 @@ stays_at sign.BitXor fs e i h = stays 5 fs e h (omega arith) (omega arith)
 stays_at sign.BitAnd fs e i h = stays 6 fs e h (omega arith) (omega arith)
 stays_at sign.Equal fs e i h = stays 7 fs e h (omega arith) (omega arith)
 stays_at sign.NotEqual fs e i h = stays 7 fs e h (omega arith) (omega arith)
-stays_at sign.Less fs e i h = stays 8 fs e h (omega arith) (omega arith)
-stays_at sign.LessOrEqual fs e i h = stays 8 fs e h (omega arith) (omega arith)
-stays_at sign.Greater fs e i h = stays 8 fs e h (omega arith) (omega arith)
-stays_at sign.GreaterOrEqual fs e i h = stays 8 fs e h (omega arith) (omega arith)
 stays_at sign.ShiftLeft fs e i h = stays 9 fs e h (omega arith) (omega arith)
 stays_at sign.ShiftRight fs e i h = stays 9 fs e h (omega arith) (omega arith)
 stays_at sign.ShiftRightUnsigned fs e i h = stays 9 fs e h (omega arith) (omega arith)
@@ -217,49 +174,22 @@ stays_at sign.Divide fs e i h = stays 11 fs e h (omega arith) (omega arith)
 stays_at sign.Remainder fs e i h = stays 11 fs e h (omega arith) (omega arith)
 stays_at sign.Complement fs e i h = absurd cc
 stays_at sign.Not fs e i h = absurd cc
+stays_at x fs e i h = stays 8 fs e h (omega arith) (omega arith)
 
 -- a sign may stand where its level is wanted, and only there
 call_takes : (fs : List Frame) → wanted fs ≤ 0 → in_call fs ≡ true
-call_takes [] h = absurd (omega arith)
-call_takes (opened Paren ∷ fs) h = absurd (omega arith)
 call_takes (opened (Call o i) ∷ fs) h = refl
-call_takes (signed s ∷ fs) h = absurd (omega arith)
-call_takes (left a s ∷ fs) h = absurd (omega arith)
-call_takes (question c ∷ fs) h = absurd (omega arith)
-call_takes (colon c p ∷ fs) h = absurd (omega arith)
+call_takes x h = absurd (omega arith)
 
 pub takes_at : (s : Sign) (fs : List Frame) → is_infix s ≡ true → wanted fs ≤ level s → takes s fs ≡ true
 takes_at sign.Comma fs i h = call_takes fs h
-takes_at sign.Or fs i h = refl
-takes_at sign.And fs i h = refl
-takes_at sign.BitOr fs i h = refl
-takes_at sign.BitXor fs i h = refl
-takes_at sign.BitAnd fs i h = refl
-takes_at sign.Equal fs i h = refl
-takes_at sign.NotEqual fs i h = refl
-takes_at sign.Less fs i h = refl
-takes_at sign.LessOrEqual fs i h = refl
-takes_at sign.Greater fs i h = refl
-takes_at sign.GreaterOrEqual fs i h = refl
-takes_at sign.ShiftLeft fs i h = refl
-takes_at sign.ShiftRight fs i h = refl
-takes_at sign.ShiftRightUnsigned fs i h = refl
-takes_at sign.Add fs i h = refl
-takes_at sign.Subtract fs i h = refl
-takes_at sign.Multiply fs i h = refl
-takes_at sign.Divide fs i h = refl
-takes_at sign.Remainder fs i h = refl
 takes_at sign.Complement fs i h = i
 takes_at sign.Not fs i h = i
+takes_at x fs i h = refl
 
 taken_in_call : (fs : List Frame) → in_call fs ≡ true → wanted fs ≤ 0
-taken_in_call [] h = absurd cc
-taken_in_call (opened Paren ∷ fs) h = absurd cc
 taken_in_call (opened (Call o i) ∷ fs) h = omega arith
-taken_in_call (signed s ∷ fs) h = absurd cc
-taken_in_call (left a s ∷ fs) h = absurd cc
-taken_in_call (question c ∷ fs) h = absurd cc
-taken_in_call (colon c p ∷ fs) h = absurd cc
+taken_in_call x h = absurd cc
 
 -- a sign that is taken is an operator, and nothing tighter is left
 pub record Taken (s : Sign) (fs : List Frame) : Type 0 where
@@ -275,10 +205,6 @@ taken sign.BitXor fs e h = record { between = refl; low = join_stops 5 fs e (ome
 taken sign.BitAnd fs e h = record { between = refl; low = join_stops 6 fs e (omega arith) }
 taken sign.Equal fs e h = record { between = refl; low = join_stops 7 fs e (omega arith) }
 taken sign.NotEqual fs e h = record { between = refl; low = join_stops 7 fs e (omega arith) }
-taken sign.Less fs e h = record { between = refl; low = join_stops 8 fs e (omega arith) }
-taken sign.LessOrEqual fs e h = record { between = refl; low = join_stops 8 fs e (omega arith) }
-taken sign.Greater fs e h = record { between = refl; low = join_stops 8 fs e (omega arith) }
-taken sign.GreaterOrEqual fs e h = record { between = refl; low = join_stops 8 fs e (omega arith) }
 taken sign.ShiftLeft fs e h = record { between = refl; low = join_stops 9 fs e (omega arith) }
 taken sign.ShiftRight fs e h = record { between = refl; low = join_stops 9 fs e (omega arith) }
 taken sign.ShiftRightUnsigned fs e h = record { between = refl; low = join_stops 9 fs e (omega arith) }
@@ -289,6 +215,7 @@ taken sign.Divide fs e h = record { between = refl; low = join_stops 11 fs e (om
 taken sign.Remainder fs e h = record { between = refl; low = join_stops 11 fs e (omega arith) }
 taken sign.Complement fs e h = absurd cc
 taken sign.Not fs e h = absurd cc
+taken x fs e h = record { between = refl; low = join_stops 8 fs e (omega arith) }
 
 pub joins_left : (k : ℕ) (a : Shape) (s : Sign) (fs : List Frame) (e : Shape) → k ≤ level s → joined k (left a s ∷ fs) e ≡ joined k fs (binary s a e)
 joins_left k a s fs e h = rw (above_test (level s) k h) refl

@@ -18,34 +18,29 @@ use Rattle.lambda_expr.specs.Stops.{Begins, StopsAt}
 -- ---- one pattern
 
 matched_within : (p : List HeadMark) (ws : List Lexeme) (n : ℕ) → IsMatched p ws n → n ≤ length ws
-matched_within [] ws n m = omega arith
-matched_within (x ∷ p) [] n m = omega arith
-matched_within (x ∷ p) (w ∷ ws) zero m = omega arith
 matched_within (x ∷ p) (w ∷ ws) (suc n) m = let k = matched_within p ws n m.1 in omega arith
+matched_within y ws n m = omega arith
 
 -- the words of a whole pattern
 matched_fit : (p : List HeadMark) (ws : List Lexeme) (n : ℕ) → IsMatched p ws n → n ≡ length p → Fit p (take n ws)
 matched_fit [] ws n m is = subst (λ k. Fit [] (take k ws)) (sym is) tt
-matched_fit (x ∷ p) [] n m is = absurd (omega arith)
-matched_fit (x ∷ p) (w ∷ ws) zero m is = absurd (omega arith)
 matched_fit (x ∷ p) (w ∷ ws) (suc n) m is = (m.0, matched_fit p ws n m.1 (omega arith))
+matched_fit (x ∷ p) y n m is = absurd (omega arith)
 
 -- words that don't begin with the whole pattern
 matched_short : (p : List HeadMark) (ws front rest : List Lexeme) (n : ℕ) → IsMatched p ws n → n ≢ length p → Fit p front → front ++ rest ≡ ws → ⊥
 matched_short [] ws [] rest n m short f is = short m
-matched_short [] ws (v ∷ front) rest n m short f is = f
-matched_short (x ∷ p) ws [] rest n m short f is = f
 matched_short (x ∷ p) [] (v ∷ front) rest n m short f is = absurd cc
 matched_short (x ∷ p) (w ∷ ws) (v ∷ front) rest zero m short f is = m (let same : v ≡ w = cc in ap mark_of (sym same) ∙ f.0)
 matched_short (x ∷ p) (w ∷ ws) (v ∷ front) rest (suc n) m short f is = matched_short p ws front rest n m.1 (λ e. short (ap suc e)) f.1 (let same : front ++ rest ≡ ws = cc in same)
+matched_short y ws q rest n m short f is = f
 
 -- a match goes no further than the words that it reads
 matched_before : (p : List HeadMark) (ws more : List Lexeme) (n k : ℕ) → IsMatched p ws n → n < k → k ≤ length ws → IsMatched p (take k ws ++ more) n
-matched_before [] ws more n k m lt le = m
 matched_before (x ∷ p) [] more n k m lt le = absurd (omega arith)
 matched_before (x ∷ p) (w ∷ ws) more n zero m lt le = absurd (omega arith)
-matched_before (x ∷ p) (w ∷ ws) more zero (suc k) m lt le = m
 matched_before (x ∷ p) (w ∷ ws) more (suc n) (suc k) m lt le = (m.0, matched_before p ws more n k m.1 (omega arith) (omega arith))
+matched_before y ws more n k m lt le = m
 
 -- a word for each mark
 abbrev sample : HeadMark → Lexeme
@@ -58,11 +53,7 @@ sample mark.Arrow = word.Arrow
 
 sample_fits : (m : HeadMark) → mark_of (sample m) ≡ Some m
 sample_fits (mark.Parameter n) = refl
-sample_fits mark.LowerLong = refl
-sample_fits mark.Open = refl
-sample_fits mark.Comma = refl
-sample_fits mark.Close = refl
-sample_fits mark.Arrow = refl
+sample_fits x = refl
 
 -- what completes the words that match
 abbrev completion : List HeadMark → ℕ → List Lexeme
@@ -242,15 +233,14 @@ one_begins (m ∷ p) (n ∷ q) (v ∷ f) (w ∷ g) r s x y is =
 -- one pattern has one word for each mark
 one_front : (p : List HeadMark) (f g r s : List Lexeme) → Fit p f → Fit p g → f ++ r ≡ g ++ s → (f ≡ g) × (r ≡ s)
 one_front [] [] [] r s x y is = (refl, is)
-one_front [] [] (w ∷ g) r s x y is = absurd y
 one_front [] (v ∷ f) g r s x y is = absurd x
 one_front (m ∷ p) [] g r s x y is = absurd x
-one_front (m ∷ p) (v ∷ f) [] r s x y is = absurd y
 one_front (m ∷ p) (v ∷ f) (w ∷ g) r s x y is =
     let word : v ≡ w = cc in
     let rest : f ++ r ≡ g ++ s = cc in
     let later = one_front p f g r s x.1 y.1 rest in
     (ap (λ v. v ∷ f) word ∙ ap (λ f. w ∷ f) later.0, later.1)
+one_front q u z r s x y is = absurd y
 
 -- no pattern begins another
 abbrev pub AreApart : List (List HeadMark) → Type 0
@@ -349,14 +339,11 @@ matched_words p ws at past h =
     subst (IsMatched p ws) none_more (h 0 (subst (λ v. IsMatched (drop at p) v 0) (sym (drop_all at ws past)) (no_words (drop at p))))
 
 matched_most : (p : List HeadMark) (ws : List Lexeme) (n : ℕ) → IsMatched p ws n → n ≤ length p
-matched_most [] ws n m = omega arith
-matched_most (x ∷ p) [] n m = omega arith
-matched_most (x ∷ p) (w ∷ ws) zero m = omega arith
 matched_most (x ∷ p) (w ∷ ws) (suc n) m = let k = matched_most p ws n m.1 in omega arith
+matched_most y ws n m = omega arith
 
 pub matched_whole : (p : List HeadMark) (ws : List Lexeme) (at : ℕ) → length p ≤ at → ((k : ℕ) → IsMatched (drop at p) (drop at ws) k → IsMatched p ws (at + k)) → IsMatched p ws (length p)
 matched_whole p ws at past h =
     let m = matched_marks p ws at past h in
-    let most = matched_most p ws at m in
-    let same : at ≡ length p = omega arith in
+    let same : at ≡ length p = omega (arith, matched_most p ws at m) in
     subst (IsMatched p ws) same m

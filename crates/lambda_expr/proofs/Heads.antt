@@ -30,11 +30,7 @@ coded (suc (suc (suc (suc (suc n))))) = mark.Parameter n
 
 back : (m : HeadMark) → coded (code m) ≡ m
 back mark.LowerLong = refl
-back mark.Open = refl
-back mark.Comma = refl
-back mark.Close = refl
-back mark.Arrow = refl
-back (mark.Parameter n) = refl
+back x = refl
 
 same_or_not : (m n : HeadMark) → (m ≡ n) ⊎ (m ≢ n)
 same_or_not m n =
@@ -51,9 +47,8 @@ match_by m p w ws (inl e) later = (suc later.0, (e, later.1))
 match_by m p w ws (inr d) later = (zero, d)
 
 each_match : (p : List HeadMark) (ws : List Lexeme) → (n : ℕ) × IsMatched p ws n
-each_match [] ws = (0, refl)
-each_match (m ∷ p) [] = (0, refl)
 each_match (m ∷ p) (w ∷ ws) = match_by m p w ws (is_mark (mark_of w) m) (each_match p ws)
+each_match x ws = (0, refl)
 
 each_trial : (ps : List (List HeadMark)) (ws : List Lexeme) → (r : Result ℕ ℕ) × AreTried ps ws r
 each_trial [] ws = (Err 0, refl)

@@ -35,11 +35,10 @@ left_reduces true n p ps vs x y r h = absurd cc
 left_reduces false n p ps vs x y r h = let e : y ≡ x = cc in subst (Reduces n p ps vs) e (r refl)
 
 pub reduces : (n : ℕ) (p : Pending) (ps : List Pending) (vs : List Shape) (x : ParseStep) → reduced n p ≡ Some x → Reduces n p ps vs x
-reduces n (pending.Opened o) ps vs x h = absurd cc
 reduces n (pending.Signed s) ps vs x h = let e : step.Prefix s ≡ x = cc in subst (Reduces n (pending.Signed s) ps vs) e (record { same = refl; code = simp append_assoc })
 reduces n (pending.Left s) ps vs x h = left_reduces (nat_lt (level s) n) n (pending.Left s) ps vs x (step.Binary s) (λ b. record { same = rw b refl; code = simp append_assoc }) h
-reduces n pending.Question ps vs x h = absurd cc
 reduces n pending.Colon ps vs x h = left_reduces (nat_lt 1 n) n pending.Colon ps vs x step.Ternary (λ b. record { same = rw b refl; code = simp append_assoc }) h
+reduces n y ps vs x h = absurd cc
 
 -- the code is where its steps lead
 at_run : (ps : List Pending) (ss : List ParseStep) (h : Held) (vs : List Shape) (s : State) → run [] ss ≡ vs → state_on ps vs h ≡ s → code_of s ≡ ss → IsAt ps ss h s
@@ -58,19 +57,10 @@ closes_at t ps qs ss new o is code front n =
     let steps : coded (frames_of qs (rest vs)) ++ postfix (shape_on vs) ≡ ss = subst (λ ps. IsCoded ps ss Complete) front code in
     subst (IsAt qs new Complete) there (at_run qs new Complete (enclosed o (shape_on vs) ∷ rest vs) (has (frames_of qs (rest vs)) (enclosed o (shape_on vs))) (ap (run []) n ∙ run_more [] ss (step.Enclose o)) refl (sym (append_assoc (coded (frames_of qs (rest vs))) (postfix (shape_on vs)) (step.Enclose o ∷ [])) ∙ ap (λ v. v ++ step.Enclose o ∷ []) steps ∙ sym n))
 
--- a name behind an owner, and then no parenthesis
+-- a name after an owner, and then no parenthesis
 pub called_next : (fs : List Frame) (o : Class) (i : Name) (w : Lexeme) → (w ≡ word.Open → ⊥) → called fs o i w ≡ alone fs o i w
-called_next fs o i (word.Name j) n = refl
-called_next fs o i (word.Number j) n = refl
-called_next fs o i (word.Reference j) n = refl
-called_next fs o i (word.Sign s) n = refl
 called_next fs o i word.Open n = absurd (n refl)
-called_next fs o i word.Close n = refl
-called_next fs o i word.Dot n = refl
-called_next fs o i word.Arrow n = refl
-called_next fs o i word.Question n = refl
-called_next fs o i word.Colon n = refl
-called_next fs o i word.Other n = refl
+called_next fs o i x n = refl
 
 -- one step more of what waits
 pub joining_on : (goal : Top) (n : ℕ) (p : Pending) (ps qs : List Pending) (ss new : List ParseStep) (x : ParseStep) → reduced n p ≡ Some x → ps ≡ p ∷ qs → new ≡ ss ++ x ∷ [] → IsJoining goal n ps ss → IsJoining goal n qs new

@@ -40,25 +40,20 @@ two_apart p q (inr (inl a)) (inr (inr x)) l = absurd x
 two_apart p q (inr (inr x)) b l = absurd x
 
 pub apart : (w : Want) → AreApart (heads w)
-apart want.Long = one_apart
-apart want.Bool = one_apart
-apart want.Stream = one_apart
 apart want.Pair = two_apart
+apart x = one_apart
 
 -- words are one body
 one_body : (ws : List Lexeme) (w : Want) (b c : BodyShape) → IsBody w ws b → IsBody w ws c → b ≡ c
-one_body ws want.Stream (expression e) c x y = absurd x
 one_body ws want.Stream (operands s es) (expression f) x y = absurd y
 one_body ws want.Stream (operands s es) (operands t fs) x y = let same = one_stream s t es fs ws x y in let source = same.0 in let list = same.1 in cc
 one_body ws want.Long (expression e) (expression f) x y = ap expression (one_expression ws e f x y)
 one_body ws want.Long (expression e) (operands t fs) x y = absurd y
-one_body ws want.Long (operands s es) c x y = absurd x
 one_body ws want.Bool (expression e) (expression f) x y = ap expression (one_expression ws e f x y)
 one_body ws want.Bool (expression e) (operands t fs) x y = absurd y
-one_body ws want.Bool (operands s es) c x y = absurd x
 one_body ws want.Pair (expression e) (expression f) x y = ap expression (one_expression ws e f x y)
 one_body ws want.Pair (expression e) (operands t fs) x y = absurd y
-one_body ws want.Pair (operands s es) c x y = absurd x
+one_body ws p q c x y = absurd x
 
 -- the words of the body of a lambda
 pub one_lambda : (ws : List Lexeme) (w : Want) (b c : BodyShape) → IsLambda w ws b → IsLambda w ws c → b ≡ c
@@ -71,9 +66,7 @@ Bodies w front rest = ABody w rest
 
 a_body : (w : Want) → Follows (Bodies w)
 a_body want.Stream front = let b = stream_begins in (b.0, (operands b.1.0 b.1.1, b.1.2))
-a_body want.Long front = (word.Number 0 ∷ [], (expression (number 0), record { binds = tt; spelled = refl }))
-a_body want.Bool front = (word.Number 0 ∷ [], (expression (number 0), record { binds = tt; spelled = refl }))
-a_body want.Pair front = (word.Number 0 ∷ [], (expression (number 0), record { binds = tt; spelled = refl }))
+a_body x front = (word.Number 0 ∷ [], (expression (number 0), record { binds = tt; spelled = refl }))
 
 -- a lambda is a head and a body
 in_parts : (w : Want) (ws : List Lexeme) → ALambda w ws → HasHead (heads w) (Bodies w) ws
@@ -103,9 +96,7 @@ lambda_of w ws r n b t is x = whole_of (heads w) (λ front rest. IsBody w rest b
 -- no words at all
 nothing_tried : (w : Want) → (r : Result ℕ ℕ) × AreTried (heads w) [] r × (r ≡ Err 0)
 nothing_tried want.Pair = (Err 0, ((Err 0), (0, refl, refl), (Err 0, (0, refl, refl), refl)), refl)
-nothing_tried want.Long = (Err 0, ((Err 0), (0, refl, refl), (Err 0, (0, refl, refl), (Err 0, (0, refl, refl), refl))), refl)
-nothing_tried want.Bool = (Err 0, ((Err 0), (0, refl, refl), (Err 0, (0, refl, refl), (Err 0, (0, refl, refl), refl))), refl)
-nothing_tried want.Stream = (Err 0, ((Err 0), (0, refl, refl), (Err 0, (0, refl, refl), (Err 0, (0, refl, refl), refl))), refl)
+nothing_tried x = (Err 0, ((Err 0), (0, refl, refl), (Err 0, (0, refl, refl), (Err 0, (0, refl, refl), refl))), refl)
 
 -- no lambda is empty
 pub stops_empty : (w : Want) → StopsAt (ALambda w) [] 0

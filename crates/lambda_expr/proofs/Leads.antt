@@ -1,6 +1,6 @@
 -- Each expression is read: where its words lead.
 use Rattle.std.proofs.Common.{◌≡◌, ℕ, suc, ◌≤◌, List, [], ◌∷◌, ◌++◌, Some, refl, sym, ap, ◌∙◌, arith}
-use Rattle.lambda_expr.specs.declared.lexeme.ClassName.TheVariants.{Math, Long}
+use Rattle.lambda_expr.specs.declared.lexeme.ClassName.TheVariants.{Long}
 use Rattle.lambda_expr.specs.declared.step.Opening.{Opening}
 use Rattle.lambda_expr.specs.declared.step.Opening.TheVariants.{Paren, Call}
 use Rattle.lambda_expr.specs.declared.lexeme.Lexeme.{Lexeme}
@@ -8,7 +8,7 @@ use Rattle.lambda_expr.specs.declared.lexeme.Lexeme.TheVariants as word
 use Rattle.lambda_expr.specs.Grammar.{Shape, name, number, truth, reference, constant, prefix, binary, ternary, enclosed, opening, inside, spells, Binds, IsExpression, Expression}
 use Rattle.lambda_expr.specs.Signs.{level}
 use Rattle.lambda_expr.specs.Stops.{Begins}
-use Rattle.lambda_expr.specs.Reader.{Frame, opened, signed, left, question, colon, Top, joined, State, wants, has, owns, dots, calls, stuck, when, operates, asks, answers, shuts, follows, read, reads, settled, result_of, result_at, whole}
+use Rattle.lambda_expr.specs.Reader.{Frame, opened, signed, left, question, colon, Top, joined, State, wants, has, calls, stuck, when, operates, asks, answers, shuts, follows, read, reads, settled, result_of, result_at, whole}
 use Rattle.lambda_expr.proofs.JoinLemmas.{called_next}
 use Rattle.lambda_expr.proofs.Frames.{wanted, binds_lower, level_high, stays, stays_at, takes_at, joins_left, joins_colon}
 
@@ -32,15 +32,11 @@ pub record Leads (fs : List Frame) (e : Shape) : Type 0 where
   pub settles : settled state ≡ has frames shape
   pub same : (k : ℕ) → k ≤ 12 → Binds k e → joined k frames shape ≡ joined k fs e
 
--- a word behind it, that is no parenthesis
+-- a word after it that is no parenthesis
 goes : (s : State) (fs : List Frame) (e : Shape) (w : Lexeme) → settled s ≡ has fs e → (w ≡ word.Open → ⊥) → read s w ≡ follows (at_top fs e) w
-goes (wants gs) fs e w h n = absurd cc
 goes (has gs f) fs e w h n = ap (λ s. read s w) h
-goes (owns gs o) fs e w h n = absurd cc
-goes (dots gs o) fs e w h n = absurd cc
-goes (calls gs Math i) fs e w h n = absurd cc
 goes (calls gs Long i) fs e w h n = called_next gs Long i w n ∙ ap (λ s. read s w) h
-goes stuck fs e w h n = absurd cc
+goes x fs e w h n = absurd cc
 
 pub then_word : (fs : List Frame) (e : Shape) (l : Leads fs e) (w : Lexeme) (ws : List Lexeme) → (w ≡ word.Open → ⊥) → reads (wants fs) (spells e ++ w ∷ ws) ≡ reads (follows (at_top l.frames l.shape) w) ws
 then_word fs e l w ws n = reads_append (wants fs) (spells e) (w ∷ ws) ∙ ap (λ s. reads (read s w) ws) l.run ∙ ap (λ s. reads s ws) (goes l.state l.frames l.shape w l.settles n)

@@ -7,7 +7,7 @@ use Rattle.lambda_expr.specs.declared.lexeme.Name.TheVariants.{Plain, ClassName,
 use Rattle.lambda_expr.specs.declared.lexeme.ClassName.TheVariants.{Math, Long}
 use Rattle.lambda_expr.specs.Members.{is_named, member_of}
 use Rattle.lambda_expr.specs.Lexemes.{first_name, lexeme_of, lexemes_from, lexemes_in, order_of}
-use Rattle.lambda_expr.specs.Words.{Word, named, numeral, quoted, referred, sign, bad}
+use Rattle.lambda_expr.specs.Words.{Word, named, numeral, bad}
 use Rattle.lambda_expr.proofs.FirstNames.{first_of, second_of, order_stays, second_beside}
 
 -- one word more: its lexeme
@@ -27,13 +27,8 @@ lexeme_in ws at w = lexeme_of (first_of ws) (second_of ws) at w
 -- the lexeme of the last word doesn't change if these words with more give the names
 name_by : (a b c d e f : Bool) (v : List ℕ) (early late : ℕ) → ((a || b || c || d || e || f) ≡ false → early ≡ late)
     → (let name = λ (n : ℕ). if a then ClassName Math else (if b then ClassName Long else (if c then LongStream else (if d then LowerLong else (if e then Truth true else (if f then Truth false else Plain (record { number = n; member = member_of v })))))) in name early ≡ name late)
-name_by true b c d e f v early late same = refl
-name_by false true c d e f v early late same = refl
-name_by false false true d e f v early late same = refl
-name_by false false false true e f v early late same = refl
-name_by false false false false true f v early late same = refl
-name_by false false false false false true v early late same = refl
 name_by false false false false false false v early late same = ap (λ n. Plain (record { number = n; member = member_of v })) (same refl)
+name_by x b c d e f v early late same = refl
 
 lexeme_stays : (xs ys : List Word) (at : ℕ) (w : Word) → lexeme_in (xs ++ w ∷ []) at w ≡ lexeme_in ((xs ++ w ∷ []) ++ ys) at w
 lexeme_stays xs ys at (named v) =
@@ -43,10 +38,7 @@ lexeme_stays xs ys at (named v) =
     let late = order_of (first_of (ws ++ ys)) (second_of (ws ++ ys)) v in
     ap lexeme.Name (name_by (is (codes "Math")) (is (codes "Long")) (is (codes "LongStream")) (is (codes "long")) (is (codes "true")) (is (codes "false")) v early late (order_stays xs ys v))
 lexeme_stays xs ys at (numeral v) = refl
-lexeme_stays xs ys at (quoted v) = refl
-lexeme_stays xs ys at (referred v) = refl
-lexeme_stays xs ys at (sign s) = refl
-lexeme_stays xs ys at bad = refl
+lexeme_stays xs ys at x = refl
 
 -- a pass that has come to a place knows the first two names of the words before it, and has made the lexemes of these
 -- words

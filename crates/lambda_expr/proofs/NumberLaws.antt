@@ -36,7 +36,4 @@ same_fault text ts fault.NoMemory g h k = absurd h
 pub never_both : (text : List ℕ) (ts : List Token) (z : ℤ) (f : ReadFault) → SpellsNumber text ts z → IsNumberRefused text ts f → ⊥
 never_both text ts z (fault.Syntax at) s h = h.stops.outside s.number
 never_both text ts z fault.LiteralTooLarge s h = large_or_fits text ts z s h
-never_both text ts z fault.WrongType s h = h
-never_both text ts z fault.UnknownName s h = h
-never_both text ts z fault.TooDeep s h = h
-never_both text ts z fault.NoMemory s h = h
+never_both text ts z x s h = h

@@ -9,10 +9,8 @@ use Rattle.lambda_expr.specs.NumberWords.{in_64_bits, number_value}
 -- words too many for a number
 pub too_many : (ws : List code.Word) → 4 ≤ length ws → None ≡ number_value (words_in ws)
 too_many [] h = refl
-too_many (a ∷ []) h = absurd (omega arith)
-too_many (a ∷ b ∷ []) h = absurd (omega arith)
-too_many (a ∷ b ∷ c ∷ []) h = absurd (omega arith)
 too_many (a ∷ b ∷ c ∷ d ∷ ws) h = refl
+too_many x h = absurd (omega arith)
 
 -- whether something is read, and its value if that has 64 bits
 pub by_read : (x : Option ℤ) (r : Option (Option ℤ)) → r ≡ option_map in_64_bits x → (is_some r ≡ is_some x) × (option_flatten r ≡ option_and_then in_64_bits x)

@@ -70,9 +70,8 @@ no_dot true x = refl
 no_dot false x = refl
 
 after_owner : (w : List ℕ) (b : Word) (m : List Word) → is_dot b ≡ false → None ≡ number_value (named w ∷ b ∷ m)
-after_owner w b [] d = refl
 after_owner w b (c ∷ []) d = no_dot (is_long w) (limit_value c) ∙ ap (λ t. if is_long w && t then limit_value c else None) (sym d)
-after_owner w b (c ∷ e ∷ m) d = refl
+after_owner w b x d = refl
 
 after_dot : (w : List ℕ) (c : Word) (m : List Word) → is_long w ≡ true → None ≡ limit_value c → None ≡ number_value (named w ∷ dot ∷ c ∷ m)
 after_dot w c [] o l = l ∙ ap (λ t. if t && true then limit_value c else None) (sym o)
@@ -121,27 +120,20 @@ stops_there (a ∷ r) e = stop_at ANumber [] a r (zero_word ∷ [], refl) (λ m.
 
 -- the words of a short text
 pub one_word : (ws : List Word) → length ws ≡ 1 → get_or ws 0 bad ∷ [] ≡ ws
-one_word [] h = absurd (omega arith)
 one_word (a ∷ []) h = refl
-one_word (a ∷ b ∷ ws) h = absurd (omega arith)
+one_word x h = absurd (omega arith)
 
 pub two_words : (ws : List Word) → length ws ≡ 2 → get_or ws 0 bad ∷ get_or ws 1 bad ∷ [] ≡ ws
-two_words [] h = absurd (omega arith)
-two_words (a ∷ []) h = absurd (omega arith)
 two_words (a ∷ b ∷ []) h = refl
-two_words (a ∷ b ∷ c ∷ ws) h = absurd (omega arith)
+two_words x h = absurd (omega arith)
 
 pub three_words : (ws : List Word) → length ws ≡ 3 → get_or ws 0 bad ∷ get_or ws 1 bad ∷ get_or ws 2 bad ∷ [] ≡ ws
-three_words [] h = absurd (omega arith)
-three_words (a ∷ []) h = absurd (omega arith)
-three_words (a ∷ b ∷ []) h = absurd (omega arith)
 three_words (a ∷ b ∷ c ∷ []) h = refl
-three_words (a ∷ b ∷ c ∷ d ∷ ws) h = absurd (omega arith)
+three_words x h = absurd (omega arith)
 
 -- a text of no word, or of four or more, is no number
 pub no_number : (ws : List Word) → (length ws ≡ 1 → ⊥) → (length ws ≡ 2 → ⊥) → (length ws ≡ 3 → ⊥) → None ≡ number_value ws
-no_number [] p q r = refl
 no_number (a ∷ []) p q r = absurd (p refl)
 no_number (a ∷ b ∷ []) p q r = absurd (q refl)
 no_number (a ∷ b ∷ c ∷ []) p q r = absurd (r refl)
-no_number (a ∷ b ∷ c ∷ d ∷ ws) p q r = refl
+no_number x p q r = refl

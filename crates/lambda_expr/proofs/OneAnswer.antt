@@ -27,8 +27,7 @@ one_cut text ts us h k = same_tokens text 0 ts us (length text) h k
 few_or_many : (text : List ℕ) (ts : List Token) → AreTokensOf ts text → length ts ≤ 4096 → HasTooManyTokens text → ⊥
 few_or_many text ts cut few m =
     let same : length m.tokens ≡ length ts = ap length (one_cut text m.tokens ts m.cut cut) in
-    let many = m.many in
-    omega arith
+    omega (arith, m.many)
 
 in_or_out : (text : List ℕ) (want : Want) (r : Result AbstractLambda ReadFault) (at : ℕ) → Judged text want r → IsNoLambda text want at → ⊥
 in_or_out text want r at j n =
@@ -86,9 +85,5 @@ apart text want l f h o = let e = one_outcome text want (Ok (body_of l.body)) (E
 
 -- what spells a lambda is refused for being out of memory alone
 pub only_memory : (text : List ℕ) (want : Want) (l : Lambda) (f : ReadFault) → SpellsLambda text want l → IsRefused text want f → f ≡ fault.NoMemory
-only_memory text want l (fault.Syntax at) h k = absurd (apart text want l (fault.Syntax at) h (outcome_of text want (fault.Syntax at) k (λ e. cc)))
-only_memory text want l fault.TooDeep h k = absurd (apart text want l fault.TooDeep h (outcome_of text want fault.TooDeep k (λ e. cc)))
-only_memory text want l fault.LiteralTooLarge h k = absurd (apart text want l fault.LiteralTooLarge h (outcome_of text want fault.LiteralTooLarge k (λ e. cc)))
-only_memory text want l fault.UnknownName h k = absurd (apart text want l fault.UnknownName h (outcome_of text want fault.UnknownName k (λ e. cc)))
-only_memory text want l fault.WrongType h k = absurd (apart text want l fault.WrongType h (outcome_of text want fault.WrongType k (λ e. cc)))
 only_memory text want l fault.NoMemory h k = refl
+only_memory text want l f h k = absurd (apart text want l f h (outcome_of text want f k (λ e. cc)))

@@ -79,16 +79,14 @@ zeros_length zero = refl
 zeros_length (suc k) = ap suc (zeros_length k)
 
 more_yes : (s : StreamSource) (n : ℕ) → TakesMore s n → (k : ℕ) × Takes s (n + suc k)
-more_yes source.Range n h = (1 - n, omega arith)
-more_yes source.RangeClosed n h = (1 - n, omega arith)
 more_yes source.Of n h = (0, tt)
 more_yes source.Empty n h = absurd h
+more_yes x n h = (1 - n, omega arith)
 
 pub more_no : (s : StreamSource) (n k : ℕ) → (TakesMore s n → ⊥) → Takes s (n + suc k) → ⊥
-more_no source.Range n k h t = h (omega arith)
-more_no source.RangeClosed n k h t = h (omega arith)
 more_no source.Of n k h t = h tt
 more_no source.Empty n k h t = omega arith
+more_no x n k h t = h (omega arith)
 
 -- what begins an expression begins operands
 next_begins : (s : StreamSource) (n : ℕ) (c : List Lexeme) → TakesMore s n → Begins Expression c → Begins (Next s n) c
@@ -178,14 +176,13 @@ one_first e f es fs b d (inr (u ∷ y, s, t)) =
 
 one_further : (es fs : List Shape) → AreBound es → AreBound fs → further es ≡ further fs → es ≡ fs
 one_further [] [] b d is = refl
-one_further [] (f ∷ fs) b d is = absurd cc
-one_further (e ∷ es) [] b d is = absurd cc
 one_further (e ∷ es) (f ∷ fs) b d is =
     let k : spells e ++ further es ≡ spells f ++ further fs = cc in
     let p = one_first e f es fs b.0 d.0 (levi (spells e) (further es) (spells f) (further fs) k) in
     let later = one_further es fs b.1 d.1 p.1 in
     let first = p.0 in
     cc
+one_further x y b d is = absurd cc
 
 -- no expression begins with the parenthesis that closes
 never_empty : (e : Shape) (b : Binds 1 e) → spells e ≡ [] → ⊥

@@ -23,10 +23,7 @@ next ws at w lt is = ap (reads (wants [])) (take_more ws at word.Open lt ∙ ap 
 
 never_stuck : (ps : List Pending) (ss : List ParseStep) (h : Held) → state_of ps ss h ≢ stuck
 never_stuck ps ss held.Nothing e = cc
-never_stuck ps ss held.Complete e = cc
-never_stuck ps ss (held.ClassName o) e = cc
-never_stuck ps ss (held.OwnerDot o) e = cc
-never_stuck ps ss (held.Callee o i) e = cc
+never_stuck ps ss x e = cc
 
 pub goes_on : (ws : List Lexeme) (at : ℕ) (w : Lexeme) (ps qs : List Pending) (ss ts : List ParseStep) (h k : Held) → at < length ws → get_or ws at word.Open ≡ w → IsAt ps ss h (reads (wants []) (take at ws)) → IsAt qs ts k (read (state_of ps ss h) w) → IsAt qs ts k (reads (wants []) (take (at + 1) ws))
 goes_on ws at w ps qs ss ts h k lt is stood now = subst (IsAt qs ts k) (ap (λ s. read s w) stood.state ∙ sym (next ws at w lt is)) now
@@ -47,10 +44,7 @@ ends_early ws ps ss h is none_read = stops_end ws (λ e. never_stuck ps ss h (is
 only_waits : (ps : List Pending) (vs : List Shape) (e : Shape) → ps ≢ [] → only (frames_of ps vs) e ≡ None
 only_waits [] vs e n = absurd (n refl)
 only_waits (pending.Opened o ∷ ps) vs e n = refl
-only_waits (pending.Signed s ∷ ps) vs e n = refl
-only_waits (pending.Left s ∷ ps) vs e n = refl
-only_waits (pending.Question ∷ ps) vs e n = refl
-only_waits (pending.Colon ∷ ps) vs e n = refl
+only_waits (w ∷ ps) vs e n = refl
 
 -- what is joined at the end is what the reader gives
 result_joined : (s : State) (ps qs : List Pending) (ss ts : List ParseStep) → IsAt ps ss held.Complete (settled s) → joins 0 (top_of ps ss) ≡ top_of qs ts → result_of s ≡ whole (top_of qs ts)

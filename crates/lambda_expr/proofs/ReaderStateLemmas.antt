@@ -2,16 +2,16 @@
 use Rattle.std.proofs.Common.{◌≡◌, ◌≢◌, ℕ, ◌+◌, ◌<◌, ◌≤◌, Bool, true, false, List, [], ◌∷◌, ◌++◌, length, take, drop, Some, None, refl, sym, ap, subst, ◌∙◌, append_assoc, append-nil, arith}
 use Rattle.std.proofs.lemmas.List.{take_all, take-append-drop}
 use Rattle.lambda_expr.specs.declared.lexeme.ClassName.{ClassName as Class}
-use Rattle.lambda_expr.specs.declared.lexeme.ClassName.TheVariants.{Math, Long}
+use Rattle.lambda_expr.specs.declared.lexeme.ClassName.TheVariants.{Long}
 use Rattle.lambda_expr.specs.declared.step.Opening.TheVariants.{Call}
 use Rattle.lambda_expr.specs.declared.lexeme.Lexeme.{Lexeme}
 use Rattle.lambda_expr.specs.declared.lexeme.Lexeme.TheVariants as word
 use Rattle.lambda_expr.specs.declared.lexeme.Name.{Name}
-use Rattle.lambda_expr.specs.declared.lexeme.Name.TheVariants.{Plain, ClassName, Truth, LowerLong, LongStream}
+use Rattle.lambda_expr.specs.declared.lexeme.Name.TheVariants.{Plain, ClassName, Truth, LowerLong}
 use Rattle.lambda_expr.specs.Grammar.{Shape, number, constant, enclosed, opening, spells, Binds, IsExpression, Expression}
 use Rattle.lambda_expr.specs.Signs.{level, is_prefix}
 use Rattle.lambda_expr.specs.Stops.{Begins, StopsAt}
-use Rattle.lambda_expr.specs.Reader.{Frame, opened, signed, left, question, colon, joined, takes, State, wants, has, owns, dots, calls, stuck, when, answers_at, shuts_at, follows, called, read, reads, settled, only, result_of, result_at}
+use Rattle.lambda_expr.specs.Reader.{Frame, opened, signed, left, question, joined, takes, State, wants, has, owns, dots, calls, stuck, when, answers_at, shuts_at, follows, called, read, reads, settled, only, result_of, result_at}
 use Rattle.lambda_expr.proofs.Frames.{before, wanted, Ordered, after, filled, spells_filled, binds_filled, wanted_high, binds_lower, level_high, Keeps, join_keeps, join_stops, not_two, taken}
 use Rattle.lambda_expr.proofs.Leads.{at_top, reads_back, stuck_begins_none}
 
@@ -62,26 +62,18 @@ more : (ws front : List Lexeme) (w : Lexeme) (fs : List Frame) → before fs ++ 
 more ws front w fs h = sym (append_assoc (before fs) front (w ∷ [])) ∙ ap (λ v. v ++ w ∷ []) h
 
 answered : (ws : List Lexeme) (fs : List Frame) (e : Shape) → before fs ++ spells e ≡ ws → Ordered fs → Binds (wanted fs) e → Stands (put ws word.Colon) (answers_at fs e)
-answered ws [] e h o b = tt
-answered ws (opened p ∷ fs) e h o b = tt
-answered ws (signed s ∷ fs) e h o b = tt
-answered ws (left a s ∷ fs) e h o b = tt
 answered ws (question c ∷ fs) e h o b =
     let flat : ((before fs ++ (spells c ++ word.Question ∷ [])) ++ spells e) ++ word.Colon ∷ [] ≡ ws ++ word.Colon ∷ [] = ap (λ v. v ++ word.Colon ∷ []) h in
     let words : before fs ++ (spells c ++ word.Question ∷ (spells e ++ word.Colon ∷ [])) ≡ ws ++ word.Colon ∷ [] = simp append_assoc at flat in
     (words, (o.0, o.1, b, o.2))
-answered ws (colon c p ∷ fs) e h o b = tt
+answered ws x e h o b = tt
 
 shut : (ws : List Lexeme) (fs : List Frame) (e : Shape) → before fs ++ spells e ≡ ws → Ordered fs → Binds (wanted fs) e → Stands (put ws word.Close) (shuts_at fs e)
-shut ws [] e h o b = tt
 shut ws (opened p ∷ fs) e h o b =
     let flat : ((before fs ++ opening p) ++ spells e) ++ word.Close ∷ [] ≡ ws ++ word.Close ∷ [] = ap (λ v. v ++ word.Close ∷ []) h in
     let words : before fs ++ (opening p ++ (spells e ++ word.Close ∷ [])) ≡ ws ++ word.Close ∷ [] = simp append_assoc at flat in
     (words, o, b)
-shut ws (signed s ∷ fs) e h o b = tt
-shut ws (left a s ∷ fs) e h o b = tt
-shut ws (question c ∷ fs) e h o b = tt
-shut ws (colon c p ∷ fs) e h o b = tt
+shut ws x e h o b = tt
 
 joins_all : (n : ℕ) (fs : List Frame) (e : Shape) → n ≤ 12 → Ordered fs → Binds 13 e → Keeps n fs e (joined n fs e)
 joins_all n fs e h o b =
@@ -92,8 +84,7 @@ joins_all n fs e h o b =
 
 followed : (ws : List Lexeme) (fs : List Frame) (e : Shape) (w : Lexeme) → Stands ws (has fs e) → Stands (put ws w) (follows (at_top fs e) w)
 followed ws fs e (word.Sign x) s =
-    let high = level_high x in
-    let j = joins_all (level x) fs e (omega arith) s.1 s.2 in
+    let j = joins_all (level x) fs e (omega (arith, level_high x)) s.1 s.2 in
     let t = joined (level x) fs e in
     when_stands (put ws (word.Sign x)) (takes x t.frames) (wants (left t.shape x ∷ t.frames)) (λ y.
     let k = taken x fs e y in
@@ -109,78 +100,30 @@ followed ws fs e word.Close s =
     let j = joins_all 0 fs e (omega arith) s.1 s.2 in
     shut ws (joined 0 fs e).frames (joined 0 fs e).shape (j.words ∙ s.0) j.ordered j.tight
 followed ws fs e (word.Name i) s = tt
-followed ws fs e (word.Number i) s = tt
-followed ws fs e (word.Reference i) s = tt
-followed ws fs e word.Open s = tt
-followed ws fs e word.Dot s = tt
-followed ws fs e word.Arrow s = tt
-followed ws fs e word.Other s = tt
+followed ws fs e x s = tt
 
 started : (ws : List Lexeme) (fs : List Frame) (w : Lexeme) → Stands ws (wants fs) → Stands (put ws w) (read (wants fs) w)
 started ws fs (word.Name (Plain i)) s = (ap (λ v. v ++ word.Name (Plain i) ∷ []) s.0, s.1, tt)
 started ws fs (word.Name (ClassName o)) s = (ap (λ v. v ++ word.Name (ClassName o) ∷ []) s.0, s.1)
 started ws fs (word.Name (Truth b)) s = (ap (λ v. v ++ word.Name (Truth b) ∷ []) s.0, s.1, tt)
-started ws fs (word.Name LowerLong) s = tt
-started ws fs (word.Name LongStream) s = tt
 started ws fs (word.Number i) s = (ap (λ v. v ++ word.Number i ∷ []) s.0, s.1, tt)
 started ws fs (word.Reference i) s = (ap (λ v. v ++ word.Reference i ∷ []) s.0, s.1, tt)
 started ws fs (word.Sign x) s = when_stands (put ws (word.Sign x)) (is_prefix x) (wants (signed x ∷ fs)) (λ y. (ap (λ v. v ++ word.Sign x ∷ []) s.0, (y, s.1)))
 started ws fs word.Open s = (ap (λ v. v ++ word.Open ∷ []) s.0, s.1)
-started ws fs word.Close s = tt
-started ws fs word.Dot s = tt
-started ws fs word.Arrow s = tt
-started ws fs word.Question s = tt
-started ws fs word.Colon s = tt
-started ws fs word.Other s = tt
+started ws fs x s = tt
 
 owned_on : (ws : List Lexeme) (fs : List Frame) (o : Class) (w : Lexeme) → Stands ws (owns fs o) → Stands (put ws w) (read (owns fs o) w)
 owned_on ws fs o word.Dot s = (more ws (word.Name (ClassName o) ∷ []) word.Dot fs s.0, s.1)
-owned_on ws fs o (word.Name i) s = tt
-owned_on ws fs o (word.Number i) s = tt
-owned_on ws fs o (word.Reference i) s = tt
-owned_on ws fs o (word.Sign x) s = tt
-owned_on ws fs o word.Open s = tt
-owned_on ws fs o word.Close s = tt
-owned_on ws fs o word.Arrow s = tt
-owned_on ws fs o word.Question s = tt
-owned_on ws fs o word.Colon s = tt
-owned_on ws fs o word.Other s = tt
+owned_on ws fs o y s = tt
 
 dotted_on : (ws : List Lexeme) (fs : List Frame) (o : Class) (w : Lexeme) → Stands ws (dots fs o) → Stands (put ws w) (read (dots fs o) w)
 dotted_on ws fs o (word.Name i) s = (more ws (word.Name (ClassName o) ∷ word.Dot ∷ []) (word.Name i) fs s.0, s.1)
-dotted_on ws fs o (word.Number i) s = tt
-dotted_on ws fs o (word.Reference i) s = tt
-dotted_on ws fs o (word.Sign x) s = tt
-dotted_on ws fs o word.Open s = tt
-dotted_on ws fs o word.Close s = tt
-dotted_on ws fs o word.Dot s = tt
-dotted_on ws fs o word.Arrow s = tt
-dotted_on ws fs o word.Question s = tt
-dotted_on ws fs o word.Colon s = tt
-dotted_on ws fs o word.Other s = tt
+dotted_on ws fs o y s = tt
 
 called_on : (ws : List Lexeme) (fs : List Frame) (o : Class) (i : Name) (w : Lexeme) → Stands ws (calls fs o i) → Stands (put ws w) (called fs o i w)
 called_on ws fs o i word.Open s = (more ws (word.Name (ClassName o) ∷ word.Dot ∷ word.Name i ∷ []) word.Open fs s.0, s.1)
-called_on ws fs Long i (word.Name j) s = tt
-called_on ws fs Long i (word.Number j) s = tt
-called_on ws fs Long i (word.Reference j) s = tt
-called_on ws fs Long i (word.Sign x) s = followed ws fs (constant i) (word.Sign x) (s.0, s.1, tt)
-called_on ws fs Long i word.Close s = followed ws fs (constant i) word.Close (s.0, s.1, tt)
-called_on ws fs Long i word.Dot s = tt
-called_on ws fs Long i word.Arrow s = tt
-called_on ws fs Long i word.Question s = followed ws fs (constant i) word.Question (s.0, s.1, tt)
-called_on ws fs Long i word.Colon s = followed ws fs (constant i) word.Colon (s.0, s.1, tt)
-called_on ws fs Long i word.Other s = tt
-called_on ws fs Math i (word.Name j) s = tt
-called_on ws fs Math i (word.Number j) s = tt
-called_on ws fs Math i (word.Reference j) s = tt
-called_on ws fs Math i (word.Sign x) s = tt
-called_on ws fs Math i word.Close s = tt
-called_on ws fs Math i word.Dot s = tt
-called_on ws fs Math i word.Arrow s = tt
-called_on ws fs Math i word.Question s = tt
-called_on ws fs Math i word.Colon s = tt
-called_on ws fs Math i word.Other s = tt
+called_on ws fs Long i p s = followed ws fs (constant i) p (s.0, s.1, tt)
+called_on ws fs y i p s = tt
 
 -- one more word keeps what stands
 keeps : (ws : List Lexeme) (s : State) (w : Lexeme) → Stands ws s → Stands (put ws w) (read s w)
@@ -230,19 +173,11 @@ result_is ws (has fs e) f s is =
     let j = joins_all 0 fs e (omega arith) s.1 s.2 in
     whole_at ws (joined 0 fs e).frames (joined 0 fs e).shape f (j.words ∙ s.0) j.tight is
 result_is ws (wants fs) f s is = absurd cc
-result_is ws (owns fs o) f s is = absurd cc
-result_is ws (dots fs o) f s is = absurd cc
-result_is ws (calls fs o i) f s is = absurd cc
-result_is ws stuck f s is = absurd cc
+result_is ws x f s is = absurd cc
 
 settled_stands : (ws : List Lexeme) (s : State) → Stands ws s → Stands ws (settled s)
-settled_stands ws (wants fs) s = s
-settled_stands ws (has fs e) s = s
-settled_stands ws (owns fs o) s = s
-settled_stands ws (dots fs o) s = s
 settled_stands ws (calls fs Long i) s = (s.0, s.1, tt)
-settled_stands ws (calls fs Math i) s = s
-settled_stands ws stuck s = s
+settled_stands ws x s = s
 
 -- what is read at the end is the expression that the words are
 pub reads_expression : (ws : List Lexeme) (f : Shape) → result_of (reads (wants []) ws) ≡ Some f → IsExpression ws f

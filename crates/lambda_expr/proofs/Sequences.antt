@@ -20,9 +20,8 @@ length_more (v ∷ a) w b = let k = length_more a w b in omega arith
 -- no text begins with the words up to and with this one
 pub stop_at : {W : Type 0} (G : List W → Type 0) (a : List W) (w : W) (b : List W) → Begins G a → ((m : List W) → G (a ++ w ∷ m) → ⊥) → StopsAt G (a ++ w ∷ b) (length a)
 stop_at {W} G a w b begins dead =
-    let more = length_more a w b in
     record {
-      within = omega arith;
+      within = omega (arith, length_more a w b);
       outside = λ g. dead b g;
       begins = subst (Begins G) (sym (take_front a (w ∷ b))) begins;
       stops = λ lt x. dead x.0 (subst G (ap (λ v. v ++ x.0) (take_one_more a w b) ∙ append_assoc a (w ∷ []) x.0) x.1);

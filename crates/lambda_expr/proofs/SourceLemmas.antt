@@ -29,10 +29,9 @@ AnOpened s ws = (es : List Shape) × IsOpened s es ws
 
 -- a list of operands for each source
 pub some_list : (s : StreamSource) → (us : List Lexeme) × Operands s us
-some_list source.Range = (word.Number 0 ∷ word.Sign Comma ∷ word.Number 0 ∷ word.Close ∷ [], (number 0 ∷ number 0 ∷ [], record { count = refl; bound = (tt, (tt, tt)); spelled = refl }))
-some_list source.RangeClosed = (word.Number 0 ∷ word.Sign Comma ∷ word.Number 0 ∷ word.Close ∷ [], (number 0 ∷ number 0 ∷ [], record { count = refl; bound = (tt, (tt, tt)); spelled = refl }))
 some_list source.Of = (word.Close ∷ [], ([], record { count = tt; bound = tt; spelled = refl }))
 some_list source.Empty = (word.Close ∷ [], ([], record { count = refl; bound = tt; spelled = refl }))
+some_list x = (word.Number 0 ∷ word.Sign Comma ∷ word.Number 0 ∷ word.Close ∷ [], (number 0 ∷ number 0 ∷ [], record { count = refl; bound = (tt, (tt, tt)); spelled = refl }))
 
 opened_begins : (s : StreamSource) → Begins (AnOpened s) []
 opened_begins s = let l = some_list s in (word.Open ∷ l.0, (l.1.0, l.1.1))

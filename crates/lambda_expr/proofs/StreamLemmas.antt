@@ -1,5 +1,5 @@
 -- The verdict on a lambda to a stream from what its checks find.
-use Rattle.std.proofs.Common.{◌≡◌, ℕ, suc, ◌+◌, ◌<◌, ◌≤◌, max, min, nat_lt, Bool, true, false, List, [], ◌∷◌, ◌++◌, length, drop, get_or, Option, Some, None, Err, refl, sym, ap, ◌∙◌, append_assoc, arith}
+use Rattle.std.proofs.Common.{◌≡◌, ℕ, suc, ◌+◌, ◌<◌, ◌≤◌, max, min, nat_lt, Bool, true, false, List, [], ◌∷◌, ◌++◌, length, drop, get_or, Option, Some, None, Err, refl, sym, ap, subst, ◌∙◌, append_assoc, arith}
 use Rattle.std.proofs.lemmas.List.{drop_more}
 use Rattle.std.proofs.lemmas.Grind.{common_steps}
 use Rattle.std.specs.Global.{Vec}
@@ -8,24 +8,23 @@ use Rattle.lambda_values.specs.declared.expr.LongExpr.{LongExpr}
 use Rattle.lambda_expr.specs.declared.fault.ReadFault.TheVariants as fault
 use Rattle.lambda_expr.specs.declared.source.StreamSource.{StreamSource}
 use Rattle.lambda_expr.specs.declared.step.ParseStep.{ParseStep}
-use Rattle.lambda_expr.specs.declared.stream.Checks.{Checks}
-use Rattle.lambda_expr.specs.BodyReading.{after_numbers, and_found, found_in, no_operands, step_numbers}
+use Rattle.lambda_expr.specs.declared.check.Summary.{Summary}
+use Rattle.lambda_expr.specs.declared.sign.Sign.TheVariants.{Comma}
+use Rattle.lambda_expr.specs.BodyReading.{after_numbers, found_in, no_operands, step_numbers}
 use Rattle.lambda_expr.specs.Checks.{depth, fit, literals, names_known}
 use Rattle.lambda_expr.specs.Elaborating.{top_typed, typed_steps}
 use Rattle.lambda_expr.specs.Grammar.{Shape, postfix}
 use Rattle.lambda_expr.specs.Lexemes.{Names}
 use Rattle.lambda_expr.specs.Refusals.{stream_verdict, streamed}
 use Rattle.lambda_expr.specs.SourceReading.{each_postfix, steps_of}
+use Rattle.lambda_expr.specs.Summaries.{binary_summary, summary}
 use Rattle.lambda_expr.specs.StreamChecks.{all_fit, all_known, and_number, deepest, numbers}
 use Rattle.lambda_values.specs.Streams.{exprs_of}
 use Rattle.lambda_values.specs.Term.{Long, long_of}
-use Rattle.lambda_expr.specs.Typing.{Typed, long, boolean, longs, untyped}
+use Rattle.lambda_expr.specs.Typing.{Typed, long}
 use Rattle.lambda_expr.proofs.JudgeLemmas.{summary_is, typed_is}
 
 -- ---- what the checks find
-
-abbrev checks_of : Bool → ℕ → Bool → Checks
-checks_of f d k = record { fit = f; depth = d; known = k }
 
 both_true : (a : Bool) → a && true ≡ a
 both_true true = refl
@@ -35,29 +34,31 @@ and_assoc : (a b c : Bool) → (a && b) && c ≡ a && (b && c)
 and_assoc true b c = refl
 and_assoc false b c = refl
 
-same_checks : (f g : Bool) (d e : ℕ) (k l : Bool) → f ≡ g → d ≡ e → k ≡ l → checks_of f d k ≡ checks_of g e l
-same_checks f g d e k l p q r = ap (λ f. checks_of f d k) p ∙ ap (λ d. checks_of g d k) q ∙ ap (checks_of g e) r
-
-found_by : (es : List Shape) (c : Checks) → found_in c (each_postfix es) ≡ checks_of (c.fit && all_fit es) (max c.depth (min (deepest es) 65)) (c.known && all_known 1 es)
-found_by [] c = same_checks _ _ _ _ _ _ (sym (both_true c.fit)) (let e : c.depth ≡ max c.depth (min 0 65) = omega arith in e) (sym (both_true c.known))
-found_by (e ∷ es) c =
-    ap (λ s. found_in (and_found c s) (each_postfix es)) (summary_is 1 e (postfix e) _ refl refl)
-    ∙ found_by es _
-    ∙ same_checks _ _ _ _ _ _ (and_assoc c.fit (fit (literals e)) (all_fit es)) (let k : max (max c.depth (min (depth e) 65)) (min (deepest es) 65) ≡ max c.depth (min (max (depth e) (deepest es)) 65) = omega arith in k) (and_assoc c.known (names_known 1 e) (all_known 1 es))
-
 -- what they find in operands
-pub record AreFound (c : Checks) (es : List Shape) : Type 0 where
-  pub fit : c.fit ≡ all_fit es
+pub record AreFound (c : Summary) (es : List Shape) : Type 0 where
+  pub fit : fit c.literals ≡ all_fit es
   pub depth : c.depth ≡ min (deepest es) 65
   pub known : c.known ≡ all_known 1 es
 
-found_at : (es : List Shape) (c : Checks) → c ≡ checks_of (all_fit es) (min (deepest es) 65) (all_known 1 es) → AreFound c es
-found_at es c is = record { fit = ap (λ (c : Checks). c.fit) is; depth = ap (λ (c : Checks). c.depth) is; known = ap (λ (c : Checks). c.known) is }
+abbrev Found : Summary → Summary → List Shape → Type 0
+Found c d es = (fit d.literals ≡ fit c.literals && all_fit es) × (d.depth ≡ max c.depth (min (deepest es) 65)) × (d.known ≡ c.known && all_known 1 es)
+
+found_by : (es : List Shape) (c : Summary) → Found c (found_in c (each_postfix es)) es
+found_by [] c = (sym (both_true (fit c.literals)), omega arith, sym (both_true c.known))
+found_by (e ∷ es) c =
+    let is = ap (λ s. found_in (binary_summary Comma c s) (each_postfix es)) (summary_is 1 e (postfix e) _ refl refl) in
+    let k = found_by es (binary_summary Comma c (summary 1 e)) in
+    let deep : max (max c.depth (min (depth e) 65)) (min (deepest es) 65) ≡ max c.depth (min (max (depth e) (deepest es)) 65) = omega arith in (
+      ap (λ (s : Summary). fit s.literals) is ∙ k.0 ∙ and_assoc (fit c.literals) (fit (literals e)) (all_fit es),
+      ap (λ (s : Summary). s.depth) is ∙ k.1 ∙ deep,
+      ap (λ (s : Summary). s.known) is ∙ k.2 ∙ and_assoc c.known (names_known 1 e) (all_known 1 es),
+    )
 
 -- what the checks of operands with these steps find
-pub found_is : (vs : List (Vec ParseStep)) (es : List Shape) (c : Checks) → steps_of vs ≡ each_postfix es → c ≡ found_in no_operands (steps_of vs) → AreFound c es
+pub found_is : (vs : List (Vec ParseStep)) (es : List Shape) (c : Summary) → steps_of vs ≡ each_postfix es → c ≡ found_in no_operands (steps_of vs) → AreFound c es
 found_is vs es c is found =
-    found_at es c (found ∙ ap (found_in no_operands) is ∙ found_by es no_operands ∙ same_checks _ _ _ _ _ _ refl (let k : max 0 (min (deepest es) 65) ≡ min (deepest es) 65 = omega arith in k) refl)
+    let k = subst (λ d. Found no_operands d es) (sym (found ∙ ap (found_in no_operands) is)) (found_by es no_operands) in
+    record { fit = k.0; depth = omega (arith, k.1); known = k.2 }
 
 -- ---- the numbers of operands
 
@@ -66,11 +67,8 @@ numbers_by h [] = refl
 numbers_by h (e ∷ es) = ap (λ t. and_number t (step_numbers h (each_postfix es))) (typed_is h e (postfix e) _ refl refl) ∙ ap (and_number _) (numbers_by h es)
 
 and_length : (t : Typed) (o : Option (List Long)) (xs : List Long) (n : ℕ) → and_number t o ≡ Some xs → ((ys : List Long) → o ≡ Some ys → length ys ≡ n) → length xs ≡ suc n
-and_length (long a) None xs n is h = absurd cc
 and_length (long a) (Some ys) xs n is h = let e : a ∷ ys ≡ xs = cc in ap length (sym e) ∙ ap suc (h ys refl)
-and_length (boolean a) o xs n is h = absurd cc
-and_length (longs a b) o xs n is h = absurd cc
-and_length untyped o xs n is h = absurd cc
+and_length x o xs n is h = absurd cc
 
 pub numbers_length : (h : Names) (es : List Shape) (xs : List Long) → numbers h es ≡ Some xs → length xs ≡ length es
 numbers_length h [] xs is = let e : [] ≡ xs = cc in ap length (sym e)

@@ -7,7 +7,7 @@ use Rattle.lambda_expr.specs.declared.check.BodyForm.{BodyForm}
 use Rattle.lambda_expr.specs.declared.step.ParseStep.{ParseStep}
 use Rattle.lambda_expr.specs.declared.step.ParseStep.TheVariants as step
 use Rattle.lambda_expr.specs.Checks.{depth, is_comma}
-use Rattle.lambda_expr.specs.Grammar.{Shape, name, number, truth, reference, constant, prefix, binary, ternary, enclosed, postfix}
+use Rattle.lambda_expr.specs.Grammar.{Shape, prefix, binary, ternary, enclosed, postfix}
 use Rattle.lambda_expr.specs.Stacks.{below, stacked}
 use Rattle.lambda_expr.specs.Summaries.{binary_summary, deeper, enclosed_summary, nothing, prefix_summary, summary, summary_step, summary_steps, ternary_summary, top_summary}
 use Rattle.lambda_expr.proofs.StackLemmas.{popped_rest, popped_top}
@@ -41,11 +41,6 @@ cut_enclosed : (p : ℕ) (o : _) (a : Shape) → enclosed_summary o (summary p a
 cut_enclosed p o a = ap (with_depth _ _ _) (let e : min (suc (min (depth a) 65)) 65 ≡ min (suc (depth a)) 65 = omega arith in e)
 
 pub by_steps : (p : ℕ) (e : Shape) (ts : List Summary) (ss : List ParseStep) → summary_steps p ts (postfix e ++ ss) ≡ summary_steps p (summary p e ∷ ts) ss
-by_steps p (name i) ts ss = refl
-by_steps p (number i) ts ss = refl
-by_steps p (truth i) ts ss = refl
-by_steps p (reference i) ts ss = refl
-by_steps p (constant i) ts ss = refl
 by_steps p (prefix s a) ts ss = ap (summary_steps p ts) (append_assoc (postfix a) (step.Prefix s ∷ []) ss) ∙ by_steps p a ts (step.Prefix s ∷ ss) ∙ ap (λ v. summary_steps p (v ∷ ts) ss) (cut_prefix p s a)
 by_steps p (binary s a b) ts ss =
     ap (summary_steps p ts) (append_assoc (postfix a) (postfix b ++ step.Binary s ∷ []) ss ∙ ap (λ v. postfix a ++ v) (append_assoc (postfix b) (step.Binary s ∷ []) ss))
@@ -59,3 +54,4 @@ by_steps p (ternary c q r) ts ss =
     ∙ by_steps p r (summary p q ∷ summary p c ∷ ts) (step.Ternary ∷ ss)
     ∙ ap (λ v. summary_steps p (v ∷ ts) ss) (cut_ternary p c q r)
 by_steps p (enclosed o a) ts ss = ap (summary_steps p ts) (append_assoc (postfix a) (step.Enclose o ∷ []) ss) ∙ by_steps p a ts (step.Enclose o ∷ ss) ∙ ap (λ v. summary_steps p (v ∷ ts) ss) (cut_enclosed p o a)
+by_steps p x ts ss = refl

@@ -20,19 +20,11 @@ get_or-words_of text (t ∷ ts) (suc i) d h = let k : i < length ts = omega arit
 -- what the word of a token says of the token
 pub named_kind : (k : TokenKind) (bytes p : List ℕ) → word_for k bytes ≡ named p → k ≡ kind.Name
 named_kind kind.Name bytes p h = refl
-named_kind kind.Number bytes p h = cc
-named_kind kind.String bytes p h = cc
-named_kind kind.Reference bytes p h = cc
-named_kind (kind.Symbol s) bytes p h = cc
-named_kind kind.Bad bytes p h = cc
+named_kind x bytes p h = cc
 
 pub named_bytes : (k : TokenKind) (bytes p : List ℕ) → word_for k bytes ≡ named p → bytes ≡ p
 named_bytes kind.Name bytes p h = cc
-named_bytes kind.Number bytes p h = cc
-named_bytes kind.String bytes p h = cc
-named_bytes kind.Reference bytes p h = cc
-named_bytes (kind.Symbol s) bytes p h = cc
-named_bytes kind.Bad bytes p h = cc
+named_bytes x bytes p h = cc
 
 -- the column of a token, and of the end
 pub column-at : (text : List ℕ) (ts : List Token) (i : ℕ) (d : Token) → i < length ts → column text ts i ≡ suc (get_or ts i d).from
@@ -58,9 +50,5 @@ past_words text (t ∷ ts) zero h = absurd (omega arith)
 past_words text (t ∷ ts) (suc i) h = let k : length ts ≤ i = omega arith in past_words text ts i k
 
 pub no_reference : (k : TokenKind) (bytes : List ℕ) → (k ≡ kind.Reference → ⊥) → reference_name (word_for k bytes) ≡ []
-no_reference kind.Name bytes n = refl
-no_reference kind.Number bytes n = refl
-no_reference kind.String bytes n = refl
 no_reference kind.Reference bytes n = absurd (n refl)
-no_reference (kind.Symbol s) bytes n = refl
-no_reference kind.Bad bytes n = refl
+no_reference x bytes n = refl

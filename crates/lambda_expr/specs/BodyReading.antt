@@ -1,13 +1,12 @@
 -- Condition: bodies in steps, and what the checks of operands find in them.
-use Rattle.std.specs.Prelude.{◌≡◌, max, true, ◌&&◌, List, [], ◌∷◌, ◌++◌, length, Option, Some, None}
+use Rattle.std.specs.Prelude.{◌≡◌, List, [], ◌∷◌, ◌++◌, length, Option, Some, None}
 use Rattle.lambda_expr.specs.declared.body.BodySteps.{BodySteps}
 use Rattle.lambda_expr.specs.declared.body.BodySteps.TheVariants as steps
 use Rattle.lambda_expr.specs.declared.check.Summary.{Summary}
 use Rattle.lambda_expr.specs.declared.want.Want.{Want}
 use Rattle.lambda_expr.specs.declared.lexeme.Lexeme.{Lexeme}
 use Rattle.lambda_expr.specs.declared.step.ParseStep.{ParseStep}
-use Rattle.lambda_expr.specs.declared.stream.Checks.{Checks}
-use Rattle.lambda_expr.specs.Checks.{fit}
+use Rattle.lambda_expr.specs.declared.sign.Sign.TheVariants.{Comma}
 use Rattle.lambda_expr.specs.Elaborating.{top_typed, typed_steps}
 use Rattle.lambda_expr.specs.Grammar.{postfix}
 use Rattle.lambda_expr.specs.Heads.{BodyShape, expression, operands, IsBody}
@@ -15,7 +14,7 @@ use Rattle.lambda_expr.specs.Lexemes.{Names}
 use Rattle.lambda_expr.specs.SourceReading.{each_postfix, steps_of}
 use Rattle.lambda_expr.specs.Sources.{Takes}
 use Rattle.lambda_expr.specs.StreamChecks.{and_number}
-use Rattle.lambda_expr.specs.Summaries.{summary_steps, top_summary}
+use Rattle.lambda_expr.specs.Summaries.{binary_summary, nothing, summary_steps, top_summary}
 use Rattle.lambda_values.specs.Term.{Long}
 
 -- these are the steps of the body
@@ -29,16 +28,13 @@ AreSteps (operands s es) (steps.Stream t vs) = (t ≡ s) × Takes s (length es) 
 abbrev pub IsBodyOf : Want → List Lexeme → BodySteps → Type 0
 IsBodyOf w ws b = (shape : BodyShape) × IsBody w ws shape × AreSteps shape b
 
--- what the checks find in operands, one after the other
-abbrev pub and_found : Checks → Summary → Checks
-and_found c s = record { fit = c.fit && fit s.literals; depth = max c.depth s.depth; known = c.known && s.known }
+-- what the checks find in operands with commas between them
+abbrev pub no_operands : Summary
+no_operands = record nothing { depth = 0 }
 
-abbrev pub no_operands : Checks
-no_operands = record { fit = true; depth = 0; known = true }
-
-abbrev pub found_in : Checks → List (List ParseStep) → Checks
+abbrev pub found_in : Summary → List (List ParseStep) → Summary
 found_in c [] = c
-found_in c (s ∷ ss) = found_in (and_found c (top_summary (summary_steps 1 [] s))) ss
+found_in c (s ∷ ss) = found_in (binary_summary Comma c (top_summary (summary_steps 1 [] s))) ss
 
 -- the numbers of operands, from their steps
 abbrev pub step_numbers : Names → List (List ParseStep) → Option (List Long)

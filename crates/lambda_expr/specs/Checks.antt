@@ -7,7 +7,8 @@ use Rattle.lambda_expr.specs.declared.sign.Sign.{Sign}
 use Rattle.lambda_expr.specs.declared.sign.Sign.TheVariants as sign
 use Rattle.lambda_expr.specs.declared.step.Opening.{Opening}
 use Rattle.lambda_expr.specs.declared.step.Opening.TheVariants.{Paren, Call}
-use Rattle.lambda_expr.specs.Grammar.{Shape, name, number, truth, reference, constant, prefix, binary, ternary, enclosed}
+use Rattle.lambda_expr.specs.Grammar.{Shape, name, number, truth, reference, constant, prefix, binary, ternary}
+use Rattle.lambda_expr.specs.Grammar.{enclosed}
 use Rattle.lambda_expr.specs.Typing.{constant_of, function_of}
 
 -- whether the numbers of an expression fit; a number by itself is at most 2^63 - 1

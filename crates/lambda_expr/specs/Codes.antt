@@ -1,5 +1,6 @@
 -- Condition: what the code keeps of the reader's state: a stack without operands, and the steps of all operands.
-use Rattle.std.specs.Prelude.{◌≡◌, ℕ, Bool, true, false, nat_lt, if◌then◌else◌, List, [], ◌∷◌, ◌++◌, Option, Some, None, Result, Ok, Err}
+use Rattle.std.specs.Prelude.{◌≡◌, ℕ, Bool, true, false, nat_lt, if◌then◌else◌, List, [], ◌∷◌, ◌++◌, Option, Some, None}
+use Rattle.std.specs.Prelude.{Result, Ok, Err}
 use Rattle.lambda_expr.specs.declared.lexeme.Lexeme.{Lexeme}
 use Rattle.lambda_expr.specs.declared.parse.Pending.{Pending}
 use Rattle.lambda_expr.specs.declared.parse.Pending.TheVariants as pending
@@ -9,10 +10,12 @@ use Rattle.lambda_expr.specs.declared.parse.Held.{Held}
 use Rattle.lambda_expr.specs.declared.parse.Held.TheVariants as held
 use Rattle.lambda_expr.specs.declared.parse.ParseStop.{ParseStop}
 use Rattle.lambda_expr.specs.declared.parse.ParseStop.TheVariants.{At, NoMemory}
-use Rattle.lambda_expr.specs.Grammar.{Shape, name, number, truth, reference, constant, prefix, binary, ternary, enclosed, postfix, IsExpression}
+use Rattle.lambda_expr.specs.Grammar.{Shape, name, number, truth, reference, constant, prefix, binary, ternary}
+use Rattle.lambda_expr.specs.Grammar.{enclosed, postfix, IsExpression}
 use Rattle.lambda_expr.specs.Signs.{level}
 use Rattle.lambda_expr.specs.Stops.{StopsAt}
-use Rattle.lambda_expr.specs.Reader.{Frame, opened, signed, left, question, colon, Top, State, wants, has, owns, dots, calls, stuck, settled, result_of}
+use Rattle.lambda_expr.specs.Reader.{Frame, opened, signed, left, question, colon, Top, State, wants, has, owns, dots}
+use Rattle.lambda_expr.specs.Reader.{calls, stuck, settled, result_of}
 
 abbrev pub reduced : ℕ → Pending → Option ParseStep
 reduced n (pending.Opened o) = None
@@ -82,7 +85,7 @@ code_of (dots fs o) = coded fs
 code_of (calls fs o i) = coded fs
 code_of stuck = []
 
--- the frames and the expression behind them
+-- the frames and the expression after them
 abbrev pub top_of : List Pending → List ParseStep → Top
 top_of ps ss = record { frames = frames_of ps (rest (run [] ss)); shape = shape_on (run [] ss) }
 

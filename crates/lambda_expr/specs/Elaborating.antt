@@ -9,7 +9,8 @@ use Rattle.lambda_expr.specs.Lexemes.{Names}
 use Rattle.lambda_expr.specs.Stacks.{below, top_or}
 use Rattle.lambda_values.specs.Term as term
 use Rattle.lambda_values.specs.Term.{long_of, truth_of}
-use Rattle.lambda_expr.specs.Typing.{Typed, long, boolean, longs, untyped, called_with, constant_of, constant_typed, function_of, operated, prefixed, selected}
+use Rattle.lambda_expr.specs.Typing.{Typed, long, boolean, longs, untyped, called_with, constant_of, constant_typed}
+use Rattle.lambda_expr.specs.Typing.{function_of, operated, prefixed, selected}
 use Rattle.lambda_expr.specs.Signs.{operation_of}
 use Rattle.lambda_values.specs.Wrap.{wrap}
 
@@ -36,7 +37,8 @@ typed_step h (step.Reference i) ts = long (term.reference (h i)) ∷ ts
 typed_step h (step.Constant n) ts = constant_typed (constant_of n) ∷ ts
 typed_step h (step.Prefix s) ts = prefixed s (top_typed ts) ∷ below ts
 typed_step h (step.Binary s) ts = operated (top_typed (below ts)) (top_typed ts) (operation_of s) ∷ below (below ts)
-typed_step h step.Ternary ts = selected (top_typed (below (below ts))) (top_typed (below ts)) (top_typed ts) ∷ below (below (below ts))
+typed_step h step.Ternary ts =
+    selected (top_typed (below (below ts))) (top_typed (below ts)) (top_typed ts) ∷ below (below (below ts))
 typed_step h (step.Enclose Paren) ts = top_typed ts ∷ below ts
 typed_step h (step.Enclose (Call o n)) ts = called_with (function_of o n) (top_typed ts) ∷ below ts
 

@@ -1,5 +1,6 @@
 -- Condition: how heads are read.
-use Rattle.std.specs.Prelude.{◌≡◌, ◌≢◌, ℕ, zero, suc, max, nat_eq, if◌then◌else◌, Bool, true, false, List, [], ◌∷◌, length, Result, Ok, Err, Some}
+use Rattle.std.specs.Prelude.{◌≡◌, ◌≢◌, ℕ, zero, suc, max, nat_eq, if◌then◌else◌, Bool, true, false, List, [], ◌∷◌, length, Result, Ok}
+use Rattle.std.specs.Prelude.{Err, Some}
 use Rattle.lambda_expr.specs.declared.head.HeadMark.{HeadMark}
 use Rattle.lambda_expr.specs.declared.lexeme.Lexeme.{Lexeme}
 use Rattle.lambda_expr.specs.Heads.{mark_of}

@@ -34,7 +34,8 @@ IsOneOf p [] = ⊥
 IsOneOf p (q ∷ qs) = (p ≡ q) ⊎ IsOneOf p qs
 
 -- the words fit one of these patterns, and then comes a text that may be after them
-pub record HasHead (ps : List (List HeadMark)) (after : List Lexeme → List Lexeme → Type 0) (ws : List Lexeme) : Type 0 where
+pub record HasHead (ps : List (List HeadMark)) (after : List Lexeme → List Lexeme → Type 0)
+    (ws : List Lexeme) : Type 0 where
   pub pattern : List HeadMark
   pub listed : IsOneOf pattern ps
   pub front : List Lexeme
@@ -55,7 +56,8 @@ heads_of_one =
 abbrev pub heads_of_two : List (List HeadMark)
 heads_of_two =
     (mark.Open ∷ mark.Parameter 0 ∷ mark.Comma ∷ mark.Parameter 1 ∷ mark.Close ∷ mark.Arrow ∷ [])
-    ∷ (mark.Open ∷ mark.LowerLong ∷ mark.Parameter 0 ∷ mark.Comma ∷ mark.LowerLong ∷ mark.Parameter 1 ∷ mark.Close ∷ mark.Arrow ∷ [])
+    ∷ (mark.Open ∷ mark.LowerLong ∷ mark.Parameter 0 ∷ mark.Comma ∷ mark.LowerLong ∷ mark.Parameter 1
+    ∷ mark.Close ∷ mark.Arrow ∷ [])
     ∷ []
 
 abbrev pub heads : Want → List (List HeadMark)

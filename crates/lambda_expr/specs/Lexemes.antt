@@ -1,5 +1,6 @@
 -- Meaning: what the words of a text are to the grammar of lambdas.
-use Rattle.std.specs.Prelude.{ℕ, suc, ◌-◌, ◌^◌, min, Bool, true, false, ◌||◌, if◌then◌else◌, List, [], ◌∷◌, codes, drop, slice_index_or, Option, Some, None}
+use Rattle.std.specs.Prelude.{ℕ, suc, ◌-◌, ◌^◌, min, Bool, true, false, ◌||◌, if◌then◌else◌, List, [], ◌∷◌, codes, drop}
+use Rattle.std.specs.Prelude.{slice_index_or, Option, Some, None}
 use Rattle.stream_tokens.specs.declared.symbol.Symbol.{Symbol}
 use Rattle.stream_tokens.specs.declared.symbol.Symbol.TheVariants as symbol
 use Rattle.stream_tokens.specs.declared.token.Token.{Token}

@@ -1,5 +1,6 @@
 -- Meaning: which words are a number, and its value.
-use Rattle.std.specs.Prelude.{ℕ, ◌^◌, ℤ, pos, negsuc, neg_ℤ, Bool, true, false, nat_lt, ◌&&◌, if◌then◌else◌, List, [], ◌∷◌, codes, Option, Some, None, is_some, option_and_then}
+use Rattle.std.specs.Prelude.{ℕ, ◌^◌, ℤ, pos, negsuc, neg_ℤ, Bool, true, false, nat_lt, ◌&&◌, if◌then◌else◌, List, []}
+use Rattle.std.specs.Prelude.{◌∷◌, codes, Option, Some, None, is_some, option_and_then}
 use Rattle.stream_tokens.specs.declared.symbol.Symbol.TheVariants as symbol
 use Rattle.lambda_expr.specs.Members.{is_named}
 use Rattle.lambda_expr.specs.Words.{Word, named, numeral, sign}
@@ -37,8 +38,8 @@ limit_value (named w) =
     else (if is_named w (codes "MIN_VALUE") then Some (negsuc 9223372036854775807) else None)
 limit_value w = None
 
--- the value of a number, without bound: digits, a minus and digits, `Long.MAX_VALUE` or `Long.MIN_VALUE` (JLS 17, 3.10.1
--- and 15.15.4); other words have none
+-- the value of a number, without bound: digits, a minus and digits, `Long.MAX_VALUE` or `Long.MIN_VALUE`
+-- (JLS 17, 3.10.1 and 15.15.4); other words have none
 abbrev pub number_value : List Word → Option ℤ
 number_value (w ∷ []) = digits_value false w
 number_value (m ∷ w ∷ []) = if is_minus m then digits_value true w else None

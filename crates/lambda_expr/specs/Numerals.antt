@@ -6,7 +6,7 @@ use Rattle.std.specs.Char.{is_ascii_digit}
 abbrev pub read_on : ℕ → List ℕ → ℕ
 read_on n ds = fold (λ n d. 10 * n + (d - 48)) n ds
 
--- the value of a number: of its digits, a mark `L` or `l` behind them apart (JLS 17, 3.10.1)
+-- the value of a number: of its digits, without the mark `L` or `l` after them (JLS 17, 3.10.1)
 abbrev pub numeral_value : List ℕ → ℕ
 numeral_value w = read_on 0 (take_while is_ascii_digit w)
 

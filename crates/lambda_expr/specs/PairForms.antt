@@ -3,7 +3,8 @@ use Rattle.std.specs.Prelude.{ℕ, zero, suc, Option, Some}
 use Rattle.lambda_expr.specs.declared.check.BodyForm.{BodyForm}
 use Rattle.lambda_expr.specs.declared.check.BodyForm.TheVariants.{Operands, Single}
 use Rattle.lambda_values.specs.declared.lambda.PairForm.{PairForm}
-use Rattle.lambda_values.specs.declared.lambda.PairForm.TheVariants.{First, Second, Sum, Product, Min, Max, And, Or, Xor, ExactSum, Other}
+use Rattle.lambda_values.specs.declared.lambda.PairForm.TheVariants.{First, Second, Sum, Product, Min, Max, And, Or}
+use Rattle.lambda_values.specs.declared.lambda.PairForm.TheVariants.{Xor, ExactSum, Other}
 use Rattle.lambda_expr.specs.declared.sign.Sign.{Sign}
 use Rattle.lambda_expr.specs.declared.sign.Sign.TheVariants as sign
 use Rattle.lambda_expr.specs.declared.step.Opening.{Opening}
@@ -11,7 +12,8 @@ use Rattle.lambda_expr.specs.declared.step.Opening.TheVariants.{Paren, Call}
 use Rattle.lambda_values.specs.declared.operator.BinaryOperator.TheVariants as binary_operator
 use Rattle.lambda_expr.specs.declared.operation.Function.{Function}
 use Rattle.lambda_expr.specs.declared.operation.Function.TheVariants.{Binary}
-use Rattle.lambda_expr.specs.Grammar.{Shape, name, number, truth, reference, constant, prefix, binary, ternary, enclosed}
+use Rattle.lambda_expr.specs.Grammar.{Shape, name, number, truth, reference, constant, prefix, binary, ternary}
+use Rattle.lambda_expr.specs.Grammar.{enclosed}
 use Rattle.lambda_expr.specs.Typing.{function_of}
 
 -- a name by itself: `a`, `b`

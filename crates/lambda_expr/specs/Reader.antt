@@ -10,7 +10,8 @@ use Rattle.lambda_expr.specs.declared.lexeme.Lexeme.{Lexeme}
 use Rattle.lambda_expr.specs.declared.lexeme.Lexeme.TheVariants as word
 use Rattle.lambda_expr.specs.declared.lexeme.Name.{Name}
 use Rattle.lambda_expr.specs.declared.lexeme.Name.TheVariants.{Plain, ClassName, Truth}
-use Rattle.lambda_expr.specs.Grammar.{Shape, name, number, truth, reference, constant, prefix, binary, ternary, enclosed}
+use Rattle.lambda_expr.specs.Grammar.{Shape, name, number, truth, reference, constant, prefix, binary, ternary}
+use Rattle.lambda_expr.specs.Grammar.{enclosed}
 use Rattle.lambda_expr.specs.Signs.{level, is_infix, is_prefix}
 
 -- what waits for the operand to its right
@@ -30,9 +31,11 @@ abbrev pub joined : ℕ → List Frame → Shape → Top
 joined n [] e = record { frames = []; shape = e }
 joined n (opened o ∷ fs) e = record { frames = opened o ∷ fs; shape = e }
 joined n (signed s ∷ fs) e = joined n fs (prefix s e)
-joined n (left a s ∷ fs) e = if nat_lt (level s) n then record { frames = left a s ∷ fs; shape = e } else joined n fs (binary s a e)
+joined n (left a s ∷ fs) e =
+    if nat_lt (level s) n then record { frames = left a s ∷ fs; shape = e } else joined n fs (binary s a e)
 joined n (question c ∷ fs) e = record { frames = question c ∷ fs; shape = e }
-joined n (colon c p ∷ fs) e = if nat_lt 1 n then record { frames = colon c p ∷ fs; shape = e } else joined n fs (ternary c p e)
+joined n (colon c p ∷ fs) e =
+    if nat_lt 1 n then record { frames = colon c p ∷ fs; shape = e } else joined n fs (ternary c p e)
 
 -- an operand is wanted, or stands there, or the first words of a call or constant do, or the words begin nothing
 pub data State : Type 0 where

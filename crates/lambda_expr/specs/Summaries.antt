@@ -29,7 +29,8 @@ abbrev pub deeper : ℕ → ℕ
 deeper n = min (suc n) 65
 
 abbrev pub prefix_summary : Sign → Summary → Summary
-prefix_summary s a = record { literals = signed s a.literals; depth = deeper a.depth; known = a.known; form = Single Other }
+prefix_summary s a =
+    record { literals = signed s a.literals; depth = deeper a.depth; known = a.known; form = Single Other }
 
 abbrev pub binary_summary : Sign → Summary → Summary → Summary
 binary_summary s a b = record {
@@ -48,17 +49,27 @@ ternary_summary c p q = record {
 }
 
 abbrev pub enclosed_summary : Opening → Summary → Summary
-enclosed_summary o a = record { literals = Fit (fit a.literals); depth = deeper a.depth; known = is_known o && a.known; form = enclosed_form o a.form }
+enclosed_summary o a =
+    record {
+      literals = Fit (fit a.literals);
+      depth = deeper a.depth;
+      known = is_known o && a.known;
+      form = enclosed_form o a.form;
+    }
 
 abbrev pub summary_step : ℕ → ParseStep → List Summary → List Summary
-summary_step p (step.Name i) ss = record { literals = Fit true; depth = 1; known = nat_lt i.number p; form = name_form i.number } ∷ ss
+summary_step p (step.Name i) ss =
+    record { literals = Fit true; depth = 1; known = nat_lt i.number p; form = name_form i.number } ∷ ss
 summary_step p (step.Number n) ss = record { literals = Number n; depth = 1; known = true; form = Single Other } ∷ ss
 summary_step p (step.Truth b) ss = nothing ∷ ss
 summary_step p (step.Reference i) ss = nothing ∷ ss
-summary_step p (step.Constant n) ss = record { literals = Fit true; depth = 1; known = is_some (constant_of n); form = Single Other } ∷ ss
+summary_step p (step.Constant n) ss =
+    record { literals = Fit true; depth = 1; known = is_some (constant_of n); form = Single Other } ∷ ss
 summary_step p (step.Prefix s) ss = prefix_summary s (top_summary ss) ∷ below ss
 summary_step p (step.Binary s) ss = binary_summary s (top_summary (below ss)) (top_summary ss) ∷ below (below ss)
-summary_step p step.Ternary ss = ternary_summary (top_summary (below (below ss))) (top_summary (below ss)) (top_summary ss) ∷ below (below (below ss))
+summary_step p step.Ternary ss =
+    ternary_summary (top_summary (below (below ss))) (top_summary (below ss)) (top_summary ss)
+    ∷ below (below (below ss))
 summary_step p (step.Enclose o) ss = enclosed_summary o (top_summary ss) ∷ below ss
 
 abbrev pub summary_steps : ℕ → List Summary → List ParseStep → List Summary

@@ -14,7 +14,8 @@ use Rattle.lambda_expr.specs.declared.operation.SignOperation.TheVariants.{Compu
 use Rattle.lambda_expr.specs.declared.operation.Function.{Function}
 use Rattle.lambda_expr.specs.declared.operation.Function.TheVariants.{Unary, Binary}
 use Rattle.lambda_expr.specs.declared.step.Opening.TheVariants.{Paren, Call}
-use Rattle.lambda_expr.specs.Grammar.{Shape, name, number, truth, reference, constant, prefix, binary, ternary, enclosed}
+use Rattle.lambda_expr.specs.Grammar.{Shape, name, number, truth, reference, constant, prefix, binary, ternary}
+use Rattle.lambda_expr.specs.Grammar.{enclosed}
 use Rattle.lambda_expr.specs.Lexemes.{Names}
 use Rattle.lambda_expr.specs.Signs.{operation_of}
 use Rattle.lambda_values.specs.Term as term

@@ -6,7 +6,7 @@ ghost use Rattle.lambda_expr.specs.Heads.{ABody};
 ghost use Rattle.std.specs.Prelude.{IfErr, IfOk};
 
 use super::lexeme::Lexeme;
-use super::parse::{ParseStop, parse};
+use super::parse::{ParseStop, Parsed, parse};
 use super::source::{StreamSource, parse_operands, parse_source};
 use super::step::ParseStep;
 use super::want::Want;
@@ -21,7 +21,7 @@ pub(crate) enum BodySteps {
 }
 
 // Reads a body that gives a stream.
-fn parse_stream(alloc: Global, words: &[Lexeme]) -> Result<BodySteps, ParseStop>
+fn parse_stream(alloc: Global, words: &[Lexeme]) -> Parsed<BodySteps>
     ensures ok { IfOk result (λ body. IsBodyOf Want.Stream words.now body) }
     ensures stops { IfErr result (λ stop. IsStop (ABody Want.Stream) words.now stop) }
 {
@@ -36,11 +36,7 @@ fn parse_stream(alloc: Global, words: &[Lexeme]) -> Result<BodySteps, ParseStop>
 }
 
 /// Reads a body that is wanted: its steps, or where its words stop.
-pub(crate) fn parse_body(
-    alloc: Global,
-    want: Want,
-    words: &[Lexeme],
-) -> Result<BodySteps, ParseStop>
+pub(crate) fn parse_body(alloc: Global, want: Want, words: &[Lexeme]) -> Parsed<BodySteps>
     ensures ok { IfOk result (λ body. IsBodyOf want words.now body) }
     ensures stops { IfErr result (λ stop. IsStop (ABody want) words.now stop) }
 {

@@ -1,9 +1,11 @@
 //! What an expression is refused for, types aside: one pass over its steps.
 
 ghost use Rattle.lambda_expr.specs.Checks.{fit, is_known, signed};
-ghost use Rattle.lambda_expr.specs.PairForms.{binary_form, enclosed_form, method_form, name_form, sign_form, whole_form};
+ghost use Rattle.lambda_expr.specs.PairForms.{binary_form, enclosed_form, method_form, name_form};
+ghost use Rattle.lambda_expr.specs.PairForms.{sign_form, whole_form};
 ghost use Rattle.lambda_expr.specs.Stacks.{below, stacked};
-ghost use Rattle.lambda_expr.specs.Summaries.{binary_summary, deeper, enclosed_summary, nothing, prefix_summary, summary_step, summary_steps, ternary_summary, top_summary};
+ghost use Rattle.lambda_expr.specs.Summaries.{binary_summary, deeper, enclosed_summary, prefix_summary};
+ghost use Rattle.lambda_expr.specs.Summaries.{summary_step, summary_steps, ternary_summary, top_summary};
 ghost use Rattle.lambda_expr.specs.declared.check.Summary.{Summary as found};
 ghost use Rattle.std.specs.Prelude.{◌≡◌, IfOk, List, [], ◌∷◌, ◌++◌};
 
@@ -41,14 +43,15 @@ pub(crate) enum BodyForm {
 #[derive(Clone, Copy)]
 pub(crate) struct Summary {
     pub(crate) literals: Literals,
-    /// At most 65.
+    /// The depth of the expression, at most 65.
     pub(crate) depth: u32,
     /// Whether each name is the name of a parameter, a method or a constant.
     pub(crate) known: bool,
     pub(crate) form: BodyForm,
 }
 
-const NOTHING: Summary = Summary {
+/// What the checks find in an operand that is a word.
+pub(crate) const NOTHING: Summary = Summary {
     literals: Literals::Fit(true),
     depth: 1,
     known: true,
@@ -175,13 +178,14 @@ fn prefix(sign: Sign, operand: Summary) -> Summary
     }
 }
 
-fn binary(sign: Sign, left: Summary, right: Summary) -> Summary
+/// What the checks find in two operands and the sign between them.
+pub(crate) fn binary(sign: Sign, left: Summary, right: Summary) -> Summary
     ensures { result ≡ binary_summary sign left right }
 {
     let depth = left.depth.max(right.depth);
     Summary {
         literals: Literals::Fit(left.literals.fit() && right.literals.fit()),
-        depth: if sign.is_comma() {
+        depth: if matches!(sign, Sign::Comma) {
             depth
         } else {
             deeper(depth)

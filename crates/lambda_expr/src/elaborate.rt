@@ -3,19 +3,17 @@
 ghost use Rattle.lambda_expr.specs.Elaborating.{operands_of, top_typed, typed_of, typed_step, typed_steps};
 ghost use Rattle.lambda_expr.specs.Lexemes.{names_in};
 ghost use Rattle.lambda_expr.specs.Stacks.{below, stacked};
-ghost use Rattle.lambda_expr.specs.Typing.{Typed as shape_type, called_with, operated, prefixed, selected};
-ghost use Rattle.lambda_values.specs.Term.{long_of, truth_of};
-ghost use Rattle.lambda_expr.specs.Typing.{long, boolean};
+ghost use Rattle.lambda_expr.specs.Typing.{Typed as shape_type, called_with, long, operated, prefixed, selected};
+ghost use Rattle.lambda_values.specs.Term.{long_of};
 ghost use Rattle.std.specs.Prelude.{◌≡◌, IfOk, List, [], ◌∷◌, ◌++◌};
 
-use super::lexeme::Name;
 use super::making::{
-    binary, choose_long, choose_truth, compare, connect, constant, number, reference, unary,
+    binary, choose_long, choose_truth, compare, connect, number, reference, unary,
 };
 use super::operation::{Function, SignOperation};
 use super::sign::Sign;
 use super::step::{Opening, ParseStep};
-use super::table::function_of;
+use super::table::{constant_of, function_of};
 use lambda_values::{BoolExpr, LongExpr, UnaryOperator};
 use std::alloc::{AllocError, Global};
 use stream_tokens::CutText;
@@ -31,6 +29,9 @@ pub(crate) enum TypedOperand {
     Untyped,
 }
 
+/// An operand, or an allocation failed.
+pub(crate) type Elaborated = Result<TypedOperand, AllocError>;
+
 // The operand on top, or none of any type.
 fn pop(stack: &mut Vec<TypedOperand>) -> TypedOperand
     ensures { (ts : List shape_type) → operands_of stack.old.items ≡ stacked ts
@@ -43,7 +44,7 @@ fn pop(stack: &mut Vec<TypedOperand>) -> TypedOperand
 }
 
 // A sign before an operand.
-fn prefix(alloc: Global, sign: Sign, operand: TypedOperand) -> Result<TypedOperand, AllocError>
+fn prefix(alloc: Global, sign: Sign, operand: TypedOperand) -> Elaborated
     ensures { IfOk result (λ o. typed_of o ≡ prefixed sign (typed_of operand)) }
 {
     match operand {
@@ -62,12 +63,7 @@ fn prefix(alloc: Global, sign: Sign, operand: TypedOperand) -> Result<TypedOpera
 }
 
 // Two numbers, and what stands between them.
-fn operate_on_longs(
-    alloc: Global,
-    operation: SignOperation,
-    left: LongExpr,
-    right: LongExpr,
-) -> Result<TypedOperand, AllocError>
+fn on_longs(alloc: Global, operation: SignOperation, left: LongExpr, right: LongExpr) -> Elaborated
     ensures { IfOk result (λ o. typed_of o ≡ operated (long (long_of left)) (long (long_of right)) operation) }
 {
     match operation {
@@ -78,81 +74,27 @@ fn operate_on_longs(
     }
 }
 
-// A number, what follows it, and another operand.
-fn operate_on_long(
-    alloc: Global,
-    operation: SignOperation,
-    left: LongExpr,
-    right: TypedOperand,
-) -> Result<TypedOperand, AllocError>
-    ensures { IfOk result (λ o. typed_of o ≡ operated (long (long_of left)) (typed_of right) operation) }
-{
-    match right {
-        TypedOperand::Long(right) => operate_on_longs(alloc, operation, left, right),
-        _ => Ok(TypedOperand::Untyped),
-    }
-}
-
-// A boolean, what follows it, and another operand.
-fn operate_on_truth(
-    alloc: Global,
-    operation: SignOperation,
-    left: BoolExpr,
-    right: TypedOperand,
-) -> Result<TypedOperand, AllocError>
-    ensures { IfOk result (λ o. typed_of o ≡ operated (boolean (truth_of left)) (typed_of right) operation) }
-{
-    match right {
-        TypedOperand::Truth(right) => match operation {
-            SignOperation::Connect(connective) => connect(alloc, connective, left, right),
-            _ => Ok(TypedOperand::Untyped),
-        },
-        _ => Ok(TypedOperand::Untyped),
-    }
-}
-
 // Two operands, and what stands between them.
 fn operate(
     alloc: Global,
     operation: SignOperation,
     left: TypedOperand,
     right: TypedOperand,
-) -> Result<TypedOperand, AllocError>
+) -> Elaborated
     ensures { IfOk result (λ o. typed_of o ≡ operated (typed_of left) (typed_of right) operation) }
 {
     match left {
-        TypedOperand::Long(left) => operate_on_long(alloc, operation, left, right),
-        TypedOperand::Truth(left) => operate_on_truth(alloc, operation, left, right),
-        _ => Ok(TypedOperand::Untyped),
-    }
-}
-
-// `c ? p : q` for a number `p`.
-fn select_long(
-    alloc: Global,
-    condition: BoolExpr,
-    chosen: LongExpr,
-    other: TypedOperand,
-) -> Result<TypedOperand, AllocError>
-    ensures { IfOk result (λ o. typed_of o ≡ selected (boolean (truth_of condition)) (long (long_of chosen)) (typed_of other)) }
-{
-    match other {
-        TypedOperand::Long(other) => choose_long(alloc, condition, chosen, other),
-        _ => Ok(TypedOperand::Untyped),
-    }
-}
-
-// `c ? p : q` for a boolean `p`.
-fn select_truth(
-    alloc: Global,
-    condition: BoolExpr,
-    chosen: BoolExpr,
-    other: TypedOperand,
-) -> Result<TypedOperand, AllocError>
-    ensures { IfOk result (λ o. typed_of o ≡ selected (boolean (truth_of condition)) (boolean (truth_of chosen)) (typed_of other)) }
-{
-    match other {
-        TypedOperand::Truth(other) => choose_truth(alloc, condition, chosen, other),
+        TypedOperand::Long(left) => match right {
+            TypedOperand::Long(right) => on_longs(alloc, operation, left, right),
+            _ => Ok(TypedOperand::Untyped),
+        },
+        TypedOperand::Truth(left) => match right {
+            TypedOperand::Truth(right) => match operation {
+                SignOperation::Connect(connective) => connect(alloc, connective, left, right),
+                _ => Ok(TypedOperand::Untyped),
+            },
+            _ => Ok(TypedOperand::Untyped),
+        },
         _ => Ok(TypedOperand::Untyped),
     }
 }
@@ -163,25 +105,28 @@ fn select(
     condition: TypedOperand,
     chosen: TypedOperand,
     other: TypedOperand,
-) -> Result<TypedOperand, AllocError>
-    ensures { IfOk result (λ o. typed_of o ≡ selected (typed_of condition) (typed_of chosen) (typed_of other)) }
+) -> Elaborated
+    ensures { IfOk result (λ o. typed_of o
+        ≡ selected (typed_of condition) (typed_of chosen) (typed_of other)) }
 {
     let TypedOperand::Truth(condition) = condition else {
         return Ok(TypedOperand::Untyped);
     };
     match chosen {
-        TypedOperand::Long(chosen) => select_long(alloc, condition, chosen, other),
-        TypedOperand::Truth(chosen) => select_truth(alloc, condition, chosen, other),
+        TypedOperand::Long(chosen) => match other {
+            TypedOperand::Long(other) => choose_long(alloc, condition, chosen, other),
+            _ => Ok(TypedOperand::Untyped),
+        },
+        TypedOperand::Truth(chosen) => match other {
+            TypedOperand::Truth(other) => choose_truth(alloc, condition, chosen, other),
+            _ => Ok(TypedOperand::Untyped),
+        },
         _ => Ok(TypedOperand::Untyped),
     }
 }
 
 // A method and its operands.
-fn call(
-    alloc: Global,
-    function: Option<Function>,
-    operand: TypedOperand,
-) -> Result<TypedOperand, AllocError>
+fn call(alloc: Global, function: Option<Function>, operand: TypedOperand) -> Elaborated
     ensures { IfOk result (λ o. typed_of o ≡ called_with function (typed_of operand)) }
 {
     match (function, operand) {
@@ -201,16 +146,20 @@ fn follow(
     text: &CutText,
     stack: &mut Vec<TypedOperand>,
     step: ParseStep,
-) -> Result<TypedOperand, AllocError>
+) -> Elaborated
     ensures { (ts : List shape_type) → operands_of stack.old.items ≡ stacked ts
-        → IfOk result (λ o. operands_of stack.new.items ++ typed_of o ∷ [] ≡ stacked (typed_step (names_in text.now.bytes text.now.tokens) step ts)) }
+        → IfOk result (λ o. operands_of stack.new.items ++ typed_of o ∷ []
+        ≡ stacked (typed_step (names_in text.now.bytes text.now.tokens) step ts)) }
 {
     match step {
         ParseStep::Name(name) => Ok(TypedOperand::Long(LongExpr::Parameter(name.number))),
         ParseStep::Reference(place) => reference(alloc, text, place),
         ParseStep::Number(value) => Ok(number(value)),
         ParseStep::Truth(value) => Ok(TypedOperand::Truth(BoolExpr::Literal(value))),
-        ParseStep::Constant(name) => Ok(constant(name)),
+        ParseStep::Constant(name) => match constant_of(name) {
+            Some(value) => Ok(TypedOperand::Long(LongExpr::Number(value))),
+            None => Ok(TypedOperand::Untyped),
+        },
         ParseStep::Prefix(sign) => {
             let operand = pop(stack);
             prefix(alloc, sign, operand)
@@ -235,12 +184,9 @@ fn follow(
 }
 
 /// The expression that steps in postfix order give.
-pub(crate) fn elaborate(
-    alloc: Global,
-    text: &CutText,
-    steps: &[ParseStep],
-) -> Result<TypedOperand, AllocError>
-    ensures { IfOk result (λ o. typed_of o ≡ top_typed (typed_steps (names_in text.now.bytes text.now.tokens) [] steps.now)) }
+pub(crate) fn elaborate(alloc: Global, text: &CutText, steps: &[ParseStep]) -> Elaborated
+    ensures { IfOk result (λ o. typed_of o
+        ≡ top_typed (typed_steps (names_in text.now.bytes text.now.tokens) [] steps.now)) }
 {
     let mut stack = Vec::new(alloc);
     for step in steps {

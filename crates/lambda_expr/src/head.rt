@@ -4,6 +4,7 @@ ghost use Rattle.lambda_expr.specs.HeadReading.{AreTried, IsFit, IsMatched, IsTr
 ghost use Rattle.lambda_expr.specs.Heads.{heads, mark_of, parameters};
 ghost use Rattle.std.specs.Prelude.{◌≡◌};
 
+use self::HeadMark::{Arrow, Close, Comma, LowerLong, Open, Parameter};
 use super::lexeme::{Lexeme, Name};
 use super::sign::Sign;
 use super::want::Want;
@@ -21,45 +22,27 @@ pub(crate) enum HeadMark {
 }
 
 /// `x ->`
-const BARE: [HeadMark; 2] = [HeadMark::Parameter(0), HeadMark::Arrow];
+const BARE: [HeadMark; 2] = [Parameter(0), Arrow];
 
 /// `(x) ->`
-const ENCLOSED: [HeadMark; 4] = [
-    HeadMark::Open,
-    HeadMark::Parameter(0),
-    HeadMark::Close,
-    HeadMark::Arrow,
-];
+const ENCLOSED: [HeadMark; 4] = [Open, Parameter(0), Close, Arrow];
 
 /// `(long x) ->`
-const TYPED: [HeadMark; 5] = [
-    HeadMark::Open,
-    HeadMark::LowerLong,
-    HeadMark::Parameter(0),
-    HeadMark::Close,
-    HeadMark::Arrow,
-];
+const TYPED: [HeadMark; 5] = [Open, LowerLong, Parameter(0), Close, Arrow];
 
 /// `(a, b) ->`
-const PAIR: [HeadMark; 6] = [
-    HeadMark::Open,
-    HeadMark::Parameter(0),
-    HeadMark::Comma,
-    HeadMark::Parameter(1),
-    HeadMark::Close,
-    HeadMark::Arrow,
-];
+const PAIR: [HeadMark; 6] = [Open, Parameter(0), Comma, Parameter(1), Close, Arrow];
 
 /// `(long a, long b) ->`
 const TYPED_PAIR: [HeadMark; 8] = [
-    HeadMark::Open,
-    HeadMark::LowerLong,
-    HeadMark::Parameter(0),
-    HeadMark::Comma,
-    HeadMark::LowerLong,
-    HeadMark::Parameter(1),
-    HeadMark::Close,
-    HeadMark::Arrow,
+    Open,
+    LowerLong,
+    Parameter(0),
+    Comma,
+    LowerLong,
+    Parameter(1),
+    Close,
+    Arrow,
 ];
 
 // What a word is in a head: a name is a parameter by its number.
@@ -67,25 +50,23 @@ fn mark_of(word: Lexeme) -> Option<HeadMark>
     ensures { result ≡ mark_of word }
 {
     match word {
-        Lexeme::Name(Name::Plain(name)) => Some(HeadMark::Parameter(name.number)),
-        Lexeme::Name(Name::LowerLong) => Some(HeadMark::LowerLong),
-        Lexeme::Open => Some(HeadMark::Open),
-        Lexeme::Sign(Sign::Comma) => Some(HeadMark::Comma),
-        Lexeme::Close => Some(HeadMark::Close),
-        Lexeme::Arrow => Some(HeadMark::Arrow),
+        Lexeme::Name(Name::Plain(name)) => Some(Parameter(name.number)),
+        Lexeme::Name(Name::LowerLong) => Some(LowerLong),
+        Lexeme::Open => Some(Open),
+        Lexeme::Sign(Sign::Comma) => Some(Comma),
+        Lexeme::Close => Some(Close),
+        Lexeme::Arrow => Some(Arrow),
         _ => None,
     }
 }
 
-impl HeadMark {
-    // Whether the word is what this mark wants.
-    fn fits(self, word: Lexeme) -> bool
-        ensures { IsFit result self word }
-    {
-        match mark_of(word) {
-            Some(mark) => mark == self,
-            None => false,
-        }
+// Whether the word is what this mark wants.
+fn fits(mark: HeadMark, word: Lexeme) -> bool
+    ensures { IsFit result mark word }
+{
+    match mark_of(word) {
+        Some(found) => found == mark,
+        None => false,
     }
 }
 
@@ -107,7 +88,7 @@ fn matched(pattern: &[HeadMark], words: &[Lexeme]) -> usize
         if at >= words.len() {
             return at;
         }
-        if !pattern[at].fits(words[at]) {
+        if !fits(pattern[at], words[at]) {
             return at;
         }
     }

@@ -1,6 +1,7 @@
 //! What the tokens of a text are to the grammar of lambdas.
 
-ghost use Rattle.lambda_expr.specs.Lexemes.{first_name, is_reserved, is_taken, lexeme_of, lexemes_of, name_of, names_in, number_lexeme, order_of, punctuation, symbol_lexeme};
+ghost use Rattle.lambda_expr.specs.Lexemes.{first_name, is_reserved, is_taken, lexeme_of, lexemes_of, name_of};
+ghost use Rattle.lambda_expr.specs.Lexemes.{names_in, number_lexeme, order_of, symbol_lexeme};
 ghost use Rattle.lambda_expr.specs.Words.{Word, word_for};
 ghost use Rattle.std.specs.Prelude.{◌≡◌, IfOk, List, [], ◌∷◌, ◌++◌, drop, option_copied};
 
@@ -93,9 +94,8 @@ fn name_of(first: Option<&[u8]>, second: Option<&[u8]>, name: &[u8]) -> Name
     }
 }
 
-// The lexeme of a symbol that is no sign.
-fn punctuation(symbol: Symbol) -> Lexeme
-    ensures { result ≡ punctuation symbol }
+fn symbol_lexeme(symbol: Symbol) -> Lexeme
+    ensures { result ≡ symbol_lexeme symbol }
 {
     match symbol {
         Symbol::Arrow => Lexeme::Arrow,
@@ -104,16 +104,10 @@ fn punctuation(symbol: Symbol) -> Lexeme
         Symbol::Dot => Lexeme::Dot,
         Symbol::Question => Lexeme::Question,
         Symbol::Colon => Lexeme::Colon,
-        _ => Lexeme::Other,
-    }
-}
-
-fn symbol_lexeme(symbol: Symbol) -> Lexeme
-    ensures { result ≡ symbol_lexeme symbol }
-{
-    match Sign::of(symbol) {
-        Some(sign) => Lexeme::Sign(sign),
-        None => punctuation(symbol),
+        _ => match Sign::of(symbol) {
+            Some(sign) => Lexeme::Sign(sign),
+            None => Lexeme::Other,
+        },
     }
 }
 
@@ -135,7 +129,8 @@ fn lexeme_of(
     kind: TokenKind,
     bytes: &[u8],
 ) -> Lexeme
-    ensures { result ≡ lexeme_of (option_copied first.entry) (option_copied second.entry) at (word_for kind bytes.now) }
+    ensures { result
+        ≡ lexeme_of (option_copied first.entry) (option_copied second.entry) at (word_for kind bytes.now) }
 {
     match kind {
         TokenKind::Name => Lexeme::Name(name_of(first, second, bytes)),

@@ -4,7 +4,8 @@
 //! expressions and their values; the types of what is read have their names here too. Its users:
 //! - `job_language` reads lambdas by `read_lambda_of`, clauses `ok` and `refused`: a part of a text that
 //!   is cut already gives the lambda that it spells, or the first refusal that applies, a syntax fault
-//!   with its column. It reads numbers by `number_in`, over the words of its tokens (`word_for`).
+//!   with its column. It reads numbers by `is_number` and
+//!   `number_in`, over the words of its tokens (`word_for`).
 //! - other programs read whole texts by `read_lambda` and `read_number`.
 //!
 //! `each_text_has_an_answer`, `one_answer` and `one_number` say that there is one answer and no other.
@@ -37,9 +38,8 @@ mod want;
 mod word;
 
 pub use fault::ReadFault;
-pub use lambda_values::{BoolExpr, Env, FaultKind, Inner, InnerExpr, Lambda, LongExpr};
 pub use laws::{each_text_has_an_answer, one_answer, one_number, one_reading, one_stop};
-pub use number::{may_stand, number_in, read_number};
+pub use number::{is_number, may_stand, number_in, read_number};
 pub use read::{read_lambda, read_lambda_of};
 pub use want::Want;
 pub use word::{Word, word_for};

@@ -2,26 +2,20 @@
 
 ghost use Rattle.lambda_expr.specs.Elaborating.{typed_of};
 ghost use Rattle.lambda_expr.specs.Lexemes.{names_in};
-ghost use Rattle.lambda_expr.specs.Typing.{constant_of, constant_typed};
 ghost use Rattle.lambda_values.specs.Term as term;
 ghost use Rattle.lambda_values.specs.Term.{long_of, truth_of};
 ghost use Rattle.lambda_expr.specs.Typing.{long, boolean};
 ghost use Rattle.lambda_values.specs.Wrap.{wrap};
 ghost use Rattle.std.specs.Prelude.{◌≡◌, IfOk, pos};
 
-use super::elaborate::TypedOperand;
-use super::lexeme::{Name, reference_name};
-use super::table::constant_of;
+use super::elaborate::{Elaborated, TypedOperand};
+use super::lexeme::reference_name;
 use lambda_values::{BinaryOperator, BoolExpr, Comparison, Connective, LongExpr, UnaryOperator};
-use std::alloc::{AllocError, Global};
+use std::alloc::Global;
 use stream_tokens::{Bytes, CutText};
 
 /// An operator before a number, or a method of one.
-pub(crate) fn unary(
-    alloc: Global,
-    operator: UnaryOperator,
-    operand: LongExpr,
-) -> Result<TypedOperand, AllocError>
+pub(crate) fn unary(alloc: Global, operator: UnaryOperator, operand: LongExpr) -> Elaborated
     ensures { IfOk result (λ o. typed_of o ≡ long (term.unary operator (long_of operand))) }
 {
     Ok(TypedOperand::Long(LongExpr::Unary(operator, Box::new(alloc, operand)?)))
@@ -33,7 +27,7 @@ pub(crate) fn binary(
     operator: BinaryOperator,
     left: LongExpr,
     right: LongExpr,
-) -> Result<TypedOperand, AllocError>
+) -> Elaborated
     ensures { IfOk result (λ o. typed_of o ≡ long (term.binary operator (long_of left) (long_of right))) }
 {
     let left = Box::new(alloc, left)?;
@@ -47,7 +41,7 @@ pub(crate) fn compare(
     comparison: Comparison,
     left: LongExpr,
     right: LongExpr,
-) -> Result<TypedOperand, AllocError>
+) -> Elaborated
     ensures { IfOk result (λ o. typed_of o ≡ boolean (term.compare comparison (long_of left) (long_of right))) }
 {
     let left = Box::new(alloc, left)?;
@@ -61,7 +55,7 @@ pub(crate) fn connect(
     connective: Connective,
     left: BoolExpr,
     right: BoolExpr,
-) -> Result<TypedOperand, AllocError>
+) -> Elaborated
     ensures { IfOk result (λ o. typed_of o ≡ boolean (term.connect connective (truth_of left) (truth_of right))) }
 {
     let left = Box::new(alloc, left)?;
@@ -75,7 +69,7 @@ pub(crate) fn choose_long(
     condition: BoolExpr,
     chosen: LongExpr,
     other: LongExpr,
-) -> Result<TypedOperand, AllocError>
+) -> Elaborated
     ensures { IfOk result (λ o. typed_of o ≡ long (term.choose (truth_of condition) (long_of chosen) (long_of other))) }
 {
     let condition = Box::new(alloc, condition)?;
@@ -90,8 +84,9 @@ pub(crate) fn choose_truth(
     condition: BoolExpr,
     chosen: BoolExpr,
     other: BoolExpr,
-) -> Result<TypedOperand, AllocError>
-    ensures { IfOk result (λ o. typed_of o ≡ boolean (term.choose_truth (truth_of condition) (truth_of chosen) (truth_of other))) }
+) -> Elaborated
+    ensures { IfOk result (λ o. typed_of o
+        ≡ boolean (term.choose_truth (truth_of condition) (truth_of chosen) (truth_of other))) }
 {
     let condition = Box::new(alloc, condition)?;
     let chosen = Box::new(alloc, chosen)?;
@@ -106,22 +101,8 @@ pub(crate) fn number(value: u64) -> TypedOperand
     TypedOperand::Long(LongExpr::Number(value.cast_signed()))
 }
 
-/// A constant by its name; without a type if there is none of that name.
-pub(crate) fn constant(name: Name) -> TypedOperand
-    ensures { typed_of result ≡ constant_typed (constant_of name) }
-{
-    match constant_of(name) {
-        Some(value) => TypedOperand::Long(LongExpr::Number(value)),
-        None => TypedOperand::Untyped,
-    }
-}
-
 /// The reference at a place, by its name without the `$`.
-pub(crate) fn reference(
-    alloc: Global,
-    text: &CutText,
-    place: usize,
-) -> Result<TypedOperand, AllocError>
+pub(crate) fn reference(alloc: Global, text: &CutText, place: usize) -> Elaborated
     ensures { IfOk result (λ o. typed_of o ≡ long (term.reference (names_in text.now.bytes text.now.tokens place))) }
 {
     let name = Vec::from_slice(alloc, reference_name(text, place))?;

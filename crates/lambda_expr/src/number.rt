@@ -2,7 +2,7 @@
 
 ghost use Rattle.lambda_expr.specs.CodeWords.{word_of, words_in};
 ghost use Rattle.lambda_expr.specs.NumberReading.{front, front_of_constant, is_digits, is_limit};
-ghost use Rattle.lambda_expr.specs.NumberWords.{digits_value, in_64_bits, limit_value, number_value, signed};
+ghost use Rattle.lambda_expr.specs.NumberWords.{digits_value, in_64_bits, is_number, limit_value, number_value, signed};
 ghost use Rattle.lambda_expr.specs.Numbers.{IsNumberRefused, SpellsNumber};
 ghost use Rattle.lambda_expr.specs.Numerals.{is_numeral, numeral_value};
 ghost use Rattle.lambda_expr.specs.Tokens.{StandIn};
@@ -97,13 +97,43 @@ fn limit_value(word: Word) -> Option<Option<i64>>
 fn is_digits(word: Word) -> bool
     ensures { result ≡ is_digits (word_of word.entry) }
 {
-    digits_value(false, word).is_some()
+    match word {
+        Word::Number(digits) => may_stand(digits),
+        _ => false,
+    }
 }
 
 fn is_limit(word: Word) -> bool
     ensures { result ≡ is_limit (word_of word.entry) }
 {
-    limit_value(word).is_some()
+    match word {
+        Word::Name(name) => name == b"MAX_VALUE".as_slice() || name == b"MIN_VALUE".as_slice(),
+        _ => false,
+    }
+}
+
+fn is_negative(minus: Word, word: Word) -> bool
+    ensures { result ≡ is_number (word_of minus.entry ∷ word_of word.entry ∷ []) }
+{
+    is_minus(minus) && is_digits(word)
+}
+
+fn is_constant(owner: Word, dot: Word, word: Word) -> bool
+    ensures { result ≡ is_number (word_of owner.entry ∷ word_of dot.entry ∷ word_of word.entry ∷ []) }
+{
+    is_owner(owner) && is_dot(dot) && is_limit(word)
+}
+
+/// Whether words are a number. Its value isn't worked out.
+pub fn is_number(words: &[Word]) -> bool
+    ensures { result ≡ is_number (words_in words.now) }
+{
+    match words {
+        [digits] => is_digits(*digits),
+        [minus, digits] => is_negative(*minus, *digits),
+        [owner, dot, limit] => is_constant(*owner, *dot, *limit),
+        _ => false,
+    }
 }
 
 fn negative(minus: Word, word: Word) -> Option<Option<i64>>
@@ -128,8 +158,8 @@ fn constant(owner: Word, dot: Word, word: Word) -> Option<Option<i64>>
     }
 }
 
-/// The number that words are, if they are one: digits, a minus and digits, `Long.MAX_VALUE` or `Long.MIN_VALUE`. The inner
-/// `None` is of a number outside 64 bits. It takes no memory.
+/// The number that words are, if they are one: digits, a minus and digits, `Long.MAX_VALUE` or
+/// `Long.MIN_VALUE`. The inner `None` is of a number outside 64 bits. It takes no memory.
 pub fn number_in(words: &[Word]) -> Option<Option<i64>>
     ensures { result ≡ option_map in_64_bits (number_value (words_in words.now)) }
 {
@@ -220,8 +250,8 @@ fn stop(text: &[u8], tokens: &[Token]) -> usize
     front(first, second, third)
 }
 
-/// The value of a number: digits, a minus and digits, `Long.MAX_VALUE` or `Long.MIN_VALUE`. The tokens are a part of those that
-/// were cut from the text.
+/// The value of a number: digits, a minus and digits, `Long.MAX_VALUE` or `Long.MIN_VALUE`. The tokens
+/// are a part of the tokens that were cut from the text.
 ///
 /// `LiteralTooLarge` for a value outside 64 bits, `Syntax` for tokens that are no number. It takes no
 /// memory.

@@ -2,11 +2,11 @@
 
 ghost use Rattle.std.specs.Prelude.{◌≡◌, ◌<◌, List, [], IfOk, IfErr};
 ghost use Rattle.lambda_expr.specs.declared.step.ParseStep.{ParseStep as step};
-ghost use Rattle.lambda_expr.specs.declared.parse.Pending.{Pending as pending};
 ghost use Rattle.lambda_expr.specs.Grammar.{Expression};
 ghost use Rattle.lambda_expr.specs.Signs.{level};
 ghost use Rattle.lambda_expr.specs.Reader.{read, joins, starts, called};
-ghost use Rattle.lambda_expr.specs.Codes.{reduced, state_of, top_of, IsCoded, IsSettled, Turns, frames_of, run, ArePostfix, IsStop};
+ghost use Rattle.lambda_expr.specs.Codes.{reduced, state_of, top_of, IsCoded, IsSettled, Turns};
+ghost use Rattle.lambda_expr.specs.Codes.{frames_of, run, ArePostfix, IsStop};
 ghost use Rattle.lambda_expr.specs.declared.parse.ParseStop.TheVariants.{NoMemory};
 
 use super::following::follow;
@@ -39,11 +39,14 @@ pub(crate) enum Held {
 /// Why words were not read.
 #[derive(Clone, Copy)]
 pub(crate) enum ParseStop {
-    /// They stop being the beginning of a text of the grammar at this place.
+    /// The words before this place begin a text of the grammar, and with the word here they don't.
     At(usize),
     /// An allocation failed.
     NoMemory,
 }
+
+/// What is read, or why words were not.
+pub(crate) type Parsed<T> = Result<T, ParseStop>;
 
 impl From<AllocError> for ParseStop {
     ghost from_gives = { λ _ e. e ≡ NoMemory };
@@ -86,13 +89,10 @@ fn reduced(least: u32, top: Pending) -> Option<ParseStep>
 }
 
 /// What is on top becomes a step, as far as it binds as tightly as `least`.
-pub(crate) fn join(
-    stack: &mut Stack,
-    steps: &mut Vec<ParseStep>,
-    least: u32,
-) -> Result<(), ParseStop>
+pub(crate) fn join(stack: &mut Stack, steps: &mut Vec<ParseStep>, least: u32) -> Parsed<()>
     requires { IsCoded stack.old steps.old.items Held.Complete }
-    ensures joins { IfOk result (λ _. joins least (top_of stack.old steps.old.items) ≡ top_of stack.new steps.new.items) }
+    ensures joins { IfOk result
+        (λ _. joins least (top_of stack.old steps.old.items) ≡ top_of stack.new steps.new.items) }
     ensures coded { IfOk result (λ _. IsCoded stack.new steps.new.items Held.Complete) }
     ensures refused { IfErr result (λ stop. stop ≡ ParseStop.NoMemory) }
 {
@@ -108,37 +108,21 @@ pub(crate) fn join(
     Ok(())
 }
 
-// A name where an operand is wanted.
-fn start_name(steps: &mut Vec<ParseStep>, name: Name, at: usize) -> Result<Held, ParseStop>
-    ensures { (ps : List pending) → IsCoded ps steps.old.items Held.Nothing
-        → Turns (starts (frames_of ps (run [] steps.old.items)) (Lexeme.Name name)) at ps steps.new.items result }
-{
-    match name {
-        Name::Plain(place) => {
-            steps.push(ParseStep::Name(place))?;
-            Ok(Held::Complete)
-        }
-        Name::Truth(value) => {
-            steps.push(ParseStep::Truth(value))?;
-            Ok(Held::Complete)
-        }
-        Name::ClassName(owner) => Ok(Held::ClassName(owner)),
-        Name::LowerLong | Name::LongStream => Err(ParseStop::At(at)),
-    }
-}
-
 // One more word where an operand is wanted.
-fn start(
-    stack: &mut Stack,
-    steps: &mut Vec<ParseStep>,
-    word: Lexeme,
-    at: usize,
-) -> Result<Held, ParseStop>
+fn start(stack: &mut Stack, steps: &mut Vec<ParseStep>, word: Lexeme, at: usize) -> Parsed<Held>
     requires { IsCoded stack.old steps.old.items Held.Nothing }
     ensures { Turns (starts (frames_of stack.old (run [] steps.old.items)) word) at stack.new steps.new.items result }
 {
     match word {
-        Lexeme::Name(name) => start_name(steps, name, at),
+        Lexeme::Name(Name::Plain(place)) => {
+            steps.push(ParseStep::Name(place))?;
+            Ok(Held::Complete)
+        }
+        Lexeme::Name(Name::Truth(value)) => {
+            steps.push(ParseStep::Truth(value))?;
+            Ok(Held::Complete)
+        }
+        Lexeme::Name(Name::ClassName(owner)) => Ok(Held::ClassName(owner)),
         Lexeme::Number(number) => {
             steps.push(ParseStep::Number(number))?;
             Ok(Held::Complete)
@@ -170,9 +154,10 @@ fn call(
     name: Name,
     word: Lexeme,
     at: usize,
-) -> Result<Held, ParseStop>
+) -> Parsed<Held>
     requires { IsCoded stack.old steps.old.items (Held.Callee owner name) }
-    ensures { Turns (called (frames_of stack.old (run [] steps.old.items)) owner name word) at stack.new steps.new.items result }
+    ensures { Turns (called (frames_of stack.old (run [] steps.old.items)) owner name word)
+        at stack.new steps.new.items result }
 {
     match word {
         Lexeme::Open => {
@@ -196,7 +181,7 @@ fn turn(
     held: Held,
     word: Lexeme,
     at: usize,
-) -> Result<Held, ParseStop>
+) -> Parsed<Held>
     requires { IsCoded stack.old steps.old.items held }
     ensures { Turns (read (state_of stack.old steps.old.items held) word) at stack.new steps.new.items result }
 {
@@ -216,7 +201,7 @@ fn turn(
 }
 
 // What stands after the last word, a constant made an operand.
-fn settle(stack: &Stack, steps: &mut Vec<ParseStep>, held: Held) -> Result<bool, ParseStop>
+fn settle(stack: &Stack, steps: &mut Vec<ParseStep>, held: Held) -> Parsed<bool>
     requires { IsCoded stack.now steps.old.items held }
     ensures { IsSettled (state_of stack.now steps.old.items held) stack.now steps.new.items result }
 {
@@ -234,7 +219,7 @@ fn settle(stack: &Stack, steps: &mut Vec<ParseStep>, held: Held) -> Result<bool,
 }
 
 /// Reads an expression: its steps in postfix order, or where its words stop.
-pub(crate) fn parse(alloc: Global, words: &[Lexeme]) -> Result<Vec<ParseStep>, ParseStop>
+pub(crate) fn parse(alloc: Global, words: &[Lexeme]) -> Parsed<Vec<ParseStep>>
     ensures ok { IfOk result (λ steps. ArePostfix words.now steps.items) }
     ensures stops { IfErr result (λ stop. IsStop Expression words.now stop) }
 {

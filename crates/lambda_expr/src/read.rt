@@ -18,7 +18,7 @@ use super::elaborate::{TypedOperand, elaborate};
 use super::fault::ReadFault;
 use super::head::{parameters, parse_head};
 use super::lexeme::{Lexeme, lexemes};
-use super::parse::ParseStop;
+use super::parse::{ParseStop, Parsed};
 use super::step::ParseStep;
 use super::stream::judge_stream;
 use super::want::Want;
@@ -30,7 +30,7 @@ use stream_tokens::{CutText, cut};
 const MAX_TOKENS: usize = 4096;
 
 // Reads the words of a lambda: its body in steps, or where the words stop.
-fn parse_lambda(alloc: Global, words: &[Lexeme], want: Want) -> Result<BodySteps, ParseStop>
+fn parse_lambda(alloc: Global, words: &[Lexeme], want: Want) -> Parsed<BodySteps>
     ensures ok { IfOk result (λ body. IsWritten want words.now body) }
     ensures stops { IfErr result (λ stop. IsStop (ALambda want) words.now stop) }
 {
@@ -47,7 +47,8 @@ fn parse_lambda(alloc: Global, words: &[Lexeme], want: Want) -> Result<BodySteps
 // The lambda that is wanted, if the operand has its type.
 fn wanted(want: Want, operand: TypedOperand, form: PairForm) -> Result<Lambda, ReadFault>
     ensures ok { IfOk result (λ lambda. specs_wanted want (typed_of operand) form ≡ Ok (body_of lambda.body)) }
-    ensures refused { IfErr result (λ fault. (fault ≡ ReadFault.WrongType) × (specs_wanted want (typed_of operand) form ≡ Err ReadFault.WrongType)) }
+    ensures refused { IfErr result (λ fault. (fault ≡ ReadFault.WrongType)
+        × (specs_wanted want (typed_of operand) form ≡ Err ReadFault.WrongType)) }
 {
     let body = match (want, operand) {
         (Want::Long, TypedOperand::Long(expr)) => Body::Long(expr),

@@ -1,7 +1,6 @@
 //! The operators of expressions as they are written.
 
-ghost use Rattle.lambda_expr.specs.Checks.{is_comma};
-ghost use Rattle.lambda_expr.specs.Signs.{is_infix, is_prefix, level, operation_of, sign_of};
+ghost use Rattle.lambda_expr.specs.Signs.{is_prefix, level, operation_of, sign_of};
 ghost use Rattle.std.specs.Prelude.{◌≡◌};
 
 use super::operation::SignOperation;
@@ -87,13 +86,6 @@ impl Sign {
         }
     }
 
-    /// Whether the sign may stand between two operands.
-    pub(crate) fn is_infix(self) -> bool
-        ensures { result ≡ is_infix self }
-    {
-        !matches!(self, Sign::Complement | Sign::Not)
-    }
-
     /// Whether the sign may stand before an operand.
     pub(crate) fn is_prefix(self) -> bool
         ensures { result ≡ is_prefix self }
@@ -131,12 +123,5 @@ impl Sign {
             Sign::Remainder => SignOperation::Compute(BinaryOperator::Remainder),
             Sign::Complement | Sign::Not => SignOperation::Nothing,
         }
-    }
-
-    /// Whether the sign is a comma.
-    pub(crate) fn is_comma(self) -> bool
-        ensures { result ≡ is_comma self }
-    {
-        matches!(self, Sign::Comma)
     }
 }

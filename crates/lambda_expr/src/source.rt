@@ -1,12 +1,13 @@
 //! The sources of inner streams, and the reader of their operands.
 
 ghost use Rattle.lambda_expr.specs.Codes.{IsStop};
-ghost use Rattle.lambda_expr.specs.SourceReading.{ArePosted, IsFront, IsNoNext, Next, Operands, Says, TakesMore, after_close, dotted_at, named_at, opened_at, stream_at};
-ghost use Rattle.lambda_expr.specs.Sources.{Takes, source_of};
+ghost use Rattle.lambda_expr.specs.SourceReading.{ArePosted, IsFront, IsNoNext, Next, Operands, Says};
+ghost use Rattle.lambda_expr.specs.SourceReading.{TakesMore, after_close, dotted_at, named_at, stream_at};
+ghost use Rattle.lambda_expr.specs.Sources.{Takes};
 ghost use Rattle.std.specs.Prelude.{◌≡◌, ◌≤◌, IfErr, IfOk, option_map};
 
 use super::lexeme::{Lexeme, Name};
-use super::parse::{ParseStop, parse};
+use super::parse::{ParseStop, Parsed, parse};
 use super::sign::Sign;
 use super::step::ParseStep;
 use super::table::Member;
@@ -27,16 +28,6 @@ pub(crate) struct Opened {
     pub(crate) source: StreamSource,
     /// How many words it has.
     pub(crate) count: usize,
-}
-
-// The source that a name is of.
-fn source_of(member: Member) -> Option<StreamSource>
-    ensures { result ≡ source_of member }
-{
-    match member {
-        Member::Source(source) => Some(source),
-        _ => None,
-    }
 }
 
 impl StreamSource {
@@ -63,29 +54,21 @@ impl StreamSource {
     }
 }
 
-// The parenthesis after the name of a source.
-fn parse_opening(words: &[Lexeme], source: StreamSource, at: usize) -> Result<Opened, usize>
-    requires { at ≤ 3 }
-    ensures { result ≡ opened_at at source words.now }
-{
-    match words.split_first() {
-        Some((Lexeme::Open, _)) => Ok(Opened {
-            source,
-            count: at + 1,
-        }),
-        _ => Err(at),
-    }
-}
-
-// The name of a source and what follows it.
+// The name of a source and the parenthesis that opens.
 fn parse_name(words: &[Lexeme], at: usize) -> Result<Opened, usize>
     requires { at ≤ 2 }
     ensures { result ≡ named_at at words.now }
 {
     match words.split_first() {
-        Some((Lexeme::Name(Name::Plain(name)), rest)) => match source_of(name.member) {
-            Some(source) => parse_opening(rest, source, at + 1),
-            None => Err(at),
+        Some((Lexeme::Name(Name::Plain(name)), rest)) => match name.member {
+            Member::Source(source) => match rest.split_first() {
+                Some((Lexeme::Open, _)) => Ok(Opened {
+                    source,
+                    count: at + 2,
+                }),
+                _ => Err(at + 1),
+            },
+            _ => Err(at),
         },
         _ => Err(at),
     }
@@ -119,7 +102,7 @@ struct SourceOperand {
 }
 
 // The operand that words begin with.
-fn parse_part(alloc: Global, words: &[Lexeme]) -> Result<SourceOperand, ParseStop>
+fn parse_part(alloc: Global, words: &[Lexeme]) -> Parsed<SourceOperand>
     ensures ok { IfOk result (λ part. IsFront words.now part.steps.items part.end) }
     ensures stops { IfErr result (λ stop. IsNoNext words.now stop) }
 {
@@ -140,11 +123,7 @@ fn parse_part(alloc: Global, words: &[Lexeme]) -> Result<SourceOperand, ParseSto
 }
 
 // The operands from the first one on, which is no parenthesis.
-fn parse_parts(
-    alloc: Global,
-    source: StreamSource,
-    words: &[Lexeme],
-) -> Result<Vec<Vec<ParseStep>>, ParseStop>
+fn parse_parts(alloc: Global, source: StreamSource, words: &[Lexeme]) -> Parsed<Vec<Vec<ParseStep>>>
     requires { TakesMore source 0 }
     ensures ok { IfOk result (λ parts. ArePosted source words.now parts.items) }
     ensures stops { IfErr result (λ stop. IsStop (Next source 0) words.now stop) }
@@ -196,7 +175,7 @@ pub(crate) fn parse_operands(
     alloc: Global,
     source: StreamSource,
     words: &[Lexeme],
-) -> Result<Vec<Vec<ParseStep>>, ParseStop>
+) -> Parsed<Vec<Vec<ParseStep>>>
     ensures ok { IfOk result (λ parts. ArePosted source words.now parts.items) }
     ensures stops { IfErr result (λ stop. IsStop (Operands source) words.now stop) }
 {

@@ -1,6 +1,6 @@
 //! Lambdas to a stream: what their operands are refused for, and the stream that they give.
 
-ghost use Rattle.lambda_expr.specs.BodyReading.{and_found, found_in, no_operands, step_numbers};
+ghost use Rattle.lambda_expr.specs.BodyReading.{found_in, no_operands, step_numbers};
 ghost use Rattle.lambda_expr.specs.Grammar.{Shape};
 ghost use Rattle.lambda_expr.specs.Judging.{IsJudged};
 ghost use Rattle.lambda_expr.specs.Lexemes.{names_in};
@@ -11,50 +11,26 @@ ghost use Rattle.lambda_expr.specs.StreamChecks.{stream_of};
 ghost use Rattle.lambda_values.specs.Streams.{exprs_of, inner_of};
 ghost use Rattle.std.specs.Prelude.{◌≡◌, ◌<◌, ◌≤◌, IfNone, IfOk, IfSome, List, Ok, length, option_map};
 
-use super::check::{MAX_DEPTH, Summary, summarize};
+use super::check::{MAX_DEPTH, NOTHING, Summary, binary, summarize};
 use super::elaborate::{TypedOperand, elaborate};
 use super::fault::ReadFault;
+use super::sign::Sign;
 use super::source::StreamSource;
 use super::step::ParseStep;
 use lambda_values::{Body, InnerExpr, Lambda, LongExpr, Operands};
 use std::alloc::{AllocError, Global};
 use stream_tokens::CutText;
 
-/// What the checks find in operands.
-#[derive(Clone, Copy)]
-pub(crate) struct Checks {
-    /// Whether the numbers fit.
-    fit: bool,
-    /// That of the deepest operand, at most 65.
-    depth: u32,
-    /// Whether each name is the name of the parameter, a method or a constant.
-    known: bool,
-}
-
-impl Checks {
-    // What they find in these operands and in one more.
-    fn and(self, operand: Summary) -> Checks
-        ensures { result ≡ and_found self operand }
-    {
-        Checks {
-            fit: self.fit && operand.literals.fit(),
-            depth: self.depth.max(operand.depth),
-            known: self.known && operand.known,
-        }
-    }
-}
-
 // What the checks find in operands, from their steps.
-fn check(alloc: Global, operands: &[Vec<ParseStep>]) -> Result<Checks, AllocError>
+fn check(alloc: Global, operands: &[Vec<ParseStep>]) -> Result<Summary, AllocError>
     ensures { IfOk result (λ checks. checks ≡ found_in no_operands (steps_of operands.now)) }
 {
-    let mut checks = Checks {
-        fit: true,
+    let mut checks = Summary {
         depth: 0,
-        known: true,
+        ..NOTHING
     };
     for operand in operands {
-        checks = checks.and(summarize(alloc, 1, operand)?);
+        checks = binary(Sign::Comma, checks, summarize(alloc, 1, operand)?);
     }
     Ok(checks)
 }
@@ -123,7 +99,7 @@ pub(crate) fn judge_stream(
         → IsJudged (stream_verdict (names_in text.now.bytes text.now.tokens) source es) result }
 {
     let checks = check(alloc, operands)?;
-    if !checks.fit {
+    if !checks.literals.fit() {
         return Err(ReadFault::LiteralTooLarge);
     }
     if checks.depth >= MAX_DEPTH || operands.len() > Operands::MAX {

@@ -4,8 +4,10 @@ ghost use Rattle.lambda_expr.specs.Members.{member_among, member_of, rows_in};
 ghost use Rattle.lambda_expr.specs.Typing.{constant_of, function_of};
 ghost use Rattle.std.specs.Prelude.{◌≡◌};
 
+use self::Member::{Constant, InBoth, InLong, InMath, Source};
 use super::lexeme::{ClassName, Name};
 use super::operation::Function;
+use super::operation::Function::{Binary, Unary};
 use super::source::StreamSource;
 use lambda_values::{BinaryOperator, UnaryOperator};
 
@@ -27,43 +29,28 @@ pub(crate) enum Member {
 
 /// The table: a name, and what it is.
 const ROWS: [(&'static str, Member); 16] = [
-    (
-        "abs",
-        Member::InMath(Function::Unary(UnaryOperator::Absolute)),
-    ),
-    (
-        "negateExact",
-        Member::InMath(Function::Unary(UnaryOperator::NegateExact)),
-    ),
-    (
-        "floorDiv",
-        Member::InMath(Function::Binary(BinaryOperator::FloorDivide)),
-    ),
-    (
-        "floorMod",
-        Member::InMath(Function::Binary(BinaryOperator::FloorRemainder)),
-    ),
-    (
-        "addExact",
-        Member::InMath(Function::Binary(BinaryOperator::AddExact)),
-    ),
+    ("abs", InMath(Unary(UnaryOperator::Absolute))),
+    ("negateExact", InMath(Unary(UnaryOperator::NegateExact))),
+    ("floorDiv", InMath(Binary(BinaryOperator::FloorDivide))),
+    ("floorMod", InMath(Binary(BinaryOperator::FloorRemainder))),
+    ("addExact", InMath(Binary(BinaryOperator::AddExact))),
     (
         "subtractExact",
-        Member::InMath(Function::Binary(BinaryOperator::SubtractExact)),
+        InMath(Binary(BinaryOperator::SubtractExact)),
     ),
     (
         "multiplyExact",
-        Member::InMath(Function::Binary(BinaryOperator::MultiplyExact)),
+        InMath(Binary(BinaryOperator::MultiplyExact)),
     ),
-    ("min", Member::InBoth(Function::Binary(BinaryOperator::Min))),
-    ("max", Member::InBoth(Function::Binary(BinaryOperator::Max))),
-    ("sum", Member::InLong(Function::Binary(BinaryOperator::Add))),
-    ("MAX_VALUE", Member::Constant(i64::MAX)),
-    ("MIN_VALUE", Member::Constant(i64::MIN)),
-    ("empty", Member::Source(StreamSource::Empty)),
-    ("of", Member::Source(StreamSource::Of)),
-    ("range", Member::Source(StreamSource::Range)),
-    ("rangeClosed", Member::Source(StreamSource::RangeClosed)),
+    ("min", InBoth(Binary(BinaryOperator::Min))),
+    ("max", InBoth(Binary(BinaryOperator::Max))),
+    ("sum", InLong(Binary(BinaryOperator::Add))),
+    ("MAX_VALUE", Constant(i64::MAX)),
+    ("MIN_VALUE", Constant(i64::MIN)),
+    ("empty", Source(StreamSource::Empty)),
+    ("of", Source(StreamSource::Of)),
+    ("range", Source(StreamSource::Range)),
+    ("rangeClosed", Source(StreamSource::RangeClosed)),
 ];
 
 /// What the first of these rows with this name says.
@@ -91,8 +78,8 @@ pub(crate) fn function_of(owner: ClassName, name: Name) -> Option<Function>
 {
     match name {
         Name::Plain(name) => match (owner, name.member) {
-            (ClassName::Math, Member::InMath(call) | Member::InBoth(call)) => Some(call),
-            (ClassName::Long, Member::InLong(call) | Member::InBoth(call)) => Some(call),
+            (ClassName::Math, InMath(call) | InBoth(call)) => Some(call),
+            (ClassName::Long, InLong(call) | InBoth(call)) => Some(call),
             _ => None,
         },
         _ => None,
@@ -105,7 +92,7 @@ pub(crate) fn constant_of(name: Name) -> Option<i64>
 {
     match name {
         Name::Plain(name) => match name.member {
-            Member::Constant(value) => Some(value),
+            Constant(value) => Some(value),
             _ => None,
         },
         _ => None,

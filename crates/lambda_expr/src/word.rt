@@ -31,18 +31,21 @@ pub fn word_for(kind: TokenKind, bytes: &[u8]) -> Word<'_>
     }
 }
 
+/// Whether a word is a minus.
 pub(crate) fn is_minus(word: Word) -> bool
     ensures { result ≡ is_minus (word_of word.entry) }
 {
     matches!(word, Word::Sign(Symbol::Minus))
 }
 
+/// Whether a word is a dot.
 pub(crate) fn is_dot(word: Word) -> bool
     ensures { result ≡ is_dot (word_of word.entry) }
 {
     matches!(word, Word::Sign(Symbol::Dot))
 }
 
+/// Whether a word is the class that the constants belong to.
 pub(crate) fn is_owner(word: Word) -> bool
     ensures { result ≡ is_owner (word_of word.entry) }
 {

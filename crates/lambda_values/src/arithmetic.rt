@@ -1,7 +1,8 @@
 //! Laws of the toolchain's division, remainder and bit operators, on which values rest.
 
 ghost use Rattle.std.specs.Int.{bit_at, cast_unsigned, int_bit_and, int_bit_or, int_bit_xor, w64};
-ghost use Rattle.std.specs.Prelude.{◌≡◌, ◌≢◌, ◌<◌, ◌≤ℤ◌, ◌+◌, ◌%◌, ℕ, ℤ, pos, ◌+ℤ◌, ◌*ℤ◌, FitsSigned, int_div, int_rem, max, min, unsigned_abs};
+ghost use Rattle.std.specs.Prelude.{◌≡◌, ◌≢◌, ◌<◌, ◌≤ℤ◌, ◌+◌, ◌%◌, ℕ, ℤ, pos, ◌+ℤ◌, ◌*ℤ◌};
+ghost use Rattle.std.specs.Prelude.{FitsSigned, int_div, int_rem, max, min, unsigned_abs};
 
 /// The quotient is rounded toward zero: what is left has the sign of the dividend, or is 0, and is smaller than
 /// the divisor (JLS 17, 15.17.2 and 15.17.3). The function does nothing; its contract is the law.

@@ -1,6 +1,7 @@
 //! Inner streams: what `flatMap` puts in the place of an item.
 
-ghost use Rattle.lambda_values.specs.Streams.{distance, each_value, exprs_of, inner_of, inner_value, inner_values, through, run_or_listed, run_values, up_from};
+ghost use Rattle.lambda_values.specs.Streams.{distance, each_value, exprs_of, inner_of, inner_value};
+ghost use Rattle.lambda_values.specs.Streams.{inner_values, through, run_or_listed, run_values, up_from};
 ghost use Rattle.lambda_values.specs.Term.{long_of};
 ghost use Rattle.std.specs.Prelude.{◌≡◌, ◌+◌, ◌<◌, ◌≤◌, ◌^◌, ℕ, Err, IfErr, IfNone, IfOk, IfSome, Ok, length, nat_le};
 
@@ -110,7 +111,8 @@ impl InnerExpr {
         env: &Env,
         listed: &mut ListedValues,
     ) -> Result<Option<Run>, FaultKind>
-        ensures ok { IfOk result (λ run. inner_value (inner_of self.now) x env.now ≡ Ok (run_or_listed run listed.new.items)) }
+        ensures ok { IfOk result (λ run. inner_value (inner_of self.now) x env.now
+            ≡ Ok (run_or_listed run listed.new.items)) }
         ensures fault { IfErr result (λ kind. inner_value (inner_of self.now) x env.now ≡ Err kind) }
     {
         match self {

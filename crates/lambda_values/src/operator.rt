@@ -1,6 +1,7 @@
 //! The operators of expressions, grouped by their operands and by the type of their result.
 
-ghost use Rattle.lambda_values.specs.Operators.{binary_faults, binary_value, comparison_value, exact, quotient, remainder, unary_faults, unary_value};
+ghost use Rattle.lambda_values.specs.Operators.{binary_faults, binary_value, comparison_value, exact};
+ghost use Rattle.lambda_values.specs.Operators.{quotient, remainder, unary_faults, unary_value};
 ghost use Rattle.lambda_values.specs.Operators.{low_six_bits, shifted_left, shifted_right, shifted_right_unsigned};
 ghost use Rattle.std.specs.Int.{w64};
 ghost use Rattle.std.specs.Option.{SomeIff};
@@ -66,11 +67,11 @@ pub enum BinaryOperator {
 /// When an operator has a fault, if at all.
 #[derive(Clone, Copy, PartialEq, Eq)]
 pub enum Faults {
-    /// For no operands.
+    /// No operands give a fault.
     Never,
-    /// `DivideByZero`, exactly for a second operand of 0.
+    /// A second operand of 0 gives `DivideByZero`, and no other one a fault.
     ByZero,
-    /// `Overflow`, if 64 bits don't hold the value.
+    /// A value that 64 bits don't hold gives `Overflow`.
     Overflow,
 }
 

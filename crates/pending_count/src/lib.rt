@@ -21,7 +21,6 @@ mod seat;
 mod steps;
 mod view;
 
-pub use completion_core::Node;
 pub use counts::Counts;
 pub use place::{Fits, Place, Side};
 pub use seat::{Arrived, ArrivedPair, Finish, FinishPair, Seat};

@@ -1,7 +1,8 @@
 //! Pairs: nodes whose two arrivals bring values, and which keep a value for the last of the two.
 ghost use Rattle.std.specs.Prelude.{◌≡◌, ◌≢◌, ℕ, ◌+◌, ◌-◌, ◌*◌, ◌<◌, ◌≤◌, [], ◌∷◌, true, false, Some, None};
 ghost use Rattle.completion_core.specs.Legal.{count, reply_of_arrival};
-ghost use Rattle.pending_count.specs.Views.{left_slot, right_slot, kept_slot, note_of, rest_view, part_view, taken_view};
+ghost use Rattle.pending_count.specs.Views.{left_slot, right_slot, kept_slot, note_of};
+ghost use Rattle.pending_count.specs.Views.{rest_view, part_view, taken_view};
 ghost use Rattle.pending_count.specs.Steps.{IsSplit, IsTaken};
 ghost use Rattle.pending_count.specs.Pairs.{slot_of, side_of, side_slot};
 ghost use Rattle.pending_count.specs.PairSteps.{HoldsSide, IsPlaced, IsPaired, IsHanded};
@@ -25,11 +26,14 @@ impl<V, K: Fits<V>> Counts<V, K> {
         requires claimed { 0 < count node (view_of seat).claims }
         requires have { (i : ℕ) → count i onward.now ≤ count i (view_of seat).held }
         requires smaller { (i : ℕ) → 0 < count i onward.now → i < node }
-        requires one_side { (i : ℕ) → 0 < count i onward.now → count (left_slot i) (view_of seat).sides + count (right_slot i) (view_of seat).sides ≤ 1 }
+        requires one_side { (i : ℕ) → 0 < count i onward.now
+            → count (left_slot i) (view_of seat).sides + count (right_slot i) (view_of seat).sides ≤ 1 }
         requires placed { IsPlaced K.place_of kept onward.now (view_of seat) }
         ensures seat { IsSameSeat seat result }
-        ensures took { IsTaken (Content V K) (nodes_of self.now) (actor_of seat) node (kept_slot node) (view_of seat) (taken_view (kept_slot node) (view_of seat)) }
-        ensures paired { IsPaired K.fits K.tag_of K.place_of (nodes_of self.now) (actor_of seat) node onward.now kept (view_of seat) (view_of result) }
+        ensures took { IsTaken (Content V K) (nodes_of self.now) (actor_of seat) node (kept_slot node) (view_of seat)
+            (taken_view (kept_slot node) (view_of seat)) }
+        ensures paired { IsPaired K.fits K.tag_of K.place_of (nodes_of self.now) (actor_of seat) node onward.now kept
+            (view_of seat) (view_of result) }
     {
         self.arm_pair_by::<Brand>(seat, node, onward, kept)
     }
@@ -45,12 +49,16 @@ impl<V, K: Fits<V>> Counts<V, K> {
         requires claimed { 0 < count node (view_of seat).claims }
         requires have { (i : ℕ) → count i onward.now ≤ count i (view_of seat).held }
         requires smaller { (i : ℕ) → 0 < count i onward.now → i < node }
-        requires one_side { (i : ℕ) → 0 < count i onward.now → count (left_slot i) (view_of seat).sides + count (right_slot i) (view_of seat).sides ≤ 1 }
+        requires one_side { (i : ℕ) → 0 < count i onward.now
+            → count (left_slot i) (view_of seat).sides + count (right_slot i) (view_of seat).sides ≤ 1 }
         requires placed { IsPlaced K.place_of kept onward.now (view_of seat) }
-        requires picked { (A.nodes ≡ nodes_of self.now) × (A.actor ≡ actor_of seat) × (A.onward ≡ onward.now) × (A.slot ≡ kept_slot node) }
+        requires picked { (A.nodes ≡ nodes_of self.now) × (A.actor ≡ actor_of seat) × (A.onward ≡ onward.now)
+            × (A.slot ≡ kept_slot node) }
         ensures seat { IsSameSeat seat result }
-        ensures took { IsTaken (Content V K) (nodes_of self.now) (actor_of seat) node (kept_slot node) (view_of seat) (taken_view (kept_slot node) (view_of seat)) }
-        ensures paired { IsPaired K.fits K.tag_of K.place_of (nodes_of self.now) (actor_of seat) node onward.now kept (view_of seat) (view_of result) }
+        ensures took { IsTaken (Content V K) (nodes_of self.now) (actor_of seat) node (kept_slot node) (view_of seat)
+            (taken_view (kept_slot node) (view_of seat)) }
+        ensures paired { IsPaired K.fits K.tag_of K.place_of (nodes_of self.now) (actor_of seat) node onward.now kept
+            (view_of seat) (view_of result) }
     {
         let Seat { mut token, credit } = seat;
         let shared = &self.table.shared;
@@ -70,8 +78,11 @@ impl<V, K: Fits<V>> Counts<V, K> {
         requires tag { note_of place.node (view_of seat).tags ≡ Some place.tag }
         requires fits { K.fits place.tag place.side value }
         ensures seat { IsSameSeat seat (pair_seat result) }
-        ensures took { IsTaken (Content V K) (nodes_of self.now) (actor_of seat) place.node (slot_of place.node place.side) (view_of seat) (taken_view (slot_of place.node place.side) (view_of seat)) }
-        ensures handed { (n : ℕ) × (pair_reply result ≡ reply_of_arrival (n - 1)) × IsHanded K.fits K.tag_of K.place_of (nodes_of self.now) (actor_of seat) place.node (slot_of place.node place.side) (view_of seat) n (view_of (pair_seat result)) }
+        ensures took { IsTaken (Content V K) (nodes_of self.now) (actor_of seat) place.node
+            (slot_of place.node place.side) (view_of seat) (taken_view (slot_of place.node place.side) (view_of seat)) }
+        ensures handed { (n : ℕ) × (pair_reply result ≡ reply_of_arrival (n - 1))
+            × IsHanded K.fits K.tag_of K.place_of (nodes_of self.now) (actor_of seat) place.node
+            (slot_of place.node place.side) (view_of seat) n (view_of (pair_seat result)) }
         ensures closed { IsClosed place.node (slot_of place.node place.side) place.tag (view_of seat) result }
     {
         match place.side {
@@ -95,8 +106,10 @@ impl<V, K: Fits<V>> Counts<V, K> {
         requires side { (0 < count (slot_of node side) (view_of seat).sides) × (side ≢ Whole) }
         requires credit { credit ≤ (view_of seat).credit }
         ensures seat { IsSameSeat seat result.0 × (table_of result.1 ≡ table_of seat) }
-        ensures parts { (view_of result.0 ≡ rest_view node 1 credit (slot_of node side ∷ []) (view_of seat)) × (view_of result.1 ≡ part_view node 1 credit (slot_of node side ∷ []) (view_of seat)) }
-        ensures split { IsSplit (Content V K) (nodes_of self.now) node 1 (view_of seat) (view_of result.0) (view_of result.1) }
+        ensures parts { (view_of result.0 ≡ rest_view node 1 credit (slot_of node side ∷ []) (view_of seat))
+            × (view_of result.1 ≡ part_view node 1 credit (slot_of node side ∷ []) (view_of seat)) }
+        ensures split { IsSplit (Content V K) (nodes_of self.now) node 1 (view_of seat)
+            (view_of result.0) (view_of result.1) }
     {
         self.split_side_by::<Brand>(seat, node, side, credit)
     }
@@ -112,9 +125,11 @@ impl<V, K: Fits<V>> Counts<V, K> {
         requires have { (0 < node) × (0 < count node (view_of seat).held) }
         requires side { (0 < count (slot_of node side) (view_of seat).sides) × (side ≢ Whole) }
         requires credit { credit ≤ (view_of seat).credit }
-        requires picked { (A.node ≡ node) × (A.arrivals ≡ 1) × (A.credit ≡ credit) × (A.sides ≡ slot_of node side ∷ []) }
+        requires picked { (A.node ≡ node) × (A.arrivals ≡ 1) × (A.credit ≡ credit)
+            × (A.sides ≡ slot_of node side ∷ []) }
         ensures seat { IsSameSeat seat result.0 × (table_of result.1 ≡ table_of seat) }
-        ensures parts { (view_of result.0 ≡ rest_view node 1 credit (slot_of node side ∷ []) (view_of seat)) × (view_of result.1 ≡ part_view node 1 credit (slot_of node side ∷ []) (view_of seat)) }
+        ensures parts { (view_of result.0 ≡ rest_view node 1 credit (slot_of node side ∷ []) (view_of seat))
+            × (view_of result.1 ≡ part_view node 1 credit (slot_of node side ∷ []) (view_of seat)) }
     {
         let Seat {
             mut token,
@@ -144,12 +159,18 @@ impl<V, K: Fits<V>> Counts<V, K> {
         requires table { IsSeatOf self.now seat }
         requires have { 0 < count node (view_of seat).held }
         requires side { 0 < count (side_slot node is_left) (view_of seat).sides }
-        requires known { (tag : K.Tag) × (note_of node (view_of seat).tags ≡ Some tag) × K.fits tag (side_of is_left) value }
-        requires picked { (A.nodes ≡ nodes_of self.now) × (A.actor ≡ actor_of seat) × (A.slot ≡ side_slot node is_left) × (A.left ≡ is_left) }
+        requires known { (tag : K.Tag) × (note_of node (view_of seat).tags ≡ Some tag)
+            × K.fits tag (side_of is_left) value }
+        requires picked { (A.nodes ≡ nodes_of self.now) × (A.actor ≡ actor_of seat) × (A.slot ≡ side_slot node is_left)
+            × (A.left ≡ is_left) }
         ensures seat { IsSameSeat seat (pair_seat result) }
-        ensures took { IsTaken (Content V K) (nodes_of self.now) (actor_of seat) node (side_slot node is_left) (view_of seat) (taken_view (side_slot node is_left) (view_of seat)) }
-        ensures handed { (n : ℕ) × (pair_reply result ≡ reply_of_arrival (n - 1)) × IsHanded K.fits K.tag_of K.place_of (nodes_of self.now) (actor_of seat) node (side_slot node is_left) (view_of seat) n (view_of (pair_seat result)) }
-        ensures closed { (tag : K.Tag) → note_of node (view_of seat).tags ≡ Some tag → IsClosed node (side_slot node is_left) tag (view_of seat) result }
+        ensures took { IsTaken (Content V K) (nodes_of self.now) (actor_of seat) node (side_slot node is_left)
+            (view_of seat) (taken_view (side_slot node is_left) (view_of seat)) }
+        ensures handed { (n : ℕ) × (pair_reply result ≡ reply_of_arrival (n - 1))
+            × IsHanded K.fits K.tag_of K.place_of (nodes_of self.now) (actor_of seat) node (side_slot node is_left)
+            (view_of seat) n (view_of (pair_seat result)) }
+        ensures closed { (tag : K.Tag) → note_of node (view_of seat).tags ≡ Some tag
+            → IsClosed node (side_slot node is_left) tag (view_of seat) result }
     {
         let Seat { mut token, credit } = seat;
         let shared = &self.table.shared;
@@ -175,7 +196,8 @@ impl<V, K: Fits<V>> Counts<V, K> {
         requires table { token.table_id ≡ self.now.table.shared.table_id }
         requires slots { (kept : K) × (theirs : V) × (ours : V) × HasAll node is_left kept theirs ours token.me.1 }
         ensures seat { (result.0.table_id ≡ token.table_id) × (result.0.id ≡ token.id) × (result.0.me.0 ≡ token.me.0) }
-        ensures values { (kept : K) (theirs ours : V) → HasAll node is_left kept theirs ours token.me.1 → IsInOrder is_left kept theirs ours result.1 }
+        ensures values { (kept : K) (theirs ours : V) → HasAll node is_left kept theirs ours token.me.1
+            → IsInOrder is_left kept theirs ours result.1 }
     {
         let shared = &self.table.shared;
         let kept = kept_in(shared.exchange(&mut token, 3 * node as usize + 2, None));

@@ -19,7 +19,8 @@ impl<V, K: Fits<V>> Counts<V, K> {
     pub fn left(&self, seat: Seat<V, K>) -> (Seat<V, K>, u64)
         requires table { IsSeatOf self.now seat }
         ensures seat { IsSameSeat seat result.0 }
-        ensures left { IsEndSeen (Content V K) (nodes_of self.now) (actor_of seat) (view_of seat) result.1 (view_of result.0) }
+        ensures left { IsEndSeen (Content V K) (nodes_of self.now) (actor_of seat)
+            (view_of seat) result.1 (view_of result.0) }
     {
         self.left_by::<Brand>(seat)
     }
@@ -28,7 +29,8 @@ impl<V, K: Fits<V>> Counts<V, K> {
         requires table { IsSeatOf self.now seat }
         requires picked { (A.nodes ≡ nodes_of self.now) × (A.actor ≡ actor_of seat) }
         ensures seat { IsSameSeat seat result.0 }
-        ensures left { IsEndSeen (Content V K) (nodes_of self.now) (actor_of seat) (view_of seat) result.1 (view_of result.0) }
+        ensures left { IsEndSeen (Content V K) (nodes_of self.now) (actor_of seat)
+            (view_of seat) result.1 (view_of result.0) }
     {
         let Seat { mut token, credit } = seat;
         let found = self.table.shared.load::<Look<A>>(&mut token, 0);
@@ -50,8 +52,10 @@ impl<V, K: Fits<V>> Counts<V, K> {
         requires end { k ≡ 0 → node ≡ 0 }
         requires credit { credit ≤ (view_of seat).credit }
         ensures seat { IsSameSeat seat result.0 × (table_of result.1 ≡ table_of seat) }
-        ensures parts { (view_of result.0 ≡ rest_view node k credit [] (view_of seat)) × (view_of result.1 ≡ part_view node k credit [] (view_of seat)) }
-        ensures split { IsSplit (Content V K) (nodes_of self.now) node k (view_of seat) (view_of result.0) (view_of result.1) }
+        ensures parts { (view_of result.0 ≡ rest_view node k credit [] (view_of seat))
+            × (view_of result.1 ≡ part_view node k credit [] (view_of seat)) }
+        ensures split { IsSplit (Content V K) (nodes_of self.now) node k (view_of seat)
+            (view_of result.0) (view_of result.1) }
     {
         self.split_by::<Brand>(seat, node, k, credit)
     }
@@ -70,7 +74,8 @@ impl<V, K: Fits<V>> Counts<V, K> {
         requires credit { credit ≤ (view_of seat).credit }
         requires picked { (A.node ≡ node) × (A.arrivals ≡ k) × (A.credit ≡ credit) × (A.sides ≡ []) }
         ensures seat { IsSameSeat seat result.0 × (table_of result.1 ≡ table_of seat) }
-        ensures parts { (view_of result.0 ≡ rest_view node k credit [] (view_of seat)) × (view_of result.1 ≡ part_view node k credit [] (view_of seat)) }
+        ensures parts { (view_of result.0 ≡ rest_view node k credit [] (view_of seat))
+            × (view_of result.1 ≡ part_view node k credit [] (view_of seat)) }
     {
         let Seat {
             mut token,

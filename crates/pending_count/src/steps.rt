@@ -3,7 +3,8 @@ ghost use Rattle.std.specs.Prelude.{◌≡◌, None, ℕ, ◌+◌, ◌-◌, ◌*
 ghost use Rattle.completion_core.specs.Legal.{count, reply_of_arrival};
 ghost use Rattle.pending_count.specs.Views.{left_slot, right_slot, IsPlainAt, first_view};
 ghost use Rattle.pending_count.specs.Steps.{IsOpened, IsClaimed, IsArmed, IsArrived, IsAdded, IsSettled, drawn_node};
-ghost use Rattle.pending_count.specs.Seats.{Content, view_of, actor_of, IsSameSeat, seat_back, reply_back, IsFinishOf, IsSeatOf, nodes_of};
+ghost use Rattle.pending_count.specs.Seats.{Content, view_of, actor_of, IsSameSeat, seat_back};
+ghost use Rattle.pending_count.specs.Seats.{reply_back, IsFinishOf, IsSeatOf, nodes_of};
 
 use crate::counts::Counts;
 use crate::place::Fits;
@@ -26,7 +27,8 @@ impl<V, K: Fits<V>> Counts<V, K> {
         nodes: u32,
         ends: u64,
     ) -> Result<(Counts<V, K>, Seat<V, K>), AllocError>
-        ensures seat { IfOk result (λ c. IsSeatOf c.0 c.1 × (nodes_of c.0 ≡ nodes) × (actor_of c.1 ≡ 0) × (view_of c.1 ≡ first_view ends)) }
+        ensures seat { IfOk result (λ c. IsSeatOf c.0 c.1 × (nodes_of c.0 ≡ nodes) × (actor_of c.1 ≡ 0)
+            × (view_of c.1 ≡ first_view ends)) }
         ensures opened { IfOk result (λ c. IsOpened (Content V K) nodes ends (view_of c.1)) }
     {
         let words = opening(alloc, nodes, ends)?;
@@ -52,7 +54,8 @@ impl<V, K: Fits<V>> Counts<V, K> {
         requires table { IsSeatOf self.now seat }
         ensures seat { IsSameSeat seat result.0 }
         ensures unpaid { (view_of seat).credit ≡ 0 → (result.1 ≡ None) × (view_of result.0 ≡ view_of seat) }
-        ensures claimed { 0 < (view_of seat).credit → (n : ℕ) × (result.1 ≡ drawn_node (nodes_of self.now) n) × IsClaimed (Content V K) (nodes_of self.now) (actor_of seat) (view_of seat) n (view_of result.0) }
+        ensures claimed { 0 < (view_of seat).credit → (n : ℕ) × (result.1 ≡ drawn_node (nodes_of self.now) n)
+            × IsClaimed (Content V K) (nodes_of self.now) (actor_of seat) (view_of seat) n (view_of result.0) }
     {
         self.claim_by::<Brand>(seat)
     }
@@ -62,7 +65,8 @@ impl<V, K: Fits<V>> Counts<V, K> {
         requires picked { (A.nodes ≡ nodes_of self.now) × (A.actor ≡ actor_of seat) }
         ensures seat { IsSameSeat seat result.0 }
         ensures unpaid { (view_of seat).credit ≡ 0 → (result.1 ≡ None) × (view_of result.0 ≡ view_of seat) }
-        ensures claimed { 0 < (view_of seat).credit → (n : ℕ) × (result.1 ≡ drawn_node (nodes_of self.now) n) × IsClaimed (Content V K) (nodes_of self.now) (actor_of seat) (view_of seat) n (view_of result.0) }
+        ensures claimed { 0 < (view_of seat).credit → (n : ℕ) × (result.1 ≡ drawn_node (nodes_of self.now) n)
+            × IsClaimed (Content V K) (nodes_of self.now) (actor_of seat) (view_of seat) n (view_of result.0) }
     {
         let Seat { mut token, credit } = seat;
         if credit == 0 {
@@ -89,9 +93,11 @@ impl<V, K: Fits<V>> Counts<V, K> {
         requires claimed { 0 < count node (view_of seat).claims }
         requires have { (i : ℕ) → count i onward.now ≤ count i (view_of seat).held }
         requires smaller { (i : ℕ) → 0 < count i onward.now → i < node }
-        requires one_side { (i : ℕ) → 0 < count i onward.now → count (left_slot i) (view_of seat).sides + count (right_slot i) (view_of seat).sides ≤ 1 }
+        requires one_side { (i : ℕ) → 0 < count i onward.now
+            → count (left_slot i) (view_of seat).sides + count (right_slot i) (view_of seat).sides ≤ 1 }
         ensures seat { IsSameSeat seat result }
-        ensures armed { IsArmed (Content V K) (nodes_of self.now) (actor_of seat) node pending onward.now (view_of seat) (view_of result) }
+        ensures armed { IsArmed (Content V K) (nodes_of self.now) (actor_of seat) node pending onward.now
+            (view_of seat) (view_of result) }
     {
         self.arm_by::<Brand>(seat, node, pending, onward)
     }
@@ -107,10 +113,13 @@ impl<V, K: Fits<V>> Counts<V, K> {
         requires claimed { 0 < count node (view_of seat).claims }
         requires have { (i : ℕ) → count i onward.now ≤ count i (view_of seat).held }
         requires smaller { (i : ℕ) → 0 < count i onward.now → i < node }
-        requires one_side { (i : ℕ) → 0 < count i onward.now → count (left_slot i) (view_of seat).sides + count (right_slot i) (view_of seat).sides ≤ 1 }
-        requires picked { (A.nodes ≡ nodes_of self.now) × (A.actor ≡ actor_of seat) × (A.pending ≡ pending) × (A.onward ≡ onward.now) }
+        requires one_side { (i : ℕ) → 0 < count i onward.now
+            → count (left_slot i) (view_of seat).sides + count (right_slot i) (view_of seat).sides ≤ 1 }
+        requires picked { (A.nodes ≡ nodes_of self.now) × (A.actor ≡ actor_of seat) × (A.pending ≡ pending)
+            × (A.onward ≡ onward.now) }
         ensures seat { IsSameSeat seat result }
-        ensures armed { IsArmed (Content V K) (nodes_of self.now) (actor_of seat) node pending onward.now (view_of seat) (view_of result) }
+        ensures armed { IsArmed (Content V K) (nodes_of self.now) (actor_of seat) node pending onward.now
+            (view_of seat) (view_of result) }
     {
         let Seat { mut token, credit } = seat;
         self.table
@@ -126,9 +135,11 @@ impl<V, K: Fits<V>> Counts<V, K> {
         requires node { 0 < node }
         requires have { 0 < count node (view_of seat).held }
         requires plain { IsPlainAt node (view_of seat) }
-        ensures added { IfOk result (λ later. IsSameSeat seat later × IsAdded (Content V K) (nodes_of self.now) (actor_of seat) node d (view_of seat) (view_of later)) }
+        ensures added { IfOk result (λ later. IsSameSeat seat later
+            × IsAdded (Content V K) (nodes_of self.now) (actor_of seat) node d (view_of seat) (view_of later)) }
         ensures paid { IfOk result (λ _. d ≤ (view_of seat).credit) }
-        ensures unpaid { IfErr result (λ same. ((view_of seat).credit < d) × IsSameSeat seat same × (view_of same ≡ view_of seat)) }
+        ensures unpaid { IfErr result (λ same. ((view_of seat).credit < d) × IsSameSeat seat same
+            × (view_of same ≡ view_of seat)) }
     {
         self.add_by::<Brand>(seat, node, d)
     }
@@ -144,9 +155,11 @@ impl<V, K: Fits<V>> Counts<V, K> {
         requires have { 0 < count node (view_of seat).held }
         requires plain { IsPlainAt node (view_of seat) }
         requires picked { (A.nodes ≡ nodes_of self.now) × (A.actor ≡ actor_of seat) }
-        ensures added { IfOk result (λ later. IsSameSeat seat later × IsAdded (Content V K) (nodes_of self.now) (actor_of seat) node d (view_of seat) (view_of later)) }
+        ensures added { IfOk result (λ later. IsSameSeat seat later
+            × IsAdded (Content V K) (nodes_of self.now) (actor_of seat) node d (view_of seat) (view_of later)) }
         ensures paid { IfOk result (λ _. d ≤ (view_of seat).credit) }
-        ensures unpaid { IfErr result (λ same. ((view_of seat).credit < d) × IsSameSeat seat same × (view_of same ≡ view_of seat)) }
+        ensures unpaid { IfErr result (λ same. ((view_of seat).credit < d) × IsSameSeat seat same
+            × (view_of same ≡ view_of seat)) }
     {
         let Seat { mut token, credit } = seat;
         let price = d as u64;
@@ -170,7 +183,8 @@ impl<V, K: Fits<V>> Counts<V, K> {
         requires have { 0 < count node (view_of seat).held }
         requires plain { IsPlainAt node (view_of seat) }
         ensures seat { IsSameSeat seat (seat_back result) }
-        ensures arrived { (n : ℕ) × (reply_back result ≡ reply_of_arrival (n - 1)) × IsArrived (Content V K) (nodes_of self.now) (actor_of seat) node (view_of seat) n (view_of (seat_back result)) }
+        ensures arrived { (n : ℕ) × (reply_back result ≡ reply_of_arrival (n - 1)) × IsArrived (Content V K)
+            (nodes_of self.now) (actor_of seat) node (view_of seat) n (view_of (seat_back result)) }
         ensures finish { IsFinishOf node result }
     {
         self.arrive_by::<Brand>(seat, node)
@@ -183,7 +197,8 @@ impl<V, K: Fits<V>> Counts<V, K> {
         requires plain { IsPlainAt node (view_of seat) }
         requires picked { (A.nodes ≡ nodes_of self.now) × (A.actor ≡ actor_of seat) }
         ensures seat { IsSameSeat seat (seat_back result) }
-        ensures arrived { (n : ℕ) × (reply_back result ≡ reply_of_arrival (n - 1)) × IsArrived (Content V K) (nodes_of self.now) (actor_of seat) node (view_of seat) n (view_of (seat_back result)) }
+        ensures arrived { (n : ℕ) × (reply_back result ≡ reply_of_arrival (n - 1)) × IsArrived (Content V K)
+            (nodes_of self.now) (actor_of seat) node (view_of seat) n (view_of (seat_back result)) }
         ensures finish { IsFinishOf node result }
     {
         let Seat { mut token, credit } = seat;

@@ -14,13 +14,15 @@ ghost use Rattle.prefix_scan.specs.Scans.{StandsFor, cut_to, scan_at, selected};
 /// For every tree of pieces, a pass up and a pass down give the prefix of the pieces joined.
 #[tactic(auto, using(crate::proofs::PassLemmas::passes_are_prefix))]
 pub fn two_passes_give_the_prefix()
-    ensures { (f : ℤ → ℤ → ℤ) → IsAssociative f → (range : Range) (stage : ℕ) (ps : Pieces) → two_passes f range stage ps ≡ prefixed f range stage (whole ps) }
+    ensures { (f : ℤ → ℤ → ℤ) → IsAssociative f → (range : Range) (stage : ℕ) (ps : Pieces)
+        → two_passes f range stage ps ≡ prefixed f range stage (whole ps) }
 {}
 
-/// So they do for every split tree, laid over a walk.
+/// For every split tree that is laid over a walk, a pass up and a pass down give the prefix of the walk.
 #[tactic(auto, using(crate::proofs::PassLemmas::split_passes_are_prefix))]
 pub fn every_split_tree_gives_the_prefix()
-    ensures { (f : ℤ → ℤ → ℤ) → IsAssociative f → (range : Range) (stage : ℕ) (tree : SplitTree) (t : Trace) → two_passes f range stage (laid tree t) ≡ prefixed f range stage t }
+    ensures { (f : ℤ → ℤ → ℤ) → IsAssociative f → (range : Range) (stage : ℕ) (tree : SplitTree) (t : Trace)
+        → two_passes f range stage (laid tree t) ≡ prefixed f range stage t }
 {}
 
 /// How a caller of `up`, `merge` and `down` comes to the prefix of a walk, with a range or without. Each piece is taken

@@ -122,8 +122,10 @@ pub fn scan_values(
     start: Option<i64>,
     values: &mut [i64],
 ) -> Option<i64>
-    ensures values { (xs : List item) → map (λ x. x.value) xs ≡ values.old → map (λ x. x.value) (scan_at (value_of op) range 0 start xs) ≡ values.new }
-    ensures fold { (xs : List item) → map (λ x. x.value) xs ≡ values.old → result ≡ fold_at (value_of op) range 0 start xs }
+    ensures values { (xs : List item) → map (λ x. x.value) xs ≡ values.old
+        → map (λ x. x.value) (scan_at (value_of op) range 0 start xs) ≡ values.new }
+    ensures fold { (xs : List item) → map (λ x. x.value) xs ≡ values.old
+        → result ≡ fold_at (value_of op) range 0 start xs }
 {
     scan_each_value(op, range, start, values)
 }

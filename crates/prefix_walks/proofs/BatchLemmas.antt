@@ -1,14 +1,13 @@
 -- A batch of items in a fold.
-use Rattle.std.proofs.Common.{◌≡◌, ◌+◌, ◌<◌, ◌≤◌, ℕ, length, take, get_or, ℤ, pos, Bool, true, false, List, [], ◌∷◌, ◌++◌, Option, Some, None, fold, map, refl, sym, ap, ◌∙◌}
-use Rattle.std.proofs.lemmas.List.{take_all}
-use Rattle.std.proofs.lemmas.List.Sums.{fold-append, fold_more}
+use Rattle.std.proofs.Common.{◌≡◌, ◌+◌, ◌<◌, ℕ, length, take, get_or, ℤ, pos, Bool, true, false, List, [], ◌∷◌, Option, Some, None, fold, map, refl, sym, ap, ◌∙◌}
+use Rattle.std.proofs.lemmas.List.Sums.{fold_more}
 use Rattle.trace.specs.declared.item.Item.{Item}
 use Rattle.trace.specs.declared.item.End.{End}
 use Rattle.trace.specs.declared.item.End.TheVariants as end
 use Rattle.trace.specs.Trace.{Trace, trace, then_on, append}
 use Rattle.reduce_ops.specs.declared.partial.Partial.{Partial}
 use Rattle.reduce_ops.specs.Folds.{fold_from, fold_items}
-use Rattle.reduce_ops.specs.Operators.{IsAssociative, value_of}
+use Rattle.reduce_ops.specs.Operators.{value_of}
 use Rattle.reduce_ops.specs.Parts.{StandsFor as FoldStands}
 use Rattle.prefix_walks.specs.Batches.{counted_as, each_one, folded_values}
 
@@ -58,24 +57,3 @@ pub one_more_folded : (f : ℤ → ℤ → ℤ) (counts : Bool) (start : ℤ) (x
 one_more_folded f counts start xs i a v r within so_far here is =
     let more = fold_more (λ b w. f b (each_one counts w)) start xs i (pos 0) within in
     is ∙ ap (λ (b : ℤ). f b v) so_far ∙ ap (f (fold (λ b w. f b (each_one counts w)) start (take i xs))) here ∙ sym more
-
--- to fold from what stands left is to put it before the fold
-pub after_left : (f : ℤ → ℤ → ℤ) → IsAssociative f → (counts : Bool) (a b : ℤ) (vs : List ℤ) → fold (λ c w. f c (each_one counts w)) (f a b) vs ≡ f a (fold (λ c w. f c (each_one counts w)) b vs)
-after_left f grouped counts a b [] = refl
-after_left f grouped counts a b (v ∷ vs) = ap (λ (d : ℤ). fold (λ c w. f c (each_one counts w)) d vs) (grouped a b (each_one counts v)) ∙ after_left f grouped counts a (f b (each_one counts v)) vs
-
--- two halves by themselves, where the right one begins with its own first value
-pub halves_folded : (f : ℤ → ℤ → ℤ) → IsAssociative f → (counts : Bool) (start begun first left right whole : ℤ) (n : ℕ) (values near others after far rest : List ℤ) → values ≡ near ++ others → others ≡ first ∷ after → after ≡ far ++ rest
-    → length near ≤ n → length far ≤ n → begun ≡ each_one counts first → left ≡ fold (λ c w. f c (each_one counts w)) start (take n near) → right ≡ fold (λ c w. f c (each_one counts w)) begun (take n far)
-    → whole ≡ f left (fold (λ c w. f c (each_one counts w)) right rest) → whole ≡ fold (λ c w. f c (each_one counts w)) start values
-halves_folded f grouped counts start begun first left right whole n values near others after far rest in_two in_one in_three near_len far_len is_begun is_left is_right is =
-    let g : ℤ → ℤ → ℤ = λ c w. f c (each_one counts w) in
-    let all : values ≡ near ++ first ∷ (far ++ rest) = in_two ∙ ap (λ (vs : List ℤ). near ++ vs) (in_one ∙ ap (λ (vs : List ℤ). first ∷ vs) in_three) in
-    let near_folded : left ≡ fold g start near = is_left ∙ ap (fold g start) (take_all n near near_len) in
-    let far_folded : right ≡ fold g (each_one counts first) far = is_right ∙ ap (fold g begun) (take_all n far far_len) ∙ ap (λ (a : ℤ). fold g a far) is_begun in
-    is ∙ ap (λ (a : ℤ). f a (fold g right rest)) near_folded
-    ∙ ap (λ (b : ℤ). f (fold g start near) (fold g b rest)) far_folded
-    ∙ ap (f (fold g start near)) (sym (fold-append g (each_one counts first) far rest))
-    ∙ sym (after_left f grouped counts (fold g start near) (each_one counts first) (far ++ rest))
-    ∙ sym (fold-append g start near (first ∷ (far ++ rest)))
-    ∙ ap (fold g start) (sym all)

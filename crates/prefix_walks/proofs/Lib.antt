@@ -1,5 +1,4 @@
 -- The lemmas of this crate; the first line of each file says what they are about.
-pub mod BackwardFolds
 pub mod BatchLemmas
 pub mod Elements
 pub mod FaultlessLemmas

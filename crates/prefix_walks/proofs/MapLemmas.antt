@@ -119,8 +119,8 @@ pub imaged_both : (gs : List AbstractStage) (xs ys : List Item) → imaged gs (x
 imaged_both gs xs ys = map-append (λ (x : Item). record { origin = x.origin; value = image gs x.value }) xs ys
 
 -- values at places that a buffer takes
-pub buffered : (xs : List Item) (p : ℕ) (vs old new : List ℤ) → (length xs ≤ 4096 → old ≡ each_of (λ (x : Item). x.value) xs) → (length old + length vs ≤ 4096 → new ≡ old ++ vs)
-    → length (xs ++ placed p vs) ≤ 4096 → new ≡ each_of (λ (x : Item). x.value) (xs ++ placed p vs)
+pub buffered : (xs : List Item) (p : ℕ) (vs old new : List ℤ) → (length xs ≤ 1024 → old ≡ each_of (λ (x : Item). x.value) xs) → (length old + length vs ≤ 1024 → new ≡ old ++ vs)
+    → length (xs ++ placed p vs) ≤ 1024 → new ≡ each_of (λ (x : Item). x.value) (xs ++ placed p vs)
 buffered xs p vs old new took add few =
     let both = length-append xs (placed p vs) in
     let here = length-placed p vs in
@@ -129,16 +129,16 @@ buffered xs p vs old new took add few =
     add (omega (arith, few, both, here, size)) ∙ (λ i. had i ++ sym (values_placed p vs) i) ∙ sym (map-append (λ (x : Item). x.value) xs (placed p vs))
 
 -- a buffer that a walk of values through maps went into
-pub images_put : (gs : List AbstractStage) → ArePlain gs → (n : ℕ) (env : Numbers) (vs buffer : List ℤ) (r : Result Fed AllocError) → length vs ≤ 4096 → flow.More ≡ flow_after r → OnErr r ⊥
-    → IsFed (λ (b : List ℤ) (xs : List Item). length xs ≤ 4096 → b ≡ each_of (λ (x : Item). x.value) xs) [] (pipe n gs env (trace (placed 0 vs) end.Done)) r buffer → buffer ≡ images gs vs
-images_put gs h n env vs buffer r few wants safe given = by r wants safe (subst (λ (t : Trace). IsFed (λ (b : List ℤ) (xs : List Item). length xs ≤ 4096 → b ≡ each_of (λ (x : Item). x.value) xs) [] t r buffer) walk given)
+pub images_put : (gs : List AbstractStage) → ArePlain gs → (n : ℕ) (env : Numbers) (vs buffer : List ℤ) (r : Result Fed AllocError) → length vs ≤ 1024 → flow.More ≡ flow_after r → OnErr r ⊥
+    → IsFed (λ (b : List ℤ) (xs : List Item). length xs ≤ 1024 → b ≡ each_of (λ (x : Item). x.value) xs) [] (pipe n gs env (trace (placed 0 vs) end.Done)) r buffer → buffer ≡ images gs vs
+images_put gs h n env vs buffer r few wants safe given = by r wants safe (subst (λ (t : Trace). IsFed (λ (b : List ℤ) (xs : List Item). length xs ≤ 1024 → b ≡ each_of (λ (x : Item). x.value) xs) [] t r buffer) walk given)
   where
     walk : pipe n gs env (trace (placed 0 vs) end.Done) ≡ trace (placed 0 (images gs vs)) end.Done
     walk = maps_walk n gs h env (placed 0 vs) end.Done ∙ ap (λ (l : List Item). trace l end.Done) (imaged_placed gs 0 vs)
 
     by : (r : Result Fed AllocError) → flow.More ≡ flow_after r → OnErr r ⊥
-        → IsFed (λ (b : List ℤ) (xs : List Item). length xs ≤ 4096 → b ≡ each_of (λ (x : Item). x.value) xs) [] (trace (placed 0 (images gs vs)) end.Done) r buffer → buffer ≡ images gs vs
-    by (Ok fed.More) wants safe given = given.0 (subst (λ m. m ≤ 4096) (sym (length-placed 0 (images gs vs) ∙ length-map vs (image gs))) few) ∙ values_placed 0 (images gs vs)
+        → IsFed (λ (b : List ℤ) (xs : List Item). length xs ≤ 1024 → b ≡ each_of (λ (x : Item). x.value) xs) [] (trace (placed 0 (images gs vs)) end.Done) r buffer → buffer ≡ images gs vs
+    by (Ok fed.More) wants safe given = given.0 (subst (λ m. m ≤ 1024) (sym (length-placed 0 (images gs vs) ∙ length-map vs (image gs))) few) ∙ values_placed 0 (images gs vs)
     by (Ok (fed.Fault f)) wants safe given = absurd (let e = given.1 in cc)
     by (Ok fed.Enough) wants safe given = absurd cc
     by (Err e) wants safe given = absurd safe

@@ -57,7 +57,7 @@ placed_scanned f r q s p (v ∷ vs) =
     at_place false = refl
 
 -- a piece of values with their fold
-pub run_folded : (op : Op) (place : ℕ) (vs : RunValues) (fold : Partial) → fold.op ≡ op → FoldStands fold (trace (placed place (run_values vs)) end.Done) → length (run_values vs) ≤ 4096 → place + length (run_values vs) ≤ 4611686018427387904 → Fits vs
+pub run_folded : (op : Op) (place : ℕ) (vs : RunValues) (fold : Partial) → fold.op ≡ op → FoldStands fold (trace (placed place (run_values vs)) end.Done) → length (run_values vs) ≤ 1024 → place + length (run_values vs) ≤ 4611686018427387904 → Fits vs
     → IsFolded op (record { items = piece.Run place vs; fold = fold })
 run_folded op place vs fold same stands few places fits =
     let l = length-placed place (run_values vs) in

@@ -33,11 +33,11 @@ items_of p = items_in p.items
 abbrev pub all_items : List FoldedPiece → List Item
 all_items ps = flat_map items_of ps
 
--- a piece has the fold of its items by this operator, and 4,096 items at most
+-- a piece has the fold of its items by this operator, and 1,024 items at most
 pub record IsFolded (f : Op) (p : FoldedPiece) : Type 0 where
   pub op : p.fold.op ≡ f
   pub stands : FoldStands p.fold (trace (items_in p.items) end.Done)
-  pub few : length (items_in p.items) ≤ 4096
+  pub few : length (items_in p.items) ≤ 1024
   pub places : FitsPlaces p.items
 
 -- for each piece the position of its first item, and the fold of what lies left of it

@@ -5,11 +5,11 @@ ghost use Rattle.trace.specs.declared.item.Item.{Item as item};
 ghost use Rattle.trace.specs.declared.sink.Flow.TheVariants as flows;
 
 use crate::folded_piece::MOST_ITEMS;
-use batch_eval::{Batch, BatchSink, PlacedValues};
+use batch_eval::{Batch, BatchSink};
 use std::marker::Model;
-use trace::{Fed, Flow, Item, LongSink, NoMemory};
+use trace::{Fed, Flow, Item, LongSink, NoMemory, PlacedValues};
 
-/// Up to 4,096 values. Contracts see the list of them.
+/// Up to 1,024 values. Contracts see the list of them.
 ///
 /// As a sink it takes the values of items, as long as there is space for them. It needs no memory.
 #[derive(Drop)]
@@ -25,7 +25,7 @@ impl Model for Buffer {
 
     ghost view = { λ buffer. take buffer.count buffer.values };
 
-    ghost invariant = { λ buffer. buffer.count ≤ 4096 };
+    ghost invariant = { λ buffer. buffer.count ≤ 1024 };
 }
 
 impl Buffer {
@@ -41,7 +41,7 @@ impl Buffer {
 
     /// Adds values after the others, if there is space for them.
     fn add(&mut self, values: &[i64])
-        ensures { length self.old + length values.now ≤ 4096 → self.new ≡ self.old ++ values.now }
+        ensures { length self.old + length values.now ≤ 1024 → self.new ≡ self.old ++ values.now }
     {
         let count = self.count;
         if values.len() > MOST_ITEMS - count {
@@ -60,7 +60,7 @@ impl Buffer {
 }
 
 impl LongSink for Buffer {
-    ghost has_taken = { λ buffer items. length items ≤ 4096 → buffer ≡ map (λ x. x.value) items };
+    ghost has_taken = { λ buffer items. length items ≤ 1024 → buffer ≡ map (λ x. x.value) items };
 
     ghost flow = { λ _. flows.More };
 

@@ -7,10 +7,10 @@ ghost use Rattle.prefix_walks.specs.Maps.{ArePlain, ArePlain-prop, IsPlain, IsPl
 
 use crate::buffer::Buffer;
 use crate::faultless::{is_total, is_total_by};
-use batch_eval::{Pipeline, PlacedValues, Registers, feed_at_once};
+use batch_eval::{Pipeline, Registers, feed_at_once};
 use lambda_values::{BinaryOperator, BoolExpr, Env, Faults, LongExpr};
 use std::alloc::Global;
-use trace::Stage;
+use trace::{PlacedValues, Stage};
 
 /// How many operators the maps have at most. What they make of a value is computed twice: for the fold of a piece, and
 /// where the piece is read. Up to about this many, that takes less time than to write 8 bytes for each value and to
@@ -45,7 +45,7 @@ impl<'a> Maps<'a> {
 
     /// Puts what the maps make of each value in its place.
     pub(crate) fn apply(&self, values: &mut [i64], registers: &mut Registers)
-        requires { length values.old ≤ 4096 }
+        requires { length values.old ≤ 1024 }
         ensures { values.new ≡ images (stages_of self.now.stages.now) values.old }
     {
         if self.is_empty() {
@@ -58,7 +58,7 @@ impl<'a> Maps<'a> {
 
     /// Puts what the maps make of each value into a buffer.
     fn put_images(&self, values: &[i64], registers: &mut Registers, buffer: &mut Buffer)
-        requires few { length values.now ≤ 4096 }
+        requires few { length values.now ≤ 1024 }
         requires none { buffer.old ≡ [] }
         ensures { buffer.new ≡ images (stages_of self.now.stages.now) values.now }
     {
@@ -147,10 +147,10 @@ fn after_test(test: &BoolExpr, operators: u32) -> Option<u32>
     }
 }
 
-/// For how many operators one counts: a division for more than the maps may have.
+/// For how many operators one counts: a division by a number for three, since it takes as long.
 fn cost(operator: BinaryOperator) -> u32 {
     match operator.faults() {
-        Faults::ByZero => MOST_OPERATORS + 1,
+        Faults::ByZero => 3,
         Faults::Never | Faults::Overflow => 1,
     }
 }

@@ -1,6 +1,7 @@
 //! Pieces of a walk with their folds.
 
-ghost use Rattle.std.specs.Prelude.{◌≡◌, ◌+◌, ◌<◌, ◌≤◌, ◌^◌, ◌++◌, ℕ, ℤ, pos, ◌+ℤ◌, FitsSigned, true, false, Ok, length, OnOk, OnErr, IfOk};
+ghost use Rattle.std.specs.Prelude.{◌≡◌, ◌+◌, ◌<◌, ◌≤◌, ◌^◌, ◌++◌, ℕ, ℤ, pos, ◌+ℤ◌};
+ghost use Rattle.std.specs.Prelude.{FitsSigned, true, false, Ok, length, OnOk, OnErr, IfOk};
 ghost use Rattle.std.specs.Int.{w64};
 ghost use Rattle.trace.specs.Cover.{counted, placed};
 ghost use Rattle.trace.specs.Stages.{stages_of};
@@ -22,7 +23,7 @@ use std::alloc::Global;
 use trace::{Item, NoMemory, SourceItems};
 
 /// How many items a piece has at most. Whoever goes over a piece scans it in a buffer of this size.
-pub(crate) const MOST_ITEMS: usize = 4_096;
+pub(crate) const MOST_ITEMS: usize = 1_024;
 
 /// Items side by side, and their fold.
 #[derive(Drop)]
@@ -47,7 +48,7 @@ impl<'a> FoldedPiece<'a> {
         fold: Partial,
     ) -> Result<FoldedPiece<'a>, NoMemory>
         requires fold { (fold.op ≡ op) × FoldStands fold (trace (I.items source.now) end.Done) }
-        requires few { length (I.items source.now) ≤ 4096 }
+        requires few { length (I.items source.now) ≤ 1024 }
         ensures items { IfOk result (λ piece. items_of piece ≡ I.items source.now) }
         ensures folded { IfOk result (λ piece. IsFolded op piece) }
     {
@@ -67,7 +68,7 @@ impl<'a> FoldedPiece<'a> {
         place: u64,
         values: &[i64],
     ) -> Result<FoldedPiece<'a>, NoMemory>
-        requires few { length values.now ≤ 4096 }
+        requires few { length values.now ≤ 1024 }
         requires places { place + length values.now ≤ 2 ^ 62 }
         ensures items { IfOk result (λ piece. items_of piece ≡ placed place values.now) }
         ensures folded { IfOk result (λ piece. IsFolded op piece) }
@@ -89,7 +90,7 @@ impl<'a> FoldedPiece<'a> {
         values: &'a [i64],
         registers: &mut Registers,
     ) -> FoldedPiece<'a>
-        requires few { length values.now ≤ 4096 }
+        requires few { length values.now ≤ 1024 }
         requires places { place + length values.now ≤ 2 ^ 62 }
         ensures items { items_of result ≡ imaged (stages_of maps.entry.stages.now) (placed place values.now) }
         ensures folded { IsFolded op result }
@@ -112,10 +113,11 @@ impl<'a> FoldedPiece<'a> {
         count: u64,
         registers: &mut Registers,
     ) -> FoldedPiece<'a>
-        requires few { count ≤ 4096 }
+        requires few { count ≤ 1024 }
         requires places { place + count ≤ 2 ^ 62 }
         requires fits { (i : ℕ) → i < count → FitsSigned w64 (first +ℤ pos i) }
-        ensures items { items_of result ≡ imaged (stages_of maps.entry.stages.now) (placed place (counted first count)) }
+        ensures items { items_of result ≡ imaged (stages_of maps.entry.stages.now)
+            (placed place (counted first count)) }
         ensures folded { IsFolded op result }
     {
         let values = RunValues::Counted { maps, first, count };
@@ -149,7 +151,7 @@ impl<'a> FoldedPiece<'a> {
         requires folded { IsFolded op self.old }
         requires fold { (fold.op ≡ op) × FoldStands fold (trace (I.items source.now) end.Done) }
         requires count { length (I.items source.now) ≡ count }
-        requires few { count ≤ 4096 }
+        requires few { count ≤ 1024 }
         ensures added { result ≡ Ok true → items_of self.new ≡ items_of self.old ++ I.items source.now }
         ensures other { (result ≡ Ok true → ⊥) → items_of self.new ≡ items_of self.old }
         ensures folded { IsFolded op self.new }
@@ -169,7 +171,7 @@ impl<'a> FoldedPiece<'a> {
     /// them or doesn't store values up to that place. If an allocation fails, the piece stays as it was.
     pub(crate) fn add_run(&mut self, op: Op, place: u64, values: &[i64]) -> Result<bool, NoMemory>
         requires folded { IsFolded op self.old }
-        requires few { length values.now ≤ 4096 }
+        requires few { length values.now ≤ 1024 }
         requires places { place + length values.now ≤ 2 ^ 62 }
         ensures added { result ≡ Ok true → items_of self.new ≡ items_of self.old ++ placed place values.now }
         ensures other { (result ≡ Ok true → ⊥) → items_of self.new ≡ items_of self.old }
@@ -192,12 +194,13 @@ impl<'a> FoldedPiece<'a> {
     }
 }
 
-/// From this many items on a batch is one of several of a walk: then a new piece gets space for all that it may have.
+/// From this many items on a batch is one of several of a walk. If another one fits into its piece, the piece gets
+/// space for all that it may have.
 const LARGE_BATCH: usize = 256;
 
 /// For how many items a new piece gets space, if it begins with this many.
 fn space_for(count: usize) -> usize {
-    if count < LARGE_BATCH {
+    if count < LARGE_BATCH || count > MOST_ITEMS / 2 {
         count
     } else {
         MOST_ITEMS

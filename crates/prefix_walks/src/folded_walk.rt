@@ -20,10 +20,10 @@ use crate::prefix::Prefix;
 use crate::run_values::RunValues;
 use crate::spans::within;
 use crate::window::Window;
-use batch_eval::{BatchSink, Pipeline, PlacedValues, Registers, feed_batches};
+use batch_eval::{BatchSink, Pipeline, Registers, feed_at_once, feed_batches};
 use prefix_scan::{cut_to, scan_items, scan_values};
 use reduce_ops::Op;
-use trace::{Fed, Flow, Item, NoMemory};
+use trace::{Fed, Flow, Item, NoMemory, PlacedValues};
 
 /// A prefix from a position on; `start` is the fold of what lies left of it.
 #[derive(Clone, Copy)]
@@ -61,7 +61,8 @@ pub(crate) fn feed_piece<S: BatchSink>(
     requires wants { S.flow sink.old ≡ Flow.More }
     requires folded { IsFolded scan.prefix.op piece.now }
     ensures fed { (xs : List item) → S.has_taken sink.old xs → IsFed S.has_taken xs
-        (piped line.entry (trace (elements window.from window.to (scan_at (value_of scan.prefix.op) scan.prefix.range scan.position scan.start (items_of piece.now))) end.Done)) result sink.new }
+        (piped line.entry (trace (elements window.from window.to (scan_at (value_of scan.prefix.op)
+        scan.prefix.range scan.position scan.start (items_of piece.now))) end.Done)) result sink.new }
     ensures flow { S.flow sink.new ≡ flow_after result }
     ensures refused { OnErr result S.takes_memory }
 {
@@ -93,9 +94,11 @@ fn feed_listed<S: BatchSink>(
     sink: &mut S,
 ) -> Result<Fed, NoMemory>
     requires wants { S.flow sink.old ≡ Flow.More }
-    requires few { length items.now ≤ 4096 }
+    requires few { length items.now ≤ 1024 }
     ensures fed { (xs : List item) → S.has_taken sink.old xs → IsFed S.has_taken xs
-        (piped line.entry (trace (elements window.from window.to (scan_at (value_of scan.op) scan.at 0 scan.start items.now)) end.Done)) result sink.new }
+        (piped line.entry
+        (trace (elements window.from window.to (scan_at (value_of scan.op) scan.at 0 scan.start items.now)) end.Done))
+        result sink.new }
     ensures flow { S.flow sink.new ≡ flow_after result }
     ensures refused { OnErr result S.takes_memory }
 {
@@ -129,10 +132,11 @@ fn feed_run<S: BatchSink>(
     sink: &mut S,
 ) -> Result<Fed, NoMemory>
     requires wants { S.flow sink.old ≡ Flow.More }
-    requires few { length (run_values run.values.now) ≤ 4096 }
+    requires few { length (run_values run.values.now) ≤ 1024 }
     requires fits { FitsRun run.place run.values.now }
     ensures fed { (xs : List item) → S.has_taken sink.old xs → IsFed S.has_taken xs
-        (piped line.entry (trace (elements window.from window.to (scan_at (value_of scan.op) scan.at 0 scan.start (placed run.entry.place (run_values run.entry.values.now)))) end.Done)) result sink.new }
+        (piped line.entry (trace (elements window.from window.to (scan_at (value_of scan.op) scan.at 0 scan.start
+        (placed run.entry.place (run_values run.entry.values.now)))) end.Done)) result sink.new }
     ensures flow { S.flow sink.new ≡ flow_after result }
     ensures refused { OnErr result S.takes_memory }
 {
@@ -149,11 +153,12 @@ fn scan_run(
     registers: &mut Registers,
 ) -> usize
     requires fits { Fits values.now }
-    requires few { length (run_values values.now) ≤ 4096 }
+    requires few { length (run_values values.now) ≤ 1024 }
     requires space { length (run_values values.now) ≤ length buffer.old }
     ensures count { result ≡ length (run_values values.now) }
     ensures size { length buffer.new ≡ length buffer.old }
-    ensures items { (place : ℕ) → placed place (take result buffer.new) ≡ scan_at (value_of scan.op) scan.at 0 scan.start (placed place (run_values values.now)) }
+    ensures items { (place : ℕ) → placed place (take result buffer.new)
+        ≡ scan_at (value_of scan.op) scan.at 0 scan.start (placed place (run_values values.now)) }
 {
     let count = values.count();
     values.copy_to(buffer, registers);
@@ -179,7 +184,11 @@ fn feed_placed<S: BatchSink>(
 {
     let (start, count) = within(window.from, window.to, values.len() as u64);
     let values = &values[start as usize..(start + count) as usize];
-    feed_values(line, place + start, values, registers, sink)
+    let items = PlacedValues {
+        origin: place + start,
+        values,
+    };
+    feed_at_once(line, &items, registers, sink)
 }
 
 /// Takes values. The first one has the place `origin`.

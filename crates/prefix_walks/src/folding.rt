@@ -1,7 +1,8 @@
 //! Folds of the values of a batch, or of those whose flag is set: one loop, compiled for each operator.
 
 ghost use Rattle.batch_eval.specs.Batches.{flagged_values};
-ghost use Rattle.std.specs.Prelude.{◌≡◌, ◌≤◌, ℤ, IfSome, List, Option, Some, true, fold, length, map};
+ghost use Rattle.batch_eval.specs.MadeFlags.{flags_of};
+ghost use Rattle.std.specs.Prelude.{◌≡◌, ◌≤◌, IfSome, List, Some, fold, length, map};
 ghost use Rattle.trace.specs.declared.item.End.TheVariants as end;
 ghost use Rattle.trace.specs.declared.item.Item.{Item as item};
 ghost use Rattle.trace.specs.Trace.{trace};
@@ -10,15 +11,31 @@ ghost use Rattle.reduce_ops.specs.Parts.{StandsFor};
 ghost use Rattle.prefix_scan.specs.Scans.{joined_value};
 ghost use Rattle.prefix_walks.specs.Batches.{counted_as, each_one, folded_values};
 
-use batch_eval::is_set;
-use reduce_ops::{Op, Partial, operators_are_associative};
+use batch_eval::Flags;
+use reduce_ops::{Op, Partial};
 use trace::{End, Item};
+
+/// Does this with an operator that a compiler knows: a loop in it is compiled for each of them.
+macro_rules! with_known {
+    ($op:expr, $known:ident => $done:expr) => {
+        with_known!($op, $known => $done, Sum Min Max Product And Or Xor Affine First Last)
+    };
+    ($op:expr, $known:ident => $done:expr, $($name:ident)*) => {
+        match $op {
+            $(Op::$name => {
+                let $known = Op::$name;
+                $done
+            })*
+        }
+    };
+}
 
 /// The fold of values, or of a 1 for each of them.
 pub fn folded(op: Op, counts: bool, values: &[i64]) -> Partial
     ensures op { result.op ≡ op }
     ensures ending { result.end ≡ end.Done }
-    ensures stands { (xs : List item) → map (λ x. x.value) xs ≡ values.now → StandsFor result (trace (counted_as counts xs) end.Done) }
+    ensures stands { (xs : List item) → map (λ x. x.value) xs ≡ values.now
+        → StandsFor result (trace (counted_as counts xs) end.Done) }
 {
     match fold_values(op, counts, values) {
         Some(value) => Partial::of(op, Item { origin: 0, value }),
@@ -30,18 +47,7 @@ pub fn folded(op: Op, counts: bool, values: &[i64]) -> Partial
 fn fold_values(op: Op, counts: bool, values: &[i64]) -> Option<i64>
     ensures { result ≡ folded_values (value_of op) counts values.now }
 {
-    match op {
-        Op::Sum => fold_each(Op::Sum, counts, values),
-        Op::Min => fold_each(Op::Min, counts, values),
-        Op::Max => fold_each(Op::Max, counts, values),
-        Op::Product => fold_backwards(Op::Product, counts, values),
-        Op::And => fold_each(Op::And, counts, values),
-        Op::Or => fold_each(Op::Or, counts, values),
-        Op::Xor => fold_each(Op::Xor, counts, values),
-        Op::Affine => fold_backwards(Op::Affine, counts, values),
-        Op::First => fold_each(Op::First, counts, values),
-        Op::Last => fold_each(Op::Last, counts, values),
-    }
+    with_known!(op, known => fold_each(known, counts, values))
 }
 
 /// The fold of values, or of a 1 for each of them, by one operator, from the first value to the last one; `None`
@@ -51,81 +57,6 @@ fn fold_each(op: Op, counts: bool, values: &[i64]) -> Option<i64>
 {
     let (first, later) = values.split_first()?;
     Some(fold_from(op, counts, counted_value(counts, *first), later))
-}
-
-/// How many of the last values `fold_backwards` folds first. A product is 0 modulo 2^64 once its values have 64 factors
-/// of 2. Of integers that count up 66 always have them, of others 98 nearly always. Half of them are 48 after a first
-/// value, a multiple of what a loop over vectors takes at a time.
-const LAST_BLOCK: usize = 98;
-
-/// How many times as long as a block the one before it is. So a batch has two blocks at most, and if all its values
-/// count, the loop over the long one is nearly as fast as one over all. Blocks of one length took up to twice as long.
-const BLOCK_GROWTH: usize = 16;
-
-/// The fold of values, from the last ones backwards, a block at a time, until no value before can change it. It is for
-/// the operators that multiply: the loops of the others are as fast as reading the values. The fold of the batches
-/// before isn't looked at: where it is 0, the last block of this batch is nearly always 0, too.
-fn fold_backwards(op: Op, counts: bool, values: &[i64]) -> Option<i64>
-    ensures { result ≡ folded_values (value_of op) counts values.now }
-{
-    operators_are_associative();
-    let mut folded = None;
-    let mut end = values.len();
-    let mut size = LAST_BLOCK;
-    while end > 0 {
-        let start = end.saturating_sub(size);
-        let block = fold_block(op, counts, &values[start..end]);
-        folded = joined(op, block, folded);
-        if hides_what_comes_before(op, folded) {
-            return folded;
-        }
-        end = start;
-        size = size.saturating_mul(BLOCK_GROWTH);
-    }
-    folded
-}
-
-/// Whether no value before some values can change their fold: a product that is 0, and an affine map whose factor is 0.
-fn hides_what_comes_before(op: Op, folded: Option<i64>) -> bool
-    ensures { result ≡ true → (a : Option ℤ) → joined_value (value_of op) a folded ≡ folded }
-{
-    match (op, folded) {
-        (Op::Product, Some(value)) => value == 0,
-        (Op::Affine, Some(value)) => value >= 0 && value < 4_294_967_296,
-        _ => false,
-    }
-}
-
-/// The fold of a block, by halves.
-fn fold_block(op: Op, counts: bool, values: &[i64]) -> Option<i64>
-    ensures { result ≡ folded_values (value_of op) counts values.now }
-{
-    let (first, later) = values.split_first()?;
-    Some(fold_halves(op, counts, counted_value(counts, *first), later))
-}
-
-/// Folds values onto a start, each half of them by itself: so no product of one half waits for one of the other. The
-/// halves are merged in their order, since every operator is associative, but not every one is commutative.
-fn fold_halves(op: Op, counts: bool, start: i64, values: &[i64]) -> i64
-    ensures { result ≡ fold (λ a v. value_of op a (each_one counts v)) start values.now }
-{
-    operators_are_associative();
-    let half = values.len().saturating_sub(1) / 2;
-    let (near, others) = values.split_at(half);
-    let Some((first, after)) = others.split_first() else {
-        return start;
-    };
-    let (far, rest) = after.split_at(half);
-    let mut left = start;
-    let mut right = counted_value(counts, *first);
-    for lane in 0..half {
-        let next = counted_value(counts, near[lane]);
-        let other = counted_value(counts, far[lane]);
-        left = op.apply(left, next);
-        right = op.apply(right, other);
-    }
-    let whole = fold_from(op, counts, right, rest);
-    op.apply(left, whole)
 }
 
 /// Folds values onto a start.
@@ -139,13 +70,14 @@ fn fold_from(op: Op, counts: bool, start: i64, values: &[i64]) -> i64
     folded
 }
 
-/// The fold of the values whose flag isn't 0, or of a 1 for each of them. `None` if the operator has no identity, which
+/// The fold of the values whose flag is set, or of a 1 for each of them. `None` if the operator has no identity, which
 /// the fold puts in the place of the other values.
-pub fn folded_flagged(op: Op, counts: bool, values: &[i64], flags: &[i64]) -> Option<Partial>
-    requires { length flags.now ≤ length values.now }
+pub fn folded_flagged(op: Op, counts: bool, values: &[i64], flags: Flags<'_>) -> Option<Partial>
+    requires { length (flags_of flags) ≤ length values.now }
     ensures op { IfSome result (λ right. right.op ≡ op) }
     ensures ending { IfSome result (λ right. right.end ≡ end.Done) }
-    ensures stands { IfSome result (λ right. (xs : List item) → map (λ x. x.value) xs ≡ flagged_values values.now flags.now (length flags.now)
+    ensures stands { IfSome result (λ right. (xs : List item)
+        → map (λ x. x.value) xs ≡ flagged_values values.now (flags_of flags.entry) (length (flags_of flags.entry))
         → StandsFor right (trace (counted_as counts xs) end.Done)) }
 {
     let identity = op.identity()?;
@@ -155,76 +87,55 @@ pub fn folded_flagged(op: Op, counts: bool, values: &[i64], flags: &[i64]) -> Op
     })
 }
 
-/// The fold of the values whose flag isn't 0, or of a 1 for each of them, as a number; `None` if no flag is set. The loops
-/// know their identity, and whether they count.
-fn fold_flagged(op: Op, counts: bool, identity: i64, values: &[i64], flags: &[i64]) -> Option<i64>
-    requires identity { identity_of op ≡ Some identity }
-    requires values { length flags.now ≤ length values.now }
-    ensures { result ≡ folded_values (value_of op) counts (flagged_values values.now flags.now (length flags.now)) }
-{
-    match op {
-        Op::Sum if counts => fold_each_flagged(Op::Sum, true, 0, values, flags),
-        Op::Sum => fold_each_flagged(Op::Sum, false, 0, values, flags),
-        Op::Min => fold_each_flagged(Op::Min, counts, i64::MAX, values, flags),
-        Op::Max => fold_each_flagged(Op::Max, counts, i64::MIN, values, flags),
-        Op::Product => fold_flagged_backwards(Op::Product, counts, 1, values, flags),
-        Op::And => fold_each_flagged(Op::And, counts, -1, values, flags),
-        Op::Or => fold_each_flagged(Op::Or, counts, 0, values, flags),
-        Op::Xor => fold_each_flagged(Op::Xor, counts, 0, values, flags),
-        Op::Affine => fold_flagged_backwards(Op::Affine, counts, 1 << 32, values, flags),
-        Op::First => fold_each_flagged(Op::First, counts, identity, values, flags),
-        Op::Last => fold_each_flagged(Op::Last, counts, identity, values, flags),
-    }
-}
-
-/// The fold of the values whose flag isn't 0, by one operator, from the last values backwards, as in `fold_backwards`;
-/// `None` if no flag is set.
-fn fold_flagged_backwards(
+/// The fold of the values whose flag is set, or of a 1 for each of them, as a number; `None` if no flag is set. A loop
+/// knows its operator and whether it counts.
+fn fold_flagged(
     op: Op,
     counts: bool,
     identity: i64,
     values: &[i64],
-    flags: &[i64],
+    flags: Flags<'_>,
 ) -> Option<i64>
     requires identity { identity_of op ≡ Some identity }
-    requires values { length flags.now ≤ length values.now }
-    ensures { result ≡ folded_values (value_of op) counts (flagged_values values.now flags.now (length flags.now)) }
+    requires values { length (flags_of flags) ≤ length values.now }
+    ensures { result ≡ folded_values (value_of op) counts
+        (flagged_values values.now (flags_of flags.entry) (length (flags_of flags.entry))) }
 {
-    operators_are_associative();
-    let mut folded = None;
-    let mut end = flags.len();
-    let mut size = LAST_BLOCK;
-    while end > 0 {
-        let start = end.saturating_sub(size);
-        let (values, flags) = (&values[start..end], &flags[start..end]);
-        let block = fold_each_flagged(op, counts, identity, values, flags);
-        folded = joined(op, block, folded);
-        if hides_what_comes_before(op, folded) {
-            return folded;
-        }
-        end = start;
-        size = size.saturating_mul(BLOCK_GROWTH);
+    match op {
+        Op::Sum if counts => fold_each_flagged(Op::Sum, true, 0, values, flags),
+        _ if counts => fold_each_flagged(op, true, identity, values, flags),
+        _ => with_known!(op, known => {
+            fold_each_flagged(known, false, known_identity(known, identity), values, flags)
+        }),
     }
-    folded
 }
 
-/// The fold of the values whose flag isn't 0, by one operator; `None` if no flag is set. For a value whose flag isn't
+/// The identity of an operator, which a compiler knows if it knows the operator.
+fn known_identity(op: Op, identity: i64) -> i64
+    requires { identity_of op ≡ Some identity }
+    ensures { result ≡ identity }
+{
+    op.identity().unwrap_or(identity)
+}
+
+/// The fold of the values whose flag is set, by one operator; `None` if no flag is set. For a value whose flag isn't
 /// set it folds the identity. It reads each value before it looks at the flag, so no lane needs a branch.
 fn fold_each_flagged(
     op: Op,
     counts: bool,
     identity: i64,
     values: &[i64],
-    flags: &[i64],
+    flags: Flags<'_>,
 ) -> Option<i64>
     requires identity { identity_of op ≡ Some identity }
-    requires values { length flags.now ≤ length values.now }
-    ensures { result ≡ folded_values (value_of op) counts (flagged_values values.now flags.now (length flags.now)) }
+    requires values { length (flags_of flags) ≤ length values.now }
+    ensures { result ≡ folded_values (value_of op) counts
+        (flagged_values values.now (flags_of flags.entry) (length (flags_of flags.entry))) }
 {
     let mut missed: usize = 0;
     let mut folded = identity;
     for lane in 0..flags.len() {
-        let passes = is_set(flags[lane]);
+        let passes = flags.is_set(lane);
         missed += if passes { 0 } else { 1 };
         let taken = counted_value(counts, values[lane]);
         let value = if passes { taken } else { identity };

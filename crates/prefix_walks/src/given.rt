@@ -13,8 +13,8 @@ const MOST_PIECES: usize = 8_192;
 
 /// A walk that was kept, as the source of another one, in which any number of callers look for their positions.
 ///
-/// Contracts see the trace of the walk that was kept. It has at most 8,192 pieces if there was memory to make it so, and
-/// knows how many items it has. After a prefix it may borrow the sources of the job.
+/// Contracts see the trace of the walk that was kept. It has at most 8,192 pieces if there was memory to make it so,
+/// and knows how many items it has. After a prefix it may borrow the sources of the job.
 #[derive(Drop)]
 pub struct GivenWalk<'a> {
     pub(crate) kept: Kept<'a>,

@@ -11,7 +11,7 @@ ghost use Rattle.prefix_walks.specs.Pieces.{elements};
 use crate::pieces::ItemPiece;
 use crate::spans::within;
 use crate::window::Window;
-use batch_eval::{BatchSink, Pipeline, Registers, feed_batches};
+use batch_eval::{BatchSink, Pipeline, Registers, feed_at_once};
 use trace::{Fed, Flow, Item, NoMemory};
 
 /// Takes the items at these positions of pieces. It looks for the first of them once, and at no piece after the last
@@ -25,7 +25,8 @@ pub(crate) fn feed_pieces<S: BatchSink>(
 ) -> Result<Fed, NoMemory>
     requires wants { S.flow sink.old ≡ Flow.More }
     ensures fed { (xs : List item) → S.has_taken sink.old xs → IsFed S.has_taken xs
-        (piped line.entry (trace (elements window.from window.to (flat_map (λ piece. piece.items) pieces.now)) end.Done)) result sink.new }
+        (piped line.entry (trace (elements window.from window.to (flat_map (λ piece. piece.items) pieces.now))
+        end.Done)) result sink.new }
     ensures flow { S.flow sink.new ≡ flow_after result }
     ensures refused { OnErr result S.takes_memory }
 {
@@ -68,7 +69,8 @@ fn feed_from<S: BatchSink>(
 ) -> Result<Fed, NoMemory>
     requires wants { S.flow sink.old ≡ Flow.More }
     ensures fed { (xs : List item) → S.has_taken sink.old xs → IsFed S.has_taken xs
-        (piped line.entry (trace (elements window.from window.to (flat_map (λ piece. piece.items) pieces.now)) end.Done)) result sink.new }
+        (piped line.entry (trace (elements window.from window.to (flat_map (λ piece. piece.items) pieces.now))
+        end.Done)) result sink.new }
     ensures flow { S.flow sink.new ≡ flow_after result }
     ensures refused { OnErr result S.takes_memory }
 {
@@ -103,5 +105,5 @@ pub(crate) fn feed_items<S: BatchSink>(
 {
     let (start, count) = within(window.from, window.to, items.len() as u64);
     let items = &items[start as usize..(start + count) as usize];
-    feed_batches(line, &ItemPiece { items }, registers, sink)
+    feed_at_once(line, &ItemPiece { items }, registers, sink)
 }

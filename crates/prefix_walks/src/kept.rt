@@ -6,8 +6,8 @@ use trace::Chunk;
 /// What is kept of a walk.
 #[derive(Drop)]
 pub enum Kept<'a> {
-    /// Its items, after a slice.
+    /// The items that a slice lets pass.
     Items(Chunk),
-    /// After a prefix: items that are scanned as they are walked.
+    /// What comes before a prefix, scanned as it is walked.
     Scanned(ScannedWalk<'a>),
 }

@@ -97,7 +97,7 @@ fn holds_none(range: Option<(u64, u64)>) -> bool
 /// The fold of values.
 pub(crate) fn fold_run(op: Op, values: &RunValues, registers: &mut Registers) -> Partial
     requires fits { Fits values.now }
-    requires few { length (run_values values.now) ≤ 4096 }
+    requires few { length (run_values values.now) ≤ 1024 }
     ensures op { result.op ≡ op }
     ensures stands { (place : ℕ) → FoldStands result (trace (placed place (run_values values.now)) end.Done) }
 {
@@ -118,7 +118,7 @@ fn fold_run_at(
     registers: &mut Registers,
 ) -> Option<i64>
     requires fits { Fits values.now }
-    requires few { length (run_values values.now) ≤ 4096 }
+    requires few { length (run_values values.now) ≤ 1024 }
     ensures { (place : ℕ) → result ≡ fold_at (value_of op) range 0 start (placed place (run_values values.now)) }
 {
     let mut buffer = [0i64; MOST_ITEMS];

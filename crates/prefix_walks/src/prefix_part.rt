@@ -24,7 +24,7 @@ use trace::{Chunk, End, Fault, NoMemory, RangeItems, SourceItems};
 
 /// The items of a piece for a prefix, the stage with this number, and how the walk ended. Contracts see just that.
 ///
-/// The items lie in pieces of 4,096 at most, each with its fold; joining two parts moves the pieces and no item. Values
+/// The items lie in pieces of 1,024 at most, each with its fold; joining two parts moves the pieces and no item. Values
 /// of a source are lent if only cheap maps come before the prefix, which then go over them once more where they are
 /// read; of other items at places that count up the values alone are stored.
 #[derive(Drop)]
@@ -42,7 +42,8 @@ impl<'a> Model for PrefixPart<'a> {
 
     ghost Value = { AbstractScan };
 
-    ghost view = { λ part. scan part.prefix.op part.prefix.range part.stage (trace (all_items part.pieces.items) part.end) };
+    ghost view = { λ part.
+        scan part.prefix.op part.prefix.range part.stage (trace (all_items part.pieces.items) part.end) };
 
     ghost invariant = { λ part. All (IsFolded part.prefix.op) part.pieces.items };
 }
@@ -88,7 +89,8 @@ impl<'a> PrefixPart<'a> {
     ) -> Result<(), NoMemory>
         requires open { self.old.walk.ending ≡ end.Done }
         requires places { place + length values.now ≤ 2 ^ 62 }
-        ensures { OnOk result (self.new ≡ scan_append self.old (trace (imaged (stages_of maps.entry.stages.now) (placed place values.now)) end.Done)) }
+        ensures { OnOk result (self.new ≡ scan_append self.old
+            (trace (imaged (stages_of maps.entry.stages.now) (placed place values.now)) end.Done)) }
     {
         add_lent(
             &mut self.pieces,
@@ -108,7 +110,8 @@ impl<'a> PrefixPart<'a> {
         registers: &mut Registers,
     ) -> Result<(), NoMemory>
         requires open { self.old.walk.ending ≡ end.Done }
-        ensures { OnOk result (self.new ≡ scan_append self.old (trace (imaged (stages_of maps.entry.stages.now) (placed range.now.origin (counted range.now.first range.now.count))) end.Done)) }
+        ensures { OnOk result (self.new ≡ scan_append self.old (trace (imaged (stages_of maps.entry.stages.now)
+            (placed range.now.origin (counted range.now.first range.now.count))) end.Done)) }
     {
         add_range(&mut self.pieces, self.prefix.op, maps, range, registers)
     }
@@ -153,7 +156,8 @@ impl<'a> PrefixPart<'a> {
 
     /// The walk that the prefix gives. A fault leaves no items, and so does a range that ends after the last item.
     pub fn finish(self, alloc: Global) -> Result<GivenWalk<'a>, NoMemory>
-        ensures { IfOk result (λ given. given ≡ prefixed (value_of self.entry.op) self.entry.range self.entry.stage self.entry.walk) }
+        ensures { IfOk result (λ given. given
+            ≡ prefixed (value_of self.entry.op) self.entry.range self.entry.stage self.entry.walk) }
     {
         let PrefixPart {
             prefix,
@@ -176,7 +180,8 @@ fn scanned<'a>(
     pieces: Vec<FoldedPiece<'a>>,
 ) -> Result<GivenWalk<'a>, NoMemory>
     requires { All (IsFolded prefix.op) pieces.items }
-    ensures { IfOk result (λ given. given ≡ prefixed_items (value_of prefix.op) prefix.range stage (all_items pieces.entry.items)) }
+    ensures { IfOk result (λ given. given ≡ prefixed_items (value_of prefix.op) prefix.range stage
+        (all_items pieces.entry.items)) }
 {
     let walk = ScannedWalk::of(alloc, prefix, pieces)?;
     if ends_after(prefix.range, walk.size()) {

@@ -22,9 +22,10 @@ const LEAST_RUN: usize = 16;
 /// The place of the first of this many items, if the places count up and there are enough of them.
 pub(crate) fn run_place<I: SourceItems>(source: &I, count: usize) -> Option<u64>
     requires count { length (I.items source.now) ≡ count }
-    ensures items { IfSome result (λ place. I.items source.now ≡ placed place (map (λ x. x.value) (I.items source.now))) }
+    ensures items { IfSome result (λ place. I.items source.now
+        ≡ placed place (map (λ x. x.value) (I.items source.now))) }
     ensures places { IfSome result (λ place. place + count ≤ 2 ^ 62) }
-    ensures few { IfSome result (λ _. count ≤ 4096) }
+    ensures few { IfSome result (λ _. count ≤ 1024) }
 {
     if count < LEAST_RUN || count > MOST_ITEMS {
         return None;
@@ -49,7 +50,7 @@ pub(crate) fn add_run(
     values: &[i64],
 ) -> Result<(), NoMemory>
     requires folds { All (IsFolded op) pieces.old.items }
-    requires few { length values.now ≤ 4096 }
+    requires few { length values.now ≤ 1024 }
     requires places { place + length values.now ≤ 2 ^ 62 }
     ensures ok { OnOk result (all_items pieces.new.items ≡ all_items pieces.old.items ++ placed place values.now) }
     ensures err { OnErr result (all_items pieces.new.items ≡ all_items pieces.old.items) }
@@ -71,9 +72,10 @@ fn add_run_to_last(
     values: &[i64],
 ) -> Result<bool, NoMemory>
     requires folds { All (IsFolded op) pieces.old.items }
-    requires few { length values.now ≤ 4096 }
+    requires few { length values.now ≤ 1024 }
     requires places { place + length values.now ≤ 2 ^ 62 }
-    ensures added { result ≡ Ok true → all_items pieces.new.items ≡ all_items pieces.old.items ++ placed place values.now }
+    ensures added { result ≡ Ok true
+        → all_items pieces.new.items ≡ all_items pieces.old.items ++ placed place values.now }
     ensures other { (result ≡ Ok true → ⊥) → all_items pieces.new.items ≡ all_items pieces.old.items }
     ensures folds { All (IsFolded op) pieces.new.items }
 {
@@ -120,7 +122,7 @@ fn add_to_last<I: SourceItems>(
     requires folds { All (IsFolded op) pieces.old.items }
     requires fold { (fold.op ≡ op) × FoldStands fold (trace (I.items source.now) end.Done) }
     requires count { length (I.items source.now) ≡ count }
-    requires few { count ≤ 4096 }
+    requires few { count ≤ 1024 }
     ensures added { result ≡ Ok true → all_items pieces.new.items ≡ all_items pieces.old.items ++ I.items source.now }
     ensures other { (result ≡ Ok true → ⊥) → all_items pieces.new.items ≡ all_items pieces.old.items }
     ensures folds { All (IsFolded op) pieces.new.items }
@@ -131,7 +133,7 @@ fn add_to_last<I: SourceItems>(
     }
 }
 
-/// Adds what maps make of values that are lent, at places that count up from this one, in pieces of 4,096.
+/// Adds what maps make of values that are lent, at places that count up from this one, in pieces of 1,024.
 pub(crate) fn add_lent<'a>(
     pieces: &mut Vec<FoldedPiece<'a>>,
     op: Op,
@@ -142,7 +144,8 @@ pub(crate) fn add_lent<'a>(
 ) -> Result<(), NoMemory>
     requires folds { All (IsFolded op) pieces.old.items }
     requires places { place + length values.now ≤ 2 ^ 62 }
-    ensures ok { OnOk result (all_items pieces.new.items ≡ all_items pieces.old.items ++ imaged (stages_of maps.entry.stages.now) (placed place values.now)) }
+    ensures ok { OnOk result (all_items pieces.new.items ≡ all_items pieces.old.items
+        ++ imaged (stages_of maps.entry.stages.now) (placed place values.now)) }
     ensures folds { All (IsFolded op) pieces.new.items }
 {
     let mut taken = 0;
@@ -156,7 +159,7 @@ pub(crate) fn add_lent<'a>(
     Ok(())
 }
 
-/// Adds what maps make of the integers of a range, in pieces of 4,096.
+/// Adds what maps make of the integers of a range, in pieces of 1,024.
 pub(crate) fn add_range<'a>(
     pieces: &mut Vec<FoldedPiece<'a>>,
     op: Op,
@@ -165,7 +168,8 @@ pub(crate) fn add_range<'a>(
     registers: &mut Registers,
 ) -> Result<(), NoMemory>
     requires folds { All (IsFolded op) pieces.old.items }
-    ensures ok { OnOk result (all_items pieces.new.items ≡ all_items pieces.old.items ++ imaged (stages_of maps.entry.stages.now) (placed range.now.origin (counted range.now.first range.now.count))) }
+    ensures ok { OnOk result (all_items pieces.new.items ≡ all_items pieces.old.items ++ imaged
+        (stages_of maps.entry.stages.now) (placed range.now.origin (counted range.now.first range.now.count))) }
     ensures folds { All (IsFolded op) pieces.new.items }
 {
     let mut taken = 0u64;

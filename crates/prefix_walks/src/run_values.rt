@@ -41,12 +41,13 @@ impl RunValues<'_> {
         }
     }
 
-    /// Adds values, if there are `count` before it, these are stored, and there are 4,096 at most after it, and answers
+    /// Adds values, if there are `count` before it, these are stored, and there are 1,024 at most after it, and answers
     /// whether it does. If an allocation fails, the values stay as they were.
     pub(crate) fn add(&mut self, count: u64, values: &[i64]) -> Result<bool, NoMemory>
-        requires few { length values.now ≤ 4096 }
+        requires few { length values.now ≤ 1024 }
         requires fits { Fits self.old }
-        ensures added { result ≡ Ok true → (length (run_values self.old) ≡ count) × (count + length values.now ≤ 4096) × (run_values self.new ≡ run_values self.old ++ values.now) }
+        ensures added { result ≡ Ok true → (length (run_values self.old) ≡ count) × (count + length values.now ≤ 1024)
+            × (run_values self.new ≡ run_values self.old ++ values.now) }
         ensures other { (result ≡ Ok true → ⊥) → run_values self.new ≡ run_values self.old }
         ensures fits { Fits self.new }
     {
@@ -70,7 +71,7 @@ impl RunValues<'_> {
     /// Puts the values at the front of a buffer.
     pub(crate) fn copy_to(&self, buffer: &mut [i64], registers: &mut Registers)
         requires fits { Fits self.now }
-        requires few { length (run_values self.now) ≤ 4096 }
+        requires few { length (run_values self.now) ≤ 1024 }
         requires space { length (run_values self.now) ≤ length buffer.old }
         ensures values { take (length (run_values self.now)) buffer.new ≡ run_values self.now }
         ensures size { length buffer.new ≡ length buffer.old }
@@ -93,8 +94,9 @@ impl RunValues<'_> {
 /// Adds values after stored ones, if there are `count` of these and there is space for more, and answers whether it
 /// does.
 fn add_values(stored: &mut Vec<i64>, count: u64, values: &[i64]) -> Result<bool, NoMemory>
-    requires { length values.now ≤ 4096 }
-    ensures added { result ≡ Ok true → (length stored.old.items ≡ count) × (count + length values.now ≤ 4096) × (stored.new.items ≡ stored.old.items ++ values.now) }
+    requires { length values.now ≤ 1024 }
+    ensures added { result ≡ Ok true → (length stored.old.items ≡ count) × (count + length values.now ≤ 1024)
+        × (stored.new.items ≡ stored.old.items ++ values.now) }
     ensures other { (result ≡ Ok true → ⊥) → stored.new.items ≡ stored.old.items }
 {
     let size = stored.len();
@@ -116,7 +118,7 @@ fn copy_values(values: &[i64], buffer: &mut [i64])
 
 /// Puts what maps make of this many values at the front of a buffer in their place.
 fn map_front(maps: &Maps<'_>, count: usize, buffer: &mut [i64], registers: &mut Registers)
-    requires few { count ≤ 4096 }
+    requires few { count ≤ 1024 }
     requires space { count ≤ length buffer.old }
     ensures values { take count buffer.new ≡ images (stages_of maps.now.stages.now) (take count buffer.old) }
     ensures size { length buffer.new ≡ length buffer.old }

@@ -29,7 +29,8 @@ impl<'a> Model for ScannedWalk<'a> {
 
     ghost view = { λ walk. scanned_walk walk.prefix.op walk.prefix.range walk.pieces.items };
 
-    ghost invariant = { λ walk. IsMarked walk.prefix.op walk.prefix.range walk.pieces.items walk.marks.items walk.size };
+    ghost invariant = { λ walk.
+        IsMarked walk.prefix.op walk.prefix.range walk.pieces.items walk.marks.items walk.size };
 }
 
 impl<'a> ScannedWalk<'a> {

@@ -1,6 +1,7 @@
 //! Given walks, taken through stages; those that a prefix gave are scanned on the way.
 
-ghost use Rattle.std.specs.Prelude.{◌≡◌, ◌+◌, ◌<◌, ◌≤◌, ◌^◌, None, Some, All, IfSome, slice_get, List, length, take, drop, OnErr};
+ghost use Rattle.std.specs.Prelude.{◌≡◌, ◌+◌, ◌<◌, ◌≤◌, ◌^◌, None, Some, All, IfSome};
+ghost use Rattle.std.specs.Prelude.{slice_get, List, length, take, drop, OnErr};
 ghost use Rattle.trace.specs.Sinks.{IsFed, flow_after};
 ghost use Rattle.trace.specs.Trace.{trace};
 ghost use Rattle.trace.specs.declared.item.Item.{Item as item};
@@ -107,7 +108,8 @@ fn feed_from<S: BatchSink>(
     requires folds { All (IsFolded scan.prefix.op) pieces.now }
     requires few { scan.position + length (all_items pieces.now) < 2 ^ 64 }
     ensures fed { (xs : List item) → S.has_taken sink.old xs → IsFed S.has_taken xs
-        (piped line.entry (trace (elements window.from window.to (scan_at (value_of scan.prefix.op) scan.prefix.range scan.position scan.start (all_items pieces.now))) end.Done)) result sink.new }
+        (piped line.entry (trace (elements window.from window.to (scan_at (value_of scan.prefix.op)
+        scan.prefix.range scan.position scan.start (all_items pieces.now))) end.Done)) result sink.new }
     ensures flow { S.flow sink.new ≡ flow_after result }
     ensures refused { OnErr result S.takes_memory }
 {

@@ -24,7 +24,8 @@ impl Window {
 
     /// These positions of the window, as positions of the list itself.
     pub fn within(self, from: u64, to: Option<u64>) -> Window
-        ensures { (xs : List item) → length xs ≤ 2 ^ 62 → elements from to (elements self.from self.to xs) ≡ elements result.from result.to xs }
+        ensures { (xs : List item) → length xs ≤ 2 ^ 62
+            → elements from to (elements self.from self.to xs) ≡ elements result.from result.to xs }
     {
         Window {
             from: self.from.saturating_add(from),

@@ -23,7 +23,8 @@ pub enum Exact {
 impl Exact {
     /// Adds one more item, unless the sum has ended. The terminal is the stage with this number.
     pub fn push(&mut self, stage: u32, item: Item)
-        ensures stands { (t : Trace) → IsExact stage t self.old → IsExact stage (append t (trace (item ∷ []) end.Done)) self.new }
+        ensures stands { (t : Trace) → IsExact stage t self.old
+            → IsExact stage (append t (trace (item ∷ []) end.Done)) self.new }
         ensures search { is_search self.new ≡ is_search self.old }
     {
         if let Exact::Sum(before) = *self {
@@ -34,7 +35,8 @@ impl Exact {
     /// Adds the items of a source, one after the other, unless the sum has ended. The terminal is the stage with this
     /// number.
     pub fn push_all<I: SourceItems>(&mut self, stage: u32, source: &I)
-        ensures stands { (t : Trace) → IsExact stage t self.old → IsExact stage (append t (trace (I.items source.now) end.Done)) self.new }
+        ensures stands { (t : Trace) → IsExact stage t self.old
+            → IsExact stage (append t (trace (I.items source.now) end.Done)) self.new }
         ensures search { is_search self.new ≡ is_search self.old }
     {
         for position in 0..source.count() {
@@ -46,7 +48,8 @@ impl Exact {
     /// the other only if some sum of them is outside 64 bits.
     pub(crate) fn push_values<I: SourceItems>(&mut self, stage: u32, source: &I, values: &[i64])
         requires values { item_values (I.items source.now) ≡ values.now }
-        ensures stands { (t : Trace) → IsExact stage t self.old → IsExact stage (append t (trace (I.items source.now) end.Done)) self.new }
+        ensures stands { (t : Trace) → IsExact stage t self.old
+            → IsExact stage (append t (trace (I.items source.now) end.Done)) self.new }
         ensures search { is_search self.new ≡ is_search self.old }
     {
         let mut piece = ExactPart::none(End::Done);
@@ -59,7 +62,8 @@ impl Exact {
 
     /// Ends the walk so, unless the sum has ended.
     pub fn end_with(&mut self, end: End)
-        ensures stands { (stage : ℕ) (t : Trace) → IsExact stage t self.old → IsExact stage (append t (trace [] end)) self.new }
+        ensures stands { (stage : ℕ) (t : Trace) → IsExact stage t self.old
+            → IsExact stage (append t (trace [] end)) self.new }
         ensures search { is_search self.new ≡ is_search self.old }
     {
         if let Exact::Sum(_) = *self {
@@ -71,7 +75,8 @@ impl Exact {
 
     /// The sum of the walk and of a piece after it.
     pub fn joined(self, piece: ExactPart) -> Exact
-        ensures stands { (stage : ℕ) (t u : Trace) → IsExact stage t self → IsPiece piece u → IsExact stage (append t u) result }
+        ensures stands { (stage : ℕ) (t u : Trace) → IsExact stage t self → IsPiece piece u
+            → IsExact stage (append t u) result }
         ensures ended { is_ended self ≡ true → result ≡ self }
     {
         let Exact::Sum(before) = self else {

@@ -48,7 +48,8 @@ impl ExactPart {
 
     /// Adds the items with these values, after the others, unless a fault has ended the piece.
     pub fn push_all(&mut self, values: &[i64])
-        ensures stands { (t : Trace) (xs : List item) → item_values xs ≡ values.now → IsPiece self.old t → IsPiece self.new (append t (trace xs end.Done)) }
+        ensures stands { (t : Trace) (xs : List item) → item_values xs ≡ values.now → IsPiece self.old t
+            → IsPiece self.new (append t (trace xs end.Done)) }
     {
         let ExactPart::Within { reach, end } = *self else {
             return;

@@ -52,7 +52,8 @@ impl Partial {
         requires { self.old.end ≡ end.Done }
         ensures op { self.new.op ≡ self.old.op }
         ensures ending { self.new.end ≡ self.old.end }
-        ensures stands { (t : Trace) → StandsFor self.old t → StandsFor self.new (append t (trace (item ∷ []) end.Done)) }
+        ensures stands { (t : Trace) → StandsFor self.old t
+            → StandsFor self.new (append t (trace (item ∷ []) end.Done)) }
     {
         self.value = fold_on(self.op, self.value, item.value);
     }
@@ -70,7 +71,8 @@ impl Partial {
     /// The fold of two pieces that lie side by side, of one operator. A fault of the left one ends both.
     pub fn merge(self, right: Partial) -> Partial
         ensures op { result.op ≡ self.op }
-        ensures stands { (a b : Trace) → right.op ≡ self.op → StandsFor self a → StandsFor right b → StandsFor result (append a b) }
+        ensures stands { (a b : Trace) → right.op ≡ self.op → StandsFor self a → StandsFor right b
+            → StandsFor result (append a b) }
     {
         match self.end {
             End::Fault(_) => self,

@@ -1,7 +1,8 @@
 //! How far the sums of values reach.
 
 ghost use Rattle.std.specs.Prelude.{◌≡◌, true, ◌^◌, ◌≤ℤ◌, pos, negsuc};
-ghost use Rattle.reduce_ops.specs.Reaches.{Covers, IsOneSided, IsReach, IsSumFrom, no_reach, reach_beside, reach_in, reach_on};
+ghost use Rattle.reduce_ops.specs.Reaches.{Covers, IsOneSided, IsReach, IsSumFrom};
+ghost use Rattle.reduce_ops.specs.Reaches.{no_reach, reach_beside, reach_in, reach_on};
 
 /// The sum of values, and the least and the greatest of their running sums, 0 among them, which is the sum of none. All
 /// differ by less than 2^64, so that there may be a start in 64 bits from which all sums are in 64 bits.
@@ -16,7 +17,7 @@ pub struct Reach {
 }
 
 impl Reach {
-    /// Of no value.
+    /// The range of the sums of no value.
     pub(crate) fn none() -> Reach
         ensures { reach_in result ≡ no_reach }
     {

@@ -9,7 +9,7 @@ use super::reach::Reach;
 /// Values from -2^49 to 2^49 are small.
 const SMALL: i64 = 562_949_953_421_312;
 
-/// As many small values as this have sums in 64 bits.
+/// The sums of this number of small values stay within 64 bits.
 const FEW: usize = 4_096;
 
 /// The range of the running sums when `values` follow sums with the range `before`. `None` if sums differ by 2^64 or

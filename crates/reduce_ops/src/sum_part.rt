@@ -43,7 +43,8 @@ impl SumPart {
 
     /// Adds one more item, after the others, unless the part is settled. The terminal is the stage with this number.
     pub fn push(&mut self, stage: u32, item: Item)
-        ensures stands { (t : Trace) → StandsFor stage self.old t → StandsFor stage self.new (append t (trace (item ∷ []) end.Done)) }
+        ensures stands { (t : Trace) → StandsFor stage self.old t
+            → StandsFor stage self.new (append t (trace (item ∷ []) end.Done)) }
         ensures search { may_search self.new ≡ may_search self.old }
     {
         match self {
@@ -57,7 +58,8 @@ impl SumPart {
     /// is the stage with this number.
     pub fn push_all<I: SourceItems>(&mut self, stage: u32, source: &I, values: &[i64])
         requires values { item_values (I.items source.now) ≡ values.now }
-        ensures stands { (t : Trace) → StandsFor stage self.old t → StandsFor stage self.new (append t (trace (I.items source.now) end.Done)) }
+        ensures stands { (t : Trace) → StandsFor stage self.old t
+            → StandsFor stage self.new (append t (trace (I.items source.now) end.Done)) }
         ensures search { may_search self.new ≡ may_search self.old }
     {
         match self {
@@ -69,7 +71,8 @@ impl SumPart {
 
     /// Ends the piece so, unless it is settled.
     pub fn end_with(&mut self, end: End)
-        ensures stands { (stage : ℕ) (t : Trace) → StandsFor stage self.old t → StandsFor stage self.new (append t (trace [] end)) }
+        ensures stands { (stage : ℕ) (t : Trace) → StandsFor stage self.old t
+            → StandsFor stage self.new (append t (trace [] end)) }
         ensures search { may_search self.new ≡ may_search self.old }
     {
         match self {
@@ -81,7 +84,8 @@ impl SumPart {
 
     /// The part of two pieces that lie side by side.
     pub fn merge(self, right: SumPart) -> SumPart
-        ensures stands { (stage : ℕ) (a b : Trace) → StandsFor stage self a → StandsFor stage right b → StandsFor stage result (append a b) }
+        ensures stands { (stage : ℕ) (a b : Trace) → StandsFor stage self a → StandsFor stage right b
+            → StandsFor stage result (append a b) }
         ensures kind { is_piece self ≡ true → is_piece right ≡ true → is_piece result ≡ true }
         ensures first { is_running self ≡ true → is_piece right ≡ true → is_running result ≡ true }
     {
@@ -95,7 +99,8 @@ impl SumPart {
     /// The sum of the whole stream from 0 on, or the fault that ended it. `None` if the stream has to be walked once
     /// more, in order.
     pub fn finish(self) -> Option<Result<i64, Fault>>
-        ensures some { IfSome result (λ sum. (stage : ℕ) (t : Trace) → StandsFor stage self t → sum ≡ exact_sum stage t) }
+        ensures some { IfSome result (λ sum. (stage : ℕ) (t : Trace) → StandsFor stage self t
+            → sum ≡ exact_sum stage t) }
         ensures none { IfNone result (may_search self ≡ true) }
     {
         match self {

@@ -4,7 +4,8 @@ ghost use Rattle.std.specs.Fmt.{decimal};
 ghost use Rattle.serde_json.specs.Data.{member, no_members, object, put, string};
 ghost use Rattle.serde_json.specs.View.{view};
 ghost use Rattle.serde_json.specs.Written.{compact_text, has_float};
-ghost use Rattle.report.specs.AnswerForms.{answer_text, array_text, fault_json, fault_text, job_json, kind_text, optional_text};
+ghost use Rattle.report.specs.AnswerForms.{answer_text, array_text, fault_json};
+ghost use Rattle.report.specs.AnswerForms.{fault_text, job_json, kind_text, optional_text};
 ghost use Rattle.report.specs.Named.{IsNamed, IsText};
 ghost use Rattle.report.specs.Numbers.{array_end, array_object};
 
@@ -55,7 +56,8 @@ pub(crate) fn write_object(
 ) -> Result<(), NoMemory>
     requires named { IsNamed names.now answer.now }
     requires text { All IsText names.now }
-    ensures { OnOk result (report.new.items ≡ report.old.items ++ compact_text (job_json names.now name.now answer.now)) }
+    ensures { OnOk result
+        (report.new.items ≡ report.old.items ++ compact_text (job_json names.now name.now answer.now)) }
 {
     match answer {
         Answer::Number(value) => write_member(report, name, "number", Value::from(*value)),

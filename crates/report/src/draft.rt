@@ -25,7 +25,7 @@ pub(crate) struct Draft {
 }
 
 impl Draft {
-    /// Nothing yet. It takes no memory.
+    /// An empty draft. It takes no memory.
     pub(crate) fn new(alloc: Global) -> Draft
         ensures bytes { draft_bytes result ≡ [] }
         ensures pieces { result.pieces.items ≡ [] }
@@ -92,7 +92,8 @@ impl Draft {
 
     /// Adds pieces, for which there is room.
     fn add_pieces(&mut self, mut pieces: Vec<Vec<u8>>) -> Result<(), NoMemory>
-        ensures { OnOk result (draft_bytes self.new ≡ draft_bytes self.old ++ flat_map (λ piece. piece.items) pieces.items) }
+        ensures { OnOk result
+            (draft_bytes self.new ≡ draft_bytes self.old ++ flat_map (λ piece. piece.items) pieces.items) }
     {
         let none = Vec::new(*self.last.allocator());
         self.pieces.push(mem::replace(&mut self.last, none))?;

@@ -25,7 +25,8 @@ impl<'a> Groups<'a> {
         pieces: &'a [Vec<i64>],
         size: usize,
     ) -> Result<Vec<Vec<&'a [i64]>>, NoMemory>
-        ensures { IfOk result (λ groups. flat_map (λ group. runs_in group.items) groups.items ≡ rest.now ++ flat_map (λ piece. piece.items) pieces.now) }
+        ensures { IfOk result (λ groups. flat_map (λ group. runs_in group.items) groups.items
+            ≡ rest.now ++ flat_map (λ piece. piece.items) pieces.now) }
     {
         let mut groups = Groups {
             whole: Vec::new(alloc),

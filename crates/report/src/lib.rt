@@ -26,7 +26,6 @@ mod worked;
 pub use answer_forms::kind_name;
 pub use as_json::json;
 pub use as_text::text;
-pub use counted_io::{CountedOut, CountedWrite, WriteFault, write_all_of};
 pub use long_json::json_by;
 pub use long_text::text_by;
 pub use pieces::{Report, write_report};

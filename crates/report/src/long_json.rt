@@ -66,7 +66,8 @@ fn write_item_by<H: Threads + Sync>(
     requires named { IsNamed names.now job.answer.now }
     requires text { All IsText names.now }
     ensures { OnOk result (draft_bytes draft.new
-        ≡ draft_bytes draft.old ++ (comma_if later ++ compact_text (job_json names.now job.entry.name.now job.entry.answer.now))) }
+        ≡ draft_bytes draft.old
+        ++ (comma_if later ++ compact_text (job_json names.now job.entry.name.now job.entry.answer.now))) }
 {
     let NamedAnswer { name, answer } = job;
     match answer {

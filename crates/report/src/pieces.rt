@@ -2,7 +2,8 @@
 ghost use Rattle.counted_io.specs.FailureCounts.{HasRisen};
 ghost use Rattle.report.specs.Pieces.{bytes_of};
 ghost use Rattle.std.specs.Io.KnownBytes.{Appends};
-ghost use Rattle.std.specs.Prelude.{◌≡◌, ◌≢◌, ◌+◌, ◌^◌, ◌<◌, ◌≤◌, ◌++◌, [], ℕ, length, take, IfErr, IfOk, IfSome, IfNone, OnErr, OnOk};
+ghost use Rattle.std.specs.Prelude.{◌≡◌, ◌≢◌, ◌+◌, ◌^◌, ◌<◌, ◌≤◌, ◌++◌, [], ℕ, length};
+ghost use Rattle.std.specs.Prelude.{take, IfErr, IfOk, IfSome, IfNone, OnErr, OnOk};
 
 use crate::NoMemory;
 use counted_io::{CountedWrite, WriteFault, write_all_of};
@@ -57,7 +58,8 @@ fn count(pieces: &[Vec<u8>], last: &[u8]) -> Option<u64>
 /// Writes the whole report, as `write_all_of` writes bytes.
 pub fn write_report<W: CountedWrite>(writer: &mut W, report: &Report) -> Result<(), WriteFault>
     ensures ok { OnOk result (Appends (W.contents writer.old) (W.contents writer.new) report.now) }
-    ensures err { IfErr result (λ fault. Appends (W.contents writer.old) (W.contents writer.new) (take fault.written report.now)) }
+    ensures err { IfErr result (λ fault. Appends (W.contents writer.old) (W.contents writer.new)
+        (take fault.written report.now)) }
     ensures short { IfErr result (λ fault. fault.written < length report.now) }
     ensures failed { OnErr result (HasRisen (W.failures writer.old) (W.failures writer.new)) }
     ensures counts { W.failures writer.old ≤ W.failures writer.new }

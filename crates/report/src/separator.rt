@@ -5,14 +5,14 @@ ghost use Rattle.report.specs.Numbers.{separator_bytes};
 /// What stands between two numbers of an array.
 #[derive(Clone, Copy)]
 pub(crate) enum Separator {
-    /// As JSON has it, without blanks.
+    /// A comma alone, as in JSON.
     Comma,
-    /// As the text form has it.
+    /// A comma and a blank, as in the text form.
     CommaAndBlank,
 }
 
 impl Separator {
-    /// Puts it so that it ends at `end`, and answers where it starts.
+    /// Puts the separator so that it ends at `end`, and answers where it starts.
     #[inline]
     pub(crate) fn put(self, room: &mut [u8], end: usize) -> usize
         requires room { 2 ≤ end }

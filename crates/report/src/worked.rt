@@ -4,7 +4,9 @@ ghost use Rattle.job_language.specs.Jobs.{names_of};
 ghost use Rattle.job_meaning.specs.FileAnswers.{meaning_of};
 ghost use Rattle.report.specs.Text.{report_text};
 ghost use Rattle.stream_tokens.specs.JobTexts.{job_texts_of, version_of};
-ghost use Rattle.report.specs.Worked.{adds_up, file_of_version_one, file_of_version_two, gives_a_number_for_a_fault, meets_a_zero, meets_no_zero, meets_two_zeros, names_two_bad_jobs, passes_the_greatest, sums_exactly, takes_a_part};
+ghost use Rattle.report.specs.Worked.{adds_up, file_of_version_one, file_of_version_two, gives_a_number_for_a_fault};
+ghost use Rattle.report.specs.Worked.{meets_a_zero, meets_no_zero, meets_two_zeros, names_two_bad_jobs};
+ghost use Rattle.report.specs.Worked.{passes_the_greatest, sums_exactly, takes_a_part};
 
 /// What the definitions give for small files: the first fault and the place of its item, an array, a
 /// sum that wraps, and of two faults the one of the first item, although it is in a later stage.
@@ -32,11 +34,13 @@ pub fn worked_reports_of_each_kind()
     ensures unusable { report_text (names_of names_two_bad_jobs) (meaning_of names_two_bad_jobs)
         ≡ codes "a = 1\nb = OptionalLong.empty\nc = fault divide-by-zero stage 1 item 0\nu = unusable b\n" }
     ensures exact_sums { report_text (names_of sums_exactly) (meaning_of sums_exactly)
-        ≡ codes "e = fault overflow stage 2 item 1\nz = fault divide-by-zero stage 1 item 1\nk = 9223372036854775807\n" }
+        ≡ codes "e = fault overflow stage 2 item 1\nz = fault divide-by-zero stage 1 item 1\n"
+        ++ codes "k = 9223372036854775807\n" }
     ensures on_fault { report_text (names_of gives_a_number_for_a_fault) (meaning_of gives_a_number_for_a_fault)
         ≡ codes "s = -1\nm = OptionalLong[-1]\nn = OptionalLong.empty\nt = 0\nv = unusable n\n" }
     ensures slices { report_text (names_of takes_a_part) (meaning_of takes_a_part)
-        ≡ codes "l = [-1, -1, -2, -2, -3, -5, -10]\nh = fault divide-by-zero stage 1 item 7\nk = fault divide-by-zero stage 1 item 2\nt = [4, 5]\nw = [-5, -10]\n" }
+        ≡ codes "l = [-1, -1, -2, -2, -3, -5, -10]\nh = fault divide-by-zero stage 1 item 7\n"
+        ++ codes "k = fault divide-by-zero stage 1 item 2\nt = [4, 5]\nw = [-5, -10]\n" }
 {}
 
 /// What the definitions give for the version of a file and for the texts of its jobs: `version 2` says it in the first
@@ -47,5 +51,6 @@ pub fn worked_versions()
         ≡ Ok (record { line = 4; text = codes "s = range(0, 10)   .sum().onFault(-1)" } ∷ []) }
     ensures one { version_of file_of_version_one ≡ 1 }
     ensures one_texts { job_texts_of file_of_version_one
-        ≡ Ok (record { line = 1; text = codes "s = range(0, 10).sum()" } ∷ record { line = 2; text = codes "version 2" } ∷ []) }
+        ≡ Ok (record { line = 1; text = codes "s = range(0, 10).sum()" }
+        ∷ record { line = 2; text = codes "version 2" } ∷ []) }
 {}

@@ -61,8 +61,10 @@ impl<'a> SliceRest<'a> {
         requires front { IsTested (rest_of self) stage env.now (I.items source.now) front }
         ensures ordered { result.from ≤ result.to }
         ensures within { result.to ≤ length (I.items source.now) }
-        ensures passes { (later : Trace) → sliced (rest_of self.entry) stage env.now (append (trace (I.items source.now) end.Done) later)
-            ≡ append (trace (take (result.to - result.from) (drop result.from (I.items source.now))) result.end) (sliced (rest_of result.rest) stage env.now later) }
+        ensures passes { (later : Trace)
+            → sliced (rest_of self.entry) stage env.now (append (trace (I.items source.now) end.Done) later)
+            ≡ append (trace (take (result.to - result.from) (drop result.from (I.items source.now))) result.end)
+            (sliced (rest_of result.rest) stage env.now later) }
     {
         let count = source.count();
         match self {
@@ -107,7 +109,8 @@ impl<'a> SliceRest<'a> {
 
     /// Whether no item passes any more: then nothing that comes matters, not even a fault.
     pub fn is_closed(&self) -> bool
-        ensures { result ≡ true → (stage : ℕ) (env : Numbers) (later : Trace) → sliced (rest_of self.now) stage env later ≡ nothing }
+        ensures { result ≡ true → (stage : ℕ) (env : Numbers) (later : Trace)
+            → sliced (rest_of self.now) stage env later ≡ nothing }
     {
         matches!(self, SliceRest::Limit(0))
     }
@@ -121,11 +124,14 @@ fn cut_after<'a, I: SourceItems>(
     source: &I,
     front: u64,
 ) -> SliceCut<'a>
-    requires front { front ≡ before_stop (stop_at (front_ends (truth_of test.now) stage env.now) (I.items source.now)) (I.items source.now) }
+    requires front { front ≡ before_stop (stop_at (front_ends (truth_of test.now) stage env.now) (I.items source.now))
+        (I.items source.now) }
     ensures ordered { result.from ≤ result.to }
     ensures within { result.to ≤ length (I.items source.now) }
-    ensures passes { (later : Trace) → taken (truth_of test.now) stage env.now (append (trace (I.items source.now) end.Done) later)
-        ≡ append (trace (take (result.to - result.from) (drop result.from (I.items source.now))) result.end) (sliced (rest_of result.rest) stage env.now later) }
+    ensures passes { (later : Trace)
+        → taken (truth_of test.now) stage env.now (append (trace (I.items source.now) end.Done) later)
+        ≡ append (trace (take (result.to - result.from) (drop result.from (I.items source.now))) result.end)
+        (sliced (rest_of result.rest) stage env.now later) }
 {
     match stop_in(test, stage, env, source, front) {
         Some(end) => SliceCut {
@@ -151,11 +157,14 @@ fn cut_before<'a, I: SourceItems>(
     source: &I,
     front: u64,
 ) -> SliceCut<'a>
-    requires front { front ≡ before_stop (stop_at (front_ends (truth_of test.now) stage env.now) (I.items source.now)) (I.items source.now) }
+    requires front { front ≡ before_stop (stop_at (front_ends (truth_of test.now) stage env.now) (I.items source.now))
+        (I.items source.now) }
     ensures ordered { result.from ≤ result.to }
     ensures within { result.to ≤ length (I.items source.now) }
-    ensures passes { (later : Trace) → dropped (truth_of test.now) stage env.now (append (trace (I.items source.now) end.Done) later)
-        ≡ append (trace (take (result.to - result.from) (drop result.from (I.items source.now))) result.end) (sliced (rest_of result.rest) stage env.now later) }
+    ensures passes { (later : Trace)
+        → dropped (truth_of test.now) stage env.now (append (trace (I.items source.now) end.Done) later)
+        ≡ append (trace (take (result.to - result.from) (drop result.from (I.items source.now))) result.end)
+        (sliced (rest_of result.rest) stage env.now later) }
 {
     let count = source.count();
     match stop_in(test, stage, env, source, front) {
@@ -188,7 +197,8 @@ fn stop_in<I: SourceItems>(
     source: &I,
     front: u64,
 ) -> Option<End>
-    requires front { front ≡ before_stop (stop_at (front_ends (truth_of test.now) stage env.now) (I.items source.now)) (I.items source.now) }
+    requires front { front ≡ before_stop (stop_at (front_ends (truth_of test.now) stage env.now) (I.items source.now))
+        (I.items source.now) }
     ensures { stop_at (front_ends (truth_of test.now) stage env.now) (I.items source.now) ≡ stop_after front result }
 {
     if front == source.count() {

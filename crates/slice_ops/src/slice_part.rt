@@ -6,7 +6,8 @@ ghost use Rattle.lambda_values.specs.Term.{truth_of};
 ghost use Rattle.trace.specs.Stops.{stop_at};
 ghost use Rattle.trace.specs.Trace.{Trace, trace, append};
 ghost use Rattle.trace.specs.declared.item.End.TheVariants as end;
-ghost use Rattle.slice_ops.specs.Parts.{AreAdded, IsAdded, IsFront, IsJoined, IsKept, StandsFor, before_stop, is_settled};
+ghost use Rattle.slice_ops.specs.Parts.{AreAdded, IsAdded, IsFront, IsJoined};
+ghost use Rattle.slice_ops.specs.Parts.{IsKept, StandsFor, before_stop, is_settled};
 ghost use Rattle.slice_ops.specs.Slices.{AbstractSlice, front_ends, slice_of, sliced, taken};
 
 use super::shorten::{FrontTest, drop_while, limit, skip, take_while};
@@ -125,7 +126,8 @@ impl<'a> SlicePart<'a> {
         right: SlicePart<'a>,
     ) -> Result<SlicePart<'a>, (SlicePart<'a>, SlicePart<'a>)>
         ensures ok { IfOk result (λ part. (d : AbstractSlice) (stage : ℕ) (env : Numbers) (a b : Trace)
-            → StandsFor d stage env self.entry a → StandsFor d stage env right.entry b → StandsFor d stage env part (append a b)) }
+            → StandsFor d stage env self.entry a → StandsFor d stage env right.entry b
+            → StandsFor d stage env part (append a b)) }
         ensures err { IfErr result (λ parts. (parts.0 ≡ self.entry) × (parts.1 ≡ right.entry)) }
         ensures refused { OnErr result ((is_settled self.entry ≡ false) × (right.entry.chunk.items ≢ [])) }
     {
@@ -230,7 +232,8 @@ fn add_all<I: SourceItems>(
 ) -> Result<bool, NoMemory>
     requires ending { chunk.old.ending ≡ end.Done }
     requires front { IsFront (slice_of slice.now) stage env.now (I.items source.now) front }
-    ensures ok { IfOk result (λ stopped. AreAdded (slice_of slice.now) stage env.now (I.items source.now) chunk.old chunk.new stopped) }
+    ensures ok { IfOk result (λ stopped. AreAdded (slice_of slice.now) stage env.now
+        (I.items source.now) chunk.old chunk.new stopped) }
     ensures err { OnErr result (chunk.new ≡ chunk.old) }
     ensures refused { OnErr result (0 < length (I.items source.now)) }
 {
@@ -257,9 +260,12 @@ fn add_front<I: SourceItems>(
     front: u64,
 ) -> Result<bool, NoMemory>
     requires ending { chunk.old.ending ≡ end.Done }
-    requires front { front ≡ before_stop (stop_at (front_ends (truth_of test.now) stage env.now) (I.items source.now)) (I.items source.now) }
-    ensures kept { IfOk result (λ stopped. chunk.new ≡ append chunk.old (taken (truth_of test.now) stage env.now (trace (I.items source.now) end.Done))) }
-    ensures stopped { IfOk result (λ stopped. stopped ≡ is_some (stop_at (front_ends (truth_of test.now) stage env.now) (I.items source.now))) }
+    requires front { front ≡ before_stop (stop_at (front_ends (truth_of test.now) stage env.now) (I.items source.now))
+        (I.items source.now) }
+    ensures kept { IfOk result (λ stopped. chunk.new
+        ≡ append chunk.old (taken (truth_of test.now) stage env.now (trace (I.items source.now) end.Done))) }
+    ensures stopped { IfOk result (λ stopped. stopped
+        ≡ is_some (stop_at (front_ends (truth_of test.now) stage env.now) (I.items source.now))) }
     ensures err { OnErr result (chunk.new ≡ chunk.old) }
     ensures refused { OnErr result (0 < length (I.items source.now)) }
 {

@@ -35,7 +35,8 @@ impl<'a> LongSpliterator for ArraySplit<'a> {
     fn try_split(&mut self) -> Option<ArraySplit<'a>>
         ensures some { IfSome result (λ prefix. IsSplit (placed prefix.origin prefix.values.now)
             (placed self.new.origin self.new.values.now) (placed self.old.origin self.old.values.now)) }
-        ensures none { IfNone result (placed self.new.origin self.new.values.now ≡ placed self.old.origin self.old.values.now) }
+        ensures none { IfNone result
+            (placed self.new.origin self.new.values.now ≡ placed self.old.origin self.old.values.now) }
         ensures few { IfNone result (length (placed self.old.origin self.old.values.now) < 2) }
         ensures half { IfSome result (λ prefix. length prefix.values.now ≡ length self.old.values.now / 2) }
     {

@@ -31,7 +31,8 @@ pub struct ConcatSplit<'a> {
 impl<'a> ConcatSplit<'a> {
     /// These parts one after the other. `None` exactly if they have more than 2^62 items.
     pub fn of(parts: &'a [PlainSplit<'a>]) -> Option<ConcatSplit<'a>>
-        ensures some { IfSome result (λ split. placed split.origin (plain_values split.head ++ all_values split.tail.now) ≡ placed 0 (all_values parts.now)) }
+        ensures some { IfSome result (λ split. placed split.origin
+            (plain_values split.head ++ all_values split.tail.now) ≡ placed 0 (all_values parts.now)) }
         ensures none { IfNone result (2 ^ 62 < length (all_values parts.now)) }
     {
         let size = total_size(parts)?;
@@ -53,8 +54,10 @@ impl<'a> ConcatSplit<'a> {
         requires size { size ≡ length (plain_values front) }
         requires whole { plain_values front ++ plain_values back ≡ plain_values self.old.head }
         ensures values { plain_values result.head ++ all_values result.tail.now ≡ plain_values front.entry }
-        ensures front { placed result.origin (plain_values result.head ++ all_values result.tail.now) ≡ placed self.old.origin (plain_values front.entry) }
-        ensures back { placed self.new.origin (plain_values self.new.head ++ all_values self.new.tail.now) ≡ placed (self.old.origin + size) (plain_values back.entry ++ all_values self.old.tail.now) }
+        ensures front { placed result.origin (plain_values result.head ++ all_values result.tail.now)
+            ≡ placed self.old.origin (plain_values front.entry) }
+        ensures back { placed self.new.origin (plain_values self.new.head ++ all_values self.new.tail.now)
+            ≡ placed (self.old.origin + size) (plain_values back.entry ++ all_values self.old.tail.now) }
     {
         let prefix = ConcatSplit {
             head: front,
@@ -73,7 +76,8 @@ impl<'a> ConcatSplit<'a> {
 
     /// Goes on to the next part that has items, if there is one.
     fn skip_empty_parts(&mut self)
-        ensures same { placed self.new.origin (plain_values self.new.head ++ all_values self.new.tail.now) ≡ placed self.old.origin (plain_values self.old.head ++ all_values self.old.tail.now) }
+        ensures same { placed self.new.origin (plain_values self.new.head ++ all_values self.new.tail.now)
+            ≡ placed self.old.origin (plain_values self.old.head ++ all_values self.old.tail.now) }
         ensures front { front_of (self.new.head ∷ self.new.tail.now) ≡ front_of (self.old.head ∷ self.old.tail.now) }
         ensures none { plain_values self.new.head ≡ [] → all_values self.new.tail.now ≡ [] }
     {
@@ -98,13 +102,17 @@ impl<'a> LongSpliterator for ConcatSplit<'a> {
 
     /// Hands out the first of two or more parts with items; the only part with items is split itself.
     fn try_split(&mut self) -> Option<ConcatSplit<'a>>
-        ensures some { IfSome result (λ prefix. IsSplit (placed prefix.origin (plain_values prefix.head ++ all_values prefix.tail.now))
+        ensures some { IfSome result
+            (λ prefix. IsSplit (placed prefix.origin (plain_values prefix.head ++ all_values prefix.tail.now))
             (placed self.new.origin (plain_values self.new.head ++ all_values self.new.tail.now))
             (placed self.old.origin (plain_values self.old.head ++ all_values self.old.tail.now))) }
-        ensures none { IfNone result (placed self.new.origin (plain_values self.new.head ++ all_values self.new.tail.now)
+        ensures none { IfNone result (placed self.new.origin
+            (plain_values self.new.head ++ all_values self.new.tail.now)
             ≡ placed self.old.origin (plain_values self.old.head ++ all_values self.old.tail.now)) }
-        ensures few { IfNone result (length (placed self.old.origin (plain_values self.old.head ++ all_values self.old.tail.now)) < 2) }
-        ensures front { IfSome result (λ prefix. plain_values prefix.head ++ all_values prefix.tail.now ≡ front_of (self.old.head ∷ self.old.tail.now)) }
+        ensures few { IfNone result
+            (length (placed self.old.origin (plain_values self.old.head ++ all_values self.old.tail.now)) < 2) }
+        ensures front { IfSome result (λ prefix. plain_values prefix.head ++ all_values prefix.tail.now
+            ≡ front_of (self.old.head ∷ self.old.tail.now)) }
     {
         self.skip_empty_parts();
         let head_size = self.head.exact_size();

@@ -24,7 +24,8 @@ impl<'a> LongSpliterator for PlainSplit<'a> {
     ghost flags = { 0x4550 };
 
     fn try_split(&mut self) -> Option<PlainSplit<'a>>
-        ensures some { IfSome result (λ prefix. IsSplit (plain_items prefix) (plain_items self.new) (plain_items self.old)) }
+        ensures some { IfSome result (λ prefix. IsSplit (plain_items prefix) (plain_items self.new)
+            (plain_items self.old)) }
         ensures none { IfNone result (plain_items self.new ≡ plain_items self.old) }
         ensures few { IfNone result (length (plain_items self.old) < 2) }
         ensures half { IfSome result (λ prefix. length (plain_items prefix) ≡ length (plain_items self.old) / 2) }

@@ -1,6 +1,7 @@
 //! Integers that count up by 1.
 
-ghost use Rattle.std.specs.Prelude.{◌≡◌, ℕ, ◌+◌, ◌-◌, ◌/◌, ◌^◌, ◌<◌, ◌≤◌, pos, ◌+ℤ◌, length, FitsSigned, IfSome, IfNone, MatchOption, [], ◌∷◌};
+ghost use Rattle.std.specs.Prelude.{◌≡◌, ℕ, ◌+◌, ◌-◌, ◌/◌, ◌^◌, ◌<◌, ◌≤◌, pos, ◌+ℤ◌, length};
+ghost use Rattle.std.specs.Prelude.{FitsSigned, IfSome, IfNone, MatchOption, [], ◌∷◌};
 ghost use Rattle.std.specs.Int.{w64};
 ghost use Rattle.trace.specs.Cover.{counted, placed, distance};
 ghost use Rattle.spliterator.specs.Splits.{IsSplit, split_items};
@@ -26,7 +27,8 @@ pub struct RangeSplit {
 impl RangeSplit {
     /// The integers from `from` up to, but not with, `to`. `None` exactly if there are more than 2^62.
     pub fn range(from: i64, to: i64) -> Option<RangeSplit>
-        ensures some { IfSome result (λ split. split_items split.start split.from split.to ≡ placed 0 (counted from (distance from to))) }
+        ensures some { IfSome result (λ split. split_items split.start split.from split.to
+            ≡ placed 0 (counted from (distance from to))) }
         ensures none { IfNone result (2 ^ 62 < distance from to) }
     {
         let count = if from < to { to.abs_diff(from) } else { 0 };
@@ -42,7 +44,8 @@ impl RangeSplit {
 
     /// The integers from `from` up to and with `to`. `None` exactly if there are more than 2^62.
     pub fn range_closed(from: i64, to: i64) -> Option<RangeSplit>
-        ensures some { IfSome result (λ split. split_items split.start split.from split.to ≡ placed 0 (counted from (distance from (to +ℤ pos 1)))) }
+        ensures some { IfSome result (λ split. split_items split.start split.from split.to
+            ≡ placed 0 (counted from (distance from (to +ℤ pos 1)))) }
         ensures none { IfNone result (2 ^ 62 < distance from (to +ℤ pos 1)) }
     {
         if from > to {
@@ -67,8 +70,10 @@ impl LongSpliterator for RangeSplit {
 
     fn try_split(&mut self) -> Option<RangeSplit>
         ensures some { IfSome result (λ prefix. IsSplit (split_items prefix.start prefix.from prefix.to)
-            (split_items self.new.start self.new.from self.new.to) (split_items self.old.start self.old.from self.old.to)) }
-        ensures none { IfNone result (split_items self.new.start self.new.from self.new.to ≡ split_items self.old.start self.old.from self.old.to) }
+            (split_items self.new.start self.new.from self.new.to)
+            (split_items self.old.start self.old.from self.old.to)) }
+        ensures none { IfNone result (split_items self.new.start self.new.from self.new.to
+            ≡ split_items self.old.start self.old.from self.old.to) }
         ensures few { IfNone result (length (split_items self.old.start self.old.from self.old.to) < 2) }
         ensures half { IfSome result (λ prefix. prefix.to - prefix.from ≡ (self.old.to - self.old.from) / 2) }
     {

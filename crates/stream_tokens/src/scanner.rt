@@ -1,5 +1,6 @@
 //! Cutting a text into tokens.
-ghost use Rattle.std.specs.Prelude.{◌≡◌, ◌<◌, ◌≤◌, ◌+◌, ℕ, List, IfOk, OnErr, length, slice_index, All, true, false, not};
+ghost use Rattle.std.specs.Prelude.{◌≡◌, ◌<◌, ◌≤◌, ◌+◌, ℕ, List, IfOk, OnErr};
+ghost use Rattle.std.specs.Prelude.{length, slice_index, All, true, false, not};
 ghost use Rattle.std.specs.List.{list_all, prefix_len};
 ghost use Rattle.std.specs.Char.{is_ascii_digit};
 ghost use Rattle.stream_tokens.specs.declared.token.Token.{Token as token};

@@ -2,7 +2,8 @@
 ghost use Rattle.std.specs.Prelude.{◌≡◌};
 ghost use Rattle.std.specs.List.{list_all};
 ghost use Rattle.stream_tokens.specs.Bytes.{is_blank};
-ghost use Rattle.stream_tokens.specs.JobTexts.{begins_blank, is_two, is_version_line, is_version_two, job_texts_of, jobs_of_lines, texts_of_lines, version_in, version_of, without_blanks};
+ghost use Rattle.stream_tokens.specs.JobTexts.{begins_blank, is_two, is_version_line, is_version_two, job_texts_of};
+ghost use Rattle.stream_tokens.specs.JobTexts.{jobs_of_lines, texts_of_lines, version_in, version_of, without_blanks};
 ghost use Rattle.stream_tokens.specs.TextsLeft.{lines_at};
 
 use crate::line::{LineKind, kind_of, without_mark};

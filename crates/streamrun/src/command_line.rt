@@ -117,7 +117,7 @@ fn with_settings<'a>(alloc: Global, command: Command<'a>) -> Result<Command<'a>,
         "threshold",
         "1 to 1048576",
         "1024",
-        "Keep this many items together",
+        "Items per piece, 1 for flatMap",
     );
     let command = command.arg(threshold.value_parser(value_parser!(u64).range(1..=1_048_576)))?;
     let nodes = number(

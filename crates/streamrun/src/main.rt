@@ -1,10 +1,10 @@
 //! `streamrun [OPTIONS] JOBS`: runs the jobs of a file over 64-bit integers and over the columns of another
 //! file, and writes a report with one answer per job.
 //!
-//! Stands on `engine`, whose `run` is the whole work, on `columns` and `report` for readers and
-//! writers that count their failures, and on `clap` for the command line. What it promises is the contract of
+//! Stands on `engine`, whose `run` is the whole work, on `counted_io` for readers and writers that
+//! count their failures, and on `clap` for the command line. What it promises is the contract of
 //! `engine::run`, which this program calls on the two files and on standard output: `ended_run` says that the exit
-//! status is the one after such a run. Begin with `engine/specs/Run.antt`; here there is only the command line, the
+//! status is the one of this run. Begin with `engine/specs/Run.antt`; here there is only the command line, the
 //! opening of the files, the exit status, and the line that says on a terminal how far a long run is.
 //! Not promised: that a file can be read or written, or that memory is there; the line on standard
 //! error says which it was.
@@ -20,11 +20,10 @@ mod command_line;
 mod progress;
 
 use clap::error::ErrorKind as ArgumentErrorKind;
-use columns::{Counted, CountedRead};
 use command_line::{Arguments, read_arguments};
+use counted_io::{Counted, CountedOut, CountedRead, CountedWrite};
 use engine::{EngineFault, run, status_after, tell};
 use progress::Progress;
-use report::{CountedOut, CountedWrite};
 use run_settings::Settings;
 use std::alloc::AllocError;
 use std::fs::File;
@@ -190,6 +189,3 @@ fn ended_run<H: Threads + Wait + Sync, C: CountedRead, J: CountedRead, W: Counte
     progress.end();
     status_after(&answer, &mut rt.stderr())
 }
-
-#[cfg(test)]
-mod tests;

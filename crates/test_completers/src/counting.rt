@@ -5,7 +5,8 @@ ghost use Rattle.pending_count.specs.Views.{IsPlainAt, first_view};
 ghost use Rattle.std.specs.Thread.{IsSync};
 ghost use Rattle.pending_count.specs.Seats.{view_of, IsSeatOf};
 
-use pending_count::{Arrived, Counts, Fits, Node, Place, Seat};
+use completion_core::Node;
+use pending_count::{Arrived, Counts, Fits, Place, Seat};
 use std::test::Fail;
 use std::thread;
 use std::thread::Threads;
@@ -118,8 +119,10 @@ fn three_parts(counts: &Plain, seat: PlainSeat) -> Option<(Node, PlainSeat, Plai
     requires first { view_of seat ≡ first_view 0 }
     ensures table { IfSome result (λ p. IsSeatOf counts.now p.1 × IsSeatOf counts.now p.2 × IsSeatOf counts.now p.3) }
     ensures node { IfSome result (λ p. 0 < p.0) }
-    ensures have { IfSome result (λ p. (0 < count p.0 (view_of p.1).held) × (0 < count p.0 (view_of p.2).held) × (0 < count p.0 (view_of p.3).held)) }
-    ensures plain { IfSome result (λ p. IsPlainAt p.0 (view_of p.1) × IsPlainAt p.0 (view_of p.2) × IsPlainAt p.0 (view_of p.3)) }
+    ensures have { IfSome result (λ p. (0 < count p.0 (view_of p.1).held) × (0 < count p.0 (view_of p.2).held)
+        × (0 < count p.0 (view_of p.3).held)) }
+    ensures plain { IfSome result (λ p. IsPlainAt p.0 (view_of p.1) × IsPlainAt p.0 (view_of p.2)
+        × IsPlainAt p.0 (view_of p.3)) }
 {
     let (seat, drawn) = counts.claim(seat);
     let node = drawn?;
@@ -142,18 +145,23 @@ fn on_three_threads<R: Threads + Sync>(
     let (one, (two, three)) = thread::join(
         rt,
         move || -> Option<u64>
-            requires { IsSeatOf counts.now first × (0 < node) × (0 < count node (view_of first).held) × IsPlainAt node (view_of first) }
+            requires { IsSeatOf counts.now first × (0 < node) × (0 < count node (view_of first).held)
+                × IsPlainAt node (view_of first) }
         { one_arrival(counts, first, node) },
         move || -> (Option<u64>, Option<u64>)
-            requires { IsSync R.row × IsSeatOf counts.now second × IsSeatOf counts.now third × (0 < node) × (0 < count node (view_of second).held) × IsPlainAt node (view_of second) × (0 < count node (view_of third).held) × IsPlainAt node (view_of third) }
+            requires { IsSync R.row × IsSeatOf counts.now second × IsSeatOf counts.now third
+                × (0 < node) × (0 < count node (view_of second).held) × IsPlainAt node (view_of second)
+                × (0 < count node (view_of third).held) × IsPlainAt node (view_of third) }
         {
             thread::join(
                 rt,
                 move || -> Option<u64>
-                    requires { IsSeatOf counts.now second × (0 < node) × (0 < count node (view_of second).held) × IsPlainAt node (view_of second) }
+                    requires { IsSeatOf counts.now second × (0 < node) × (0 < count node (view_of second).held)
+                        × IsPlainAt node (view_of second) }
                 { one_arrival(counts, second, node) },
                 move || -> Option<u64>
-                    requires { IsSeatOf counts.now third × (0 < node) × (0 < count node (view_of third).held) × IsPlainAt node (view_of third) }
+                    requires { IsSeatOf counts.now third × (0 < node) × (0 < count node (view_of third).held)
+                        × IsPlainAt node (view_of third) }
                 { one_arrival(counts, third, node) },
             )
         },

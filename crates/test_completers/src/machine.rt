@@ -147,13 +147,15 @@ fn scripts_give_their_replies_as_javas_calls_do(rt: HostRuntime) -> Result<(), F
         // left.tryComplete() leaves top with pending 0; after right.tryComplete() top is done, and left, right, top
         // ran.
         [
-            "claim 0; arm 0 1 1 0; claim 0; arm 0 2 0 1; claim 0; arm 0 3 0 1; arrive 0 2; run 0 2; arrive 0 1; arrive 0 3; run 0 3; arrive 0 1; run 0 1; settle 0",
+            "claim 0; arm 0 1 1 0; claim 0; arm 0 2 0 1; claim 0; arm 0 3 0 1; arrive 0 2; run 0 2; arrive 0 1; \
+            arrive 0 3; run 0 3; arrive 0 1; run 0 1; settle 0",
             "node 1; done; node 2; done; node 3; done; last; done; pending 0; last; done; last; done; done",
             "2 3 1",
         ],
         // leaf.propagateCompletion() leaves middle with pending 0; after middle.propagateCompletion() top is done.
         [
-            "claim 0; arm 0 1 0 0; claim 0; arm 0 2 1 1; claim 0; arm 0 3 0 2; arrive 0 3; run 0 3; arrive 0 2; arrive 0 2; run 0 2; arrive 0 1; run 0 1; settle 0",
+            "claim 0; arm 0 1 0 0; claim 0; arm 0 2 1 1; claim 0; arm 0 3 0 2; arrive 0 3; run 0 3; arrive 0 2; \
+            arrive 0 2; run 0 2; arrive 0 1; run 0 1; settle 0",
             "node 1; done; node 2; done; node 3; done; last; done; pending 0; last; done; last; done; done",
             "3 2 1",
         ],
@@ -166,7 +168,8 @@ fn scripts_give_their_replies_as_javas_calls_do(rt: HostRuntime) -> Result<(), F
         ],
         // The root of leaf and of top is top: it runs last and settles.
         [
-            "claim 0; arm 0 1 0 0; claim 0; arm 0 2 0 1; claim 0; arm 0 3 0 2; arrive 0 3; run 0 3; arrive 0 2; run 0 2; arrive 0 1; run 0 1; settle 0",
+            "claim 0; arm 0 1 0 0; claim 0; arm 0 2 0 1; claim 0; arm 0 3 0 2; arrive 0 3; run 0 3; arrive 0 2; \
+            run 0 2; arrive 0 1; run 0 1; settle 0",
             "node 1; done; node 2; done; node 3; done; last; done; last; done; last; done; done",
             "3 2 1",
         ],
@@ -176,7 +179,8 @@ fn scripts_give_their_replies_as_javas_calls_do(rt: HostRuntime) -> Result<(), F
             "1",
         ],
         [
-            "claim 0; arm 0 1 0 0; claim 0; arm 0 2 1 1; arrive 0 2; arrive 0 2; run 0 2; arrive 0 1; run 0 1; settle 0",
+            "claim 0; arm 0 1 0 0; claim 0; arm 0 2 1 1; arrive 0 2; arrive 0 2; run 0 2; arrive 0 1; run 0 1; \
+            settle 0",
             "node 1; done; node 2; done; pending 0; last; done; last; done; done",
             "2 1",
         ],
@@ -186,7 +190,8 @@ fn scripts_give_their_replies_as_javas_calls_do(rt: HostRuntime) -> Result<(), F
             "",
         ],
         [
-            "give 0 7 0 1; settle 7; claim 0; arm 0 1 0; add 0 1 4611686018427387903; give 0 1 1 4611686018427387903; arrive 1 1; arrive 0 1",
+            "give 0 7 0 1; settle 7; claim 0; arm 0 1 0; add 0 1 4611686018427387903; give 0 1 1 4611686018427387903; \
+            arrive 1 1; arrive 0 1",
             "done; done; node 1; done; done; done; pending 4611686018427387902; pending 4611686018427387901",
             "",
         ],
@@ -203,9 +208,16 @@ fn the_first_reason_that_applies_is_given(rt: HostRuntime) -> Result<(), Fail> {
     // What isn't held comes before an onward node that isn't smaller; a node stands in the list once for each arrival
     // there. Made arrivals count too.
     let scripts =
-        "arm 0 0 0|claim 0; arm 0 2 0|add 0 0 1|arrive 0 0|run 0 0|give 0 1 0 1; give 0 1 1 0|claim 0; arm 1 1 0 9|claim 0; arm 0 1 0; arm 0 1 0 9|claim 0; arm 0 1 0 0 0|claim 0; arm 0 1 0 1 0|claim 0; arm 0 1 0; arrive 1 1|claim 0; arm 0 1 0; add 1 1 18446744073709551615|claim 0; arm 0 1 0; give 0 0 1 2|settle 0; settle 0|claim 0; arm 0 1 1; give 0 1 1 1; arrive 0 1; arrive 1 1; run 1 1; arrive 0 1|\
-claim 0; arm 0 1 0 0; claim 0; arm 0 2 1 1; arrive 0 2; arrive 0 2; run 0 2; arrive 0 1; run 0 1; settle 0; settle 0|\
-claim 0; arm 0 1 0 0; claim 0; arm 0 2 1 1; arrive 0 2; run 0 2|claim 0; arm 0 1 0; run 0 1|claim 0; arm 0 1 0; arrive 0 1; run 1 1|claim 0; arm 0 1 0; arrive 0 1; run 0 1; run 0 1|claim 0; claim 0; arm 0 2 0; arm 0 1 0 2|claim 0; arm 0 1 0; add 0 1 4611686018427387904|claim 0; arm 0 1 0; add 0 1 4611686018427387903; arrive 0 1; add 0 1 1";
+        "arm 0 0 0|claim 0; arm 0 2 0|add 0 0 1|arrive 0 0|run 0 0|give 0 1 0 1; give 0 1 1 0|claim 0; arm 1 1 0 9|\
+        claim 0; arm 0 1 0; arm 0 1 0 9|claim 0; arm 0 1 0 0 0|claim 0; arm 0 1 0 1 0|claim 0; arm 0 1 0; arrive 1 1|\
+        claim 0; arm 0 1 0; add 1 1 18446744073709551615|claim 0; arm 0 1 0; give 0 0 1 2|settle 0; settle 0|\
+        claim 0; arm 0 1 1; give 0 1 1 1; arrive 0 1; arrive 1 1; run 1 1; arrive 0 1|\
+        claim 0; arm 0 1 0 0; claim 0; arm 0 2 1 1; arrive 0 2; arrive 0 2; run 0 2; arrive 0 1; run 0 1; \
+        settle 0; settle 0|\
+        claim 0; arm 0 1 0 0; claim 0; arm 0 2 1 1; arrive 0 2; run 0 2|claim 0; arm 0 1 0; run 0 1|\
+        claim 0; arm 0 1 0; arrive 0 1; run 1 1|claim 0; arm 0 1 0; arrive 0 1; run 0 1; run 0 1|\
+        claim 0; claim 0; arm 0 2 0; arm 0 1 0 2|claim 0; arm 0 1 0; add 0 1 4611686018427387904|\
+        claim 0; arm 0 1 0; add 0 1 4611686018427387903; arrive 0 1; add 0 1 1";
     let reasons = [
         (Illegal::NoSuchNode, 6),
         (Illegal::NotClaimedHere, 1),
@@ -241,7 +253,8 @@ fn persists(graph: &mut Graph, action: &Action) -> Result<Option<Reply>, AllocEr
 #[test]
 fn an_action_refused_for_memory_can_be_taken_again(rt: HostRuntime) -> Result<(), Fail> {
     let script =
-        "claim 0; arm 0 1 1 0; claim 1; give 0 1 1 1; arm 1 2 0 1; give 1 2 2 1; arrive 2 2; run 2 2; arrive 2 1; arrive 0 1; run 0 1; settle 0";
+        "claim 0; arm 0 1 1 0; claim 1; give 0 1 1 1; arm 1 2 0 1; give 1 2 2 1; arrive 2 2; run 2 2; arrive 2 1; \
+        arrive 0 1; run 0 1; settle 0";
     let replies = "node 1; done; node 2; done; done; done; last; done; pending 0; last; done; done";
     let actions = actions(rt.alloc(), script).expect(&rt, "a script of actions");
     let mut graph = Graph::new(rt.alloc(), 2, 1)?;

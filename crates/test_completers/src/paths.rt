@@ -6,7 +6,7 @@ ghost use Rattle.completer_tree.specs.Paths.{IsPath};
 
 use crate::counting::{Plain, PlainSeat};
 use completer_tree::Tree;
-use pending_count::Node;
+use completion_core::Node;
 use std::test::Fail;
 
 // Arms a node above a path, to keep the arrival at the path's first node.

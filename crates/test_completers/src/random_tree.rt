@@ -7,7 +7,8 @@ ghost use Rattle.pending_count.specs.Seats.{view_of, IsSeatOf, nodes_of};
 ghost use Rattle.test_completers.specs.RandomTrees.{parent, Knows, Has, IsInTree, CanClimb};
 
 use crate::counting::{Plain, PlainSeat};
-use pending_count::{Arrived, Node};
+use completion_core::Node;
+use pending_count::Arrived;
 use std::alloc::{AllocError, Global};
 use std::test::Fail;
 use std::thread;
@@ -45,7 +46,8 @@ fn grow_one(counts: &Plain, seat: PlainSeat, node: Node) -> Option<PlainSeat>
     requires node { 1 < node }
     requires knows { Knows (node - 1) (view_of seat) }
     requires has { Has 1 node (view_of seat) }
-    ensures { IfSome result (λ later. IsSeatOf counts.now later × Knows node (view_of later) × Has 1 (node + 1) (view_of later)) }
+    ensures { IfSome result (λ later. IsSeatOf counts.now later × Knows node (view_of later)
+        × Has 1 (node + 1) (view_of later)) }
 {
     let parent = parent_of(node);
     let Ok(seat) = counts.add(seat, parent, 1) else {
@@ -84,7 +86,8 @@ fn climb(
     requires node { (0 < node) × (node ≤ nodes_of counts.now) }
     requires have { 0 < count node (view_of seat).held }
     ensures seat { IfOk result (λ later. IsInTree counts.now later) }
-    ensures held { IfOk result (λ later. (j : ℕ) → count j (view_of seat).held ≤ count j (view_of later).held + count j (node ∷ [])) }
+    ensures held { IfOk result (λ later. (j : ℕ)
+        → count j (view_of seat).held ≤ count j (view_of later).held + count j (node ∷ [])) }
 {
     let (seat, finish) = match counts.arrive(seat, node) {
         Arrived::Pending(seat, _pending) => return Ok(seat),
@@ -169,7 +172,8 @@ fn on_threads<R: Threads + Sync>(
     let (one, other) = thread::join(
         rt,
         move || -> Result<Vec<Node>, AllocError>
-            requires { IsSync R.row × (0 < levels) × (0 < from) × (from ≤ middle) × (middle ≤ nodes_of counts.now + 1) × CanClimb counts.now from middle low }
+            requires { IsSync R.row × (0 < levels) × (0 < from) × (from ≤ middle) × (middle ≤ nodes_of counts.now + 1)
+                × CanClimb counts.now from middle low }
         {
             on_threads(
                 rt,
@@ -181,7 +185,8 @@ fn on_threads<R: Threads + Sync>(
             )
         },
         move || -> Result<Vec<Node>, AllocError>
-            requires { IsSync R.row × (0 < levels) × (0 < middle) × (middle ≤ to) × (to ≤ nodes_of counts.now + 1) × CanClimb counts.now middle to high }
+            requires { IsSync R.row × (0 < levels) × (0 < middle) × (middle ≤ to) × (to ≤ nodes_of counts.now + 1)
+                × CanClimb counts.now middle to high }
         {
             on_threads(
                 rt,

@@ -5,7 +5,7 @@ use crate::runs::walk_numbers;
 use completer_tree::{
     Continuation, Failure, First as Step, Forked, Handed, Next, PartValue, Tree, TreeCounts,
 };
-use pending_count::Node;
+use completion_core::Node;
 use std::alloc::{AllocError, Global};
 use std::sync::Arc;
 use std::test::Fail;

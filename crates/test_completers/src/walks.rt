@@ -1,5 +1,6 @@
 //! Trees that walk a list of numbers, cut at arbitrary places, on several threads.
-ghost use Rattle.std.specs.Prelude.{◌≡◌, ◌≢◌, ◌+◌, ◌-◌, ◌<◌, ◌≤◌, ℤ, List, Option, Some, None, Ok, Err, IfSome, MatchOption, [], length};
+ghost use Rattle.std.specs.Prelude.{◌≡◌, ◌≢◌, ◌+◌, ◌-◌, ◌<◌, ◌≤◌, ℤ, List, Option, Some};
+ghost use Rattle.std.specs.Prelude.{None, Ok, Err, IfSome, MatchOption, [], length};
 ghost use Rattle.std.specs.Thread.{IsSync};
 ghost use Rattle.pending_count.specs.Pairs.{side_of};
 ghost use Rattle.pending_count.specs.Seats.{view_of, IsSeatOf};
@@ -53,7 +54,8 @@ pub(crate) struct Append<P: Planned> {
     pub(crate) parent: Option<(NumberCut, bool)>,
     pub(crate) of: PhantomData<P>,
     ghost ordered: { (cut.from ≤ cut.middle) × (cut.middle ≤ cut.to) },
-    ghost side: { (p : _) → parent ≡ Some p → (begins p.0 (side_of p.1) ≡ cut.from) × (ends_at p.0 (side_of p.1) ≡ cut.to) },
+    ghost side: { (p : _) → parent ≡ Some p
+        → (begins p.0 (side_of p.1) ≡ cut.from) × (ends_at p.0 (side_of p.1) ≡ cut.to) },
     ghost top: { parent ≡ None → (cut.from ≡ 0) × (cut.to ≡ length P.source) },
 }
 
@@ -64,7 +66,8 @@ impl<P: Planned> Continuation<Items<P>> for Append<P> {
 
     ghost leads = { λ c p e v h. h };
 
-    ghost ends = { λ c e v h. by_bounds (λ a b. Walked (λ x. x.items.items) P.source a b v) c.cut.from 0 c.cut.to (length P.source) (c.top e).0 (c.top e).1 h };
+    ghost ends = { λ c e v h. by_bounds (λ a b. Walked (λ x. x.items.items) P.source a b v) c.cut.from 0 c.cut.to
+        (length P.source) (c.top e).0 (c.top e).1 h };
 
     fn tag(&self) -> NumberCut {
         self.cut
@@ -196,11 +199,13 @@ fn walk<P: Planned + Send + Sync, R: Threads + Sync>(
             let (one, other) = thread::join(
                 rt,
                 move || -> Option<Handed<Items<P>>>
-                    requires { IsSync R.row × (0 < levels) × CanWalk tree.now.counts.now P.source left × (numbers.now ≡ P.source) }
+                    requires { IsSync R.row × (0 < levels) × CanWalk tree.now.counts.now P.source left
+                        × (numbers.now ≡ P.source) }
                     ensures { IfSome result (λ v. Walked (λ x. x.items.items) P.source 0 (length P.source) v) }
                 { walk(rt, alloc, tree, numbers, left, levels - 1) },
                 move || -> Option<Handed<Items<P>>>
-                    requires { IsSync R.row × (0 < levels) × CanWalk tree.now.counts.now P.source right × (numbers.now ≡ P.source) }
+                    requires { IsSync R.row × (0 < levels) × CanWalk tree.now.counts.now P.source right
+                        × (numbers.now ≡ P.source) }
                     ensures { IfSome result (λ v. Walked (λ x. x.items.items) P.source 0 (length P.source) v) }
                 { walk(rt, alloc, tree, numbers, right, levels - 1) },
             );

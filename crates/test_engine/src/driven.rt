@@ -6,9 +6,10 @@ ghost use Rattle.job_runner.specs.Stops.{stop_id_of};
 
 use crate::shown::{columns_of, plan_of};
 use crate::worked::{COLUMNS, FILES};
-use job_plan::{Form, Plan, Settings};
+use job_plan::Plan;
 use job_runner::{JobSegments, NoMemory, RunBrand, TableFreshCounts, TableWork};
 use job_table::PlanJobs;
+use run_settings::{Form, Settings};
 use std::alloc::{AllocError, Global};
 use std::marker::Brand;
 use std::sync::Wait;
@@ -83,10 +84,12 @@ where
     S::Instead: Send,
     S::Scratch: Send,
     requires count { length opened.starts.items ≡ S.job_count }
-    requires started { (j : ℕ) → (R.start j ≡ node_at opened.starts.items (R.jobs - 1 - j)) × (R.keeps j ≡ kept_at opened.starts.items (R.jobs - 1 - j)) }
+    requires started { (j : ℕ) → (R.start j ≡ node_at opened.starts.items (R.jobs - 1 - j))
+        × (R.keeps j ≡ kept_at opened.starts.items (R.jobs - 1 - j)) }
     requires table { table_id_of opened.counts ≡ R.table }
     requires stops { stop_id_of opened.stops ≡ R.stops }
-    requires planned { (R.jobs ≡ S.job_count) × ((j : ℕ) → R.last j ≡ S.last_of j) × ((j k : ℕ) → R.size j k ≡ S.size_of j k) }
+    requires planned { (R.jobs ≡ S.job_count) × ((j : ℕ) → R.last j ≡ S.last_of j)
+        × ((j k : ℕ) → R.size j k ≡ S.size_of j k) }
 {
     let (work, tasks, idles) = TableWork::<S, R>::new(alloc, jobs, settings, opened)?;
     run_here(rt, &work, tasks, idles, drops);

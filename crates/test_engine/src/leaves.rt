@@ -4,8 +4,9 @@ use crate::gates::{Holds, Watching};
 use crate::shown::{columns_of, plan_of, shown};
 use crate::worked::{COLUMNS, FILES};
 use columns::Columns;
-use job_plan::{Answer, Settings};
+use job_meaning::Answer;
 use job_table::{RunFault, run_jobs};
+use run_settings::Settings;
 use std::alloc::{AllocError, Global};
 use std::sync::Wait;
 use std::sync::atomic::Ordering::SeqCst;
@@ -37,7 +38,8 @@ const CASES: &str = "\
 1 1 4096 1 10 100000 => m = range(0, 100000).anyMatch(x -> x > 6) => true
 1 1 4096 1 10 100000 => s = range(0, 100000).map(x -> 1 / (x - 5)).sum() => fault divide-by-zero stage 1 item 5
 1 1 4096 1 10 100000 => c = range(0, 100000).map(x -> 1 / (x - 5)).sum().onFault(-1) => -1
-1 1 4096 1 10 100000 => p = range(0, 100000).map(x -> 1 / (x - 5)).prefix(sum).count() => fault divide-by-zero stage 1 item 5
+1 1 4096 1 10 100000 => p = range(0, 100000).map(x -> 1 / (x - 5)).prefix(sum).count() \
+=> fault divide-by-zero stage 1 item 5
 1 1 0 1 1 4096 => s = range(0, 4096).sum() => 8386560
 1 1 1 2 2 2048 => s = range(0, 4096).sum() => 8386560
 1 1 3 4 4 1024 => s = range(0, 4096).sum() => 8386560

@@ -2,7 +2,7 @@
 use crate::driven::settings;
 use crate::gates::{Holds, Watching};
 use crate::lists::copies;
-use job_plan::Settings;
+use run_settings::Settings;
 use std::alloc::Global;
 use std::sync::Wait;
 use std::sync::atomic::Ordering::SeqCst;

@@ -6,10 +6,10 @@ ghost use Rattle.test_engine.specs.Lists.{EndsAtOnce, slice, numbers_in, walk_of
 ghost use Rattle.test_engine.specs.ListLaws.{one_list};
 
 use early_stop::Stop;
-use job_plan::Settings;
 use job_runner::{
     Begun, CutPiece, EarlierAnswers, JobSegments, NoMemory, Piece, SegmentInput, run_all,
 };
+use run_settings::Settings;
 use std::alloc::Global;
 use std::marker::{Brand, PhantomData};
 use std::sync::Wait;
@@ -37,7 +37,7 @@ impl JobNumbers for Brand {
 pub enum ListSource {
     /// The numbers of the job.
     Own,
-    /// Those that the segment before gave.
+    /// The numbers that the segment before gave.
     Kept(Vec<i64>),
 }
 
@@ -49,7 +49,8 @@ pub struct Lists<'a, P: JobNumbers> {
     /// How many leaves are refused memory: the first ones.
     pub(crate) refusals: AtomicU64,
     pub(crate) of: PhantomData<P>,
-    ghost planned: { (length lists.now ≡ P.jobs) × ((j : ℕ) → slice_index_or (map (λ v. v.items) lists.now) j [] ≡ P.numbers j) },
+    ghost planned: { (length lists.now ≡ P.jobs)
+        × ((j : ℕ) → slice_index_or (map (λ v. v.items) lists.now) j [] ≡ P.numbers j) },
 }
 
 impl<'a, P: JobNumbers> Lists<'a, P> {
@@ -205,7 +206,8 @@ impl<'a, P: JobNumbers + Sync> JobSegments for Lists<'a, P> {
         _scratch: &mut (),
         _stop: &mut W,
     ) -> Result<Vec<i64>, NoMemory>
-        requires piece { IsPiece P.jobs (λ job. JobLast job) (λ job _. length (P.numbers job)) piece.job piece.segment piece.from piece.to }
+        requires piece { IsPiece P.jobs (λ job. JobLast job)
+            (λ job _. length (P.numbers job)) piece.job piece.segment piece.from piece.to }
         requires source { numbers_in (P.numbers piece.job) input.source.now ≡ P.numbers piece.job }
         ensures { IfOk result (λ part. part.items ≡ slice (P.numbers piece.job) piece.from piece.to) }
     {
@@ -265,7 +267,8 @@ fn copies_as<P: JobNumbers + Send + Sync, H: Threads + Wait + Sync, G: Gate + Sy
     settings: Settings,
     gate: &G,
 ) -> Result<Vec<Vec<i64>>, NoMemory>
-    requires planned { (length lists.now ≡ P.jobs) × ((j : ℕ) → slice_index_or (map (λ v. v.items) lists.now) j [] ≡ P.numbers j) }
+    requires planned { (length lists.now ≡ P.jobs)
+        × ((j : ℕ) → slice_index_or (map (λ v. v.items) lists.now) j [] ≡ P.numbers j) }
     ensures { IfOk result (λ v. map (λ a. a.items) v.items ≡ map (λ a. a.items) lists.now) }
 {
     let jobs = Lists::<P> {

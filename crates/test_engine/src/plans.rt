@@ -2,10 +2,10 @@
 
 use crate::shown::{plan_of, shown};
 use columns::Columns;
-use job_plan::{
-    Answer, JobPlan, Outcome, Part, Source, SplitTree, Walked, Window, leaf, walk, walk_tree,
-};
+use job_meaning::Answer;
+use job_plan::{JobPlan, Outcome, Part, Source, SplitTree, Walked, leaf, walk, walk_tree};
 use lambda_values::Env;
+use prefix_walks::Window;
 use std::alloc::{AllocError, Global};
 use std::test::Fail;
 

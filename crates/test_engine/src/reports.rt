@@ -2,7 +2,7 @@
 ghost use Rattle.std.specs.Prelude.{ℕ, List, IfOk};
 ghost use Rattle.report.specs.Named.{IsNamed, IsText};
 
-use job_plan::Answer;
+use job_meaning::Answer;
 use lambda_values::FaultKind;
 use report::{json, text};
 use std::alloc::{AllocError, Global};
@@ -31,8 +31,8 @@ fn a_report_names_the_job_that_makes_another_unusable(rt: HostRuntime) -> Result
     let lines = "z = fault source-too-long stage 0 item -\ny_2 = unusable z\n";
     assert!(rt; report.as_slice() == lines.as_bytes());
     let report = json(alloc, &names, &answers)?;
-    let line =
-        "[{\"fault\":\"source-too-long\",\"item\":null,\"name\":\"z\",\"stage\":0},{\"name\":\"y_2\",\"unusable\":\"z\"}]\n";
+    let line = "[{\"fault\":\"source-too-long\",\"item\":null,\"name\":\"z\",\"stage\":0},\
+        {\"name\":\"y_2\",\"unusable\":\"z\"}]\n";
     assert!(rt; report.as_slice() == line.as_bytes());
     Ok(())
 }

@@ -1,10 +1,10 @@
 //! Runs of `engine` over readers and writers that give or take little, or fail.
 
 use crate::writers::Tight;
-use columns::{ColumnFault, Counted};
+use columns::ColumnFault;
+use counted_io::{Counted, CountedOut};
 use engine::{EngineFault, RunGate, run};
-use job_plan::{Form, Settings};
-use report::CountedOut;
+use run_settings::{Form, Settings};
 use std::io;
 use std::io::{ErrorKind, Read};
 use std::sync::Wait;

@@ -1,9 +1,10 @@
 //! Answers as text, and jobs in segments.
 
-use columns::{Columns, Counted, read_columns};
+use columns::{Columns, read_columns};
+use counted_io::Counted;
 use job_language::read_jobs;
-use job_meaning::Values;
-use job_plan::{Answer, Plan};
+use job_meaning::{Answer, Values};
+use job_plan::Plan;
 use lambda_values::FaultKind;
 use std::alloc::{AllocError, Global};
 use trace::Fault;

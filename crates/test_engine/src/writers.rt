@@ -1,6 +1,6 @@
 //! Writers that take little, take nothing, fail or are interrupted.
 
-use report::{CountedOut, CountedWrite, WriteFault, write_all_of};
+use counted_io::{CountedOut, CountedWrite, WriteFault, write_all_of};
 use std::alloc::Global;
 use std::io;
 use std::io::{ErrorKind, Write};

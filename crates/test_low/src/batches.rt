@@ -3,14 +3,12 @@ ghost use Rattle.std.specs.Prelude.{◌≡◌, ◌+◌, ◌<◌, ◌≤◌, ◌^
 ghost use Rattle.trace.specs.declared.sink.Flow.TheVariants as flow;
 
 use crate::random::{any_stage, any_values, next};
-use batch_eval::{
-    Batch, BatchSink, BatchSource, Pipeline, PlacedValues, Registers, accept_each, feed_batches,
-};
-use lambda_expr::{Env, InnerExpr, LongExpr, Want, read_lambda};
-use lambda_values::Body;
+use batch_eval::{Batch, BatchSink, BatchSource, Pipeline, Registers, accept_each, feed_batches};
+use lambda_expr::{Want, read_lambda};
+use lambda_values::{Body, Env, InnerExpr, LongExpr};
 use std::alloc::{AllocError, Global};
 use std::test::Fail;
-use trace::{Fed, Flow, Item, LongSink, NoMemory, Stage, feed_all};
+use trace::{Fed, Flow, Item, LongSink, NoMemory, PlacedValues, Stage, feed_all};
 
 /// Images and tests, each operator at least once; divisors and exact operations that fault at some of
 /// the values from -8 to 7.
@@ -19,7 +17,8 @@ pub(crate) const IMAGES: &str =
     x -> x >>> 60; x -> (x & 6) ^ (x | 9); x -> Math.min(x, 3) - Math.max(-x, 2); x -> Math.floorDiv(7, x + 8); \
     x -> Math.floorMod(-7, x); x -> Math.addExact(x, 9223372036854775802L); x -> Math.subtractExact(-9, x << 60); \
     x -> Math.multiplyExact(x << 59, 3); x -> -x; x -> ~x; x -> Math.abs(x); x -> Math.negateExact(x << 60); \
-    x -> x > 2 ? 10 / (x - 4) : 10 / (x + 6); x -> x < 0 ? x : x == 3 ? 1 / (x - 3) : 8; x -> (x + 2) * (x - 1) * (x + x); x -> 4";
+    x -> x > 2 ? 10 / (x - 4) : 10 / (x + 6); x -> x < 0 ? x : x == 3 ? 1 / (x - 3) : 8; \
+    x -> (x + 2) * (x - 1) * (x + x); x -> 4";
 
 pub(crate) const TESTS: &str =
     "x -> x > -2; x -> x % 2 == 0; x -> x != 0 && 12 / x > 2; x -> x == 0 || 12 / x < 3; x -> !(x <= 1); \

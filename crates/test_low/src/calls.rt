@@ -4,8 +4,8 @@ ghost use Rattle.trace.specs.declared.item.End.TheVariants as end;
 
 use crate::batches::stage;
 use find_ops::{FindPart, FindTerminal, Finder, Found};
-use lambda_expr::{BoolExpr, Env, FaultKind, Inner, InnerExpr, Want, read_lambda, read_number};
-use lambda_values::Body;
+use lambda_expr::{Want, read_lambda, read_number};
+use lambda_values::{Body, BoolExpr, Env, FaultKind, Inner, InnerExpr};
 use prefix_scan::{down, merge, up};
 use reduce_ops::{Exact, ExactPart, Op, Partial};
 use slice_ops::{Slice, SlicePart, drop_while, limit, skip, take_while};

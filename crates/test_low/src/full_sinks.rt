@@ -5,7 +5,8 @@ ghost use Rattle.trace.specs.declared.sink.Flow.TheVariants as flow;
 
 use crate::batches::{line_of, stage};
 use batch_eval::{Batch, BatchSink, Registers, accept_each, feed_batches};
-use lambda_expr::{Env, InnerExpr, LongExpr, Want};
+use lambda_expr::Want;
+use lambda_values::{Env, InnerExpr, LongExpr};
 use std::alloc::{AllocError, Global};
 use std::test::Fail;
 use trace::{Fed, Flow, Item, LongSink, NoMemory, RangeItems, Stage};

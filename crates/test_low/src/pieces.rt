@@ -1,5 +1,6 @@
 //! Files read in pieces on threads. The values were worked out by hand; a cut of any size gives them.
-use columns::{ColumnFault, Columns, Counted, read_columns, read_columns_by};
+use columns::{ColumnFault, Columns, read_columns, read_columns_by};
+use counted_io::Counted;
 use std::alloc::{AllocError, Global};
 use std::test::Fail;
 use std::thread::Threads;
@@ -34,7 +35,8 @@ fn pieces_of_any_size_give_the_columns(rt: HostRuntime) {
     // zeros; numbers that are quoted in part; a header with a line feed; a quote that is left open; no row.
     let files =
         "b,a\n10,3\n20,0\n30,-5\n40,7\n50,12|\"b\",\"a\"\n\"10\",\"3\"\n\"20\",\"0\"\n|a\n\"3\"\n0\n\"-5\"\n7\n|\
-a,b\r\n3,1\r\n0,2\r\n-5,3\r\n|b,a\r1,3\r2,0\r3,-5\r|\n\r\na\n\n3\n\r\n\r\n0\n\n-5\r\r7|\u{feff}a\n +3 \n\t-0\n-005\n7\t\n0012\n|\
+a,b\r\n3,1\r\n0,2\r\n-5,3\r\n|b,a\r1,3\r2,0\r3,-5\r|\n\r\na\n\n3\n\r\n\r\n0\n\n-5\r\r7|\
+\u{feff}a\n +3 \n\t-0\n-005\n7\t\n0012\n|\
 b,a\n1,\"\"3\n2,\"\"0\n|\"c\nb\",a\n1,3\n2,0\n4,-5\n|b,a\n1,3\n2,\"0|a,b\n";
     let cells: [i64; 5] = [3, 0, -5, 7, 12];
     for (file, count) in files.split('|').zip([5, 2, 4, 3, 3, 4, 5, 2, 3, 2, 0]) {

@@ -1,6 +1,6 @@
 //! Readers that give few bytes at a time, are interrupted or fail.
-use columns::{ColumnFault, Columns, Counted, CountedRead, read_columns};
-use counted_io::read_all_of;
+use columns::{ColumnFault, Columns, read_columns};
+use counted_io::{Counted, CountedRead, read_all_of};
 use std::alloc::Global;
 use std::io;
 use std::io::{ErrorKind, Read};

@@ -2,7 +2,7 @@
 ghost use Rattle.std.specs.Prelude.{◌≡◌, ◌+◌, ⊤, length, if◌then◌else◌, ◌==◌};
 ghost use Rattle.trace.specs.declared.sink.Flow.TheVariants as flow;
 
-use lambda_expr::{Env, InnerExpr, LongExpr};
+use lambda_values::{Env, InnerExpr, LongExpr};
 use std::alloc::{AllocError, Global};
 use std::test::Fail;
 use trace::{Chunk, End, Fed, Flow, Item, LongSink, NoMemory, Stage, feed_all};

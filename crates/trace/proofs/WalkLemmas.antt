@@ -1,5 +1,5 @@
 -- How a walk into a sink goes on.
-use Rattle.std.proofs.Common.{◌≡◌, ℕ, suc, [], ◌∷◌, ◌+◌, ◌≤◌, List, ◌++◌, length, take, drop, Result, Ok, Err, Some, refl, sym, ap, subst, ◌∙◌, append_assoc, arith, length-append, add-suc}
+use Rattle.std.proofs.Common.{◌≡◌, ℕ, [], ◌∷◌, ◌+◌, ◌≤◌, List, ◌++◌, length, take, drop, Result, Ok, Err, Some, refl, sym, ap, subst, ◌∙◌, append_assoc, arith, length-append}
 use Rattle.lambda_values.specs.Earlier.{Numbers}
 use Rattle.std.proofs.Math.Seq.{take-append-add}
 use Rattle.std.proofs.lemmas.List.{append-nil, take-append-drop, take-append-le, take_more, take_all}
@@ -34,8 +34,7 @@ module _ {S : Type 0} (h : S → List Item → Type 0) where
   on_from xs ys b (Ok fed.More) s p = (subst (h s) (append_assoc xs ys b.items) p.0, p.1)
   on_from xs ys b (Ok (fed.Fault f)) s p = (subst (h s) (append_assoc xs ys b.items) p.0, p.1)
   on_from xs ys b (Ok fed.Enough) s p =
-      let took : h s (xs ++ take (suc (length ys + p.0)) (ys ++ b.items)) = rw (← add-suc) (subst (h s) (behind xs ys b.items (suc p.0)) p.2) in
-      (length ys + p.0, omega (arith, length-append ys b.items, p.1), took)
+      (length ys + p.0, omega (arith, length-append ys b.items, p.1), subst (h s) (behind xs ys b.items p.0) p.2)
   on_from xs ys b (Err m) s p =
       (length ys + p.0, omega (arith, length-append ys b.items, p.1), subst (h s) (behind xs ys b.items p.0) p.2)
 
@@ -48,9 +47,15 @@ module _ {S : Type 0} (h : S → List Item → Type 0) where
   IsFed_stopped xs a b (Ok fed.More) s stopped p = absurd (stopped refl)
   IsFed_stopped xs a b (Ok (fed.Fault f)) s stopped p = subst (λ (t : Trace). IsFed h xs t (Ok (fed.Fault f)) s) (sym (append_faulted a b f p.1)) p
   IsFed_stopped xs a b (Ok fed.Enough) s stopped p =
-      (p.0, omega (arith, longer a.items a.ending b, p.1), subst (λ (zs : List Item). h s (xs ++ zs)) (sym (front a.items a.ending b (suc p.0) (omega (arith, p.1)))) p.2)
+      (p.0, omega (arith, longer a.items a.ending b, p.1), subst (λ (zs : List Item). h s (xs ++ zs)) (sym (front a.items a.ending b p.0 p.1)) p.2)
   IsFed_stopped xs a b (Err m) s stopped p =
       (p.0, omega (arith, longer a.items a.ending b, p.1), subst (λ (zs : List Item). h s (xs ++ zs)) (sym (front a.items a.ending b p.0 (omega (arith, p.1)))) p.2)
+
+  -- a sink that took all so far leaves the walk
+  pub IsFed_left : (xs : List Item) (t : Trace) (s s' : S) → ((ys : List Item) → h s ys → h s' ys) → IsFed h xs t (Ok fed.More) s → IsFed h xs t (Ok fed.Enough) s'
+  IsFed_left xs t s s' kept p =
+      let all : take (length t.items) t.items ≡ t.items = take_all (length t.items) t.items (omega arith) in
+      (length t.items, omega arith, subst (λ (zs : List Item). h s' (xs ++ zs)) (sym all) (kept (xs ++ t.items) p.0))
 
   -- a walk of items through stages, before its first item
   pub IsFed_none : (n : ℕ) (gs : List AbstractStage) (env : Numbers) (xs : List Item) (s : S) → h s xs → IsFed h xs (pipe n gs env (trace [] end.Done)) (Ok fed.More) s

@@ -1,6 +1,7 @@
 //! The items of a walk so far, and how the walk ended.
 
-ghost use Rattle.std.specs.Prelude.{◌≡◌, ◌≢◌, ◌<◌, ◌≤◌, [], ◌∷◌, ◌++◌, All, OnOk, OnErr, IfErr, IfOk, ⊤, flat_map, length, map, take};
+ghost use Rattle.std.specs.Prelude.{◌≡◌, ◌≢◌, ◌<◌, ◌≤◌, [], ◌∷◌, ◌++◌, All, OnOk};
+ghost use Rattle.std.specs.Prelude.{OnErr, IfErr, IfOk, ⊤, flat_map, length, map, take};
 ghost use Rattle.trace.specs.Trace.{trace, append};
 ghost use Rattle.trace.specs.Sinks.{flow_at};
 ghost use Rattle.trace.specs.declared.item.End.TheVariants as end;

@@ -1,7 +1,7 @@
 //! One item through the stages and into a sink, and the items of a source one by one.
 
-ghost use Rattle.std.specs.Prelude.{◌≡◌, ◌+◌, ◌<◌, ◌^◌, List, [], ◌∷◌, length, OnErr};
-ghost use Rattle.trace.specs.Trace.{trace};
+ghost use Rattle.std.specs.Prelude.{◌≡◌, ◌+◌, ◌<◌, ◌^◌, List, [], ◌∷◌, length, Ok, OnErr};
+ghost use Rattle.trace.specs.Trace.{Trace, trace};
 ghost use Rattle.lambda_values.specs.Streams.{run_or_listed};
 ghost use Rattle.trace.specs.Stages.{at_place, pipe, stages_of};
 ghost use Rattle.trace.specs.Sinks.{IsFed, flow_after};
@@ -123,17 +123,36 @@ fn feed_inner<S: LongSink>(
     requires numbered { first_stage + length stages.now < 2 ^ 32 }
     requires wants { S.flow sink.old ≡ Flow.More }
     ensures fed { (xs : List Item) → S.has_taken sink.old xs → IsFed S.has_taken xs
-        (pipe first_stage (stages_of stages.now) env.now (trace (at_place values.now.origin (run_or_listed values.now.run values.now.listed.now)) end.Done)) result sink.new }
+        (pipe first_stage (stages_of stages.now) env.now
+        (trace (at_place values.now.origin (run_or_listed values.now.run values.now.listed.now)) end.Done))
+        result sink.new }
     ensures flow { S.flow sink.new ≡ flow_after result }
     ensures refused { OnErr result S.takes_memory }
 {
     for position in 0..values.count() {
-        match feed(stages, first_stage, env, values.item_at(position), sink)? {
+        let fed = feed(stages, first_stage, env, values.item_at(position), sink)?;
+        match asked(fed, 1, sink) {
             Fed::More => {}
             stopped => return Ok(stopped),
         }
     }
     Ok(Fed::More)
+}
+
+/// What became of items, once the sink was asked whether it still wants more after this number of inner values.
+pub fn asked<S: LongSink>(became: Fed, values: u64, sink: &mut S) -> Fed
+    requires flow { S.flow sink.old ≡ flow_after (Ok became) }
+    ensures fed { (xs : List Item) (t : Trace) → IsFed S.has_taken xs t (Ok became) sink.old
+        → IsFed S.has_taken xs t (Ok result) sink.new }
+    ensures flow { S.flow sink.new ≡ flow_after (Ok result) }
+{
+    let Fed::More = became else {
+        return became;
+    };
+    match sink.still_wants(values) {
+        Flow::More => Fed::More,
+        Flow::Enough => Fed::Enough,
+    }
 }
 
 /// The fault of this stage at this item.

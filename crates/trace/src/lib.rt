@@ -20,7 +20,7 @@ mod source;
 mod stage;
 
 pub use chunk::{Chunk, EndTest, Rewrite};
-pub use feeding::{Fed, feed, feed_all};
+pub use feeding::{Fed, asked, feed, feed_all};
 pub use item::{End, Fault, Item};
 pub use laws::{
     joining_is_associative, nothing_is_the_unit, stages_go_item_by_item, stages_keep_joining,

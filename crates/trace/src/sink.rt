@@ -37,4 +37,14 @@ pub trait LongSink {
             ((xs : List Item) → has_taken self.old xs → has_taken self.new xs) }
         ensures wants { OnErr result (flow self.new ≡ Flow.More) }
         ensures refused { OnErr result takes_memory };
+
+    /// Answers whether the sink still wants an item, after this number of values of inner streams, perhaps none of
+    /// them for it. It may leave the walk then.
+    fn still_wants(&mut self, _values: u64) -> Flow
+        requires { flow self.old ≡ Flow.More }
+        ensures taken { (xs : List Item) → has_taken self.old xs → has_taken self.new xs }
+        ensures answer { result ≡ flow self.new }
+    {
+        Flow::More
+    }
 }

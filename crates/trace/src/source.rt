@@ -1,6 +1,7 @@
 //! Items that are read by their positions, and the sources that have them.
 
-ghost use Rattle.std.specs.Prelude.{◌≡◌, ◌+◌, ◌<◌, ◌≤◌, ◌^◌, ℕ, pos, ◌+ℤ◌, List, length, FitsSigned, IfNone, IfSome, Some, slice_get};
+ghost use Rattle.std.specs.Prelude.{◌≡◌, ◌+◌, ◌<◌, ◌≤◌, ◌^◌, ℕ, pos, ◌+ℤ◌, List, length};
+ghost use Rattle.std.specs.Prelude.{FitsSigned, IfNone, IfSome, Some, slice_get};
 ghost use Rattle.std.specs.Int.{w64};
 ghost use Rattle.trace.specs.Cover.{counted, cover, placed, range, too_long, values as listed};
 ghost use Rattle.lambda_values.specs.Streams.{run_or_listed};
@@ -46,7 +47,8 @@ impl RangeItems {
     /// 2^62.
     pub fn between(from: i64, to: i64) -> Option<RangeItems>
         ensures origin { IfSome result (λ source. source.origin ≡ 0) }
-        ensures some { IfSome result (λ source. cover (range from to) ≡ trace (placed 0 (counted source.first source.count)) end.Done) }
+        ensures some { IfSome result (λ source. cover (range from to)
+            ≡ trace (placed 0 (counted source.first source.count)) end.Done) }
         ensures none { IfNone result (cover (range from to) ≡ too_long) }
     {
         let count = if from < to { to.abs_diff(from) } else { 0 };
@@ -91,7 +93,8 @@ impl<'a> PlacedValues<'a> {
     /// For other programs: `streamrun` uses the sources of `job_plan`.
     pub fn of(values: &'a [i64]) -> Option<PlacedValues<'a>>
         ensures origin { IfSome result (λ source. source.origin ≡ 0) }
-        ensures some { IfSome result (λ source. (source.values.now ≡ values.now) × (cover (listed values.now) ≡ trace (placed 0 values.now) end.Done)) }
+        ensures some { IfSome result (λ source. (source.values.now ≡ values.now)
+            × (cover (listed values.now) ≡ trace (placed 0 values.now) end.Done)) }
         ensures none { IfNone result (cover (listed values.now) ≡ too_long) }
     {
         if values.len() as u64 > MAX_SOURCE_SIZE {

@@ -23,7 +23,8 @@ impl<'a, T: Drop> Door<'a, T> {
 
     /// Puts a task into the inbox. If there is no memory for it, it comes back.
     pub fn put<R: Wait>(self, rt: &R, task: T) -> (Door<'a, T>, Result<(), T>)
-        ensures put { MatchResult result.1 (λ _. IsAdded (pass_calls self.entry.pass) (pass_calls result.0.pass) task) (λ back. back ≡ task) }
+        ensures put { MatchResult result.1 (λ _. IsAdded (pass_calls self.entry.pass) (pass_calls result.0.pass) task)
+            (λ back. back ≡ task) }
     {
         let Door { inbox, pass } = self;
         let (pass, put) = inbox.put(rt, pass, task);
@@ -32,7 +33,8 @@ impl<'a, T: Drop> Door<'a, T> {
 
     /// Takes the oldest task; `None` if the inbox was empty at one moment of the call.
     pub fn take<R: Wait>(self, rt: &R) -> (Door<'a, T>, Option<T>)
-        ensures taken { MatchOption result.1 (pass_calls result.0.pass ≡ pass_calls self.entry.pass) (λ task. IsOldestOut (pass_calls self.entry.pass) (pass_calls result.0.pass) task) }
+        ensures taken { MatchOption result.1 (pass_calls result.0.pass ≡ pass_calls self.entry.pass)
+            (λ task. IsOldestOut (pass_calls self.entry.pass) (pass_calls result.0.pass) task) }
     {
         let Door { inbox, pass } = self;
         let (pass, task) = inbox.take(rt, pass);

@@ -46,7 +46,8 @@ where
         rt,
         move |scope| -> W::Idle
             requires { 0 < vec_len idle }
-            ensures { W.is_over work.entry.now result × IfSome (slice_get idle.items 0) (λ i. W.owner_of result ≡ W.owner_of i) }
+            ensures { W.is_over work.entry.now result × IfSome (slice_get idle.items 0)
+                (λ i. W.owner_of result ≡ W.owner_of i) }
         {
             let Finders {
                 bell,

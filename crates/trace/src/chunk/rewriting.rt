@@ -17,7 +17,8 @@ pub trait Rewrite {
 
     /// Changes the next items. It neither adds nor removes any.
     fn rewrite(&mut self, items: &mut [Item])
-        ensures next { (rest : List Item) → rewritten self.old (items.old ++ rest) ≡ items.new ++ rewritten self.new rest }
+        ensures next { (rest : List Item)
+            → rewritten self.old (items.old ++ rest) ≡ items.new ++ rewritten self.new rest }
         ensures count { length items.new ≡ length items.old };
 }
 
@@ -32,7 +33,8 @@ impl Chunk {
 
 /// Changes the items of these pieces.
 fn rewrite_pieces<R: Rewrite>(pieces: &mut [Vec<Item>], pass: &mut R)
-    ensures items { flat_map (λ piece. piece.items) pieces.new ≡ R.rewritten pass.old (flat_map (λ piece. piece.items) pieces.old) }
+    ensures items { flat_map (λ piece. piece.items) pieces.new
+        ≡ R.rewritten pass.old (flat_map (λ piece. piece.items) pieces.old) }
     ensures full { All (λ piece. piece.items ≢ []) pieces.old → All (λ piece. piece.items ≢ []) pieces.new }
 {
     for piece in pieces {

@@ -55,7 +55,9 @@ impl Chunk {
 
 /// The first item that ends the walk: after whole pieces and some items of the next one.
 fn first_stop<S: EndTest>(pieces: &[Vec<Item>], stop: &S) -> Option<(usize, usize, End)>
-    ensures some { IfSome result (λ at. (n : ℕ) × (stop_at (S.stops stop.now) (flat_map (λ piece. piece.items) pieces.now) ≡ Some (n, at.2)) × IsCut (λ piece. piece.items) pieces.now n at.0 at.1) }
+    ensures some { IfSome result (λ at. (n : ℕ)
+        × (stop_at (S.stops stop.now) (flat_map (λ piece. piece.items) pieces.now) ≡ Some (n, at.2))
+        × IsCut (λ piece. piece.items) pieces.now n at.0 at.1) }
     ensures none { IfNone result (stop_at (S.stops stop.now) (flat_map (λ piece. piece.items) pieces.now) ≡ None) }
 {
     for (whole, piece) in pieces.iter().enumerate() {

@@ -1,6 +1,7 @@
 //! Chunks that become shorter in place.
 
-ghost use Rattle.std.specs.Prelude.{true, false, ◌≡◌, ◌≢◌, [], ◌++◌, ℕ, ◌<◌, ◌≤◌, ◌⊎◌, List, length, All, IfNone, IfSome, MatchOption, drop, flat_map, take, vec_len};
+ghost use Rattle.std.specs.Prelude.{true, false, ◌≡◌, ◌≢◌, [], ◌++◌, ℕ, ◌<◌, ◌≤◌, ◌⊎◌, List, length};
+ghost use Rattle.std.specs.Prelude.{All, IfNone, IfSome, MatchOption, drop, flat_map, take, vec_len};
 ghost use Rattle.trace.specs.Trace.{trace};
 ghost use Rattle.trace.specs.Cuts.{IsCut, IsInside};
 
@@ -60,7 +61,8 @@ fn cut_at(pieces: &[Vec<Item>], n: u64) -> Option<(usize, usize)>
 /// Keeps whole pieces and some items of the next one.
 pub(super) fn keep_front(pieces: &mut Vec<Vec<Item>>, whole: usize, within: usize)
     requires inside { IsInside (λ piece. piece.items) pieces.old.items whole within }
-    ensures items { flat_map (λ piece. piece.items) pieces.new.items ≡ flat_map (λ piece. piece.items) (take whole pieces.old.items)
+    ensures items { flat_map (λ piece. piece.items) pieces.new.items
+        ≡ flat_map (λ piece. piece.items) (take whole pieces.old.items)
         ++ take within (flat_map (λ piece. piece.items) (drop whole pieces.old.items)) }
     ensures full { All (λ piece. piece.items ≢ []) pieces.old.items → All (λ piece. piece.items ≢ []) pieces.new.items }
 {
@@ -75,7 +77,8 @@ pub(super) fn keep_front(pieces: &mut Vec<Vec<Item>>, whole: usize, within: usiz
 /// Removes whole pieces and some items of the next one.
 pub(super) fn keep_back(pieces: &mut Vec<Vec<Item>>, whole: usize, within: usize)
     requires inside { IsInside (λ piece. piece.items) pieces.old.items whole within }
-    ensures items { flat_map (λ piece. piece.items) pieces.new.items ≡ drop within (flat_map (λ piece. piece.items) (drop whole pieces.old.items)) }
+    ensures items { flat_map (λ piece. piece.items) pieces.new.items
+        ≡ drop within (flat_map (λ piece. piece.items) (drop whole pieces.old.items)) }
     ensures full { All (λ piece. piece.items ≢ []) pieces.old.items → All (λ piece. piece.items ≢ []) pieces.new.items }
 {
     drop_front(pieces, whole);

@@ -1,4 +1,4 @@
-use Rattle.std.proofs.Common.{Bool, ◌≡◌, ℕ, ◌+◌, ◌<◌, ◌≤◌, pos, length, slice_index, get_or, ◌∙◌, arith, rules, w64, to_z, of_z, subst}
+use Rattle.std.proofs.Common.{Bool, ◌≡◌, ℕ, ◌+◌, ◌<◌, ◌≤◌, ℤ, pos, length, slice_index, get_or, ap, ◌∙◌, arith, rules, w64, to_z, of_z, subst}
 use Rattle.batch_eval.specs.Lanes.{at, is_set}
 use Rattle.batch_eval.specs.Batches.{passing}
 use Rattle.batch_eval.proofs.KeptLaneLemmas.{kept_set, kept_unset, front_more, rest_more}
@@ -6,20 +6,26 @@ use Rattle.batch_eval.proofs.keep.keep.Goals.{then-is_set, else-is_set}
 use Rattle.batch_eval.proofs.keep.keep.Goals as goal
 
 pub loop-i-preserved : goal.loop-i-preserved
-loop-i-preserved c =
+loop-i-preserved g c =
     let flags = c.args.flags.now in
     let p : ℕ → Bool = λ k. is_set (at flags k) in
     let i = c.loop-i.i in
     let kept = c.loop-i.kept in
     let so_far = c.loop-i.invariant in
-    let value = get_or c.loop-i.values i (pos 0) in
+    let old = get_or c.loop-i.values i (pos 0) in
+    let xs : ℕ → ℤ = λ k. g.A.Lanes.number c.args.xs (at c.args.values.now k) k in
+    let spots : ℕ → ℕ = λ k. g.P.Places.place c.args.places (slice_index c.args.origins.now k) k in
+    let value = c.get.result in
+    let spot = c.get-in-loop-i.result in
     let flag : c.is_set.result ≡ is_set (at flags i) = search rules in
     let same : to_z w64 (of_z w64 value) ≡ value = search rules in
-    let here : to_z w64 (of_z w64 value) ≡ at c.args.values.now i = same ∙ so_far.rest_values i (omega arith) in
-    let values = front_more p (at c.args.values.now) c.loop-i.values kept i (to_z w64 (of_z w64 value)) (pos 0) c.is_set.result flag here (omega arith) so_far.count so_far.values in
+    let read : to_z w64 (of_z w64 old) ≡ old = search rules in
+    let here : to_z w64 (of_z w64 value) ≡ xs i = same ∙ c.get.ensures ∙ ap (λ (z : ℤ). g.A.Lanes.number c.args.xs z i) (read ∙ so_far.rest_values i (omega arith)) in
+    let there : spot ≡ spots i = c.get-in-loop-i.ensures ∙ ap (λ (n : ℕ). g.P.Places.place c.args.places n i) (so_far.rest_origins i (omega arith)) in
+    let values = front_more p xs c.loop-i.values kept i (to_z w64 (of_z w64 value)) (pos 0) c.is_set.result flag here (omega arith) so_far.count so_far.values in
     let values_rest = rest_more p (at c.args.values.now) c.loop-i.values kept i (to_z w64 (of_z w64 value)) (pos 0) so_far.within so_far.rest_values in
-    let origins = front_more p (slice_index c.args.origins.now) c.loop-i.origins kept i (get_or c.loop-i.origins i 0) 0 c.is_set.result flag (so_far.rest_origins i (omega arith)) (omega arith) so_far.count so_far.origins in
-    let origins_rest = rest_more p (slice_index c.args.origins.now) c.loop-i.origins kept i (get_or c.loop-i.origins i 0) 0 so_far.within so_far.rest_origins in
+    let origins = front_more p spots c.loop-i.origins kept i spot 0 c.is_set.result flag there (omega arith) so_far.count so_far.origins in
+    let origins_rest = rest_more p (slice_index c.args.origins.now) c.loop-i.origins kept i spot 0 so_far.within so_far.rest_origins in
     let count : c.if-is_set.kept ≡ length (passing flags (i + 1)) = elim c.if-is_set.branch [
       | then-is_set w ↦ w.kept-is ∙ kept_set p i kept c.is_set.result flag w.if-is_set.true so_far.count
       | else-is_set w ↦ w.kept-is ∙ kept_unset p i kept c.is_set.result flag w.if-is_set.false so_far.count

@@ -1,4 +1,4 @@
-use Rattle.std.proofs.Common.{◌≡◌, ◌+◌, ◌≤◌, ◌++◌, ℤ, w64, to_z, of_z, List, [], take, length, Ok, Err, Some, ap, sym, subst, ◌∙◌, rules, add-one, arith, refl}
+use Rattle.std.proofs.Common.{◌≡◌, ◌+◌, ◌<◌, ◌≤◌, ◌++◌, ℕ, ℤ, w64, to_z, of_z, List, [], take, length, Ok, Err, Some, ap, sym, subst, ◌∙◌, rules, add-one, arith, refl}
 use Rattle.std.proofs.lemmas.List.{append-nil, take_all}
 use Rattle.std.proofs.lemmas.Result.{err_from_is_err_and}
 use Rattle.trace.specs.declared.item.Item.{Item}
@@ -9,9 +9,10 @@ use Rattle.trace.specs.Trace.{Trace, trace, each}
 use Rattle.trace.specs.Sinks.{IsFed}
 use Rattle.trace.specs.Stages.{at_place, flat_map, flattened, of_item}
 use Rattle.lambda_values.specs.Streams.{inner_of, inner_value, run_or_listed}
+use Rattle.batch_eval.specs.InnerColumns.{given}
+use Rattle.batch_eval.specs.Lanes.{at}
 use Rattle.batch_eval.specs.Pipelines.{piped}
 use Rattle.batch_eval.specs.Pours.{Holds}
-use Rattle.batch_eval.proofs.FewLemmas.{bounds_taken}
 use Rattle.batch_eval.proofs.WaitingItemLemmas.{holds_none, holds_ended, holds_added, holds_further, flushed, poured_rest, inner_stopped, each_next, each_fault, each_whole}
 use Rattle.batch_eval.proofs.staging.+batches.Goals as goal
 
@@ -27,23 +28,11 @@ feed_batch-returns-else-is_empty-clause-fed g t c = λ xs took.
     let here = rw (c.filter.ensures, split.first, split.env, add-one) at (c.feed_batch-in-Filter.ensures.fed xs took) in
     rw (split.stages, c.in-Filter.is) here
 
-pub feed_batch-returns-then-map_to_one-clause-fed : goal.feed_batch-returns-then-map_to_one-clause-fed
-feed_batch-returns-then-map_to_one-clause-fed g t c = λ xs took.
-    let split = c.in-Some.ensures in
-    let here = rw (c.map_to_one.ensures.mapped c.if-map_to_one.true, split.first, split.env, add-one) at (c.feed_batch-then-map_to_one.ensures.fed xs took) in
-    rw (split.stages, c.in-FlatMap.is) here
-
 pub feed_batch-returns-in-Some-split_first_mut-clause-fed : goal.feed_batch-returns-in-Some-split_first_mut-clause-fed
 feed_batch-returns-in-Some-split_first_mut-clause-fed g t c = λ xs took.
     let split = c.in-Some.ensures in
-    let same = c.map_to_one.ensures.other c.if-map_to_one.false in
-    let here = rw (same, split.first, split.env, add-one) at (c.feed_inner.ensures.fed xs took) in
+    let here = rw (split.first, split.env, add-one) at (c.feed_inner.ensures.fed xs took) in
     rw (split.stages, c.in-FlatMap.is) here
-
-pub feed_batch-returns-in-None-clause-fed : goal.feed_batch-returns-in-None-clause-fed
-feed_batch-returns-in-None-clause-fed g t c = λ xs took.
-    let same = c.map_to_one.ensures.other c.if-map_to_one.false in
-    rw same at (c.feed_lanes.ensures.fed xs took)
 
 pub finish-returns-clause-fed : goal.finish-returns-clause-fed
 finish-returns-clause-fed g t c = λ xs whole held.
@@ -55,7 +44,8 @@ make_space-returns-clause-poured g t c = λ xs whole held.
     let h = g.S.LongSink.has_taken in
     let line = c.args.line in
     let here = subst (λ (b : Trace). (vs : List Item) → h c.args.sink.now vs → IsFed h vs (piped line b) (Ok c.in_ok-fed.fed) c.feed_batch.new.sink) c.end_with.ensures c.in_ok-fed.ensures.fed in
-    rw c.clear.ensures (flushed h line xs whole (Ok c.in_ok-fed.fed) c.feed_batch.new.sink (holds_ended h line xs whole c.args.pending.now.items end.Done (Ok c.in_ok-fed.fed) c.args.sink.now c.feed_batch.new.sink held here))
+    let fed = c.asked.ensures.fed xs (piped line (trace whole end.Done)) (holds_ended h line xs whole c.args.pending.now.items end.Done (Ok c.in_ok-fed.fed) c.args.sink.now c.feed_batch.new.sink held here) in
+    rw c.clear.ensures (flushed h line xs whole (Ok c.asked.result) c.asked.new.sink fed)
 
 pub make_space-returns-in_err-fed-clause-poured : goal.make_space-returns-in_err-fed-clause-poured
 make_space-returns-in_err-fed-clause-poured g t c = λ xs whole held.
@@ -114,11 +104,9 @@ feed_inner-loop-position-init g t c =
     let s = c.args.sink.now in
     let none : List Item = [] in
     let inner = inner_of c.args.stage.inner.now in
-    let lanes = c.eval_bounds-lanes.result in
-    let froms = c.eval_bounds-lanes.new.froms in
-    let tos = c.eval_bounds-lanes.new.tos in
-    let bounds = bounds_taken inner env os c.values.result.now froms tos (take lanes froms) (take lanes tos) lanes c.values.ensures refl refl c.eval_bounds-lanes.ensures.bounds in
-    let added = c.add_few-position.ensures.added c.args.stage.number env bounds in
+    let columns = c.eval_columns-lanes in
+    let operands = subst (λ (xs : List ℤ). (k : ℕ) → k < columns.result → inner_value inner (at xs k) env ≡ given inner columns.new.registers k) c.values.ensures columns.ensures.operands in
+    let added = c.add_few-position.ensures.added c.args.stage.number env operands in
     let front : Trace = each (of_item c.args.stage.number (flat_map inner) env) (take c.add_few-position.result os) end.Done in
     let next : front ≡ trace (none ++ added.0) end.Done = added.2 refl in
     record {
@@ -145,12 +133,10 @@ feed_inner-loop-position-preserved g t c =
     let next : front' ≡ trace (front.items ++ zs) end.Done = each_next f os p y zs c.item_at-item.ensures c.loop-position.invariant.done gives in
     let poured = rw c.in-More.is at c.in_ok-stopped-in-Ok.ensures.poured in
     let inner = inner_of c.args.stage.inner.now in
-    let lanes = c.eval_bounds-lanes.result in
-    let froms = c.eval_bounds-lanes.new.froms in
-    let tos = c.eval_bounds-lanes.new.tos in
-    let bounds = bounds_taken inner env os c.values.result.now froms tos (take lanes froms) (take lanes tos) lanes c.values.ensures refl refl c.eval_bounds-lanes.ensures.bounds in
+    let columns = c.eval_columns-lanes in
+    let operands = subst (λ (xs : List ℤ). (k : ℕ) → k < columns.result → inner_value inner (at xs k) env ≡ given inner columns.new.registers k) c.values.ensures columns.ensures.operands in
     let further = c.add_few-position-in-loop-position in
-    let added = further.ensures.added c.args.stage.number env bounds in
+    let added = further.ensures.added c.args.stage.number env operands in
     let last : Trace = each f (take further.result os) end.Done in
     let more : last ≡ trace (front'.items ++ added.0) end.Done = added.2 (ap (λ (u : Trace). u.ending) next) in
     record {

@@ -12,54 +12,43 @@ part_start-start-requires-clause-in_order c =
     let t = c.args.text.now in
     let ws = words_of t.bytes t.tokens in
     let left = length-drop (c.args.call.now.opened + 1) ws in
-    let same = length-words_of t.bytes t.tokens in
     let size = c.len.ensures in
-    subst (λ es. AreEnds 0 es c.len.result) (sym c.as_slice-ends.ensures.value) (wider 0 c.args.call.now.ends.items (length (drop (c.args.call.now.opened + 1) ws)) c.len.result (omega arith) c.requires.stands.ends)
+    subst (λ es. AreEnds 0 es c.len.result) (sym c.as_slice-ends.ensures.value) (wider 0 c.args.call.now.ends.items (length (drop (c.args.call.now.opened + 1) ws)) c.len.result (omega (arith, length-words_of t.bytes t.tokens)) c.requires.stands.ends)
 
 pub overflow_add-call : goal.overflow_add-call
 overflow_add-call c =
     let t = c.args.text.now in
     let places = last_places (words_of t.bytes t.tokens) c.args.call.now c.as_slice-ends.result.now c.part_start-start.result c.len.result c.requires.stands c.requires.some c.as_slice-ends.ensures.value c.part_start-start.ensures (c.len.ensures ∙ sym (length-words_of t.bytes t.tokens)) in
-    let low = places.0 in
-    let high = places.1 in
     let fits : Fits w64 c.len.result = search rules in
-    omega arith
+    omega (arith, places.0, places.1)
 
 pub overflow_add-call-2 : goal.overflow_add-call-2
 overflow_add-call-2 c =
     let t = c.args.text.now in
     let places = last_places (words_of t.bytes t.tokens) c.args.call.now c.as_slice-ends.result.now c.part_start-start.result c.len.result c.requires.stands c.requires.some c.as_slice-ends.ensures.value c.part_start-start.ensures (c.len.ensures ∙ sym (length-words_of t.bytes t.tokens)) in
-    let low = places.0 in
-    let high = places.1 in
     let fits : Fits w64 c.len.result = search rules in
-    omega arith
+    omega (arith, places.0, places.1)
 
 pub overflow_add-call-3 : goal.overflow_add-call-3
 overflow_add-call-3 c =
     let t = c.args.text.now in
     let places = last_places (words_of t.bytes t.tokens) c.args.call.now c.as_slice-ends.result.now c.part_start-start.result c.len.result c.requires.stands c.requires.some c.as_slice-ends.ensures.value c.part_start-start.ensures (c.len.ensures ∙ sym (length-words_of t.bytes t.tokens)) in
-    let low = places.0 in
-    let high = places.1 in
     let fits : Fits w64 c.len.result = search rules in
-    omega arith
+    omega (arith, places.0, places.1)
 
 pub between-requires-clause-in_order : goal.between-requires-clause-in_order
 between-requires-clause-in_order c =
     let t = c.args.text.now in
     let places = last_places (words_of t.bytes t.tokens) c.args.call.now c.as_slice-ends.result.now c.part_start-start.result c.len.result c.requires.stands c.requires.some c.as_slice-ends.ensures.value c.part_start-start.ensures (c.len.ensures ∙ sym (length-words_of t.bytes t.tokens)) in
-    let low = places.0 in
-    let high = places.1 in
     let fits : Fits w64 c.len.result = search rules in
-    omega arith
+    omega (arith, places.0, places.1)
 
 pub between-requires-clause-in_range : goal.between-requires-clause-in_range
 between-requires-clause-in_range c =
     let t = c.args.text.now in
     let places = last_places (words_of t.bytes t.tokens) c.args.call.now c.as_slice-ends.result.now c.part_start-start.result c.len.result c.requires.stands c.requires.some c.as_slice-ends.ensures.value c.part_start-start.ensures (c.len.ensures ∙ sym (length-words_of t.bytes t.tokens)) in
-    let low = places.0 in
-    let high = places.1 in
     let fits : Fits w64 c.len.result = search rules in
-    omega arith
+    omega (arith, places.0, places.1)
 
 pub returns : goal.returns
 returns c =

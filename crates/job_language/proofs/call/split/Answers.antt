@@ -36,7 +36,5 @@ loop-at-preserved c =
 
 pub returns : goal.returns
 returns c =
-    let same = length_words c.args.words.now in
-    let end = c.loop-at-test.false in
-    let few : length (words_in c.args.words.now) ≤ c.loop-at.at = omega arith in
+    let few : length (words_in c.args.words.now) ≤ c.loop-at.at = omega (arith, c.loop-at-test.false, length_words c.args.words.now) in
     ends_open (words_in c.args.words.now) c.loop-at.at c.loop-at.depth c.loop-at.ends.items few c.loop-at.invariant

@@ -23,21 +23,15 @@ pub width-requires : goal.width-requires
 width-requires c =
     let o = c.args.operation in
     let read = subst (λ f. MatchOption f (IsNoCallOf o (words_in c.after.result.now)) (λ ends. IsReadAs o (words_in c.after.result.now) ends.items)) c.in-Some.is c.in_ok-ends.ensures in
-    let far = (call_ends o (words_in c.after.result.now) c.in-Some.ends.items read).1 in
-    let same = length_words c.after.result.now in
-    let len = c.after.ensures.len in
-    subst (λ es. width es ≤ length c.args.words.now) (sym c.deref.ensures.value) (omega arith)
+    subst (λ es. width es ≤ length c.args.words.now) (sym c.deref.ensures.value) (omega (arith, c.after.ensures.len, length_words c.after.result.now, (call_ends o (words_in c.after.result.now) c.in-Some.ends.items read).1))
 
 pub overflow_add-to-2 : goal.overflow_add-to-2
 overflow_add-to-2 c =
     let o = c.args.operation in
     let read = subst (λ f. MatchOption f (IsNoCallOf o (words_in c.after.result.now)) (λ ends. IsReadAs o (words_in c.after.result.now) ends.items)) c.in-Some.is c.in_ok-ends.ensures in
-    let far = (call_ends o (words_in c.after.result.now) c.in-Some.ends.items read).1 in
-    let same = length_words c.after.result.now in
-    let len = c.after.ensures.len in
     let is : c.width.result ≡ width c.in-Some.ends.items = c.width.ensures ∙ ap width c.deref.ensures.value in
     let fits : Fits w64 (length c.args.words.now) = search rules in
-    omega arith
+    omega (arith, (call_ends o (words_in c.after.result.now) c.in-Some.ends.items read).1, length_words c.after.result.now, c.after.ensures.len)
 
 pub returns : goal.returns
 returns c =

@@ -7,11 +7,8 @@ use Rattle.job_language.proofs.piece.is_open_at.Goals as goal
 
 pub returns-then-place-words : goal.returns-then-place-words
 returns-then-place-words c =
-    let same = length_words c.args.words.now in
-    let far = c.if-place-words.true in
-    sym (not_open_past (words_in c.args.words.now) c.args.place (omega arith))
+    sym (not_open_past (words_in c.args.words.now) c.args.place (omega (arith, c.if-place-words.true, length_words c.args.words.now)))
 
 pub returns : goal.returns
 returns c =
-    let near = c.if-place-words.false in
-    c.is_open.ensures ∙ ap is_open (sym (word_at c.args.words.now c.args.place _ (omega arith)))
+    c.is_open.ensures ∙ ap is_open (sym (word_at c.args.words.now c.args.place _ (omega (arith, c.if-place-words.false))))

@@ -31,8 +31,7 @@ returns-then-sources_in-gt-MAX_SOURCES c = λ j h.
     let name : c.first_name.result.now ≡ first_name ws = c.first_name.ensures in
     let none : first_cause (name_causes s (first_name ws)) ≡ None = ap (λ w. first_cause (name_causes s w)) (sym name) ∙ sym c.name_cause.ensures ∙ c.in_default-name_cause.is in
     let sources : c.sources_in.result ≡ sources_in (calls_in ws cs) = c.sources_in.ensures ws in
-    let over = c.if-sources_in-gt-MAX_SOURCES.true in
-    sym (after_version s j version ∙ by_sources s ws cs j c.requires h none (omega arith))
+    sym (after_version s j version ∙ by_sources s ws cs j c.requires h none (omega (arith, c.if-sources_in-gt-MAX_SOURCES.true)))
 
 pub returns : goal.returns
 returns c = λ j h.
@@ -43,5 +42,4 @@ returns c = λ j h.
     let name : c.first_name.result.now ≡ first_name ws = c.first_name.ensures in
     let none : first_cause (name_causes s (first_name ws)) ≡ None = ap (λ w. first_cause (name_causes s w)) (sym name) ∙ sym c.name_cause.ensures ∙ c.in_default-name_cause.is in
     let sources : c.sources_in.result ≡ sources_in (calls_in ws cs) = c.sources_in.ensures ws in
-    let within = c.if-sources_in-gt-MAX_SOURCES.false in
-    sym (after_version s j version ∙ by_none s ws cs j c.requires h none (omega arith))
+    sym (after_version s j version ∙ by_none s ws cs j c.requires h none (omega (arith, c.if-sources_in-gt-MAX_SOURCES.false)))

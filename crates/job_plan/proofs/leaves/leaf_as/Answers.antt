@@ -1,4 +1,4 @@
-use Rattle.std.proofs.Common.{◌≡◌, ◌+◌, suc, List, [], ◌++◌, length, take, Ok, refl, sym, ap, subst, ◌∙◌, rules}
+use Rattle.std.proofs.Common.{◌≡◌, ◌+◌, List, [], ◌++◌, length, take, Ok, refl, sym, ap, subst, ◌∙◌, rules}
 use Rattle.trace.specs.declared.item.Item.{Item}
 use Rattle.trace.specs.declared.item.End.{End}
 use Rattle.trace.specs.declared.item.End.TheVariants as end
@@ -65,9 +65,9 @@ returns g c =
             | in-Enough w ↦
                 let given = rw w.in-Enough.is at fed in
                 let flow = rw w.in-Enough.is at c.in_ok-feed.ensures.flow in
-                let front : Trace = append w_before (trace (no_items ++ take (suc given.0) walk.items) end.Done) in
+                let front : Trace = append w_before (trace (no_items ++ take given.0 walk.items) end.Done) in
                 let x : EndsFor e m env part front = unpinned e f m n env named part front ends c.requires.stage c.requires.env (given.2.3.0 w_before at_first) in
-                subst (λ (p : Part). StandsFor s env p (append before (piece_of from to t))) (sym (ap (λ k. k.0) w.sink-is)) (after_enough s env part before t from to (suc given.0) (enough_is_settled (is_settled part) flow) x)
+                subst (λ (p : Part). StandsFor s env p (append before (piece_of from to t))) (sym (ap (λ k. k.0) w.sink-is)) (after_enough s env part before t from to given.0 (enough_is_settled (is_settled part) flow) x)
           ];
       kind = elim c.match-branch-2.branch [
         | in-More w ↦ let given = rw w.in-More.is at fed in ap (λ k. may_search k.0) w.sink-is ∙ w.end_with.ensures.kind ∙ given.0.3.1 ∙ ap may_search (sym c.requires.begun)

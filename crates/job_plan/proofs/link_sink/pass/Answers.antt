@@ -1,5 +1,4 @@
-use Rattle.std.proofs.Common.{◌<◌, ◌-◌, List, Ok, length, take, drop, sym, ap, subst, arith, rules}
-use Rattle.std.proofs.lemmas.List.{length-map}
+use Rattle.std.proofs.Common.{◌-◌, List, Ok, take, drop, sym, subst}
 use Rattle.trace.specs.declared.item.Item.{Item}
 use Rattle.trace.specs.declared.item.End.TheVariants as end
 use Rattle.trace.specs.declared.feeding.Fed.{Fed}
@@ -28,10 +27,21 @@ returns-clause-fed g c = λ begun xs took.
     let here : HasPassed h f begun n next env (rest_of p.rest) passage.Open p.inner xs = subst (λ (q : Passage). HasPassed h f begun n next env (rest_of p.rest) q p.inner xs) c.in-Open.is took in
     let on = passed_on h f begun n next env xs items win cut.end (rest_of p.rest) (rest_of cut.rest) here.0 c.hand_on.new.sink here.2 c.cut-cut.ensures.passes
     c.in-Ok.fed c.after-passage.result (subst (λ (u : Trace). IsFed h here.0 u (Ok c.in-Ok.fed) c.hand_on.new.sink) (c.pipeline-line.ensures (trace win end.Done)) (c.in-Ok.ensures.fed here.0 here.1)) c.in-Ok.ensures.flow c.after-passage.ensures in
-    let values = ap length c.requires.values in
-    let size = length-map items (λ (x : Item). x.value) in
-    let some_value : 0 < length c.args.values.now = search rules in
-    let some_item : 0 < length items = omega (arith, values, size, some_value) in
     let t : Passing g.row.S.Denot = record { rest = cut.rest; passage = c.after-passage.result; inner = c.hand_on.new.sink } in
     let has : Passing g.row.S.Denot → List Item → Type 0 = λ q zs. HasPassed h f begun n next env (rest_of q.rest) q.passage q.inner zs in
-    subst (λ (r : Fed). IsFed has xs (trace items end.Done) (Ok r) t) (sym c.answer.ensures) (answered has t xs items c.after-passage.result some_item on)
+    subst (λ (r : Fed). IsFed has xs (trace items end.Done) (Ok r) t) (sym c.answer.ensures) (answered has t xs items c.after-passage.result on)
+
+pub returns-clause-all : goal.returns-clause-all
+returns-clause-all g c = λ begun xs took.
+    let p = c.args.passing.now in
+    let h = g.S.LongSink.has_taken in
+    let f = g.S.LongSink.flow in
+    let n = c.args.junction.stage in
+    let next = segment_in c.args.junction.next.now in
+    let env = c.args.junction.env.now in
+    let items = g.I.SourceItems.items c.args.source.now in
+    let cut = c.cut-cut.result in
+    let win = take (cut.to - cut.from) (drop cut.from items) in
+    let here : HasPassed h f begun n next env (rest_of p.rest) passage.Open p.inner xs = subst (λ (q : Passage). HasPassed h f begun n next env (rest_of p.rest) q p.inner xs) c.in-Open.is took in
+    passed_on h f begun n next env xs items win cut.end (rest_of p.rest) (rest_of cut.rest) here.0 c.hand_on.new.sink here.2 c.cut-cut.ensures.passes
+    c.in-Ok.fed c.after-passage.result (subst (λ (u : Trace). IsFed h here.0 u (Ok c.in-Ok.fed) c.hand_on.new.sink) (c.pipeline-line.ensures (trace win end.Done)) (c.in-Ok.ensures.fed here.0 here.1)) c.in-Ok.ensures.flow c.after-passage.ensures

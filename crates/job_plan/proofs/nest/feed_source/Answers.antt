@@ -1,4 +1,4 @@
-use Rattle.std.proofs.Common.{suc, List, [], Ok, sym, ap, subst, ◌∙◌}
+use Rattle.std.proofs.Common.{List, [], Ok, sym, ap, subst, ◌∙◌}
 use Rattle.trace.specs.declared.item.Item.{Item}
 use Rattle.trace.specs.declared.item.End.TheVariants as end
 use Rattle.trace.specs.Sinks.{IsFed}
@@ -41,5 +41,5 @@ returns-in-Enough g c =
     let given = rw c.in-Enough.is at fed in
     let flow = rw c.in-Enough.is at c.in_ok-feed.ensures.flow in
     if_ok_map _ _ c.close-in-Enough.result
-    (λ made closed. enough_fed (g.S.Closing.stands made) (segment_in c.args.next.now) c.args.walked.env.now (walk_in c.args.walked.source) (suc given.0) (λ u. closed flow _ u given.2))
+    (λ made closed. enough_fed (g.S.Closing.stands made) (segment_in c.args.next.now) c.args.walked.env.now (walk_in c.args.walked.source) given.0 (λ u. closed flow _ u given.2))
     c.close-in-Enough.ensures.enough

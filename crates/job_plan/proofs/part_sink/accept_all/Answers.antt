@@ -1,6 +1,4 @@
-use Rattle.std.proofs.Common.{◌≡◌, ◌<◌, length, map, refl, ap, arith, rules}
-use Rattle.std.proofs.lemmas.List.{length-map}
-use Rattle.trace.specs.declared.item.Item.{Item}
+use Rattle.std.proofs.Common.{◌≡◌, refl}
 use Rattle.job_plan.specs.Parts.{HasTaken, end_in}
 use Rattle.job_plan.proofs.WalkLemmas.{enough_at_last, taken_on}
 use Rattle.job_plan.proofs.part_sink.accept_all.Goals as goal
@@ -9,10 +7,7 @@ pub returns-then-is_settled-clause-fed : goal.returns-then-is_settled-clause-fed
 returns-then-is_settled-clause-fed g c = λ begun xs took.
     let items = g.I.SourceItems.items c.args.source.now in
     let e = end_in c.args.last.end.now in
-    let size : length (map (λ (x : Item). x.value) items) ≡ length items = length-map items (λ (x : Item). x.value) in
-    let same : length (map (λ (x : Item). x.value) items) ≡ length c.args.values.now = ap length c.requires.values in
-    let some_value : 0 < length c.args.values.now = search rules in
-    enough_at_last (HasTaken e c.args.last.number c.args.last.env.now begun c.push_all.new.self) xs items (omega (arith, size, same, some_value))
+    enough_at_last (HasTaken e c.args.last.number c.args.last.env.now begun c.push_all.new.self) xs items
     (taken_on e c.args.last.number c.args.last.env.now begun c.args.part.now c.push_all.new.self xs items took c.in_ok-push_all.ensures.ok c.push_all.ensures.kind)
 
 pub returns-clause-fed : goal.returns-clause-fed

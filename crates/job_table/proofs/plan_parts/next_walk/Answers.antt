@@ -3,7 +3,7 @@ use Rattle.trace.specs.Trace.{Trace}
 use Rattle.lambda_values.specs.Earlier.{Numbers}
 use Rattle.job_plan.specs.Parts.{StandsFor}
 use Rattle.job_plan.specs.Plans.{AbstractSegment, outcome_of}
-use Rattle.job_table.specs.PlanSegments.{given_walk, walk_at}
+use Rattle.job_table.specs.PlanSegments.{given_walk, source_at}
 use Rattle.job_table.proofs.PlanParts.{goes_over, never_searches}
 use Rattle.job_table.proofs.plan_parts.next_walk.Goals as goal
 
@@ -13,7 +13,7 @@ returns-in-Source c = λ chain segment numbers before stands.
     let ends : (s : AbstractSegment) (t : Trace) → StandsFor s chain.numbers c.args.part t → o ≡ outcome_of s chain.numbers t =
     subst (λ (e : Numbers). (s : AbstractSegment) (t : Trace) → StandsFor s e c.args.part t → o ≡ outcome_of s e t) (sym numbers) (rw c.in-Some.is at c.in_ok-outcome.ensures.some) in
     let next : suc segment ≡ segment + 1 = omega arith in
-    sym (ap given_walk c.in-Source.is) ∙ goes_over chain segment c.args.part o ends before stands ∙ ap (walk_at chain) next
+    sym (ap given_walk c.in-Source.is) ∙ goes_over chain segment c.args.part o ends before stands ∙ ap (source_at chain) next
 
 pub returns : goal.returns
 returns c = λ chain segment numbers before stands.
@@ -21,7 +21,7 @@ returns c = λ chain segment numbers before stands.
     let ends : (s : AbstractSegment) (t : Trace) → StandsFor s chain.numbers c.args.part t → o ≡ outcome_of s chain.numbers t =
     subst (λ (e : Numbers). (s : AbstractSegment) (t : Trace) → StandsFor s e c.args.part t → o ≡ outcome_of s e t) (sym numbers) (rw c.in-Some.is at c.in_ok-outcome.ensures.some) in
     let next : suc segment ≡ segment + 1 = omega arith in
-    c.of-in-Answer.ensures ∙ c.ending-in-Answer.ensures ∙ sym (ap given_walk c.in-Answer.is) ∙ goes_over chain segment c.args.part o ends before stands ∙ ap (walk_at chain) next
+    c.of-in-Answer.ensures ∙ c.ending-in-Answer.ensures ∙ sym (ap given_walk c.in-Answer.is) ∙ goes_over chain segment c.args.part o ends before stands ∙ ap (source_at chain) next
 
 pub returns-in_default : goal.returns-in_default
 returns-in_default c = λ chain segment numbers before stands. absurd (never_searches chain segment c.args.part before stands (rw c.in_default.is at c.in_ok-outcome.ensures.none))

@@ -13,8 +13,7 @@ returns-then-not-fits c =
     let at = c.loop-at.at in
     let m = get_or c.args.pattern.now at mark.Open in
     let w = get_or c.args.words.now at word.Open in
-    let off = c.if-at-words.false in
-    let in_words : at < length c.args.words.now = omega arith in
+    let in_words : at < length c.args.words.now = omega (arith, c.if-at-words.false) in
     let misfit = subst (λ b. IsFit b m w) c.if-not-fits.true c.fits.ensures in
     matched_stop c.args.pattern.now c.args.words.now at mark.Open word.Open c.loop-at-test.true in_words misfit c.loop-at.invariant
 
@@ -23,8 +22,7 @@ loop-at-preserved c =
     let at = c.loop-at.at in
     let m = get_or c.args.pattern.now at mark.Open in
     let w = get_or c.args.words.now at word.Open in
-    let off = c.if-at-words.false in
-    let in_words : at < length c.args.words.now = omega arith in
+    let in_words : at < length c.args.words.now = omega (arith, c.if-at-words.false) in
     let fit = subst (λ b. IsFit b m w) c.if-not-fits.false c.fits.ensures in
     matched_on c.args.pattern.now c.args.words.now at mark.Open word.Open c.loop-at-test.true in_words fit c.loop-at.invariant
 

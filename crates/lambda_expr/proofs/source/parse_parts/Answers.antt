@@ -15,9 +15,8 @@ use Rattle.lambda_expr.proofs.source.parse_parts.Goals as goal
 -- how many there are with one more
 one_more : (new old : List (Vec ParseStep)) (v : Vec ParseStep) (n count : ℕ) → new ≡ old ++ v ∷ [] → length old ≡ n → count ≡ length new → count ≡ suc n
 one_more new old v n count is same at =
-    let size = length-append old (v ∷ []) in
     let all : length new ≡ length (old ++ v ∷ []) = ap length is in
-    omega arith
+    omega (arith, length-append old (v ∷ []))
 
 one_after : (n count : ℕ) → count ≡ suc n → count ≡ n + 1
 one_after n count h = omega arith
@@ -103,8 +102,7 @@ returns-in-Close-clause-ok c =
     let size : c.len-in-Close.result ≡ length c.push.new.self.items = search rules in
     let count = one_after _ _ (one_more c.push.new.self.items c.loop-at.parts.items part.steps (length inv.0) c.len-in-Close.result c.in_ok-push.ensures.items inv.2 size) in
     let all : Takes s c.len-in-Close.result = search rules in
-    let last = c.if-end-words.false in
-    let low : length ws ≤ at + part.end + 1 = omega arith in
+    let low : length ws ≤ at + part.end + 1 = omega (arith, c.if-end-words.false) in
     let r = read_whole s ws at part.end inv.0 c.loop-at.parts.items part.steps f inv.3 inv.1 is (subst (Takes s) count all) low in
     subst (ArePosted s ws) (sym c.in_ok-push.ensures.items) r
 

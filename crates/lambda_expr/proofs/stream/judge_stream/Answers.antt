@@ -3,20 +3,21 @@ use Rattle.lambda_expr.specs.Judging.{IsJudged}
 use Rattle.lambda_expr.specs.Lexemes.{names_in}
 use Rattle.lambda_expr.specs.Sources.{Takes}
 use Rattle.lambda_expr.specs.BodyReading.{step_numbers}
+use Rattle.lambda_expr.specs.Checks.{fit}
 use Rattle.lambda_expr.specs.StreamChecks.{deepest, numbers}
 use Rattle.lambda_values.specs.Streams.{exprs_of}
 use Rattle.lambda_expr.proofs.StreamLemmas.{by_numbers, exprs_length, found_is, numbers_by, numbers_length, same_length, too_deep, too_large, unknown}
 use Rattle.lambda_expr.proofs.stream.judge_stream.Goals.{then-checks-ge-MAX_DEPTH-via-then-checks-ge-MAX_DEPTH, then-checks-ge-MAX_DEPTH-via-else-checks-ge-MAX_DEPTH+then-operands-gt-MAX}
 use Rattle.lambda_expr.proofs.stream.judge_stream.Goals as goal
 
-pub returns-then-not-checks : goal.returns-then-not-checks
-returns-then-not-checks c = λ es takes is.
+pub returns-then-not-fit : goal.returns-then-not-fit
+returns-then-not-fit c = λ es takes is.
     let s = c.args.source in
     let h = names_in c.args.text.now.bytes c.args.text.now.tokens in
     let vs = c.args.operands.now in
     let checks = c.in_ok-checks.checks in
     let found = found_is vs es checks is c.in_ok-checks.ensures in
-    let off : checks.fit ≡ false = search rules in
+    let off : fit checks.literals ≡ false = search rules in
     too_large h s es (sym found.fit ∙ off)
 
 pub returns-then-checks-ge-MAX_DEPTH : goal.returns-then-checks-ge-MAX_DEPTH
@@ -26,7 +27,7 @@ returns-then-checks-ge-MAX_DEPTH c = λ es takes is.
     let vs = c.args.operands.now in
     let checks = c.in_ok-checks.checks in
     let found = found_is vs es checks is c.in_ok-checks.ensures in
-    let on : checks.fit ≡ true = search rules in
+    let on : fit checks.literals ≡ true = search rules in
     let depth = found.depth in
     let size = same_length vs es is in
     elim c.then-checks-ge-MAX_DEPTH.branch [
@@ -34,24 +35,19 @@ returns-then-checks-ge-MAX_DEPTH c = λ es takes is.
           let deep = w.if-checks-ge-MAX_DEPTH.true in
           too_deep h s es (sym found.fit ∙ on) (let k : 64 < max (suc (deepest es)) (length es) = omega arith in k)
       | then-checks-ge-MAX_DEPTH-via-else-checks-ge-MAX_DEPTH+then-operands-gt-MAX w ↦
-          let many = w.if-operands-gt-MAX.true in
-          too_deep h s es (sym found.fit ∙ on) (let k : 64 < max (suc (deepest es)) (length es) = omega arith in k)
+          too_deep h s es (sym found.fit ∙ on) (let k : 64 < max (suc (deepest es)) (length es) = omega (arith, w.if-operands-gt-MAX.true) in k)
     ]
 
-pub returns-then-not-checks-2 : goal.returns-then-not-checks-2
-returns-then-not-checks-2 c = λ es takes is.
+pub returns-then-not-checks : goal.returns-then-not-checks
+returns-then-not-checks c = λ es takes is.
     let s = c.args.source in
     let h = names_in c.args.text.now.bytes c.args.text.now.tokens in
     let vs = c.args.operands.now in
     let checks = c.in_ok-checks.checks in
     let found = found_is vs es checks is c.in_ok-checks.ensures in
-    let on : checks.fit ≡ true = search rules in
+    let on : fit checks.literals ≡ true = search rules in
     let off : checks.known ≡ false = search rules in
-    let depth = found.depth in
-    let size = same_length vs es is in
-    let flat = c.if-checks-ge-MAX_DEPTH.false in
-    let few = c.if-operands-gt-MAX.false in
-    unknown h s es (sym found.fit ∙ on) (let k : max (suc (deepest es)) (length es) ≤ 64 = omega arith in k) (sym found.known ∙ off)
+    unknown h s es (sym found.fit ∙ on) (let k : max (suc (deepest es)) (length es) ≤ 64 = omega (arith, c.if-operands-gt-MAX.false, c.if-checks-ge-MAX_DEPTH.false, same_length vs es is, found.depth) in k) (sym found.known ∙ off)
 
 pub returns-in-Some : goal.returns-in-Some
 returns-in-Some c = λ es takes is.
@@ -60,7 +56,7 @@ returns-in-Some c = λ es takes is.
     let vs = c.args.operands.now in
     let checks = c.in_ok-checks.checks in
     let found = found_is vs es checks is c.in_ok-checks.ensures in
-    let on : checks.fit ≡ true = search rules in
+    let on : fit checks.literals ≡ true = search rules in
     let known : checks.known ≡ true = search rules in
     let depth = found.depth in
     let size = same_length vs es is in
@@ -80,11 +76,7 @@ returns-in-None c = λ es takes is.
     let vs = c.args.operands.now in
     let checks = c.in_ok-checks.checks in
     let found = found_is vs es checks is c.in_ok-checks.ensures in
-    let on : checks.fit ≡ true = search rules in
+    let on : fit checks.literals ≡ true = search rules in
     let known : checks.known ≡ true = search rules in
-    let depth = found.depth in
-    let size = same_length vs es is in
-    let flat = c.if-checks-ge-MAX_DEPTH.false in
-    let few = c.if-operands-gt-MAX.false in
     let are : numbers h es ≡ None = sym (numbers_by h es) ∙ ap (step_numbers h) (sym is) ∙ sym c.in_ok-exprs.ensures ∙ ap (option_map _) c.in-None.is in
-    by_numbers h s es None (sym found.fit ∙ on) (let k : max (suc (deepest es)) (length es) ≤ 64 = omega arith in k) (sym found.known ∙ known) are
+    by_numbers h s es None (sym found.fit ∙ on) (let k : max (suc (deepest es)) (length es) ≤ 64 = omega (arith, c.if-operands-gt-MAX.false, c.if-checks-ge-MAX_DEPTH.false, same_length vs es is, found.depth) in k) (sym found.known ∙ known) are

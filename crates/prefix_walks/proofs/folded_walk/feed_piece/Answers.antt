@@ -14,7 +14,7 @@ use Rattle.prefix_walks.proofs.ScanLemmas.{scanned_cut}
 use Rattle.prefix_walks.proofs.folded_walk.feed_piece.Goals as goal
 
 pub feed_run-requires-clause-few : goal.feed_run-requires-clause-few
-feed_run-requires-clause-few g c = subst (λ n. n ≤ 4096) (ap (λ p. length (items_in p)) c.in-Run.is ∙ length-placed c.in-Run.place (run_values c.in-Run.values)) c.requires.folded.few
+feed_run-requires-clause-few g c = subst (λ n. n ≤ 1024) (ap (λ p. length (items_in p)) c.in-Run.is ∙ length-placed c.in-Run.place (run_values c.in-Run.values)) c.requires.folded.few
 
 pub returns-in-Listed-clause-fed : goal.returns-in-Listed-clause-fed
 returns-in-Listed-clause-fed g c = λ xs took.

@@ -16,4 +16,4 @@ returns-clause-fed g c = λ xs took.
     let size : (start + count) - start ≡ count = omega arith in
     let same = placed_between c.args.place c.args.window.from c.args.window.to vs (length vs) start count refl c.within-start.ensures.start c.within-start.ensures.count
     ∙ ap (λ n. placed (c.args.place + start) (take n (drop start vs))) (sym size) in
-    subst (λ (ys : List Item). IsFed g.S.LongSink.has_taken xs (piped c.args.line (trace ys end.Done)) c.feed_values.result c.feed_values.new.sink) (sym same) (c.feed_values.ensures.fed xs took)
+    subst (λ (ys : List Item). IsFed g.S.LongSink.has_taken xs (piped c.args.line (trace ys end.Done)) c.feed_at_once.result c.feed_at_once.new.sink) (sym same) (c.feed_at_once.ensures.fed xs took)

@@ -6,9 +6,6 @@ use Rattle.job_plan.proofs.LookLemmas.{inner_flow, inner_wants, not_left, still_
 use Rattle.job_plan.proofs.WalkLemmas.{fed_as}
 use Rattle.job_plan.proofs.looking.LookingBatchSink.accept_run.Goals as goal
 
-pub returns-then-is_seen-clause-fed : goal.returns-then-is_seen-clause-fed
-returns-then-is_seen-clause-fed g c = λ xs looked. c.accept_each.ensures.fed xs (looked.0, (λ d known. looked.1 d (c.is_seen.ensures.still d known)), looked.2)
-
 pub accept_run-requires : goal.accept_run-requires
 accept_run-requires g c = record { wants = inner_wants c.args.self.now.has_left (g.S.LongSink.flow c.args.self.now.inner) c.requires.wants }
 
@@ -22,7 +19,7 @@ returns-clause-fed g c = λ xs looked.
     fed_as h
     (λ (l : Looking g.row.P.Denot g.row.S.Denot g.row.W.Denot) (ys : List Item). HasLooked h g.W.Stop.decides decides from l.from l.stop.now l.has_left l.inner ys)
     c.accept_run.new.self _
-    (λ ys took. (looked.0, (λ d known. looked.1 d (c.is_seen.ensures.still d known)), unless_left decides from (h c.accept_run.new.self ys) self.has_left (λ e. absurd (true≢false (sym e ∙ stays))) took))
+    (λ ys took. (looked.0, looked.1, unless_left decides from (h c.accept_run.new.self ys) self.has_left (λ e. absurd (true≢false (sym e ∙ stays))) took))
     xs _ c.accept_run.result (c.accept_run.ensures.fed xs (still_taken decides from (h self.inner xs) self.has_left stays looked.2))
 
 pub returns-clause-flow : goal.returns-clause-flow

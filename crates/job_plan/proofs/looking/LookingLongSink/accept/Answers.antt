@@ -1,15 +1,8 @@
 use Rattle.std.proofs.Common.{true≢false, sym, ◌∙◌}
-use Rattle.job_plan.proofs.LookLemmas.{as_named, inner_flow, inner_wants, not_left, on_err_map, still_taken, unless_left}
+use Rattle.job_plan.proofs.LookLemmas.{inner_flow, inner_wants, not_left, on_err_map, still_taken, unless_left}
 use Rattle.job_plan.proofs.PartLemmas.{on_ok_map}
 use Rattle.job_plan.proofs.PassageLemmas.{if_ok_map}
 use Rattle.job_plan.proofs.looking.LookingLongSink.accept.Goals as goal
-
-pub returns-then-is_seen-clause-ok : goal.returns-then-is_seen-clause-ok
-returns-then-is_seen-clause-ok g c = λ xs looked. (
-  looked.0,
-  (λ d known. looked.1 d (c.is_seen.ensures.still d known)),
-  as_named g.W.Stop.decides g.P.StartBrand.decides g.P.StartBrand.from c.args.self.now.from c.args.self.now.stop.now looked.0 looked.1 (c.is_seen.ensures.past c.if-is_seen.true),
-)
 
 pub accept-requires : goal.accept-requires
 accept-requires g c = inner_wants _ _ c.requires
@@ -25,7 +18,7 @@ returns g c =
       ok = on_ok_map c.accept.result
           (λ took xs looked. (
             looked.0,
-            (λ d known. looked.1 d (c.is_seen.ensures.still d known)),
+            looked.1,
             unless_left decides from (h c.accept.new.self _) self.has_left (λ e. absurd (true≢false (sym e ∙ stays))) (took xs (still_taken decides from (h self.inner xs) self.has_left stays looked.2)),
           ))
           c.accept.ensures.ok;
@@ -33,7 +26,7 @@ returns g c =
       err = on_err_map c.accept.result
           (λ took xs looked. (
             looked.0,
-            (λ d known. looked.1 d (c.is_seen.ensures.still d known)),
+            looked.1,
             unless_left decides from (h c.accept.new.self xs) self.has_left (λ e. absurd (true≢false (sym e ∙ stays))) (took xs (still_taken decides from (h self.inner xs) self.has_left stays looked.2)),
           ))
           c.accept.ensures.err;

@@ -15,7 +15,7 @@ returns-clause-folded g c =
     let l = length-append old xs in
     let k : length c.add_all.new.piece.items ≡ length (old ++ xs) = ap length both in
     let size : c.len.result ≡ length old = search rules in
-    let few : c.len.result ≤ 4096 - c.args.count = omega (arith, c.if-len-count.false) in
+    let few : c.len.result ≤ 1024 - c.args.count = omega (arith, c.if-len-count.false) in
     record {
       op = c.merge-self.ensures.op ∙ c.requires.folded.op;
       stands = subst (λ (ys : List Item). FoldStands c.merge-self.result (trace ys end.Done)) (sym both)

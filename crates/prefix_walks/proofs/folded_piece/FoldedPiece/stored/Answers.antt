@@ -14,4 +14,4 @@ returns-clause-folded c =
     let same : kept.items ≡ vs = search rules in
     run_folded c.args.op c.args.place (run.Stored kept) c.folded.result c.folded.ensures.op
     (subst (λ (us : List ℤ). FoldStands c.folded.result (trace (placed c.args.place us) end.Done)) (sym same) (c.folded.ensures.stands (placed c.args.place vs) (values_placed c.args.place vs)))
-    (subst (λ (us : List ℤ). length us ≤ 4096) (sym same) c.requires.few) (subst (λ (us : List ℤ). c.args.place + length us ≤ 4611686018427387904) (sym same) c.requires.places) tt
+    (subst (λ (us : List ℤ). length us ≤ 1024) (sym same) c.requires.few) (subst (λ (us : List ℤ). c.args.place + length us ≤ 4611686018427387904) (sym same) c.requires.places) tt

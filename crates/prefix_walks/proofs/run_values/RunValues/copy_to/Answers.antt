@@ -15,7 +15,7 @@ count_up-requires-clause-space c =
 pub map_front-requires-in-Counted-clause-few : goal.map_front-requires-in-Counted-clause-few
 map_front-requires-in-Counted-clause-few c =
     let f = image (stages_of c.in-Counted.maps.stages.now) in
-    subst (λ n. n ≤ 4096) (ap (λ v. length (run_values v)) c.in-Counted.is ∙ length-map (counted c.in-Counted.first c.in-Counted.count) f ∙ length-counted c.in-Counted.first c.in-Counted.count) c.requires.few
+    subst (λ n. n ≤ 1024) (ap (λ v. length (run_values v)) c.in-Counted.is ∙ length-map (counted c.in-Counted.first c.in-Counted.count) f ∙ length-counted c.in-Counted.first c.in-Counted.count) c.requires.few
 
 pub map_front-requires-in-Counted-clause-space : goal.map_front-requires-in-Counted-clause-space
 map_front-requires-in-Counted-clause-space c =

@@ -1,0 +1,12 @@
+# Completion of streamrun-merge for bash, by the helpers of bash-completion.
+_streamrun_merge() {
+    # shellcheck disable=SC2034  # _init_completion sets them
+    local cur prev words cword split
+    _init_completion -s || return
+    [ "$prev" = --rows ] && return
+    $split && return
+    case $cur in
+        -*) mapfile -t COMPREPLY < <(compgen -W '--rows --json -h --help' -- "$cur") ;;
+        *) _filedir '@(jobs|json)' ;;
+    esac
+} && complete -F _streamrun_merge streamrun-merge

@@ -1,7 +1,0 @@
-use Rattle.std.proofs.Common.{ap, ◌∙◌}
-use Rattle.std.specs.Prelude.{is_some}
-use Rattle.job_language.proofs.WordLists.{is_mapped}
-use Rattle.job_language.proofs.word.is_name.Goals as goal
-
-pub returns : goal.returns
-returns c = c.is_some.ensures ∙ is_mapped _ c.name_in.result ∙ ap is_some c.name_in.ensures

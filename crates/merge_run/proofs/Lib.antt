@@ -1,0 +1,5 @@
+mod MergedLemmas
+mod NamedAnswers
+mod NamedTexts
+mod ReportLemmas
+mod UniqueReports

@@ -1,0 +1,6 @@
+use Rattle.std.specs.Prelude.{All}
+use Rattle.report.specs.Named.{IsNamed}
+use Rattle.merge_run.proofs.part_answers.answers_in.Given as goal
+
+abbrev pub invariant-loop-members : goal.invariant-loop-members
+invariant-loop-members l = All (IsNamed l.names) l.answers.items

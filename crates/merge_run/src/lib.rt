@@ -1,0 +1,21 @@
+//! The report of a table, merged from the reports of its parts.
+//!
+//! Stands on `report_merge`, which says what the answers of a table are, given the answers of its parts, on
+//! `job_language`, which reads the job file, and on `report` and `serde_json` for reports. Used by `streamrun_merge`.
+//! What it promises to it is the contract of `merged_report`: the bytes that it gives are the report of the merged
+//! answers of the reports that it was given.
+//! Begin with `specs/Merged.antt`, then `merging.rt`; `part_answers.rt` reads a report.
+//! Not promised: that the reports are those of the parts of one table, in order, or that there is memory.
+#![tactic(auto)]
+
+mod fault;
+mod laws;
+mod merging;
+mod named_columns;
+mod part_answers;
+mod part_report;
+
+pub use fault::{PartCause, ReportMergeFault};
+pub use laws::one_report;
+pub use merging::merged_report;
+pub use part_report::PartReport;

@@ -1,0 +1,80 @@
+-- The cells of a column over some rows, and over those and others.
+use Rattle.std.proofs.Common.{◌≡◌, ℕ, suc, ℤ, pos, Bool, true, false, List, [], ◌∷◌, ◌++◌, length, Option, Some, None, Ok, refl, sym, ap, ◌∙◌}
+use Rattle.std.specs.Prelude.{map, drop, option_map, if◌then◌else◌}
+use Rattle.std.specs.List.{find}
+use Rattle.std.specs.Str.{bytes_eq}
+use Rattle.std.proofs.lemmas.List.{map-append}
+use Rattle.columns.specs.declared.fault.ColumnFault.{ColumnFault}
+use Rattle.columns.specs.Refusals.{header_fault, rows_fault}
+use Rattle.columns.specs.Table.{NamedColumn, cells_named, columns_under, first_number, table_of, unless}
+use Rattle.std.specs.Option.{option_or}
+use Rattle.report_merge.specs.Cuts.{AreBare, Row}
+
+-- the cells under a name; zeros if the header doesn't have it
+abbrev pub cells_at : Row → List Row → List ℕ → List ℤ
+cells_at [] rows w = map (λ (row : Row). pos 0) rows
+cells_at (name ∷ names) rows w = if bytes_eq name w then map first_number rows else cells_at names (map (drop 1) rows) w
+
+length-map : {A B : Type 0} (f : A → B) (xs : List A) → length (map f xs) ≡ length xs
+length-map f [] = refl
+length-map f (x ∷ xs) = ap suc (length-map f xs)
+
+pub cells_count : (header : Row) (rows : List Row) (w : List ℕ) → length (cells_at header rows w) ≡ length rows
+cells_count [] rows w = length-map (λ (row : Row). pos 0) rows
+cells_count (name ∷ names) rows w = by_name (bytes_eq name w) (cells_count names (map (drop 1) rows) w ∙ length-map (drop 1) rows)
+  where
+    by_name : (t : Bool) → length (cells_at names (map (drop 1) rows) w) ≡ length rows → length (if t then map first_number rows else cells_at names (map (drop 1) rows) w) ≡ length rows
+    by_name true others = length-map first_number rows
+    by_name false others = others
+
+pub cells_joined : (header : Row) (xs ys : List Row) (w : List ℕ) → cells_at header (xs ++ ys) w ≡ cells_at header xs w ++ cells_at header ys w
+cells_joined [] xs ys w = map-append (λ (row : Row). pos 0) xs ys
+cells_joined (name ∷ names) xs ys w =
+    by_name (bytes_eq name w) (ap (λ (rows : List Row). cells_at names rows w) (map-append (drop 1) xs ys) ∙ cells_joined names (map (drop 1) xs) (map (drop 1) ys) w)
+  where
+    by_name : (t : Bool) → cells_at names (map (drop 1) (xs ++ ys)) w ≡ cells_at names (map (drop 1) xs) w ++ cells_at names (map (drop 1) ys) w
+        → (if t then map first_number (xs ++ ys) else cells_at names (map (drop 1) (xs ++ ys)) w)
+        ≡ (if t then map first_number xs else cells_at names (map (drop 1) xs) w) ++ (if t then map first_number ys else cells_at names (map (drop 1) ys) w)
+    by_name true others = map-append first_number xs ys
+    by_name false others = others
+
+-- the cells under a name, if the header has it
+found_cells : (name : List ℕ) (names : Row) (rows : List Row) (w : List ℕ)
+    → cells_named w (columns_under (name ∷ names) rows) ≡ (if bytes_eq name w then Some (map first_number rows) else cells_named w (columns_under names (map (drop 1) rows)))
+found_cells name names rows w = by_name (bytes_eq name w)
+  where
+    first : NamedColumn
+    first = record { name = name; cells = map first_number rows }
+
+    by_name : (t : Bool) → option_map (λ (c : NamedColumn). c.cells) (if t then Some (record { name = name; cells = map first_number rows }) else find (λ (c : NamedColumn). bytes_eq c.name w) (columns_under names (map (drop 1) rows)))
+        ≡ (if t then Some (map first_number rows) else cells_named w (columns_under names (map (drop 1) rows)))
+    by_name true = refl
+    by_name false = refl
+
+pub cells_under : (header : Row) (rows : List Row) (w : List ℕ) (vs : List ℤ) → cells_named w (columns_under header rows) ≡ Some vs → vs ≡ cells_at header rows w
+cells_under [] rows w vs h = absurd cc
+cells_under (name ∷ names) rows w vs h = by_name (bytes_eq name w) (cells_under names (map (drop 1) rows) w vs) (sym (found_cells name names rows w) ∙ h)
+  where
+    by_name : (t : Bool) → (cells_named w (columns_under names (map (drop 1) rows)) ≡ Some vs → vs ≡ cells_at names (map (drop 1) rows) w)
+        → (if t then Some (map first_number rows) else cells_named w (columns_under names (map (drop 1) rows))) ≡ Some vs
+        → vs ≡ (if t then map first_number rows else cells_at names (map (drop 1) rows) w)
+    by_name true others e = let same : map first_number rows ≡ vs = cc in sym same
+    by_name false others e = others e
+
+-- columns without cells have none under any name
+pub bare_cells : (columns : List NamedColumn) → AreBare columns → (w : List ℕ) (vs : List ℤ) → cells_named w columns ≡ Some vs → vs ≡ []
+bare_cells [] bare w vs h = absurd cc
+bare_cells (c ∷ columns) bare w vs h = by_name (bytes_eq c.name w) (bare_cells columns bare.1 w vs) h
+  where
+    by_name : (t : Bool) → (cells_named w columns ≡ Some vs → vs ≡ [])
+        → option_map (λ (d : NamedColumn). d.cells) (if t then Some c else find (λ (d : NamedColumn). bytes_eq d.name w) columns) ≡ Some vs → vs ≡ []
+    by_name true others e = let same : c.cells ≡ vs = cc in sym same ∙ bare.0
+    by_name false others e = others e
+
+-- a table has the columns under its header
+pub table_columns : (header : Row) (rows : List Row) (columns : List NamedColumn) → table_of (header ∷ rows) ≡ Ok columns → columns ≡ columns_under header rows
+table_columns header rows columns h = good (option_or (header_fault header) (rows_fault (length header) 1 rows)) h
+  where
+    good : (o : Option ColumnFault) → unless o (columns_under header rows) ≡ Ok columns → columns ≡ columns_under header rows
+    good None e = let same : columns_under header rows ≡ columns = cc in sym same
+    good (Some f) e = absurd cc

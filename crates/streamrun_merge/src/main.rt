@@ -1,0 +1,152 @@
+//! `streamrun-merge [OPTIONS] JOBS REPORTS`: writes the report of a table, made of the reports of its parts.
+//!
+//! Stands on `merge_run`, whose `merged_report` is the whole work, on `counted_io` for readers and writers, and on
+//! `clap` for the command line. What it promises is the contract of `merged_report`, which this program calls on the
+//! bytes of its files; what that gives it writes to standard output. Begin with `merge_run/specs/Merged.antt`; here
+//! there is only the command line, the reading of the files, the exit status, and the line on standard error.
+//! Not promised: that a file can be read or written, or that memory is there; the line on standard error says which it
+//! was.
+#![tactic(auto)]
+
+mod command_line;
+mod telling;
+
+use clap::error::ErrorKind as ArgumentErrorKind;
+use command_line::{MergeArguments, read_arguments};
+use counted_io::{Counted, CountedOut, ReadAllFault, read_all_of, write_all_of};
+use merge_run::{PartReport, merged_report};
+use std::alloc::{AllocError, AllocFailed};
+use std::io::{ErrorKind, Write};
+use std::process::ExitCode;
+use std::{env, fs};
+use telling::tell;
+
+/// The exit status if the command line is refused.
+const REFUSED: u8 = 2;
+
+/// The exit status if a file can't be opened, read or written.
+const NOT_DONE: u8 = 4;
+
+fn main(rt: HostRuntime) -> ExitCode {
+    ExitCode::from(match read_command_line(&rt) {
+        Ok(status) | Err(Ending::Said(status)) => status,
+        Err(Ending::NoMemory) => {
+            let _ = writeln!(rt.stderr(), "streamrun-merge: out of memory");
+            3
+        }
+    })
+}
+
+/// Why the program ends before it merges.
+#[derive(Drop)]
+enum Ending {
+    /// All was said, and this is the exit status.
+    Said(u8),
+    NoMemory,
+}
+
+impl From<AllocError> for Ending {
+    fn from(_: AllocError) -> Ending {
+        Ending::NoMemory
+    }
+}
+
+impl<T: Drop> From<AllocFailed<T>> for Ending {
+    fn from(_: AllocFailed<T>) -> Ending {
+        Ending::NoMemory
+    }
+}
+
+/// Reads the words of the command line, and merges what they name.
+fn read_command_line(rt: &HostRuntime) -> Result<u8, Ending> {
+    let given: Vec<String> = match env::args(rt) {
+        Ok(given) => given.collect(rt.alloc())?,
+        Err(error) if error.kind() == ErrorKind::OutOfMemory => return Err(Ending::NoMemory),
+        Err(_) => {
+            let _ = writeln!(rt.stderr(), "streamrun-merge: an argument is no text");
+            return Err(Ending::Said(REFUSED));
+        }
+    };
+    let words: Vec<&str> = given.iter().map(|word| word.as_str()).collect(rt.alloc())?;
+    match read_arguments(rt.alloc(), &words) {
+        Ok(arguments) => merged(rt, &arguments),
+        Err(error) if error.kind() == ArgumentErrorKind::OutOfMemory => Err(Ending::NoMemory),
+        Err(refused) => {
+            let _ = refused.print(rt);
+            let status = if refused.exit_code() == 0 { 0 } else { REFUSED };
+            Err(Ending::Said(status))
+        }
+    }
+}
+
+/// Reads the files, writes the merged report, and answers the exit status.
+fn merged(rt: &HostRuntime, arguments: &MergeArguments<'_>) -> Result<u8, Ending> {
+    let rows = rows_of(rt, arguments)?;
+    let jobs = read_file(rt, arguments.jobs)?;
+    let mut parts = Vec::new(rt.alloc());
+    for (path, rows) in arguments.reports.iter().zip(&rows) {
+        parts.push(PartReport {
+            rows: *rows,
+            bytes: read_file(rt, path)?,
+        })?;
+    }
+    let report = match merged_report(rt.alloc(), &jobs, parts, arguments.form) {
+        Ok(report) => report,
+        Err(fault) => return Ok(tell(&fault, arguments, &mut rt.stderr())),
+    };
+    match write_all_of(&mut CountedOut::new(rt.stdout()), &report) {
+        Ok(()) => Ok(0),
+        Err(fault) => {
+            let _ = writeln!(rt.stderr(), "streamrun-merge: {fault}");
+            Ok(NOT_DONE)
+        }
+    }
+}
+
+/// How many rows each report's part has, if each report has a number.
+fn rows_of(rt: &HostRuntime, arguments: &MergeArguments<'_>) -> Result<Vec<u64>, Ending> {
+    let mut rows = Vec::new(rt.alloc());
+    for number in arguments.rows.split(',') {
+        match number.parse::<u64>() {
+            Ok(number) => rows.push(number)?,
+            Err(_) => {
+                let _ = writeln!(rt.stderr(), "streamrun-merge: --rows: no number: {number}");
+                return Err(Ending::Said(REFUSED));
+            }
+        }
+    }
+    if let Some(path) = arguments.reports.get(rows.len()) {
+        let _ = writeln!(rt.stderr(), "streamrun-merge: {path}: no number of rows");
+        return Err(Ending::Said(1));
+    }
+    if arguments.reports.len() < rows.len() {
+        let _ = writeln!(
+            rt.stderr(),
+            "streamrun-merge: more numbers of rows than reports"
+        );
+        return Err(Ending::Said(1));
+    }
+    Ok(rows)
+}
+
+/// All bytes of the file at this path.
+fn read_file(rt: &HostRuntime, path: &str) -> Result<Vec<u8>, Ending> {
+    let file = match fs::open(rt, path) {
+        Ok(file) => file,
+        Err(error) if error.kind() == ErrorKind::OutOfMemory => return Err(Ending::NoMemory),
+        Err(_) => {
+            let _ = writeln!(rt.stderr(), "streamrun-merge: cannot open {path}");
+            return Err(Ending::Said(NOT_DONE));
+        }
+    };
+    let size = file.metadata().map_or(0, |metadata| metadata.len());
+    let mut file = Counted::with_likely_size(file, usize::try_from(size).unwrap_or(0));
+    match read_all_of(rt.alloc(), &mut file) {
+        Ok(bytes) => Ok(bytes),
+        Err(ReadAllFault::NoMemory) => Err(Ending::NoMemory),
+        Err(ReadAllFault::Failed) => {
+            let _ = writeln!(rt.stderr(), "streamrun-merge: {path}: read failed");
+            Err(Ending::Said(NOT_DONE))
+        }
+    }
+}
