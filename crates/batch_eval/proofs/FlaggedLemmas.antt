@@ -1,6 +1,6 @@
 -- The items of lanes whose flag is set, lane by lane.
-use Rattle.std.proofs.Common.{◌≡◌, ℕ, zero, suc, ◌+◌, ◌<◌, ℤ, Bool, true, false, List, [], ◌∷◌, ◌++◌, length, map, take, Option, Some, Ok, Err, if◌then◌else◌, refl, sym, ap, subst, ◌∙◌, arith, add-one, append_assoc, length-append}
-use Rattle.std.proofs.lemmas.List.{append-nil, get_or_at, map-append}
+use Rattle.std.proofs.Common.{◌≡◌, ℕ, zero, suc, ◌+◌, ◌<◌, ◌≤◌, ℤ, Bool, true, false, List, [], ◌∷◌, ◌++◌, length, map, take, Option, Some, Ok, Err, if◌then◌else◌, refl, sym, ap, subst, ◌∙◌, arith, add-one, append_assoc, length-append}
+use Rattle.std.proofs.lemmas.List.{append-nil, get_or_at, get_or-take, length-take-le, map-append}
 use Rattle.std.proofs.Math.Seq.{take-append_seam}
 use Rattle.std.proofs.lemmas.Option.{slice_get-get_or}
 use Rattle.std.specs.List.{slice_get}
@@ -13,7 +13,7 @@ use Rattle.trace.specs.Sinks.{IsFed}
 use Rattle.batch_eval.specs.Lanes.{at, is_set}
 use Rattle.batch_eval.specs.Batches.{flagged_items, flagged_values, gathered, item_at}
 use Rattle.batch_eval.proofs.BatchWalkLemmas.{IsFed_enough, IsFed_refused}
-use Rattle.batch_eval.proofs.Walks.{later}
+use Rattle.batch_eval.proofs.Walks.{gathered_same, later}
 
 abbrev item_if : Bool → Item → List Item
 item_if b x = if b then x ∷ [] else []
@@ -73,3 +73,10 @@ module _ (start : Option ℕ) (origins : List ℕ) (values flags : List ℤ) whe
 
   pub values_flagged : map (λ (x : Item). x.value) (flagged_items start origins values flags) ≡ flagged_values values flags (length flags)
   values_flagged = front_values (length flags)
+
+-- flags that were cut to the lanes that go on
+pub flags_cut : (start : Option ℕ) (origins : List ℕ) (values flags : List ℤ) (n : ℕ) → n ≤ length flags → flagged_items start origins values (take n flags) ≡ gathered n (λ k. if is_set (at flags k) then item_at start origins values k ∷ [] else [])
+flags_cut start origins values flags n within =
+    let f : ℕ → List Item = λ k. item_if (is_set (at (take n flags) k)) (item_at start origins values k) in
+    let g : ℕ → List Item = λ k. item_if (is_set (at flags k)) (item_at start origins values k) in
+    ap (λ (m : ℕ). gathered m f) (length-take-le n flags within) ∙ gathered_same n f g (λ k below. ap (λ (z : ℤ). item_if (is_set z) (item_at start origins values k)) (get_or-take n flags k _ below))

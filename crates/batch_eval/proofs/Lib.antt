@@ -5,7 +5,6 @@ pub mod FlagLemmas
 pub mod FlaggedLemmas
 pub mod Items
 pub mod KeptLaneLemmas
-pub mod MadeFlags
 pub mod PlaceLemmas
 pub mod PowerLemmas
 pub mod ReciprocalLemmas

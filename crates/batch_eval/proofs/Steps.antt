@@ -51,11 +51,3 @@ Reaches_stepped f g s c n r same h =
     stop_same : (live : ℕ) (fault : Option FaultKind) → StopsAt f n live fault → StopsAt g n live fault
     stop_same live None t = t
     stop_same live (Some kind) t = (t.0, same live ∙ ap (λ (v : Result ℤ FaultKind). on v (λ w. Ok (s w))) t.1)
-
--- equal values in another register
-pub Reaches_register : (f : ℕ → Result ℤ FaultKind) (a b : ℕ → ℤ) (n : ℕ) (r : Reached) → ((k : ℕ) → k < r.live → a k ≡ b k) → Reaches f a n r → Reaches f b n r
-Reaches_register f a b n r same h = record {
-  within = h.within;
-  values = λ k below. h.values k below ∙ ap (λ (z : ℤ). Ok z) (same k below);
-  stop = h.stop;
-}

@@ -3,7 +3,6 @@ pub mod Batches
 pub mod Choices
 pub mod InnerColumns
 pub mod Lanes
-pub mod MadeFlags
 pub mod NumberTests
 pub mod Pipelines
 pub mod Places

@@ -55,7 +55,7 @@ mod unary;
 
 pub use batch::Batch;
 pub use feeding::{feed_at_once, feed_batches};
-pub use flag::Flags;
+pub use flag::is_set;
 pub use flagged::{FlaggedLanes, accept_each_flagged};
 pub use listed::ListedItems;
 pub use passing::count_passing;

@@ -1,7 +1,6 @@
 //! Sinks that take the items of a batch at once.
 
 ghost use Rattle.batch_eval.specs.Batches.{flagged_items};
-ghost use Rattle.batch_eval.specs.MadeFlags.{flags_of};
 ghost use Rattle.std.specs.Prelude.{◌≡◌, List, OnErr};
 ghost use Rattle.trace.specs.Cover.{placed};
 ghost use Rattle.trace.specs.Sinks.{IsFed, flow_after};
@@ -52,7 +51,7 @@ pub trait BatchSink: LongSink {
         requires wants { Self.flow self.old ≡ Flow.More }
         ensures fed { (xs : List Item) → Self.has_taken self.old xs → IsFed Self.has_taken xs
             (trace (flagged_items lanes.entry.start lanes.entry.origins.now lanes.entry.values.now
-            (flags_of lanes.entry.flags)) end.Done) result self.new }
+            lanes.entry.flags.now) end.Done) result self.new }
         ensures flow { Self.flow self.new ≡ flow_after result }
         ensures refused { OnErr result Self.takes_memory }
     {

@@ -1,7 +1,6 @@
 //! Operators by a number that go into the loop of the next operator.
 
 ghost use Rattle.batch_eval.specs.Lanes.{step_value};
-ghost use Rattle.batch_eval.specs.MadeFlags.{masked};
 ghost use Rattle.batch_eval.specs.Rooms.{Fits, size};
 ghost use Rattle.lambda_values.specs.Operators.{binary_value, on};
 ghost use Rattle.lambda_values.specs.Term.{long_of};
@@ -62,17 +61,6 @@ fn step_of(operator: BinaryOperator, number: i64) -> Option<Step>
         BinaryOperator::And => Some(Step::And(number)),
         BinaryOperator::Xor => Some(Step::Xor(number)),
         BinaryOperator::Or => Some(Step::Or(number)),
-        _ => None,
-    }
-}
-
-/// The mask of a step: none if it changes nothing. Other steps are no masks.
-pub(crate) fn mask_of(step: Step) -> Option<Option<i64>>
-    ensures { IfSome result (λ mask. (v : ℤ) → step_value step v ≡ masked mask v) }
-{
-    match step {
-        Step::Stay => Some(None),
-        Step::And(mask) => Some(Some(mask)),
         _ => None,
     }
 }

@@ -13,7 +13,6 @@ ghost use Rattle.job_plan.specs.declared.part.Part.TheVariants as part;
 
 use crate::end_part::{EndPart, LastStage, is_fault};
 use crate::ends::Fold;
-use batch_eval::Flags;
 use job_meaning::Answer;
 use prefix_walks::{folded, folded_flagged};
 use reduce_ops::Partial;
@@ -77,7 +76,7 @@ impl EndPart for FoldPart {
         Ok(())
     }
 
-    fn push_flagged(&mut self, values: &[i64], flags: Flags<'_>) -> bool {
+    fn push_flagged(&mut self, values: &[i64], flags: &[i64]) -> bool {
         match folded_flagged(self.partial.op(), self.counts, values, flags) {
             Some(right) => {
                 self.partial = self.partial.merge(right);

@@ -17,7 +17,6 @@ use crate::end_part::{EndPart, LastStage};
 use crate::ends::SegmentEnd;
 use crate::fold_part::FoldPart;
 use crate::outcome::{Outcome, answer_of, exact_answer};
-use batch_eval::Flags;
 use find_ops::FindPart;
 use lambda_values::Env;
 use prefix_walks::{GivenWalk, PrefixPart};
@@ -194,7 +193,7 @@ impl<'a> EndPart for Part<'a> {
         of_any_kind!(self, part => EndPart::push_all(part, last, source, values, room))
     }
 
-    fn push_flagged(&mut self, values: &[i64], flags: Flags<'_>) -> bool {
+    fn push_flagged(&mut self, values: &[i64], flags: &[i64]) -> bool {
         of_any_kind!(self, part => EndPart::push_flagged(part, values, flags))
     }
 

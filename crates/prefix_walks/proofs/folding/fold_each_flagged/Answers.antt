@@ -2,7 +2,6 @@ use Rattle.std.proofs.Common.{◌≡◌, ℕ, ℤ, FitsSigned, w64, Some, ◌<�
 use Rattle.reduce_ops.specs.Operators.{value_of}
 use Rattle.batch_eval.specs.Lanes.{at, is_set}
 use Rattle.batch_eval.specs.Batches.{flagged_values}
-use Rattle.batch_eval.specs.MadeFlags.{flags_of}
 use Rattle.prefix_walks.specs.Batches.{each_one, folded_values}
 use Rattle.prefix_walks.proofs.FlaggedFolds.{AllFit, fit_set, flagged_folded, folded_from, folded_set, folded_unset, none_folded, passed_set, values_unset}
 use Rattle.prefix_walks.proofs.folding.fold_each_flagged.Goals.{then-passes, else-passes, then-passes-2, else-passes-2}
@@ -11,7 +10,7 @@ use Rattle.prefix_walks.proofs.folding.fold_each_flagged.Goals as goal
 pub loop-lane-preserved : goal.loop-lane-preserved
 loop-lane-preserved c =
     let values = c.args.values.now in
-    let flags = flags_of c.args.flags in
+    let flags = c.args.flags.now in
     let n = c.loop-lane.lane in
     let so_far = c.loop-lane.invariant in
     let op = c.args.op in
@@ -59,25 +58,25 @@ loop-lane-preserved c =
       ];
     }
 
-pub returns-then-missed-len : goal.returns-then-missed-len
-returns-then-missed-len c =
+pub returns-then-missed-flags : goal.returns-then-missed-flags
+returns-then-missed-flags c =
     let values = c.args.values.now in
-    let flags = flags_of c.args.flags in
+    let flags = c.args.flags.now in
     let n = c.loop-lane.lane in
-    let whole : n ≡ length flags = omega (arith, c.loop-lane-test.false, c.loop-lane.auto.lane-end, c.len-lane-end.ensures) in
-    let none : 0 ≡ length (flagged_values values flags n) = omega (arith, whole, c.loop-lane.invariant.missed, c.if-missed-len.true, c.len.ensures) in
+    let whole : n ≡ length flags = omega (arith, c.loop-lane-test.false, c.loop-lane.auto.lane-end) in
+    let none : 0 ≡ length (flagged_values values flags n) = omega (arith, whole, c.loop-lane.invariant.missed, c.if-missed-flags.true) in
     none_folded values flags c.args.op c.args.counts (to_z w64 (of_z w64 c.args.identity)) (flagged_values values flags n) none ∙ ap (λ (m : ℕ). folded_values (value_of c.args.op) c.args.counts (flagged_values values flags m)) whole
 
-pub returns-else-missed-len : goal.returns-else-missed-len
-returns-else-missed-len c =
+pub returns-else-missed-flags : goal.returns-else-missed-flags
+returns-else-missed-flags c =
     let values = c.args.values.now in
-    let flags = flags_of c.args.flags in
+    let flags = c.args.flags.now in
     let n = c.loop-lane.lane in
     let op = c.args.op in
     let counts = c.args.counts in
     let identity = to_z w64 (of_z w64 c.args.identity) in
     let identity_fits : to_z w64 (of_z w64 c.args.identity) ≡ c.args.identity = search rules in
     let is = c.requires.identity ∙ ap Some (sym identity_fits) in
-    let whole : n ≡ length flags = omega (arith, c.loop-lane-test.false, c.loop-lane.auto.lane-end, c.len-lane-end.ensures) in
-    let some : 0 < length (flagged_values values flags n) = omega (arith, whole, c.loop-lane.invariant.missed, c.if-missed-len.false, c.len.ensures) in
+    let whole : n ≡ length flags = omega (arith, c.loop-lane-test.false, c.loop-lane.auto.lane-end) in
+    let some : 0 < length (flagged_values values flags n) = omega (arith, whole, c.loop-lane.invariant.missed, c.if-missed-flags.false) in
     ap Some c.loop-lane.invariant.folded ∙ flagged_folded values flags op counts identity is n c.loop-lane.invariant.fits some ∙ ap (λ (m : ℕ). folded_values (value_of op) counts (flagged_values values flags m)) whole
