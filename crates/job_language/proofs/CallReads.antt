@@ -1,5 +1,5 @@
 -- What the reader of a call answers, in both directions.
-use Rattle.std.proofs.Common.{◌≡◌, ℕ, suc, ◌+◌, Bool, true, false, List, [], ◌∷◌, ◌++◌, length, refl, sym, ap, subst, ◌∙◌}
+use Rattle.std.proofs.Common.{◌≡◌, ℕ, suc, Bool, true, false, List, [], ◌∷◌, ◌++◌, length, refl, sym, ap, subst, ◌∙◌}
 use Rattle.std.specs.Prelude.{◌&&◌}
 use Rattle.stream_tokens.specs.declared.symbol.Symbol.TheVariants as symbol
 use Rattle.lambda_expr.specs.Words.{Word, sign}
@@ -9,11 +9,8 @@ use Rattle.job_language.specs.declared.operation.Param.TheVariants as param
 use Rattle.job_language.specs.Table.{allows, param_of, fits}
 use Rattle.job_language.specs.Calls.{Call, FitFrom, parts_words}
 use Rattle.job_language.specs.Splitting.{closed, reads, start, pieces, fits_from, IsOpen, IsSplit, IsReadAs, Completes}
+use Rattle.job_language.proofs.CauseLemmas.{length_parts}
 use Rattle.job_language.proofs.Splits.{AreNoEmpty, read_back, reads_written}
-
-length_pieces : (ws : List Word) (a : ℕ) (es : List ℕ) → length (pieces ws a es) ≡ length es
-length_pieces ws a [] = refl
-length_pieces ws a (e ∷ es) = ap suc (length_pieces ws (e + 1) es)
 
 both : (a b : Bool) → a && b ≡ true → (a ≡ true) × (b ≡ true)
 both true b h = (refl, h)
@@ -60,7 +57,7 @@ one_reading c d r s ws same h k =
 pub is_read : (o : Operation) (ws : List Word) (es : List ℕ) → IsSplit ws es → allows o (length es) ≡ true → fits_from o (length es) 0 (pieces ws 0 es) ≡ true → IsReadAs o ws es
 is_read o ws es s allowed fit =
     let w = reads_written ws (pieces ws 0 es) s.state in
-    let n = length_pieces ws 0 es in
+    let n = length_parts ws 0 es in
     record {
       rest = w.rest;
       completes = record {
@@ -82,12 +79,12 @@ same_pieces c rest ws es s k = let e : closed c.parts ≡ closed (pieces ws 0 es
 
 pub not_allowed : (c : Call) (rest ws : List Word) (es : List ℕ) → IsSplit ws es → allows c.operation (length es) ≡ false → Completes c rest ws → ⊥
 not_allowed c rest ws es s h k =
-    let e : true ≡ false = sym k.call.allowed ∙ ap (λ v. allows c.operation (length v)) (same_pieces c rest ws es s k) ∙ ap (allows c.operation) (length_pieces ws 0 es) ∙ h in
+    let e : true ≡ false = sym k.call.allowed ∙ ap (λ v. allows c.operation (length v)) (same_pieces c rest ws es s k) ∙ ap (allows c.operation) (length_parts ws 0 es) ∙ h in
     absurd cc
 
 pub not_fit : (c : Call) (rest ws : List Word) (es : List ℕ) → IsSplit ws es → fits_from c.operation (length es) 0 (pieces ws 0 es) ≡ false → Completes c rest ws → ⊥
 not_fit c rest ws es s h k =
     let same = same_pieces c rest ws es s k in
-    let n : length c.parts ≡ length es = ap length same ∙ length_pieces ws 0 es in
+    let n : length c.parts ≡ length es = ap length same ∙ length_parts ws 0 es in
     let e : true ≡ false = sym (fit_again c.operation (length c.parts) 0 c.parts k.call.fit) ∙ ap (λ n. fits_from c.operation n 0 c.parts) n ∙ ap (fits_from c.operation (length es) 0) same ∙ h in
     absurd cc

@@ -7,12 +7,10 @@ use Rattle.lambda_expr.specs.Refusals.{IsRefused}
 use Rattle.lambda_expr.specs.declared.fault.ReadFault.{ReadFault}
 use Rattle.lambda_expr.specs.declared.fault.ReadFault.TheVariants as fault
 use Rattle.lambda_expr.specs.declared.want.Want.{Want}
-use Rattle.lambda_expr.specs.declared.word.Word as code
 use Rattle.job_language.specs.declared.operation.Operation.{Operation}
 use Rattle.job_language.specs.declared.fault.Cause.{Cause}
 use Rattle.job_language.specs.declared.fault.Cause.TheVariants as cause
 use Rattle.job_language.specs.Table.{name_in, param_of, string_in}
-use Rattle.lambda_expr.specs.CodeWords.{word_of, words_in}
 use Rattle.job_language.specs.FaultCauses.{cause_of}
 use Rattle.job_language.specs.Causes.{Scope, number_in, numbers_of}
 use Rattle.job_language.specs.Operators.{method_in}
@@ -25,38 +23,20 @@ values_more o n i xs lt =
     ap (λ v. numbers_of o n i v) (drop_more xs i [] lt)
     ∙ ap (λ k. number_in (param_of o n i) (get_or xs i []) ++ numbers_of o n k (drop (i + 1) xs)) e
 
--- words too many for a name or a string
-no_string_for : (a b : Word) (ws : List Word) → None ≡ string_in (a ∷ b ∷ ws)
-no_string_for (quoted w) b ws = refl
-no_string_for a b ws = refl
-
-pub one_word : (ws : List code.Word) (d : code.Word) → length ws ≡ 1 → word_of (get_or ws 0 d) ∷ [] ≡ words_in ws
-one_word (a ∷ []) d h = refl
-one_word x d h = absurd (omega arith)
-
-pub no_string : (ws : List code.Word) → (length ws ≡ 1 → ⊥) → None ≡ string_in (words_in ws)
+-- words too few or too many for a name or a string
+pub no_string : (ws : List Word) → (length ws ≡ 1 → ⊥) → None ≡ string_in ws
 no_string [] h = refl
 no_string (a ∷ []) h = absurd (h refl)
-no_string (a ∷ b ∷ ws) h = no_string_for (word_of a) (word_of b) (words_in ws)
+no_string (quoted w ∷ b ∷ ws) h = refl
+no_string (a ∷ b ∷ ws) h = refl
 
-no_name_for : (a b : Word) (ws : List Word) → None ≡ name_in (a ∷ b ∷ ws)
-no_name_for (named w) b ws = refl
-no_name_for a b ws = refl
-
-pub no_name : (ws : List code.Word) → (length ws ≡ 1 → ⊥) → None ≡ name_in (words_in ws)
+pub no_name : (ws : List Word) → (length ws ≡ 1 → ⊥) → None ≡ name_in ws
 no_name [] h = refl
 no_name (a ∷ []) h = absurd (h refl)
-no_name (a ∷ b ∷ ws) h = no_name_for (word_of a) (word_of b) (words_in ws)
-
-pub three_words : (ws : List code.Word) (d : code.Word) → length ws ≡ 3 → word_of (get_or ws 0 d) ∷ word_of (get_or ws 1 d) ∷ word_of (get_or ws 2 d) ∷ [] ≡ words_in ws
-three_words (a ∷ b ∷ c ∷ []) d h = refl
-three_words x d h = absurd (omega arith)
+no_name (named w ∷ b ∷ ws) h = refl
+no_name (a ∷ b ∷ ws) h = refl
 
 -- words too few or too many for a method
-no_method_one : (a : Word) → None ≡ method_in (a ∷ [])
-no_method_one (named v) = refl
-no_method_one a = refl
-
 no_method_two : (a b : Word) → None ≡ method_in (a ∷ b ∷ [])
 no_method_two (named v) (sign symbol.DoubleColon) = refl
 no_method_two a b = refl
@@ -65,12 +45,13 @@ no_method_for : (a b c d : Word) (ws : List Word) → None ≡ method_in (a ∷ 
 no_method_for (named v) (sign symbol.DoubleColon) (named w) d ws = refl
 no_method_for a b c d ws = refl
 
-pub no_method : (ws : List code.Word) → (length ws ≡ 3 → ⊥) → None ≡ method_in (words_in ws)
+pub no_method : (ws : List Word) → (length ws ≡ 3 → ⊥) → None ≡ method_in ws
 no_method [] h = refl
-no_method (a ∷ []) h = no_method_one (word_of a)
-no_method (a ∷ b ∷ []) h = no_method_two (word_of a) (word_of b)
+no_method (named v ∷ []) h = refl
+no_method (a ∷ []) h = refl
+no_method (a ∷ b ∷ []) h = no_method_two a b
 no_method (a ∷ b ∷ c ∷ []) h = absurd (h refl)
-no_method (a ∷ b ∷ c ∷ d ∷ ws) h = no_method_for (word_of a) (word_of b) (word_of c) (word_of d) (words_in ws)
+no_method (a ∷ b ∷ c ∷ d ∷ ws) h = no_method_for a b c d ws
 
 -- a lambda that is refused
 pub lambda_refused : (s : Scope) (text : List ℕ) (w : Want) (f : ReadFault) (e : Cause) → IsRefused text w f → e ≡ cause_of f → e ≢ cause.NoMemory → IsLambdaRead s text w (Err e)

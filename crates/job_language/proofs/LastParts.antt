@@ -1,7 +1,8 @@
 -- The last part of a call, by the ends of its parts.
-use Rattle.std.proofs.Common.{◌≡◌, ℕ, suc, ◌+◌, ◌-◌, ◌<◌, ◌≤◌, List, [], ◌∷◌, length, drop, get_or, refl, sym, ap, ◌∙◌, arith, length-drop}
+use Rattle.std.proofs.Common.{◌≡◌, ℕ, suc, ◌+◌, ◌-◌, ◌<◌, List, [], ◌∷◌, length, drop, get_or, refl, sym, ap, ◌∙◌, arith}
 use Rattle.lambda_expr.specs.Words.{Word}
 use Rattle.job_language.specs.declared.operation.Operation.{Operation}
+use Rattle.job_language.specs.declared.operation.Param.TheVariants.{Number}
 use Rattle.job_language.specs.Table.{param_of}
 use Rattle.job_language.specs.Splitting.{pieces, AreEnds}
 use Rattle.stream_tokens.specs.CutTexts.{TokenizedText, between}
@@ -9,7 +10,11 @@ use Rattle.job_language.specs.declared.piece.WrittenCall as written
 use Rattle.job_language.specs.Shapes.{start_before, call_in, placed_in, StandsIn}
 use Rattle.job_language.specs.Arguments.{last_param, last_part, before_last, no_token, argument_text}
 use Rattle.job_language.proofs.PieceReads.{length_slice}
-use Rattle.job_language.proofs.CauseLemmas.{length_parts, ends_at}
+use Rattle.job_language.proofs.CauseLemmas.{length_parts}
+
+pub none_last : (o : Operation) (ws : List Word) (es : List ℕ) → length es ≡ 0 → last_param o (pieces ws 0 es) ≡ Number
+none_last o ws [] h = refl
+none_last o ws (e ∷ es) h = absurd (omega arith)
 
 pub last_some : (o : Operation) (ws : List Word) (a : ℕ) (es : List ℕ) → 0 < length es → param_of o (length es) (length es - 1) ≡ last_param o (pieces ws a es)
 last_some o ws a [] h = absurd (omega arith)
@@ -49,31 +54,19 @@ last_length ws a (e ∷ []) lt h = let l = length_slice ws a e h.1 in let low = 
 last_length ws a (e ∷ f ∷ es) lt h =
     omega (arith, last_length ws (e + 1) (f ∷ es) (omega arith) h.2, start_step a e f es, end_step e f es)
 
--- where the last part of a call begins and ends in the words, by these ends and this start
-pub last_places : (ws : List Word) (c : written.WrittenCall) (es : List ℕ) (start size : ℕ) → StandsIn ws c → 0 < length c.ends.items → es ≡ c.ends.items → start ≡ start_before 0 es (length es - 1) → size ≡ length ws
-    → (start ≤ get_or es (length es - 1) 0) × (c.opened + 1 + get_or es (length es - 1) 0 < size)
-last_places ws c es start size h some same from is =
-    let fs = c.ends.items in
-    let e = ends_at 0 fs (length (drop (c.opened + 1) ws)) (length fs - 1) (omega arith) h.ends in
-    let left = length-drop (c.opened + 1) ws in
-    let here : start ≡ start_before 0 fs (length fs - 1) = from ∙ ap (λ e. start_before 0 e (length e - 1)) same in
-    let to : get_or es (length es - 1) 0 ≡ get_or fs (length fs - 1) 0 = ap (λ e. get_or e (length e - 1) 0) same in
-    let low = e.0 in
-    let high = e.1 in
-    (omega arith, omega arith)
-
 -- the text of the last part, by these places
-pub text_at : (t : TokenizedText) (ws : List Word) (c : written.WrittenCall) (es : List ℕ) (start : ℕ) → StandsIn ws c → 0 < length c.ends.items → es ≡ c.ends.items → start ≡ start_before 0 es (length es - 1)
-    → between t (get_or t.tokens (c.opened + start) no_token) (get_or t.tokens (c.opened + 1 + get_or es (length es - 1) 0) no_token) (c.opened + start) (c.opened + 1 + get_or es (length es - 1) 0) ≡ argument_text t (placed_in ws c)
-text_at t ws c es start h some same from =
-    let fs = c.ends.items in
+pub text_at : (t : TokenizedText) (ws : List Word) (c : written.WrittenCall) (place start end : ℕ) → StandsIn ws c → place + 1 ≡ length c.ends.items → start ≡ start_before 0 c.ends.items place → end ≡ get_or c.ends.items place 0
+    → between t (get_or t.tokens (c.opened + start) no_token) (get_or t.tokens (c.opened + 1 + end) no_token) (c.opened + start) (c.opened + 1 + end) ≡ argument_text t (placed_in ws c)
+text_at t ws c place start end h last from to =
+    let es = c.ends.items in
     let xs = (call_in ws c).parts in
-    let end = c.opened + 1 + get_or es (length es - 1) 0 in
-    let here : start ≡ start_before 0 fs (length fs - 1) = from ∙ ap (λ e. start_before 0 e (length e - 1)) same in
-    let to : get_or es (length es - 1) 0 ≡ get_or fs (length fs - 1) 0 = ap (λ e. get_or e (length e - 1) 0) same in
-    let before = before_of (drop (c.opened + 1) ws) 0 fs some h.ends in
-    let long = last_length (drop (c.opened + 1) ws) 0 fs some h.ends in
+    let some : 0 < length es = omega arith in
+    let is : length es - 1 ≡ place = omega arith in
+    let before = before_of (drop (c.opened + 1) ws) 0 es some h.ends in
+    let long = last_length (drop (c.opened + 1) ws) 0 es some h.ends in
+    let here : start_before 0 es (length es - 1) ≡ start = ap (start_before 0 es) is ∙ sym from in
+    let there : get_or es (length es - 1) 0 ≡ end = ap (λ n. get_or es n 0) is ∙ sym to in
     let first : c.opened + start ≡ c.opened + before_last xs = omega arith in
-    let second : end ≡ c.opened + before_last xs + suc (length (last_part xs)) = omega arith in
-    ap (λ i. between t (get_or t.tokens i no_token) (get_or t.tokens end no_token) i end) first
+    let second : c.opened + 1 + end ≡ c.opened + before_last xs + suc (length (last_part xs)) = omega arith in
+    ap (λ i. between t (get_or t.tokens i no_token) (get_or t.tokens (c.opened + 1 + end) no_token) i (c.opened + 1 + end)) first
     ∙ ap (λ j. between t (get_or t.tokens (c.opened + before_last xs) no_token) (get_or t.tokens j no_token) (c.opened + before_last xs) j) second

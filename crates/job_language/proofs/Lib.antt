@@ -19,7 +19,6 @@ pub mod PieceLemmas
 pub mod PieceReads
 pub mod ReferenceLemmas
 pub mod ShapeLemmas
-pub mod SoundWordLemmas
 pub mod Splits
 pub mod TakenParts
 pub mod WholeTextLemmas

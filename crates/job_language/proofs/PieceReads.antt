@@ -108,15 +108,16 @@ pub begins_no_call : (ws : List Word) (at : ℕ) (o : Operation) → at + 1 < le
 begins_no_call ws at o lt name open_ none_ n =
     subst IsNoPiece (sym (front_two ws at lt ∙ ap (λ w. w ∷ get_or ws (at + 1) bad ∷ drop (at + 2) ws) name ∙ ap (λ w. named (name_of o) ∷ w ∷ drop (at + 2) ws) open_)) (no_call_for o (drop (at + 2) ws) none_ n)
 
+pub no_open : (w : Word) (vs : List Word) (o : Operation) → operation_in w ≡ Some o → is_open (get_or vs 0 bad) ≡ false → IsNoPiece (w ∷ vs)
+no_open w vs o h shut (call c) rest k e = let f : true ≡ false = ap (λ v. is_open (get_or v 1 bad)) e ∙ shut in absurd cc
+no_open w vs o h shut begin_concat rest k e = let f : true ≡ false = ap (λ v. is_open (get_or v 1 bad)) e ∙ shut in absurd cc
+no_open w vs o h shut owner rest k e = not_owner o (sym (name_is _ _ _ _ (e ∙ ap (λ v. v ∷ vs) (names w o h))))
+no_open w vs o h shut p rest k e = let f = e ∙ ap (λ v. v ∷ vs) (names w o h) in absurd cc
+
 pub width_last : (es : List ℕ) → 0 < length es → get_or es (length es - 1) 0 + 1 ≡ width es
 width_last [] h = absurd (omega arith)
 width_last (e ∷ []) h = refl
 width_last (e ∷ d ∷ es) h = let n : suc (suc (length es)) - 1 ≡ suc (suc (length es) - 1) = omega arith in ap (λ n. get_or (e ∷ d ∷ es) n 0 + 1) n ∙ width_last (d ∷ es) (omega arith)
-
-pub not_open_past : (ws : List Word) (i : ℕ) → length ws ≤ i → is_open (get_or ws i bad) ≡ false
-not_open_past [] i h = refl
-not_open_past (w ∷ ws) zero h = absurd (omega arith)
-not_open_past (w ∷ ws) (suc i) h = not_open_past ws i (omega arith)
 
 pub begins_word : (ws : List Word) (at : ℕ) (m : Mark) → at < length ws → IsMarkOf (get_or ws at bad) m → Begins ws at (sign_piece m) (at + 1)
 begins_word ws at m lt h = record {

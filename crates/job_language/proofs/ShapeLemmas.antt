@@ -9,15 +9,13 @@ use Rattle.job_language.specs.declared.mode.Mode.{Mode}
 use Rattle.job_language.specs.declared.mode.Mode.TheVariants as mode
 use Rattle.job_language.specs.declared.shape.Reader as code
 use Rattle.job_language.specs.declared.piece.WrittenCall as written
-use Rattle.lambda_expr.specs.declared.word.Word as coded_word
-use Rattle.lambda_expr.specs.CodeWords.{word_of, words_in}
 use Rattle.job_language.specs.Calls.{Call}
 use Rattle.job_language.specs.Grammar.{Source, Sources, plain, concat, two, more, Job, Piece, call, comma, close, dot, piece_words, pieces_words, source_pieces, sources_pieces, steps_pieces, ending, fallback_pieces, fallback_calls, job_pieces, IsSource, AreSources, AreStages, IsFallback, IsSpelled, IsNoJob, is_sound, calls_of, plain_sources}
 use Rattle.job_language.specs.Reading.{Place, State, ended, replaced, finished, stuck, read, reads, begins, coded, moves, moved, mark_of, ArePieces}
 use Rattle.job_language.specs.Shapes.{begins_job, IsNotSpelled, AreCallsOf, IsNoPiece, Begins, is_last, call_in, all_placed, placed_in, piece_from, IsReading, StandIn, StandsIn}
 use Rattle.job_language.specs.Verdicts.{placed}
 use Rattle.job_language.proofs.JobReaderLemmas.{Stands, keeps, reads_append, reads_job, stuck_stays, follows, last_after, last_state}
-use Rattle.job_language.proofs.PieceLemmas.{pieces_append, calls_append, are_append, next_piece, no_pieces}
+use Rattle.job_language.proofs.PieceLemmas.{pieces_append, calls_append, are_append, name_is, next_piece, no_pieces}
 
 stands_from : (ps qs : List Piece) (s : State) → ArePieces qs → Stands ps s → Stands (ps ++ qs) (reads s qs)
 stands_from ps [] s k h = subst (λ v. Stands v s) (sym (append-nil ps)) h
@@ -261,19 +259,7 @@ calls_more ws (c ∷ cs) ds = ap (λ v. placed_in ws c ∷ v) (calls_more ws cs 
 pub one_placed : (ws : List Word) (n : ℕ) (m : Mark) (c : written.WrittenCall) → c.opened ≡ suc n → placed_in ws c ∷ [] ≡ placed n (piece_from ws m (Some c) ∷ [])
 one_placed ws n m c h = ap (λ k. record { opened = k; call = call_in ws c } ∷ []) h
 
-pub no_job_in : (ws : List coded_word.Word) → length ws < 2 → false ≡ begins_job (words_in ws)
-no_job_in [] h = refl
-no_job_in (a ∷ []) h = no_job_for (word_of a)
-  where
-    no_job_for : (a : Word) → false ≡ begins_job (a ∷ [])
-    no_job_for (named n) = refl
-    no_job_for a = refl
-no_job_in (a ∷ b ∷ ws) h = absurd (omega arith)
-
 -- words are one job at most
-same_name : (a b : List ℕ) (v w : List Word) → named a ∷ v ≡ named b ∷ w → a ≡ b
-same_name a b v w h = cc
-
 abbrev pub job_in : List ℕ → State → Option Job
 job_in name (ended s gs c) = Some (record { name = name; source = s; stages = gs; terminal = c; fallback = None; semicolon = false })
 job_in name (replaced s gs c f) = Some (record { name = name; source = s; stages = gs; terminal = c; fallback = Some f; semicolon = false })
@@ -294,7 +280,7 @@ one_spelled ws j k h l =
     let none : pieces.0 ≡ [] = no_pieces pieces.0 pieces.3 in
     let same : job_pieces k ≡ job_pieces j = pieces.1 ∙ ap (λ v. job_pieces j ++ v) none ∙ append-nil (job_pieces j) in
     let states : last_state j ≡ last_state k = sym (reads_last ws j h) ∙ ap (reads begins) (sym same) ∙ reads_last ws k l in
-    let name : j.name ≡ k.name = same_name j.name k.name _ _ (h.spelled ∙ sym l.spelled) in
+    let name : j.name ≡ k.name = name_is j.name k.name _ _ (h.spelled ∙ sym l.spelled) in
     let jobs : Some j ≡ Some k = sym (last_job j) ∙ ap (job_in j.name) states ∙ ap (λ n. job_in n (last_state k)) name ∙ last_job k in
     cc
 

@@ -1,20 +1,18 @@
 //! The last part of a call: a column, an earlier job, a lambda, an operator.
-ghost use Rattle.std.specs.Prelude.{◌≡◌, ◌≢◌, ◌<◌, IfOk, List, Ok, option_map, length};
+ghost use Rattle.std.specs.Prelude.{◌≡◌, IfOk, Ok, option_map};
 ghost use Rattle.lambda_values.specs.Lambda.{body_of};
-ghost use Rattle.lambda_expr.specs.Words.{Word as meant, words_of};
 ghost use Rattle.lambda_expr.specs.CodeWords.{words_in};
-ghost use Rattle.job_language.specs.Shapes.{StandsIn, call_in, placed_in};
+ghost use Rattle.job_language.specs.Shapes.{StandsIn, placed_in};
 ghost use Rattle.job_language.specs.Scopes.{scope_of};
 ghost use Rattle.job_language.specs.Causes.{first_cause};
 ghost use Rattle.job_language.specs.Operators.{is_add_exact, spelled_op};
 ghost use Rattle.job_language.specs.Arguments.{text_answer, name_answer, argument_of, pair_argument};
-ghost use Rattle.job_language.specs.Arguments.{reference_cause, reference_causes, lambda_answer, argument_text};
-ghost use Rattle.job_language.specs.Arguments.{last_param, last_part};
+ghost use Rattle.job_language.specs.Arguments.{reference_cause, reference_causes, lambda_answer};
 ghost use Rattle.job_language.specs.Arguments.{IsLambdaRead, IsOperatorRead, IsReadBy, IsArgumentRead};
 ghost use Rattle.job_language.specs.Rows.{job as named_job};
 ghost use Rattle.job_language.specs.Parts.{argument_in, Answers};
 
-use crate::causes::{inside_quotes, part_of, part_start};
+use crate::causes::{inside_quotes, part_of};
 use crate::fault::Cause;
 use crate::operation::Param;
 use crate::operator::{is_add_exact, spelled_op};
@@ -23,7 +21,7 @@ use crate::piece::WrittenCall;
 use crate::scope::{Scope, given};
 use crate::terminal::Gives;
 use crate::word::{name_in, string_in};
-use lambda_expr::{Want, Word, read_lambda_of};
+use lambda_expr::{Want, read_lambda_of};
 use lambda_values::{Body, BoolExpr, InnerExpr, Lambda, LongExpr, PairForm};
 use reduce_ops::Op;
 use std::alloc::{AllocError, Global};
@@ -165,57 +163,18 @@ fn read_operator<'c>(
     alloc: Global,
     scope: Scope<'_, 'c>,
     text: &CutText,
-    words: &[Word],
 ) -> Result<Argument<'c>, Cause>
-    ensures { let ws = words_in words.now in Answers argument_in
+    ensures { let ws = words_in text.now in Answers argument_in
         (IsOperatorRead (is_add_exact ws) (spelled_op ws) (scope_of scope.entry) text.now.bytes) result }
 {
-    if is_add_exact(words) {
+    if is_add_exact(text) {
         return Ok(Argument::ExactSum);
     }
-    match spelled_op(words) {
+    match spelled_op(text) {
         Some(Some(op)) => Ok(Argument::Operator(op)),
         Some(None) => Err(Cause::OperatorNotListed),
         None => read_lambda_part(alloc, scope, text, Want::Pair),
     }
-}
-
-/// What the row says of the last part of a call; a call without parts has none.
-fn last_param(call: &WrittenCall) -> Param
-    ensures value { (ws : List meant)
-        → result ≡ last_param call.now.operation (call_in ws call.now).parts }
-    ensures some { result ≢ Param.Number → 0 < length call.now.ends.items }
-{
-    let ends = call.ends.as_slice();
-    match ends.len() {
-        0 => Param::Number,
-        count => param_of(call.operation, count, count - 1),
-    }
-}
-
-/// The words of the last part of a call.
-fn last_words<'a, 'b>(words: &'b [Word<'a>], call: &WrittenCall) -> &'b [Word<'a>]
-    requires { StandsIn (words_in words.now) call.now }
-    ensures { words_in result.now ≡ last_part (call_in (words_in words.now) call.now).parts }
-{
-    let ends = call.ends.as_slice();
-    match ends.len() {
-        0 => &words[..0],
-        count => part_of(words, call, count - 1),
-    }
-}
-
-/// The text of the last part of a call, with its tokens. Nothing is cut or copied.
-fn argument_text<'a>(text: &CutText<'a>, call: &WrittenCall) -> CutText<'a>
-    requires some { 0 < length call.now.ends.items }
-    requires stands { StandsIn (words_of text.now.bytes text.now.tokens) call.now }
-    ensures { result ≡ argument_text text.now
-        (placed_in (words_of text.now.bytes text.now.tokens) call.now) }
-{
-    let ends = call.ends.as_slice();
-    let last = ends.len() - 1;
-    let start = part_start(ends, last, text.len());
-    text.between(call.opened + start, call.opened + 1 + ends[last])
 }
 
 /// A part, by what the row says of it.
@@ -223,40 +182,37 @@ fn read_by<'c>(
     alloc: Global,
     scope: Scope<'_, 'c>,
     param: Param,
-    words: &[Word],
     text: &CutText,
 ) -> Result<Argument<'c>, Cause>
     ensures { Answers argument_in
-        (IsReadBy param (scope_of scope.entry) (words_in words.now) text.now.bytes) result }
+        (IsReadBy param (scope_of scope.entry) (words_in text.now) text.now.bytes) result }
 {
     match param {
         Param::Number => Ok(Argument::Nothing),
-        Param::Text => read_string(scope, string_in(words)),
-        Param::Name => read_name(alloc, scope, name_in(words)),
+        Param::Text => read_string(scope, string_in(text)),
+        Param::Name => read_name(alloc, scope, name_in(text)),
         Param::Long => read_lambda_part(alloc, scope, text, Want::Long),
         Param::Bool => read_lambda_part(alloc, scope, text, Want::Bool),
         Param::Stream => read_lambda_part(alloc, scope, text, Want::Stream),
-        Param::Operator => read_operator(alloc, scope, text, words),
+        Param::Operator => read_operator(alloc, scope, text),
     }
 }
 
-/// The last part of a call, by what the row says of it.
+/// The last part of a call, by what the row says of it; a call without parts has none.
 pub fn read_argument<'c>(
     alloc: Global,
     scope: Scope<'_, 'c>,
     text: &CutText,
-    words: &[Word],
     call: &WrittenCall,
 ) -> Result<Argument<'c>, Cause>
-    requires words { words_in words.now ≡ words_of text.now.bytes text.now.tokens }
-    requires stands { StandsIn (words_in words.now) call.now }
+    requires { StandsIn (words_in text.now) call.now }
     ensures { Answers argument_in (IsArgumentRead (scope_of scope.entry) text.now
-        (placed_in (words_in words.now) call.now)) result }
+        (placed_in (words_in text.now) call.now)) result }
 {
-    let param = last_param(call);
-    if param == Param::Number {
+    let count = call.ends.as_slice().len();
+    if count == 0 {
         return Ok(Argument::Nothing);
     }
-    let text = argument_text(text, call);
-    read_by(alloc, scope, param, last_words(words, call), &text)
+    let param = param_of(call.operation, count, count - 1);
+    read_by(alloc, scope, param, &part_of(text, call, count - 1))
 }

@@ -1,5 +1,5 @@
 //! Calls: an operation, and the parts between its parentheses.
-ghost use Rattle.std.specs.Prelude.{◌≡◌, ◌<◌, List, length, IfOk, MatchOption};
+ghost use Rattle.std.specs.Prelude.{◌≡◌, ◌<◌, ◌+◌, List, length, drop, IfOk, MatchOption};
 ghost use Rattle.lambda_expr.specs.Words.{Word as meant};
 ghost use Rattle.job_language.specs.declared.operation.Operation.{Operation as operation};
 ghost use Rattle.job_language.specs.Calls.{Call as call};
@@ -10,19 +10,21 @@ ghost use Rattle.job_language.specs.Splitting.{IsNoCallOf, AreEnds, IsOpen, Comp
 use crate::operation::Operation;
 use crate::params::{allows, param_of};
 use crate::word::{Bracket, bracket_at, fits, nest, part};
-use lambda_expr::Word;
 use std::alloc::{AllocError, Global};
+use stream_tokens::CutText;
 
 /// The places where the parts of a call end, in the words after its opening parenthesis; the last ends
 /// at the closing one. One walk, whatever the operation is. `None` if the call isn't closed.
-fn split(alloc: Global, words: &[Word]) -> Result<Option<Vec<usize>>, AllocError>
-    ensures { IfOk result (λ found. MatchOption found (IsOpen (reads start (words_in words.now)))
-        (λ ends. IsSplit (words_in words.now) ends.items)) }
+fn split(alloc: Global, text: &CutText, opened: usize) -> Result<Option<Vec<usize>>, AllocError>
+    requires { opened < length text.now.tokens }
+    ensures { let ws = drop (opened + 1) (words_in text.now) in
+        IfOk result (λ found. MatchOption found (IsOpen (reads start ws)) (λ ends. IsSplit ws ends.items)) }
 {
     let mut ends = Vec::new(alloc);
     let mut depth = 0;
-    for at in 0..words.len() {
-        let bracket = bracket_at(words, at);
+    let count = text.len() - opened - 1;
+    for at in 0..count {
+        let bracket = bracket_at(text, opened + 1 + at);
         match nest(depth, bracket) {
             Some(after) => depth = after,
             None => {
@@ -41,14 +43,17 @@ fn split(alloc: Global, words: &[Word]) -> Result<Option<Vec<usize>>, AllocError
 }
 
 /// Whether each of the parts that end there is what the row says.
-fn fit(operation: Operation, words: &[Word], ends: &[usize]) -> bool
-    requires { AreEnds 0 ends.now (length (words_in words.now)) }
-    ensures { result ≡ fits_from operation (length ends.now) 0 (pieces (words_in words.now) 0 ends.now) }
+fn fit(operation: Operation, text: &CutText, opened: usize, ends: &[usize]) -> bool
+    requires opened { opened < length text.now.tokens }
+    requires ends { AreEnds 0 ends.now (length (drop (opened + 1) (words_in text.now))) }
+    ensures { result ≡ fits_from operation (length ends.now) 0
+        (pieces (drop (opened + 1) (words_in text.now)) 0 ends.now) }
 {
     let mut from = 0;
     for at in 0..ends.len() {
         let to = ends[at];
-        if !fits(param_of(operation, ends.len(), at), part(words, from, to)) {
+        let part = part(text, opened, from, to);
+        if !fits(param_of(operation, ends.len(), at), &part) {
             return false;
         }
         from = to + 1;
@@ -61,18 +66,21 @@ fn fit(operation: Operation, words: &[Word], ends: &[usize]) -> bool
 pub fn read_call(
     alloc: Global,
     operation: Operation,
-    words: &[Word],
+    text: &CutText,
+    opened: usize,
 ) -> Result<Option<Vec<usize>>, AllocError>
-    ensures { IfOk result (λ found. MatchOption found (IsNoCallOf operation (words_in words.now))
-        (λ ends. IsReadAs operation (words_in words.now) ends.items)) }
+    requires { opened < length text.now.tokens }
+    ensures { let ws = drop (opened + 1) (words_in text.now) in
+        IfOk result (λ found. MatchOption found (IsNoCallOf operation ws)
+        (λ ends. IsReadAs operation ws ends.items)) }
 {
-    match split(alloc, words)? {
+    match split(alloc, text, opened)? {
         None => Ok(None),
         Some(ends) => {
             if !allows(operation, ends.len()) {
                 return Ok(None);
             }
-            if !fit(operation, words, &ends) {
+            if !fit(operation, text, opened, &ends) {
                 return Ok(None);
             }
             Ok(Some(ends))

@@ -1,16 +1,17 @@
 //! What the parts of a job are refused for, and where they stand.
-ghost use Rattle.std.specs.Prelude.{◌≡◌, ◌<◌, length, get_or, []};
+ghost use Rattle.std.specs.Prelude.{◌≡◌, ◌<◌, ◌+◌, length, get_or, []};
 ghost use Rattle.lambda_expr.specs.CodeWords.{words_in};
 ghost use Rattle.job_language.specs.Splitting.{AreEnds};
-ghost use Rattle.job_language.specs.Shapes.{StandsIn, call_in, start_before};
+ghost use Rattle.job_language.specs.Arguments.{argument_text};
+ghost use Rattle.job_language.specs.Shapes.{StandsIn, call_in, placed_in, start_before};
 ghost use Rattle.job_language.specs.Causes.{first_cause, when, name_causes, inside_quotes};
 ghost use Rattle.job_language.specs.Scopes.{scope_of};
 
 use crate::fault::Cause;
 use crate::piece::WrittenCall;
 use crate::scope::{Scope, given};
-use crate::word::{after, part};
-use lambda_expr::Word;
+use crate::word::part;
+use stream_tokens::CutText;
 
 /// How many bytes a name may have.
 const MAX_NAME: usize = 64;
@@ -36,7 +37,7 @@ pub fn when(holds: bool, cause: Cause) -> Option<Cause>
 }
 
 /// Where part `place` begins, in the words after the parenthesis.
-pub fn part_start(ends: &[usize], place: usize, most: usize) -> usize
+fn part_start(ends: &[usize], place: usize, most: usize) -> usize
     requires in_range { place < length ends.now }
     requires in_order { AreEnds 0 ends.now most }
     ensures { result ≡ start_before 0 ends.now place }
@@ -47,16 +48,17 @@ pub fn part_start(ends: &[usize], place: usize, most: usize) -> usize
     ends[place - 1] + 1
 }
 
-/// The words of a part of a call.
-pub fn part_of<'a, 'b>(words: &'b [Word<'a>], call: &WrittenCall, place: usize) -> &'b [Word<'a>]
-    requires stands { StandsIn (words_in words.now) call.now }
+/// A part of a call, with its tokens. Nothing is cut or copied.
+pub fn part_of<'a>(text: &CutText<'a>, call: &WrittenCall, place: usize) -> CutText<'a>
+    requires stands { StandsIn (words_in text.now) call.now }
     requires in_range { place < length call.now.ends.items }
-    ensures { words_in result.now ≡ get_or (call_in (words_in words.now) call.now).parts place [] }
+    ensures words { words_in result ≡ get_or (call_in (words_in text.now) call.now).parts place [] }
+    ensures last { place + 1 ≡ length call.now.ends.items
+        → result ≡ argument_text text.now (placed_in (words_in text.now) call.now) }
 {
-    let rest = after(words, call.opened + 1);
     let ends = call.ends.as_slice();
-    let from = part_start(ends, place, rest.len());
-    part(rest, from, ends[place])
+    let from = part_start(ends, place, text.len());
+    part(text, call.opened, from, ends[place])
 }
 
 /// The bytes of a string token between its quotes; none of fewer than two bytes.

@@ -56,5 +56,5 @@ pub use params::{allows, param_of, params_of, role_of};
 pub use piece::WrittenCall;
 pub use read::read_job;
 pub use scope::Scope;
-pub use shape::{ParsedJob, one_job, parse_job};
+pub use shape::{one_job, parse_job};
 pub use terminal::{Gives, Terminal};

@@ -3,7 +3,6 @@ ghost use Rattle.std.specs.Prelude.{◌≡◌, ◌≢◌, ◌++◌, length, IfEr
 ghost use Rattle.job_language.specs.declared.fault.Cause.TheVariants.{NoMemory};
 ghost use Rattle.job_language.specs.Table.{params_of};
 ghost use Rattle.lambda_expr.specs.CodeWords.{words_in};
-ghost use Rattle.lambda_expr.specs.NumberWords.{number_read};
 ghost use Rattle.job_language.specs.Shapes.{StandsIn, call_in};
 ghost use Rattle.job_language.specs.Causes.{first_cause, when, count_of, number_cause, number_causes};
 ghost use Rattle.job_language.specs.Causes.{number_in, numbers_of, values_cause, early_causes};
@@ -13,8 +12,9 @@ use crate::fault::Cause;
 use crate::operation::{Param, Params};
 use crate::params::{param_of, params_of};
 use crate::piece::WrittenCall;
-use lambda_expr::{ReadFault, Word, number_in};
+use lambda_expr::{ReadFault, number_read};
 use std::alloc::Global;
+use stream_tokens::CutText;
 
 /// How many values `of` may have.
 const MAX_VALUES: usize = 1024;
@@ -29,24 +29,17 @@ fn count_cause(call: &WrittenCall) -> Option<Cause>
     }
 }
 
-/// The value of the number that words are; `None` if it is outside 64 bits, or they are no number.
-fn number_read(words: &[Word]) -> Option<i64>
-    ensures { result ≡ number_read (words_in words.now) }
-{
-    number_in(words).flatten()
-}
-
 /// Puts the number that a part is, if the row says so, after the others.
-fn add_number(numbers: &mut Vec<i64>, param: Param, words: &[Word]) -> Result<(), Cause>
-    ensures ok { IfOk result (λ _. (number_cause param (words_in words.now) ≡ None)
-        × (numbers.new.items ≡ numbers.old.items ++ number_in param (words_in words.now))) }
+fn add_number(numbers: &mut Vec<i64>, param: Param, part: &CutText) -> Result<(), Cause>
+    ensures ok { IfOk result (λ _. (number_cause param (words_in part.now) ≡ None)
+        × (numbers.new.items ≡ numbers.old.items ++ number_in param (words_in part.now))) }
     ensures refused { IfErr result (λ cause. cause ≢ NoMemory
-        → number_cause param (words_in words.now) ≡ Some cause) }
+        → number_cause param (words_in part.now) ≡ Some cause) }
 {
     if param != Param::Number {
         return Ok(());
     }
-    match number_read(words) {
+    match number_read(part) {
         Some(number) => {
             numbers.push(number)?;
             Ok(())
@@ -56,12 +49,12 @@ fn add_number(numbers: &mut Vec<i64>, param: Param, words: &[Word]) -> Result<()
 }
 
 /// The numbers of a call.
-fn read_numbers(alloc: Global, words: &[Word], call: &WrittenCall) -> Result<Vec<i64>, Cause>
-    requires { StandsIn (words_in words.now) call.now }
-    ensures ok { let c = call_in (words_in words.now) call.now in
+fn read_numbers(alloc: Global, text: &CutText, call: &WrittenCall) -> Result<Vec<i64>, Cause>
+    requires { StandsIn (words_in text.now) call.now }
+    ensures ok { let c = call_in (words_in text.now) call.now in
         IfOk result (λ numbers. (first_cause (number_causes c.operation (length c.parts) 0 c.parts) ≡ None)
         × (numbers.items ≡ numbers_of c.operation (length c.parts) 0 c.parts)) }
-    ensures refused { let c = call_in (words_in words.now) call.now in
+    ensures refused { let c = call_in (words_in text.now) call.now in
         IfErr result (λ cause. cause ≢ NoMemory
         → first_cause (number_causes c.operation (length c.parts) 0 c.parts) ≡ Some cause) }
 {
@@ -69,7 +62,7 @@ fn read_numbers(alloc: Global, words: &[Word], call: &WrittenCall) -> Result<Vec
     let count = call.ends.as_slice().len();
     for place in 0..count {
         let param = param_of(call.operation, count, place);
-        add_number(&mut numbers, param, part_of(words, call, place))?;
+        add_number(&mut numbers, param, &part_of(text, call, place))?;
     }
     Ok(numbers)
 }
@@ -92,18 +85,18 @@ fn values_cause(params: Params, numbers: &[i64]) -> Option<Cause>
 }
 
 /// The numbers of a call, each read once. Takes memory for them if there are any.
-pub fn read_values(alloc: Global, words: &[Word], call: &WrittenCall) -> Result<Vec<i64>, Cause>
-    requires { StandsIn (words_in words.now) call.now }
-    ensures ok { let c = call_in (words_in words.now) call.now in
+pub fn read_values(alloc: Global, text: &CutText, call: &WrittenCall) -> Result<Vec<i64>, Cause>
+    requires { StandsIn (words_in text.now) call.now }
+    ensures ok { let c = call_in (words_in text.now) call.now in
         IfOk result (λ numbers. (first_cause (early_causes c) ≡ None)
         × (numbers.items ≡ numbers_of c.operation (length c.parts) 0 c.parts)) }
-    ensures refused { let c = call_in (words_in words.now) call.now in
+    ensures refused { let c = call_in (words_in text.now) call.now in
         IfErr result (λ cause. cause ≢ NoMemory → first_cause (early_causes c) ≡ Some cause) }
 {
     if let Some(cause) = count_cause(call) {
         return Err(cause);
     }
-    let numbers = read_numbers(alloc, words, call)?;
+    let numbers = read_numbers(alloc, text, call)?;
     match values_cause(params_of(call.operation), &numbers) {
         Some(cause) => Err(cause),
         None => Ok(numbers),

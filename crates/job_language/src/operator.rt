@@ -5,9 +5,9 @@ ghost use Rattle.job_language.specs.Operators.{is_add_exact, method_in, spelled_
 ghost use Rattle.lambda_expr.specs.CodeWords.{word_of, words_in};
 
 use crate::word::name_in;
-use lambda_expr::Word;
+use lambda_expr::{Word, word_at};
 use reduce_ops::Op;
-use stream_tokens::Symbol;
+use stream_tokens::{CutText, Symbol};
 
 /// The operator with this name.
 fn op_named(name: &[u8]) -> Option<Op>
@@ -82,23 +82,23 @@ fn method_of<'a>(owner: Word<'a>, colons: Word<'a>, name: Word<'a>) -> Option<(&
 }
 
 /// The owner and the name of a method `OWNER::NAME`.
-fn method_in<'a>(words: &[Word<'a>]) -> Option<(&'a [u8], &'a [u8])>
-    ensures { option_map (λ m. (m.0.now, m.1.now)) result ≡ method_in (words_in words.now) }
+fn method_in<'a>(text: &CutText<'a>) -> Option<(&'a [u8], &'a [u8])>
+    ensures { option_map (λ m. (m.0.now, m.1.now)) result ≡ method_in (words_in text.now) }
 {
-    match words.len() {
-        3 => method_of(words[0], words[1], words[2]),
+    match text.len() {
+        3 => method_of(word_at(text, 0), word_at(text, 1), word_at(text, 2)),
         _ => None,
     }
 }
 
 /// The operator that words name, if they are a name or a method; the inner `None` if no operator is
 /// called so.
-pub fn spelled_op(words: &[Word]) -> Option<Option<Op>>
-    ensures { result ≡ spelled_op (words_in words.now) }
+pub fn spelled_op(text: &CutText) -> Option<Option<Op>>
+    ensures { result ≡ spelled_op (words_in text.now) }
 {
-    match name_in(words) {
+    match name_in(text) {
         Some(name) => Some(op_named(name)),
-        None => match method_in(words) {
+        None => match method_in(text) {
             Some((owner, name)) => Some(op_method(owner, name)),
             None => None,
         },
@@ -106,10 +106,10 @@ pub fn spelled_op(words: &[Word]) -> Option<Option<Op>>
 }
 
 /// Whether words are `Math::addExact`, the addition of exact sums.
-pub fn is_add_exact(words: &[Word]) -> bool
-    ensures { result ≡ is_add_exact (words_in words.now) }
+pub fn is_add_exact(text: &CutText) -> bool
+    ensures { result ≡ is_add_exact (words_in text.now) }
 {
-    match method_in(words) {
+    match method_in(text) {
         Some((owner, name)) => owner == b"Math".as_slice() && name == b"addExact".as_slice(),
         None => false,
     }

@@ -1,11 +1,10 @@
 //! The parts of a job, one call after the other.
 ghost use Rattle.std.specs.Prelude.{◌≡◌, ◌≤◌, IfOk, Ok, length, option_map};
-ghost use Rattle.lambda_expr.specs.Words.{words_of};
 ghost use Rattle.lambda_expr.specs.CodeWords.{words_in};
 ghost use Rattle.job_language.specs.Shapes.{StandsIn, StandIn, placed_in, all_placed};
 ghost use Rattle.job_language.specs.Scopes.{scope_of};
 ghost use Rattle.job_language.specs.Causes.{stage_cause};
-ghost use Rattle.job_language.specs.Verdicts.{added, below_terminal, fallback_below, finished, job_named};
+ghost use Rattle.job_language.specs.Verdicts.{added, below_terminal, finished, job_named};
 ghost use Rattle.job_language.specs.Verdicts.{IsCallRead, IsNextCall, AreRead};
 ghost use Rattle.job_language.specs.Jobs.{job_of, terminal_of};
 ghost use Rattle.job_language.specs.Parts.{part_in, begun_of, answer_in, Answers, Leads};
@@ -20,7 +19,6 @@ use crate::piece::WrittenCall;
 use crate::row::{CallPart, built};
 use crate::scope::Scope;
 use crate::terminal::{Gives, Terminal};
-use lambda_expr::Word;
 use std::alloc::{AllocError, Global};
 use stream_tokens::{Bytes, CutText};
 
@@ -32,16 +30,14 @@ fn read_call<'c>(
     alloc: Global,
     scope: Scope<'_, 'c>,
     text: &CutText,
-    words: &[Word],
     call: &WrittenCall,
 ) -> Result<CallPart<'c>, Cause>
-    requires words { words_in words.now ≡ words_of text.now.bytes text.now.tokens }
-    requires stands { StandsIn (words_in words.now) call.now }
+    requires { StandsIn (words_in text.now) call.now }
     ensures { Answers part_in (IsCallRead (scope_of scope.entry) text.now
-        (placed_in (words_in words.now) call.now)) result }
+        (placed_in (words_in text.now) call.now)) result }
 {
-    let numbers = read_values(alloc, words, call)?;
-    let last = read_argument(alloc, scope, text, words, call)?;
+    let numbers = read_values(alloc, text, call)?;
+    let last = read_argument(alloc, scope, text, call)?;
     built(call.operation, numbers, last)
 }
 
@@ -102,19 +98,6 @@ fn stage_cause(stages: usize, role: Role) -> Option<Cause>
     }
 }
 
-/// Adds the number of `onFault` after this terminal, if it gives a number.
-fn fallback_below<'c>(terminal: &Option<Terminal>, number: i64) -> Result<CallPart<'c>, Cause>
-    ensures { answer_in part_in result ≡ fallback_below (option_map terminal_of terminal.now) number }
-{
-    let Some(terminal) = terminal else {
-        return Err(Cause::NotScalar);
-    };
-    match terminal.gives() {
-        Gives::Number => Ok(CallPart::Fallback(number)),
-        _ => Err(Cause::NotScalar),
-    }
-}
-
 /// Adds a call after this terminal: the number of `onFault`, for a terminal that gives a number.
 fn below_terminal<'c>(
     terminal: &Option<Terminal>,
@@ -124,7 +107,10 @@ fn below_terminal<'c>(
         ≡ below_terminal (option_map terminal_of terminal.now) (Ok (part_in part.entry)) }
 {
     match part {
-        CallPart::Fallback(number) => fallback_below(terminal, number),
+        CallPart::Fallback(number) => match terminal {
+            Some(terminal) if terminal.gives() == Gives::Number => Ok(CallPart::Fallback(number)),
+            _ => Err(Cause::NotScalar),
+        },
         part => Ok(part),
     }
 }
@@ -135,18 +121,16 @@ fn read_next_call<'c>(
     alloc: Global,
     scope: Scope<'_, 'c>,
     text: &CutText,
-    words: &[Word],
     call: &WrittenCall,
 ) -> Result<CallPart<'c>, Cause>
-    requires words { words_in words.now ≡ words_of text.now.bytes text.now.tokens }
-    requires stands { StandsIn (words_in words.now) call.now }
+    requires { StandsIn (words_in text.now) call.now }
     ensures { Answers part_in (IsNextCall (begun_of job.now) (scope_of scope.entry) text.now
-        (placed_in (words_in words.now) call.now)) result }
+        (placed_in (words_in text.now) call.now)) result }
 {
     if let Some(cause) = stage_cause(job.stages.len(), role_of(call.operation)) {
         return Err(cause);
     }
-    let part = read_call(alloc, scope, text, words, call)?;
+    let part = read_call(alloc, scope, text, call)?;
     below_terminal(&job.terminal, part)
 }
 
@@ -156,16 +140,14 @@ fn add_parts<'c>(
     alloc: Global,
     scope: Scope<'_, 'c>,
     text: &CutText,
-    words: &[Word],
     calls: &[WrittenCall],
 ) -> Result<(), Cause>
-    requires words { words_in words.now ≡ words_of text.now.bytes text.now.tokens }
-    requires stand { StandIn (words_in words.now) calls.now }
+    requires { StandIn (words_in text.now) calls.now }
     ensures { Leads (AreRead (scope_of scope.entry) text.now (begun_of job.old)
-        (all_placed (words_in words.now) calls.now)) (begun_of job.new) result }
+        (all_placed (words_in text.now) calls.now)) (begun_of job.new) result }
 {
     for call in calls {
-        let part = read_next_call(job, alloc, scope, text, words, call)?;
+        let part = read_next_call(job, alloc, scope, text, call)?;
         add(job, part)?;
     }
     Ok(())
@@ -177,13 +159,11 @@ pub fn read_parts<'c>(
     scope: Scope<'_, 'c>,
     text: &CutText,
     name: &[u8],
-    words: &[Word],
     calls: &[WrittenCall],
 ) -> Result<Job<'c>, Cause>
-    requires words { words_in words.now ≡ words_of text.now.bytes text.now.tokens }
-    requires stand { StandIn (words_in words.now) calls.now }
+    requires { StandIn (words_in text.now) calls.now }
     ensures { Answers job_of (AreRead (scope_of scope.entry) text.now (job_named name.now)
-        (all_placed (words_in words.now) calls.now)) result }
+        (all_placed (words_in text.now) calls.now)) result }
 {
     let bytes = name.to_vec(alloc)?;
     let mut job = BegunJob {
@@ -193,6 +173,6 @@ pub fn read_parts<'c>(
         terminal: None,
         on_fault: None,
     };
-    add_parts(&mut job, alloc, scope, text, words, calls)?;
+    add_parts(&mut job, alloc, scope, text, calls)?;
     job.finished()
 }

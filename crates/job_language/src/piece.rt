@@ -9,10 +9,9 @@ ghost use Rattle.job_language.specs.Shapes.{IsNoPiece, IsPieceRead, IsMarkOf};
 use crate::call::read_call;
 use crate::operation::{Operation, Role, operation_of};
 use crate::params::role_of;
-use crate::word::after;
-use lambda_expr::Word;
+use lambda_expr::{Word, word_at};
 use std::alloc::{AllocError, Global};
-use stream_tokens::Symbol;
+use stream_tokens::{CutText, Symbol};
 
 /// What a piece of a job is to its reader.
 #[derive(Clone, Copy, PartialEq, Eq)]
@@ -57,16 +56,7 @@ fn mark_of_symbol(symbol: Symbol) -> Option<Mark>
     }
 }
 
-/// Whether an opening parenthesis stands there.
-fn is_open_at(words: &[Word], place: usize) -> bool
-    ensures { result ≡ is_open (get_or (words_in words.now) place bad) }
-{
-    if place >= words.len() {
-        return false;
-    }
-    is_open(words[place])
-}
-
+/// Whether a word is an opening parenthesis.
 fn is_open(word: Word) -> bool
     ensures { result ≡ is_open (word_of word.entry) }
 {
@@ -88,15 +78,16 @@ fn width(ends: &[usize], most: usize) -> usize
 fn call_piece(
     alloc: Global,
     operation: Operation,
-    words: &[Word],
+    text: &CutText,
     at: usize,
 ) -> Result<Option<ReadPiece>, AllocError>
-    requires in_range { at + 1 < length words.now }
-    requires name { get_or (words_in words.now) at bad ≡ named (name_of operation) }
-    requires open { get_or (words_in words.now) (at + 1) bad ≡ sign Symbol.Open }
-    ensures { IfOk result (λ found. MatchOption found (IsNoPiece (drop at (words_in words.now)))
-        (λ piece. IsPieceRead (words_in words.now) at piece)) }
+    requires in_range { at + 1 < length text.now.tokens }
+    requires name { get_or (words_in text.now) at bad ≡ named (name_of operation) }
+    requires open { get_or (words_in text.now) (at + 1) bad ≡ sign Symbol.Open }
+    ensures { IfOk result (λ found. MatchOption found (IsNoPiece (drop at (words_in text.now)))
+        (λ piece. IsPieceRead (words_in text.now) at piece)) }
 {
+    let len = text.len();
     let role = role_of(operation);
     if role == Role::Concatenation {
         return Ok(Some(ReadPiece {
@@ -105,10 +96,10 @@ fn call_piece(
             call: None,
         }));
     }
-    let Some(ends) = read_call(alloc, operation, after(words, at + 2))? else {
+    let Some(ends) = read_call(alloc, operation, text, at + 1)? else {
         return Ok(None);
     };
-    let to = at + 2 + width(&ends, words.len());
+    let to = at + 2 + width(&ends, len);
     Ok(Some(ReadPiece {
         mark: Mark::Call(role),
         to,
@@ -128,13 +119,7 @@ fn mark_of_word(word: Word) -> Option<Mark>
 {
     match word {
         Word::Sign(symbol) => mark_of_symbol(symbol),
-        Word::Name(name) => {
-            if name == b"LongStream".as_slice() {
-                Some(Mark::Owner)
-            } else {
-                None
-            }
-        }
+        Word::Name(name) => (name == b"LongStream".as_slice()).then_some(Mark::Owner),
         _ => None,
     }
 }
@@ -150,13 +135,13 @@ fn operation_in(word: Word) -> Option<Operation>
 }
 
 /// The piece that is one word.
-fn word_piece(words: &[Word], at: usize) -> Option<ReadPiece>
-    requires in_range { at < length words.now }
-    requires other { operation_in (get_or (words_in words.now) at bad) ≡ None }
-    ensures { MatchOption result (IsNoPiece (drop at (words_in words.now)))
-        (λ piece. IsPieceRead (words_in words.now) at piece) }
+fn word_piece(text: &CutText, at: usize) -> Option<ReadPiece>
+    requires in_range { at < length text.now.tokens }
+    requires other { operation_in (get_or (words_in text.now) at bad) ≡ None }
+    ensures { MatchOption result (IsNoPiece (drop at (words_in text.now)))
+        (λ piece. IsPieceRead (words_in text.now) at piece) }
 {
-    match mark_of_word(words[at]) {
+    match mark_of_word(word_at(text, at)) {
         Some(mark) => Some(ReadPiece {
             mark,
             to: at + 1,
@@ -166,28 +151,20 @@ fn word_piece(words: &[Word], at: usize) -> Option<ReadPiece>
     }
 }
 
-/// The operation that the word at a place names.
-fn operation_at(words: &[Word], at: usize) -> Option<Operation>
-    requires { at < length words.now }
-    ensures { result ≡ operation_in (get_or (words_in words.now) at bad) }
-{
-    operation_in(words[at])
-}
-
 /// The piece that stands there, if one does.
-pub fn piece_at(alloc: Global, words: &[Word], at: usize) -> Result<Option<ReadPiece>, AllocError>
-    requires { at < length words.now }
-    ensures { IfOk result (λ found. MatchOption found (IsNoPiece (drop at (words_in words.now)))
-        (λ piece. IsPieceRead (words_in words.now) at piece)) }
+pub fn piece_at(alloc: Global, text: &CutText, at: usize) -> Result<Option<ReadPiece>, AllocError>
+    requires { at < length text.now.tokens }
+    ensures { IfOk result (λ found. MatchOption found (IsNoPiece (drop at (words_in text.now)))
+        (λ piece. IsPieceRead (words_in text.now) at piece)) }
 {
-    match operation_at(words, at) {
+    match operation_in(word_at(text, at)) {
         Some(operation) => {
-            if is_open_at(words, at + 1) {
-                call_piece(alloc, operation, words, at)
+            if is_open(word_at(text, at + 1)) {
+                call_piece(alloc, operation, text, at)
             } else {
                 Ok(None)
             }
         }
-        None => Ok(word_piece(words, at)),
+        None => Ok(word_piece(text, at)),
     }
 }

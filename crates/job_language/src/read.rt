@@ -1,16 +1,16 @@
 //! One job, read from its text.
-ghost use Rattle.std.specs.Prelude.{◌≡◌, ◌≢◌, ◌+◌, ◌<◌, ◌≤◌, ◌&&◌, [], List, IfErr, IfOk, Ok, Err, length, nat_lt};
+ghost use Rattle.std.specs.Prelude.{◌≡◌, ◌≢◌, ◌≤◌, ◌&&◌, List, IfErr, IfOk, Ok, Err, length, nat_lt};
 ghost use Rattle.stream_tokens.specs.Tokens.{AreTokensOf};
-ghost use Rattle.lambda_expr.specs.Words.{Word as meant, words_of};
+ghost use Rattle.lambda_expr.specs.Words.{Word as meant};
 ghost use Rattle.job_language.specs.declared.fault.Cause.TheVariants.{NoMemory};
 ghost use Rattle.lambda_expr.specs.CodeWords.{words_in};
 ghost use Rattle.job_language.specs.Grammar.{Job as meant_job, IsJob};
-ghost use Rattle.job_language.specs.Shapes.{StandIn, calls_in, all_placed, AreCallsIn, one_if_source};
+ghost use Rattle.job_language.specs.Shapes.{calls_in, all_placed, AreCallsIn, one_if_source};
 ghost use Rattle.job_language.specs.Shapes.{sources_in, is_fallback, ends_in_fallback, first_name};
 ghost use Rattle.job_language.specs.Causes.{when};
 ghost use Rattle.job_language.specs.Jobs.{job_of};
 ghost use Rattle.job_language.specs.Scopes.{scope_of};
-ghost use Rattle.job_language.specs.Verdicts.{IsJobRead, IsRead};
+ghost use Rattle.job_language.specs.Verdicts.{IsRead};
 ghost use Rattle.job_language.specs.Parts.{Answers, causes_before};
 
 use crate::causes::{name_cause, when};
@@ -22,7 +22,8 @@ use crate::parts::read_parts;
 use crate::piece::WrittenCall;
 use crate::scope::Scope;
 use crate::shape::parse_job;
-use lambda_expr::Word;
+use crate::word::name_of;
+use lambda_expr::word_at;
 use std::alloc::Global;
 use stream_tokens::{CutText, cut};
 
@@ -76,26 +77,23 @@ fn version_cause(version: u8, calls: &[WrittenCall]) -> Option<Cause>
     when(ends_in_fallback(calls) && version < 2, Cause::Syntax)
 }
 
-/// The name that the words begin with.
-fn first_name<'a>(words: &[Word<'a>]) -> &'a [u8]
-    ensures { result.now ≡ first_name (words_in words.now) }
+/// The name that a text begins with.
+fn first_name<'a>(text: &CutText<'a>) -> &'a [u8]
+    ensures { result.now ≡ first_name (words_in text.now) }
 {
-    match words {
-        [Word::Name(name), ..] => name,
-        _ => &[],
-    }
+    name_of(word_at(text, 0)).unwrap_or(&[])
 }
 
 /// Why a job is refused before its calls are read.
-fn early_cause(scope: Scope, words: &[Word], calls: &[WrittenCall]) -> Option<Cause>
-    requires { AreCallsIn (words_in words.now) (all_placed (words_in words.now) calls.now) }
-    ensures { (j : meant_job) → IsJob (words_in words.now) j
+fn early_cause(scope: Scope, text: &CutText, calls: &[WrittenCall]) -> Option<Cause>
+    requires { AreCallsIn (words_in text.now) (all_placed (words_in text.now) calls.now) }
+    ensures { (j : meant_job) → IsJob (words_in text.now) j
         → result ≡ causes_before (scope_of scope.entry) j }
 {
     if let Some(cause) = version_cause(scope.version, calls) {
         return Some(cause);
     }
-    if let Some(cause) = name_cause(scope, first_name(words)) {
+    if let Some(cause) = name_cause(scope, first_name(text)) {
         return Some(cause);
     }
     if sources_in(calls) > MAX_SOURCES {
@@ -104,43 +102,25 @@ fn early_cause(scope: Scope, words: &[Word], calls: &[WrittenCall]) -> Option<Ca
     None
 }
 
-/// Reads a job from its words and calls.
-fn read_parsed<'c>(
-    alloc: Global,
-    scope: Scope<'_, 'c>,
-    text: &CutText,
-    words: &[Word],
-    calls: &[WrittenCall],
-) -> Result<Job<'c>, Cause>
-    requires words { words_in words.now ≡ words_of text.now.bytes text.now.tokens }
-    requires calls { AreCallsIn (words_in words.now) (all_placed (words_in words.now) calls.now) }
-    requires stand { StandIn (words_in words.now) calls.now }
-    ensures { (j : meant_job) → IsJob (words_in words.now) j
-        → Answers job_of (IsJobRead (causes_before (scope_of scope.entry) j)
-        (scope_of scope.entry) text.now j) result }
-{
-    if let Some(cause) = early_cause(scope, words, calls) {
-        return Err(cause);
-    }
-    read_parts(alloc, scope, text, first_name(words), words, calls)
-}
-
 /// Reads a job from its text and tokens.
 fn read_cut<'c>(alloc: Global, scope: Scope<'_, 'c>, text: &CutText) -> Result<Job<'c>, Cause>
     requires short { length text.now.bytes ≤ 65536 }
     requires tokens { AreTokensOf text.now.tokens text.now.bytes }
     ensures { Answers job_of (IsRead (scope_of scope.entry) text.now.bytes) result }
 {
-    let Some(job) = parse_job(alloc, text)? else {
+    let Some(calls) = parse_job(alloc, text)? else {
         return Err(Cause::Syntax);
     };
-    read_parsed(alloc, scope, text, &job.words, &job.calls)
+    if let Some(cause) = early_cause(scope, text, &calls) {
+        return Err(cause);
+    }
+    read_parts(alloc, scope, text, first_name(text), &calls)
 }
 
 /// Reads a job from its text: its lines, joined by spaces. Each argument is read once, in order of writing.
 ///
 /// `TooLong` for more than 65,536 bytes, `Syntax` if the text is no job, else the first cause in order of writing.
-/// Takes memory for the tokens, a word for each, and what is kept of the job, and time in proportion to the bytes of
+/// Takes memory for the tokens and what is kept of the job, and time in proportion to the bytes of
 /// the text and of the names of the scope. If an allocation failed, the answer may be `NoMemory`, but not if the text
 /// is too long.
 pub fn read_job<'c>(alloc: Global, scope: Scope<'_, 'c>, text: &[u8]) -> Result<Job<'c>, Cause>

@@ -2,7 +2,7 @@
 ghost use Rattle.std.specs.Prelude.{◌≡◌, ℕ, ◌<◌, ◌++◌, ◌∷◌, List, [], IfOk, MatchOption, length};
 ghost use Rattle.lambda_expr.specs.Words.{Word as meant, words_of};
 ghost use Rattle.job_language.specs.declared.piece.Mark.{Mark as meant_mark};
-ghost use Rattle.lambda_expr.specs.CodeWords.{words_in};
+ghost use Rattle.lambda_expr.specs.CodeWords.{word_of, words_in};
 ghost use Rattle.job_language.specs.Verdicts.{placed};
 ghost use Rattle.job_language.specs.Grammar.{Job as job, IsSpelled, IsNoJob};
 ghost use Rattle.job_language.specs.Shapes.{begins_job, all_placed, OpensAfter, piece_from, is_last};
@@ -11,8 +11,8 @@ ghost use Rattle.job_language.specs.Shapes.{StandIn, MayStandIn};
 
 use crate::mode::{Mode, moved};
 use crate::piece::{ReadPiece, WrittenCall, piece_at};
-use crate::sound::sound_words;
-use lambda_expr::Word;
+use crate::sound::are_sound;
+use lambda_expr::{Word, word_at};
 use std::alloc::{AllocError, Global};
 use stream_tokens::{CutText, Symbol};
 
@@ -41,12 +41,12 @@ fn add_call(calls: &mut Vec<WrittenCall>, call: Option<WrittenCall>) -> Result<(
 
 impl Reader {
     /// Reads one piece; false if no job has these words.
-    fn advance(&mut self, alloc: Global, words: &[Word]) -> Result<bool, AllocError>
-        requires in_range { self.old.at < length words.now }
-        requires reading { IsReading (words_in words.now) self.old }
-        ensures { IfOk result (λ more. Advances (words_in words.now) self.old self.new more) }
+    fn advance(&mut self, alloc: Global, text: &CutText) -> Result<bool, AllocError>
+        requires in_range { self.old.at < length text.now.tokens }
+        requires reading { IsReading (words_in text.now) self.old }
+        ensures { IfOk result (λ more. Advances (words_in text.now) self.old self.new more) }
     {
-        let Some(piece) = piece_at(alloc, words, self.at)? else {
+        let Some(piece) = piece_at(alloc, text, self.at)? else {
             return Ok(false);
         };
         let ReadPiece { mark, to, call } = piece;
@@ -60,15 +60,16 @@ impl Reader {
     }
 }
 
-fn begins_job(words: &[Word]) -> bool
-    ensures { result ≡ begins_job (words_in words.now) }
+fn is_begin(name: Word, assign: Word) -> bool
+    ensures { (ws : List meant) → result ≡ begins_job (word_of name.entry ∷ word_of assign.entry ∷ ws) }
 {
-    match words {
-        [name, assign, ..] => {
-            matches!(name, Word::Name(_)) && matches!(assign, Word::Sign(Symbol::Assign))
-        }
-        _ => false,
-    }
+    matches!(name, Word::Name(_)) && matches!(assign, Word::Sign(Symbol::Assign))
+}
+
+fn begins_job(text: &CutText) -> bool
+    ensures { result ≡ begins_job (words_in text.now) }
+{
+    is_begin(word_at(text, 0), word_at(text, 1))
 }
 
 /// Whether a job may end there.
@@ -79,12 +80,11 @@ fn is_last(mode: Mode) -> bool
 }
 
 /// The calls of the job that has these words, or `None` if no job has them.
-pub fn read_calls(alloc: Global, words: &[Word]) -> Result<Option<Vec<WrittenCall>>, AllocError>
-    ensures { IfOk result (λ found. MatchOption found (IsNotSpelled (words_in words.now))
-        (λ calls. AreCallsOf (words_in words.now) (all_placed (words_in words.now) calls.items)
-        × StandIn (words_in words.now) calls.items)) }
+fn read_calls(alloc: Global, text: &CutText) -> Result<Option<Vec<WrittenCall>>, AllocError>
+    ensures { let ws = words_in text.now in IfOk result (λ found. MatchOption found (IsNotSpelled ws)
+        (λ calls. AreCallsOf ws (all_placed ws calls.items) × StandIn ws calls.items)) }
 {
-    if !begins_job(words) {
+    if !begins_job(text) {
         return Ok(None);
     }
     let mut reader = Reader {
@@ -93,8 +93,8 @@ pub fn read_calls(alloc: Global, words: &[Word]) -> Result<Option<Vec<WrittenCal
         calls: Vec::new(alloc),
         at: 2,
     };
-    while reader.at < words.len() {
-        if !reader.advance(alloc, words)? {
+    while reader.at < text.len() {
+        if !reader.advance(alloc, text)? {
             return Ok(None);
         }
     }
@@ -106,30 +106,18 @@ pub fn read_calls(alloc: Global, words: &[Word]) -> Result<Option<Vec<WrittenCal
     }
 }
 
-/// A job in words and calls.
-#[derive(Drop)]
-pub struct ParsedJob<'a> {
-    pub words: Vec<Word<'a>>,
-    /// In order of writing: the plain sources, the stages, the terminal, the fallback.
-    pub calls: Vec<WrittenCall>,
-}
-
-/// The words and calls of the job that a text is, or `None` if the text is no job.
+/// The calls of the job that a text is, in order of writing: the plain sources, the stages, the terminal, the fallback.
+/// `None` if the text is no job.
 ///
-/// Takes memory for a word for each token and for the places of each call's parts, and time in
-/// proportion to the tokens.
-pub fn parse_job<'a>(alloc: Global, text: &CutText<'a>) -> Result<Option<ParsedJob<'a>>, AllocError>
-    ensures { let ws = words_of text.now.bytes text.now.tokens in
-        IfOk result (λ found. MatchOption found (IsNoJob ws)
-        (λ job. (words_in job.words.items ≡ ws) × AreCallsIn ws (all_placed ws job.calls.items)
-        × StandIn ws job.calls.items)) }
+/// Takes memory for the places of each call's parts, and time in proportion to the tokens.
+pub fn parse_job(alloc: Global, text: &CutText) -> Result<Option<Vec<WrittenCall>>, AllocError>
+    ensures { let ws = words_of text.now.bytes text.now.tokens in IfOk result (λ found. MatchOption found (IsNoJob ws)
+        (λ calls. AreCallsIn ws (all_placed ws calls.items) × StandIn ws calls.items)) }
 {
-    let Some(words) = sound_words(alloc, text)? else {
-        return Ok(None);
-    };
-    match read_calls(alloc, &words)? {
-        Some(calls) => Ok(Some(ParsedJob { words, calls })),
-        None => Ok(None),
+    if are_sound(text) {
+        read_calls(alloc, text)
+    } else {
+        Ok(None)
     }
 }
 

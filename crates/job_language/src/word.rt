@@ -1,14 +1,16 @@
 //! The words of a job: what its tokens are to the grammar.
 ghost use Rattle.std.specs.Prelude.{◌≡◌, ◌≤◌, ◌<◌, ◌+◌, length, get_or, drop, slice_range, IfSome};
 ghost use Rattle.std.specs.Prelude.{option_map, ◌∷◌, []};
+ghost use Rattle.stream_tokens.specs.declared.token.Token.{Token as token};
+ghost use Rattle.stream_tokens.specs.CutTexts.{between};
 ghost use Rattle.lambda_expr.specs.Words.{bad};
+ghost use Rattle.lambda_expr.specs.CodeWords.{word_of, words_in};
 ghost use Rattle.job_language.specs.Table.{fits, has_words, name_in, string_in};
 ghost use Rattle.job_language.specs.Calls.{bracket_of, nest};
-ghost use Rattle.lambda_expr.specs.CodeWords.{word_of, words_in};
 
 use crate::operation::Param;
-use lambda_expr::{Word, is_number};
-use stream_tokens::Symbol;
+use lambda_expr::{Word, is_number, word_at};
+use stream_tokens::{CutText, Symbol};
 
 /// What a word is to the nesting of parentheses.
 #[derive(Clone, Copy, PartialEq, Eq)]
@@ -31,11 +33,10 @@ fn bracket_of(word: Word) -> Bracket
 }
 
 /// What the word at a place is to the nesting of parentheses.
-pub fn bracket_at(words: &[Word], place: usize) -> Bracket
-    requires { place < length words.now }
-    ensures { result ≡ bracket_of (get_or (words_in words.now) place bad) }
+pub fn bracket_at(text: &CutText, place: usize) -> Bracket
+    ensures { result ≡ bracket_of (get_or (words_in text.now) place bad) }
 {
-    bracket_of(words[place])
+    bracket_of(word_at(text, place))
 }
 
 /// How many parentheses are open after a word; `None` if it closes one that isn't open, or is a comma
@@ -53,42 +54,40 @@ pub fn nest(depth: usize, bracket: Bracket) -> Option<usize>
     }
 }
 
-/// The words from a place on.
-pub fn after<'a, 'b>(words: &'b [Word<'a>], place: usize) -> &'b [Word<'a>]
-    requires { place ≤ length words.now }
-    ensures value { words_in result.now ≡ drop place (words_in words.now) }
-    ensures len { length result.now + place ≡ length words.now }
-{
-    &words[place..]
-}
-
-/// The words from one place up to, not with, another.
-pub fn part<'a, 'b>(words: &'b [Word<'a>], from: usize, to: usize) -> &'b [Word<'a>]
+/// The part of a call from one place up to, not with, another, counted from the word after its parenthesis. No token is
+/// copied.
+pub fn part<'a>(text: &CutText<'a>, opened: usize, from: usize, to: usize) -> CutText<'a>
     requires in_order { from ≤ to }
-    requires in_range { to ≤ length words.now }
-    ensures { words_in result.now ≡ slice_range (words_in words.now) from to }
+    requires in_range { opened + 1 + to < length text.now.tokens }
+    ensures words { words_in result ≡ slice_range (drop (opened + 1) (words_in text.now)) from to }
+    ensures text { (d : token) → result ≡ between text.now (get_or text.now.tokens (opened + from) d)
+        (get_or text.now.tokens (opened + 1 + to) d) (opened + from) (opened + 1 + to) }
+    ensures len { length text.now.tokens ≤ usize.MAX }
 {
-    &words[from..to]
+    // That the tokens stand in order, by the clause of `bytes`.
+    let _bytes = text.bytes();
+    let _count = text.len();
+    text.between(opened + from, opened + 1 + to)
 }
 
-fn has_words(words: &[Word]) -> bool
-    ensures { result ≡ has_words (words_in words.now) }
+fn has_words(text: &CutText) -> bool
+    ensures { result ≡ has_words (words_in text.now) }
 {
-    match words {
-        [] => false,
+    match text.len() {
+        0 => false,
         _ => true,
     }
 }
 
 /// Whether words may stand as a part of a call.
-pub fn fits(param: Param, words: &[Word]) -> bool
-    ensures { result ≡ fits param (words_in words.now) }
+pub fn fits(param: Param, text: &CutText) -> bool
+    ensures { result ≡ fits param (words_in text.now) }
 {
     match param {
-        Param::Number => is_number(words),
-        Param::Text => string_in(words).is_some(),
-        Param::Name => name_in(words).is_some(),
-        Param::Long | Param::Bool | Param::Stream | Param::Operator => has_words(words),
+        Param::Number => is_number(text),
+        Param::Text => string_in(text).is_some(),
+        Param::Name => name_in(text).is_some(),
+        Param::Long | Param::Bool | Param::Stream | Param::Operator => has_words(text),
     }
 }
 
@@ -102,16 +101,17 @@ fn string_of<'a>(word: Word<'a>) -> Option<&'a [u8]>
 }
 
 /// The string that words are.
-pub fn string_in<'a>(words: &[Word<'a>]) -> Option<&'a [u8]>
-    ensures { option_map (λ w. w.now) result ≡ string_in (words_in words.now) }
+pub fn string_in<'a>(text: &CutText<'a>) -> Option<&'a [u8]>
+    ensures { option_map (λ w. w.now) result ≡ string_in (words_in text.now) }
 {
-    match words.len() {
-        1 => string_of(words[0]),
+    match text.len() {
+        1 => string_of(word_at(text, 0)),
         _ => None,
     }
 }
 
-fn name_of<'a>(word: Word<'a>) -> Option<&'a [u8]>
+/// The name that a word is.
+pub fn name_of<'a>(word: Word<'a>) -> Option<&'a [u8]>
     ensures { option_map (λ w. w.now) result ≡ name_in (word_of word.entry ∷ []) }
 {
     match word {
@@ -121,11 +121,11 @@ fn name_of<'a>(word: Word<'a>) -> Option<&'a [u8]>
 }
 
 /// The name that words are.
-pub fn name_in<'a>(words: &[Word<'a>]) -> Option<&'a [u8]>
-    ensures { option_map (λ w. w.now) result ≡ name_in (words_in words.now) }
+pub fn name_in<'a>(text: &CutText<'a>) -> Option<&'a [u8]>
+    ensures { option_map (λ w. w.now) result ≡ name_in (words_in text.now) }
 {
-    match words.len() {
-        1 => name_of(words[0]),
+    match text.len() {
+        1 => name_of(word_at(text, 0)),
         _ => None,
     }
 }

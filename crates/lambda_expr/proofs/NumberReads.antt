@@ -1,16 +1,8 @@
 -- What is read of the words of a number.
-use Rattle.std.proofs.Common.{◌≡◌, ℤ, ◌≤◌, List, [], ◌∷◌, length, Option, Some, None, refl, sym, ap, ◌∙◌, arith}
+use Rattle.std.proofs.Common.{◌≡◌, ℤ, Option, Some, None, refl, sym, ap, ◌∙◌}
 use Rattle.std.specs.Prelude.{is_some, option_map, option_and_then}
 use Rattle.std.specs.Option.{option_flatten}
-use Rattle.lambda_expr.specs.declared.word.Word as code
-use Rattle.lambda_expr.specs.CodeWords.{words_in}
-use Rattle.lambda_expr.specs.NumberWords.{in_64_bits, number_value}
-
--- words too many for a number
-pub too_many : (ws : List code.Word) → 4 ≤ length ws → None ≡ number_value (words_in ws)
-too_many [] h = refl
-too_many (a ∷ b ∷ c ∷ d ∷ ws) h = refl
-too_many x h = absurd (omega arith)
+use Rattle.lambda_expr.specs.NumberWords.{in_64_bits}
 
 -- whether something is read, and its value if that has 64 bits
 pub by_read : (x : Option ℤ) (r : Option (Option ℤ)) → r ≡ option_map in_64_bits x → (is_some r ≡ is_some x) × (option_flatten r ≡ option_and_then in_64_bits x)

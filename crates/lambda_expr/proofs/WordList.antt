@@ -3,10 +3,10 @@ use Rattle.std.proofs.Common.{◌≡◌, ℕ, zero, suc, ◌<◌, ◌≤◌, Lis
 use Rattle.stream_tokens.specs.declared.token.Token.{Token}
 use Rattle.stream_tokens.specs.declared.token.TokenKind.{TokenKind}
 use Rattle.stream_tokens.specs.declared.token.TokenKind.TheVariants as kind
+use Rattle.stream_tokens.specs.CutTexts.{TokenizedText}
 use Rattle.stream_tokens.specs.Tokens.{token_text}
-use Rattle.lambda_expr.specs.Lexemes.{reference_name}
 use Rattle.lambda_expr.specs.Words.{named, bad, word_of, words_of, word_for}
-use Rattle.lambda_expr.specs.Refusals.{column}
+use Rattle.lambda_expr.specs.CodeWords.{words_in}
 
 pub length-words_of : (text : List ℕ) (ts : List Token) → length (words_of text ts) ≡ length ts
 length-words_of text [] = refl
@@ -26,21 +26,7 @@ pub named_bytes : (k : TokenKind) (bytes p : List ℕ) → word_for k bytes ≡ 
 named_bytes kind.Name bytes p h = cc
 named_bytes x bytes p h = cc
 
--- the column of a token, and of the end
-pub column-at : (text : List ℕ) (ts : List Token) (i : ℕ) (d : Token) → i < length ts → column text ts i ≡ suc (get_or ts i d).from
-column-at text [] i d h = absurd (omega arith)
-column-at text (t ∷ ts) zero d h = refl
-column-at text (t ∷ ts) (suc i) d h = let k : i < length ts = omega arith in column-at text ts i d k
-
-pub column-past : (text : List ℕ) (ts : List Token) (i : ℕ) → length ts ≤ i → column text ts i ≡ suc (length text)
-column-past text [] i h = refl
-column-past text (t ∷ ts) zero h = absurd (omega arith)
-column-past text (t ∷ ts) (suc i) h = let k : length ts ≤ i = omega arith in column-past text ts i k
-
 -- the word at a place, from its kind and its bytes
-pub word_at_place : (text : List ℕ) (ts : List Token) (i : ℕ) (d : Token) → i < length ts → get_or (words_of text ts) i bad ≡ word_for (get_or ts i d).kind (token_text text (get_or ts i d))
-word_at_place text ts i d lt = get_or-words_of text ts i d lt
-
 pub word_there : (text : List ℕ) (ts : List Token) (i : ℕ) (d : Token) (k : TokenKind) (bytes : List ℕ) → i < length ts → k ≡ (get_or ts i d).kind → bytes ≡ token_text text (get_or ts i d) → get_or (words_of text ts) i bad ≡ word_for k bytes
 word_there text ts i d k bytes lt same is = get_or-words_of text ts i d lt ∙ sym (ap (λ k. word_for k bytes) same ∙ ap (word_for (get_or ts i d).kind) is)
 
@@ -49,6 +35,5 @@ past_words text [] i h = refl
 past_words text (t ∷ ts) zero h = absurd (omega arith)
 past_words text (t ∷ ts) (suc i) h = let k : length ts ≤ i = omega arith in past_words text ts i k
 
-pub no_reference : (k : TokenKind) (bytes : List ℕ) → (k ≡ kind.Reference → ⊥) → reference_name (word_for k bytes) ≡ []
-no_reference kind.Reference bytes n = absurd (n refl)
-no_reference x bytes n = refl
+pub count_words : (t : TokenizedText) (n : ℕ) → n ≡ length t.tokens → n ≡ length (words_in t)
+count_words t n h = h ∙ sym (length-words_of t.bytes t.tokens)

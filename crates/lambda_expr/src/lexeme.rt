@@ -1,15 +1,17 @@
 //! What the tokens of a text are to the grammar of lambdas.
 
 ghost use Rattle.lambda_expr.specs.Lexemes.{first_name, is_reserved, is_taken, lexeme_of, lexemes_of, name_of};
-ghost use Rattle.lambda_expr.specs.Lexemes.{names_in, number_lexeme, order_of, symbol_lexeme};
-ghost use Rattle.lambda_expr.specs.Words.{Word, word_for};
-ghost use Rattle.std.specs.Prelude.{◌≡◌, IfOk, List, [], ◌∷◌, ◌++◌, drop, option_copied};
+ghost use Rattle.lambda_expr.specs.Lexemes.{names_in, number_lexeme, order_of, reference_name, symbol_lexeme};
+ghost use Rattle.lambda_expr.specs.CodeWords.{word_of};
+ghost use Rattle.lambda_expr.specs.Words.{Word as meant};
+ghost use Rattle.std.specs.Prelude.{◌≡◌, IfOk, List, [], ◌∷◌, ◌++◌, option_copied};
 
 use super::number::{may_stand, numeral_value};
 use super::sign::Sign;
 use super::table::{Member, member_of};
+use super::word::{Word, word_at};
 use std::alloc::{AllocError, Global};
-use stream_tokens::{CutText, Symbol, TokenKind};
+use stream_tokens::{CutText, Symbol};
 
 /// A class whose methods and constants a lambda may name.
 #[derive(Clone, Copy)]
@@ -121,22 +123,16 @@ fn number_lexeme(number: &[u8]) -> Lexeme
     }
 }
 
-// The lexeme of a token, if these are the first two names that a parameter may have.
-fn lexeme_of(
-    first: Option<&[u8]>,
-    second: Option<&[u8]>,
-    at: usize,
-    kind: TokenKind,
-    bytes: &[u8],
-) -> Lexeme
+// The lexeme of the word at a place, if these are the first two names that a parameter may have.
+fn lexeme_of(first: Option<&[u8]>, second: Option<&[u8]>, at: usize, word: Word) -> Lexeme
     ensures { result
-        ≡ lexeme_of (option_copied first.entry) (option_copied second.entry) at (word_for kind bytes.now) }
+        ≡ lexeme_of (option_copied first.entry) (option_copied second.entry) at (word_of word.entry) }
 {
-    match kind {
-        TokenKind::Name => Lexeme::Name(name_of(first, second, bytes)),
-        TokenKind::Number => number_lexeme(bytes),
-        TokenKind::Reference => Lexeme::Reference(at),
-        TokenKind::Symbol(symbol) => symbol_lexeme(symbol),
+    match word {
+        Word::Name(name) => Lexeme::Name(name_of(first, second, name)),
+        Word::Number(number) => number_lexeme(number),
+        Word::Reference(_) => Lexeme::Reference(at),
+        Word::Sign(symbol) => symbol_lexeme(symbol),
         _ => Lexeme::Other,
     }
 }
@@ -160,37 +156,31 @@ fn is_taken(taken: Option<&[u8]>, name: &[u8]) -> bool
     is_reserved(name) || Some(name) == taken
 }
 
-// The name that a token is, if a parameter may have it and it is not the one that is taken. It is asked only until two
+// The name that a word is, if a parameter may have it and it is not the one that is taken. It is asked only until two
 // names are known; inlined it slows every other token of the pass.
 #[inline(never)]
-fn free_name<'a>(taken: Option<&[u8]>, kind: TokenKind, bytes: &'a [u8]) -> Option<&'a [u8]>
-    ensures { option_copied result ≡ first_name (option_copied taken.entry) (word_for kind bytes.now ∷ []) }
+fn free_name<'a>(taken: Option<&[u8]>, word: Word<'a>) -> Option<&'a [u8]>
+    ensures { option_copied result ≡ first_name (option_copied taken.entry) (word_of word.entry ∷ []) }
 {
-    if matches!(kind, TokenKind::Name) && !is_taken(taken, bytes) {
-        Some(bytes)
-    } else {
-        None
+    match word {
+        Word::Name(name) => (!is_taken(taken, name)).then_some(name),
+        _ => None,
     }
 }
 
-// The first name that a parameter may have, apart from one that is taken, with one more token: what is known before, if
+// The first name that a parameter may have, apart from one that is taken, with one more word: what is known before, if
 // anything is.
-fn first_name<'a>(
-    taken: Option<&[u8]>,
-    known: Option<&'a [u8]>,
-    kind: TokenKind,
-    bytes: &'a [u8],
-) -> Option<&'a [u8]>
-    ensures { (ws : List Word) → option_copied known.entry ≡ first_name (option_copied taken.entry) ws
-        → option_copied result ≡ first_name (option_copied taken.entry) (ws ++ word_for kind bytes.now ∷ []) }
+fn first_name<'a>(taken: Option<&[u8]>, known: Option<&'a [u8]>, word: Word<'a>) -> Option<&'a [u8]>
+    ensures { (ws : List meant) → option_copied known.entry ≡ first_name (option_copied taken.entry) ws
+        → option_copied result ≡ first_name (option_copied taken.entry) (ws ++ word_of word.entry ∷ []) }
 {
     match known {
         Some(_) => known,
-        None => free_name(taken, kind, bytes),
+        None => free_name(taken, word),
     }
 }
 
-/// The lexemes of a text, in one pass over its tokens. Each name is compared with the first two of the text up to it: a
+/// The lexemes of a text, in one pass over its words. Each name is compared with the first two of the text up to it: a
 /// name that a parameter may have is one of these, or both are known by then.
 pub(crate) fn lexemes(alloc: Global, text: &CutText) -> Result<Vec<Lexeme>, AllocError>
     ensures { IfOk result (λ lexemes. lexemes.items ≡ lexemes_of text.now.bytes text.now.tokens) }
@@ -199,21 +189,21 @@ pub(crate) fn lexemes(alloc: Global, text: &CutText) -> Result<Vec<Lexeme>, Allo
     let mut second = None;
     let mut lexemes = Vec::with_capacity(alloc, text.len())?;
     for at in 0..text.len() {
-        let (kind, bytes) = (text.kind(at), text.word(at));
-        first = first_name(None, first, kind, bytes);
-        second = first_name(first, second, kind, bytes);
-        lexemes.push(lexeme_of(first, second, at, kind, bytes))?;
+        let word = word_at(text, at);
+        first = first_name(None, first, word);
+        second = first_name(first, second, word);
+        lexemes.push(lexeme_of(first, second, at, word))?;
     }
     Ok(lexemes)
 }
 
-// The bytes after the first one.
-fn after_first(bytes: &[u8]) -> &[u8]
-    ensures { result.now ≡ drop 1 bytes.now }
+// The name of a reference, without its `$`; no bytes of another word.
+fn name_after_sign<'a>(word: Word<'a>) -> &'a [u8]
+    ensures { result.now ≡ reference_name (word_of word.entry) }
 {
-    match bytes {
-        [] => bytes,
-        [_, rest @ ..] => rest,
+    match word {
+        Word::Reference([_, name @ ..]) => name,
+        _ => b"".as_slice(),
     }
 }
 
@@ -221,11 +211,5 @@ fn after_first(bytes: &[u8]) -> &[u8]
 pub(crate) fn reference_name<'a>(text: &CutText<'a>, place: usize) -> &'a [u8]
     ensures { result.now ≡ names_in text.now.bytes text.now.tokens place }
 {
-    if place >= text.len() {
-        return b"".as_slice();
-    }
-    match text.kind(place) {
-        TokenKind::Reference => after_first(text.word(place)),
-        _ => b"".as_slice(),
-    }
+    name_after_sign(word_at(text, place))
 }

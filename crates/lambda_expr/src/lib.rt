@@ -5,7 +5,7 @@
 //! - `job_language` reads lambdas by `read_lambda_of`, clauses `ok` and `refused`: a part of a text that
 //!   is cut already gives the lambda that it spells, or the first refusal that applies, a syntax fault
 //!   with its column. It reads numbers by `is_number` and
-//!   `number_in`, over the words of its tokens (`word_for`).
+//!   `number_read`, and other words by `word_at`: a word is a function of a token.
 //! - other programs read whole texts by `read_lambda` and `read_number`.
 //!
 //! `each_text_has_an_answer`, `one_answer` and `one_number` say that there is one answer and no other.
@@ -39,7 +39,7 @@ mod word;
 
 pub use fault::ReadFault;
 pub use laws::{each_text_has_an_answer, one_answer, one_number, one_reading, one_stop};
-pub use number::{is_number, may_stand, number_in, read_number};
+pub use number::{is_number, may_stand, number_read, read_number};
 pub use read::{read_lambda, read_lambda_of};
 pub use want::Want;
-pub use word::{Word, word_for};
+pub use word::{Word, word_at};

@@ -2,20 +2,22 @@
 
 ghost use Rattle.lambda_expr.specs.CodeWords.{word_of, words_in};
 ghost use Rattle.lambda_expr.specs.NumberReading.{front, front_of_constant, is_digits, is_limit};
-ghost use Rattle.lambda_expr.specs.NumberWords.{digits_value, in_64_bits, is_number, limit_value, number_value, signed};
+ghost use Rattle.lambda_expr.specs.NumberWords.{digits_value, in_64_bits, is_number, limit_value, number_read};
+ghost use Rattle.lambda_expr.specs.NumberWords.{number_value, signed};
 ghost use Rattle.lambda_expr.specs.Numbers.{IsNumberRefused, SpellsNumber};
 ghost use Rattle.lambda_expr.specs.Numerals.{is_numeral, numeral_value};
 ghost use Rattle.lambda_expr.specs.Tokens.{StandIn};
-ghost use Rattle.lambda_expr.specs.Words.{bad, words_of};
+ghost use Rattle.lambda_expr.specs.Words.{Word as meant, bad, words_of};
 ghost use Rattle.std.specs.Int.{w64};
 ghost use Rattle.std.specs.Option.{SomeIff};
-ghost use Rattle.std.specs.Prelude.{◌≡◌, ◌∷◌, [], FitsSigned, IfErr, IfOk, get_or, length, min, option_map};
+ghost use Rattle.std.specs.Prelude.{◌≡◌, ◌∷◌, [], FitsSigned, IfErr, IfOk, List, get_or, length};
+ghost use Rattle.std.specs.Prelude.{min, option_map};
 ghost use Rattle.stream_tokens.specs.CutTexts.{column};
 ghost use Rattle.stream_tokens.specs.Tokens.{StandInOrder};
 
 use super::fault::ReadFault;
-use super::word::{Word, is_dot, is_minus, is_owner, word_for};
-use stream_tokens::Token;
+use super::word::{Word, is_dot, is_minus, is_owner, word_at, word_for};
+use stream_tokens::{CutText, Token};
 
 /// Whether a number of these bytes may be in a grammar: two or more digits don't begin with 0, since a number like that
 /// is octal in JLS 17, 3.10.1. It takes no memory.
@@ -124,14 +126,14 @@ fn is_constant(owner: Word, dot: Word, word: Word) -> bool
     is_owner(owner) && is_dot(dot) && is_limit(word)
 }
 
-/// Whether words are a number. Its value isn't worked out.
-pub fn is_number(words: &[Word]) -> bool
-    ensures { result ≡ is_number (words_in words.now) }
+/// Whether the words of a text are a number. Its value isn't worked out.
+pub fn is_number(text: &CutText) -> bool
+    ensures { result ≡ is_number (words_in text.now) }
 {
-    match words {
-        [digits] => is_digits(*digits),
-        [minus, digits] => is_negative(*minus, *digits),
-        [owner, dot, limit] => is_constant(*owner, *dot, *limit),
+    match text.len() {
+        1 => is_digits(word_at(text, 0)),
+        2 => is_negative(word_at(text, 0), word_at(text, 1)),
+        3 => is_constant(word_at(text, 0), word_at(text, 1), word_at(text, 2)),
         _ => false,
     }
 }
@@ -159,16 +161,33 @@ fn constant(owner: Word, dot: Word, word: Word) -> Option<Option<i64>>
 }
 
 /// The number that words are, if they are one: digits, a minus and digits, `Long.MAX_VALUE` or
-/// `Long.MIN_VALUE`. The inner `None` is of a number outside 64 bits. It takes no memory.
-pub fn number_in(words: &[Word]) -> Option<Option<i64>>
-    ensures { result ≡ option_map in_64_bits (number_value (words_in words.now)) }
+/// `Long.MIN_VALUE`. The inner `None` is of a number outside 64 bits. These are the first three words of `count`, with
+/// bad ones for those that are missing.
+fn number_in(count: usize, first: Word, second: Word, third: Word) -> Option<Option<i64>>
+    ensures { (ws : List meant) → count ≡ length ws → word_of first.entry ≡ get_or ws 0 bad
+        → word_of second.entry ≡ get_or ws 1 bad → word_of third.entry ≡ get_or ws 2 bad
+        → result ≡ option_map in_64_bits (number_value ws) }
 {
-    match words {
-        [digits] => digits_value(false, *digits),
-        [minus, digits] => negative(*minus, *digits),
-        [owner, dot, limit] => constant(*owner, *dot, *limit),
+    match count {
+        1 => digits_value(false, first),
+        2 => negative(first, second),
+        3 => constant(first, second, third),
         _ => None,
     }
+}
+
+/// The value of the number that the words of a text are; `None` if it is outside 64 bits, or they are no number. It
+/// takes no memory.
+pub fn number_read(text: &CutText) -> Option<i64>
+    ensures { result ≡ number_read (words_in text.now) }
+{
+    number_in(
+        text.len(),
+        word_at(text, 0),
+        word_at(text, 1),
+        word_at(text, 2),
+    )
+    .flatten()
 }
 
 /// Where a token begins, or the end where there is none: a byte position from 1.
@@ -182,8 +201,8 @@ fn column_of(text: &[u8], tokens: &[Token], place: usize) -> usize
     }
 }
 
-/// The word at a place, a bad one if there is none.
-fn word_at<'a>(text: &'a [u8], tokens: &[Token], place: usize) -> Word<'a>
+/// The word of the token at a place, a bad one if there is none.
+fn token_word<'a>(text: &'a [u8], tokens: &[Token], place: usize) -> Word<'a>
     requires { StandIn text.now tokens.now }
     ensures { word_of result ≡ get_or (words_of text.now tokens.now) place bad }
 {
@@ -222,51 +241,26 @@ fn front_of_constant(second: Word, third: Word) -> usize
     }
 }
 
-/// The number that tokens are, if they are one; it has no value outside 64 bits.
-fn whole_number(text: &[u8], tokens: &[Token]) -> Option<Option<i64>>
-    requires { StandIn text.now tokens.now }
-    ensures { result ≡ option_map in_64_bits (number_value (words_of text.now tokens.now)) }
-{
-    let first = word_at(text, tokens, 0);
-    let second = word_at(text, tokens, 1);
-    let third = word_at(text, tokens, 2);
-    match tokens.len() {
-        1 => number_in(&[first]),
-        2 => number_in(&[first, second]),
-        3 => number_in(&[first, second, third]),
-        _ => None,
-    }
-}
-
-/// The place at which tokens that are no number stop being the beginning of one.
-fn stop(text: &[u8], tokens: &[Token]) -> usize
-    requires { StandIn text.now tokens.now }
-    ensures { let ws = words_of text.now tokens.now in
-        result ≡ front (get_or ws 0 bad) (get_or ws 1 bad) (get_or ws 2 bad) }
-{
-    let first = word_at(text, tokens, 0);
-    let second = word_at(text, tokens, 1);
-    let third = word_at(text, tokens, 2);
-    front(first, second, third)
-}
-
 /// The value of a number: digits, a minus and digits, `Long.MAX_VALUE` or `Long.MIN_VALUE`. The tokens
 /// are a part of the tokens that were cut from the text.
 ///
 /// `LiteralTooLarge` for a value outside 64 bits, `Syntax` for tokens that are no number. It takes no
 /// memory.
 ///
-/// For other programs: `streamrun` reads numbers by `number_in`.
+/// For other programs: `streamrun` reads numbers by `number_read`.
 pub fn read_number(text: &[u8], tokens: &[Token]) -> Result<i64, ReadFault>
     requires { StandInOrder 0 tokens.now (length text.now) }
     ensures ok { IfOk result (λ number. SpellsNumber text.now tokens.now number) }
     ensures refused { IfErr result (λ fault. IsNumberRefused text.now tokens.now fault) }
 {
-    match whole_number(text, tokens) {
+    let first = token_word(text, tokens, 0);
+    let second = token_word(text, tokens, 1);
+    let third = token_word(text, tokens, 2);
+    match number_in(tokens.len(), first, second, third) {
         Some(Some(value)) => Ok(value),
         Some(None) => Err(ReadFault::LiteralTooLarge),
         None => Err(ReadFault::Syntax {
-            column: column_of(text, tokens, stop(text, tokens)),
+            column: column_of(text, tokens, front(first, second, third)),
         }),
     }
 }

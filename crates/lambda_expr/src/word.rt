@@ -1,10 +1,10 @@
 //! The words of a text: what its tokens are to a grammar.
-ghost use Rattle.std.specs.Prelude.{◌≡◌};
-ghost use Rattle.lambda_expr.specs.CodeWords.{word_of};
+ghost use Rattle.std.specs.Prelude.{◌≡◌, ◌≤◌, get_or, length};
+ghost use Rattle.lambda_expr.specs.CodeWords.{word_of, words_in};
 ghost use Rattle.lambda_expr.specs.NumberWords.{is_dot, is_minus, is_owner};
-ghost use Rattle.lambda_expr.specs.Words.{word_for};
+ghost use Rattle.lambda_expr.specs.Words.{bad, word_for};
 
-use stream_tokens::{Symbol, TokenKind};
+use stream_tokens::{CutText, Symbol, TokenKind};
 
 /// A token with its bytes, or its symbol.
 #[derive(Clone, Copy)]
@@ -18,7 +18,7 @@ pub enum Word<'a> {
 }
 
 /// The word of a token of this kind with these bytes.
-pub fn word_for(kind: TokenKind, bytes: &[u8]) -> Word<'_>
+pub(crate) fn word_for(kind: TokenKind, bytes: &[u8]) -> Word<'_>
     ensures { word_of result ≡ word_for kind bytes.now }
 {
     match kind {
@@ -29,6 +29,17 @@ pub fn word_for(kind: TokenKind, bytes: &[u8]) -> Word<'_>
         TokenKind::Symbol(symbol) => Word::Sign(symbol),
         TokenKind::Bad => Word::Bad,
     }
+}
+
+/// The word at a place of a text, a bad one if there is none.
+pub fn word_at<'a>(text: &CutText<'a>, place: usize) -> Word<'a>
+    ensures word { word_of result ≡ get_or (words_in text.now) place bad }
+    ensures len { length text.now.tokens ≤ usize.MAX }
+{
+    if place >= text.len() {
+        return Word::Bad;
+    }
+    word_for(text.kind(place), text.word(place))
 }
 
 /// Whether a word is a minus.

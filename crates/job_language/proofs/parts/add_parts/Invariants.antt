@@ -12,5 +12,5 @@ use Rattle.job_language.proofs.parts.add_parts.Given as goal
 abbrev pub invariant-loop-call : goal.invariant-loop-call
 invariant-loop-call l =
     (r : Result AbstractJob Cause)
-    → AreRead (scope_of l.scope) l.text (begun_of l.job) (all_placed (words_in l.words) (drop l.call-index l.calls)) r
-    → AreRead (scope_of l.scope) l.text (begun_of l.initial.job) (all_placed (words_in l.words) l.calls) r
+    → AreRead (scope_of l.scope) l.text (begun_of l.job) (all_placed (words_in l.text) (drop l.call-index l.calls)) r
+    → AreRead (scope_of l.scope) l.text (begun_of l.initial.job) (all_placed (words_in l.text) l.calls) r

@@ -9,14 +9,14 @@ use Rattle.job_language.proofs.read.early_cause.Goals as goal
 pub returns-in-Some : goal.returns-in-Some
 returns-in-Some c = λ j h.
     let s = scope_of c.args.scope in
-    let ws = words_in c.args.words.now in
+    let ws = words_in c.args.text.now in
     let cs = c.args.calls.now in
     sym (by_version s j c.in-Some.cause (sym (version_is s ws cs j c.requires h) ∙ sym (c.version_cause.ensures ws) ∙ c.in-Some.is))
 
 pub returns-in-Some-name_cause : goal.returns-in-Some-name_cause
 returns-in-Some-name_cause c = λ j h.
     let s = scope_of c.args.scope in
-    let ws = words_in c.args.words.now in
+    let ws = words_in c.args.text.now in
     let cs = c.args.calls.now in
     let version : version_cause s j ≡ None = sym (version_is s ws cs j c.requires h) ∙ sym (c.version_cause.ensures ws) ∙ c.in_default.is in
     let name : c.first_name.result.now ≡ first_name ws = c.first_name.ensures in
@@ -25,7 +25,7 @@ returns-in-Some-name_cause c = λ j h.
 pub returns-then-sources_in-gt-MAX_SOURCES : goal.returns-then-sources_in-gt-MAX_SOURCES
 returns-then-sources_in-gt-MAX_SOURCES c = λ j h.
     let s = scope_of c.args.scope in
-    let ws = words_in c.args.words.now in
+    let ws = words_in c.args.text.now in
     let cs = c.args.calls.now in
     let version : version_cause s j ≡ None = sym (version_is s ws cs j c.requires h) ∙ sym (c.version_cause.ensures ws) ∙ c.in_default.is in
     let name : c.first_name.result.now ≡ first_name ws = c.first_name.ensures in
@@ -36,7 +36,7 @@ returns-then-sources_in-gt-MAX_SOURCES c = λ j h.
 pub returns : goal.returns
 returns c = λ j h.
     let s = scope_of c.args.scope in
-    let ws = words_in c.args.words.now in
+    let ws = words_in c.args.text.now in
     let cs = c.args.calls.now in
     let version : version_cause s j ≡ None = sym (version_is s ws cs j c.requires h) ∙ sym (c.version_cause.ensures ws) ∙ c.in_default.is in
     let name : c.first_name.result.now ≡ first_name ws = c.first_name.ensures in

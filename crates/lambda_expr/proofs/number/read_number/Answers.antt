@@ -1,21 +1,26 @@
-use Rattle.std.proofs.Common.{FitsSigned, Some, length, sym, subst, ap, ◌∙◌, rules, w64}
-use Rattle.std.specs.Prelude.{is_some}
+use Rattle.std.proofs.Common.{◌≡◌, FitsSigned, Some, length, sym, subst, ap, ◌∙◌, rules, w64}
+use Rattle.std.specs.Prelude.{is_some, option_map}
 use Rattle.std.specs.Option.{option_flatten}
 use Rattle.std.proofs.lemmas.Int.{to_z-of_z}
 use Rattle.stream_tokens.proofs.CutLemmas.{order_in_range}
 use Rattle.lambda_expr.specs.Numbers.{ANumber}
-use Rattle.lambda_expr.specs.NumberWords.{number_value}
+use Rattle.lambda_expr.specs.NumberWords.{in_64_bits, number_value}
+use Rattle.lambda_expr.specs.NumberReading.{front}
 use Rattle.lambda_expr.specs.Stops.{StopsAt}
 use Rattle.lambda_expr.specs.Words.{words_of}
 use Rattle.lambda_expr.proofs.NumberReads.{by_read, none_read}
 use Rattle.lambda_expr.proofs.NumberStops.{stops_there}
+use Rattle.lambda_expr.proofs.WordList.{length-words_of}
 use Rattle.lambda_expr.proofs.number.read_number.Goals as goal
 
-pub whole_number-requires : goal.whole_number-requires
-whole_number-requires c = order_in_range 0 c.args.tokens.now (length c.args.text.now) c.requires
+pub token_word-first-requires : goal.token_word-first-requires
+token_word-first-requires c = order_in_range 0 c.args.tokens.now (length c.args.text.now) c.requires
 
-pub stop-requires : goal.stop-requires
-stop-requires c = order_in_range 0 c.args.tokens.now (length c.args.text.now) c.requires
+pub token_word-second-requires : goal.token_word-second-requires
+token_word-second-requires c = order_in_range 0 c.args.tokens.now (length c.args.text.now) c.requires
+
+pub token_word-third-requires : goal.token_word-third-requires
+token_word-third-requires c = order_in_range 0 c.args.tokens.now (length c.args.text.now) c.requires
 
 pub column_of-requires : goal.column_of-requires
 column_of-requires c = order_in_range 0 c.args.tokens.now (length c.args.text.now) c.requires
@@ -23,19 +28,25 @@ column_of-requires c = order_in_range 0 c.args.tokens.now (length c.args.text.no
 pub returns-in-None-clause-refused : goal.returns-in-None-clause-refused
 returns-in-None-clause-refused c =
     let ws = words_of c.args.text.now c.args.tokens.now in
+    let is : c.number_in.result ≡ option_map in_64_bits (number_value ws) = c.number_in.ensures ws (sym (length-words_of c.args.text.now c.args.tokens.now)) c.token_word-first.ensures c.token_word-second.ensures c.token_word-third.ensures in
+    let there = stops_there ws (none_read (number_value ws) c.number_in.result is c.in-None.is) in
     record {
-      place = c.stop.result;
-      stops = subst (StopsAt ANumber ws) (sym c.stop.ensures) (stops_there ws (none_read (number_value ws) c.whole_number.result c.whole_number.ensures c.in-None.is));
+      place = c.front.result;
+      stops = subst (StopsAt ANumber ws) (sym (c.front.ensures ∙ (λ i. front (c.token_word-first.ensures i) (c.token_word-second.ensures i) (c.token_word-third.ensures i)))) there;
       here = c.column_of.ensures;
     }
 
 pub returns-in-Some-Some-clause-ok : goal.returns-in-Some-Some-clause-ok
 returns-in-Some-Some-clause-ok c =
-    let p = by_read (number_value (words_of c.args.text.now c.args.tokens.now)) c.whole_number.result c.whole_number.ensures in
+    let ws = words_of c.args.text.now c.args.tokens.now in
+    let is : c.number_in.result ≡ option_map in_64_bits (number_value ws) = c.number_in.ensures ws (sym (length-words_of c.args.text.now c.args.tokens.now)) c.token_word-first.ensures c.token_word-second.ensures c.token_word-third.ensures in
+    let p = by_read (number_value ws) c.number_in.result is in
     let fits : FitsSigned w64 c.in-Some-Some.value = search rules in
-    record { number = sym p.0 ∙ ap is_some c.in-Some-Some.is; value = sym p.1 ∙ ap option_flatten c.in-Some-Some.is ∙ c.in-Some-Some.field-0-is ∙ ap Some (sym (to_z-of_z w64 c.in-Some-Some.value fits)) }
+    rw c.in-Some-Some.value-is (record { number = sym p.0 ∙ ap is_some c.in-Some-Some.is; value = sym p.1 ∙ ap option_flatten c.in-Some-Some.is ∙ c.in-Some-Some.field-0-is ∙ ap Some (sym (to_z-of_z w64 c.in-Some-Some.value fits)) })
 
 pub returns-in-Some-None-clause-refused : goal.returns-in-Some-None-clause-refused
 returns-in-Some-None-clause-refused c =
-    let p = by_read (number_value (words_of c.args.text.now c.args.tokens.now)) c.whole_number.result c.whole_number.ensures in
+    let ws = words_of c.args.text.now c.args.tokens.now in
+    let is : c.number_in.result ≡ option_map in_64_bits (number_value ws) = c.number_in.ensures ws (sym (length-words_of c.args.text.now c.args.tokens.now)) c.token_word-first.ensures c.token_word-second.ensures c.token_word-third.ensures in
+    let p = by_read (number_value ws) c.number_in.result is in
     record { number = sym p.0 ∙ ap is_some c.in-Some-None.is; outside = sym p.1 ∙ ap option_flatten c.in-Some-None.is ∙ c.in-Some-None.field-0-is }

@@ -3,7 +3,7 @@ use Rattle.stream_tokens.specs.declared.token.Token.{Token}
 use Rattle.stream_tokens.specs.declared.token.TokenKind.TheVariants as kind
 use Rattle.lambda_expr.specs.Words.{word_for}
 use Rattle.lambda_expr.proofs.WordList.{get_or-words_of, past_words}
-use Rattle.lambda_expr.proofs.number.word_at.Goals as goal
+use Rattle.lambda_expr.proofs.number.token_word.Goals as goal
 
 abbrev any : Token
 any = record { kind = kind.Name; from = 0; to = 0 }
