@@ -37,21 +37,15 @@ no_name (named w ∷ b ∷ ws) h = refl
 no_name (a ∷ b ∷ ws) h = refl
 
 -- words too few or too many for a method
-no_method_two : (a b : Word) → None ≡ method_in (a ∷ b ∷ [])
-no_method_two (named v) (sign symbol.DoubleColon) = refl
-no_method_two a b = refl
-
-no_method_for : (a b c d : Word) (ws : List Word) → None ≡ method_in (a ∷ b ∷ c ∷ d ∷ ws)
-no_method_for (named v) (sign symbol.DoubleColon) (named w) d ws = refl
-no_method_for a b c d ws = refl
-
 pub no_method : (ws : List Word) → (length ws ≡ 3 → ⊥) → None ≡ method_in ws
 no_method [] h = refl
 no_method (named v ∷ []) h = refl
 no_method (a ∷ []) h = refl
-no_method (a ∷ b ∷ []) h = no_method_two a b
+no_method (named v ∷ sign symbol.DoubleColon ∷ []) h = refl
+no_method (a ∷ b ∷ []) h = refl
 no_method (a ∷ b ∷ c ∷ []) h = absurd (h refl)
-no_method (a ∷ b ∷ c ∷ d ∷ ws) h = no_method_for a b c d ws
+no_method (named v ∷ sign symbol.DoubleColon ∷ named w ∷ d ∷ ws) h = refl
+no_method (a ∷ b ∷ c ∷ d ∷ ws) h = refl
 
 -- a lambda that is refused
 pub lambda_refused : (s : Scope) (text : List ℕ) (w : Want) (f : ReadFault) (e : Cause) → IsRefused text w f → e ≡ cause_of f → e ≢ cause.NoMemory → IsLambdaRead s text w (Err e)

@@ -17,13 +17,10 @@ use Rattle.job_language.specs.Shapes.{width, sign_piece, is_open, operation_in, 
 use Rattle.job_language.proofs.Names.{one_name}
 use Rattle.job_language.proofs.PieceLemmas.{not_owner, name_is, call_tail, completes}
 
-pub front : (ws : List Word) (at : ℕ) → at < length ws → drop at ws ≡ get_or ws at bad ∷ drop (at + 1) ws
-front ws at lt = drop_more ws at bad lt
-
 pub front_two : (ws : List Word) (at : ℕ) → at + 1 < length ws → drop at ws ≡ get_or ws at bad ∷ get_or ws (at + 1) bad ∷ drop (at + 2) ws
 front_two ws at lt =
     let e : at + 1 + 1 ≡ at + 2 = omega arith in
-    front ws at (omega arith) ∙ ap (λ v. get_or ws at bad ∷ v) (front ws (at + 1) lt) ∙ ap (λ n. get_or ws at bad ∷ get_or ws (at + 1) bad ∷ drop n ws) e
+    drop_more ws at bad (omega arith) ∙ ap (λ v. get_or ws at bad ∷ v) (drop_more ws (at + 1) bad lt) ∙ ap (λ n. get_or ws at bad ∷ get_or ws (at + 1) bad ∷ drop n ws) e
 
 pub open_within : (ws : List Word) (i : ℕ) → is_open (get_or ws i bad) ≡ true → i < length ws
 open_within [] i h = absurd cc
@@ -122,7 +119,7 @@ width_last (e ∷ d ∷ es) h = let n : suc (suc (length es)) - 1 ≡ suc (suc (
 pub begins_word : (ws : List Word) (at : ℕ) (m : Mark) → at < length ws → IsMarkOf (get_or ws at bad) m → Begins ws at (sign_piece m) (at + 1)
 begins_word ws at m lt h = record {
   piece = h.piece;
-  spelled = front ws at lt ∙ ap (λ v. v ++ drop (at + 1) ws) (sym h.spelled);
+  spelled = drop_more ws at bad lt ∙ ap (λ v. v ++ drop (at + 1) ws) (sym h.spelled);
   further = omega arith;
   within = omega arith;
 }

@@ -141,6 +141,7 @@ pub fn operation_of(name: &[u8]) -> Option<Operation>
 }
 
 /// One operation at most has a name.
+#[tactic(auto, using(crate::proofs::Names::one_name))]
 pub fn one_operation()
     ensures { (a b : operation) → name_of a ≡ name_of b → a ≡ b }
 {}

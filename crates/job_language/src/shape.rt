@@ -122,6 +122,7 @@ pub fn parse_job(alloc: Global, text: &CutText) -> Result<Option<Vec<WrittenCall
 }
 
 /// Words are one job at most.
+#[tactic(auto, using(crate::proofs::ShapeLemmas::one_spelled))]
 pub fn one_job()
     ensures { (ws : List meant) (j k : job) → IsSpelled ws j → IsSpelled ws k → j ≡ k }
 {}

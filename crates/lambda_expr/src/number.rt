@@ -248,6 +248,7 @@ fn front_of_constant(second: Word, third: Word) -> usize
 /// memory.
 ///
 /// For other programs: `streamrun` reads numbers by `number_read`.
+#[tactic(auto, using(stream_tokens::proofs::CutLemmas::order_in_range))]
 pub fn read_number(text: &[u8], tokens: &[Token]) -> Result<i64, ReadFault>
     requires { StandInOrder 0 tokens.now (length text.now) }
     ensures ok { IfOk result (λ number. SpellsNumber text.now tokens.now number) }

@@ -1,8 +1,7 @@
-use Rattle.std.proofs.Common.{◌≡◌, FitsSigned, Some, length, sym, subst, ap, ◌∙◌, rules, w64}
+use Rattle.std.proofs.Common.{◌≡◌, FitsSigned, Some, sym, subst, ap, ◌∙◌, rules, w64}
 use Rattle.std.specs.Prelude.{is_some, option_map}
 use Rattle.std.specs.Option.{option_flatten}
 use Rattle.std.proofs.lemmas.Int.{to_z-of_z}
-use Rattle.stream_tokens.proofs.CutLemmas.{order_in_range}
 use Rattle.lambda_expr.specs.Numbers.{ANumber}
 use Rattle.lambda_expr.specs.NumberWords.{in_64_bits, number_value}
 use Rattle.lambda_expr.specs.NumberReading.{front}
@@ -12,18 +11,6 @@ use Rattle.lambda_expr.proofs.NumberReads.{by_read, none_read}
 use Rattle.lambda_expr.proofs.NumberStops.{stops_there}
 use Rattle.lambda_expr.proofs.WordList.{length-words_of}
 use Rattle.lambda_expr.proofs.number.read_number.Goals as goal
-
-pub token_word-first-requires : goal.token_word-first-requires
-token_word-first-requires c = order_in_range 0 c.args.tokens.now (length c.args.text.now) c.requires
-
-pub token_word-second-requires : goal.token_word-second-requires
-token_word-second-requires c = order_in_range 0 c.args.tokens.now (length c.args.text.now) c.requires
-
-pub token_word-third-requires : goal.token_word-third-requires
-token_word-third-requires c = order_in_range 0 c.args.tokens.now (length c.args.text.now) c.requires
-
-pub column_of-requires : goal.column_of-requires
-column_of-requires c = order_in_range 0 c.args.tokens.now (length c.args.text.now) c.requires
 
 pub returns-in-None-clause-refused : goal.returns-in-None-clause-refused
 returns-in-None-clause-refused c =
