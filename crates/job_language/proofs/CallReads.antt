@@ -1,6 +1,7 @@
 -- What the reader of a call answers, in both directions.
 use Rattle.std.proofs.Common.{◌≡◌, ℕ, suc, Bool, true, false, List, [], ◌∷◌, ◌++◌, length, refl, sym, ap, subst, ◌∙◌}
 use Rattle.std.specs.Prelude.{◌&&◌}
+use Rattle.std.proofs.lemmas.List.{append_cancel_left}
 use Rattle.stream_tokens.specs.declared.symbol.Symbol.TheVariants as symbol
 use Rattle.lambda_expr.specs.Words.{Word, sign}
 use Rattle.job_language.specs.declared.operation.Operation.{Operation}
@@ -43,15 +44,11 @@ same_parts c d r s ws h k = let e : closed c.parts ≡ closed d.parts = sym (rea
 same_call : (c d : Call) → c.operation ≡ d.operation → c.parts ≡ d.parts → c ≡ d
 same_call c d h k = rw h (rw k refl)
 
-cancel : (a : List Word) (r s : List Word) → a ++ r ≡ a ++ s → r ≡ s
-cancel [] r s h = h
-cancel (w ∷ a) r s h = cancel a r s cc
-
 pub one_reading : (c d : Call) (r s ws : List Word) → c.operation ≡ d.operation → Completes c r ws → Completes d s ws → (c ≡ d) × (r ≡ s)
 one_reading c d r s ws same h k =
     let parts = same_parts c d r s ws h k in
     let again : parts_words c.parts ++ sign symbol.Close ∷ s ≡ ws = ap (λ xs. parts_words xs ++ sign symbol.Close ∷ s) parts ∙ k.spelled in
-    let rest : sign symbol.Close ∷ r ≡ sign symbol.Close ∷ s = cancel (parts_words c.parts) (sign symbol.Close ∷ r) (sign symbol.Close ∷ s) (h.spelled ∙ sym again) in
+    let rest : sign symbol.Close ∷ r ≡ sign symbol.Close ∷ s = append_cancel_left (parts_words c.parts) (sign symbol.Close ∷ r) (sign symbol.Close ∷ s) (h.spelled ∙ sym again) in
     (same_call c d same parts, cc)
 
 pub is_read : (o : Operation) (ws : List Word) (es : List ℕ) → IsSplit ws es → allows o (length es) ≡ true → fits_from o (length es) 0 (pieces ws 0 es) ≡ true → IsReadAs o ws es

@@ -15,7 +15,6 @@ pub mod Lambdas
 pub mod Leads
 pub mod LexemeLemmas
 pub mod NumberLaws
-pub mod NumberReads
 pub mod NumberStops
 pub mod OneAnswer
 pub mod OneStop
@@ -29,5 +28,4 @@ pub mod SourceLemmas
 pub mod StackLemmas
 pub mod StreamLemmas
 pub mod SummaryLemmas
-pub mod Values
 pub mod WordList

@@ -1,13 +1,14 @@
--- Where the words of a number stop.
+-- Where the words of a number stop, and what is read of them.
 use Rattle.std.proofs.Common.{◌≡◌, ℕ, ℤ, Bool, true, false, List, [], ◌∷◌, length, get_or, Option, Some, None, refl, sym, ap, ◌∙◌, arith}
-use Rattle.std.specs.Prelude.{codes, is_some, ◌&&◌, if◌then◌else◌}
+use Rattle.std.specs.Prelude.{codes, is_some, option_map, option_and_then, ◌&&◌, if◌then◌else◌}
+use Rattle.std.specs.Option.{option_flatten}
 use Rattle.stream_tokens.specs.declared.symbol.Symbol.TheVariants as symbol
 use Rattle.lambda_expr.specs.Words.{Word, named, numeral, sign, bad}
 use Rattle.lambda_expr.specs.Members.{is_named}
 use Rattle.lambda_expr.specs.Numbers.{ANumber}
 use Rattle.lambda_expr.specs.Numerals.{is_numeral, numeral_value}
 use Rattle.lambda_expr.specs.NumberReading.{front, front_of_constant, is_digits, is_limit}
-use Rattle.lambda_expr.specs.NumberWords.{digits_value, is_dot, is_minus, is_owner, limit_value, number_value, signed}
+use Rattle.lambda_expr.specs.NumberWords.{digits_value, in_64_bits, is_dot, is_minus, is_owner, limit_value, number_value, signed}
 use Rattle.lambda_expr.specs.Stops.{StopsAt}
 use Rattle.lambda_expr.proofs.Sequences.{stop_at, stop_end}
 
@@ -137,3 +138,13 @@ no_number (a ∷ []) p q r = absurd (p refl)
 no_number (a ∷ b ∷ []) p q r = absurd (q refl)
 no_number (a ∷ b ∷ c ∷ []) p q r = absurd (r refl)
 no_number x p q r = refl
+
+-- whether something is read, and its value if that has 64 bits
+pub by_read : (x : Option ℤ) (r : Option (Option ℤ)) → r ≡ option_map in_64_bits x → (is_some r ≡ is_some x) × (option_flatten r ≡ option_and_then in_64_bits x)
+by_read None r e = (ap is_some e, ap option_flatten e)
+by_read (Some z) r e = (ap is_some e, ap option_flatten e)
+
+-- nothing is read of words that are no number
+pub none_read : (x : Option ℤ) (r : Option (Option ℤ)) → r ≡ option_map in_64_bits x → r ≡ None → None ≡ x
+none_read None r e n = refl
+none_read (Some z) r e n = let f : ◌≡◌ {A = Option (Option ℤ)} (Some (in_64_bits z)) None = sym e ∙ n in absurd cc

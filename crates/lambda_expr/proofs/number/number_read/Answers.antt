@@ -1,7 +1,7 @@
 use Rattle.std.proofs.Common.{◌∙◌}
 use Rattle.lambda_expr.specs.CodeWords.{words_in}
 use Rattle.lambda_expr.specs.NumberWords.{number_value}
-use Rattle.lambda_expr.proofs.NumberReads.{by_read}
+use Rattle.lambda_expr.proofs.NumberStops.{by_read}
 use Rattle.lambda_expr.proofs.WordList.{count_words}
 use Rattle.lambda_expr.proofs.number.number_read.Goals as goal
 

@@ -7,8 +7,7 @@ use Rattle.lambda_expr.specs.NumberWords.{in_64_bits, number_value}
 use Rattle.lambda_expr.specs.NumberReading.{front}
 use Rattle.lambda_expr.specs.Stops.{StopsAt}
 use Rattle.lambda_expr.specs.Words.{words_of}
-use Rattle.lambda_expr.proofs.NumberReads.{by_read, none_read}
-use Rattle.lambda_expr.proofs.NumberStops.{stops_there}
+use Rattle.lambda_expr.proofs.NumberStops.{by_read, none_read, stops_there}
 use Rattle.lambda_expr.proofs.WordList.{length-words_of}
 use Rattle.lambda_expr.proofs.number.read_number.Goals as goal
 
