@@ -64,7 +64,7 @@ pub fn part<'a>(text: &CutText<'a>, opened: usize, from: usize, to: usize) -> Cu
         (get_or text.now.tokens (opened + 1 + to) d) (opened + from) (opened + 1 + to) }
     ensures len { length text.now.tokens ≤ usize.MAX }
 {
-    // That the tokens stand in order, by the clause of `bytes`.
+    // Read for their contracts: these are the tokens of the text, and their number is a `usize`.
     let _bytes = text.bytes();
     let _count = text.len();
     text.between(opened + from, opened + 1 + to)
