@@ -105,7 +105,6 @@ NOT_MERGED = [
     ('s = column("a").toArray()\nt = result(s).sum()', '1', [ONE], 1, 'JOBS: t can\'t be merged: it names a job over a column'),
     ('\n# c\ns = column("a").sum', '1', [ONE], 1, 'JOBS: line 3 is refused; streamrun says why'),
     ('.sum()', '1', [ONE], 1, 'JOBS: line 1 is refused; streamrun says why'),
-    ('\n'.join(f's{at} = column("{at}").sum()' for at in range(257)), '1', [ONE], 1, 'JOBS: more columns than a table has'),
 ]
 
 PLAN = '''total = column("a").sum()

@@ -1,9 +1,10 @@
 //! Columns of numbers, by their names.
-ghost use Rattle.std.specs.Prelude.{◌≡◌, [], find, map, option_map};
+ghost use Rattle.std.specs.Prelude.{◌≡◌, [], IfOk, find, map, option_map};
 ghost use Rattle.std.specs.Option.{option_copied};
 ghost use Rattle.std.specs.Str.{bytes_eq};
-ghost use Rattle.columns.specs.Table.{cells_named};
+ghost use Rattle.columns.specs.Table.{cells_named, columns_under};
 
+use std::alloc::{AllocError, Global};
 use std::marker::Model;
 
 /// One column: its name and its cells, from the top. If it isn't whole, some of a piece's cells are missing, since an
@@ -40,6 +41,22 @@ impl Columns {
         ensures { result ≡ [] }
     {
         Columns { columns: None }
+    }
+
+    /// The columns of a header without rows: one without cells for each of these names, in their order. Any number of
+    /// names is taken, and a name may come twice.
+    pub fn without_cells(alloc: Global, names: Vec<Vec<u8>>) -> Result<Columns, AllocError>
+        ensures { IfOk result (λ columns. columns ≡ columns_under (map (λ name. name.items) names.items) []) }
+    {
+        let mut columns = Vec::with_capacity(alloc, names.len())?;
+        for name in names {
+            columns.push(Column {
+                name,
+                cells: Vec::new(alloc),
+                is_whole: true,
+            })?;
+        }
+        Ok(Columns::of(columns))
     }
 
     /// The table of columns that were read, in their order.

@@ -1,4 +1,4 @@
-mod NamedTexts
+pub mod NamedTexts
 mod OutcomeLemmas
 mod PlannedJobLemmas
 mod RunLemmas

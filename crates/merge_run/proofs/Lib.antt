@@ -1,5 +1,5 @@
+mod BareColumns
 mod MergedLemmas
 mod NamedAnswers
-mod NamedTexts
 mod ReportLemmas
 mod UniqueReports

@@ -1,4 +1,4 @@
--- A report xs JSON is that of one list of answers.
+-- A report as JSON holds one list of answers.
 use Rattle.std.proofs.Common.{◌≡◌, ℕ, suc, ℤ, pos, negsuc, ◌+◌, ◌*◌, ◌<◌, ◌≤◌, max, Bool, false, List, [], ◌∷◌, ◌++◌, length, Option, Some, None, refl, sym, ap, ◌∙◌, arith}
 use Rattle.std.specs.Prelude.{map, slice_index_or}
 use Rattle.std.specs.Fmt.{signed_decimal}
@@ -268,7 +268,7 @@ last_off [] c = refl
 last_off (b ∷ []) c = refl
 last_off (b ∷ d ∷ bs) c = ap (λ (xs : List ℕ). b ∷ xs) (last_off (d ∷ bs) c)
 
--- a report xs JSON is that of one list of answers
+-- a report as JSON holds one list of answers
 pub one_report : (names : List (List ℕ)) (xs bs : List Answer) → length names ≡ length xs → length names ≡ length bs → AreSmall names xs → AreSmall names bs
     → report_json names xs ≡ report_json names bs → xs ≡ bs
 one_report names xs bs la lb ha hb e =

@@ -1,5 +1,8 @@
 //! Why reports of parts aren't merged.
 
+ghost use Rattle.std.specs.Prelude.{◌≡◌};
+ghost use Rattle.merge_run.specs.declared.fault.ReportMergeFault.TheVariants.{NoMemory};
+
 use crate::part_answers::ReportFault;
 use report_merge::Unmergeable;
 use std::alloc::{AllocError, AllocFailed};
@@ -10,8 +13,6 @@ use stream_tokens::Bytes;
 pub enum ReportMergeFault {
     /// The job file is refused at this line.
     Jobs { line: u64 },
-    /// The job file names more columns than a table has.
-    TooManyColumns,
     /// The job with this name can't be merged.
     Unmergeable { job: Bytes, cause: Unmergeable },
     /// There is no report.
@@ -38,12 +39,16 @@ pub enum PartCause {
 }
 
 impl From<AllocError> for ReportMergeFault {
+    ghost from_gives = { λ _ fault. fault ≡ NoMemory };
+
     fn from(_: AllocError) -> ReportMergeFault {
         ReportMergeFault::NoMemory
     }
 }
 
 impl<T: Drop> From<AllocFailed<T>> for ReportMergeFault {
+    ghost from_gives = { λ _ fault. fault ≡ NoMemory };
+
     fn from(_: AllocFailed<T>) -> ReportMergeFault {
         ReportMergeFault::NoMemory
     }

@@ -7,7 +7,7 @@ ghost use Rattle.merge_run.specs.declared.part_report.PartReport.{PartReport as 
 ghost use Rattle.report_merge.specs.Merging.{Part};
 ghost use Rattle.report.specs.Json.{report_json};
 
-/// A report as JSON is that of one list of answers, if their numbers fit into 64 bits.
+/// A report as JSON holds one list of answers, if their numbers fit into 64 bits.
 #[tactic(auto, using(crate::proofs::UniqueReports::one_report, crate::proofs::UniqueReports::same_parts))]
 pub fn one_report()
     ensures parts { (names : List (List ℕ)) (rs : List meant_report) (ps qs : List Part) → AreReportsOf names rs ps

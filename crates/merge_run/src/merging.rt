@@ -1,9 +1,12 @@
 //! The report of a whole table, from the reports of its parts.
-ghost use Rattle.std.specs.Prelude.{◌≡◌, All, IfOk, None, length};
+ghost use Rattle.std.specs.Prelude.{◌≡◌, ℕ, [], All, IfErr, IfOk, List, None, length, slice_index_or};
+ghost use Rattle.columns.specs.Table.{NamedColumn};
 ghost use Rattle.engine.specs.Run.{report_in};
+ghost use Rattle.job_language.specs.Files.{SpellsJobs};
 ghost use Rattle.job_language.specs.Jobs.{jobs_of, names_of};
-ghost use Rattle.merge_run.specs.Merged.{AreReportsOf, IsMerged, IsMergeOf};
+ghost use Rattle.merge_run.specs.Merged.{AreReportsOf, IsMerged, IsMergeOf, IsMergeRefusal};
 ghost use Rattle.report.specs.Named.{IsNamed, IsText};
+ghost use Rattle.report_merge.specs.Cuts.{AreBare};
 ghost use Rattle.report_merge.specs.Mergeable.{first_unmergeable};
 ghost use Rattle.report_merge.specs.Merging.{parts_of};
 ghost use Rattle.stream_tokens.specs.Forms.{IsName};
@@ -12,7 +15,6 @@ use crate::fault::{PartCause, ReportMergeFault};
 use crate::named_columns::columns_named;
 use crate::part_answers::{ReportFault, read_answers};
 use crate::part_report::PartReport;
-use columns::ColumnFault;
 use job_language::{Cause, Job, read_jobs};
 use job_meaning::Answer;
 use report::{NoMemory, json, text};
@@ -30,13 +32,10 @@ pub fn merged_report(
     parts: Vec<PartReport>,
     form: Form,
 ) -> Result<Vec<u8>, ReportMergeFault>
-    ensures { IfOk result (λ report. IsMerged jobs.now parts.items form report.items) }
+    ensures ok { IfOk result (λ report. IsMerged jobs.now parts.items form report.items) }
+    ensures refused { IfErr result (λ fault. IsMergeRefusal jobs.now fault) }
 {
-    let columns = match columns_named(alloc, jobs) {
-        Ok(columns) => columns,
-        Err(ColumnFault::NoMemory) => return Err(ReportMergeFault::NoMemory),
-        Err(_) => return Err(ReportMergeFault::TooManyColumns),
-    };
+    let columns = columns_named(alloc, jobs)?;
     let jobs = match read_jobs(alloc, jobs, &columns) {
         Ok(jobs) => jobs,
         Err(fault) if fault.cause == Cause::NoMemory => return Err(ReportMergeFault::NoMemory),
@@ -53,7 +52,9 @@ fn merged_of(
     form: Form,
 ) -> Result<Vec<u8>, ReportMergeFault>
     requires { All IsName (names_of (jobs_of jobs.now)) }
-    ensures { IfOk result (λ report. IsMergeOf (jobs_of jobs.now) parts.items form report.items) }
+    ensures ok { IfOk result (λ report. IsMergeOf (jobs_of jobs.now) parts.items form report.items) }
+    ensures refused { IfErr result (λ fault. (bytes : List ℕ) (columns : List NamedColumn) → AreBare columns
+        → SpellsJobs bytes columns (jobs_of jobs.now) → IsMergeRefusal bytes fault) }
 {
     match first_unmergeable(alloc, jobs)? {
         Some((job, cause)) => Err(ReportMergeFault::Unmergeable {
@@ -73,7 +74,8 @@ fn report_of(
 ) -> Result<Vec<u8>, ReportMergeFault>
     requires names { All IsName (names_of (jobs_of jobs.now)) }
     requires mergeable { first_unmergeable (jobs_of jobs.now) ≡ None }
-    ensures { IfOk result (λ report. IsMergeOf (jobs_of jobs.now) parts.items form report.items) }
+    ensures ok { IfOk result (λ report. IsMergeOf (jobs_of jobs.now) parts.items form report.items) }
+    ensures refused { IfErr result (λ fault. (bytes : List ℕ) → IsMergeRefusal bytes fault) }
 {
     let names = names_in(alloc, jobs)?;
     let parts = answers_of(alloc, jobs, &names, parts)?;
@@ -112,6 +114,7 @@ fn answers_of(
     requires { All IsText names.now }
     ensures read { IfOk result (λ found. AreReportsOf names.now parts.items (parts_of found.items)) }
     ensures named { IfOk result (λ found. All (λ part. All (IsNamed names.now) part.answers.items) found.items) }
+    ensures refused { IfErr result (λ fault. (bytes : List ℕ) → IsMergeRefusal bytes fault) }
 {
     let mut found = Vec::new(alloc);
     for part in parts {
@@ -146,7 +149,9 @@ fn copied(alloc: Global, bytes: &Bytes) -> Result<Bytes, NoMemory>
 }
 
 /// The name of a job, for a message; of a job that isn't there it is empty.
-fn name_at(alloc: Global, jobs: &[Job], job: usize) -> Result<Bytes, NoMemory> {
+fn name_at(alloc: Global, jobs: &[Job], job: usize) -> Result<Bytes, NoMemory>
+    ensures { IfOk result (λ name. name ≡ slice_index_or (names_of (jobs_of jobs.now)) job []) }
+{
     match jobs.get(job) {
         Some(job) => copied(alloc, &job.name),
         None => Ok(Bytes::from(Vec::new(alloc))),
@@ -159,7 +164,9 @@ fn part_fault(
     jobs: &[Job],
     part: usize,
     fault: ReportFault,
-) -> Result<ReportMergeFault, NoMemory> {
+) -> Result<ReportMergeFault, NoMemory>
+    ensures { IfOk result (λ fault. (bytes : List ℕ) → IsMergeRefusal bytes fault) }
+{
     let cause = match fault {
         ReportFault::NoMemory => return Ok(ReportMergeFault::NoMemory),
         ReportFault::NoReport => PartCause::NoReport,
@@ -172,11 +179,9 @@ fn part_fault(
 }
 
 /// Why the answers of the parts aren't merged.
-fn fault_of(
-    alloc: Global,
-    jobs: &[Job],
-    fault: AnswersFault,
-) -> Result<ReportMergeFault, NoMemory> {
+fn fault_of(alloc: Global, jobs: &[Job], fault: AnswersFault) -> Result<ReportMergeFault, NoMemory>
+    ensures { IfOk result (λ fault. (bytes : List ℕ) → IsMergeRefusal bytes fault) }
+{
     Ok(match fault {
         AnswersFault::NoPart => ReportMergeFault::NoPart,
         AnswersFault::TooManyRows => ReportMergeFault::TooManyRows,

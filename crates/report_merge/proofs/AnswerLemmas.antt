@@ -102,7 +102,7 @@ module _ (n : ℕ) (env : Numbers) where
   walk_decides : (d : Find) (t : Trace) → IsDecision d (decision_of d n env t)
   walk_decides d t = or_decides d (first_decision d n env t.items) (decision_at_end t.ending) (items_decide d t.items) (end_decides d t.ending)
 
--- a decision so many places later
+-- a decision, its place moved by k
 abbrev later_decision : ℕ → Option (Result Found Fault) → Option (Result Found Fault)
 later_decision k None = None
 later_decision k (Some (Ok a)) = Some (Ok a)
@@ -229,7 +229,7 @@ same_number (Some i) a h = ap Some (equal i a (int_eq i a) refl h)
     equal i a true e h = grind (arith, common_steps)
     equal i a false e h = absurd cc
 
--- the answer over a walk, and over one that begins so many places later, is that over both as one
+-- the answers over two walks, merged: the answer over both as one, where the second begins k places later
 pub answers_join : (d : AbstractTerminal) (n : ℕ) (env : Numbers) (k m : ℕ) (t u : Trace) → terminal_cause d ≡ None → Within m u
     → beside d k m (answer_of n env d t) (answer_of n env d u) ≡ Some (answer_of n env d (append t (later k u)))
 answers_join sum n env k m t u c w =

@@ -1,4 +1,4 @@
--- Walks that begin at a later place, and places that lie within so many rows.
+-- Walks that begin at a later place, and places that lie within a number of rows.
 use Rattle.std.proofs.Common.{◌≡◌, ℕ, suc, ◌+◌, ◌<◌, ◌≤◌, ◌^◌, ℤ, Bool, true, false, List, [], ◌∷◌, ◌++◌, length, Option, Some, None, Result, Ok, Err, refl, sym, ap, ◌∙◌, append-nil, arith}
 use Rattle.lambda_values.specs.declared.fault.FaultKind.{FaultKind}
 use Rattle.lambda_values.specs.Earlier.{Numbers}
@@ -17,7 +17,7 @@ use Rattle.job_meaning.specs.Walks.{after_stages, plain_values, source_walk}
 use Rattle.report_merge.specs.Mergeable.{are_items}
 use Rattle.report_merge.specs.Merging.{moved}
 
--- ---- a walk, so many places later
+-- ---- a walk, k places later
 
 abbrev pub later_item : ℕ → Item → Item
 later_item k x = record { origin = k + x.origin; value = x.value }
@@ -92,7 +92,7 @@ stages_joined n (item g ∷ gs) env a b good =
 stages_joined n (slice d ∷ gs) env a b good = no_slice good
 stages_joined n (prefix r f ∷ gs) env a b good = no_slice good
 
--- ---- places within so many rows
+-- ---- places within m rows
 
 abbrev pub PlaceWithin : ℕ → Option ℕ → Type 0
 PlaceWithin m None = Unit {0}

@@ -85,7 +85,7 @@ module _ (header : Row) (same : (k : ℕ) → moved_refusal k (header_fault head
       ∙ moved_or before (header_fault header) (rows_fault width 1 rows)
       ∙ ap (moved_refusal before) (sym (refused_by header rows))
 
-  -- so many rows come before these parts
+  -- `before` rows come before these parts
   parts_refused : (before : ℕ) (rows : List Row) (tables : List (List Row))
       → option_or (header_fault header) (rows_fault width (before + 1) (all_rows (rows ∷ tables))) ≡ first_refusal before header (rows ∷ tables)
   parts_refused before rows [] =

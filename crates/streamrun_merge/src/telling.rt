@@ -18,7 +18,6 @@ pub fn tell<W: Write>(
     match fault {
         ReportMergeFault::NoMemory => 3,
         ReportMergeFault::Jobs { .. }
-        | ReportMergeFault::TooManyColumns
         | ReportMergeFault::Unmergeable { .. }
         | ReportMergeFault::NoPart
         | ReportMergeFault::Part { .. }
@@ -37,10 +36,6 @@ fn write_line<W: Write>(
         ReportMergeFault::Jobs { line } => {
             writeln!(writer, "{jobs}: line {line} is refused; streamrun says why")
         }
-        ReportMergeFault::TooManyColumns => writeln!(
-            writer,
-            "{jobs}: more columns than a table has"
-        ),
         ReportMergeFault::Unmergeable { job, cause } => {
             let job = text_of(job);
             writeln!(

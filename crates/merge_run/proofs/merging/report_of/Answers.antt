@@ -7,7 +7,7 @@ use Rattle.report.specs.Named.{IsNamed, IsText}
 use Rattle.report_merge.specs.Merging.{parts_of}
 use Rattle.merge_run.proofs.MergedLemmas.{length_merged}
 use Rattle.merge_run.proofs.NamedAnswers.{length_names, merged_named}
-use Rattle.merge_run.proofs.NamedTexts.{names_text}
+use Rattle.engine.proofs.NamedTexts.{names_text}
 use Rattle.merge_run.proofs.ReportLemmas.{merge_of}
 use Rattle.merge_run.proofs.merging.report_of.Goals as goal
 
@@ -31,8 +31,8 @@ printed-requires-clause-named c =
     (subst (λ (xs : List Answer). All (IsNamed c.deref.result.now) xs) (sym c.deref-3.ensures.value)
     (merged_named c.deref.result.now (jobs_of c.args.jobs.now) c.in_ok-parts.parts.items c.in-Ok.answers.items c.in_ok-parts.ensures.named c.in-Ok.ensures.ok))
 
-pub returns : goal.returns
-returns c =
+pub returns-clause-ok : goal.returns-clause-ok
+returns-clause-ok c =
     let form = c.args.form in
     let printed = c.in_ok-printed.ensures
     ∙ (ap (λ (ns : List (List ℕ)). report_in form ns c.deref-3.result.now) (c.deref-2.ensures.value ∙ sym c.deref.ensures.value) ∙ ap (λ (xs : List Answer). report_in form c.deref.result.now xs) c.deref-3.ensures.value) in
