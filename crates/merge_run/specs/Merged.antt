@@ -57,7 +57,7 @@ pub record IsMerged (bytes : List ℕ) (reports : List PartReport) (form : Form)
   pub spelled : SpellsJobs bytes columns jobs
   pub merge : IsMergeOf jobs reports form report
 
--- the reader of jobs refuses this line of the job file
+-- over some columns without cells the reader of jobs refuses this line of the job file
 pub record IsRefusedAt (bytes : List ℕ) (line : ℕ) : Type 0 where
   pub columns : List NamedColumn
   pub bare : AreBare columns
@@ -66,7 +66,7 @@ pub record IsRefusedAt (bytes : List ℕ) (line : ℕ) : Type 0 where
   pub refused : IsRefused bytes columns fault
   pub at : fault.line ≡ line
 
--- the job with this name is the first one that can't be merged, for this reason
+-- over some columns without cells the job with this name is the first one that can't be merged, for this reason
 pub record HasUnmergeable (bytes name : List ℕ) (reason : Unmergeable) : Type 0 where
   pub columns : List NamedColumn
   pub bare : AreBare columns

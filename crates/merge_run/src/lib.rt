@@ -5,7 +5,8 @@
 //! What it promises to it is the contract of `merged_report`: the bytes that it gives are the report of the merged
 //! answers of the reports that it was given.
 //! Begin with `specs/Merged.antt`, then `merging.rt`; `part_answers.rt` reads a report.
-//! Not promised: that the reports are those of the parts of one table, in order, or that there is memory.
+//! Not promised: that the reports are those of the parts of one table, in order, that no job file is refused which
+//! could be merged, or that there is memory.
 #![tactic(auto)]
 
 mod fault;

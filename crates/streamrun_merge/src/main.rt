@@ -1,4 +1,4 @@
-//! `streamrun-merge [OPTIONS] JOBS REPORTS`: writes the report of a table, made of the reports of its parts.
+//! `streamrun-merge --rows N,N,.. JOBS REPORT..`: writes the report of a table, made of the reports of its parts.
 //!
 //! Stands on `merge_run`, whose `merged_report` is the whole work, on `counted_io` for readers and writers, and on
 //! `clap` for the command line. What it promises is the contract of `merged_report`, which this program calls on the
