@@ -1,5 +1,5 @@
 -- Any words are the operands of a source, or stop at a place.
-use Rattle.std.proofs.Common.{◌≡◌, ◌⊎◌, inl, inr, ⊎_elim, ℕ, zero, suc, ◌+◌, ◌<◌, ◌≤◌, List, [], ◌∷◌, ◌++◌, length, take, drop, get_or, Some, None, refl, sym, ap, subst, ◌∙◌, arith}
+use Rattle.std.proofs.Common.{◌≡◌, ◌⊎◌, inl, inr, ⊎_elim, ℕ, zero, suc, ◌+◌, ◌<◌, ◌≤◌, List, [], ◌∷◌, ◌++◌, length, take, drop, get_or, refl, sym, ap, subst, ◌∙◌, arith}
 use Rattle.std.proofs.lemmas.List.{length-drop}
 use Rattle.std.proofs.str.Laws.{order}
 use Rattle.lambda_expr.specs.declared.lexeme.Lexeme.{Lexeme}
@@ -8,7 +8,7 @@ use Rattle.lambda_expr.specs.declared.sign.Sign.TheVariants as sign
 use Rattle.lambda_expr.specs.declared.source.StreamSource.{StreamSource}
 use Rattle.lambda_expr.specs.declared.source.StreamSource.TheVariants as source
 use Rattle.lambda_expr.specs.Grammar.{Shape, Expression, IsExpression, spells}
-use Rattle.lambda_expr.specs.SourceReading.{Next, Operands, TakesMore, after_close}
+use Rattle.lambda_expr.specs.SourceReading.{Next, Operands, TakesMore}
 use Rattle.lambda_expr.specs.Sources.{AreBound, AreOperands, Takes, further, listed}
 use Rattle.lambda_expr.specs.Stops.{Begins, StopsAt}
 use Rattle.lambda_expr.proofs.EndLemmas.{stops_few, stops_late, stops_many, stops_other, whole_here}
@@ -54,29 +54,29 @@ abbrev Answered : StreamSource → ℕ → List Lexeme → Type 0
 Answered s n ws = Next s n ws ⊎ ((q : ℕ) × StopsAt (Next s n) ws q)
 
 -- a comma
-at_comma : (s : StreamSource) (n : ℕ) (ws : List Lexeme) (k : ℕ) (e : Shape) → k < length ws → StopsAt Expression ws k → IsExpression (take k ws) e → get_or ws k word.Open ≡ word.Sign sign.Comma → Answered s (suc n) (drop (k + 1) ws) → Answered s n ws
+at_comma : (s : StreamSource) (n : ℕ) (ws : List Lexeme) (k : ℕ) (e : Shape) → k < length ws → StopsAt Expression ws k → IsExpression (take k ws) e → get_or ws k word.Other ≡ word.Sign sign.Comma → Answered s (suc n) (drop (k + 1) ws) → Answered s n ws
 at_comma s n ws k e lt stops x is (inl y) = inl (e, y.0 ∷ y.1, comma_at s n ws k e y.0 y.1 lt is x y.2)
 at_comma s n ws k e lt stops x is (inr q) = inr (k + 1 + q.0, after_comma s n ws k q.0 e lt is stops x q.1)
 
-at_more : (s : StreamSource) (n : ℕ) (ws : List Lexeme) (k : ℕ) (e : Shape) → TakesMore s n → k < length ws → StopsAt Expression ws k → IsExpression (take k ws) e → get_or ws k word.Open ≡ word.Sign sign.Comma → (TakesMore s (suc n) → Answered s (suc n) (drop (k + 1) ws)) → TakesMore s (suc n) ⊎ (TakesMore s (suc n) → ⊥) → Answered s n ws
+at_more : (s : StreamSource) (n : ℕ) (ws : List Lexeme) (k : ℕ) (e : Shape) → TakesMore s n → k < length ws → StopsAt Expression ws k → IsExpression (take k ws) e → get_or ws k word.Other ≡ word.Sign sign.Comma → (TakesMore s (suc n) → Answered s (suc n) (drop (k + 1) ws)) → TakesMore s (suc n) ⊎ (TakesMore s (suc n) → ⊥) → Answered s n ws
 at_more s n ws k e t lt stops x is later (inl more) = at_comma s n ws k e lt stops x is (later more)
 at_more s n ws k e t lt stops x is later (inr never) = inr (k, stops_many s n ws k t lt stops is never)
 
 -- the parenthesis that closes
-at_close : (s : StreamSource) (n : ℕ) (ws : List Lexeme) (k : ℕ) (e : Shape) → TakesMore s n → k < length ws → StopsAt Expression ws k → IsExpression (take k ws) e → get_or ws k word.Open ≡ word.Close → Takes s (n + 1) ⊎ (Takes s (n + 1) → ⊥) → Answered s n ws
+at_close : (s : StreamSource) (n : ℕ) (ws : List Lexeme) (k : ℕ) (e : Shape) → TakesMore s n → k < length ws → StopsAt Expression ws k → IsExpression (take k ws) e → get_or ws k word.Other ≡ word.Close → Takes s (n + 1) ⊎ (Takes s (n + 1) → ⊥) → Answered s n ws
 at_close s n ws k e t lt stops x is (inr never) = inr (k, stops_few s n ws k t lt stops is never)
 at_close s n ws k e t lt stops x is (inl count) =
     ⊎_elim (λ (more : k + 1 < length ws). inr (k + 1, stops_late s n ws k e more stops is count x))
     (λ (le : length ws ≤ k + 1). inl (e, [], whole_here s n ws k e lt le is count x))
     (order (k + 1) (length ws))
 
-at_ending : (s : StreamSource) (n : ℕ) (ws : List Lexeme) (k : ℕ) (e : Shape) → TakesMore s n → k < length ws → StopsAt Expression ws k → IsExpression (take k ws) e → (TakesMore s (suc n) → Answered s (suc n) (drop (k + 1) ws)) → Ending (get_or ws k word.Open) → Answered s n ws
+at_ending : (s : StreamSource) (n : ℕ) (ws : List Lexeme) (k : ℕ) (e : Shape) → TakesMore s n → k < length ws → StopsAt Expression ws k → IsExpression (take k ws) e → (TakesMore s (suc n) → Answered s (suc n) (drop (k + 1) ws)) → Ending (get_or ws k word.Other) → Answered s n ws
 at_ending s n ws k e t lt stops x later (inl is) = at_more s n ws k e t lt stops x is later (more_or_not s (suc n))
 at_ending s n ws k e t lt stops x later (inr (inl is)) = at_close s n ws k e t lt stops x is (takes_or_not s (n + 1))
 at_ending s n ws k e t lt stops x later (inr (inr never)) = inr (k, stops_other s n ws k t lt stops never.0 never.1)
 
 at_front : (s : StreamSource) (n : ℕ) (ws : List Lexeme) (k : ℕ) → TakesMore s n → k < length ws → StopsAt Expression ws k → (TakesMore s (suc n) → Answered s (suc n) (drop (k + 1) ws)) → Expression (take k ws) ⊎ ((q : ℕ) × StopsAt Expression (take k ws) q) → Answered s n ws
-at_front s n ws k t lt stops later (inl x) = at_ending s n ws k x.0 t lt stops x.1 later (ending (get_or ws k word.Open))
+at_front s n ws k t lt stops later (inl x) = at_ending s n ws k x.0 t lt stops x.1 later (ending (get_or ws k word.Other))
 at_front s n ws k t lt stops later (inr q) = inr (k, no_front ws k s n t lt stops q.1.outside)
 
 at_answer : (s : StreamSource) (n : ℕ) (ws : List Lexeme) → TakesMore s n → ((k : ℕ) → k < length ws → TakesMore s (suc n) → Answered s (suc n) (drop (k + 1) ws)) → Expression ws ⊎ ((k : ℕ) × StopsAt Expression ws k) → Answered s n ws
@@ -185,11 +185,10 @@ each_operands s (w ∷ ws) = by_ending s w ws (ending w)
 
 -- ---- what the reader sees first
 
-pub closed_front : (ws rest : List Lexeme) → after_close ws ≡ Some rest → ws ≡ word.Close ∷ rest
-closed_front (word.Close ∷ ws) rest h = let same : ws ≡ rest = cc in ap (λ v. word.Close ∷ v) same
-closed_front x rest h = absurd cc
+pub closed_front : (ws : List Lexeme) → get_or ws 0 word.Other ≡ word.Close → ws ≡ word.Close ∷ drop 1 ws
+closed_front [] h = absurd cc
+closed_front (w ∷ ws) h = ap (λ v. v ∷ ws) h
 
-pub not_closed : (ws : List Lexeme) → after_close ws ≡ None → IsNotClosed ws
+pub not_closed : (ws : List Lexeme) → (get_or ws 0 word.Other ≡ word.Close → ⊥) → IsNotClosed ws
 not_closed [] h = tt
-not_closed (word.Close ∷ ws) h = absurd cc
-not_closed (w ∷ ws) h = λ e. cc
+not_closed (w ∷ ws) h = h

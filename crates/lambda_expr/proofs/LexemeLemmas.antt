@@ -1,72 +1,69 @@
--- The lexemes of a text, word by word.
-use Rattle.std.proofs.Common.{◌≡◌, ℕ, suc, ◌+◌, ◌<◌, ◌≤◌, Bool, true, false, ◌||◌, if◌then◌else◌, Option, List, [], ◌∷◌, ◌++◌, codes, length, take, drop, get_or, refl, sym, ap, ◌∙◌, append_assoc, append-nil, take-append-drop, arith}
-use Rattle.std.proofs.lemmas.List.{drop_more, drop_all, take_more}
+-- The lexemes of a part of a text, place by place.
+use Rattle.std.proofs.Common.{◌≡◌, ℕ, zero, suc, ◌+◌, ◌-◌, ◌<◌, ◌≤◌, Option, None, List, [], ◌∷◌, length, take, drop, get_or, refl, sym, ap, ◌∙◌, arith, length-drop, length-take, option_copied}
+use Rattle.std.specs.Prelude.{slice_range}
+use Rattle.stream_tokens.specs.CutTexts.{TokenizedText}
+use Rattle.std.proofs.lemmas.List.{drop-drop, drop-take, get_or-drop, get_or-take, take-take, take_all}
 use Rattle.lambda_expr.specs.declared.lexeme.Lexeme.{Lexeme}
-use Rattle.lambda_expr.specs.declared.lexeme.Lexeme.TheVariants as lexeme
-use Rattle.lambda_expr.specs.declared.lexeme.Name.TheVariants.{Plain, ClassName, Truth, LowerLong, LongStream}
-use Rattle.lambda_expr.specs.declared.lexeme.ClassName.TheVariants.{Math, Long}
-use Rattle.lambda_expr.specs.Members.{is_named, member_of}
-use Rattle.lambda_expr.specs.Lexemes.{first_name, lexeme_of, lexemes_from, lexemes_in, order_of}
-use Rattle.lambda_expr.specs.Words.{Word, named, numeral, bad}
-use Rattle.lambda_expr.proofs.FirstNames.{first_of, second_of, order_stays, second_beside}
+use Rattle.lambda_expr.specs.declared.lexeme.Lexemes.TheInside.{Inside}
+use Rattle.lambda_expr.specs.CodeWords.{words_in}
+use Rattle.lambda_expr.specs.LexemeParts.{IsPart, part_of}
+use Rattle.lambda_expr.specs.Lexemes.{first_name, lexeme_of, lexemes_from, lexemes_of}
+use Rattle.lambda_expr.specs.Words.{Word, bad}
+use Rattle.lambda_expr.proofs.WordList.{length-words_of}
 
--- one word more: its lexeme
-lexemes_on : (first second : Option (List ℕ)) (ws : List Word) (at : ℕ) (w : Word) (goal front : List Lexeme) → at < length ws → get_or ws at bad ≡ w → front ++ lexemes_from first second at (drop at ws) ≡ goal → (front ++ lexeme_of first second at w ∷ []) ++ lexemes_from first second (at + 1) (drop (at + 1) ws) ≡ goal
-lexemes_on first second ws at w goal front lt is h =
-    let split : drop at ws ≡ w ∷ drop (at + 1) ws = drop_more ws at bad lt ∙ ap (λ v. v ∷ drop (at + 1) ws) is in
-    let one : suc at ≡ at + 1 = omega arith in
-    append_assoc front (lexeme_of first second at w ∷ []) (lexemes_from first second (at + 1) (drop (at + 1) ws))
-    ∙ ap (λ n. front ++ lexeme_of first second at w ∷ lexemes_from first second n (drop (at + 1) ws)) (sym one)
-    ∙ ap (λ v. front ++ lexemes_from first second at v) (sym split)
-    ∙ h
+length-lexemes_from : (first second : Option (List ℕ)) (at : ℕ) (ws : List Word) → length (lexemes_from first second at ws) ≡ length ws
+length-lexemes_from first second at [] = refl
+length-lexemes_from first second at (w ∷ ws) = ap suc (length-lexemes_from first second (suc at) ws)
 
--- the lexeme of a word beside the first two names of words
-abbrev lexeme_in : List Word → ℕ → Word → Lexeme
-lexeme_in ws at w = lexeme_of (first_of ws) (second_of ws) at w
+get_or-lexemes_from : (first second : Option (List ℕ)) (at : ℕ) (ws : List Word) (i : ℕ) (d : Lexeme) → i < length ws → get_or (lexemes_from first second at ws) i d ≡ lexeme_of first second (at + i) (get_or ws i bad)
+get_or-lexemes_from first second at [] i d lt = absurd (omega arith)
+get_or-lexemes_from first second at (w ∷ ws) zero d lt = let e : at ≡ at + 0 = omega arith in ap (λ n. lexeme_of first second n w) e
+get_or-lexemes_from first second at (w ∷ ws) (suc i) d lt =
+    let e : suc at + i ≡ at + suc i = omega arith in
+    get_or-lexemes_from first second (suc at) ws i d (omega arith) ∙ ap (λ n. lexeme_of first second n (get_or ws i bad)) e
 
--- the lexeme of the last word doesn't change if these words with more give the names
-name_by : (a b c d e f : Bool) (v : List ℕ) (early late : ℕ) → ((a || b || c || d || e || f) ≡ false → early ≡ late)
-    → (let name = λ (n : ℕ). if a then ClassName Math else (if b then ClassName Long else (if c then LongStream else (if d then LowerLong else (if e then Truth true else (if f then Truth false else Plain (record { number = n; member = member_of v })))))) in name early ≡ name late)
-name_by false false false false false false v early late same = ap (λ n. Plain (record { number = n; member = member_of v })) (same refl)
-name_by x b c d e f v early late same = refl
+-- the lexemes of the whole text
+abbrev whole : Inside → List Lexeme
+whole l = lexemes_from (option_copied l.first) (option_copied l.second) 0 (words_in l.text.now)
 
-lexeme_stays : (xs ys : List Word) (at : ℕ) (w : Word) → lexeme_in (xs ++ w ∷ []) at w ≡ lexeme_in ((xs ++ w ∷ []) ++ ys) at w
-lexeme_stays xs ys at (named v) =
-    let ws = xs ++ named v ∷ [] in
-    let is = is_named v in
-    let early = order_of (first_of ws) (second_of ws) v in
-    let late = order_of (first_of (ws ++ ys)) (second_of (ws ++ ys)) v in
-    ap lexeme.Name (name_by (is (codes "Math")) (is (codes "Long")) (is (codes "LongStream")) (is (codes "long")) (is (codes "true")) (is (codes "false")) v early late (order_stays xs ys v))
-lexeme_stays xs ys at (numeral v) = refl
-lexeme_stays xs ys at x = refl
+length-whole : (l : Inside) → length (whole l) ≡ length l.text.now.tokens
+length-whole l = length-lexemes_from (option_copied l.first) (option_copied l.second) 0 (words_in l.text.now) ∙ length-words_of l.text.now.bytes l.text.now.tokens
 
--- a pass that has come to a place knows the first two names of the words before it, and has made the lexemes of these
--- words
-pub record Pass (first second : Option (List ℕ)) (at : ℕ) (lexemes : List Lexeme) (ws : List Word) : Type 0 where
-  pub knows_first : first ≡ first_of (take at ws)
-  pub knows_second : second ≡ second_of (take at ws)
-  pub makes : lexemes ++ lexemes_from (first_of ws) (second_of ws) at (drop at ws) ≡ lexemes_in ws
+pub whole_text : (first second : Option (List ℕ)) (t : TokenizedText) (n : ℕ) → first ≡ first_name None (words_in t) → second ≡ first_name first (words_in t) → n ≡ length t.tokens → slice_range (lexemes_from first second 0 (words_in t)) 0 n ≡ lexemes_of t.bytes t.tokens
+whole_text first second t n is was count =
+    let ws = words_in t in
+    let all = length-lexemes_from first second 0 ws in
+    let same = length-words_of t.bytes t.tokens in
+    take_all (n - 0) (lexemes_from first second 0 ws) (omega arith)
+    ∙ ap (λ o. lexemes_from first o 0 ws) was
+    ∙ ap (λ o. lexemes_from o (first_name o ws) 0 ws) is
 
-pub one_more : (first second here other : Option (List ℕ)) (at : ℕ) (front : List Lexeme) (ws : List Word) (w : Word) → at < length ws → get_or ws at bad ≡ w → Pass first second at front ws
-    → here ≡ first_of (take at ws ++ w ∷ []) → (second ≡ first_name here (take at ws) → other ≡ first_name here (take at ws ++ w ∷ []))
-    → Pass here other (at + 1) (front ++ lexeme_of here other at w ∷ []) ws
-one_more first second here other at front ws w lt is pass met later =
-    let xs = take at ws in
-    let more = xs ++ w ∷ [] in
-    let rest = drop (at + 1) ws in
-    let upto : take (at + 1) ws ≡ more = take_more ws at bad lt ∙ ap (λ v. xs ++ v ∷ []) is in
-    let whole : more ++ rest ≡ ws = ap (λ v. v ++ rest) (sym upto) ∙ take-append-drop (at + 1) ws in
-    let known : second ≡ first_name here xs = pass.knows_second ∙ second_beside xs (w ∷ []) ∙ ap (λ o. first_name o xs) (sym met) in
-    let next : other ≡ second_of more = later known ∙ ap (λ o. first_name o more) met in
-    let beside : lexeme_of here other at w ≡ lexeme_in more at w = ap (λ o. lexeme_of o other at w) met ∙ ap (λ o. lexeme_of (first_of more) o at w) next in
-    let same : lexeme_of here other at w ≡ lexeme_in ws at w = beside ∙ lexeme_stays xs rest at w ∙ ap (λ v. lexeme_in v at w) whole in
-    record {
-      knows_first = met ∙ ap first_of (sym upto);
-      knows_second = next ∙ ap second_of (sym upto);
-      makes = ap (λ l. (front ++ l ∷ []) ++ lexemes_from (first_of ws) (second_of ws) (at + 1) rest) same
-          ∙ lexemes_on (first_of ws) (second_of ws) ws at w (lexemes_in ws) front lt is pass.makes;
-    }
+pub length-part : (l : Inside) (ls : List Lexeme) → IsPart l → part_of l ≡ ls → length ls ≡ l.to - l.from
+length-part l ls is h =
+    let within = is.within in
+    let count = length-take (l.to - l.from) (drop l.from (whole l)) in
+    let left = length-drop l.from (whole l) in
+    let all = length-whole l in
+    sym (ap length h) ∙ (let e : length (part_of l) ≡ l.to - l.from = omega arith in e)
 
--- at the end it has made the lexemes of all words
-pub all_made : (first second : Option (List ℕ)) (at : ℕ) (lexemes : List Lexeme) (ws : List Word) → length ws ≤ at → Pass first second at lexemes ws → lexemes ≡ lexemes_in ws
-all_made first second at lexemes ws past pass = sym (append-nil lexemes) ∙ ap (λ v. lexemes ++ lexemes_from (first_of ws) (second_of ws) at v) (sym (drop_all at ws past)) ∙ pass.makes
+pub get_or-part : (l : Inside) (ls : List Lexeme) (i : ℕ) (d : Lexeme) → IsPart l → part_of l ≡ ls → i < length ls → lexeme_of (option_copied l.first) (option_copied l.second) (l.from + i) (get_or (words_in l.text.now) (l.from + i) bad) ≡ get_or ls i d
+get_or-part l ls i d is h lt =
+    let count = length-part l ls is h in
+    let within = is.within in
+    let all = length-words_of l.text.now.bytes l.text.now.tokens in
+    let e : 0 + (l.from + i) ≡ l.from + i = omega arith in
+    let there = get_or-lexemes_from (option_copied l.first) (option_copied l.second) 0 (words_in l.text.now) (l.from + i) d (omega arith) in
+    let here = there ∙ ap (λ n. lexeme_of (option_copied l.first) (option_copied l.second) n (get_or (words_in l.text.now) (l.from + i) bad)) e in
+    sym (get_or-take (l.to - l.from) (drop l.from (whole l)) i d (omega arith) ∙ get_or-drop l.from (whole l) i d ∙ here) ∙ ap (λ v. get_or v i d) h
+
+pub rest_part : (l : Inside) (ls : List Lexeme) (n : ℕ) → IsPart l → part_of l ≡ ls → n ≤ length ls → slice_range (whole l) (l.from + n) l.to ≡ drop n ls
+rest_part l ls n is h le =
+    let count = length-part l ls is h in
+    let left : l.to - l.from ≡ n + (l.to - (l.from + n)) = omega arith in
+    sym (ap (drop n) (sym h ∙ ap (λ k. take k (drop l.from (whole l))) left) ∙ drop-take n (l.to - (l.from + n)) (drop l.from (whole l)) ∙ ap (take (l.to - (l.from + n))) (drop-drop n l.from (whole l)))
+
+pub front_part : (l : Inside) (ls : List Lexeme) (n : ℕ) → IsPart l → part_of l ≡ ls → n ≤ length ls → slice_range (whole l) l.from (l.from + n) ≡ take n ls
+front_part l ls n is h le =
+    let count = length-part l ls is h in
+    let same : l.from + n - l.from ≡ n = omega arith in
+    ap (λ k. take k (drop l.from (whole l))) same ∙ sym (take-take n (l.to - l.from) (drop l.from (whole l)) (omega arith)) ∙ ap (take n) h

@@ -5,7 +5,6 @@ pub mod EachText
 pub mod ElaborateLemmas
 pub mod EndLemmas
 pub mod Existence
-pub mod FirstNames
 pub mod Frames
 pub mod HeadLemmas
 pub mod Heads

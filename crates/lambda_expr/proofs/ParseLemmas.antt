@@ -18,17 +18,17 @@ use Rattle.lambda_expr.proofs.Leads.{reads_append}
 use Rattle.lambda_expr.proofs.ReaderStateLemmas.{stops_at, stops_end, reads_expression}
 
 -- after the words up to a place and with it
-next : (ws : List Lexeme) (at : ℕ) (w : Lexeme) → at < length ws → get_or ws at word.Open ≡ w → reads (wants []) (take (at + 1) ws) ≡ read (reads (wants []) (take at ws)) w
-next ws at w lt is = ap (reads (wants [])) (take_more ws at word.Open lt ∙ ap (λ v. take at ws ++ v ∷ []) is) ∙ reads_append (wants []) (take at ws) (w ∷ [])
+next : (ws : List Lexeme) (at : ℕ) (w : Lexeme) → at < length ws → get_or ws at word.Other ≡ w → reads (wants []) (take (at + 1) ws) ≡ read (reads (wants []) (take at ws)) w
+next ws at w lt is = ap (reads (wants [])) (take_more ws at word.Other lt ∙ ap (λ v. take at ws ++ v ∷ []) is) ∙ reads_append (wants []) (take at ws) (w ∷ [])
 
 never_stuck : (ps : List Pending) (ss : List ParseStep) (h : Held) → state_of ps ss h ≢ stuck
 never_stuck ps ss held.Nothing e = cc
 never_stuck ps ss x e = cc
 
-pub goes_on : (ws : List Lexeme) (at : ℕ) (w : Lexeme) (ps qs : List Pending) (ss ts : List ParseStep) (h k : Held) → at < length ws → get_or ws at word.Open ≡ w → IsAt ps ss h (reads (wants []) (take at ws)) → IsAt qs ts k (read (state_of ps ss h) w) → IsAt qs ts k (reads (wants []) (take (at + 1) ws))
+pub goes_on : (ws : List Lexeme) (at : ℕ) (w : Lexeme) (ps qs : List Pending) (ss ts : List ParseStep) (h k : Held) → at < length ws → get_or ws at word.Other ≡ w → IsAt ps ss h (reads (wants []) (take at ws)) → IsAt qs ts k (read (state_of ps ss h) w) → IsAt qs ts k (reads (wants []) (take (at + 1) ws))
 goes_on ws at w ps qs ss ts h k lt is stood now = subst (IsAt qs ts k) (ap (λ s. read s w) stood.state ∙ sym (next ws at w lt is)) now
 
-pub stops_here : (ws : List Lexeme) (at : ℕ) (w : Lexeme) (ps qs : List Pending) (ss ts : List ParseStep) (h : Held) (stop : ParseStop) → at < length ws → get_or ws at word.Open ≡ w → IsAt ps ss h (reads (wants []) (take at ws)) → Turns (read (state_of ps ss h) w) at qs ts (Err stop) → IsStop Expression ws stop
+pub stops_here : (ws : List Lexeme) (at : ℕ) (w : Lexeme) (ps qs : List Pending) (ss ts : List ParseStep) (h : Held) (stop : ParseStop) → at < length ws → get_or ws at word.Other ≡ w → IsAt ps ss h (reads (wants []) (take at ws)) → Turns (read (state_of ps ss h) w) at qs ts (Err stop) → IsStop Expression ws stop
 stops_here ws at w ps qs ss ts h (At n) lt is stood t =
     let on : reads (wants []) (take at ws) ≢ stuck = λ e. never_stuck ps ss h (stood.state ∙ e) in
     subst (StopsAt Expression ws) (sym t.0) (stops_at ws at lt on (next ws at w lt is ∙ ap (λ s. read s w) (sym stood.state) ∙ t.1))

@@ -36,22 +36,22 @@ start s ws t = record {
 }
 
 -- the words after a comma
-pub after_comma : (s : StreamSource) (n : ℕ) (vs : List Lexeme) (k q : ℕ) (e : Shape) → k < length vs → get_or vs k word.Open ≡ word.Sign sign.Comma → StopsAt Expression vs k → IsExpression (take k vs) e → StopsAt (Next s (suc n)) (drop (k + 1) vs) q → StopsAt (Next s n) vs (k + 1 + q)
+pub after_comma : (s : StreamSource) (n : ℕ) (vs : List Lexeme) (k q : ℕ) (e : Shape) → k < length vs → get_or vs k word.Other ≡ word.Sign sign.Comma → StopsAt Expression vs k → IsExpression (take k vs) e → StopsAt (Next s (suc n)) (drop (k + 1) vs) q → StopsAt (Next s n) vs (k + 1 + q)
 after_comma s n vs k q e lt is stops x h =
     let c = take k vs in
-    let cut = subst (IsCut c) is (cut_at vs k word.Open stops lt) in
-    let all : (c ++ word.Sign sign.Comma ∷ []) ++ drop (k + 1) vs ≡ vs = append_assoc c (word.Sign sign.Comma ∷ []) (drop (k + 1) vs) ∙ ap (λ w. c ++ w ∷ drop (k + 1) vs) (sym is) ∙ in_words vs k word.Open lt in
+    let cut = subst (IsCut c) is (cut_at vs k word.Other stops lt) in
+    let all : (c ++ word.Sign sign.Comma ∷ []) ++ drop (k + 1) vs ≡ vs = append_assoc c (word.Sign sign.Comma ∷ []) (drop (k + 1) vs) ∙ ap (λ w. c ++ w ∷ drop (k + 1) vs) (sym is) ∙ in_words vs k word.Other lt in
     let size : length (c ++ word.Sign sign.Comma ∷ []) ≡ k + 1 = length-append c (word.Sign sign.Comma ∷ []) ∙ ap (λ n. n + 1) (long vs k (omega arith)) in
     subst (λ m. StopsAt (Next s n) vs (m + q)) size (subst (λ v. StopsAt (Next s n) v (length (c ++ word.Sign sign.Comma ∷ []) + q)) all (stops_comma s n c (drop (k + 1) vs) e q cut x h))
 
 -- an operand, a comma and what follows it
-pub comma_at : (s : StreamSource) (n : ℕ) (vs : List Lexeme) (k : ℕ) (e f : Shape) (es : List Shape) → k < length vs → get_or vs k word.Open ≡ word.Sign sign.Comma → IsExpression (take k vs) e → IsNext s (suc n) f es (drop (k + 1) vs) → IsNext s n e (f ∷ es) vs
+pub comma_at : (s : StreamSource) (n : ℕ) (vs : List Lexeme) (k : ℕ) (e f : Shape) (es : List Shape) → k < length vs → get_or vs k word.Other ≡ word.Sign sign.Comma → IsExpression (take k vs) e → IsNext s (suc n) f es (drop (k + 1) vs) → IsNext s n e (f ∷ es) vs
 comma_at s n vs k e f es lt is x y =
-    let whole : take k vs ++ word.Sign sign.Comma ∷ drop (k + 1) vs ≡ vs = ap (λ w. take k vs ++ w ∷ drop (k + 1) vs) (sym is) ∙ in_words vs k word.Open lt in
+    let whole : take k vs ++ word.Sign sign.Comma ∷ drop (k + 1) vs ≡ vs = ap (λ w. take k vs ++ w ∷ drop (k + 1) vs) (sym is) ∙ in_words vs k word.Other lt in
     subst (IsNext s n e (f ∷ es)) whole (comma_from s n (take k vs) (drop (k + 1) vs) e f es x y)
 
 -- one more operand and a comma
-pub past_comma : (s : StreamSource) (ws : List Lexeme) (at k : ℕ) (front : List Shape) (e : Shape) → IsPast s ws at front → k < length (drop at ws) → get_or (drop at ws) k word.Open ≡ word.Sign sign.Comma → StopsAt Expression (drop at ws) k → IsExpression (take k (drop at ws)) e → TakesMore s (suc (length front)) → IsPast s ws (at + (k + 1)) (front ++ e ∷ [])
+pub past_comma : (s : StreamSource) (ws : List Lexeme) (at k : ℕ) (front : List Shape) (e : Shape) → IsPast s ws at front → k < length (drop at ws) → get_or (drop at ws) k word.Other ≡ word.Sign sign.Comma → StopsAt Expression (drop at ws) k → IsExpression (take k (drop at ws)) e → TakesMore s (suc (length front)) → IsPast s ws (at + (k + 1)) (front ++ e ∷ [])
 past_comma s ws at k front e p lt is stops x more =
     let vs = drop at ws in
     let all = length-drop at ws in

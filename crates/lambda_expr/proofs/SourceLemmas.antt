@@ -1,5 +1,6 @@
 -- The front of a body that gives a stream.
-use Rattle.std.proofs.Common.{◌≡◌, ℕ, zero, suc, ◌+◌, ◌≤◌, List, [], ◌∷◌, ◌++◌, drop, length, take, Option, Some, None, Result, Ok, Err, refl, sym, subst, arith}
+use Rattle.std.proofs.Common.{◌≡◌, ℕ, zero, suc, ◌+◌, ◌≤◌, List, [], ◌∷◌, ◌++◌, drop, get_or, length, take, Option, Some, None, Result, Ok, Err, refl, sym, subst, ap, ◌∙◌, arith}
+use Rattle.std.proofs.lemmas.List.{get_or-drop}
 use Rattle.lambda_expr.specs.declared.lexeme.Lexeme.{Lexeme}
 use Rattle.lambda_expr.specs.declared.lexeme.Lexeme.TheVariants as word
 use Rattle.lambda_expr.specs.declared.lexeme.Name.TheVariants.{Plain, LongStream}
@@ -111,3 +112,22 @@ stream_found [] = (0, refl, stop_end AStream [] stream_begins (λ x. x.2))
 stream_found (word.Name LongStream ∷ ws) = after_one AStream ADotted (word.Name LongStream) 0 ws (dotted_at ws) (λ m x. x) (λ m x. x) (dotted_found ws)
 stream_found (word.Name (Plain i) ∷ ws) = as_named 0 (word.Name (Plain i)) ws (named_at 0 (word.Name (Plain i) ∷ ws)) (λ m x. x) (λ m x. x) (named_found 0 (word.Name (Plain i) ∷ ws))
 stream_found (w ∷ ws) = (0, refl, stop_at AStream [] w ws stream_begins (λ m x. x.2))
+
+-- what is read of a source depends on single words
+sourced_front : (n : ℕ) (o : Option StreamSource) (ws : List Lexeme) → sourced_at n o ws ≡ sourced_at n o (get_or ws 0 word.Other ∷ [])
+sourced_front n None ws = refl
+sourced_front n (Some s) [] = refl
+sourced_front n (Some s) (word.Open ∷ ws) = refl
+sourced_front n (Some s) (w ∷ ws) = refl
+
+named_front : (n : ℕ) (ws : List Lexeme) → named_at n ws ≡ named_at n (get_or ws 0 word.Other ∷ get_or ws 1 word.Other ∷ [])
+named_front n [] = refl
+named_front n (word.Name (Plain i) ∷ ws) = sourced_front n (source_of i.member) ws
+named_front n (w ∷ ws) = refl
+
+pub named_there : (n at : ℕ) (ws : List Lexeme) (w : Lexeme) → get_or ws at word.Other ≡ w → named_at n (drop at ws) ≡ named_at n (w ∷ get_or ws (at + 1) word.Other ∷ [])
+named_there n at ws w is =
+    let e : at + 0 ≡ at = omega arith in
+    named_front n (drop at ws)
+    ∙ ap (λ v. named_at n (v ∷ get_or (drop at ws) 1 word.Other ∷ [])) (get_or-drop at ws 0 word.Other ∙ ap (λ k. get_or ws k word.Other) e ∙ is)
+    ∙ ap (λ v. named_at n (w ∷ v ∷ [])) (get_or-drop at ws 1 word.Other)

@@ -1,5 +1,5 @@
 -- What the checks find in an expression, from its steps.
-use Rattle.std.proofs.Common.{◌≡◌, ℕ, suc, max, min, Bool, true, false, List, [], ◌∷◌, ◌++◌, refl, sym, ap, ◌∙◌, append_assoc, arith}
+use Rattle.std.proofs.Common.{◌≡◌, ℕ, suc, max, min, Bool, true, false, List, [], ◌∷◌, ◌++◌, refl, ap, ◌∙◌, append_assoc, arith}
 use Rattle.std.specs.Prelude.{if◌then◌else◌}
 use Rattle.lambda_expr.specs.declared.check.Literals.{Literals}
 use Rattle.lambda_expr.specs.declared.check.Summary.{Summary}
@@ -8,14 +8,7 @@ use Rattle.lambda_expr.specs.declared.step.ParseStep.{ParseStep}
 use Rattle.lambda_expr.specs.declared.step.ParseStep.TheVariants as step
 use Rattle.lambda_expr.specs.Checks.{depth, is_comma}
 use Rattle.lambda_expr.specs.Grammar.{Shape, prefix, binary, ternary, enclosed, postfix}
-use Rattle.lambda_expr.specs.Stacks.{below, stacked}
-use Rattle.lambda_expr.specs.Summaries.{binary_summary, deeper, enclosed_summary, nothing, prefix_summary, summary, summary_step, summary_steps, ternary_summary, top_summary}
-use Rattle.lambda_expr.proofs.StackLemmas.{popped_rest, popped_top}
-
-pub popped : (old new : List Summary) (o : Summary) (ss : List Summary) → old ≡ new ++ o ∷ [] → old ≡ stacked ss → (o ≡ top_summary ss) × (new ≡ stacked (below ss))
-popped old new o ss is h =
-    let flat : new ++ o ∷ [] ≡ stacked ss = sym is ∙ h in
-    (popped_top nothing o new ss flat, popped_rest o new ss flat)
+use Rattle.lambda_expr.specs.Summaries.{binary_summary, deeper, enclosed_summary, prefix_summary, summary, summary_step, summary_steps, ternary_summary}
 
 pub summary_append : (p : ℕ) (ss : List Summary) (xs : List ParseStep) (x : ParseStep) → summary_steps p ss (xs ++ x ∷ []) ≡ summary_step p x (summary_steps p ss xs)
 summary_append p ss [] x = refl

@@ -1,14 +1,9 @@
 -- Condition: how heads are read.
-use Rattle.std.specs.Prelude.{◌≡◌, ◌≢◌, ℕ, zero, suc, max, nat_eq, if◌then◌else◌, Bool, true, false, List, [], ◌∷◌, length, Result, Ok}
+use Rattle.std.specs.Prelude.{◌≡◌, ◌≢◌, ℕ, zero, suc, max, nat_eq, if◌then◌else◌, List, [], ◌∷◌, length, Result, Ok}
 use Rattle.std.specs.Prelude.{Err, Some}
 use Rattle.lambda_expr.specs.declared.head.HeadMark.{HeadMark}
 use Rattle.lambda_expr.specs.declared.lexeme.Lexeme.{Lexeme}
 use Rattle.lambda_expr.specs.Heads.{mark_of}
-
--- whether the word is what the mark wants
-abbrev pub IsFit : Bool → HeadMark → Lexeme → Type 0
-IsFit true m w = mark_of w ≡ Some m
-IsFit false m w = mark_of w ≢ Some m
 
 -- the number of words, from the first on, that are what their marks want
 abbrev pub IsMatched : List HeadMark → List Lexeme → ℕ → Type 0

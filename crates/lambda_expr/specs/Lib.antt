@@ -8,6 +8,7 @@ pub mod Grammar
 pub mod HeadReading
 pub mod Heads
 pub mod Judging
+pub mod LexemeParts
 pub mod Lexemes
 pub mod Members
 pub mod NumberReading

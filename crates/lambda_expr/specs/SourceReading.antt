@@ -53,12 +53,6 @@ stream_at [] = Err 0
 stream_at (word.Name LongStream ∷ ws) = dotted_at ws
 stream_at (w ∷ ws) = named_at 0 (w ∷ ws)
 
--- what follows the parenthesis that closes, if the words begin with it
-abbrev pub after_close : List Lexeme → Option (List Lexeme)
-after_close [] = None
-after_close (word.Close ∷ ws) = Some ws
-after_close (w ∷ ws) = None
-
 -- the words are operands of this source and the parenthesis that closes
 abbrev pub Operands : StreamSource → List Lexeme → Type 0
 Operands s ws = (es : List Shape) × AreOperands s es ws

@@ -5,7 +5,7 @@ ghost use Rattle.lambda_expr.specs.Codes.{IsStop};
 ghost use Rattle.lambda_expr.specs.Heads.{ABody};
 ghost use Rattle.std.specs.Prelude.{IfErr, IfOk};
 
-use super::lexeme::Lexeme;
+use super::lexeme::Lexemes;
 use super::parse::{ParseStop, Parsed, parse};
 use super::source::{StreamSource, parse_operands, parse_source};
 use super::step::ParseStep;
@@ -21,12 +21,12 @@ pub(crate) enum BodySteps {
 }
 
 // Reads a body that gives a stream.
-fn parse_stream(alloc: Global, words: &[Lexeme]) -> Parsed<BodySteps>
+fn parse_stream(alloc: Global, words: &Lexemes) -> Parsed<BodySteps>
     ensures ok { IfOk result (λ body. IsBodyOf Want.Stream words.now body) }
     ensures stops { IfErr result (λ stop. IsStop (ABody Want.Stream) words.now stop) }
 {
     match parse_source(words) {
-        Ok(opened) => match parse_operands(alloc, opened.source, &words[opened.count..]) {
+        Ok(opened) => match parse_operands(alloc, opened.source, &words.after(opened.count)) {
             Ok(operands) => Ok(BodySteps::Stream(opened.source, operands)),
             Err(ParseStop::At(place)) => Err(ParseStop::At(opened.count + place)),
             Err(ParseStop::NoMemory) => Err(ParseStop::NoMemory),
@@ -36,7 +36,7 @@ fn parse_stream(alloc: Global, words: &[Lexeme]) -> Parsed<BodySteps>
 }
 
 /// Reads a body that is wanted: its steps, or where its words stop.
-pub(crate) fn parse_body(alloc: Global, want: Want, words: &[Lexeme]) -> Parsed<BodySteps>
+pub(crate) fn parse_body(alloc: Global, want: Want, words: &Lexemes) -> Parsed<BodySteps>
     ensures ok { IfOk result (λ body. IsBodyOf want words.now body) }
     ensures stops { IfErr result (λ stop. IsStop (ABody want) words.now stop) }
 {

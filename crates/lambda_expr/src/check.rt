@@ -161,10 +161,7 @@ fn pop(stack: &mut Vec<Summary>) -> Summary
     ensures { (ss : List found) → stack.old.items ≡ stacked ss
         → (result ≡ top_summary ss) × (stack.new.items ≡ stacked (below ss)) }
 {
-    match stack.pop() {
-        Some(summary) => summary,
-        None => NOTHING,
-    }
+    stack.pop().unwrap_or(NOTHING)
 }
 
 fn prefix(sign: Sign, operand: Summary) -> Summary

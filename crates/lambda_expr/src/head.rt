@@ -1,11 +1,11 @@
 //! The head of a lambda: its parameters and the arrow.
 
-ghost use Rattle.lambda_expr.specs.HeadReading.{AreTried, IsFit, IsMatched, IsTried};
+ghost use Rattle.lambda_expr.specs.HeadReading.{AreTried, IsMatched, IsTried};
 ghost use Rattle.lambda_expr.specs.Heads.{heads, mark_of, parameters};
 ghost use Rattle.std.specs.Prelude.{◌≡◌};
 
 use self::HeadMark::{Arrow, Close, Comma, LowerLong, Open, Parameter};
-use super::lexeme::{Lexeme, Name};
+use super::lexeme::{Lexeme, Lexemes, Name};
 use super::sign::Sign;
 use super::want::Want;
 
@@ -60,16 +60,6 @@ fn mark_of(word: Lexeme) -> Option<HeadMark>
     }
 }
 
-// Whether the word is what this mark wants.
-fn fits(mark: HeadMark, word: Lexeme) -> bool
-    ensures { IsFit result mark word }
-{
-    match mark_of(word) {
-        Some(found) => found == mark,
-        None => false,
-    }
-}
-
 /// How many parameters a lambda has.
 pub(crate) fn parameters(want: Want) -> usize
     ensures { result ≡ parameters want }
@@ -81,14 +71,11 @@ pub(crate) fn parameters(want: Want) -> usize
 }
 
 // How many words fit the pattern, from the first on.
-fn matched(pattern: &[HeadMark], words: &[Lexeme]) -> usize
+fn matched(pattern: &[HeadMark], words: &Lexemes) -> usize
     ensures { IsMatched pattern.now words.now result }
 {
     for at in 0..pattern.len() {
-        if at >= words.len() {
-            return at;
-        }
-        if !fits(pattern[at], words[at]) {
+        if mark_of(words.at(at)) != Some(pattern[at]) {
             return at;
         }
     }
@@ -96,11 +83,7 @@ fn matched(pattern: &[HeadMark], words: &[Lexeme]) -> usize
 }
 
 // The length of the pattern if the words begin with it, else what another one gives, at least as far.
-fn tried(
-    pattern: &[HeadMark],
-    words: &[Lexeme],
-    other: Result<usize, usize>,
-) -> Result<usize, usize>
+fn tried(pattern: &[HeadMark], words: &Lexemes, other: Result<usize, usize>) -> Result<usize, usize>
     ensures { IsTried pattern.now words.now other result }
 {
     let count = matched(pattern, words);
@@ -114,7 +97,7 @@ fn tried(
 }
 
 /// Reads a head: the number of its words, or the place at which the words stop.
-pub(crate) fn parse_head(want: Want, words: &[Lexeme]) -> Result<usize, usize>
+pub(crate) fn parse_head(want: Want, words: &Lexemes) -> Result<usize, usize>
     ensures { AreTried (heads want) words.now result }
 {
     match want {

@@ -2,15 +2,14 @@
 
 ghost use Rattle.lambda_expr.specs.Lexemes.{first_name, is_reserved, is_taken, lexeme_of, lexemes_of, name_of};
 ghost use Rattle.lambda_expr.specs.Lexemes.{names_in, number_lexeme, order_of, reference_name, symbol_lexeme};
-ghost use Rattle.lambda_expr.specs.CodeWords.{word_of};
-ghost use Rattle.lambda_expr.specs.Words.{Word as meant};
-ghost use Rattle.std.specs.Prelude.{◌≡◌, IfOk, List, [], ◌∷◌, ◌++◌, option_copied};
+ghost use Rattle.lambda_expr.specs.CodeWords.{word_of, words_in};
+ghost use Rattle.std.specs.Prelude.{◌≡◌, ◌≤◌, drop, get_or, length, option_copied, take};
 
 use super::number::{may_stand, numeral_value};
 use super::sign::Sign;
 use super::table::{Member, member_of};
 use super::word::{Word, word_at};
-use std::alloc::{AllocError, Global};
+use std::marker::Model;
 use stream_tokens::{CutText, Symbol};
 
 /// A class whose methods and constants a lambda may name.
@@ -149,52 +148,98 @@ fn is_reserved(name: &[u8]) -> bool
         || name == b"false".as_slice()
 }
 
-// Whether no parameter has this name, or it is the one that is taken.
-fn is_taken(taken: Option<&[u8]>, name: &[u8]) -> bool
-    ensures { result ≡ is_taken (option_copied taken.entry) name.now }
+// The first name of a text that a parameter may have, apart from one that is taken.
+fn first_name<'a>(text: &CutText<'a>, taken: Option<&[u8]>) -> Option<&'a [u8]>
+    ensures { option_copied result ≡ first_name (option_copied taken.entry) (words_in text.now) }
 {
-    is_reserved(name) || Some(name) == taken
-}
-
-// The name that a word is, if a parameter may have it and it is not the one that is taken. It is asked only until two
-// names are known; inlined it slows every other token of the pass.
-#[inline(never)]
-fn free_name<'a>(taken: Option<&[u8]>, word: Word<'a>) -> Option<&'a [u8]>
-    ensures { option_copied result ≡ first_name (option_copied taken.entry) (word_of word.entry ∷ []) }
-{
-    match word {
-        Word::Name(name) => (!is_taken(taken, name)).then_some(name),
-        _ => None,
-    }
-}
-
-// The first name that a parameter may have, apart from one that is taken, with one more word: what is known before, if
-// anything is.
-fn first_name<'a>(taken: Option<&[u8]>, known: Option<&'a [u8]>, word: Word<'a>) -> Option<&'a [u8]>
-    ensures { (ws : List meant) → option_copied known.entry ≡ first_name (option_copied taken.entry) ws
-        → option_copied result ≡ first_name (option_copied taken.entry) (ws ++ word_of word.entry ∷ []) }
-{
-    match known {
-        Some(_) => known,
-        None => free_name(taken, word),
-    }
-}
-
-/// The lexemes of a text, in one pass over its words. Each name is compared with the first two of the text up to it: a
-/// name that a parameter may have is one of these, or both are known by then.
-pub(crate) fn lexemes(alloc: Global, text: &CutText) -> Result<Vec<Lexeme>, AllocError>
-    ensures { IfOk result (λ lexemes. lexemes.items ≡ lexemes_of text.now.bytes text.now.tokens) }
-{
-    let mut first = None;
-    let mut second = None;
-    let mut lexemes = Vec::with_capacity(alloc, text.len())?;
     for at in 0..text.len() {
-        let word = word_at(text, at);
-        first = first_name(None, first, word);
-        second = first_name(first, second, word);
-        lexemes.push(lexeme_of(first, second, at, word))?;
+        if let Word::Name(name) = word_at(text, at) {
+            if !is_reserved(name) && Some(name) != taken {
+                return Some(name);
+            }
+        }
     }
-    Ok(lexemes)
+    None
+}
+
+/// The lexemes of a part of a text, from `from` up to, not with, `to`. Contracts see their list.
+#[derive(Drop)]
+pub(crate) struct Lexemes<'a> {
+    text: &'a CutText<'a>,
+    /// The first two names of the text that a parameter may have.
+    first: Option<&'a [u8]>,
+    second: Option<&'a [u8]>,
+    from: usize,
+    to: usize,
+}
+
+impl<'a> Model for Lexemes<'a> {
+    ghost use Rattle.std.specs.Prelude.{List};
+    ghost use Rattle.lambda_expr.specs.declared.lexeme.Lexeme.{Lexeme as lexeme};
+    ghost use Rattle.lambda_expr.specs.LexemeParts.{part_of, IsPart};
+
+    ghost Value = { List lexeme };
+
+    ghost view = { part_of };
+
+    ghost invariant = { IsPart };
+}
+
+impl<'a> Lexemes<'a> {
+    /// The lexemes of a text.
+    pub(crate) fn of(text: &'a CutText<'a>) -> Lexemes<'a>
+        ensures { result ≡ lexemes_of text.now.bytes text.now.tokens }
+    {
+        let first = first_name(text, None);
+        Lexemes {
+            text,
+            first,
+            second: first_name(text, first),
+            from: 0,
+            to: text.len(),
+        }
+    }
+
+    /// How many there are.
+    pub(crate) fn len(&self) -> usize
+        ensures { result ≡ length self.now }
+    {
+        self.to - self.from
+    }
+
+    /// The lexeme at a place, `Other` past the last one.
+    pub(crate) fn at(&self, place: usize) -> Lexeme
+        ensures { result ≡ get_or self.now place Lexeme.Other }
+    {
+        if place >= self.len() {
+            return Lexeme::Other;
+        }
+        let at = self.from + place;
+        lexeme_of(self.first, self.second, at, word_at(self.text, at))
+    }
+
+    /// Those from a place on.
+    pub(crate) fn after(&self, count: usize) -> Lexemes<'a>
+        requires { count ≤ length self.now }
+        ensures lexemes { result ≡ drop count self.now }
+        ensures len { length self.now ≤ usize.MAX }
+    {
+        Lexemes {
+            from: self.from + count,
+            ..*self
+        }
+    }
+
+    /// Those up to a place.
+    pub(crate) fn before(&self, end: usize) -> Lexemes<'a>
+        requires { end ≤ length self.now }
+        ensures { result ≡ take end self.now }
+    {
+        Lexemes {
+            to: self.from + end,
+            ..*self
+        }
+    }
 }
 
 // The name of a reference, without its `$`; no bytes of another word.

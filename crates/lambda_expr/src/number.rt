@@ -67,13 +67,7 @@ fn digits_value(is_negative: bool, word: Word) -> Option<Option<i64>>
     ensures { result ≡ option_map in_64_bits (digits_value is_negative (word_of word.entry)) }
 {
     match word {
-        Word::Number(digits) => {
-            if may_stand(digits) {
-                Some(value_of(is_negative, digits))
-            } else {
-                None
-            }
-        }
+        Word::Number(digits) if may_stand(digits) => Some(value_of(is_negative, digits)),
         _ => None,
     }
 }
@@ -83,15 +77,8 @@ fn limit_value(word: Word) -> Option<Option<i64>>
     ensures { result ≡ option_map in_64_bits (limit_value (word_of word.entry)) }
 {
     match word {
-        Word::Name(name) => {
-            if name == b"MAX_VALUE".as_slice() {
-                Some(Some(i64::MAX))
-            } else if name == b"MIN_VALUE".as_slice() {
-                Some(Some(i64::MIN))
-            } else {
-                None
-            }
-        }
+        Word::Name(name) if name == b"MAX_VALUE".as_slice() => Some(Some(i64::MAX)),
+        Word::Name(name) if name == b"MIN_VALUE".as_slice() => Some(Some(i64::MIN)),
         _ => None,
     }
 }

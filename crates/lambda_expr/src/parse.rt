@@ -10,7 +10,7 @@ ghost use Rattle.lambda_expr.specs.Codes.{frames_of, run, ArePostfix, IsStop};
 ghost use Rattle.lambda_expr.specs.declared.parse.ParseStop.TheVariants.{NoMemory};
 
 use super::following::follow;
-use super::lexeme::{ClassName, Lexeme, Name};
+use super::lexeme::{ClassName, Lexeme, Lexemes, Name};
 use super::sign::Sign;
 use super::stack::Stack;
 use super::step::{Opening, ParseStep};
@@ -207,37 +207,35 @@ fn settle(stack: &Stack, steps: &mut Vec<ParseStep>, held: Held) -> Parsed<bool>
 {
     match held {
         Held::Complete => Ok(true),
-        Held::Callee(owner, name) => match owner {
-            ClassName::Math => Ok(false),
-            ClassName::Long => {
-                steps.push(ParseStep::Constant(name))?;
-                Ok(true)
-            }
-        },
+        Held::Callee(ClassName::Long, name) => {
+            steps.push(ParseStep::Constant(name))?;
+            Ok(true)
+        }
         _ => Ok(false),
     }
 }
 
 /// Reads an expression: its steps in postfix order, or where its words stop.
-pub(crate) fn parse(alloc: Global, words: &[Lexeme]) -> Parsed<Vec<ParseStep>>
+pub(crate) fn parse(alloc: Global, words: &Lexemes) -> Parsed<Vec<ParseStep>>
     ensures ok { IfOk result (λ steps. ArePostfix words.now steps.items) }
     ensures stops { IfErr result (λ stop. IsStop Expression words.now stop) }
 {
     let mut stack = Stack::new(alloc);
     let mut steps = Vec::new(alloc);
     let mut held = Held::Nothing;
-    for at in 0..words.len() {
-        match turn(&mut stack, &mut steps, held, words[at], at) {
+    let count = words.len();
+    for at in 0..count {
+        match turn(&mut stack, &mut steps, held, words.at(at), at) {
             Ok(next) => held = next,
             Err(stop) => return Err(stop),
         }
     }
     if !settle(&stack, &mut steps, held)? {
-        return Err(ParseStop::At(words.len()));
+        return Err(ParseStop::At(count));
     }
     join(&mut stack, &mut steps, 0)?;
     match stack.take() {
         None => Ok(steps),
-        Some(_) => Err(ParseStop::At(words.len())),
+        Some(_) => Err(ParseStop::At(count)),
     }
 }

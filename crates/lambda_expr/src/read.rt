@@ -17,7 +17,7 @@ use super::check::{MAX_DEPTH, summarize};
 use super::elaborate::{TypedOperand, elaborate};
 use super::fault::ReadFault;
 use super::head::{parameters, parse_head};
-use super::lexeme::{Lexeme, lexemes};
+use super::lexeme::Lexemes;
 use super::parse::{ParseStop, Parsed};
 use super::step::ParseStep;
 use super::stream::judge_stream;
@@ -30,12 +30,12 @@ use stream_tokens::{CutText, cut};
 const MAX_TOKENS: usize = 4096;
 
 // Reads the words of a lambda: its body in steps, or where the words stop.
-fn parse_lambda(alloc: Global, words: &[Lexeme], want: Want) -> Parsed<BodySteps>
+fn parse_lambda(alloc: Global, words: &Lexemes, want: Want) -> Parsed<BodySteps>
     ensures ok { IfOk result (λ body. IsWritten want words.now body) }
     ensures stops { IfErr result (λ stop. IsStop (ALambda want) words.now stop) }
 {
     match parse_head(want, words) {
-        Ok(count) => match parse_body(alloc, want, &words[count..]) {
+        Ok(count) => match parse_body(alloc, want, &words.after(count)) {
             Ok(body) => Ok(body),
             Err(ParseStop::At(place)) => Err(ParseStop::At(count + place)),
             Err(ParseStop::NoMemory) => Err(ParseStop::NoMemory),
@@ -107,8 +107,7 @@ pub fn read_lambda_of(alloc: Global, text: &CutText, want: Want) -> Result<Lambd
     if text.len() > MAX_TOKENS {
         return Err(ReadFault::TooDeep);
     }
-    let words = lexemes(alloc, text)?;
-    match parse_lambda(alloc, &words, want) {
+    match parse_lambda(alloc, &Lexemes::of(text), want) {
         Ok(body) => judge(alloc, text, &body, want),
         Err(ParseStop::At(place)) => Err(ReadFault::Syntax {
             column: text.column(place),

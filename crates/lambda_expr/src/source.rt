@@ -2,11 +2,11 @@
 
 ghost use Rattle.lambda_expr.specs.Codes.{IsStop};
 ghost use Rattle.lambda_expr.specs.SourceReading.{ArePosted, IsFront, IsNoNext, Next, Operands, Says};
-ghost use Rattle.lambda_expr.specs.SourceReading.{TakesMore, after_close, dotted_at, named_at, stream_at};
+ghost use Rattle.lambda_expr.specs.SourceReading.{TakesMore, named_at, stream_at};
 ghost use Rattle.lambda_expr.specs.Sources.{Takes};
-ghost use Rattle.std.specs.Prelude.{◌≡◌, ◌≤◌, IfErr, IfOk, option_map};
+ghost use Rattle.std.specs.Prelude.{◌≡◌, ◌≤◌, IfErr, IfOk, drop};
 
-use super::lexeme::{Lexeme, Name};
+use super::lexeme::{Lexeme, Lexemes, Name};
 use super::parse::{ParseStop, Parsed, parse};
 use super::sign::Sign;
 use super::step::ParseStep;
@@ -54,42 +54,32 @@ impl StreamSource {
     }
 }
 
-// The name of a source and the parenthesis that opens.
-fn parse_name(words: &[Lexeme], at: usize) -> Result<Opened, usize>
+// The name of a source and the parenthesis that opens, from a place on.
+#[tactic(auto, using(crate::proofs::SourceLemmas::named_there))]
+fn parse_name(words: &Lexemes, at: usize) -> Result<Opened, usize>
     requires { at ≤ 2 }
-    ensures { result ≡ named_at at words.now }
+    ensures { result ≡ named_at at (drop at words.now) }
 {
-    match words.split_first() {
-        Some((Lexeme::Name(Name::Plain(name)), rest)) => match name.member {
-            Member::Source(source) => match rest.split_first() {
-                Some((Lexeme::Open, _)) => Ok(Opened {
-                    source,
-                    count: at + 2,
-                }),
-                _ => Err(at + 1),
-            },
+    match words.at(at) {
+        Lexeme::Name(Name::Plain(name)) => match (name.member, words.at(at + 1)) {
+            (Member::Source(source), Lexeme::Open) => Ok(Opened {
+                source,
+                count: at + 2,
+            }),
+            (Member::Source(_), _) => Err(at + 1),
             _ => Err(at),
         },
         _ => Err(at),
     }
 }
 
-// What follows `LongStream`.
-fn parse_dot(words: &[Lexeme]) -> Result<Opened, usize>
-    ensures { result ≡ dotted_at words.now }
-{
-    match words.split_first() {
-        Some((Lexeme::Dot, rest)) => parse_name(rest, 2),
-        _ => Err(1),
-    }
-}
-
 /// Reads the front of a body that gives a stream, or where the words stop.
-pub(crate) fn parse_source(words: &[Lexeme]) -> Result<Opened, usize>
+pub(crate) fn parse_source(words: &Lexemes) -> Result<Opened, usize>
     ensures { result ≡ stream_at words.now }
 {
-    match words.split_first() {
-        Some((Lexeme::Name(Name::LongStream), rest)) => parse_dot(rest),
+    match (words.at(0), words.at(1)) {
+        (Lexeme::Name(Name::LongStream), Lexeme::Dot) => parse_name(words, 2),
+        (Lexeme::Name(Name::LongStream), _) => Err(1),
         _ => parse_name(words, 0),
     }
 }
@@ -102,18 +92,19 @@ struct SourceOperand {
 }
 
 // The operand that words begin with.
-fn parse_part(alloc: Global, words: &[Lexeme]) -> Parsed<SourceOperand>
+fn parse_part(alloc: Global, words: &Lexemes) -> Parsed<SourceOperand>
     ensures ok { IfOk result (λ part. IsFront words.now part.steps.items part.end) }
     ensures stops { IfErr result (λ stop. IsNoNext words.now stop) }
 {
+    let count = words.len();
     match parse(alloc, words) {
-        Ok(_) => Err(ParseStop::At(words.len())),
+        Ok(_) => Err(ParseStop::At(count)),
         Err(ParseStop::NoMemory) => Err(ParseStop::NoMemory),
         Err(ParseStop::At(end)) => {
-            if end >= words.len() {
-                return Err(ParseStop::At(words.len()));
+            if end >= count {
+                return Err(ParseStop::At(count));
             }
-            match parse(alloc, &words[..end]) {
+            match parse(alloc, &words.before(end)) {
                 Ok(steps) => Ok(SourceOperand { steps, end }),
                 Err(ParseStop::NoMemory) => Err(ParseStop::NoMemory),
                 Err(ParseStop::At(_)) => Err(ParseStop::At(end)),
@@ -123,22 +114,23 @@ fn parse_part(alloc: Global, words: &[Lexeme]) -> Parsed<SourceOperand>
 }
 
 // The operands from the first one on, which is no parenthesis.
-fn parse_parts(alloc: Global, source: StreamSource, words: &[Lexeme]) -> Parsed<Vec<Vec<ParseStep>>>
+fn parse_parts(alloc: Global, source: StreamSource, words: &Lexemes) -> Parsed<Vec<Vec<ParseStep>>>
     requires { TakesMore source 0 }
     ensures ok { IfOk result (λ parts. ArePosted source words.now parts.items) }
     ensures stops { IfErr result (λ stop. IsStop (Next source 0) words.now stop) }
 {
+    let count = words.len();
     let mut parts = Vec::new(alloc);
     let mut at = 0;
-    while at < words.len() {
-        let part = match parse_part(alloc, &words[at..]) {
+    while at < count {
+        let part = match parse_part(alloc, &words.after(at)) {
             Ok(part) => part,
             Err(ParseStop::At(place)) => return Err(ParseStop::At(at + place)),
             Err(ParseStop::NoMemory) => return Err(ParseStop::NoMemory),
         };
         let end = at + part.end;
         parts.push(part.steps)?;
-        match words[end] {
+        match words.at(end) {
             Lexeme::Sign(Sign::Comma) => {
                 if !source.takes_more(parts.len()) {
                     return Err(ParseStop::At(end));
@@ -149,7 +141,7 @@ fn parse_parts(alloc: Global, source: StreamSource, words: &[Lexeme]) -> Parsed<
                 if !source.takes(parts.len()) {
                     return Err(ParseStop::At(end));
                 }
-                if end + 1 < words.len() {
+                if end + 1 < count {
                     return Err(ParseStop::At(end + 1));
                 }
                 return Ok(parts);
@@ -157,43 +149,29 @@ fn parse_parts(alloc: Global, source: StreamSource, words: &[Lexeme]) -> Parsed<
             _ => return Err(ParseStop::At(end)),
         }
     }
-    Err(ParseStop::At(words.len()))
-}
-
-// What follows the parenthesis that closes, if the words begin with it.
-fn after_close(words: &[Lexeme]) -> Option<&[Lexeme]>
-    ensures { option_map (λ rest. rest.now) result ≡ after_close words.now }
-{
-    match words.split_first() {
-        Some((Lexeme::Close, rest)) => Some(rest),
-        _ => None,
-    }
+    Err(ParseStop::At(count))
 }
 
 /// Reads the operands of a source and the parenthesis that closes, or where the words stop.
 pub(crate) fn parse_operands(
     alloc: Global,
     source: StreamSource,
-    words: &[Lexeme],
+    words: &Lexemes,
 ) -> Parsed<Vec<Vec<ParseStep>>>
     ensures ok { IfOk result (λ parts. ArePosted source words.now parts.items) }
     ensures stops { IfErr result (λ stop. IsStop (Operands source) words.now stop) }
 {
-    match after_close(words) {
-        Some(rest) => {
-            if !source.takes(0) {
-                return Err(ParseStop::At(0));
-            }
-            if !rest.is_empty() {
-                return Err(ParseStop::At(1));
-            }
-            Ok(Vec::new(alloc))
+    if matches!(words.at(0), Lexeme::Close) {
+        if !source.takes(0) {
+            return Err(ParseStop::At(0));
         }
-        None => {
-            if !source.takes_more(0) {
-                return Err(ParseStop::At(0));
-            }
-            parse_parts(alloc, source, words)
+        if words.len() > 1 {
+            return Err(ParseStop::At(1));
         }
+        return Ok(Vec::new(alloc));
     }
+    if !source.takes_more(0) {
+        return Err(ParseStop::At(0));
+    }
+    parse_parts(alloc, source, words)
 }

@@ -1,6 +1,6 @@
 //! The table of what a lambda may name in `Math`, `Long` and `LongStream`: one row for each name.
 
-ghost use Rattle.lambda_expr.specs.Members.{member_among, member_of, rows_in};
+ghost use Rattle.lambda_expr.specs.Members.{is_named, member_among, member_of, rows_in};
 ghost use Rattle.lambda_expr.specs.Typing.{constant_of, function_of};
 ghost use Rattle.std.specs.Prelude.{◌≡◌};
 
@@ -53,12 +53,19 @@ const ROWS: [(&'static str, Member); 16] = [
     ("rangeClosed", Source(StreamSource::RangeClosed)),
 ];
 
+/// Whether a name is this one. Most names differ in length, so it is compared first.
+fn is_named(name: &[u8], known: &str) -> bool
+    ensures { result ≡ is_named name.now known.now }
+{
+    name.len() == known.len() && name == known.as_bytes()
+}
+
 /// What the first of these rows with this name says.
 fn member_among(rows: &[(&'static str, Member)], name: &[u8]) -> Member
     ensures { result ≡ member_among (rows_in rows.now) name.now }
 {
     for (known, member) in rows {
-        if name == known.as_bytes() {
+        if is_named(name, known) {
             return *member;
         }
     }

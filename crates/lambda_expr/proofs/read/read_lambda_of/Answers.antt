@@ -34,20 +34,20 @@ pub returns-in-Ok-clause-ok : goal.returns-in-Ok-clause-ok
 returns-in-Ok-clause-ok c =
     let t = c.args.text.now in
     let few : length t.tokens ≤ 4096 = omega (arith, c.len.ensures, c.if-len-gt-MAX_TOKENS.false) in
-    let read : IsRead t.bytes t.tokens c.deref.result.now = record { cut = c.bytes.ensures.tokens; few = few; words = c.deref.ensures.value ∙ c.in_ok-words.ensures } in
-    judged_ok t.bytes t.tokens c.deref.result.now c.args.want c.in-Ok.body c.judge.result read c.in-Ok.ensures.ok c.judge.ensures
+    let read : IsRead t.bytes t.tokens c.of.result = record { cut = c.bytes.ensures.tokens; few = few; words = c.of.ensures } in
+    judged_ok t.bytes t.tokens c.of.result c.args.want c.in-Ok.body c.judge.result read c.in-Ok.ensures.ok c.judge.ensures
 
 pub returns-in-Ok-clause-refused : goal.returns-in-Ok-clause-refused
 returns-in-Ok-clause-refused c =
     let t = c.args.text.now in
     let few : length t.tokens ≤ 4096 = omega (arith, c.len.ensures, c.if-len-gt-MAX_TOKENS.false) in
-    let read : IsRead t.bytes t.tokens c.deref.result.now = record { cut = c.bytes.ensures.tokens; few = few; words = c.deref.ensures.value ∙ c.in_ok-words.ensures } in
-    judged_refused t.bytes t.tokens c.deref.result.now c.args.want c.in-Ok.body c.judge.result read c.in-Ok.ensures.ok c.judge.ensures
+    let read : IsRead t.bytes t.tokens c.of.result = record { cut = c.bytes.ensures.tokens; few = few; words = c.of.ensures } in
+    judged_refused t.bytes t.tokens c.of.result c.args.want c.in-Ok.body c.judge.result read c.in-Ok.ensures.ok c.judge.ensures
 
 pub returns-in-Err-At-clause-refused : goal.returns-in-Err-At-clause-refused
 returns-in-Err-At-clause-refused c =
     let t = c.args.text.now in
     let few : length t.tokens ≤ 4096 = omega (arith, c.len.ensures, c.if-len-gt-MAX_TOKENS.false) in
-    let read : IsRead t.bytes t.tokens c.deref.result.now = record { cut = c.bytes.ensures.tokens; few = few; words = c.deref.ensures.value ∙ c.in_ok-words.ensures } in
-    let stops : StopsAt (ALambda c.args.want) c.deref.result.now c.in-Err-At.place = subst (IsStop (ALambda c.args.want) c.deref.result.now) c.in-Err-At.field-0-is c.in-Err-At.ensures.stops in
-    stopped t.bytes t.tokens c.deref.result.now c.args.want c.in-Err-At.place c.column.result read stops (c.column.ensures ∙ ap (column t.bytes t.tokens) c.in-Err-At.place-is)
+    let read : IsRead t.bytes t.tokens c.of.result = record { cut = c.bytes.ensures.tokens; few = few; words = c.of.ensures } in
+    let stops : StopsAt (ALambda c.args.want) c.of.result c.in-Err-At.place = subst (IsStop (ALambda c.args.want) c.of.result) c.in-Err-At.field-0-is c.in-Err-At.ensures.stops in
+    stopped t.bytes t.tokens c.of.result c.args.want c.in-Err-At.place c.column.result read stops (c.column.ensures ∙ ap (column t.bytes t.tokens) c.in-Err-At.place-is)
