@@ -5,9 +5,9 @@ use Rattle.std.specs.Ordering.{int_eq}
 use Rattle.lambda_values.specs.declared.fault.FaultKind.{FaultKind}
 use Rattle.lambda_values.specs.declared.operator.BinaryOperator.TheVariants as binary_operator
 use Rattle.lambda_values.specs.declared.operator.Comparison.{Comparison}
-use Rattle.lambda_values.specs.Operators.{on, binary_value, comparison_value}
-use Rattle.batch_eval.specs.declared.dispatch.Infix.{Infix}
-use Rattle.batch_eval.specs.declared.dispatch.Infix.TheVariants as op
+use Rattle.lambda_values.specs.Operators.{on, binary_value, comparison_value, unary_value}
+use Rattle.batch_eval.specs.declared.kernel.Infix.{Infix}
+use Rattle.batch_eval.specs.declared.kernel.Infix.TheVariants as op
 use Rattle.batch_eval.specs.declared.operands.Beside.{Beside}
 use Rattle.batch_eval.specs.declared.operands.Beside.TheVariants as beside
 use Rattle.batch_eval.specs.declared.operands.Branch.{Branch}
@@ -38,17 +38,16 @@ flagged r = on r (λ b. Ok (flag_of b))
 abbrev pub compared : Comparison → ℤ → ℤ → Result ℤ FaultKind
 compared c x y = Ok (flag_of (comparison_value c x y))
 
-abbrev pub opposed : ℤ → ℤ → Result ℤ FaultKind
-opposed x y = Ok (flag_of (not (is_set x)))
-
--- an operator on one number, as one between two
-abbrev pub first_only : (ℤ → Result ℤ FaultKind) → ℤ → ℤ → Result ℤ FaultKind
-first_only f x y = f x
-
--- an operator between two numbers, with a boolean as a flag
+-- an operator between two numbers, or on the first one alone, with a boolean as a flag
 abbrev pub infix_value : Infix → ℤ → ℤ → Result ℤ FaultKind
 infix_value (op.Compute o) x y = binary_value o x y
 infix_value (op.Compare c) x y = compared c x y
+infix_value (op.Alone o) x y = unary_value o x
+
+-- the value by an operator of a list, if it is there
+abbrev pub known_value : Option Infix → ℤ → ℤ → Result ℤ FaultKind
+known_value (Some o) x y = infix_value o x y
+known_value None x y = Ok (pos 0)
 
 -- the value of an operator that has no fault
 abbrev pub or_zero : Result ℤ FaultKind → ℤ

@@ -7,9 +7,9 @@ ghost use Rattle.lambda_values.specs.Value.{long_value};
 ghost use Rattle.lambda_values.specs.Wrap.{wrap};
 ghost use Rattle.std.specs.Prelude.{◌≤◌, ◌+ℤ◌, IfSome, length, pos};
 
-use crate::binary::{Add, And, Multiply, Subtract, Xor};
 use crate::constant::number_in;
-use crate::dispatch::{Infix, by_infix, has_shorter_way};
+use crate::dispatch::{by_infix, has_shorter_way};
+use crate::kernel::{Add, And, Infix, Multiply, Subtract, Xor};
 use crate::lanes::{Counting, Number};
 use crate::multiply::{MultiplyByHalf, is_half};
 use crate::operands::{Beside, Held, Step, by_step};

@@ -1,23 +1,21 @@
-//! An operator over lanes: which of its loops is run. An operator has a loop for any operands, in `binary.rt`; here are
-//! the shorter ways if the right operand is a number.
+//! An operator over lanes: which of its loops is run. An operator has a loop for any operands; here are the shorter ways
+//! too, if the right operand is a number.
 
 ghost use Rattle.batch_eval.specs.Lanes.{HasBeside, HasHeld, Reaches, at, beside_value, held_at, infix_value};
-ghost use Rattle.batch_eval.specs.Lanes.{step_value};
 ghost use Rattle.batch_eval.specs.Powers.{power};
-ghost use Rattle.lambda_values.specs.Operators.{binary_value};
 ghost use Rattle.std.specs.Prelude.{◌≡◌, ◌≤◌, ◌≤ℤ◌, ℤ, length, pos};
 
-use crate::binary::{
-    Add, AddExact, Divide, FloorDivide, FloorRemainder, Remainder, Subtract, SubtractExact,
-    by_operator,
-};
-use crate::comparing::by_comparison;
 use crate::division::{
     DivideByReciprocal, Division, FloorDivideByReciprocal, FloorRemainderByReciprocal, Natural,
     RemainderByReciprocal,
 };
 use crate::exact::{NATURAL, SHORT, differences_within, lanes_within, sums_within};
-use crate::kernel::Kernel;
+use crate::kernel::{
+    Absolute, Add, AddExact, And, Complement, Divide, Equal, FloorDivide, FloorRemainder, Greater,
+    GreaterOrEqual, Infix, Kernel, Less, LessOrEqual, Max, Min, Multiply, MultiplyExact, Negate,
+    NegateExact, NotEqual, Or, Remainder, ShiftLeft, ShiftRight, ShiftRightUnsigned, Subtract,
+    SubtractExact, Xor,
+};
 use crate::lanes::{Lanes, Number, Own, Register, Stepped};
 use crate::loops::{divide, run};
 use crate::multiply::{MultiplyByHalf, is_half};
@@ -27,21 +25,15 @@ use crate::power::{
 };
 use crate::reached::Reached;
 use crate::reciprocal::{Reciprocal, ShortReciprocal, reciprocal_of, short_reciprocal_of};
-use lambda_values::{BinaryOperator, Comparison, Faults};
+use lambda_values::{BinaryOperator, Comparison, Faults, UnaryOperator};
 use std::marker::PhantomData;
-
-/// What stands between two operands.
-#[derive(Clone, Copy)]
-pub(crate) enum Infix {
-    Compute(BinaryOperator),
-    Compare(Comparison),
-}
 
 /// Whether the operator by a number may have a shorter way than a loop with a step in it. Either answer is right.
 pub(crate) fn has_shorter_way(op: Infix) -> bool {
     match op {
         Infix::Compute(operator) => operator.faults() != Faults::Never,
         Infix::Compare(_) => false,
+        Infix::Alone(operator) => operator.faults() != Faults::Never,
     }
 }
 
@@ -65,6 +57,7 @@ pub(crate) fn by_infix(
     }
 }
 
+/// An operator between lanes and another operand.
 fn by_infix_lanes<A: Lanes>(
     op: Infix,
     a: A,
@@ -78,62 +71,75 @@ fn by_infix_lanes<A: Lanes>(
     ensures { Reaches (λ k. beside_value (infix_value op) beside.entry (A.number a (at out.old k) k) k)
         (at out.new) live result }
 {
-    match op {
-        Infix::Compute(operator) => match beside {
-            Beside::Number(step, y) => by_number(operator, a, step, y, live, out),
-            _ => by_operator(operator, a, beside, live, out),
-        },
-        Infix::Compare(comparison) => by_comparison(comparison, a, beside, live, out),
-    }
-}
-
-/// An operator between lanes after a step and a number.
-fn by_number<A: Lanes>(
-    operator: BinaryOperator,
-    a: A,
-    step: Step,
-    y: i64,
-    live: usize,
-    out: &mut [i64],
-) -> Reached
-    requires a { live ≤ A.count a }
-    requires out { live ≤ length out.old }
-    ensures { Reaches (λ k. binary_value operator (step_value step (A.number a (at out.old k) k)) y)
-        (at out.new) live result }
-{
-    let beside = Beside::Number(step, y);
-    match (operator, step) {
-        (BinaryOperator::Multiply, _) if is_half(y) => {
+    match (op, beside) {
+        (Infix::Compute(BinaryOperator::Multiply), Beside::Number(_, y)) if is_half(y) => {
             by_kernel::<MultiplyByHalf, A>(a, beside, live, out)
         }
-        (BinaryOperator::Divide, Step::Stay) => {
+        (Infix::Compute(BinaryOperator::Divide), Beside::Number(Step::Stay, y)) => {
             by_divisor::<DivideByPower, DivideByReciprocal, Divide, A>(a, y, live, out)
         }
-        (BinaryOperator::Remainder, Step::Stay) => {
+        (Infix::Compute(BinaryOperator::Remainder), Beside::Number(Step::Stay, y)) => {
             by_divisor::<RemainderByPower, RemainderByReciprocal, Remainder, A>(a, y, live, out)
         }
-        (BinaryOperator::FloorDivide, Step::Stay) => {
+        (Infix::Compute(BinaryOperator::FloorDivide), Beside::Number(Step::Stay, y)) => {
             by_divisor::<FloorDivideByPower, FloorDivideByReciprocal, FloorDivide, A>(
                 a, y, live, out,
             )
         }
-        (BinaryOperator::FloorRemainder, Step::Stay) => {
+        (Infix::Compute(BinaryOperator::FloorRemainder), Beside::Number(Step::Stay, y)) => {
             by_divisor::<FloorRemainderByPower, FloorRemainderByReciprocal, FloorRemainder, A>(
                 a, y, live, out,
             )
         }
-        (BinaryOperator::AddExact, Step::Stay) => {
+        (Infix::Compute(BinaryOperator::AddExact), Beside::Number(Step::Stay, y)) => {
             by_exact_number::<AddExact, Add, A>(sums_within(y), a, y, live, out)
         }
-        (BinaryOperator::SubtractExact, Step::Stay) => {
+        (Infix::Compute(BinaryOperator::SubtractExact), Beside::Number(Step::Stay, y)) => {
             by_exact_number::<SubtractExact, Subtract, A>(differences_within(y), a, y, live, out)
         }
-        _ => by_operator(operator, a, beside, live, out),
+        (Infix::Alone(UnaryOperator::NegateExact), Beside::Number(Step::Stay, y)) => {
+            by_exact_number::<NegateExact, Negate, A>((-i64::MAX, i64::MAX), a, y, live, out)
+        }
+        _ => by_operator(op, a, beside, live, out),
+    }
+}
+
+/// Runs the loop of an operator for these operands.
+macro_rules! by_name {
+    ($kind:ident $op:expr, $operands:tt, $($name:ident)*) => {
+        match $op {
+            $($kind::$name => by_kernel::<$name, A> $operands,)*
+        }
+    };
+}
+
+/// An operator between lanes and another operand, by the loop that serves any operands.
+fn by_operator<A: Lanes>(
+    op: Infix,
+    a: A,
+    beside: Beside<'_>,
+    live: usize,
+    out: &mut [i64],
+) -> Reached
+    requires a { live ≤ A.count a }
+    requires beside { HasBeside beside live }
+    requires out { live ≤ length out.old }
+    ensures { Reaches (λ k. beside_value (infix_value op) beside.entry (A.number a (at out.old k) k) k)
+        (at out.new) live result }
+{
+    match op {
+        Infix::Compute(operator) => by_name!(BinaryOperator operator, (a, beside, live, out),
+            Add Subtract Multiply Divide Remainder ShiftLeft ShiftRight ShiftRightUnsigned And Xor Or Min Max
+            FloorDivide FloorRemainder AddExact SubtractExact MultiplyExact),
+        Infix::Compare(comparison) => by_name!(Comparison comparison, (a, beside, live, out),
+            Equal NotEqual Less LessOrEqual Greater GreaterOrEqual),
+        Infix::Alone(operator) => by_name!(UnaryOperator operator, (a, beside, live, out),
+            Negate Complement Absolute NegateExact),
     }
 }
 
 /// An exact operator and a number: the wrapping operator, where no operand is out of these bounds.
-pub(crate) fn by_exact_number<K: Kernel, W: Kernel, A: Lanes>(
+fn by_exact_number<K: Kernel, W: Kernel, A: Lanes>(
     bounds: (i64, i64),
     a: A,
     y: i64,

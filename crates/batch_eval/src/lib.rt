@@ -13,12 +13,10 @@
 #![tactic(auto)]
 
 mod batch;
-mod binary;
 mod cheap;
 mod choice;
 mod choose;
 mod columns;
-mod comparing;
 mod constant;
 mod counted;
 mod dispatch;
@@ -51,7 +49,6 @@ mod sink;
 mod source;
 mod staging;
 mod step;
-mod unary;
 
 pub use batch::Batch;
 pub use feeding::{feed_at_once, feed_batches};

@@ -5,10 +5,11 @@ ghost use Rattle.batch_eval.specs.Lanes.{is_set, step_value};
 ghost use Rattle.lambda_values.specs.Operators.{comparison_value};
 ghost use Rattle.std.specs.Prelude.{◌≡◌, ◌<◌, ◌≤◌, ℕ, IsTrue, Ok, length, if◌then◌else◌};
 
-use crate::binary::{Add, And, Or, ShiftLeft, ShiftRight, ShiftRightUnsigned, Subtract, Xor};
 use crate::choose::select;
 use crate::exact::lanes_pass;
-use crate::kernel::{First, Kernel, Swapped};
+use crate::kernel::{
+    Add, And, First, Kernel, Or, ShiftLeft, ShiftRight, ShiftRightUnsigned, Subtract, Swapped, Xor,
+};
 use crate::lanes::{Lanes, Number, Register, Stepped};
 use crate::loops::run;
 use crate::multiply::MultiplyByHalf;

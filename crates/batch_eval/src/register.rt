@@ -10,15 +10,14 @@ ghost use Rattle.std.specs.Prelude.{◌<◌, ◌≤◌, length};
 
 use crate::choice::eval_chosen;
 use crate::constant::number_in;
-use crate::dispatch::{Infix, by_infix, has_shorter_way};
+use crate::dispatch::{by_infix, has_shorter_way};
 use crate::flag::flag;
-use crate::kernel::{First, Opposite};
+use crate::kernel::{Equal, First, Infix};
 use crate::lanes::{Number, Own, Register};
 use crate::loops::run;
 use crate::operands::{Beside, Branch, Held, Step, fill};
 use crate::reached::{Reached, all};
 use crate::step::{last_step, no_step};
-use crate::unary::by_unary;
 use lambda_values::{BoolExpr, Connective, Env, LongExpr};
 
 /// The most lanes of a batch, and the length of a register.
@@ -67,8 +66,7 @@ pub(crate) fn eval_long(
             fill(number, inputs.live, out)
         }
         LongExpr::Unary(operator, operand) => {
-            let (held, first) = eval_held(operand, inputs, out, room);
-            by_unary(*operator, held, first.live, out).after(first)
+            eval_before_number(Infix::Alone(*operator), operand, 0, inputs, out, room)
         }
         LongExpr::Binary(operator, a, b) => {
             eval_between(Infix::Compute(*operator), a, b, inputs, out, room)
@@ -107,7 +105,7 @@ pub(crate) fn eval_bool(
         }
         BoolExpr::Not(operand) => {
             let first = eval_bool(operand, inputs, out, room);
-            run::<Opposite, Own, Number>(Own, Number(0), first.live, out).after(first)
+            run::<Equal, Own, Number>(Own, Number(0), first.live, out).after(first)
         }
         BoolExpr::Connect(Connective::And, a, b) => {
             let b = Operand::Bool(b);
@@ -227,7 +225,7 @@ fn eval_between(
     third.after(second).after(first)
 }
 
-/// An operand and a number on its right, and an operator between them.
+/// An operand and a number on its right, and an operator between them; or on the operand alone.
 #[cycle(register)]
 fn eval_before_number(
     op: Infix,
