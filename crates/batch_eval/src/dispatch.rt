@@ -58,7 +58,7 @@ pub(crate) fn by_infix(
 }
 
 /// An operator between lanes and another operand.
-fn by_infix_lanes<A: Lanes>(
+fn by_infix_lanes<A: Lanes<i64>>(
     op: Infix,
     a: A,
     beside: Beside<'_>,
@@ -114,7 +114,7 @@ macro_rules! by_name {
 }
 
 /// An operator between lanes and another operand, by the loop that serves any operands.
-fn by_operator<A: Lanes>(
+fn by_operator<A: Lanes<i64>>(
     op: Infix,
     a: A,
     beside: Beside<'_>,
@@ -139,7 +139,7 @@ fn by_operator<A: Lanes>(
 }
 
 /// An exact operator and a number: the wrapping operator, where no operand is out of these bounds.
-fn by_exact_number<K: Kernel, W: Kernel, A: Lanes>(
+fn by_exact_number<K: Kernel, W: Kernel, A: Lanes<i64>>(
     bounds: (i64, i64),
     a: A,
     y: i64,
@@ -162,7 +162,7 @@ fn by_exact_number<K: Kernel, W: Kernel, A: Lanes>(
 /// no operand needs more than 32 bits; by its reciprocal if it has one; else as the processor divides. If no operand is
 /// below 0 either, nothing is done for signs.
 #[tactic(auto, using(crate::proofs::ReciprocalLemmas::within_64, crate::proofs::ReciprocalLemmas::short_within, crate::proofs::ReciprocalLemmas::natural_within))]
-fn by_divisor<P: Kernel, D: Division, K: Kernel, A: Lanes>(
+fn by_divisor<P: Kernel, D: Division, K: Kernel, A: Lanes<i64>>(
     a: A,
     y: i64,
     live: usize,

@@ -5,8 +5,7 @@ ghost use Rattle.batch_eval.specs.Lanes.{at};
 ghost use Rattle.std.specs.Prelude.{◌≡◌, ℕ, ◌<◌, ◌≤◌, length, slice_index};
 
 use crate::flag::is_set;
-use crate::lanes::{Lanes, Own};
-use crate::places::{CountedPlaces, OwnPlaces, Places};
+use crate::lanes::{CountedPlaces, Lanes, Own};
 
 /// Moves the items of the lanes whose flag is set to the front, and answers how many they are. Their places are listed.
 pub(crate) fn keep_lanes(
@@ -28,13 +27,13 @@ pub(crate) fn keep_lanes(
 {
     match start {
         Some(start) => keep(flags, live, CountedPlaces(start), Own, values, origins),
-        None => keep(flags, live, OwnPlaces, Own, values, origins),
+        None => keep(flags, live, Own, Own, values, origins),
     }
 }
 
 /// Puts the items of the lanes whose flag is set to the front of registers, with their places, and answers how many
 /// they are.
-pub(crate) fn keep<P: Places, A: Lanes>(
+pub(crate) fn keep<P: Lanes<u64>, A: Lanes<i64>>(
     flags: &[i64],
     live: usize,
     places: P,
@@ -53,7 +52,7 @@ pub(crate) fn keep<P: Places, A: Lanes>(
         ≡ A.number xs (at values.old (slice_index (passing flags.now live) j))
         (slice_index (passing flags.now live) j) }
     ensures origins { (j : ℕ) → j < result → slice_index origins.new j
-        ≡ P.place places (slice_index origins.old (slice_index (passing flags.now live) j))
+        ≡ P.number places (slice_index origins.old (slice_index (passing flags.now live) j))
         (slice_index (passing flags.now live) j) }
 {
     let mut kept = 0;

@@ -38,7 +38,6 @@ mod number_test;
 mod operands;
 mod passing;
 mod pipeline;
-mod places;
 mod power;
 mod reached;
 mod reciprocal;

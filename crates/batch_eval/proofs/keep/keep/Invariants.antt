@@ -9,7 +9,7 @@ invariant-loop-i g l =
       count : l.kept ≡ length (passing l.flags l.i);
       within : l.kept ≤ l.i;
       values : (j : ℕ) → j < l.kept → at l.values j ≡ g.A.Lanes.number l.xs (at l.fn.values (slice_index (passing l.flags l.i) j)) (slice_index (passing l.flags l.i) j);
-      origins : (j : ℕ) → j < l.kept → slice_index l.origins j ≡ g.P.Places.place l.places (slice_index l.fn.origins (slice_index (passing l.flags l.i) j)) (slice_index (passing l.flags l.i) j);
+      origins : (j : ℕ) → j < l.kept → slice_index l.origins j ≡ g.P.Lanes.number l.places (slice_index l.fn.origins (slice_index (passing l.flags l.i) j)) (slice_index (passing l.flags l.i) j);
       rest_values : (k : ℕ) → l.i ≤ k → at l.values k ≡ at l.fn.values k;
       rest_origins : (k : ℕ) → l.i ≤ k → slice_index l.origins k ≡ slice_index l.fn.origins k;
     }
