@@ -123,13 +123,6 @@ space_more n s i m some below few =
     omega (arith, all, on)
 
 module _ (inner : Inner) (registers : List ℤ) (from : ℕ) (place : ℕ → ℕ) (before : List Item) where
-  pub none_put : (next : ℕ) (item : ℕ → Item) → next ≤ 1024 → lanes next item ≡ before → ArePut inner registers from place before 0 next item
-  none_put next item within is = record {
-    valid = λ k below. absurd (omega (arith, below));
-    put = is ∙ sym (append-nil before);
-    within = within;
-  }
-
   none_gathered : (n : ℕ) → ((k : ℕ) → given inner registers k ≡ Ok []) → gathered n (λ k. at_place (place (from + k)) (values_at inner registers (from + k))) ≡ []
   none_gathered zero empty = refl
   none_gathered (suc n) empty =

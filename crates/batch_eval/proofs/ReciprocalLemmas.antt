@@ -128,11 +128,6 @@ short_within (negsuc a) least greatest fits = omega (arith, ints, least)
 pub natural_within : (x : ℤ) → IsWithin (2 ^ 31) (natural x)
 natural_within x fits = let some : 0 < 2 ^ 31 = omega arith in omega (arith, mod-lt (cast_unsigned w64 x) some)
 
--- a natural number of 31 bits is these bits
-pub natural_is : (x : ℤ) → pos 0 ≤ℤ x → x ≤ℤ pos 2147483647 → natural x ≡ x
-natural_is (pos a) least greatest = ap pos (mod-eq_of_lt (omega (arith, ints, greatest)))
-natural_is (negsuc a) least greatest = absurd (omega (arith, ints, least))
-
 signed_rest : (x y : ℤ) → with_sign_of x (unsigned_abs x % unsigned_abs y) ≡ int_rem x y
 signed_rest (pos a) (pos b) = refl
 signed_rest (pos a) (negsuc b) = refl

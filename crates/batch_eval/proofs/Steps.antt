@@ -38,16 +38,3 @@ module _ (fa : ℕ → Result ℤ FaultKind) (g : ℕ → ℤ → Result ℤ Fau
         values = λ k below. value_on k (Ok (out k)) (a.values k (let v = b.within in omega arith)) (b.values k below);
         stop = stop_on n s.live r.live r.fault s.fault a.stop a.values a.within b.stop;
       }
-
--- the same facts after a step on each value
-pub Reaches_stepped : (f g : ℕ → Result ℤ FaultKind) (s : ℤ → ℤ) (c : ℕ → ℤ) (n : ℕ) (r : Reached) → ((k : ℕ) → g k ≡ on (f k) (λ v. Ok (s v))) → Reaches f c n r → Reaches g (λ k. s (c k)) n r
-Reaches_stepped f g s c n r same h =
-    record {
-      within = h.within;
-      values = λ k below. same k ∙ ap (λ (v : Result ℤ FaultKind). on v (λ w. Ok (s w))) (h.values k below);
-      stop = stop_same r.live r.fault h.stop;
-    }
-  where
-    stop_same : (live : ℕ) (fault : Option FaultKind) → StopsAt f n live fault → StopsAt g n live fault
-    stop_same live None t = t
-    stop_same live (Some kind) t = (t.0, same live ∙ ap (λ (v : Result ℤ FaultKind). on v (λ w. Ok (s w))) t.1)
