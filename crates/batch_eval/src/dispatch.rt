@@ -1,5 +1,5 @@
-//! An operator over lanes: which of its loops is run. An operator has a loop for any operands; here are the shorter ways
-//! too, if the right operand is a number.
+//! An operator over lanes: which of its loops is run. It has a loop for any operands, and may have shorter ones for a
+//! number on the right.
 
 ghost use Rattle.batch_eval.specs.Lanes.{HasBeside, HasHeld, Reaches, at, beside_value, held_at, infix_value};
 ghost use Rattle.batch_eval.specs.Powers.{power};
@@ -113,7 +113,7 @@ macro_rules! by_name {
     };
 }
 
-/// An operator between lanes and another operand, by the loop that serves any operands.
+/// An operator between lanes and another operand, by its loop for any operands.
 fn by_operator<A: Lanes<i64>>(
     op: Infix,
     a: A,

@@ -18,7 +18,7 @@ use crate::columns::{Columns, column_room, eval_columns};
 use crate::pipeline::Pipeline;
 use crate::register::LANES;
 use crate::sink::BatchSink;
-use lambda_values::{FaultKind, InnerExpr, ListedValues};
+use lambda_values::{InnerExpr, ListedValues};
 use trace::{
     End, Fault, Fed, Flow, InnerItems, Item, NoMemory, SourceItems, Stage, asked, feed_all,
 };
@@ -95,8 +95,7 @@ fn feed_inner<S: BatchSink>(
     ensures flow { S.flow sink.new ≡ flow_after result }
     ensures refused { OnErr result S.takes_memory }
 {
-    let inner = stage.inner;
-    let later = stage.later;
+    let FlatMapStage { inner, later, .. } = stage;
     pending.clear();
     let part = column_room(inner, later.stages, room.len());
     let (registers, room) = room.split_at_mut(part);
@@ -124,7 +123,11 @@ fn feed_inner<S: BatchSink>(
                 }
             }
             Err(kind) => {
-                let end = fault_at(stage.number, item, kind);
+                let end = End::Fault(Fault {
+                    kind,
+                    stage: stage.number,
+                    origin: Some(item.origin),
+                });
                 return finish(later, end, pending, rest, room, sink);
             }
         }
@@ -212,17 +215,6 @@ fn finish<S: BatchSink>(
 {
     pending.end_with(end);
     feed_batch(line, pending, rest, room, sink)
-}
-
-/// The end by the fault of this stage at this item.
-fn fault_at(stage: u32, item: Item, kind: FaultKind) -> End
-    ensures { result ≡ End.Fault (record { kind = kind; stage = stage; origin = Some item.origin }) }
-{
-    End::Fault(Fault {
-        kind,
-        stage,
-        origin: Some(item.origin),
-    })
 }
 
 /// Takes the items of a batch through all stages one after the other.

@@ -194,8 +194,7 @@ feed_inner-returns-in-Err-clause-fed g t c = λ xs took.
     let same : to_z w64 (of_z w64 c.item_at-item.result.value) ≡ c.item_at-item.result.value = search rules in
     let gives : f y ≡ trace [] (end.Fault fault) = ap (λ (v : ℤ). flattened c.args.stage.number y (inner_value (inner_of c.args.stage.inner.now) v env)) (sym same) ∙ ap (flattened c.args.stage.number y) c.in-Err.ensures.fault in
     let whole : each f os e ≡ trace front.items (end.Fault fault) = each_fault f os p y e fault c.item_at-item.ensures c.loop-position.invariant.done gives in
-    let here = subst (λ (d : End). IsFed h xs (piped line (trace front.items d)) c.finish.result c.finish.new.sink) c.fault_at-end.ensures (c.finish.ensures.fed xs front.items (c.loop-position.invariant.held xs took)) in
-    subst (λ (u : Trace). IsFed h xs (piped line u) c.finish.result c.finish.new.sink) (sym whole) here
+    subst (λ (u : Trace). IsFed h xs (piped line u) c.finish.result c.finish.new.sink) (sym whole) (c.finish.ensures.fed xs front.items (c.loop-position.invariant.held xs took))
 
 pub feed_inner-returns-clause-fed : goal.feed_inner-returns-clause-fed
 feed_inner-returns-clause-fed g t c = λ xs took.
