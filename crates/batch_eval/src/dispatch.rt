@@ -2,7 +2,9 @@
 //! number on the right.
 
 ghost use Rattle.batch_eval.specs.Lanes.{HasBeside, HasHeld, Reaches, at, beside_value, held_at, infix_value};
+ghost use Rattle.batch_eval.specs.Lanes.{step_value};
 ghost use Rattle.batch_eval.specs.Powers.{power};
+ghost use Rattle.lambda_values.specs.Operators.{binary_value};
 ghost use Rattle.std.specs.Prelude.{◌≡◌, ◌≤◌, ◌≤ℤ◌, ℤ, length, pos};
 
 use crate::division::{
@@ -71,33 +73,54 @@ fn by_infix_lanes<A: Lanes<i64>>(
     ensures { Reaches (λ k. beside_value (infix_value op) beside.entry (A.number a (at out.old k) k) k)
         (at out.new) live result }
 {
-    match (op, beside) {
-        (Infix::Compute(BinaryOperator::Multiply), Beside::Number(_, y)) if is_half(y) => {
+    match beside {
+        Beside::Number(step, y) => by_number(op, a, step, y, live, out),
+        _ => by_operator(op, a, beside, live, out),
+    }
+}
+
+/// An operator between lanes after a step and a number.
+fn by_number<A: Lanes<i64>>(
+    op: Infix,
+    a: A,
+    step: Step,
+    y: i64,
+    live: usize,
+    out: &mut [i64],
+) -> Reached
+    requires a { live ≤ A.count a }
+    requires out { live ≤ length out.old }
+    ensures { Reaches (λ k. infix_value op (step_value step (A.number a (at out.old k) k)) y)
+        (at out.new) live result }
+{
+    let beside = Beside::Number(step, y);
+    match (op, step) {
+        (Infix::Compute(BinaryOperator::Multiply), _) if is_half(y) => {
             by_kernel::<MultiplyByHalf, A>(a, beside, live, out)
         }
-        (Infix::Compute(BinaryOperator::Divide), Beside::Number(Step::Stay, y)) => {
+        (Infix::Compute(BinaryOperator::Divide), Step::Stay) => {
             by_divisor::<DivideByPower, DivideByReciprocal, Divide, A>(a, y, live, out)
         }
-        (Infix::Compute(BinaryOperator::Remainder), Beside::Number(Step::Stay, y)) => {
+        (Infix::Compute(BinaryOperator::Remainder), Step::Stay) => {
             by_divisor::<RemainderByPower, RemainderByReciprocal, Remainder, A>(a, y, live, out)
         }
-        (Infix::Compute(BinaryOperator::FloorDivide), Beside::Number(Step::Stay, y)) => {
+        (Infix::Compute(BinaryOperator::FloorDivide), Step::Stay) => {
             by_divisor::<FloorDivideByPower, FloorDivideByReciprocal, FloorDivide, A>(
                 a, y, live, out,
             )
         }
-        (Infix::Compute(BinaryOperator::FloorRemainder), Beside::Number(Step::Stay, y)) => {
+        (Infix::Compute(BinaryOperator::FloorRemainder), Step::Stay) => {
             by_divisor::<FloorRemainderByPower, FloorRemainderByReciprocal, FloorRemainder, A>(
                 a, y, live, out,
             )
         }
-        (Infix::Compute(BinaryOperator::AddExact), Beside::Number(Step::Stay, y)) => {
+        (Infix::Compute(BinaryOperator::AddExact), Step::Stay) => {
             by_exact_number::<AddExact, Add, A>(sums_within(y), a, y, live, out)
         }
-        (Infix::Compute(BinaryOperator::SubtractExact), Beside::Number(Step::Stay, y)) => {
+        (Infix::Compute(BinaryOperator::SubtractExact), Step::Stay) => {
             by_exact_number::<SubtractExact, Subtract, A>(differences_within(y), a, y, live, out)
         }
-        (Infix::Alone(UnaryOperator::NegateExact), Beside::Number(Step::Stay, y)) => {
+        (Infix::Alone(UnaryOperator::NegateExact), Step::Stay) => {
             by_exact_number::<NegateExact, Negate, A>((-i64::MAX, i64::MAX), a, y, live, out)
         }
         _ => by_operator(op, a, beside, live, out),
@@ -128,14 +151,31 @@ fn by_operator<A: Lanes<i64>>(
         (at out.new) live result }
 {
     match op {
-        Infix::Compute(operator) => by_name!(BinaryOperator operator, (a, beside, live, out),
-            Add Subtract Multiply Divide Remainder ShiftLeft ShiftRight ShiftRightUnsigned And Xor Or Min Max
-            FloorDivide FloorRemainder AddExact SubtractExact MultiplyExact),
+        Infix::Compute(operator) => by_binary(operator, a, beside, live, out),
         Infix::Compare(comparison) => by_name!(Comparison comparison, (a, beside, live, out),
             Equal NotEqual Less LessOrEqual Greater GreaterOrEqual),
         Infix::Alone(operator) => by_name!(UnaryOperator operator, (a, beside, live, out),
             Negate Complement Absolute NegateExact),
     }
+}
+
+/// An operator of two numbers between lanes and another operand.
+fn by_binary<A: Lanes<i64>>(
+    operator: BinaryOperator,
+    a: A,
+    beside: Beside<'_>,
+    live: usize,
+    out: &mut [i64],
+) -> Reached
+    requires a { live ≤ A.count a }
+    requires beside { HasBeside beside live }
+    requires out { live ≤ length out.old }
+    ensures { Reaches (λ k. beside_value (binary_value operator) beside.entry (A.number a (at out.old k) k) k)
+        (at out.new) live result }
+{
+    by_name!(BinaryOperator operator, (a, beside, live, out),
+        Add Subtract Multiply Divide Remainder ShiftLeft ShiftRight ShiftRightUnsigned And Xor Or Min Max
+        FloorDivide FloorRemainder AddExact SubtractExact MultiplyExact)
 }
 
 /// An exact operator and a number: the wrapping operator, where no operand is out of these bounds.
