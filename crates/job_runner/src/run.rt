@@ -61,7 +61,8 @@ fn read_answers<S: JobSegments, G: Gate>(
     Ok(answers)
 }
 
-/// Has workers run the tasks, if there are workers.
+/// Has workers run the tasks, if there are workers: no more of them than nodes, since there are never
+/// more tasks.
 fn run_tasks<
     S: JobSegments + Send + Sync,
     R: RunBrand + Send + Sync,
@@ -73,7 +74,7 @@ fn run_tasks<
     gate: &G,
     work: &TableWork<'_, S, R>,
     tasks: Vec<TableTask<S, R>>,
-    idles: Vec<TableIdle<S, R>>,
+    mut idles: Vec<TableIdle<S, R>>,
 )
 where
     S::Part: Send,
@@ -83,6 +84,7 @@ where
     S::Instead: Send,
     S::Scratch: Send,
 {
+    idles.truncate(work.counts.nodes() as usize);
     if !idles.is_empty() {
         run_pool(rt, alloc, gate, work, tasks, idles);
     }
@@ -128,7 +130,7 @@ where
     Ok(places_of(work))
 }
 
-/// The answers of all jobs, in their order, worked out by the number of workers that the settings say.
+/// The answers of all jobs, in their order, worked out by no more workers than the settings say.
 ///
 /// Each piece that is walked enters the gate first. An answer that no task left is worked out here, in the jobs' order,
 /// which enters the gate once, for all of the job's source. `NoMemory` says that a job couldn't be worked out here

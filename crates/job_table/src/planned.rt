@@ -100,7 +100,7 @@ pub enum RunFault {
     NoMemory,
 }
 
-/// The answers of the jobs of a plan, in file order, worked out by the number of workers that the settings say.
+/// The answers of the jobs of a plan, in file order, worked out by no more workers than the settings say.
 ///
 /// Each leaf is entered at the gate. A piece of at most `threshold` items is never cut. An answer that no task left is
 /// worked out by the caller, which enters the gate once, for all of the job's source. A job begins when the jobs that
