@@ -29,8 +29,11 @@ use std::sync::Wait;
 use std::thread::Threads;
 use stream_tokens::{Bytes, NoMemory};
 
-/// How many bytes of a column file one thread reads at a time.
+/// How many bytes of a column file one thread reads at a time, at most.
 const PIECE: usize = 4 * 1024 * 1024;
+
+/// How many bytes all threads read at a time, at most.
+const ROUND: usize = 4 * PIECE;
 
 /// Reads the columns, if there is a reader of them, then the job file whole; checks the jobs, runs them,
 /// builds the report whole and writes it.
@@ -39,9 +42,9 @@ const PIECE: usize = 4 * 1024 * 1024;
 /// never cut; a longer one is, while nodes last, unless the walk goes through a slice that doesn't select positions of
 /// the source. The gate is called before each piece, and one that does nothing will do. None of this changes the
 /// report. The cells of the columns, the job file and the report are each held in memory once. While the cells are
-/// read, the bytes of a column file of at most 4 MiB for each thread are held whole, of a longer one twice that many,
-/// or all that are left from a row with quotes on; the cells of one piece for each thread are held beside. If the
-/// column file is refused, the job file isn't read.
+/// read, the bytes of a column file of at most 4 MiB for each thread, and 16 MiB in all, are held whole, of a longer
+/// one twice that many, or all that are left from a row with quotes on; the cells of one piece for each thread are held
+/// beside. If the column file is refused, the job file isn't read.
 pub fn run<
     H: Threads + Wait + Sync,
     C: CountedRead,
@@ -85,7 +88,8 @@ pub fn run<
     match columns {
         Some(reader) => {
             let workers = settings.workers() as usize;
-            let table = match read_columns_by(rt, alloc, reader, workers, PIECE) {
+            let piece = PIECE.min(ROUND / workers);
+            let table = match read_columns_by(rt, alloc, reader, workers, piece) {
                 Ok(table) => table,
                 Err(fault) => return Err(EngineFault::Columns(fault)),
             };
