@@ -209,7 +209,7 @@ impl<'a, S: JobSegments, R: RunBrand> JobWork<'a, S, TablePart<S>, TableKept<S>,
             return first;
         };
         let second = self.walk(gate, other, spawn, tools);
-        if first.is_some() { first } else { second }
+        first.or(second)
     }
 }
 
