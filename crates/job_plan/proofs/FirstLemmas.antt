@@ -26,7 +26,7 @@ use Rattle.job_meaning.specs.Walks.{source_walk, values_of}
 use Rattle.job_plan.specs.Windows.{selects}
 use Rattle.prefix_walks.proofs.Elements.{drop_of_none}
 use Rattle.prefix_walks.proofs.FaultlessLemmas.{both, test_there, value_there}
-use Rattle.job_plan.proofs.MoveLemmas.{segments_more}
+use Rattle.job_plan.proofs.PartLemmas.{segments_more}
 
 one_value : (a : ℤ) (xs : List Item) → fold_from (value_of op.First) a xs ≡ a
 one_value a [] = refl
@@ -115,8 +115,8 @@ pub put_back : (old rest new : List Segment) (last made : Segment) → old ≡ r
     → SameOfClean (last_finds (segments_in old)) (segments_in old) → SameOfClean (segments_in new) (segments_in old)
 put_back old rest new last made popped pushed is found = λ env t clean.
     let e : segments_in new ≡ last_finds (segments_in old)
-    = segments_more rest new made pushed ∙ ap (λ (s : AbstractSegment). segments_in rest ++ s ∷ []) is
-    ∙ sym (last_replaced (segments_in rest) (segment_in last)) ∙ ap last_finds (sym (segments_more rest old last popped)) in
+    = segments_more new rest made pushed ∙ ap (λ (s : AbstractSegment). segments_in rest ++ s ∷ []) is
+    ∙ sym (last_replaced (segments_in rest) (segment_in last)) ∙ ap last_finds (sym (segments_more old rest last popped)) in
     ap (λ (xs : List AbstractSegment). segments_answer xs env t) e ∙ found env t clean
 
 -- the walk over a job's sources

@@ -1,24 +1,19 @@
 -- Walks through links.
-use Rattle.std.proofs.Common.{◌≡◌, true, false, is_some, List, [], ◌∷◌, Option, Some, None, length, arith, refl, sym, ap, subst, ◌∙◌, ◌++◌, append_assoc}
+use Rattle.std.proofs.Common.{◌≡◌, zero, suc, true, false, is_some, List, [], ◌∷◌, Option, Some, None, length, arith, refl, sym, ap, ◌∙◌, ◌++◌}
 use Rattle.lambda_values.specs.Earlier.{Numbers}
 use Rattle.trace.specs.Trace.{Trace}
 use Rattle.slice_ops.specs.Slices.{AbstractSlice, sliced}
 use Rattle.job_meaning.specs.declared.answer.Answer.{Answer}
 use Rattle.job_plan.specs.declared.outcome.Outcome.{Outcome}
 use Rattle.job_plan.specs.declared.outcome.Outcome.TheVariants as outcome
-use Rattle.job_plan.specs.declared.links.Link.{Link}
 use Rattle.job_plan.specs.declared.segment.Segment.{Segment}
-use Rattle.job_plan.specs.Links.{AbstractLeg, AbstractLink, Fits, AllFit, after_by, after_links, each_link_in, first_links, is_linked, leg_by, legs_answer, legs_of, link_by, link_in, link_walk, linked, plan_legs}
-use Rattle.job_plan.specs.Parts.{end_in, segment_in, segments_in}
+use Rattle.job_plan.specs.Links.{AbstractLeg, AbstractLink, first_links, is_linked, leg_by, legs_answer, legs_of, link_at, link_by, link_walk, linked, plan_legs, slice_at, slice_or}
+use Rattle.job_plan.specs.Parts.{segment_in, segments_in}
 use Rattle.job_plan.specs.Plans.{AbstractEnd, slicing, AbstractPlan, AbstractSegment, planned_answer, ended, last_stage, on_outcome, outcome_of, slice_in, walk_of, segments_answer}
 use Rattle.job_meaning.specs.Walks.{instead_of_fault, source_walk}
 use Rattle.job_plan.specs.Windows.{later_segments, selected_source}
+use Rattle.job_plan.proofs.PartLemmas.{length_segments, no_items, segments_more}
 use Rattle.job_plan.proofs.WindowLemmas.{later_answer}
-
--- one link more, after the others
-pub linked_last : (ls : List AbstractLink) (l : AbstractLink) (env : Numbers) (t : Trace) → linked (ls ++ l ∷ []) env t ≡ link_walk l env (linked ls env t)
-linked_last [] l env t = refl
-linked_last (k ∷ ls) l env t = linked_last ls l env (link_walk k env t)
 
 -- ---- legs
 
@@ -46,67 +41,120 @@ legs_give (s ∷ ss) env t = by (legs_give ss env) s.ending refl
 pub legs_planned : (env : Numbers) (plan : AbstractPlan) → instead_of_fault plan.fallback (legs_answer (plan_legs plan) env (selected_source plan)) ≡ planned_answer env plan
 legs_planned env plan = ap (instead_of_fault plan.fallback) (sym (legs_give (later_segments plan.segments) env (selected_source plan)) ∙ later_answer env plan.segments (source_walk plan.sources))
 
--- the first leg of segments, and the legs after it
-legs_first : (ss later : List AbstractSegment) (s : AbstractSegment) → after_links ss ≡ s ∷ later → legs_of ss ≡ record { links = first_links ss; last = s } ∷ legs_of later
-legs_first [] later s e = absurd (let z : [] ≡ s ∷ later = e in cc)
-legs_first (r ∷ ss) later s e = by (λ h. legs_first ss later s h) (slice_in r.ending) e
+-- segments that end in slices, before others that begin with one that doesn't: a leg
+links_cut : (fs bs : List AbstractSegment) → length fs ≡ length (first_links (fs ++ bs)) → first_links fs ≡ first_links (fs ++ bs)
+links_cut [] bs h = sym (no_items (first_links bs) (sym h))
+links_cut (f ∷ fs) bs h = by (links_cut fs bs) (slice_in f.ending) h
   where
-    by : (after_links ss ≡ s ∷ later → legs_of ss ≡ record { links = first_links ss; last = s } ∷ legs_of later) → (o : Option AbstractSlice) → after_by o (r ∷ ss) (after_links ss) ≡ s ∷ later → leg_by o r (legs_of ss) ≡ record { links = link_by o r (first_links ss); last = s } ∷ legs_of later
-    by rest None e =
-        let same : r ≡ s = (let z : r ∷ ss ≡ s ∷ later = e in cc) in
-        let tail : ss ≡ later = (let z : r ∷ ss ≡ s ∷ later = e in cc) in
-        λ i. record { links = []; last = same i } ∷ legs_of (tail i)
-    by rest (Some d) e = ap (leg_by (Some d) r) (rest e)
+    by : (length fs ≡ length (first_links (fs ++ bs)) → first_links fs ≡ first_links (fs ++ bs)) → (o : Option AbstractSlice) → suc (length fs) ≡ length (link_by o f (first_links (fs ++ bs)))
+        → link_by o f (first_links fs) ≡ link_by o f (first_links (fs ++ bs))
+    by later None h = refl
+    by later (Some d) h = ap (λ (ls : List AbstractLink). record { segment = f; rest = d } ∷ ls) (later (omega (arith, h)))
 
-no_legs : (ss : List AbstractSegment) → after_links ss ≡ [] → legs_of ss ≡ []
-no_legs [] e = refl
-no_legs (r ∷ ss) e = by (λ h. no_legs ss h) (slice_in r.ending) e
+leg_cut : (fs later : List AbstractSegment) (s : AbstractSegment) → length fs ≡ length (first_links (fs ++ s ∷ later)) → legs_of (fs ++ s ∷ later) ≡ record { links = first_links fs; last = s } ∷ legs_of later
+leg_cut [] later s h = by (slice_in s.ending) h
   where
-    by : (after_links ss ≡ [] → legs_of ss ≡ []) → (o : Option AbstractSlice) → after_by o (r ∷ ss) (after_links ss) ≡ [] → leg_by o r (legs_of ss) ≡ []
-    by rest None e = absurd (let z : r ∷ ss ≡ [] = e in cc)
-    by rest (Some d) e = ap (leg_by (Some d) r) (rest e)
-
--- of segments of the program: the leg with a number, by the segments after the slices
-pub leg_first : (ss rest later : List Segment) (s : Segment) → segments_in rest ≡ after_links (segments_in ss) → rest ≡ s ∷ later
-    → legs_of (segments_in ss) ≡ record { links = first_links (segments_in ss); last = segment_in s } ∷ legs_of (segments_in later)
-leg_first ss rest later s after is = legs_first (segments_in ss) (segments_in later) (segment_in s) (sym after ∙ ap segments_in is)
-
-pub no_leg : (ss rest : List Segment) → segments_in rest ≡ after_links (segments_in ss) → length rest ≡ 0 → legs_of (segments_in ss) ≡ []
-no_leg ss [] after none = no_legs (segments_in ss) (sym after)
-no_leg ss (s ∷ rest) after none = absurd (omega (arith, none))
-
--- whether there is a slice, by the first segment
-pub first_linked : (ss later : List Segment) (s : Segment) → ss ≡ s ∷ later → is_some (slice_in (end_in s.end)) ≡ is_linked (first_links (segments_in ss))
-first_linked ss later s is = by (slice_in (end_in s.end)) ∙ ap (λ xs. is_linked (first_links (segments_in xs))) (sym is)
+    by : (o : Option AbstractSlice) → 0 ≡ length (link_by o s (first_links later)) → leg_by o s (legs_of later) ≡ record { links = []; last = s } ∷ legs_of later
+    by None h = refl
+    by (Some d) h = absurd (omega (arith, h))
+leg_cut (f ∷ fs) later s h = by (leg_cut fs later s) (slice_in f.ending) h
   where
-    by : (o : Option AbstractSlice) → is_some o ≡ is_linked (link_by o (segment_in s) (first_links (segments_in later)))
-    by None = refl
-    by (Some d) = refl
+    by : (length fs ≡ length (first_links (fs ++ s ∷ later)) → legs_of (fs ++ s ∷ later) ≡ record { links = first_links fs; last = s } ∷ legs_of later) → (o : Option AbstractSlice)
+        → suc (length fs) ≡ length (link_by o f (first_links (fs ++ s ∷ later))) → leg_by o f (legs_of (fs ++ s ∷ later)) ≡ record { links = link_by o f (first_links fs); last = s } ∷ legs_of later
+    by rest None h = absurd (omega (arith, h))
+    by rest (Some d) h = ap (leg_by (Some d) f) (rest (omega (arith, h)))
+
+last_cut : (fs later : List AbstractSegment) (s : AbstractSegment) → length fs ≡ length (first_links (fs ++ s ∷ later)) → is_some (slice_in s.ending) ≡ false
+last_cut [] later s h = by (slice_in s.ending) h
+  where
+    by : (o : Option AbstractSlice) → 0 ≡ length (link_by o s (first_links later)) → is_some o ≡ false
+    by None h = refl
+    by (Some d) h = absurd (omega (arith, h))
+last_cut (f ∷ fs) later s h = by (last_cut fs later s) (slice_in f.ending) h
+  where
+    by : (length fs ≡ length (first_links (fs ++ s ∷ later)) → is_some (slice_in s.ending) ≡ false) → (o : Option AbstractSlice) → suc (length fs) ≡ length (link_by o f (first_links (fs ++ s ∷ later))) → is_some (slice_in s.ending) ≡ false
+    by rest None h = absurd (omega (arith, h))
+    by rest (Some d) h = rest (omega (arith, h))
+
+none_cut : (fs : List AbstractSegment) → length fs ≡ length (first_links (fs ++ [])) → legs_of (fs ++ []) ≡ []
+none_cut [] h = refl
+none_cut (f ∷ fs) h = by (none_cut fs) (slice_in f.ending) h
+  where
+    by : (length fs ≡ length (first_links (fs ++ [])) → legs_of (fs ++ []) ≡ []) → (o : Option AbstractSlice) → suc (length fs) ≡ length (link_by o f (first_links (fs ++ []))) → leg_by o f (legs_of (fs ++ [])) ≡ []
+    by rest None h = absurd (omega (arith, h))
+    by rest (Some d) h = ap (leg_by (Some d) f) (rest (omega (arith, h)))
+
+-- of segments of the program
+segments_joined : (ss us : List Segment) → segments_in (ss ++ us) ≡ segments_in ss ++ segments_in us
+segments_joined [] us = refl
+segments_joined (s ∷ ss) us = ap (λ (xs : List AbstractSegment). segment_in s ∷ xs) (segments_joined ss us)
+
+module _ (ss front back : List Segment) (whole : ss ≡ front ++ back) (count : length front ≡ length (first_links (segments_in ss))) where
+  in_two : segments_in ss ≡ segments_in front ++ segments_in back
+  in_two = ap segments_in whole ∙ segments_joined front back
+
+  all_links : length (segments_in front) ≡ length (first_links (segments_in front ++ segments_in back))
+  all_links = length_segments front ∙ count ∙ ap (λ (xs : List AbstractSegment). length (first_links xs)) in_two
+
+  pub cut_linked : length (first_links (segments_in front)) ≡ length front
+  cut_linked = ap length (links_cut (segments_in front) (segments_in back) all_links) ∙ sym all_links ∙ length_segments front
+
+  pub cut_last : (s : Segment) (later : List Segment) → back ≡ s ∷ later → is_some (slice_in (segment_in s).ending) ≡ false
+  cut_last s later is =
+      last_cut (segments_in front) (segments_in later) (segment_in s) (all_links ∙ ap (λ (us : List AbstractSegment). length (first_links (segments_in front ++ us))) (ap segments_in is))
+
+  pub cut_leg : (s : Segment) (later : List Segment) → back ≡ s ∷ later → legs_of (segments_in ss) ≡ record { links = first_links (segments_in front); last = segment_in s } ∷ legs_of (segments_in later)
+  cut_leg s later is =
+      let rest : segments_in back ≡ segment_in s ∷ segments_in later = ap segments_in is in
+      ap legs_of (in_two ∙ ap (λ (us : List AbstractSegment). segments_in front ++ us) rest)
+      ∙ leg_cut (segments_in front) (segments_in later) (segment_in s) (all_links ∙ ap (λ (us : List AbstractSegment). length (first_links (segments_in front ++ us))) rest)
+
+  pub cut_none : length back ≡ 0 → legs_of (segments_in ss) ≡ []
+  cut_none none =
+      let rest : segments_in back ≡ [] = ap segments_in (no_items back none) in
+      ap legs_of (in_two ∙ ap (λ (us : List AbstractSegment). segments_in front ++ us) rest)
+      ∙ none_cut (segments_in front) (all_links ∙ ap (λ (us : List AbstractSegment). length (first_links (segments_in front ++ us))) rest)
 
 -- without a slice a walk stays as it is
 pub unlinked : (ls : List AbstractLink) (env : Numbers) (t : Trace) → is_linked ls ≡ false → linked ls env t ≡ t
 unlinked [] env t none = refl
 unlinked (l ∷ ls) env t none = absurd (let z : true ≡ false = none in cc)
 
--- ---- links of the program
+-- ---- the last of several links
 
-pub each_link_more : (ls : List Link) (l : Link) → each_link_in (ls ++ l ∷ []) ≡ each_link_in ls ++ link_in l ∷ []
-each_link_more [] l = refl
-each_link_more (k ∷ ls) l = ap (λ (xs : List AbstractLink). link_in k ∷ xs) (each_link_more ls l)
+-- what is known of segments of which each ends in a slice, the last one apart
+abbrev pub IsLast : List AbstractSegment → AbstractSegment → Type 0
+IsLast fs s = (slice_in s.ending ≡ Some (slice_at s)) × (length (first_links fs) ≡ length fs) × ((env : Numbers) (t : Trace) → linked (first_links (fs ++ s ∷ [])) env t ≡ link_walk (link_at s) env (linked (first_links fs) env t))
 
-pub all_fit_more : (ls : List AbstractLink) (l : AbstractLink) → AllFit ls → Fits l → AllFit (ls ++ l ∷ [])
-all_fit_more [] l fit one = (one, tt)
-all_fit_more (k ∷ ls) l fit one = (fit.0, all_fit_more ls l fit.1 one)
+last_linked : (fs : List AbstractSegment) (s : AbstractSegment) → length (first_links (fs ++ s ∷ [])) ≡ length (fs ++ s ∷ []) → IsLast fs s
+last_linked [] s h = by (slice_in s.ending) h
+  where
+    by : (o : Option AbstractSlice) → length (link_by o s []) ≡ 1
+        → (o ≡ Some (slice_or o)) × (zero ≡ zero) × ((env : Numbers) (t : Trace) → linked (link_by o s []) env t ≡ link_walk (record { segment = s; rest = slice_or o }) env t)
+    by None h = absurd (omega (arith, h))
+    by (Some d) h = (refl, refl, λ env t. refl)
+last_linked (f ∷ fs) s h = by (last_linked fs s) (slice_in f.ending) h
+  where
+    by : (length (first_links (fs ++ s ∷ [])) ≡ length (fs ++ s ∷ []) → IsLast fs s) → (o : Option AbstractSlice) → length (link_by o f (first_links (fs ++ s ∷ []))) ≡ suc (length (fs ++ s ∷ []))
+        → (slice_in s.ending ≡ Some (slice_at s)) × (length (link_by o f (first_links fs)) ≡ suc (length fs))
+        × ((env : Numbers) (t : Trace) → linked (link_by o f (first_links (fs ++ s ∷ []))) env t ≡ link_walk (link_at s) env (linked (link_by o f (first_links fs)) env t))
+    by later None h = absurd (omega (arith, h))
+    by later (Some d) h =
+        let p = later (omega (arith, h)) in
+        (p.0, ap suc p.1, λ env t. p.2 env (link_walk (record { segment = f; rest = d }) env t))
 
--- one link more
-pub pushed_links : (new mid old : List Link) (l : Link) (s : Segment) (ss later : List Segment) → mid ≡ old ++ l ∷ [] → ss ≡ s ∷ later
-    → ((xs : List AbstractSegment) → first_links (segment_in s ∷ xs) ≡ link_in l ∷ first_links xs)
-    → each_link_in new ≡ each_link_in mid ++ first_links (segments_in later) → each_link_in new ≡ each_link_in old ++ first_links (segments_in ss)
-pushed_links new mid old l s ss later more is some e =
-    e ∙ ap (λ xs. xs ++ first_links (segments_in later)) (ap each_link_in more ∙ each_link_more old l)
-    ∙ append_assoc (each_link_in old) (link_in l ∷ []) (first_links (segments_in later))
-    ∙ ap (λ xs. each_link_in old ++ xs) (sym (some (segments_in later)))
-    ∙ ap (λ xs. each_link_in old ++ first_links (segments_in xs)) (sym is)
+-- of segments of the program
+module _ (links before : List Segment) (last : Segment) (whole : links ≡ before ++ last ∷ []) (all : length (first_links (segments_in links)) ≡ length links) where
+  last_in : IsLast (segments_in before) (segment_in last)
+  last_in =
+      let more = segments_more links before last whole in
+      last_linked (segments_in before) (segment_in last) (ap (λ (xs : List AbstractSegment). length (first_links xs)) (sym more) ∙ all ∙ sym (length_segments links) ∙ ap length more)
 
-pub pushed_fit : (mid old : List Link) (l : Link) → mid ≡ old ++ l ∷ [] → Fits (link_in l) → AllFit (each_link_in old) → AllFit (each_link_in mid)
-pushed_fit mid old l more one fit = subst AllFit (sym (ap each_link_in more ∙ each_link_more old l)) (all_fit_more (each_link_in old) (link_in l) fit one)
+  pub last_slice : slice_in (segment_in last).ending ≡ Some (slice_at (segment_in last))
+  last_slice = last_in.0
+
+  pub before_linked : length (first_links (segments_in before)) ≡ length before
+  before_linked = last_in.1 ∙ length_segments before
+
+  pub last_link : (env : Numbers) (t : Trace) → linked (first_links (segments_in links)) env t ≡ link_walk (link_at (segment_in last)) env (linked (first_links (segments_in before)) env t)
+  last_link env t = ap (λ (xs : List AbstractSegment). linked (first_links xs) env t) (segments_more links before last whole) ∙ last_in.2 env t

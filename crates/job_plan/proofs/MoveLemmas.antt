@@ -1,8 +1,8 @@
 -- Slices that come after maps alone, and plans with equal answers.
-use Rattle.std.proofs.Common.{◌≡◌, ℕ, zero, suc, ◌+◌, ◌<◌, ℤ, nat_lt, if◌then◌else◌, Bool, true, false, List, [], ◌∷◌, ◌++◌, length, map as each_of, take, Option, Some, None, Result, Ok, Err, length-append, append_assoc, refl, sym, ap, subst, ◌∙◌, arith}
+use Rattle.std.proofs.Common.{◌≡◌, ℕ, zero, suc, ◌+◌, ◌<◌, ℤ, nat_lt, if◌then◌else◌, Bool, true, false, List, [], ◌∷◌, ◌++◌, length, map as each_of, take, Result, Ok, Err, length-append, append_assoc, refl, sym, ap, subst, ◌∙◌, arith}
 use Rattle.std.proofs.lemmas.Bool.{ltb-false, ltb-true, lt-ltb}
 use Rattle.lambda_values.specs.Earlier.{Numbers}
-use Rattle.lambda_values.specs.Term.{Long, number, parameter}
+use Rattle.lambda_values.specs.Term.{Long, parameter}
 use Rattle.lambda_values.specs.Value.{long_value}
 use Rattle.lambda_values.specs.declared.expr.LongExpr.TheVariants as long_expr
 use Rattle.lambda_values.specs.declared.fault.FaultKind.{FaultKind}
@@ -17,16 +17,16 @@ use Rattle.slice_ops.specs.Slices.{limit, skip, take_while, drop_while, limited,
 use Rattle.job_meaning.specs.declared.answer.Answer.{Answer}
 use Rattle.job_plan.specs.declared.outcome.Outcome.{Outcome}
 use Rattle.job_plan.specs.declared.outcome.Outcome.TheVariants as outcome
-use Rattle.job_plan.specs.declared.segment.Held.{Held}
 use Rattle.job_plan.specs.declared.segment.JobPlan.{JobPlan}
 use Rattle.job_plan.specs.declared.segment.Segment.{Segment}
 use Rattle.job_meaning.specs.FileAnswers.{unless_unusable}
 use Rattle.prefix_walks.specs.Faultless.{never_faults}
-use Rattle.job_plan.specs.Moves.{AllSamePlans, IsSamePlan, SameAnswers, all_keep, comes_first, held_in, waiting_in}
-use Rattle.job_plan.specs.Parts.{end_in, plan_in, plans_in, segment_in, segments_in}
+use Rattle.job_plan.specs.Moves.{AllSamePlans, IsSamePlan, SameAnswers, all_keep, comes_first}
+use Rattle.job_plan.specs.Parts.{plan_in, plans_in, segment_in, segments_in}
 use Rattle.job_plan.specs.PlannedAnswers.{all_put_at, first_unusable_at, numbers_at, planned_after, planned_from, planned_meaning}
 use Rattle.job_plan.specs.Plans.{AbstractEnd, slicing, AbstractSegment, AbstractPlan, ended, on_outcome, outcome_of, segments_answer}
 use Rattle.job_meaning.specs.Walks.{instead_of_fault, source_walk}
+use Rattle.job_plan.proofs.PartLemmas.{length-stages_of, segments_more}
 use Rattle.prefix_walks.proofs.Elements.{drop_none, take_none}
 use Rattle.prefix_walks.proofs.FaultlessLemmas.{both, value_there}
 
@@ -97,7 +97,7 @@ skip_before_maps m (flat_map g ∷ gs) h n env t = absurd (let z : false ≡ tru
 -- ---- segments
 
 -- segments with equal answers, after others
-pub same_after : (front ss us : List AbstractSegment) → SameAnswers ss us → SameAnswers (front ++ ss) (front ++ us)
+same_after : (front ss us : List AbstractSegment) → SameAnswers ss us → SameAnswers (front ++ ss) (front ++ us)
 same_after [] ss us h = h
 same_after (s ∷ front) ss us h = λ env t. by (outcome_of s env t) env (λ u. same_after front ss us h env u)
   where
@@ -106,7 +106,7 @@ same_after (s ∷ front) ss us h = λ env t. by (outcome_of s env t) env (λ u. 
     by (outcome.Answer a) env later = refl
 
 -- a slice before maps, which then end in `skip(0)`
-pub slice_first : (m : ℕ) (gs : List AbstractStage) (e : AbstractEnd) (later : List AbstractSegment) → comes_first gs e ≡ true
+slice_first : (m : ℕ) (gs : List AbstractStage) (e : AbstractEnd) (later : List AbstractSegment) → comes_first gs e ≡ true
     → SameAnswers (record { first = m; stages = []; ending = e } ∷ record { first = m; stages = gs; ending = slicing (skip 0) } ∷ later) (record { first = m; stages = gs; ending = e } ∷ later)
 slice_first m gs (slicing (limit n)) later h = λ env t. ap (segments_answer later env) (skip_none (pipe m gs env (limited n t)) ∙ sym (limit_before_maps m gs h n env t))
 slice_first m gs (slicing (skip n)) later h = λ env t. ap (segments_answer later env) (skip_none (pipe m gs env (skipped n t)) ∙ sym (skip_before_maps m gs h n env t))
@@ -126,7 +126,7 @@ same_items : (n : ℕ) (env : Numbers) (xs : List Item) (e : End) → through n 
 same_items n env [] e = refl
 same_items n env (x ∷ xs) e = ap (first_of x) (same_items n env xs e)
 
-pub joined_segments : (f k : ℕ) (gs hs : List AbstractStage) (e : AbstractEnd) (later : List AbstractSegment) → k ≡ suc (f + length gs)
+joined_segments : (f k : ℕ) (gs hs : List AbstractStage) (e : AbstractEnd) (later : List AbstractSegment) → k ≡ suc (f + length gs)
     → SameAnswers (record { first = f; stages = gs ++ map (parameter 0) ∷ hs; ending = e } ∷ later)
     (record { first = f; stages = gs; ending = slicing (skip 0) } ∷ record { first = k; stages = hs; ending = e } ∷ later)
 joined_segments f k gs hs e later is = λ env t.
@@ -143,16 +143,12 @@ stages_joined : (gs hs : List Stage) → stages_of (gs ++ hs) ≡ stages_of gs +
 stages_joined [] hs = refl
 stages_joined (g ∷ gs) hs = ap (λ (xs : List AbstractStage). stage_of g ∷ xs) (stages_joined gs hs)
 
-length_stages : (gs : List Stage) → length (stages_of gs) ≡ length gs
-length_stages [] = refl
-length_stages (g ∷ gs) = ap suc (length_stages gs)
-
 -- one segment of two
-pub one_of_two : (f k : ℕ) (gs hs zs : List Stage) (e : AbstractEnd) (later : List AbstractSegment) → zs ≡ gs ++ stage.Map (long_expr.Parameter 0) ∷ hs → k ≡ f + length gs + 1
+one_of_two : (f k : ℕ) (gs hs zs : List Stage) (e : AbstractEnd) (later : List AbstractSegment) → zs ≡ gs ++ stage.Map (long_expr.Parameter 0) ∷ hs → k ≡ f + length gs + 1
     → SameAnswers (record { first = f; stages = stages_of zs; ending = e } ∷ later)
     (record { first = f; stages = stages_of gs; ending = slicing (skip 0) } ∷ record { first = k; stages = stages_of hs; ending = e } ∷ later)
 one_of_two f k gs hs zs e later z is = λ env t.
-    let l = length_stages gs in
+    let l = length-stages_of gs in
     let number : k ≡ suc (f + length (stages_of gs)) = omega (arith, l, is) in
     let all : stages_of zs ≡ stages_of gs ++ map (parameter 0) ∷ stages_of hs = ap stages_of z ∙ stages_joined gs (stage.Map (long_expr.Parameter 0) ∷ hs) in
     (λ i. segments_answer (record { first = f; stages = all i; ending = e } ∷ later) env t)
@@ -169,73 +165,28 @@ numbered_joined f k gs hs zs z is fits =
 pub pushed_and_appended : (gs ys hs zs : List Stage) (g : Stage) → ys ≡ gs ++ g ∷ [] → zs ≡ ys ++ hs → zs ≡ gs ++ g ∷ hs
 pushed_and_appended gs ys hs zs g y z = z ∙ ap (λ (xs : List Stage). xs ++ hs) y ∙ append_assoc gs (g ∷ []) hs
 
-pub same_segments : (ss us : List AbstractSegment) → ss ≡ us → SameAnswers ss us
-same_segments ss us e = λ env t. ap (λ (xs : List AbstractSegment). segments_answer xs env t) e
+-- a segment more, and two in place of the last one and it
+pub pushed : (old new : List Segment) (b : Segment) (later : List AbstractSegment) → new ≡ old ++ b ∷ [] → segments_in new ++ later ≡ segments_in old ++ segment_in b ∷ later
+pushed old new b later n = ap (λ (xs : List AbstractSegment). xs ++ later) (segments_more new old b n) ∙ append_assoc (segments_in old) (segment_in b ∷ []) later
 
-pub then_same : (ss us vs : List AbstractSegment) → SameAnswers ss us → SameAnswers us vs → SameAnswers ss vs
-then_same ss us vs h k = λ env t. h env t ∙ k env t
+pub two_for_two : (front old mid new : List Segment) (a b c d : Segment) (later : List AbstractSegment) → old ≡ front ++ a ∷ [] → mid ≡ front ++ c ∷ [] → new ≡ mid ++ d ∷ []
+    → SameAnswers (segment_in c ∷ segment_in d ∷ later) (segment_in a ∷ segment_in b ∷ later) → SameAnswers (segments_in new ++ later) (segments_in old ++ segment_in b ∷ later)
+two_for_two front old mid new a b c d later o m n same = λ env t.
+    ap (λ (xs : List AbstractSegment). segments_answer xs env t) (pushed mid new d later n ∙ pushed front mid c (segment_in d ∷ later) m)
+    ∙ same_after (segments_in front) (segment_in c ∷ segment_in d ∷ later) (segment_in a ∷ segment_in b ∷ later) same env t
+    ∙ sym (ap (λ (xs : List AbstractSegment). segments_answer xs env t) (pushed front old a (segment_in b ∷ later) o))
 
--- a segment, or several in its place, after others
-pub same_held : (front none held some many later : List AbstractSegment) → none ≡ [] → SameAnswers (some ++ later) (held ++ (many ++ later)) → SameAnswers ((front ++ none) ++ (some ++ later)) ((front ++ held) ++ (many ++ later))
-same_held front none held some many later e h = λ env t.
-    ap (λ (xs : List AbstractSegment). segments_answer xs env t) (ap (λ (ns : List AbstractSegment). (front ++ ns) ++ (some ++ later)) e ∙ append_assoc front [] (some ++ later))
-    ∙ same_after front (some ++ later) (held ++ (many ++ later)) h env t
-    ∙ sym (ap (λ (xs : List AbstractSegment). segments_answer xs env t) (append_assoc front held (many ++ later)))
-
--- a segment of the program more
-pub segments_joined : (ss us : List Segment) → segments_in (ss ++ us) ≡ segments_in ss ++ segments_in us
-segments_joined [] us = refl
-segments_joined (s ∷ ss) us = ap (λ (xs : List AbstractSegment). segment_in s ∷ xs) (segments_joined ss us)
-
--- one more segment of the program
-pub segments_more : (ss us : List Segment) (s : Segment) → us ≡ ss ++ s ∷ [] → segments_in us ≡ segments_in ss ++ segment_in s ∷ []
-segments_more ss us s e = ap segments_in e ∙ segments_joined ss (s ∷ [])
-
--- a slice is added, and the maps before it wait
-pub slice_held : (ss us : List Segment) (s : Segment) (h : Option Held) (gs : List AbstractStage) (later : List AbstractSegment) → us ≡ ss ++ s ∷ [] → s.stages.items ≡ [] → h ≡ None → comes_first gs (end_in s.end) ≡ true
-    → SameAnswers ((segments_in us ++ record { first = s.first_stage; stages = gs; ending = slicing (skip 0) } ∷ []) ++ later) ((segments_in ss ++ held_in h) ++ record { first = s.first_stage; stages = gs; ending = end_in s.end } ∷ later)
-slice_held ss us s h gs later u empty none first = λ env t.
-    let front : List AbstractSegment = segments_in ss in
-    let slice : AbstractSegment = record { first = s.first_stage; stages = []; ending = end_in s.end } in
-    let maps : AbstractSegment = record { first = s.first_stage; stages = gs; ending = slicing (skip 0) } in
-    let both_there : AbstractSegment = record { first = s.first_stage; stages = gs; ending = end_in s.end } in
-    let more : segments_in us ≡ front ++ slice ∷ [] = segments_more ss us s u ∙ ap (λ (xs : List Stage). front ++ record { first = s.first_stage; stages = stages_of xs; ending = end_in s.end } ∷ []) empty in
-    ap (λ (xs : List AbstractSegment). segments_answer ((xs ++ maps ∷ []) ++ later) env t) more
-    ∙ ap (λ (xs : List AbstractSegment). segments_answer xs env t) (ap (λ (xs : List AbstractSegment). xs ++ later) (append_assoc front (slice ∷ []) (maps ∷ [])) ∙ append_assoc front (slice ∷ maps ∷ []) later)
-    ∙ same_after front (slice ∷ maps ∷ later) (both_there ∷ later) (slice_first s.first_stage gs (end_in s.end) later first) env t
-    ∙ sym (ap (λ (xs : List AbstractSegment). segments_answer xs env t) (ap (λ (m : Option Held). (front ++ held_in m) ++ both_there ∷ later) none ∙ append_assoc front [] (both_there ∷ later)))
-
--- a segment is added, and no maps wait
-pub segment_added : (ss us : List Segment) (s : Segment) (g : AbstractSegment) (h k : Option Held) (later : List AbstractSegment) → us ≡ ss ++ s ∷ [] → segment_in s ≡ g → h ≡ None → k ≡ None
-    → SameAnswers ((segments_in us ++ held_in k) ++ later) ((segments_in ss ++ held_in h) ++ g ∷ later)
-segment_added ss us s g h k later u is none gone = λ env t.
-    let front : List AbstractSegment = segments_in ss in
-    ap (λ (xs : List AbstractSegment). segments_answer xs env t)
-    ((λ i. ((segments_more ss us s u ∙ ap (λ (x : AbstractSegment). front ++ x ∷ []) is) i ++ held_in (gone i)) ++ later)
-    ∙ ap (λ (xs : List AbstractSegment). xs ++ later) (append_assoc front (g ∷ []) []) ∙ append_assoc front (g ∷ []) later
-    ∙ sym (ap (λ (m : Option Held). (front ++ held_in m) ++ g ∷ later) none ∙ append_assoc front [] (g ∷ later)))
-
--- maps that waited went into the segment after them
-pub held_joined : (ss : List Segment) (n h : Option Held) (w : Held) (one next : AbstractSegment) (later : List AbstractSegment) → n ≡ None → h ≡ Some w → SameAnswers (one ∷ later) (waiting_in w ∷ next ∷ later)
-    → SameAnswers ((segments_in ss ++ held_in n) ++ one ∷ later) ((segments_in ss ++ held_in h) ++ next ∷ later)
-held_joined ss n h w one next later gone there same = λ env t.
-    let front : List AbstractSegment = segments_in ss in
-    ap (λ (m : Option Held). segments_answer ((front ++ held_in m) ++ one ∷ later) env t) gone
-    ∙ same_held front [] (waiting_in w ∷ []) (one ∷ []) (next ∷ []) later refl same env t
-    ∙ ap (λ (m : Option Held). segments_answer ((front ++ held_in m) ++ next ∷ later) env t) (sym there)
-
--- or before it
-pub held_pushed : (ss us : List Segment) (s : Segment) (n h : Option Held) (w : Held) (next : AbstractSegment) (later : List AbstractSegment) → us ≡ ss ++ s ∷ [] → segment_in s ≡ waiting_in w → n ≡ None → h ≡ Some w
-    → SameAnswers ((segments_in us ++ held_in n) ++ next ∷ later) ((segments_in ss ++ held_in h) ++ next ∷ later)
-held_pushed ss us s n h w next later u is gone there = λ env t.
-    let front : List AbstractSegment = segments_in ss in
-    ap (λ (xs : List AbstractSegment). segments_answer (xs ++ next ∷ later) env t)
-    ((λ i. (segments_more ss us s u ∙ ap (λ (x : AbstractSegment). front ++ x ∷ []) is) i ++ held_in (gone i))
-    ∙ append_assoc front (waiting_in w ∷ []) [] ∙ ap (λ (m : Option Held). front ++ held_in m) (sym there))
-
--- all of them
-pub all_moved : (ss us : List Segment) (s : Segment) (h : Option Held) (w : Held) → us ≡ ss ++ s ∷ [] → segment_in s ≡ waiting_in w → h ≡ Some w → segments_in us ≡ segments_in ss ++ held_in h
-all_moved ss us s h w u is there = segments_more ss us s u ∙ ap (λ (x : AbstractSegment). segments_in ss ++ x ∷ []) is ∙ ap (λ (m : Option Held). segments_in ss ++ held_in m) (sym there)
+-- a slice before maps, which go into the next segment
+pub maps_moved : (f k : ℕ) (gs hs zs : List Stage) (e d : AbstractEnd) (later : List AbstractSegment) → comes_first (stages_of gs) e ≡ true → zs ≡ gs ++ stage.Map (long_expr.Parameter 0) ∷ hs → k ≡ f + length gs + 1
+    → SameAnswers (record { first = f; stages = []; ending = e } ∷ record { first = f; stages = stages_of zs; ending = d } ∷ later)
+    (record { first = f; stages = stages_of gs; ending = e } ∷ record { first = k; stages = stages_of hs; ending = d } ∷ later)
+maps_moved f k gs hs zs e d later first z is = λ env t.
+    let slice : AbstractSegment = record { first = f; stages = []; ending = e } in
+    let maps : AbstractSegment = record { first = f; stages = stages_of gs; ending = slicing (skip 0) } in
+    let next : AbstractSegment = record { first = k; stages = stages_of hs; ending = d } in
+    let one : AbstractSegment = record { first = f; stages = stages_of zs; ending = d } in
+    same_after (slice ∷ []) (one ∷ later) (maps ∷ next ∷ later) (one_of_two f k gs hs zs d later z is) env t
+    ∙ slice_first f (stages_of gs) e (next ∷ later) first env t
 
 -- ---- plans
 

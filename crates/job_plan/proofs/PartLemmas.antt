@@ -19,12 +19,10 @@ use Rattle.reduce_ops.specs.Folds.{ones, unless_faulted}
 use Rattle.reduce_ops.specs.Parts.{StandsFor as FoldStands}
 use Rattle.reduce_ops.proofs.FoldLemmas.{wrapped_sum, counted}
 use Rattle.reduce_ops.proofs.SettledSums.{first_settles as first_sum_settles, sum_settled, sum_settles}
-use Rattle.slice_ops.proofs.GrownPartLemmas.{settled as slice_settled}
 use Rattle.find_ops.specs.Finds.{find_answer}
 use Rattle.find_ops.proofs.DecisionLemmas.{settled as find_settled}
 use Rattle.job_language.specs.Jobs.{AbstractTerminal, sum, count}
 use Rattle.job_plan.specs.Arrays.{AbstractArray, array, array_of, values_then, array_append}
-use Rattle.slice_ops.specs.Slices.{sliced}
 use Rattle.prefix_walks.specs.Scans.{AbstractScan, scan, scan_append}
 use Rattle.job_meaning.specs.declared.answer.Answer.{Answer}
 use Rattle.job_meaning.specs.declared.answer.Answer.TheVariants as answer
@@ -36,10 +34,10 @@ use Rattle.job_plan.specs.declared.segment.Segment.{Segment}
 use Rattle.job_plan.specs.declared.segment.JobPlan.{JobPlan}
 use Rattle.job_plan.specs.Parts.{IsFold, EndsFor, StandsEnough, StandsFor, is_running, is_settled, is_fault, may_search, segment_in, segments_in, settles, plan_in, plans_in}
 use Rattle.prefix_walks.specs.Batches.{counted_as}
-use Rattle.job_plan.specs.Plans.{AbstractEnd, slicing, folding, finding, collecting, exactly, scanning, AbstractSegment, AbstractPlan, end_of, ended, last_stage, on_outcome, outcome_of, walk_of}
+use Rattle.job_plan.specs.Plans.{AbstractEnd, folding, finding, collecting, exactly, scanning, AbstractSegment, AbstractPlan, end_of, ended, last_stage, on_outcome, outcome_of, walk_of}
 use Rattle.prefix_walks.specs.Pieces.{piece_of}
 use Rattle.job_meaning.specs.Walks.{answer_of, exact_answer, found_answer, unless_fault}
-use Rattle.job_plan.proofs.SettleLemmas.{faults, find_settles, settles_on, slice_settles}
+use Rattle.job_plan.proofs.SettleLemmas.{faults, find_settles, settles_on}
 
 -- ---- folds
 
@@ -137,7 +135,6 @@ faulted_stays a b h = let f = the_fault a.ending h in append_faulted a b f.0 f.1
 
 -- after what settles a piece, nothing matters
 pub settled : (e : AbstractEnd) (n : ℕ) (env : Numbers) (p : Part) (a b : Trace) → is_settled p ≡ true → EndsFor e n env p a → EndsFor e n env p (append a b)
-settled (slicing d) n env (part.Slice p) a b h s = slice_settled n env a b d p h s
 settled (folding f i c) n env (part.Fold p) a b h s = subst (λ (t : Trace). IsFold f i c p t) (sym (faulted_stays a b (ap is_fault (sym s.stands.ending) ∙ h))) s
 settled (finding d) n env (part.Find p) a b h s = find_settled d n env p a b h s
 settled collecting n env (part.Array p) a b h s = s ∙ ap array_of (sym (faulted_stays a b (ap (λ (k : AbstractArray). is_fault k.ending) (sym s) ∙ h)))
@@ -189,6 +186,10 @@ pub stages_more : (gs : List Stage) (g : Stage) → stages_of (gs ++ g ∷ []) �
 stages_more [] g = refl
 stages_more (f ∷ gs) g = ap (λ (hs : List AbstractStage). stage_of f ∷ hs) (stages_more gs g)
 
+pub length_segments : (ss : List Segment) → length (segments_in ss) ≡ length ss
+length_segments [] = refl
+length_segments (s ∷ ss) = ap suc (length_segments ss)
+
 segments_snoc : (ss : List Segment) (s : Segment) → segments_in (ss ++ s ∷ []) ≡ segments_in ss ++ segment_in s ∷ []
 segments_snoc [] s = refl
 segments_snoc (r ∷ ss) s = ap (λ (rs : List AbstractSegment). segment_in r ∷ rs) (segments_snoc ss s)
@@ -228,7 +229,6 @@ on_ok_map (Err e) f p = p
 -- ---- what settles a segment
 
 pub part_settles : (e : AbstractEnd) (n : ℕ) (env : Numbers) (p : Part) (t : Trace) → is_settled p ≡ true → is_running p ≡ false → EndsFor e n env p t → IsSettled (ended e n env) t
-part_settles (slicing d) n env (part.Slice p) t h k s = settles_on outcome.Source (sliced d n env) t (slice_settles d n env p t h s)
 part_settles (folding f i c) n env (part.Fold p) t h k s = faults (ended (folding f i c) n env) t (sym (ap is_fault s.stands.ending) ∙ h)
 part_settles (finding d) n env (part.Find p) t h k s = settles_on (λ r. outcome.Answer (found_answer r)) (find_answer d n env) t (find_settles d n env t (sym (ap is_some s.decision) ∙ h))
 part_settles collecting n env (part.Array p) t h k s = faults (ended collecting n env) t (sym (ap (λ (k : AbstractArray). is_fault k.ending) s) ∙ h)

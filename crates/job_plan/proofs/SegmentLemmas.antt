@@ -1,12 +1,13 @@
 -- The segments of a job, in turn, give the walk by stages.
-use Rattle.std.proofs.Common.{◌≡◌, ℕ, suc, ◌+◌, List, [], ◌∷◌, ◌++◌, length, length-append, ap, ◌∙◌, arith}
+use Rattle.std.proofs.Common.{◌≡◌, ◌≤◌, ℕ, suc, ◌+◌, List, [], ◌∷◌, ◌++◌, length, length-append, refl, ap, ◌∙◌, arith}
 use Rattle.lambda_values.specs.Earlier.{Numbers}
 use Rattle.trace.specs.Stages.{AbstractStage, through, pipe}
 use Rattle.trace.specs.Trace.{Trace}
 use Rattle.reduce_ops.specs.Operators.{value_of}
 use Rattle.slice_ops.specs.Slices.{sliced}
 use Rattle.prefix_scan.specs.Prefixes.{prefixed}
-use Rattle.job_language.specs.Jobs.{AbstractPlainSource, AbstractJobStage, item, slice, prefix, AbstractTerminal, AbstractJob}
+use Rattle.job_language.specs.Jobs.{AbstractPlainSource, AbstractJobStage, item, slice, prefix, AbstractTerminal, AbstractJob, job_stages_of}
+use Rattle.job_language.specs.declared.job.JobStage.{JobStage}
 use Rattle.job_meaning.specs.Walks.{after_stages, answer_of, answer_of_job, fallback_of, instead_of_fault, source_walk}
 use Rattle.job_plan.specs.Plans.{plan_of, planned_answer, segments_answer, segments_from}
 use Rattle.job_plan.proofs.PartLemmas.{terminal_ends}
@@ -54,3 +55,14 @@ planned_job env sources stages terminal =
 
 pub planned : (env : Numbers) (before : List (List ℕ)) (job : AbstractJob) → planned_answer env (plan_of before job) ≡ answer_of_job env job
 planned env before job = ap (instead_of_fault (fallback_of job)) (planned_job env job.sources job.stages job.terminal)
+
+-- a segment for each stage at most, and one more
+pub few_segments : (stages : List AbstractJobStage) (d : AbstractTerminal) (n : ℕ) (gs : List AbstractStage) → length (segments_from n gs stages d) ≤ suc (length stages)
+few_segments [] d n gs = omega arith
+few_segments (item g ∷ rest) d n gs = let h = few_segments rest d n (gs ++ g ∷ []) in omega (arith, h)
+few_segments (slice s ∷ rest) d n gs = let h = few_segments rest d (suc (n + length gs)) [] in omega (arith, h)
+few_segments (prefix r f ∷ rest) d n gs = let h = few_segments rest d (suc (n + length gs)) [] in omega (arith, h)
+
+pub length_job_stages : (gs : List JobStage) → length (job_stages_of gs) ≡ length gs
+length_job_stages [] = refl
+length_job_stages (g ∷ gs) = ap suc (length_job_stages gs)

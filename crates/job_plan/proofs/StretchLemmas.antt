@@ -13,7 +13,7 @@ use Rattle.job_plan.specs.Stretches.{IsWalked}
 use Rattle.prefix_walks.proofs.Elements.{elements_join, take_none}
 use Rattle.prefix_walks.proofs.FeedLemmas.{fed_both, fed_stopped, fed_none}
 
-pub in_order : (end p : ℕ) (to : Option ℕ) → IfSome to (λ t. end ≡ t) → p ≤ end → IsNotAfter p to
+pub in_order : (end p : ℕ) (to : Option ℕ) → IfSome to (λ t. end ≤ t) → p ≤ end → IsNotAfter p to
 in_order end p None h l = tt
 in_order end p (Some t) h l = omega (arith, h, l)
 

@@ -1,5 +1,5 @@
 -- Walks of segments in pieces.
-use Rattle.std.proofs.Common.{◌≡◌, ℕ, suc, ◌≤◌, ◌<◌, length, arith, Bool, true, false, List, [], ◌∷◌, ◌++◌, take, Option, Some, None, IfSome, IfOk, Result, Ok, Err, refl, sym, ap, subst, ◌∙◌}
+use Rattle.std.proofs.Common.{◌≡◌, ℕ, ◌≤◌, length, arith, Bool, true, false, List, [], ◌∷◌, ◌++◌, take, Option, Some, None, IfSome, IfOk, Result, Ok, Err, refl, sym, ap, subst, ◌∙◌}
 use Rattle.std.proofs.lemmas.List.{take_all}
 use Rattle.lambda_values.specs.Earlier.{Numbers}
 use Rattle.trace.specs.declared.item.Item.{Item}
@@ -18,7 +18,8 @@ use Rattle.trace.specs.Sinks.{IsFed}
 use Rattle.trace.specs.declared.sink.Flow.TheVariants as flow
 use Rattle.job_plan.specs.Parts.{EndsFor, HasTaken, StandsFor, flow_of, is_settled, may_search}
 use Rattle.prefix_walks.specs.Pieces.{elements, piece_of}
-use Rattle.job_plan.specs.Plans.{AbstractEnd, AbstractSegment, last_stage, on_outcome, outcome_of, segments_answer, walk_of}
+use Rattle.job_plan.specs.Plans.{AbstractEnd, AbstractSegment, last_stage, on_outcome, walk_of}
+use Rattle.job_plan.specs.Links.{AbstractLeg, leg_outcome, legs_answer}
 use Rattle.prefix_walks.specs.Spans.{IsNotAfter}
 use Rattle.job_plan.proofs.FeedLemmas.{piece_in_two, stands_more, stands_fault, stands_enough}
 use Rattle.job_plan.proofs.LentLemmas.{grown}
@@ -43,13 +44,12 @@ pub merged_piece : (s : AbstractSegment) (env : Numbers) (p : Part) (t : Trace) 
     → StandsFor s env p (append (piece_of from (Some middle) t) (piece_of middle to t)) → StandsFor s env p (piece_of from to t)
 merged_piece s env p t from middle to h k x = subst (λ (u : Trace). StandsFor s env p u) (pieces_joined t from middle to h k) x
 
--- the last segment
-pub answered : (s : AbstractSegment) (ss : List AbstractSegment) (env : Numbers) (t : Trace) (o : Outcome) (a : Answer) → o ≡ outcome_of s env t → o ≡ outcome.Answer a → a ≡ segments_answer (s ∷ ss) env t
-answered s ss env t o a e is = ap (λ x. on_outcome x (segments_answer ss env)) (sym is ∙ e)
+-- the last leg, and a leg before others
+pub answered : (l : AbstractLeg) (ls : List AbstractLeg) (env : Numbers) (t : Trace) (o : Outcome) (a : Answer) → o ≡ leg_outcome l env t → o ≡ outcome.Answer a → a ≡ legs_answer (l ∷ ls) env t
+answered l ls env t o a e is = ap (λ x. on_outcome x (legs_answer ls env)) (sym is ∙ e)
 
--- a segment before others
-pub went_on : (s : AbstractSegment) (ss : List AbstractSegment) (env : Numbers) (t u : Trace) (o : Outcome) (a : Answer) → o ≡ outcome_of s env t → o ≡ outcome.Source u → a ≡ segments_answer ss env u → a ≡ segments_answer (s ∷ ss) env t
-went_on s ss env t u o a e is later = later ∙ ap (λ x. on_outcome x (segments_answer ss env)) (sym is ∙ e)
+pub went_on : (l : AbstractLeg) (ls : List AbstractLeg) (env : Numbers) (t u : Trace) (o : Outcome) (a : Answer) → o ≡ leg_outcome l env t → o ≡ outcome.Source u → a ≡ legs_answer ls env u → a ≡ legs_answer (l ∷ ls) env t
+went_on l ls env t u o a e is later = later ∙ ap (λ x. on_outcome x (legs_answer ls env)) (sym is ∙ e)
 
 -- a part that goes on from another one with some items, and then with others
 pub taken_on : (e : AbstractEnd) (n : ℕ) (env : Numbers) (begun p q : Part) (xs ys : List Item) → HasTaken e n env begun p xs

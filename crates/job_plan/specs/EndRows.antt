@@ -2,16 +2,8 @@
 use Rattle.std.specs.Prelude.{Bool, true, false, Option, Some, None, is_some}
 use Rattle.lambda_values.specs.Term.{Truth}
 use Rattle.reduce_ops.specs.Operators.{identity_of}
-use Rattle.slice_ops.specs.Slices.{AbstractSlice, limit, skip, take_while, drop_while}
 use Rattle.find_ops.specs.Finds.{Find, first, any_match, all_match, none_match}
 use Rattle.job_plan.specs.Plans.{AbstractEnd, slicing, folding, finding, collecting, exactly, scanning}
-
--- the test that a slice asks of items while it takes them, if it asks one
-abbrev pub slice_test : AbstractSlice → Option Truth
-slice_test (limit k) = None
-slice_test (skip k) = None
-slice_test (take_while p) = Some p
-slice_test (drop_while p) = None
 
 -- the test of a match
 abbrev pub find_test : Find → Option Truth
@@ -22,7 +14,7 @@ find_test (none_match p) = Some p
 
 -- the test that an end asks of items while it takes them, if it asks one
 abbrev pub end_test : AbstractEnd → Option Truth
-end_test (slicing d) = slice_test d
+end_test (slicing d) = None
 end_test (folding f a counts) = None
 end_test (finding d) = find_test d
 end_test collecting = None

@@ -13,7 +13,6 @@ end_fault (end.Fault f) = Some f
 
 -- the fault in which a fold ended; the other parts have none
 abbrev pub fold_fault : Part → Option Fault
-fold_fault (part.Slice p) = None
 fold_fault (part.Fold p) = end_fault p.partial.end
 fold_fault (part.Find p) = None
 fold_fault (part.Array c) = None

@@ -3,6 +3,7 @@ pub mod Arrays
 pub mod EndRows
 pub mod Firsts
 pub mod FoldFaults
+pub mod Legs
 pub mod Links
 pub mod Moves
 pub mod Parts

@@ -1,15 +1,11 @@
 -- Condition: slices that a walk goes through one after the other.
-use Rattle.std.specs.Prelude.{◌≡◌, pos, Bool, true, false, List, [], ◌∷◌, Option, Some, None, slice_get}
+use Rattle.std.specs.Prelude.{pos, Bool, true, false, List, [], ◌∷◌, Option, Some, None, slice_get}
 use Rattle.lambda_values.specs.Earlier.{Numbers}
 use Rattle.trace.specs.Trace.{Trace}
-use Rattle.slice_ops.specs.Rests.{rest_of}
-use Rattle.slice_ops.specs.Slices.{AbstractSlice, sliced}
+use Rattle.slice_ops.specs.Slices.{AbstractSlice, skip, sliced}
 use Rattle.job_meaning.specs.declared.answer.Answer.{Answer}
 use Rattle.job_meaning.specs.declared.answer.Answer.TheVariants as answer
-use Rattle.job_plan.specs.declared.links.Leg.{Leg}
-use Rattle.job_plan.specs.declared.links.Link.{Link}
 use Rattle.job_plan.specs.declared.outcome.Outcome.{Outcome}
-use Rattle.job_plan.specs.Parts.{segment_in, segments_in}
 use Rattle.job_plan.specs.Plans.{slicing, AbstractSegment, AbstractPlan, last_stage, on_outcome, outcome_of, slice_in, walk_of}
 use Rattle.job_plan.specs.Windows.{later_segments}
 
@@ -37,15 +33,20 @@ abbrev pub first_links : List AbstractSegment → List AbstractLink
 first_links [] = []
 first_links (s ∷ ss) = link_by (slice_in s.ending) s (first_links ss)
 
--- helper: these segments, or the later ones if the first one ends in a slice
-abbrev pub after_by : Option AbstractSlice → List AbstractSegment → List AbstractSegment → List AbstractSegment
-after_by None ss later = ss
-after_by (Some d) ss later = later
+-- the slice at the end of a segment that ends in one, and that segment as a link
+abbrev pub slice_or : Option AbstractSlice → AbstractSlice
+slice_or None = skip 0
+slice_or (Some d) = d
 
--- the segments after these
-abbrev pub after_links : List AbstractSegment → List AbstractSegment
-after_links [] = []
-after_links (s ∷ ss) = after_by (slice_in s.ending) (s ∷ ss) (after_links ss)
+abbrev pub slice_at : AbstractSegment → AbstractSlice
+slice_at s = slice_or (slice_in s.ending)
+
+abbrev pub link_at : AbstractSegment → AbstractLink
+link_at s = record { segment = s; rest = slice_at s }
+
+-- a segment that lets all items pass
+abbrev pub open_link : AbstractSegment
+open_link = record { first = 0; stages = []; ending = slicing (skip 0) }
 
 -- slices that a walk goes through one after the other, and the segment after them
 pub record AbstractLeg : Type 0 where
@@ -89,23 +90,3 @@ plan_legs plan = legs_of (later_segments plan.segments)
 
 abbrev pub plan_streams : AbstractPlan → Bool
 plan_streams plan = is_linked (links_there (slice_get (plan_legs plan) 0))
-
--- the segment ends in this slice
-abbrev pub Fits : AbstractLink → Type 0
-Fits l = l.segment.ending ≡ slicing l.rest
-
-abbrev pub AllFit : List AbstractLink → Type 0
-AllFit [] = Unit {0}
-AllFit (l ∷ ls) = Fits l × AllFit ls
-
--- the links of the program
-abbrev pub link_in : Link → AbstractLink
-link_in l = record { segment = segment_in l.segment.now; rest = rest_of l.rest }
-
-abbrev pub each_link_in : List Link → List AbstractLink
-each_link_in [] = []
-each_link_in (l ∷ ls) = link_in l ∷ each_link_in ls
-
--- a leg of the program
-abbrev pub leg_in : Leg → AbstractLeg
-leg_in l = record { links = first_links (segments_in l.segments.now); last = segment_in l.last.now }

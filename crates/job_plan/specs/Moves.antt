@@ -1,15 +1,12 @@
 -- Condition: slices that come after maps alone, and plans with equal answers.
-use Rattle.std.specs.Prelude.{◌≡◌, Bool, true, false, ◌&&◌, List, [], ◌∷◌, ◌++◌, Option, Some, None}
+use Rattle.std.specs.Prelude.{◌≡◌, Bool, true, false, ◌&&◌, List, [], ◌∷◌, Option, Some, None}
 use Rattle.lambda_values.specs.Earlier.{Numbers}
-use Rattle.trace.specs.Stages.{AbstractStage, map, filter, flat_map, stages_of}
+use Rattle.trace.specs.Stages.{AbstractStage, map, filter, flat_map}
 use Rattle.trace.specs.Trace.{Trace}
 use Rattle.slice_ops.specs.Slices.{AbstractSlice, limit, skip, take_while, drop_while}
 use Rattle.job_language.specs.Jobs.{AbstractPlainSource}
-use Rattle.job_plan.specs.declared.moves.Moved.{Moved}
-use Rattle.job_plan.specs.declared.segment.Held.{Held}
 use Rattle.prefix_walks.specs.Faultless.{never_faults}
-use Rattle.job_plan.specs.Parts.{segments_in}
-use Rattle.job_plan.specs.Plans.{AbstractEnd, slicing, AbstractSegment, AbstractPlan, segments_answer, slice_in}
+use Rattle.job_plan.specs.Plans.{AbstractEnd, AbstractSegment, AbstractPlan, segments_answer, slice_in}
 use Rattle.job_meaning.specs.Walks.{source_walk}
 
 -- whether stages are all maps; if asked for, maps that can't have a fault
@@ -55,15 +52,3 @@ AllSamePlans [] [] = Unit {0}
 AllSamePlans [] (q ∷ qs) = ⊥
 AllSamePlans (p ∷ ps) [] = ⊥
 AllSamePlans (p ∷ ps) (q ∷ qs) = IsSamePlan p q × AllSamePlans ps qs
-
--- maps that wait for the segment after them, as a segment that ends in `skip(0)`, which changes nothing
-abbrev pub waiting_in : Held → AbstractSegment
-waiting_in h = record { first = h.first_stage; stages = stages_of h.stages.items; ending = slicing (skip 0) }
-
-abbrev pub held_in : Option Held → List AbstractSegment
-held_in None = []
-held_in (Some h) = waiting_in h ∷ []
-
--- the segments that were moved so far
-abbrev pub moved_in : Moved → List AbstractSegment
-moved_in m = segments_in m.segments.items ++ held_in m.held

@@ -12,7 +12,6 @@ use Rattle.reduce_ops.specs.declared.op.Op.{Op}
 use Rattle.reduce_ops.specs.Parts.{StandsFor as FoldStands}
 use Rattle.reduce_ops.specs.Reaches.{StandsFor as SumStands, is_running as is_running_sum, is_settled as sum_is_settled, may_search as sum_may_search}
 use Rattle.slice_ops.specs.Slices.{slice_of}
-use Rattle.slice_ops.specs.Parts.{StandsFor as SliceStands, is_settled as slice_is_settled}
 use Rattle.find_ops.specs.Finds.{find_of}
 use Rattle.find_ops.specs.Parts.{StandsFor as FindStands}
 use Rattle.job_language.specs.Jobs.{sources_of}
@@ -87,7 +86,6 @@ pub record IsFold (f : Op) (a : Option ℤ) (counts : Bool) (p : FoldPart) (t : 
 -- a part describes a walk that came through the stages, at this end, which is the stage with this number; a part of
 -- another kind than the end describes none
 abbrev pub EndsFor : AbstractEnd → ℕ → Numbers → Part → Trace → Type 0
-EndsFor (slicing d) n env (part.Slice p) t = SliceStands d n env p t
 EndsFor (folding f a counts) n env (part.Fold p) t = IsFold f a counts p t
 EndsFor (finding d) n env (part.Find p) t = FindStands d n env p t
 EndsFor collecting n env (part.Array c) t = c ≡ array_of t
@@ -125,7 +123,6 @@ is_fault (end.Fault f) = true
 
 -- whether nothing after the piece matters
 abbrev pub is_settled : Part → Bool
-is_settled (part.Slice p) = slice_is_settled p
 is_settled (part.Fold p) = is_fault p.partial.end
 is_settled (part.Find p) = is_some p.decision
 is_settled (part.Array c) = is_fault c.ending
@@ -145,16 +142,12 @@ settles (suc k) p = if is_running p then false else is_settled p
 
 -- whether the parts of an end keep items; to merge two of them may then take memory
 abbrev pub end_keeps_items : AbstractEnd → Bool
-end_keeps_items (slicing d) = true
-end_keeps_items (folding f a counts) = false
-end_keeps_items (finding d) = false
 end_keeps_items collecting = true
 end_keeps_items (scanning f r) = true
-end_keeps_items exactly = false
+end_keeps_items e = false
 
 -- whether a part keeps items
 abbrev pub keeps_items : Part → Bool
-keeps_items (part.Slice p) = true
 keeps_items (part.Fold p) = false
 keeps_items (part.Find p) = false
 keeps_items (part.Array c) = true

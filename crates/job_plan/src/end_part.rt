@@ -51,7 +51,7 @@ pub(crate) trait EndPart: Drop + Sized {
 
     /// Adds the items of a source, which have these values, after the others.
     ///
-    /// The test of a match or a `takeWhile` goes over all values first, as far as the room is enough for it. If the
+    /// The test of a match goes over all values first, as far as the room is enough for it. If the
     /// allocation fails, the part stays as it was. Without items it takes no memory.
     fn push_all<I: SourceItems>(
         &mut self,

@@ -5,7 +5,7 @@ ghost use Rattle.slice_ops.specs.Slices.{slice_of};
 ghost use Rattle.find_ops.specs.Finds.{find_of};
 ghost use Rattle.job_language.specs.Jobs.{terminal_of};
 ghost use Rattle.lambda_values.specs.Term.{truth_of};
-ghost use Rattle.job_plan.specs.EndRows.{end_test, find_test, slice_test, takes_flags};
+ghost use Rattle.job_plan.specs.EndRows.{end_test, find_test, takes_flags};
 ghost use Rattle.job_plan.specs.Parts.{end_in, fallback_in};
 ghost use Rattle.job_plan.specs.Plans.{end_of, gives_walk, slice_in};
 ghost use Rattle.job_meaning.specs.Walks.{number_as};
@@ -104,7 +104,7 @@ impl SegmentEnd {
             SegmentEnd::Slice(slice) => EndRow {
                 slice: Some(slice),
                 gives_walk: true,
-                test: test_of_slice(slice),
+                test: None,
                 takes_flags: false,
             },
             SegmentEnd::Fold(fold) => EndRow {
@@ -132,16 +132,6 @@ impl SegmentEnd {
                 takes_flags: false,
             },
         }
-    }
-}
-
-/// The test that a slice asks of items while it takes them, if it asks one.
-fn test_of_slice(slice: &Slice) -> Option<&BoolExpr>
-    ensures { option_map (λ test. truth_of test.now) result ≡ slice_test (slice_of slice.now) }
-{
-    match slice {
-        Slice::TakeWhile(test) => Some(test),
-        Slice::Limit(_) | Slice::Skip(_) | Slice::DropWhile(_) => None,
     }
 }
 

@@ -1,6 +1,6 @@
 //! `reduce` by the operator that keeps the first value: if no fault can come, the job finds that value and stops there.
 
-ghost use Rattle.std.specs.Prelude.{◌≡◌, [], ◌∷◌, IfOk, None, false, true};
+ghost use Rattle.std.specs.Prelude.{◌≡◌, [], ◌∷◌, IfOk, None, false, length, true};
 ghost use Rattle.trace.specs.Stages.{stage_of, stages_of};
 ghost use Rattle.job_plan.specs.Firsts.{SameOfClean, all_calm, finding_first, is_calm, last_finds};
 ghost use Rattle.job_plan.specs.Parts.{end_in, segment_in, segments_in};
@@ -80,7 +80,8 @@ fn last_may_find(segments: &[Segment]) -> bool
 
 /// These segments; the last one finds the first value if it may.
 pub(crate) fn with_first_found(segments: Vec<Segment>) -> Result<Vec<Segment>, NoMemory>
-    ensures { IfOk result (λ found. SameOfClean (segments_in found.items) (segments_in segments.items)) }
+    ensures same { IfOk result (λ found. SameOfClean (segments_in found.items) (segments_in segments.items)) }
+    ensures count { IfOk result (λ found. length found.items ≡ length segments.items) }
 {
     if !last_may_find(&segments) {
         return Ok(segments);

@@ -3,14 +3,12 @@
 ghost use Rattle.std.specs.Prelude.{◌≡◌, ℕ, List, None, map, take};
 ghost use Rattle.trace.specs.declared.item.Item.{Item as item};
 ghost use Rattle.find_ops.specs.Finds.{find_of, first_decision};
-ghost use Rattle.slice_ops.specs.Parts.{IsFront};
 ghost use Rattle.slice_ops.specs.Rests.{IsTested, rest_of};
-ghost use Rattle.slice_ops.specs.Slices.{slice_of};
 
 use batch_eval::count_passing;
 use find_ops::FindTerminal;
 use lambda_values::Env;
-use slice_ops::{Slice, SliceRest};
+use slice_ops::SliceRest;
 
 /// How many items with these values, from the first on, decide nothing.
 pub(crate) fn undecided(find: &FindTerminal, env: &Env, values: &[i64], room: &mut [i64]) -> u64
@@ -22,17 +20,6 @@ pub(crate) fn undecided(find: &FindTerminal, env: &Env, values: &[i64], room: &m
         FindTerminal::AnyMatch(test) => count_passing(test, false, env, values, room) as u64,
         FindTerminal::AllMatch(test) => count_passing(test, true, env, values, room) as u64,
         FindTerminal::NoneMatch(test) => count_passing(test, false, env, values, room) as u64,
-    }
-}
-
-/// How many items with these values come before the first one at which the test of a `takeWhile` isn't true.
-pub(crate) fn front(slice: &Slice, env: &Env, values: &[i64], room: &mut [i64]) -> u64
-    ensures { (stage : ℕ) (xs : List item) → map (λ x. x.value) xs ≡ values.now
-        → IsFront (slice_of slice.now) stage env.now xs result }
-{
-    match slice {
-        Slice::TakeWhile(test) => count_passing(test, true, env, values, room) as u64,
-        Slice::Limit(_) | Slice::Skip(_) | Slice::DropWhile(_) => 0,
     }
 }
 

@@ -4,7 +4,7 @@
 //! `batch_eval`, for walks, and on `reduce_ops`, `slice_ops`, `find_ops` and `prefix_walks`, for what stages and
 //! terminals keep of a walk. Used by whatever runs jobs.
 //! Begin with `specs/Plans.antt`. A job is cut into segments, and the earlier jobs that it names are found
-//! (`Plan::of`). `leaf` takes a piece of a segment's source to a `Part`, two parts side by side merge, and
+//! (`Plan::of`). `leaf_until` takes a piece of a segment's source to a `Part`, two parts side by side merge, and
 //! `Part::finish` gives the next source or the answer. `walk_tree` does all of this on one thread. `plan_laws.rt` says
 //! that this is the answer by stages, and that the jobs of a plan have the answers of their file.
 //! Not promised: that pieces are walked at the same time, or that a piece is walked no further than needed.
@@ -22,6 +22,7 @@ mod first_found;
 mod fold_part;
 mod fronts;
 mod leaves;
+mod leg;
 mod lent_arrays;
 mod lent_part;
 mod likely;
@@ -41,7 +42,6 @@ mod prefix_end;
 mod room;
 mod segment;
 mod sizes;
-mod slice_end;
 mod source;
 mod sources;
 mod streaming;
@@ -53,8 +53,8 @@ pub use array_part::ArrayPart;
 pub use ends::{Fold, SegmentEnd};
 pub use fallback::Fallback;
 pub use fold_part::FoldPart;
-pub use leaves::{leaf, leaf_in_order, leaf_stored, leaf_until, leaf_with, unwalked};
-pub use links::Leg;
+pub use leaves::{leaf_stored, leaf_until, unwalked};
+pub use leg::Leg;
 pub use outcome::Outcome;
 pub use part::Part;
 pub use plan_laws::{

@@ -4,12 +4,12 @@
 ghost use Rattle.std.specs.Prelude.{◌≡◌, ◌-◌, ◌<◌, ◌≤◌, ◌^◌, ℕ, List, [], drop, length, map, take, ⊤, ◌++◌, OnOk};
 ghost use Rattle.lambda_values.specs.Earlier.{Numbers};
 ghost use Rattle.trace.specs.Sinks.{IsFed, flow_after};
-ghost use Rattle.trace.specs.Trace.{Trace, trace};
+ghost use Rattle.trace.specs.Trace.{Trace, append, trace};
 ghost use Rattle.trace.specs.declared.feeding.Fed.TheVariants as fed;
 ghost use Rattle.trace.specs.declared.item.End.TheVariants as end;
 ghost use Rattle.trace.specs.declared.item.Item.{Item as item};
 ghost use Rattle.slice_ops.specs.Rests.{rest_of};
-ghost use Rattle.slice_ops.specs.Slices.{AbstractSlice, limit};
+ghost use Rattle.slice_ops.specs.Slices.{AbstractSlice, limit, sliced};
 ghost use Rattle.batch_eval.specs.Pipelines.{piped};
 ghost use Rattle.job_plan.specs.Parts.{segment_in};
 ghost use Rattle.job_plan.specs.Passages.{HasPassed, IsAfter, fed_by, passage_flow, through_link};
@@ -82,8 +82,9 @@ impl Passage {
 pub(crate) struct Passing<'p, S: Drop> {
     pub(crate) rest: SliceRest<'p>,
     pub(crate) passage: Passage,
-    /// What takes the items that pass, after the stages of the next segment.
-    pub(crate) inner: S,
+    /// What takes the items that pass, after the stages of the next segment. It is in a box, so that a nest of sinks
+    /// takes little stack: each sink that is moved is small.
+    pub(crate) inner: Box<S>,
 }
 
 /// Where a slice stands in a walk, with the values of the job's names.
@@ -128,6 +129,30 @@ fn answer(passage: Passage) -> Fed
         Passage::Open => Fed::More,
         Passage::Enough | Passage::Ended(_) | Passage::Refused => Fed::Enough,
     }
+}
+
+/// What a slice lets pass of the items of a source, which have these values. A function of its own keeps `pass` small,
+/// which is there for each depth of a nest.
+#[inline(never)]
+fn cut_of<'p, I: BatchSource>(
+    rest: SliceRest<'p>,
+    junction: Junction,
+    source: &I,
+    values: &[i64],
+    room: &mut [i64],
+) -> SliceCut<'p>
+    requires values { map (λ x. x.value) (I.items source.now) ≡ values.now }
+    ensures ordered { result.from ≤ result.to }
+    ensures within { result.to ≤ length (I.items source.now) }
+    ensures passes { (later : Trace)
+        → sliced (rest_of rest.entry) junction.entry.stage junction.entry.env.now
+        (append (trace (I.items source.now) end.Done) later)
+        ≡ append (trace (take (result.to - result.from) (drop result.from (I.items source.now))) result.end)
+        (sliced (rest_of result.rest) junction.entry.stage junction.entry.env.now later) }
+{
+    let Junction { stage, env, .. } = junction;
+    let front = tested(&rest, env, values, room);
+    rest.cut(stage, env, source, front)
 }
 
 /// Takes the items of a source that a slice cut out of it through the stages and into a sink.
@@ -177,21 +202,21 @@ fn pass<I: BatchSource, S: BatchSink + Drop>(
     registers: &mut Registers,
     room: &mut [i64],
 ) -> Result<Fed, NoMemory>
-    requires wants { passage_flow passing.old.passage (S.flow passing.old.inner) ≡ Flow.More }
+    requires wants { passage_flow passing.old.passage (S.flow passing.old.inner.value) ≡ Flow.More }
     requires values { map (λ x. x.value) (I.items source.now) ≡ values.now }
     ensures fed { (begun : AbstractSlice) (xs : List item)
         → HasPassed S.has_taken S.flow begun junction.entry.stage (segment_in junction.entry.next.now)
-        junction.entry.env.now (rest_of passing.old.rest) passing.old.passage passing.old.inner xs
+        junction.entry.env.now (rest_of passing.old.rest) passing.old.passage passing.old.inner.value xs
         → IsFed (λ p. HasPassed S.has_taken S.flow begun junction.entry.stage
-        (segment_in junction.entry.next.now) junction.entry.env.now (rest_of p.rest) p.passage p.inner) xs
+        (segment_in junction.entry.next.now) junction.entry.env.now (rest_of p.rest) p.passage p.inner.value) xs
         (trace (I.items source.now) end.Done) result passing.new }
     ensures all { OnOk result ((begun : AbstractSlice) (xs : List item)
         → HasPassed S.has_taken S.flow begun junction.entry.stage (segment_in junction.entry.next.now)
-        junction.entry.env.now (rest_of passing.old.rest) passing.old.passage passing.old.inner xs
+        junction.entry.env.now (rest_of passing.old.rest) passing.old.passage passing.old.inner.value xs
         → HasPassed S.has_taken S.flow begun junction.entry.stage (segment_in junction.entry.next.now)
-        junction.entry.env.now (rest_of passing.new.rest) passing.new.passage passing.new.inner
+        junction.entry.env.now (rest_of passing.new.rest) passing.new.passage passing.new.inner.value
         (xs ++ I.items source.now)) }
-    ensures flow { passage_flow passing.new.passage (S.flow passing.new.inner) ≡ flow_after result }
+    ensures flow { passage_flow passing.new.passage (S.flow passing.new.inner.value) ≡ flow_after result }
 {
     let Passage::Open = passing.passage else {
         return Ok(Fed::More);
@@ -199,11 +224,9 @@ fn pass<I: BatchSource, S: BatchSink + Drop>(
     if values.is_empty() {
         return Ok(Fed::More);
     }
-    let Junction { stage, next, env } = junction;
-    let front = tested(&passing.rest, env, values, room);
-    let cut = passing.rest.cut(stage, env, source, front);
-    let inner = &mut passing.inner;
-    let line = next.pipeline(env);
+    let cut = cut_of(passing.rest, junction, source, values, room);
+    let inner = &mut *passing.inner;
+    let line = junction.next.pipeline(junction.env);
     let fed = match hand_on(line, source, &cut, registers, room, inner) {
         Ok(fed) => fed,
         Err(refused) => {
@@ -221,9 +244,9 @@ impl<K: LinkBrand, S: Closing> LongSink for LinkSink<'_, '_, K, S> {
     ghost has_taken = { λ sink items. (segment_in sink.junction.next.now ≡ K.next) × (sink.junction.stage ≡ K.stage)
         × (sink.junction.env.now ≡ K.env)
         × HasPassed S.has_taken S.flow K.rest K.stage K.next K.env
-        (rest_of sink.passing.rest) sink.passing.passage sink.passing.inner items };
+        (rest_of sink.passing.rest) sink.passing.passage sink.passing.inner.value items };
 
-    ghost flow = { λ sink. passage_flow sink.passing.passage (S.flow sink.passing.inner) };
+    ghost flow = { λ sink. passage_flow sink.passing.passage (S.flow sink.passing.inner.value) };
 
     ghost takes_memory = { ⊤ };
 
@@ -291,6 +314,7 @@ impl<K: LinkBrand, S: Closing> Closing for LinkSink<'_, '_, K, S> {
             passage,
             inner,
         } = self.passing;
+        let inner = Box::into_inner(inner);
         match passage {
             Passage::Open => inner.close(rest.end_after(ending)),
             Passage::Enough => inner.close(End::Done),

@@ -1,103 +1,53 @@
-//! The legs of a job: slices that a walk goes through one after another, and the segment after them.
+//! The legs of a job.
 
-ghost use Rattle.std.specs.Prelude.{◌≡◌, List, [], ◌∷◌, ◌++◌, IfSome, IfNone, OnOk, option_map, slice_get};
-ghost use Rattle.job_plan.specs.Links.{AllFit, Fits, after_links, each_link_in, first_links};
-ghost use Rattle.job_plan.specs.Links.{is_linked, leg_in, legs_of, link_in, plan_legs, plan_streams};
-ghost use Rattle.job_plan.specs.Parts.{plan_in, segment_in, segments_in};
-ghost use Rattle.job_plan.specs.Plans.{AbstractSegment};
+ghost use Rattle.std.specs.Prelude.{◌≡◌, ◌≤◌, ◌<◌, [], ◌∷◌, IfSome, IfNone, length, option_map, slice_get};
+ghost use Rattle.job_plan.specs.Legs.{leg_in};
+ghost use Rattle.job_plan.specs.Links.{first_links, legs_of, plan_legs, plan_streams};
+ghost use Rattle.job_plan.specs.Parts.{plan_in, segments_in};
 
+use crate::leg::Leg;
 use crate::segment::{JobPlan, Segment};
-use slice_ops::SliceRest;
-use trace::NoMemory;
+use crate::windows::later_segments;
 
-/// A segment that ends in a slice, and this slice before any item.
-#[derive(Clone, Copy)]
-pub(crate) struct Link<'p> {
-    pub(crate) segment: &'p Segment,
-    pub(crate) rest: SliceRest<'p>,
-}
-
-impl<'p> Link<'p> {
-    /// The link of a segment, if it ends in a slice.
-    fn of(segment: &'p Segment) -> Option<Link<'p>>
-        ensures some { IfSome result (λ link. (later : List AbstractSegment)
-            → first_links (segment_in segment.now ∷ later) ≡ link_in link ∷ first_links later) }
-        ensures fits { IfSome result (λ link. Fits (link_in link)) }
-        ensures none { IfNone result
-            ((later : List AbstractSegment) → first_links (segment_in segment.now ∷ later) ≡ []) }
-    {
-        match segment.end.slice() {
-            Some(slice) => Some(Link {
-                segment,
-                rest: SliceRest::of(slice),
-            }),
-            None => None,
-        }
-    }
-}
-
-/// Adds the links of the first segments that end in slices.
-pub(crate) fn push_links<'p>(
-    links: &mut Vec<Link<'p>>,
-    segments: &'p [Segment],
-) -> Result<(), NoMemory>
-    ensures links { OnOk result
-        (each_link_in links.new.items ≡ each_link_in links.old.items ++ first_links (segments_in segments.now)) }
-    ensures fit { AllFit (each_link_in links.old.items) → OnOk result (AllFit (each_link_in links.new.items)) }
+/// How many of the first segments end in slices.
+fn slices_first(segments: &[Segment]) -> usize
+    ensures count { result ≡ length (first_links (segments_in segments.now)) }
+    ensures few { result ≤ length segments.now }
 {
     let Some((segment, later)) = segments.split_first() else {
-        return Ok(());
-    };
-    let Some(link) = Link::of(segment) else {
-        return Ok(());
-    };
-    links.push(link)?;
-    push_links(links, later)
-}
-
-/// The segments after the first ones that end in slices.
-fn after_links(segments: &[Segment]) -> &[Segment]
-    ensures { segments_in result.now ≡ after_links (segments_in segments.now) }
-{
-    let Some((segment, later)) = segments.split_first() else {
-        return segments;
+        return 0;
     };
     match segment.end.slice() {
-        Some(_) => after_links(later),
-        None => segments,
+        Some(_) => slices_first(later) + 1,
+        None => 0,
     }
 }
 
-/// What a walk goes through at once: slices one after another, and the segment after them.
-#[derive(Clone, Copy)]
-pub struct Leg<'p> {
-    /// Segments that begin with the slices, if there are any, and then have `last`.
-    pub(crate) segments: &'p [Segment],
-    /// The first of them that doesn't end in a slice.
-    pub last: &'p Segment,
-}
-
-impl<'p> Leg<'p> {
-    /// Whether there is a slice. The walk is then one piece, whatever its length is.
-    pub fn streams(&self) -> bool
-        ensures { result ≡ is_linked (leg_in self.now).links }
-    {
-        match self.segments.split_first() {
-            Some((segment, _)) => segment.end.slice().is_some(),
-            None => false,
-        }
+/// The first leg of segments, and the segments after it.
+pub(crate) fn first_leg(segments: &[Segment]) -> Option<(Leg<'_>, &[Segment])>
+    requires few { length segments.now ≤ 33 }
+    ensures some { IfSome result (λ found.
+        legs_of (segments_in segments.now) ≡ leg_in found.0 ∷ legs_of (segments_in found.1.now)) }
+    ensures fewer { IfSome result (λ found. length found.1.now < length segments.now) }
+    ensures none { IfNone result (legs_of (segments_in segments.now) ≡ []) }
+{
+    let (links, others) = segments.split_at(slices_first(segments));
+    match others.split_first() {
+        Some((last, later)) => Some((Leg { links, last }, later)),
+        None => None,
     }
 }
 
 /// The leg with this number among segments.
 fn leg_among(segments: &[Segment], number: usize) -> Option<Leg<'_>>
+    requires few { length segments.now ≤ 33 }
     ensures { option_map leg_in result ≡ slice_get (legs_of (segments_in segments.now)) number }
 {
-    let Some((last, later)) = after_links(segments).split_first() else {
+    let Some((leg, later)) = first_leg(segments) else {
         return None;
     };
     if number == 0 {
-        return Some(Leg { segments, last });
+        return Some(leg);
     }
     leg_among(later, number - 1)
 }
@@ -108,7 +58,7 @@ impl<'c> JobPlan<'c> {
     pub fn leg(&self, number: usize) -> Option<Leg<'_>>
         ensures { option_map leg_in result ≡ slice_get (plan_legs (plan_in self.now)) number }
     {
-        leg_among(self.later_segments(), number)
+        leg_among(later_segments(&self.segments), number)
     }
 
     /// Whether the walk of the job's sources goes through slices that come after another stage, or that don't select

@@ -1,12 +1,12 @@
 //! Slices that come after maps alone.
 //!
 //! A map makes one item of each, so `limit` and `skip` after maps select positions of what the maps go over. They come
-//! first in the segments that are walked: no item is gathered for them, and the walk is cut among workers.
+//! first in the segments that are walked, and the walk is cut among workers.
 
-ghost use Rattle.std.specs.Prelude.{◌≡◌, ◌++◌, ◌∷◌, List, [], None, map, true, IfOk, OnOk};
+ghost use Rattle.std.specs.Prelude.{◌≡◌, ◌+◌, ◌++◌, ◌∷◌, List, length, map, true, IfOk, OnOk};
 ghost use Rattle.trace.specs.Stages.{stage_of, stages_of};
 ghost use Rattle.job_plan.specs.Moves.{IsSamePlan, SameAnswers, all_keep, comes_first};
-ghost use Rattle.job_plan.specs.Moves.{moved_in, stage_keeps, waiting_in};
+ghost use Rattle.job_plan.specs.Moves.{stage_keeps};
 ghost use Rattle.job_plan.specs.Parts.{end_in, plan_in, plans_in, segment_in, segments_in};
 ghost use Rattle.job_plan.specs.PlannedAnswers.{planned_meaning};
 ghost use Rattle.job_plan.specs.Plans.{AbstractPlan, AbstractSegment};
@@ -14,7 +14,7 @@ ghost use Rattle.job_plan.specs.Plans.{AbstractPlan, AbstractSegment};
 use crate::ends::SegmentEnd;
 use crate::first_found::with_first_found;
 use crate::likely::likely_size;
-use crate::segment::{Held, JobPlan, Plan, Segment};
+use crate::segment::{JobPlan, Plan, Segment};
 use lambda_values::LongExpr;
 use prefix_walks::never_faults;
 use slice_ops::Slice;
@@ -52,130 +52,85 @@ fn comes_first(stages: &[Stage], end: &SegmentEnd) -> bool
     }
 }
 
-impl Held {
-    /// The maps as a segment that ends in `skip(0)`, which changes nothing.
-    fn ended(self) -> Segment
-        ensures { segment_in result ≡ waiting_in self }
-    {
-        Segment {
-            first_stage: self.first_stage,
-            stages: self.stages,
-            end: SegmentEnd::Slice(Slice::Skip(0)),
+/// Whether these segments are slices alone, which select positions or let nothing pass.
+fn are_slices(segments: &[Segment]) -> bool {
+    for segment in segments {
+        if !segment.stages.is_empty() || !comes_first(&segment.stages, &segment.end) {
+            return false;
         }
     }
-
-    /// The maps, and stages after them. The number of the slice between them goes to a map that changes nothing.
-    fn joined(self, later: Vec<Stage>) -> Result<Vec<Stage>, NoMemory>
-        ensures { IfOk result (λ all. all.items ≡ self.stages.items ++ Stage.Map (LongExpr.Parameter 0) ∷ later.items) }
-    {
-        let mut stages = self.stages;
-        let mut later = later;
-        stages.push(Stage::Map(LongExpr::Parameter(0)))?;
-        stages.append(&mut later)?;
-        Ok(stages)
-    }
+    true
 }
 
-/// Segments in turn, with the slices that come after maps moved before these.
-#[derive(Drop)]
-struct Moved {
-    segments: Vec<Segment>,
-    held: Option<Held>,
-    /// Whether all segments so far are slices without stages.
-    is_front: bool,
+/// Whether the slice of a segment that comes after these may go before its maps, which then go into the next segment.
+fn may_swap(front: &[Segment], last: &Segment, next: &Segment) -> bool
+    ensures first { result ≡ true → comes_first (segment_in last.now).stages (segment_in last.now).ending ≡ true }
+    ensures next { result ≡ true → next.now.first_stage ≡ last.now.first_stage + length last.now.stages.items + 1 }
+{
+    if last.stages.is_empty() || !comes_first(&last.stages, &last.end) {
+        return false;
+    }
+    let after = u64::from(last.first_stage) + last.stages.len() as u64 + 1;
+    after == u64::from(next.first_stage) && are_slices(front)
 }
 
-impl Moved {
-    /// Takes the maps that are held into the segment after them.
-    fn take_held(&mut self, next: Segment) -> Result<Segment, NoMemory>
-        ensures segments { IfOk result (λ one. (later : List AbstractSegment)
-            → SameAnswers (moved_in self.new ++ segment_in one ∷ later)
-            (moved_in self.old ++ segment_in next ∷ later)) }
-        ensures none_held { OnOk result (self.new.held ≡ None) }
-    {
-        let Some(held) = self.held.take() else {
-            return Ok(next);
-        };
-        let first_stage = held.first_stage;
-        if u64::from(next.first_stage) == u64::from(first_stage) + held.stages.len() as u64 + 1 {
-            let Segment { stages, end, .. } = next;
-            let stages = held.joined(stages)?;
-            return Ok(Segment {
-                first_stage,
-                stages,
-                end,
-            });
-        }
-        self.segments.push(held.ended())?;
-        Ok(next)
-    }
+/// The slice of a segment, and the next segment with the maps before its stages. The number of the slice between them
+/// goes to a map that changes nothing.
+fn swapped(alloc: Global, last: Segment, next: Segment) -> Result<(Segment, Segment), NoMemory>
+    requires first { comes_first (segment_in last).stages (segment_in last).ending ≡ true }
+    requires next { next.first_stage ≡ last.first_stage + length last.stages.items + 1 }
+    ensures { IfOk result (λ two. (later : List AbstractSegment)
+        → SameAnswers (segment_in two.0 ∷ segment_in two.1 ∷ later) (segment_in last ∷ segment_in next ∷ later)) }
+{
+    let first_stage = last.first_stage;
+    let slice = Segment {
+        first_stage,
+        stages: Vec::new(alloc),
+        end: last.end,
+    };
+    let mut stages = last.stages;
+    let mut later = next.stages;
+    stages.push(Stage::Map(LongExpr::Parameter(0)))?;
+    stages.append(&mut later)?;
+    let next = Segment {
+        first_stage,
+        stages,
+        end: next.end,
+    };
+    Ok((slice, next))
+}
 
-    /// Adds the slice of a segment, and holds the segment's maps.
-    fn add_slice(&mut self, alloc: Global, segment: Segment) -> Result<(), NoMemory>
-        requires comes_first { comes_first (segment_in segment).stages (segment_in segment).ending ≡ true }
-        requires none_held { self.old.held ≡ None }
-        ensures { OnOk result ((later : List AbstractSegment) → SameAnswers (moved_in self.new
-            ++ later) (moved_in self.old ++ segment_in segment ∷ later)) }
-    {
-        let Segment {
-            first_stage,
-            stages,
-            end,
-        } = segment;
-        self.segments.push(Segment {
-            first_stage,
-            stages: Vec::new(alloc),
-            end,
-        })?;
-        if let Some(_) = stages.split_first() {
-            self.held = Some(Held {
-                first_stage,
-                stages,
-            });
-        }
-        Ok(())
+/// Adds the next segment, after the slice of the last one was moved if it may.
+fn add(alloc: Global, moved: &mut Vec<Segment>, next: Segment) -> Result<(), NoMemory>
+    ensures same { OnOk result ((later : List AbstractSegment) → SameAnswers (segments_in moved.new.items ++ later)
+        (segments_in moved.old.items ++ segment_in next ∷ later)) }
+    ensures count { OnOk result (length moved.new.items ≡ length moved.old.items + 1) }
+{
+    let Some(last) = moved.pop() else {
+        moved.push(next)?;
+        return Ok(());
+    };
+    if !may_swap(moved, &last, &next) {
+        moved.push(last)?;
+        moved.push(next)?;
+        return Ok(());
     }
-
-    /// Adds the next segment.
-    fn add(&mut self, alloc: Global, segment: Segment) -> Result<(), NoMemory>
-        ensures { OnOk result ((later : List AbstractSegment) → SameAnswers (moved_in self.new
-            ++ later) (moved_in self.old ++ segment_in segment ∷ later)) }
-    {
-        let segment = self.take_held(segment)?;
-        if self.is_front && comes_first(&segment.stages, &segment.end) {
-            return self.add_slice(alloc, segment);
-        }
-        self.is_front = false;
-        self.segments.push(segment)?;
-        Ok(())
-    }
-
-    /// All segments.
-    fn finish(self) -> Result<Vec<Segment>, NoMemory>
-        ensures { IfOk result (λ segments. segments_in segments.items ≡ moved_in self) }
-    {
-        let mut segments = self.segments;
-        let Some(held) = self.held else {
-            return Ok(segments);
-        };
-        segments.push(held.ended())?;
-        Ok(segments)
-    }
+    let (slice, joined) = swapped(alloc, last, next)?;
+    moved.push(slice)?;
+    moved.push(joined)?;
+    Ok(())
 }
 
 /// These segments, with the slices that come after maps alone before these.
 fn with_slices_first(alloc: Global, segments: Vec<Segment>) -> Result<Vec<Segment>, NoMemory>
-    ensures { IfOk result (λ moved. SameAnswers (segments_in moved.items) (segments_in segments.items)) }
+    ensures same { IfOk result (λ moved. SameAnswers (segments_in moved.items) (segments_in segments.items)) }
+    ensures count { IfOk result (λ moved. length moved.items ≡ length segments.items) }
 {
-    let mut moved = Moved {
-        segments: Vec::new(alloc),
-        held: None,
-        is_front: true,
-    };
+    let mut moved = Vec::new(alloc);
     for segment in segments {
-        moved.add(alloc, segment)?;
+        add(alloc, &mut moved, segment)?;
     }
-    moved.finish()
+    Ok(moved)
 }
 
 impl<'c> JobPlan<'c> {
@@ -211,9 +166,8 @@ impl<'c> JobPlan<'c> {
 
 impl<'c> Plan<'c> {
     /// The jobs of the plan, with slices moved before maps: `limit`, and `skip` if the maps can't have a fault. So they
-    /// select positions of the job's sources, and a run gathers nothing for them and cuts what they leave. A `reduce`
-    /// that keeps the first value becomes `findFirst`, which ends there, if only maps and filters that can't have a
-    /// fault come before it.
+    /// select positions of the job's sources, and a run cuts what they leave. A `reduce` that keeps the first value
+    /// becomes `findFirst`, which ends there, if only maps and filters that can't have a fault come before it.
     ///
     /// Stages keep their numbers. Takes time for each stage, and memory for each segment.
     pub fn with_slices_first(self, alloc: Global) -> Result<Plan<'c>, NoMemory>

@@ -1,7 +1,7 @@
 //! What a piece of a segment's source gives to the end of the segment.
 
 ghost use Rattle.batch_eval.specs.Batches.{flagged_values};
-ghost use Rattle.std.specs.Prelude.{◌≡◌, ◌<◌, ◌≤◌, ℕ, false, true, List, [], ◌∷◌, length, map};
+ghost use Rattle.std.specs.Prelude.{◌≡◌, ◌<◌, ◌≤◌, ℕ, false, true, List, [], ◌∷◌, is_some, length, map};
 ghost use Rattle.std.specs.Prelude.{IfOk, IfErr, IfNone, IfSome, OnOk, OnErr, if◌then◌else◌};
 ghost use Rattle.lambda_values.specs.Earlier.{Numbers};
 ghost use Rattle.trace.specs.Trace.{Trace, trace, nothing, append};
@@ -10,7 +10,7 @@ ghost use Rattle.trace.specs.declared.item.Item.{Item as item};
 ghost use Rattle.job_plan.specs.FoldFaults.{end_fault, fold_fault};
 ghost use Rattle.job_plan.specs.Parts.{EndsFor, StandsFor, end_in, end_keeps_items, is_fault};
 ghost use Rattle.job_plan.specs.Parts.{is_running, is_settled, keeps_items, may_search, settles};
-ghost use Rattle.job_plan.specs.Plans.{AbstractEnd, AbstractSegment, outcome_of};
+ghost use Rattle.job_plan.specs.Plans.{AbstractEnd, AbstractSegment, outcome_of, slice_in};
 
 use crate::array_part::ArrayPart;
 use crate::end_part::{EndPart, LastStage};
@@ -19,20 +19,17 @@ use crate::fold_part::FoldPart;
 use crate::outcome::{Outcome, answer_of, exact_answer};
 use find_ops::FindPart;
 use lambda_values::Env;
-use prefix_walks::{GivenWalk, PrefixPart};
+use prefix_walks::PrefixPart;
 use reduce_ops::SumPart;
-use slice_ops::SlicePart;
 use std::alloc::Global;
-use trace::{Chunk, End, Fault, Item, NoMemory, SourceItems};
+use trace::{End, Fault, Item, NoMemory, SourceItems};
 
 /// What a piece of a segment's source gives to the end of the segment.
 ///
-/// A fold, an exact sum and a find have a constant size. `limit(n)` keeps `n` items at most, and `takeWhile` the items
-/// before the first at which its test isn't true. The other slices keep all items, and `toArray` all values. A prefix
-/// keeps all items, but borrows values of the sources if no stage comes before it.
+/// A fold, an exact sum and a find have a constant size. `toArray` keeps all values. A prefix keeps all items, but
+/// borrows values of the sources if no stage comes before it.
 #[derive(Drop)]
 pub enum Part<'p> {
-    Slice(SlicePart<'p>),
     Fold(FoldPart),
     Find(FindPart),
     Array(ArrayPart),
@@ -44,7 +41,6 @@ pub enum Part<'p> {
 macro_rules! of_any_kind {
     ($part:expr, $held:ident => $done:expr) => {
         match $part {
-            Part::Slice($held) => $done,
             Part::Fold($held) => $done,
             Part::Find($held) => $done,
             Part::Array($held) => $done,
@@ -70,16 +66,14 @@ macro_rules! of_one_kind {
 }
 
 impl<'p> Part<'p> {
-    /// The part of no item. The end is the stage with this number. It takes no memory.
+    /// The part of no item. The end isn't a slice, and is the stage with this number. It takes no memory.
     pub(crate) fn none(alloc: Global, end: &'p SegmentEnd, stage: u32, env: &Env) -> Part<'p>
+        requires whole { is_some (slice_in (end_in end.now)) ≡ false }
         ensures stands { EndsFor (end_in end.now) stage env.now result nothing }
         ensures keeps { keeps_items result ≡ end_keeps_items (end_in end.now) }
     {
         match end {
-            SegmentEnd::Slice(slice) => {
-                let chunk = Chunk::ending(alloc, End::Done);
-                Part::Slice(SlicePart::of(slice, stage, chunk, env))
-            }
+            SegmentEnd::Slice(_) => unreachable!(),
             SegmentEnd::Fold(fold) => Part::Fold(FoldPart::none(*fold)),
             SegmentEnd::Find(find) => Part::Find(FindPart::none(find, End::Done)),
             SegmentEnd::Array => Part::Array(ArrayPart::none(alloc)),
@@ -90,6 +84,7 @@ impl<'p> Part<'p> {
 
     /// The part of no item of a walk from the first item of a source on. It takes no memory.
     pub(crate) fn first(alloc: Global, end: &'p SegmentEnd, stage: u32, env: &Env) -> Part<'p>
+        requires whole { is_some (slice_in (end_in end.now)) ≡ false }
         ensures stands { EndsFor (end_in end.now) stage env.now result nothing }
         ensures kind { may_search result ≡ false }
         ensures keeps { keeps_items result ≡ end_keeps_items (end_in end.now) }
@@ -133,15 +128,13 @@ impl<'p> Part<'p> {
     {
         match self {
             Part::Fold(part) => end_fault(part.partial.end()),
-            Part::Slice(_) | Part::Find(_) | Part::Array(_) | Part::Prefix(_) | Part::Exact(_) => {
-                None
-            }
+            Part::Find(_) | Part::Array(_) | Part::Prefix(_) | Part::Exact(_) => None,
         }
     }
 
     /// The part of two pieces side by side, of one segment. A fault of the left one ends both.
     ///
-    /// Only slices, arrays and prefixes may need memory; if the allocation fails, both parts come back. Parts of
+    /// Only arrays and prefixes may need memory; if the allocation fails, both parts come back. Parts of
     /// different ends don't merge: the left one stays.
     pub fn merge(self, right: Part<'p>) -> Result<Part<'p>, (Part<'p>, Part<'p>)>
         ensures ok { IfOk result (λ part. (s : AbstractSegment) (env : Numbers) (a b : Trace)
@@ -163,7 +156,6 @@ impl<'p> Part<'p> {
         ensures memory { OnErr result (keeps_items self.entry ≡ true) }
     {
         match self {
-            Part::Slice(part) => Ok(Some(Outcome::Source(GivenWalk::of(alloc, part.finish(env))))),
             Part::Fold(part) => Ok(Some(Outcome::Answer(part.finish()))),
             Part::Find(part) => Ok(Some(Outcome::Answer(answer_of(part.finish())))),
             Part::Array(part) => Ok(Some(Outcome::Answer(part.finish()))),
@@ -206,7 +198,7 @@ impl<'a> EndPart for Part<'a> {
     }
 
     fn merge(self, right: Part<'a>) -> Result<Part<'a>, (Part<'a>, Part<'a>)> {
-        of_one_kind!(self, right, Slice Fold Find Array Prefix Exact)
+        of_one_kind!(self, right, Fold Find Array Prefix Exact)
     }
 }
 

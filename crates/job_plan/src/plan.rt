@@ -148,6 +148,7 @@ fn cut(alloc: Global, stages: Vec<JobStage>, terminal: Terminal) -> Result<Vec<S
     requires few { length stages.items ≤ 32 }
     ensures ok { IfOk result (λ segments. segments_in segments.items
         ≡ segments_from 1 [] (job_stages_of stages.items) (terminal_of terminal)) }
+    ensures few { IfOk result (λ segments. length segments.items ≤ 33) }
 {
     let last = SegmentEnd::of(terminal);
     let mut begun = Begun::none(alloc);

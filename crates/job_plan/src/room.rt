@@ -5,9 +5,9 @@ ghost use Rattle.trace.specs.Trace.{nothing};
 ghost use Rattle.job_plan.specs.Parts.{StandsFor, end_in, end_keeps_items, keeps_items, segment_in};
 
 use crate::leaves::{first_part, unwalked};
+use crate::leg::Leg;
 use crate::moves::all_keep;
 use crate::part::Part;
-use crate::segment::Segment;
 use crate::source::Walked;
 use lambda_values::Env;
 use prefix_walks::Window;
@@ -20,17 +20,12 @@ const MOST: u64 = 65_536;
 ///
 /// An array gets room for the values of all of them, if each item has one, so that it isn't copied as it grows. If that
 /// memory is refused, it grows as any other part does.
-pub(crate) fn with_room<'p>(
-    alloc: Global,
-    segment: &'p Segment,
-    walked: Walked,
-    window: Window,
-) -> Part<'p>
-    ensures stands { StandsFor (segment_in segment.now) walked.entry.env.now result nothing }
-    ensures keeps { keeps_items result ≡ end_keeps_items (end_in segment.now.end) }
+pub(crate) fn with_room<'p>(alloc: Global, leg: Leg<'p>, walked: Walked, window: Window) -> Part<'p>
+    ensures stands { StandsFor (segment_in leg.entry.last.now) walked.entry.env.now result nothing }
+    ensures keeps { keeps_items result ≡ end_keeps_items (end_in leg.entry.last.now.end) }
 {
-    let part = begun(alloc, segment, window.from, walked.env);
-    if !all_keep(&segment.stages, false) {
+    let part = begun(alloc, leg, window.from, walked.env);
+    if !all_keep(&leg.last.stages, false) {
         return part;
     }
     let end = match window.to {
@@ -41,14 +36,14 @@ pub(crate) fn with_room<'p>(
 }
 
 /// The part of no item, for a piece that begins at this position.
-fn begun<'p>(alloc: Global, segment: &'p Segment, from: u64, env: &Env) -> Part<'p>
-    ensures stands { StandsFor (segment_in segment.now) env.now result nothing }
-    ensures keeps { keeps_items result ≡ end_keeps_items (end_in segment.now.end) }
+fn begun<'p>(alloc: Global, leg: Leg<'p>, from: u64, env: &Env) -> Part<'p>
+    ensures stands { StandsFor (segment_in leg.entry.last.now) env.now result nothing }
+    ensures keeps { keeps_items result ≡ end_keeps_items (end_in leg.entry.last.now.end) }
 {
     if from == 0 {
-        first_part(alloc, segment, env)
+        first_part(alloc, leg, env)
     } else {
-        unwalked(alloc, segment, env)
+        unwalked(alloc, leg, env)
     }
 }
 

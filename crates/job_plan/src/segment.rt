@@ -1,6 +1,6 @@
 //! Jobs in segments, as they are kept.
 
-ghost use Rattle.std.specs.Prelude.{◌+◌, ◌<◌, ◌^◌, length};
+ghost use Rattle.std.specs.Prelude.{◌+◌, ◌<◌, ◌≤◌, ◌^◌, length};
 
 use crate::ends::SegmentEnd;
 use crate::fallback::Fallback;
@@ -39,14 +39,6 @@ impl Segment {
     }
 }
 
-/// Maps that a slice was moved before. They go into the segment after it.
-#[derive(Drop)]
-pub(crate) struct Held {
-    pub(crate) first_stage: u32,
-    pub(crate) stages: Vec<Stage>,
-    ghost numbered: { first_stage + length stages.items < 2 ^ 32 },
-}
-
 /// An earlier job that a job names.
 #[derive(Drop)]
 pub struct Named {
@@ -69,6 +61,7 @@ pub struct JobPlan<'c> {
     pub segments: Vec<Segment>,
     /// What the job gives after a fault, if anything.
     pub fallback: Option<Fallback>,
+    ghost few: { length segments.items ≤ 33 },
 }
 
 /// The jobs of a file in segments, in file order.

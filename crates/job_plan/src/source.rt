@@ -48,13 +48,6 @@ pub struct Walked<'g, 'a, 'c, 'e> {
 }
 
 impl<'g, 'a, 'c> Source<'g, 'a, 'c> {
-    /// The source of the first segment of a job, even if that segment only selects positions.
-    pub fn of_job(job: &'a JobPlan<'c>) -> Source<'g, 'a, 'c>
-        ensures { walk_in result ≡ source_walk (plan_in job.now).sources }
-    {
-        Source::Plain(PlainSources::of(&job.sources))
-    }
-
     /// The source of the first of a job's `later_segments`: the positions of its sources that the slices before it
     /// select. It takes no memory.
     pub fn of_selected(job: &'a JobPlan<'c>) -> Source<'g, 'a, 'c>

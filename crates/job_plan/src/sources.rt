@@ -1,6 +1,6 @@
 //! The plain sources of a job, and how many values they have.
 
-ghost use Rattle.std.specs.Prelude.{◌≡◌, ◌-◌, ◌<◌, ◌^◌, min, length, nat_lt, pos, ◌+ℤ◌, None};
+ghost use Rattle.std.specs.Prelude.{◌≡◌, ◌-◌, ◌<◌, ◌^◌, min, length, nat_lt, pos, ◌+ℤ◌};
 ghost use Rattle.trace.specs.Cover.{distance};
 ghost use Rattle.job_language.specs.Jobs.{source_of, sources_of};
 ghost use Rattle.job_meaning.specs.Walks.{plain_values, values_of};
@@ -19,14 +19,6 @@ pub struct PlainSources<'a, 'c> {
 }
 
 impl<'a, 'c> PlainSources<'a, 'c> {
-    /// All positions of these sources.
-    pub fn of(sources: &'a [PlainSource<'c>]) -> PlainSources<'a, 'c>
-        ensures sources { result.sources.now ≡ sources.now }
-        ensures all { (result.window.from ≡ 0) × (result.window.to ≡ None) }
-    {
-        PlainSources::within(sources, Window::all())
-    }
-
     /// These positions of the sources.
     pub(crate) fn within(sources: &'a [PlainSource<'c>], window: Window) -> PlainSources<'a, 'c>
         ensures { (result.sources.now ≡ sources.now) × (result.window ≡ window) }

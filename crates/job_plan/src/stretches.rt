@@ -21,13 +21,14 @@ use prefix_walks::Window;
 use std::marker::{Brand, PhantomData};
 use trace::{Fed, Flow, NoMemory};
 
-/// The end of the positions of a piece, as far as it is known.
+/// The end of the positions of a piece, but no further than its source goes.
 fn end_of(source: &Source, to: Option<u64>) -> u64
-    ensures given { IfSome to (λ t. result ≡ t) }
+    ensures { IfSome to (λ t. result ≤ t) }
 {
+    let size = source.size();
     match to {
-        Some(to) => to,
-        None => source.size(),
+        Some(to) => to.min(size),
+        None => size,
     }
 }
 

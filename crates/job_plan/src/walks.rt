@@ -4,14 +4,21 @@ ghost use Rattle.std.specs.Prelude.{◌≡◌, ◌≤◌, ◌<◌, length, pos, 
 ghost use Rattle.trace.specs.Trace.{Trace};
 ghost use Rattle.job_plan.specs.Parts.{StandsFor, plan_in, plans_in, segment_in, segments_in, walk_in};
 ghost use Rattle.prefix_walks.specs.Pieces.{piece_of};
-ghost use Rattle.job_plan.specs.Plans.{outcome_of, planned_answer, segments_answer};
+ghost use Rattle.job_plan.specs.Legs.{leg_in};
+ghost use Rattle.job_plan.specs.Links.{leg_outcome, legs_answer, legs_of};
+ghost use Rattle.job_plan.specs.Plans.{planned_answer};
 
-use crate::leaves::{leaf_in_order, leaf_with};
+use crate::leaves::leaf_until;
+use crate::leg::Leg;
+use crate::links::first_leg;
 use crate::outcome::Outcome;
 use crate::part::Part;
 use crate::segment::{JobPlan, Segment};
 use crate::source::{Source, Walked};
+use crate::streaming::streamed;
+use crate::windows::later_segments;
 use batch_eval::Registers;
+use early_stop::Never;
 use job_meaning::Answer;
 use lambda_values::Env;
 use prefix_walks::Window;
@@ -27,7 +34,8 @@ pub enum SplitTree {
     Node(u64, Box<SplitTree>, Box<SplitTree>),
 }
 
-/// The answer of a job. The tree is laid over the source of each segment that is walked.
+/// The answer of a job. The tree is laid over what each leg goes over, unless the leg goes through slices: then it is
+/// one piece.
 ///
 /// A piece after one that settles the answer isn't walked.
 ///
@@ -41,26 +49,21 @@ pub fn walk_tree(
     ensures { IfOk result (λ answer. answer ≡ planned_answer env.now (plan_in job.now)) }
 {
     let mut registers = Registers::new(alloc);
-    let given = walk_segments(
-        alloc,
-        job.later_segments(),
-        &Source::of_selected(job),
-        tree,
-        env,
-        &mut registers,
-    )?;
+    let segments = later_segments(&job.segments);
+    let source = Source::of_selected(job);
+    let given = walk_legs(alloc, segments, &source, tree, env, &mut registers)?;
     Ok(job.without_fault(given))
 }
 
-/// The answer of a job, each segment in one piece. For other programs, as `walk_tree`.
+/// The answer of a job, each leg in one piece. For other programs, as `walk_tree`.
 pub fn walk(alloc: Global, job: &JobPlan, env: &Env) -> Result<Answer, NoMemory>
     ensures { IfOk result (λ answer. answer ≡ planned_answer env.now (plan_in job.now)) }
 {
     walk_tree(alloc, job, &SplitTree::Leaf, env)
 }
 
-/// The answer of segments. The first one has this source.
-fn walk_segments<'p>(
+/// The answer of segments by their legs. The first one goes over this source.
+fn walk_legs<'p>(
     alloc: Global,
     segments: &'p [Segment],
     source: &Source<'_, 'p, '_>,
@@ -68,14 +71,16 @@ fn walk_segments<'p>(
     env: &Env,
     registers: &mut Registers,
 ) -> Result<Answer, NoMemory>
-    ensures { IfOk result (λ answer. answer ≡ segments_answer (segments_in segments.now) env.now (walk_in source.now)) }
+    requires few { length segments.now ≤ 33 }
+    ensures { IfOk result
+        (λ answer. answer ≡ legs_answer (legs_of (segments_in segments.now)) env.now (walk_in source.now)) }
 {
-    let Some((segment, later)) = segments.split_first() else {
+    let Some((leg, later)) = first_leg(segments) else {
         return Ok(Answer::Number(0));
     };
-    match walk_segment(alloc, segment, source, tree, env, registers)? {
+    match walk_leg(alloc, leg, source, tree, env, registers)? {
         Outcome::Answer(answer) => Ok(answer),
-        Outcome::Source(given) => walk_segments(
+        Outcome::Source(given) => walk_legs(
             alloc,
             later,
             &Source::of_given(&given),
@@ -86,61 +91,63 @@ fn walk_segments<'p>(
     }
 }
 
-/// What a segment makes of its source, in the pieces of a tree.
-fn walk_segment<'p>(
+/// What a leg makes of its source, in the pieces of a tree if it goes through no slices.
+fn walk_leg<'p>(
     alloc: Global,
-    segment: &'p Segment,
+    leg: Leg<'p>,
     source: &Source<'_, 'p, '_>,
     tree: &SplitTree,
     env: &Env,
     registers: &mut Registers,
 ) -> Result<Outcome<'p>, NoMemory>
-    ensures { IfOk result (λ outcome. outcome ≡ outcome_of (segment_in segment.now) env.now (walk_in source.now)) }
+    ensures { IfOk result (λ outcome. outcome ≡ leg_outcome (leg_in leg.entry) env.now (walk_in source.now)) }
 {
     let walked = Walked {
         source: *source,
         env,
     };
-    let all = Window { from: 0, to: None };
-    let part = walk_piece(alloc, segment, walked, all, tree, registers)?;
-    if let Some(outcome) = part.finish(alloc, env)? {
-        return Ok(outcome);
+    if !leg.streams() {
+        let all = Window { from: 0, to: None };
+        let part = walk_piece(alloc, leg, walked, all, tree, registers)?;
+        if let Some(outcome) = part.finish(alloc, env)? {
+            return Ok(outcome);
+        }
     }
-    let part = leaf_in_order(alloc, segment, walked, registers)?;
+    let part = streamed(alloc, leg, walked, registers)?;
     match part.finish(alloc, env)? {
         Some(outcome) => Ok(outcome),
-        None => Ok(Outcome::Answer(Answer::Number(0))),
+        None => unreachable!(),
     }
 }
 
 /// The part of the items at these positions, in the pieces of a tree.
 fn walk_piece<'p>(
     alloc: Global,
-    segment: &'p Segment,
+    leg: Leg<'p>,
     walked: Walked<'_, 'p, '_, '_>,
     window: Window,
     tree: &SplitTree,
     registers: &mut Registers,
 ) -> Result<Part<'p>, NoMemory>
     requires ordered { IfSome window.to (λ last. window.from ≤ last) }
-    ensures { IfOk result (λ part. StandsFor (segment_in segment.now) walked.entry.env.now part
+    ensures { IfOk result (λ part. StandsFor (segment_in leg.entry.last.now) walked.entry.env.now part
         (piece_of window.from window.to (walk_in walked.entry.source))) }
 {
     let Window { from, to } = window;
     match tree {
-        SplitTree::Leaf => leaf_with(alloc, segment, walked, window, registers),
+        SplitTree::Leaf => leaf_until(alloc, leg, walked, window, registers, &mut Never),
         SplitTree::Node(size, front, back) => {
             let middle = middle_of(from, to, *size);
             let first = Window {
                 from,
                 to: Some(middle),
             };
-            let left = walk_piece(alloc, segment, walked, first, front, registers)?;
+            let left = walk_piece(alloc, leg, walked, first, front, registers)?;
             if left.is_settled() {
                 return Ok(left);
             }
             let second = Window { from: middle, to };
-            let right = walk_piece(alloc, segment, walked, second, back, registers)?;
+            let right = walk_piece(alloc, leg, walked, second, back, registers)?;
             match left.merge(right) {
                 Ok(part) => Ok(part),
                 Err(_) => Err(NoMemory),

@@ -2,7 +2,7 @@
 //!
 //! These slices keep no items. The first segment after them goes over a window of the sources.
 
-ghost use Rattle.std.specs.Prelude.{◌≡◌, ◌<◌, ◌-◌, List, None, true};
+ghost use Rattle.std.specs.Prelude.{◌≡◌, ◌<◌, ◌≤◌, ◌-◌, List, None, length, true};
 ghost use Rattle.slice_ops.specs.Slices.{slice_of};
 ghost use Rattle.job_language.specs.Jobs.{AbstractPlainSource};
 ghost use Rattle.job_plan.specs.Parts.{end_in, plan_in, segment_in, segments_in};
@@ -101,8 +101,9 @@ fn is_unasked(end: &SegmentEnd, later: &[Segment]) -> bool
 }
 
 /// The segments after the first ones that select positions, or from the last `limit(0)` on.
-fn later_segments(segments: &[Segment]) -> &[Segment]
-    ensures { segments_in result.now ≡ later_segments (segments_in segments.now) }
+pub(crate) fn later_segments(segments: &[Segment]) -> &[Segment]
+    ensures later { segments_in result.now ≡ later_segments (segments_in segments.now) }
+    ensures few { length result.now ≤ length segments.now }
 {
     let Some((segment, later)) = segments.split_first() else {
         return segments;

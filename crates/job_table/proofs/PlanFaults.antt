@@ -39,7 +39,6 @@ use Rattle.job_table.proofs.PlannedAnswers.{walked_answer}
 
 -- the fold that ended in a fault
 pub fold_of : (p : Part) (f : Fault) → fold_fault p ≡ Some f → (fold : FoldPart) × (p ≡ part.Fold fold) × (fold.partial.end ≡ end.Fault f)
-fold_of (part.Slice p) f h = absurd (let z : None ≡ Some f = h in cc)
 fold_of (part.Fold p) f h = (p, refl, ended_so p.partial.end f h)
   where
     ended_so : (e : End) (f : Fault) → end_fault e ≡ Some f → e ≡ end.Fault f

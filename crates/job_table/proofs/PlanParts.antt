@@ -164,12 +164,6 @@ all_stands chain segment l (Ok p) env w got alone walks h =
     (whole_enough l.last chain.numbers p (Decides (outcome_of l.last chain.numbers) t) 0 (piece_between size 0 size t) stands)
 all_stands chain segment l (Err e) env w got alone walks h = tt
 
--- the part of a whole leg without slices
-pub plain_stands : {F : Type 0} (chain : AbstractChain) (segment : ℕ) (l : AbstractLeg) (r : Result Part F) (env : Numbers) (w : Trace) → slice_get chain.legs segment ≡ Some l → is_linked l.links ≡ false → env ≡ chain.numbers
-    → w ≡ source_at chain segment → IfOk r (λ part. StandsFor l.last env part w) → IfOk r (λ part. PartStands chain segment 0 (size_at chain segment) part)
-plain_stands chain segment l r env w got plain alone walks h =
-    all_stands chain segment l r env w got alone walks (subst (λ (t : Trace). IfOk r (λ part. StandsFor l.last env part t)) (sym (unlinked l.links env w plain)) h)
-
 -- the part of the one piece of a leg that goes through slices
 pub streamed_stands : {F : Type 0} (chain : AbstractChain) (segment from to : ℕ) (l : AbstractLeg) (r : Result Part F) (env : Numbers) (w : Trace) → slice_get chain.legs segment ≡ Some l → is_linked l.links ≡ true → env ≡ chain.numbers
     → w ≡ source_at chain segment → from ≤ to → to ≤ size_at chain segment → IfOk r (λ part. StandsFor l.last env part (linked l.links env w)) → IfOk r (λ part. PartStands chain segment from to part)

@@ -14,14 +14,14 @@ use batch_eval::Registers;
 use early_stop::Stop;
 use job_meaning::Answer;
 use job_plan::{
-    ArrayPart, JobPlan, Outcome, Part, Segment, SegmentEnd, Source, Walked, leaf_in_order,
-    leaf_stored, leaf_until, streamed, unwalked,
+    ArrayPart, JobPlan, Outcome, Part, Segment, SegmentEnd, Source, Walked, leaf_stored,
+    leaf_until, streamed, unwalked,
 };
 use job_runner::{NoMemory, Piece};
 use lambda_values::Env;
 use prefix_walks::{GivenWalk, Window};
 use std::alloc::Global;
-use trace::{Chunk, End};
+use trace::End;
 
 /// How many of the first legs of segments end in a prefix: the number of the leg that gives the answer.
 pub(crate) fn last_leg(segments: &[Segment]) -> usize
@@ -63,7 +63,7 @@ pub(crate) fn left_out<'a>(alloc: Global, plan: &'a JobPlan, leg: usize, env: &E
     ensures { IfSome (slice_get (plan_legs (plan_in plan.now)) leg) (λ l. StandsFor l.last env.now result nothing) }
 {
     match plan.leg(leg) {
-        Some(leg) => unwalked(alloc, leg.last, env),
+        Some(leg) => unwalked(alloc, leg, env),
         None => Part::Array(ArrayPart::none(alloc)),
     }
 }
@@ -106,7 +106,7 @@ pub(crate) fn lent_piece<'a, W: Stop>(
         from: piece.from,
         to: end_of(piece, &walked.source),
     };
-    leaf_until(alloc, leg.last, walked, window, registers, stop)
+    leaf_until(alloc, leg, walked, window, registers, stop)
 }
 
 /// Walks a piece of a leg, as far as it matters, into a part that borrows no value of the source: the source may go
@@ -135,7 +135,7 @@ pub(crate) fn stored_piece<'a, W: Stop>(
         from: piece.from,
         to: end_of(piece, &walked.source),
     };
-    leaf_stored(alloc, leg.last, walked, window, registers, stop)
+    leaf_stored(alloc, leg, walked, window, registers, stop)
 }
 
 /// What the next leg goes over, of the part of a whole leg.
@@ -149,11 +149,11 @@ pub(crate) fn next_walk<'a>(
         → PartStands chain k 0 (size_at chain k) part.entry → given ≡ source_at chain (k + 1)) }
 {
     let Some(outcome) = part.finish(alloc, env)? else {
-        return Ok(GivenWalk::of(alloc, Chunk::ending(alloc, End::Done)));
+        return Ok(GivenWalk::ended(End::Done));
     };
     match outcome {
         Outcome::Source(given) => Ok(given),
-        Outcome::Answer(_) => Ok(GivenWalk::of(alloc, Chunk::ending(alloc, End::Done))),
+        Outcome::Answer(_) => Ok(GivenWalk::ended(End::Done)),
     }
 }
 
@@ -175,10 +175,7 @@ pub(crate) fn part_in_order<'a>(
     let Some(leg) = plan.leg(leg) else {
         return Ok(Part::Array(ArrayPart::none(alloc)));
     };
-    if leg.streams() {
-        return streamed(alloc, leg, walked, registers);
-    }
-    leaf_in_order(alloc, leg.last, walked, registers)
+    streamed(alloc, leg, walked, registers)
 }
 
 /// The answer that the part of the whole last leg of a job gives. It is 0 if there is no last leg. `None` if what the

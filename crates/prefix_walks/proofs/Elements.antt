@@ -1,9 +1,8 @@
 -- Elements at positions of a list, and of two lists one after the other.
-use Rattle.std.proofs.Common.{get_or, FitsSigned, w64, int_lt, unsigned_abs, ◌-ℤ◌, Bool, true, false, if◌then◌else◌, subst, ◌≡◌, ℕ, zero, suc, ◌+◌, ◌-◌, ◌<◌, ◌≤◌, min, ℤ, pos, ◌+ℤ◌, List, [], ◌∷◌, ◌++◌, length, take, drop, Option, Some, None, refl, sym, ap, ◌∙◌, arith}
+use Rattle.std.proofs.Common.{FitsSigned, w64, int_lt, unsigned_abs, ◌-ℤ◌, Bool, true, false, if◌then◌else◌, subst, ◌≡◌, ℕ, zero, suc, ◌+◌, ◌-◌, ◌<◌, ◌≤◌, min, ℤ, pos, ◌+ℤ◌, List, [], ◌∷◌, ◌++◌, length, take, drop, Option, Some, None, refl, sym, ap, ◌∙◌, arith}
 use Rattle.std.proofs.lemmas.Int.{ints}
 use Rattle.std.specs.List.{flat_map}
 use Rattle.std.proofs.lemmas.List.Concat.{flat_map-append}
-use Rattle.trace.proofs.CutLemmas.{drop_on}
 use borrow.Author.Differences.{fits_in, fits_out}
 use Rattle.trace.specs.declared.item.Item.{Item}
 use Rattle.trace.specs.Cover.{counted, distance, placed}
@@ -188,22 +187,6 @@ less_one_fits a b p q h = by_test (int_lt a b) refl
     by_test : (t : Bool) → int_lt a b ≡ t → FitsSigned w64 (b -ℤ pos 1)
     by_test true e = let k : 0 < unsigned_abs (b -ℤ a) = subst (λ (m : ℕ). 0 < m) (ap (λ (t : Bool). if t then unsigned_abs (b -ℤ a) else 0) e) h in omega (arith, ints, fits_in, fits_out w64 a p, fits_out w64 b q, k, e)
     by_test false e = let k : 0 < 0 = subst (λ (m : ℕ). 0 < m) (ap (λ (t : Bool). if t then unsigned_abs (b -ℤ a) else 0) e) h in absurd (omega (arith, k))
-
--- positions in the pieces that are left, and in those after the first of them
-pub next_elements : {X A : Type 0} (f : X → List A) (ps : List X) (w from : ℕ) (to : Option ℕ) (p : X) (size : ℕ) → w < length ps → p ≡ get_or ps w p → size ≡ length (f p)
-    → elements from to (flat_map f (drop w ps)) ≡ elements from to (f p) ++ elements (from - size) (after to size) (flat_map f (drop (w + 1) ps))
-next_elements f ps w from to p size h e k =
-    ap (elements from to) (drop_on f ps w p h e) ∙ elements_both from to (f p) (flat_map f (drop (w + 1) ps))
-    ∙ (λ i. elements from to (f p) ++ elements (from - sym k i) (after to (sym k i)) (flat_map f (drop (w + 1) ps)))
-
-pub none_after : {X A : Type 0} (f : X → List A) (ps : List X) (w from : ℕ) (to : Option ℕ) → length ps ≤ w → elements from to (flat_map f (drop w ps)) ≡ []
-none_after f ps w from to h = ap (λ qs. elements from to (flat_map f qs)) (past ps w h) ∙ elements_none from to
-  where
-    past : {X : Type 0} (ps : List X) (w : ℕ) → length ps ≤ w → drop w ps ≡ []
-    past [] zero h = refl
-    past [] (suc w) h = refl
-    past (p ∷ ps) zero h = absurd (omega arith)
-    past (p ∷ ps) (suc w) h = past ps w (omega arith)
 
 -- positions after the first of two lists
 pub past_first : {A : Type 0} (from : ℕ) (to : Option ℕ) (xs : List A) → length xs ≤ from → elements from to xs ≡ []

@@ -1,9 +1,10 @@
 -- Condition: what is kept of a walk.
-use Rattle.trace.specs.Trace.{Trace}
+use Rattle.std.specs.Prelude.{[]}
+use Rattle.trace.specs.Trace.{Trace, trace}
 use Rattle.prefix_walks.specs.declared.kept.Kept.{Kept}
 use Rattle.prefix_walks.specs.declared.kept.Kept.TheVariants as kept
 
 -- the walk that it describes
 abbrev pub kept_walk : Kept → Trace
-kept_walk (kept.Items t) = t
+kept_walk (kept.Ended e) = trace [] e
 kept_walk (kept.Scanned t) = t

@@ -14,8 +14,8 @@ ghost use Rattle.prefix_walks.specs.Runs.{Fits, FitsRun, run_values};
 ghost use Rattle.prefix_walks.specs.Scans.{IsFolded, items_of};
 
 use crate::folded_piece::{FoldedPiece, MOST_ITEMS};
-use crate::item_pieces::feed_items;
 use crate::piece_items::PieceItems;
+use crate::pieces::ItemPiece;
 use crate::prefix::Prefix;
 use crate::run_values::RunValues;
 use crate::spans::within;
@@ -208,4 +208,23 @@ pub fn feed_values<S: BatchSink>(
 {
     let items = PlacedValues { origin, values };
     feed_batches(line, &items, registers, sink)
+}
+
+/// Takes the items at these positions of a list.
+fn feed_items<S: BatchSink>(
+    line: Pipeline<'_>,
+    items: &[Item],
+    window: Window,
+    registers: &mut Registers,
+    sink: &mut S,
+) -> Result<Fed, NoMemory>
+    requires wants { S.flow sink.old ≡ Flow.More }
+    ensures fed { (xs : List item) → S.has_taken sink.old xs → IsFed S.has_taken xs
+        (piped line.entry (trace (elements window.from window.to items.now) end.Done)) result sink.new }
+    ensures flow { S.flow sink.new ≡ flow_after result }
+    ensures refused { OnErr result S.takes_memory }
+{
+    let (start, count) = within(window.from, window.to, items.len() as u64);
+    let items = &items[start as usize..(start + count) as usize];
+    feed_at_once(line, &ItemPiece { items }, registers, sink)
 }

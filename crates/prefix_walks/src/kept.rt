@@ -1,13 +1,13 @@
 //! What is kept of a walk.
 
 use crate::scanned::ScannedWalk;
-use trace::Chunk;
+use trace::End;
 
 /// What is kept of a walk.
 #[derive(Drop)]
 pub enum Kept<'a> {
-    /// The items that a slice lets pass.
-    Items(Chunk),
+    /// That it has no items, and how it ended.
+    Ended(End),
     /// What comes before a prefix, scanned as it is walked.
     Scanned(ScannedWalk<'a>),
 }

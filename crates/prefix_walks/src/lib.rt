@@ -5,7 +5,7 @@
 //! Begin with `specs/Scans.antt` and `prefix_part.rt`. A piece of a walk gives its items to a `PrefixPart`, which
 //! stores them in pieces of 1,024 with their folds, or borrows the values and the cheap maps that they come out of. Two
 //! parts side by side merge. `finish` gives a `GivenWalk`, whose items are scanned as `feed_given` takes them through
-//! the stages of the next segment; a chunk of items can be one, too. The folds of batches (`folded`, `folded_flagged`)
+//! the stages of the next segment. The folds of batches (`folded`, `folded_flagged`)
 //! and the expressions that can't have a fault (`never_faults`) are of use without a prefix. Not promised: that a value
 //! is read once. What cheap maps make of a borrowed value is worked out for its fold and again where it is read.
 #![tactic(auto)]
@@ -17,7 +17,6 @@ mod folded_piece;
 mod folded_walk;
 mod folding;
 mod given;
-mod item_pieces;
 mod kept;
 mod laws;
 mod piece_folds;

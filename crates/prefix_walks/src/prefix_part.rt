@@ -20,7 +20,7 @@ use batch_eval::Registers;
 use lambda_values::FaultKind;
 use std::alloc::Global;
 use std::marker::Model;
-use trace::{Chunk, End, Fault, NoMemory, RangeItems, SourceItems};
+use trace::{End, Fault, NoMemory, RangeItems, SourceItems};
 
 /// The items of a piece for a prefix, the stage with this number, and how the walk ended. Contracts see just that.
 ///
@@ -166,7 +166,7 @@ impl<'a> PrefixPart<'a> {
             end,
         } = self;
         match end {
-            End::Fault(fault) => Ok(faulted(alloc, fault)),
+            End::Fault(_) => Ok(GivenWalk::ended(end)),
             End::Done => scanned(alloc, prefix, stage, pieces),
         }
     }
@@ -190,16 +190,9 @@ fn scanned<'a>(
             stage,
             origin: None,
         };
-        return Ok(faulted(alloc, fault));
+        return Ok(GivenWalk::ended(End::Fault(fault)));
     }
     Ok(GivenWalk::scanned(walk))
-}
-
-/// A walk without items that ends in this fault.
-fn faulted<'a>(alloc: Global, fault: Fault) -> GivenWalk<'a>
-    ensures { result ≡ trace [] (end.Fault fault) }
-{
-    GivenWalk::of(alloc, Chunk::ending(alloc, End::Fault(fault)))
 }
 
 /// Whether a range ends after this many items.

@@ -1,7 +1,7 @@
 //! Given walks, taken through stages; those that a prefix gave are scanned on the way.
 
 ghost use Rattle.std.specs.Prelude.{◌≡◌, ◌+◌, ◌<◌, ◌≤◌, ◌^◌, None, Some, All, IfSome};
-ghost use Rattle.std.specs.Prelude.{slice_get, List, length, take, drop, OnErr};
+ghost use Rattle.std.specs.Prelude.{slice_get, List, length, take, drop, true, OnErr};
 ghost use Rattle.trace.specs.Sinks.{IsFed, flow_after};
 ghost use Rattle.trace.specs.Trace.{trace};
 ghost use Rattle.trace.specs.declared.item.Item.{Item as item};
@@ -15,7 +15,6 @@ ghost use Rattle.prefix_walks.specs.Scans.{IsFolded, all_items, items_of, marks_
 use crate::folded_piece::{FoldedPiece, PieceStart};
 use crate::folded_walk::{Scan, feed_piece};
 use crate::given::GivenWalk;
-use crate::item_pieces::{feed_items, feed_pieces, is_over};
 use crate::kept::Kept;
 use crate::scanned::ScannedWalk;
 use crate::window::Window;
@@ -37,10 +36,7 @@ pub fn feed_given<S: BatchSink>(
     ensures refused { OnErr result S.takes_memory }
 {
     match &given.kept {
-        Kept::Items(chunk) => {
-            let pieces = chunk.pieces();
-            feed_pieces(line, pieces, window, registers, sink)
-        }
+        Kept::Ended(_) => Ok(Fed::More),
         Kept::Scanned(walk) => feed_scanned(line, walk, window, registers, sink),
     }
 }
@@ -93,6 +89,13 @@ fn piece_at(marks: &[PieceStart], position: u64) -> Option<(usize, PieceStart)>
         return None;
     }
     Some((after - 1, mark))
+}
+
+/// Whether no position is left.
+fn is_over(to: Option<u64>) -> bool
+    ensures { result ≡ true → to ≡ Some 0 }
+{
+    matches!(to, Some(0))
 }
 
 /// Takes the items at these positions of pieces, scanned from the first item on.

@@ -2,10 +2,8 @@
 
 use crate::shown::{plan_of, shown};
 use columns::Columns;
-use job_meaning::Answer;
-use job_plan::{JobPlan, Outcome, Part, Source, SplitTree, Walked, leaf, walk, walk_tree};
+use job_plan::{JobPlan, SplitTree, walk, walk_tree};
 use lambda_values::Env;
-use prefix_walks::Window;
 use std::alloc::{AllocError, Global};
 use std::test::Fail;
 
@@ -94,45 +92,6 @@ fn slices_before_every_other_stage_are_not_walked(rt: HostRuntime) -> Result<(),
     Ok(())
 }
 
-/// The answer of a job of one segment, from the parts of the items before a position and from it on.
-fn in_two_leaves(alloc: Global, job: &JobPlan, middle: u64) -> Result<Option<Answer>, AllocError> {
-    let env = Env::empty(alloc);
-    let Some(segment) = job.segments.first() else {
-        return Ok(None);
-    };
-    let walked = Walked {
-        source: Source::of_job(job),
-        env: &env,
-    };
-    let before = Window {
-        from: 0,
-        to: Some(middle),
-    };
-    let after = Window {
-        from: middle,
-        to: None,
-    };
-    let left = leaf(alloc, segment, walked, before)?;
-    let right = leaf(alloc, segment, walked, after)?;
-    answer_of(alloc, left, right, &env)
-}
-
-/// What two parts side by side give.
-fn answer_of<'p>(
-    alloc: Global,
-    left: Part<'p>,
-    right: Part<'p>,
-    env: &Env,
-) -> Result<Option<Answer>, AllocError> {
-    match left.merge(right) {
-        Ok(part) => match part.finish(alloc, env)? {
-            Some(Outcome::Answer(answer)) => Ok(Some(answer)),
-            _ => Ok(None),
-        },
-        Err(_) => Err(AllocError),
-    }
-}
-
 #[test]
 fn two_leaves_side_by_side_give_the_answer(rt: HostRuntime) -> Result<(), Fail> {
     let alloc = rt.alloc();
@@ -144,10 +103,8 @@ fn two_leaves_side_by_side_give_the_answer(rt: HostRuntime) -> Result<(), Fail> 
     )?;
     for job in &plan.jobs {
         for middle in [0, 1, 2, 3] {
-            let Some(answer) = in_two_leaves(alloc, job, middle)? else {
-                return Err(Fail::from(AllocError));
-            };
-            assert!(rt; shown(alloc, &answer)?.as_str() == "[2, 4, 6]", "{middle}");
+            let tree = cut_at(alloc, middle)?;
+            assert!(rt; tree_gives(alloc, job, &tree, "[2, 4, 6]")?, "{middle}");
         }
     }
     Ok(())

@@ -1,4 +1,4 @@
-use Rattle.std.proofs.Common.{◌≡◌, refl}
+use Rattle.std.proofs.Common.{refl}
 use Rattle.job_plan.specs.Parts.{HasTaken, end_in}
 use Rattle.job_plan.proofs.WalkLemmas.{enough_at_last, taken_on}
 use Rattle.job_plan.proofs.part_sink.accept_all.Goals as goal

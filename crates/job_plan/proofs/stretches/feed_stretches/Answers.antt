@@ -23,7 +23,7 @@ returns-in_default g c =
     let before : next ≤ c.end_of-end.result = omega (arith, test, left) in
     let low = c.loop-next.invariant.after in
     let walked = ended_walked h c.args.line items c.args.window.from next c.args.window.to c.in_ok-ended.ended c.args.sink.now c.feed.new.sink
-    (omega (arith, low)) (in_order c.end_of-end.result next c.args.window.to c.end_of-end.ensures.given before) c.in_default.not-More
+    (omega (arith, low)) (in_order c.end_of-end.result next c.args.window.to c.end_of-end.ensures before) c.in_default.not-More
     (more_walked h c.args.line items c.args.window.from c.loop-next.position (Some next) c.in_ok-ended.ended c.args.sink.now c.loop-next.sink c.feed.new.sink
     low (omega arith) c.loop-next.invariant.fed c.in_ok-ended.ensures.fed) in record {
       fed = λ stays. walked;
@@ -58,7 +58,7 @@ loop-next-preserved g c =
     let took_more = rw c.in-More.is at c.in_ok-ended.ensures.fed in
     record {
       after = omega (arith, low);
-      within = in_order c.end_of-end.result next c.args.window.to c.end_of-end.ensures.given before;
+      within = in_order c.end_of-end.result next c.args.window.to c.end_of-end.ensures before;
       wants = c.leaves.ensures.wants c.if-leaves.false;
       fed = λ xs took.
           let walked = more_walked g.S.LongSink.has_taken c.args.line (walk_in c.args.source.now).items c.args.window.from c.loop-next.position (Some next) fed.More c.args.sink.now c.loop-next.sink c.feed.new.sink

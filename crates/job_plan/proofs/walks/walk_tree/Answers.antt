@@ -1,8 +1,10 @@
-use Rattle.std.proofs.Common.{ap, ◌∙◌}
-use Rattle.job_plan.specs.Parts.{plan_in}
-use Rattle.job_plan.specs.Plans.{segments_answer}
-use Rattle.job_meaning.specs.Walks.{instead_of_fault, source_walk}
-use Rattle.job_plan.proofs.WindowLemmas.{later_answer}
+use Rattle.std.proofs.Common.{List, ap, ◌∙◌}
+use Rattle.job_plan.specs.Links.{legs_answer, legs_of}
+use Rattle.job_plan.specs.declared.segment.Segment.{Segment}
+use Rattle.job_plan.specs.Parts.{plan_in, segments_in}
+use Rattle.job_plan.specs.Windows.{later_segments, selected_source}
+use Rattle.job_meaning.specs.Walks.{instead_of_fault}
+use Rattle.job_plan.proofs.LinkLemmas.{legs_planned}
 use Rattle.job_plan.proofs.walks.walk_tree.Goals as goal
 
 pub returns : goal.returns
@@ -11,4 +13,6 @@ returns c =
     let plan = plan_in c.args.job.now in
     c.without_fault.ensures
     ∙ ap (instead_of_fault plan.fallback)
-    (c.in_ok-given.ensures ∙ (λ i. segments_answer (c.later_segments.ensures i) env (c.of_selected.ensures i)) ∙ later_answer env plan.segments (source_walk plan.sources))
+    (c.in_ok-given.ensures ∙ (λ i. legs_answer (legs_of (c.later_segments-segments.ensures.later i)) env (c.of_selected-source.ensures i))
+    ∙ ap (λ (ss : List Segment). legs_answer (legs_of (later_segments (segments_in ss))) env (selected_source plan)) c.deref.ensures.value)
+    ∙ legs_planned env plan

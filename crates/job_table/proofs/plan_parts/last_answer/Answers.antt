@@ -1,7 +1,8 @@
 use Rattle.std.proofs.Common.{◌∙◌, ◌≡◌, None, Some, ap, option_map, refl, slice_get, subst, sym}
 use Rattle.trace.specs.Trace.{Trace}
 use Rattle.lambda_values.specs.Earlier.{Numbers}
-use Rattle.job_plan.specs.Links.{leg_in, legs_of}
+use Rattle.job_plan.specs.Legs.{leg_in}
+use Rattle.job_plan.specs.Links.{legs_of}
 use Rattle.job_plan.specs.Parts.{StandsFor}
 use Rattle.job_plan.specs.Plans.{AbstractSegment, outcome_of}
 use Rattle.job_table.specs.PlanSegments.{prefixes_first}

@@ -1,6 +1,7 @@
 use Rattle.std.proofs.Common.{◌≡◌, ◌∙◌, List, None, Some, ap, option_map, slice_get, sym}
 use Rattle.job_plan.specs.declared.part.Part.TheVariants as part
-use Rattle.job_plan.specs.Links.{AbstractLeg, leg_in}
+use Rattle.job_plan.specs.Legs.{leg_in}
+use Rattle.job_plan.specs.Links.{AbstractLeg}
 use Rattle.job_plan.specs.Parts.{walk_in}
 use Rattle.job_table.proofs.PlanParts.{any_part, piece_stands, streamed_stands}
 use Rattle.job_table.proofs.plan_parts.lent_piece.Goals as goal

@@ -21,7 +21,7 @@ returns c = λ chain segment numbers before stands.
     let ends : (s : AbstractSegment) (t : Trace) → StandsFor s chain.numbers c.args.part t → o ≡ outcome_of s chain.numbers t =
     subst (λ (e : Numbers). (s : AbstractSegment) (t : Trace) → StandsFor s e c.args.part t → o ≡ outcome_of s e t) (sym numbers) (rw c.in-Some.is at c.in_ok-outcome.ensures.some) in
     let next : suc segment ≡ segment + 1 = omega arith in
-    c.of-in-Answer.ensures ∙ c.ending-in-Answer.ensures ∙ sym (ap given_walk c.in-Answer.is) ∙ goes_over chain segment c.args.part o ends before stands ∙ ap (source_at chain) next
+    c.ended-in-Answer.ensures ∙ sym (ap given_walk c.in-Answer.is) ∙ goes_over chain segment c.args.part o ends before stands ∙ ap (source_at chain) next
 
 pub returns-in_default : goal.returns-in_default
 returns-in_default c = λ chain segment numbers before stands. absurd (never_searches chain segment c.args.part before stands (rw c.in_default.is at c.in_ok-outcome.ensures.none))

@@ -1,9 +1,10 @@
 use Rattle.std.proofs.Common.{◌≡◌, ◌∙◌, List, None, Some, ap, option_map, refl, slice_get, sym}
 use Rattle.job_plan.specs.declared.part.Part.TheVariants as part
-use Rattle.job_plan.specs.Links.{AbstractLeg, leg_in}
+use Rattle.job_plan.specs.Legs.{leg_in}
+use Rattle.job_plan.specs.Links.{AbstractLeg}
 use Rattle.job_plan.specs.Parts.{walk_in}
 use Rattle.job_table.specs.PlanSegments.{size_at}
-use Rattle.job_table.proofs.PlanParts.{all_stands, any_part, plain_stands}
+use Rattle.job_table.proofs.PlanParts.{all_stands, any_part}
 use Rattle.job_table.proofs.plan_parts.part_in_order.Goals as goal
 
 pub returns-in_default : goal.returns-in_default
@@ -15,22 +16,12 @@ returns-in_default c = record {
   kind = refl;
 }
 
-pub returns-then-streams : goal.returns-then-streams
-returns-then-streams c = record {
-  stands = λ chain legs numbers walks.
-      let k = c.args.leg in
-      let leg = leg_in c.in-Some.leg in
-      let got : slice_get chain.legs k ≡ Some leg = ap (λ (ls : List AbstractLeg). slice_get ls k) legs ∙ sym c.leg.ensures ∙ ap (option_map leg_in) c.in-Some.is in
-      all_stands chain k leg c.streamed.result c.args.walked.env.now (walk_in c.args.walked.source) got (sym numbers) walks c.streamed.ensures.stands;
-  kind = c.streamed.ensures.kind;
-}
-
 pub returns : goal.returns
 returns c = record {
   stands = λ chain legs numbers walks.
       let k = c.args.leg in
       let leg = leg_in c.in-Some.leg in
       let got : slice_get chain.legs k ≡ Some leg = ap (λ (ls : List AbstractLeg). slice_get ls k) legs ∙ sym c.leg.ensures ∙ ap (option_map leg_in) c.in-Some.is in
-      plain_stands chain k leg c.leaf_in_order.result c.args.walked.env.now (walk_in c.args.walked.source) got (sym c.streams.ensures ∙ c.if-streams.false) (sym numbers) walks c.leaf_in_order.ensures.stands;
-  kind = c.leaf_in_order.ensures.kind;
+      all_stands chain k leg c.streamed.result c.args.walked.env.now (walk_in c.args.walked.source) got (sym numbers) walks c.streamed.ensures.stands;
+  kind = c.streamed.ensures.kind;
 }

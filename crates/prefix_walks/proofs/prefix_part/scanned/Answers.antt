@@ -11,7 +11,7 @@ returns-then-ends_after c =
     let xs = all_items c.args.pieces.items in
     let prefix = c.args.prefix in
     let size : c.size.result ≡ length xs = c.size.ensures ∙ ap (λ (t : Trace). length t.items) c.in_ok-walk.ensures ∙ length-scan_at (value_of prefix.op) prefix.range 0 None xs in
-    c.faulted.ensures ∙ past_end prefix.op prefix.range c.args.stage c.size.result xs size (sym c.ends_after.ensures ∙ c.if-ends_after.true)
+    c.ended.ensures ∙ past_end prefix.op prefix.range c.args.stage c.size.result xs size (sym c.ends_after.ensures ∙ c.if-ends_after.true)
 
 pub returns : goal.returns
 returns c =

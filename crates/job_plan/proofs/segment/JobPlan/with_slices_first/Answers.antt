@@ -9,5 +9,5 @@ returns c = record {
   named = refl;
   sources = refl;
   fallback = refl;
-  answers = λ env ss. c.in_ok-segments.ensures env (source_walk ss) (source_clean ss) ∙ c.in_ok-moved.ensures env (source_walk ss);
+  answers = λ env ss. c.in_ok-segments.ensures.same env (source_walk ss) (source_clean ss) ∙ c.in_ok-moved.ensures.same env (source_walk ss);
 }

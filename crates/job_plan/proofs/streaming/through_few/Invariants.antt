@@ -1,6 +1,0 @@
-use Rattle.job_plan.specs.Parts.{segment_in}
-use Rattle.job_plan.specs.Plans.{last_stage}
-use Rattle.job_plan.proofs.streaming.through_few.Given as goal
-
-abbrev pub ghosts-nested : goal.ghosts-nested
-ghosts-nested a = record { last = a.last.now.end; stage = last_stage (segment_in a.last.now); env = a.walked.env.now; begun = a.none }
