@@ -15,8 +15,8 @@ from repository import crates_of, read, sources_of, write
 
 
 def sentence_of(lines):
-    """The first sentence of a comment, as a cell of a table."""
-    return re.split(r'\.(?:\s|$)', ' '.join(lines).strip())[0].replace('|', '\\|')
+    """The first sentence of a comment, as a cell of a table. Two full stops, as in `N,N,..`, don't end it."""
+    return re.split(r'(?<!\.)\.(?:\s|$)', ' '.join(lines).strip())[0].replace('|', '\\|')
 
 
 def page_of_crate(top, crate):
