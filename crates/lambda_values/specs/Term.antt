@@ -32,14 +32,14 @@ abbrev mutual
   pub long_of : LongExpr → Long
   long_of (long_expr.Number z) = number z
   long_of (long_expr.Parameter n) = parameter n
-  long_of (long_expr.Reference name) = reference name
+  long_of (long_expr.Reference name) = reference name.value
   long_of (long_expr.Unary' o p a) = unary o (long_of a)
-  long_of (long_expr.Binary' o p a q b) = binary o (long_of a) (long_of b)
-  long_of (long_expr.Choose' o c p a q b) = choose (truth_of c) (long_of a) (long_of b)
+  long_of (long_expr.Binary' o p a b) = binary o (long_of a) (long_of b)
+  long_of (long_expr.Choose' p c a b) = choose (truth_of c) (long_of a) (long_of b)
 
   pub truth_of : BoolExpr → Truth
   truth_of (bool_expr.Literal b) = literal b
-  truth_of (bool_expr.Compare' o p a q b) = compare o (long_of a) (long_of b)
+  truth_of (bool_expr.Compare' o p a b) = compare o (long_of a) (long_of b)
   truth_of (bool_expr.Not' p a) = opposite (truth_of a)
-  truth_of (bool_expr.Connect' o p a q b) = connect o (truth_of a) (truth_of b)
-  truth_of (bool_expr.Choose' o c p a q b) = choose_truth (truth_of c) (truth_of a) (truth_of b)
+  truth_of (bool_expr.Connect' o p a b) = connect o (truth_of a) (truth_of b)
+  truth_of (bool_expr.Choose' p c a b) = choose_truth (truth_of c) (truth_of a) (truth_of b)

@@ -17,11 +17,27 @@ pub enum LongExpr {
     /// A parameter by its number: 0, or 1 for the second one of a pair.
     Parameter(usize),
     /// The number of the earlier job with this name: `$name`.
-    Reference(Bytes),
+    Reference(Box<Bytes>),
     Unary(UnaryOperator, Box<LongExpr>),
-    Binary(BinaryOperator, Box<LongExpr>, Box<LongExpr>),
-    /// `c ? p : q` (JLS 17, 15.25).
-    Choose(Box<BoolExpr>, Box<LongExpr>, Box<LongExpr>),
+    Binary(BinaryOperator, Box<LongPair>),
+    Choose(Box<LongChoice>),
+}
+
+/// Two numbers, from left to right.
+#[cycle(ast)]
+#[derive(Drop)]
+pub struct LongPair {
+    pub left: LongExpr,
+    pub right: LongExpr,
+}
+
+/// `c ? p : q` (JLS 17, 15.25) for two numbers.
+#[cycle(ast)]
+#[derive(Drop)]
+pub struct LongChoice {
+    pub condition: BoolExpr,
+    pub chosen: LongExpr,
+    pub other: LongExpr,
 }
 
 /// An expression whose value is a boolean.
@@ -29,12 +45,28 @@ pub enum LongExpr {
 #[derive(Drop)]
 pub enum BoolExpr {
     Literal(bool),
-    Compare(Comparison, Box<LongExpr>, Box<LongExpr>),
+    Compare(Comparison, Box<LongPair>),
     /// `!p` (JLS 17, 15.15.6).
     Not(Box<BoolExpr>),
-    Connect(Connective, Box<BoolExpr>, Box<BoolExpr>),
-    /// `c ? p : q` (JLS 17, 15.25).
-    Choose(Box<BoolExpr>, Box<BoolExpr>, Box<BoolExpr>),
+    Connect(Connective, Box<BoolPair>),
+    Choose(Box<BoolChoice>),
+}
+
+/// Two booleans, from left to right.
+#[cycle(ast)]
+#[derive(Drop)]
+pub struct BoolPair {
+    pub left: BoolExpr,
+    pub right: BoolExpr,
+}
+
+/// `c ? p : q` for two booleans.
+#[cycle(ast)]
+#[derive(Drop)]
+pub struct BoolChoice {
+    pub condition: BoolExpr,
+    pub chosen: BoolExpr,
+    pub other: BoolExpr,
 }
 
 impl LongExpr {
@@ -53,16 +85,16 @@ impl LongExpr {
                 let value = operand.eval(x, env)?;
                 operator.apply(value)
             }
-            LongExpr::Binary(operator, left, right) => {
-                let left = left.eval(x, env)?;
-                let right = right.eval(x, env)?;
+            LongExpr::Binary(operator, pair) => {
+                let left = pair.left.eval(x, env)?;
+                let right = pair.right.eval(x, env)?;
                 operator.apply(left, right)
             }
-            LongExpr::Choose(condition, chosen, other) => {
-                if condition.eval(x, env)? {
-                    chosen.eval(x, env)
+            LongExpr::Choose(choice) => {
+                if choice.condition.eval(x, env)? {
+                    choice.chosen.eval(x, env)
                 } else {
-                    other.eval(x, env)
+                    choice.other.eval(x, env)
                 }
             }
         }
@@ -78,31 +110,31 @@ impl BoolExpr {
     {
         match self {
             BoolExpr::Literal(value) => Ok(*value),
-            BoolExpr::Compare(comparison, left, right) => {
-                let left = left.eval(x, env)?;
-                let right = right.eval(x, env)?;
+            BoolExpr::Compare(comparison, pair) => {
+                let left = pair.left.eval(x, env)?;
+                let right = pair.right.eval(x, env)?;
                 Ok(comparison.apply(left, right))
             }
             BoolExpr::Not(operand) => Ok(!operand.eval(x, env)?),
-            BoolExpr::Connect(Connective::And, left, right) => {
-                if left.eval(x, env)? {
-                    right.eval(x, env)
+            BoolExpr::Connect(Connective::And, pair) => {
+                if pair.left.eval(x, env)? {
+                    pair.right.eval(x, env)
                 } else {
                     Ok(false)
                 }
             }
-            BoolExpr::Connect(Connective::Or, left, right) => {
-                if left.eval(x, env)? {
+            BoolExpr::Connect(Connective::Or, pair) => {
+                if pair.left.eval(x, env)? {
                     Ok(true)
                 } else {
-                    right.eval(x, env)
+                    pair.right.eval(x, env)
                 }
             }
-            BoolExpr::Choose(condition, chosen, other) => {
-                if condition.eval(x, env)? {
-                    chosen.eval(x, env)
+            BoolExpr::Choose(choice) => {
+                if choice.condition.eval(x, env)? {
+                    choice.chosen.eval(x, env)
                 } else {
-                    other.eval(x, env)
+                    choice.other.eval(x, env)
                 }
             }
         }

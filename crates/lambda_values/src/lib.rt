@@ -30,7 +30,7 @@ mod wrapping;
 
 pub use arithmetic::{bits_are_combined_place_by_place, division_rounds_toward_zero};
 pub use env::{Env, NamedNumber};
-pub use expr::{BoolExpr, LongExpr};
+pub use expr::{BoolChoice, BoolExpr, BoolPair, LongChoice, LongExpr, LongPair};
 pub use fault::FaultKind;
 pub use inner::{Inner, InnerExpr, ListedValues};
 pub use lambda::{Body, Lambda, PairForm};

@@ -32,14 +32,14 @@ impl LongExpr {
             LongExpr::Number(_) | LongExpr::Parameter(_) => Ok(()),
             LongExpr::Reference(name) => push_name(alloc, name, names),
             LongExpr::Unary(_, operand) => operand.push_names(alloc, names),
-            LongExpr::Binary(_, left, right) => {
-                left.push_names(alloc, names)?;
-                right.push_names(alloc, names)
+            LongExpr::Binary(_, pair) => {
+                pair.left.push_names(alloc, names)?;
+                pair.right.push_names(alloc, names)
             }
-            LongExpr::Choose(condition, first, second) => {
-                condition.push_names(alloc, names)?;
-                first.push_names(alloc, names)?;
-                second.push_names(alloc, names)
+            LongExpr::Choose(choice) => {
+                choice.condition.push_names(alloc, names)?;
+                choice.chosen.push_names(alloc, names)?;
+                choice.other.push_names(alloc, names)
             }
         }
     }
@@ -52,19 +52,19 @@ impl BoolExpr {
     {
         match self {
             BoolExpr::Literal(_) => Ok(()),
-            BoolExpr::Compare(_, left, right) => {
-                left.push_names(alloc, names)?;
-                right.push_names(alloc, names)
+            BoolExpr::Compare(_, pair) => {
+                pair.left.push_names(alloc, names)?;
+                pair.right.push_names(alloc, names)
             }
             BoolExpr::Not(operand) => operand.push_names(alloc, names),
-            BoolExpr::Connect(_, left, right) => {
-                left.push_names(alloc, names)?;
-                right.push_names(alloc, names)
+            BoolExpr::Connect(_, pair) => {
+                pair.left.push_names(alloc, names)?;
+                pair.right.push_names(alloc, names)
             }
-            BoolExpr::Choose(condition, chosen, other) => {
-                condition.push_names(alloc, names)?;
-                chosen.push_names(alloc, names)?;
-                other.push_names(alloc, names)
+            BoolExpr::Choose(choice) => {
+                choice.condition.push_names(alloc, names)?;
+                choice.chosen.push_names(alloc, names)?;
+                choice.other.push_names(alloc, names)
             }
         }
     }
