@@ -18,7 +18,7 @@ use Rattle.lambda_values.specs.Wrap.{wrap}
 abbrev pub typed_of : TypedOperand → Typed
 typed_of (operand.Long e) = long (long_of e)
 typed_of (operand.Truth e) = boolean (truth_of e)
-typed_of (operand.Longs a b) = longs (long_of a) (long_of b)
+typed_of (operand.Longs pair) = longs (long_of pair.left) (long_of pair.right)
 typed_of operand.Untyped = untyped
 
 abbrev pub operands_of : List TypedOperand → List Typed

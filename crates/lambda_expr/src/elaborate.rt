@@ -14,7 +14,9 @@ use super::operation::{Function, SignOperation};
 use super::sign::Sign;
 use super::step::{Opening, ParseStep};
 use super::table::{constant_of, function_of};
-use lambda_values::{BoolExpr, LongExpr, UnaryOperator};
+use lambda_values::{
+    BoolChoice, BoolExpr, BoolPair, LongChoice, LongExpr, LongPair, UnaryOperator,
+};
 use std::alloc::{AllocError, Global};
 use stream_tokens::CutText;
 
@@ -24,7 +26,7 @@ pub(crate) enum TypedOperand {
     Long(LongExpr),
     Truth(BoolExpr),
     /// Two operands that a comma separates.
-    Longs(LongExpr, LongExpr),
+    Longs(LongPair),
     /// An operand was of the wrong type.
     Untyped,
 }
@@ -63,13 +65,14 @@ fn prefix(alloc: Global, sign: Sign, operand: TypedOperand) -> Elaborated
 }
 
 // Two numbers, and what stands between them.
-fn on_longs(alloc: Global, operation: SignOperation, left: LongExpr, right: LongExpr) -> Elaborated
-    ensures { IfOk result (λ o. typed_of o ≡ operated (long (long_of left)) (long (long_of right)) operation) }
+fn on_longs(alloc: Global, operation: SignOperation, pair: LongPair) -> Elaborated
+    ensures { IfOk result (λ o. typed_of o
+        ≡ operated (long (long_of pair.left)) (long (long_of pair.right)) operation) }
 {
     match operation {
-        SignOperation::Compute(operator) => binary(alloc, operator, left, right),
-        SignOperation::Compare(comparison) => compare(alloc, comparison, left, right),
-        SignOperation::Separate => Ok(TypedOperand::Longs(left, right)),
+        SignOperation::Compute(operator) => binary(alloc, operator, pair),
+        SignOperation::Compare(comparison) => compare(alloc, comparison, pair),
+        SignOperation::Separate => Ok(TypedOperand::Longs(pair)),
         _ => Ok(TypedOperand::Untyped),
     }
 }
@@ -85,12 +88,14 @@ fn operate(
 {
     match left {
         TypedOperand::Long(left) => match right {
-            TypedOperand::Long(right) => on_longs(alloc, operation, left, right),
+            TypedOperand::Long(right) => on_longs(alloc, operation, LongPair { left, right }),
             _ => Ok(TypedOperand::Untyped),
         },
         TypedOperand::Truth(left) => match right {
             TypedOperand::Truth(right) => match operation {
-                SignOperation::Connect(connective) => connect(alloc, connective, left, right),
+                SignOperation::Connect(connective) => {
+                    connect(alloc, connective, BoolPair { left, right })
+                }
                 _ => Ok(TypedOperand::Untyped),
             },
             _ => Ok(TypedOperand::Untyped),
@@ -114,11 +119,25 @@ fn select(
     };
     match chosen {
         TypedOperand::Long(chosen) => match other {
-            TypedOperand::Long(other) => choose_long(alloc, condition, chosen, other),
+            TypedOperand::Long(other) => choose_long(
+                alloc,
+                LongChoice {
+                    condition,
+                    chosen,
+                    other,
+                },
+            ),
             _ => Ok(TypedOperand::Untyped),
         },
         TypedOperand::Truth(chosen) => match other {
-            TypedOperand::Truth(other) => choose_truth(alloc, condition, chosen, other),
+            TypedOperand::Truth(other) => choose_truth(
+                alloc,
+                BoolChoice {
+                    condition,
+                    chosen,
+                    other,
+                },
+            ),
             _ => Ok(TypedOperand::Untyped),
         },
         _ => Ok(TypedOperand::Untyped),
@@ -133,9 +152,9 @@ fn call(alloc: Global, function: Option<Function>, operand: TypedOperand) -> Ela
         (Some(Function::Unary(operator)), TypedOperand::Long(operand)) => unary(
             alloc, operator, operand,
         ),
-        (Some(Function::Binary(operator)), TypedOperand::Longs(left, right)) => binary(
-            alloc, operator, left, right,
-        ),
+        (Some(Function::Binary(operator)), TypedOperand::Longs(pair)) => {
+            binary(alloc, operator, pair)
+        }
         _ => Ok(TypedOperand::Untyped),
     }
 }

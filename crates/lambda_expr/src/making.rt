@@ -10,7 +10,10 @@ ghost use Rattle.std.specs.Prelude.{◌≡◌, IfOk, pos};
 
 use super::elaborate::{Elaborated, TypedOperand};
 use super::lexeme::reference_name;
-use lambda_values::{BinaryOperator, BoolExpr, Comparison, Connective, LongExpr, UnaryOperator};
+use lambda_values::{
+    BinaryOperator, BoolChoice, BoolExpr, BoolPair, Comparison, Connective, LongChoice, LongExpr,
+    LongPair, UnaryOperator,
+};
 use std::alloc::Global;
 use stream_tokens::{Bytes, CutText};
 
@@ -22,76 +25,42 @@ pub(crate) fn unary(alloc: Global, operator: UnaryOperator, operand: LongExpr) -
 }
 
 /// An operator between two numbers, or a method of two.
-pub(crate) fn binary(
-    alloc: Global,
-    operator: BinaryOperator,
-    left: LongExpr,
-    right: LongExpr,
-) -> Elaborated
-    ensures { IfOk result (λ o. typed_of o ≡ long (term.binary operator (long_of left) (long_of right))) }
+pub(crate) fn binary(alloc: Global, operator: BinaryOperator, pair: LongPair) -> Elaborated
+    ensures { IfOk result (λ o. typed_of o ≡ long (term.binary operator (long_of pair.left) (long_of pair.right))) }
 {
-    let left = Box::new(alloc, left)?;
-    let right = Box::new(alloc, right)?;
-    Ok(TypedOperand::Long(LongExpr::Binary(operator, left, right)))
+    Ok(TypedOperand::Long(LongExpr::Binary(operator, Box::new(alloc, pair)?)))
 }
 
 /// A comparison of two numbers.
-pub(crate) fn compare(
-    alloc: Global,
-    comparison: Comparison,
-    left: LongExpr,
-    right: LongExpr,
-) -> Elaborated
-    ensures { IfOk result (λ o. typed_of o ≡ boolean (term.compare comparison (long_of left) (long_of right))) }
+pub(crate) fn compare(alloc: Global, comparison: Comparison, pair: LongPair) -> Elaborated
+    ensures { IfOk result (λ o. typed_of o
+        ≡ boolean (term.compare comparison (long_of pair.left) (long_of pair.right))) }
 {
-    let left = Box::new(alloc, left)?;
-    let right = Box::new(alloc, right)?;
-    Ok(TypedOperand::Truth(BoolExpr::Compare(comparison, left, right)))
+    Ok(TypedOperand::Truth(BoolExpr::Compare(comparison, Box::new(alloc, pair)?)))
 }
 
 /// `&&` or `||` between two booleans.
-pub(crate) fn connect(
-    alloc: Global,
-    connective: Connective,
-    left: BoolExpr,
-    right: BoolExpr,
-) -> Elaborated
-    ensures { IfOk result (λ o. typed_of o ≡ boolean (term.connect connective (truth_of left) (truth_of right))) }
+pub(crate) fn connect(alloc: Global, connective: Connective, pair: BoolPair) -> Elaborated
+    ensures { IfOk result (λ o. typed_of o
+        ≡ boolean (term.connect connective (truth_of pair.left) (truth_of pair.right))) }
 {
-    let left = Box::new(alloc, left)?;
-    let right = Box::new(alloc, right)?;
-    Ok(TypedOperand::Truth(BoolExpr::Connect(connective, left, right)))
+    Ok(TypedOperand::Truth(BoolExpr::Connect(connective, Box::new(alloc, pair)?)))
 }
 
 /// `c ? p : q` for two numbers.
-pub(crate) fn choose_long(
-    alloc: Global,
-    condition: BoolExpr,
-    chosen: LongExpr,
-    other: LongExpr,
-) -> Elaborated
-    ensures { IfOk result (λ o. typed_of o ≡ long (term.choose (truth_of condition) (long_of chosen) (long_of other))) }
+pub(crate) fn choose_long(alloc: Global, choice: LongChoice) -> Elaborated
+    ensures { IfOk result (λ o. typed_of o
+        ≡ long (term.choose (truth_of choice.condition) (long_of choice.chosen) (long_of choice.other))) }
 {
-    let condition = Box::new(alloc, condition)?;
-    let chosen = Box::new(alloc, chosen)?;
-    let other = Box::new(alloc, other)?;
-    Ok(TypedOperand::Long(LongExpr::Choose(condition, chosen, other)))
+    Ok(TypedOperand::Long(LongExpr::Choose(Box::new(alloc, choice)?)))
 }
 
 /// `c ? p : q` for two booleans.
-pub(crate) fn choose_truth(
-    alloc: Global,
-    condition: BoolExpr,
-    chosen: BoolExpr,
-    other: BoolExpr,
-) -> Elaborated
+pub(crate) fn choose_truth(alloc: Global, choice: BoolChoice) -> Elaborated
     ensures { IfOk result (λ o. typed_of o
-        ≡ boolean (term.choose_truth (truth_of condition) (truth_of chosen) (truth_of other))) }
+        ≡ boolean (term.choose_truth (truth_of choice.condition) (truth_of choice.chosen) (truth_of choice.other))) }
 {
-    let condition = Box::new(alloc, condition)?;
-    let chosen = Box::new(alloc, chosen)?;
-    let other = Box::new(alloc, other)?;
-    Ok(TypedOperand::Truth(BoolExpr::Choose(condition, chosen, other)))
+    Ok(TypedOperand::Truth(BoolExpr::Choose(Box::new(alloc, choice)?)))
 }
 
 /// A number that fits, or 2^63, which is its own negative in 64 bits.
@@ -105,6 +74,6 @@ pub(crate) fn number(value: u64) -> TypedOperand
 pub(crate) fn reference(alloc: Global, text: &CutText, place: usize) -> Elaborated
     ensures { IfOk result (λ o. typed_of o ≡ long (term.reference (names_in text.now.bytes text.now.tokens place))) }
 {
-    let name = Vec::from_slice(alloc, reference_name(text, place))?;
-    Ok(TypedOperand::Long(LongExpr::Reference(Bytes::from(name))))
+    let name = Bytes::from(Vec::from_slice(alloc, reference_name(text, place))?);
+    Ok(TypedOperand::Long(LongExpr::Reference(Box::new(alloc, name)?)))
 }
