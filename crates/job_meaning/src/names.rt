@@ -1,9 +1,6 @@
 //! The names of the jobs that a job names.
 
-ghost use Rattle.std.specs.Prelude.{◌≡◌, ◌++◌, [], ◌∷◌, IfOk};
-ghost use Rattle.lambda_values.specs.References.{each_names, inner_names, long_names, truth_names};
-ghost use Rattle.lambda_values.specs.Streams.{exprs_of, inner_of};
-ghost use Rattle.lambda_values.specs.Term.{long_of, truth_of};
+ghost use Rattle.std.specs.Prelude.{◌≡◌, ◌++◌, IfOk};
 ghost use Rattle.trace.specs.Stages.{stage_of};
 ghost use Rattle.slice_ops.specs.Slices.{slice_of};
 ghost use Rattle.find_ops.specs.Finds.{find_of};
@@ -13,97 +10,19 @@ ghost use Rattle.job_meaning.specs.Names.{names_in_job, slice_names, stage_names
 
 use find_ops::FindTerminal;
 use job_language::{Job, JobStage, PlainSource, Terminal};
-use lambda_values::{BoolExpr, InnerExpr, LongExpr};
 use slice_ops::Slice;
 use std::alloc::Global;
 use stream_tokens::Bytes;
 use trace::{NoMemory, Stage};
-
-/// Adds a name.
-fn push_name(alloc: Global, name: &Bytes, names: &mut Vec<Bytes>) -> Result<(), NoMemory>
-    ensures { IfOk result (λ _. names.new.items ≡ names.old.items ++ name.now ∷ []) }
-{
-    let copy = Vec::from_slice(alloc, name.as_slice())?;
-    names.push(Bytes::from(copy))?;
-    Ok(())
-}
-
-/// Adds the names of an expression. One call for each node.
-#[cycle(names)]
-fn push_long(alloc: Global, expr: &LongExpr, names: &mut Vec<Bytes>) -> Result<(), NoMemory>
-    ensures { IfOk result (λ _. names.new.items ≡ names.old.items ++ long_names (long_of expr.now)) }
-{
-    match expr {
-        LongExpr::Number(_) | LongExpr::Parameter(_) => Ok(()),
-        LongExpr::Reference(name) => push_name(alloc, name, names),
-        LongExpr::Unary(_, operand) => push_long(alloc, operand, names),
-        LongExpr::Binary(_, left, right) => {
-            push_long(alloc, left, names)?;
-            push_long(alloc, right, names)
-        }
-        LongExpr::Choose(condition, chosen, other) => {
-            push_truth(alloc, condition, names)?;
-            push_long(alloc, chosen, names)?;
-            push_long(alloc, other, names)
-        }
-    }
-}
-
-/// Adds the names of a boolean expression. One call for each node.
-#[cycle(names)]
-fn push_truth(alloc: Global, expr: &BoolExpr, names: &mut Vec<Bytes>) -> Result<(), NoMemory>
-    ensures { IfOk result (λ _. names.new.items ≡ names.old.items ++ truth_names (truth_of expr.now)) }
-{
-    match expr {
-        BoolExpr::Literal(_) => Ok(()),
-        BoolExpr::Compare(_, left, right) => {
-            push_long(alloc, left, names)?;
-            push_long(alloc, right, names)
-        }
-        BoolExpr::Not(operand) => push_truth(alloc, operand, names),
-        BoolExpr::Connect(_, left, right) => {
-            push_truth(alloc, left, names)?;
-            push_truth(alloc, right, names)
-        }
-        BoolExpr::Choose(condition, chosen, other) => {
-            push_truth(alloc, condition, names)?;
-            push_truth(alloc, chosen, names)?;
-            push_truth(alloc, other, names)
-        }
-    }
-}
-
-/// Adds the names of expressions, one expression after the other.
-fn push_each(alloc: Global, exprs: &[LongExpr], names: &mut Vec<Bytes>) -> Result<(), NoMemory>
-    ensures { IfOk result (λ _. names.new.items ≡ names.old.items ++ each_names (exprs_of exprs.now)) }
-{
-    for expr in exprs {
-        push_long(alloc, expr, names)?;
-    }
-    Ok(())
-}
-
-/// Adds the names of an inner stream.
-fn push_inner(alloc: Global, inner: &InnerExpr, names: &mut Vec<Bytes>) -> Result<(), NoMemory>
-    ensures { IfOk result (λ _. names.new.items ≡ names.old.items ++ inner_names (inner_of inner.now)) }
-{
-    match inner {
-        InnerExpr::Range(from, to) | InnerExpr::RangeClosed(from, to) => {
-            push_long(alloc, from, names)?;
-            push_long(alloc, to, names)
-        }
-        InnerExpr::Of(operands) => push_each(alloc, operands.exprs(), names),
-    }
-}
 
 /// Adds the names of a stage that looks at one item at a time.
 fn push_item_stage(alloc: Global, stage: &Stage, names: &mut Vec<Bytes>) -> Result<(), NoMemory>
     ensures { IfOk result (λ _. names.new.items ≡ names.old.items ++ stage_names (stage_of stage.now)) }
 {
     match stage {
-        Stage::Map(image) => push_long(alloc, image, names),
-        Stage::Filter(test) => push_truth(alloc, test, names),
-        Stage::FlatMap(inner) => push_inner(alloc, inner, names),
+        Stage::Map(image) => image.push_names(alloc, names),
+        Stage::Filter(test) => test.push_names(alloc, names),
+        Stage::FlatMap(inner) => inner.push_names(alloc, names),
     }
 }
 
@@ -113,7 +32,7 @@ fn push_slice(alloc: Global, slice: &Slice, names: &mut Vec<Bytes>) -> Result<()
 {
     match slice {
         Slice::Limit(_) | Slice::Skip(_) => Ok(()),
-        Slice::TakeWhile(test) | Slice::DropWhile(test) => push_truth(alloc, test, names),
+        Slice::TakeWhile(test) | Slice::DropWhile(test) => test.push_names(alloc, names),
     }
 }
 
@@ -146,7 +65,7 @@ fn push_find(alloc: Global, find: &FindTerminal, names: &mut Vec<Bytes>) -> Resu
         FindTerminal::First => Ok(()),
         FindTerminal::AnyMatch(test)
         | FindTerminal::AllMatch(test)
-        | FindTerminal::NoneMatch(test) => push_truth(alloc, test, names),
+        | FindTerminal::NoneMatch(test) => test.push_names(alloc, names),
     }
 }
 
@@ -170,7 +89,8 @@ fn push_sources(
 {
     for source in sources {
         if let PlainSource::Result(name) = source {
-            push_name(alloc, name, names)?;
+            let copy = Vec::from_slice(alloc, name.as_slice())?;
+            names.push(Bytes::from(copy))?;
         }
     }
     Ok(())

@@ -24,8 +24,10 @@ fn push_name(alloc: Global, name: &Bytes, names: &mut Vec<Bytes>) -> Result<(), 
 }
 
 impl LongExpr {
+    /// Adds the names of its references, in order of writing. One call for each node; the one error is that an
+    /// allocation failed.
     #[cycle(names)]
-    fn push_names(&self, alloc: Global, names: &mut Vec<Bytes>) -> Result<(), AllocError>
+    pub fn push_names(&self, alloc: Global, names: &mut Vec<Bytes>) -> Result<(), AllocError>
         ensures { IfOk result (λ _. names.new.items ≡ names.old.items ++ long_names (long_of self.now)) }
     {
         match self {
@@ -46,8 +48,10 @@ impl LongExpr {
 }
 
 impl BoolExpr {
+    /// Adds the names of its references, in order of writing. One call for each node; the one error is that an
+    /// allocation failed.
     #[cycle(names)]
-    fn push_names(&self, alloc: Global, names: &mut Vec<Bytes>) -> Result<(), AllocError>
+    pub fn push_names(&self, alloc: Global, names: &mut Vec<Bytes>) -> Result<(), AllocError>
         ensures { IfOk result (λ _. names.new.items ≡ names.old.items ++ truth_names (truth_of self.now)) }
     {
         match self {
@@ -81,7 +85,8 @@ fn push_each(alloc: Global, exprs: &[LongExpr], names: &mut Vec<Bytes>) -> Resul
 }
 
 impl InnerExpr {
-    fn push_names(&self, alloc: Global, names: &mut Vec<Bytes>) -> Result<(), AllocError>
+    /// Adds the names of its references, in order of writing. The one error is that an allocation failed.
+    pub fn push_names(&self, alloc: Global, names: &mut Vec<Bytes>) -> Result<(), AllocError>
         ensures { IfOk result (λ _. names.new.items ≡ names.old.items ++ inner_names (inner_of self.now)) }
     {
         match self {
