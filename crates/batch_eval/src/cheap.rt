@@ -32,13 +32,13 @@ fn after_long(expr: &LongExpr, operators: u32) -> u32 {
             Faults::Never => after_long(operand, operators - 1),
             Faults::ByZero | Faults::Overflow => 0,
         },
-        LongExpr::Binary(operator, a, b) => {
-            let left = operators.saturating_sub(cost(*operator, b));
-            after_long(b, after_long(a, left))
+        LongExpr::Binary(operator, pair) => {
+            let left = operators.saturating_sub(cost(*operator, &pair.right));
+            after_long(&pair.right, after_long(&pair.left, left))
         }
-        LongExpr::Choose(condition, a, b) => {
-            let left = after_test(condition, operators - 1);
-            after_long(b, after_long(a, left))
+        LongExpr::Choose(choice) => {
+            let left = after_test(&choice.condition, operators - 1);
+            after_long(&choice.other, after_long(&choice.chosen, left))
         }
     }
 }
@@ -51,12 +51,16 @@ fn after_test(test: &BoolExpr, operators: u32) -> u32 {
     }
     match test {
         BoolExpr::Literal(_) => operators,
-        BoolExpr::Compare(_, a, b) => after_long(b, after_long(a, operators - 1)),
+        BoolExpr::Compare(_, pair) => {
+            after_long(&pair.right, after_long(&pair.left, operators - 1))
+        }
         BoolExpr::Not(operand) => after_test(operand, operators - 1),
-        BoolExpr::Connect(_, a, b) => after_test(b, after_test(a, operators - 1)),
-        BoolExpr::Choose(condition, a, b) => {
-            let left = after_test(condition, operators - 1);
-            after_test(b, after_test(a, left))
+        BoolExpr::Connect(_, pair) => {
+            after_test(&pair.right, after_test(&pair.left, operators - 1))
+        }
+        BoolExpr::Choose(choice) => {
+            let left = after_test(&choice.condition, operators - 1);
+            after_test(&choice.other, after_test(&choice.chosen, left))
         }
     }
 }

@@ -31,15 +31,15 @@ pub(crate) fn eval_counted(
     ensures { IfSome result (λ reached. Reaches (λ k. long_value (long_of expr.now) (wrap (first +ℤ pos k)) env.now)
         (at out.new) live reached) }
 {
-    let LongExpr::Binary(operator, a, b) = expr else {
+    let LongExpr::Binary(operator, pair) = expr else {
         return None;
     };
-    let y = number_in(b, env)?;
+    let y = number_in(&pair.right, env)?;
     let op = Infix::Compute(*operator);
     let last = if has_shorter_way(op) {
-        no_step(a)
+        no_step(&pair.left)
     } else {
-        last_step(a, env)
+        last_step(&pair.left, env)
     };
     if let LongExpr::Parameter(_) = last.of {
         return by_counted(*operator, Counting(first), last.step, y, live, out);

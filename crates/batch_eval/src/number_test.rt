@@ -72,9 +72,10 @@ pub(crate) fn compared_with<'a>(test: &'a BoolExpr, env: &Env) -> Option<(LastSt
     ensures room { IfSome result (λ parts. (room : ℕ) → FitsTest (truth_of test.now) room
         → Fits (long_of parts.0.of.now) room) }
 {
-    let BoolExpr::Compare(comparison, a, b) = test else {
+    let BoolExpr::Compare(comparison, pair) = test else {
         return None;
     };
-    let number = number_in(b, env)?;
-    Some((last_step(a, env), NumberTest::new(*comparison, number)))
+    let number = number_in(&pair.right, env)?;
+    let last = last_step(&pair.left, env);
+    Some((last, NumberTest::new(*comparison, number)))
 }

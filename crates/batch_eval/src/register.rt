@@ -18,7 +18,7 @@ use crate::loops::run;
 use crate::operands::{Beside, Branch, Held, Step, fill};
 use crate::reached::{Reached, all};
 use crate::step::{last_step, no_step};
-use lambda_values::{BoolExpr, Connective, Env, LongExpr};
+use lambda_values::{BoolExpr, Connective, Env, LongExpr, LongPair};
 
 /// The most lanes of a batch, and the length of a register.
 pub(crate) const LANES: usize = 1024;
@@ -68,13 +68,13 @@ pub(crate) fn eval_long(
         LongExpr::Unary(operator, operand) => {
             eval_before_number(Infix::Alone(*operator), operand, 0, inputs, out, room)
         }
-        LongExpr::Binary(operator, a, b) => {
-            eval_between(Infix::Compute(*operator), a, b, inputs, out, room)
+        LongExpr::Binary(operator, pair) => {
+            eval_between(Infix::Compute(*operator), pair, inputs, out, room)
         }
-        LongExpr::Choose(condition, a, b) => eval_chosen(
-            condition,
-            Operand::Long(a),
-            Operand::Long(b),
+        LongExpr::Choose(choice) => eval_chosen(
+            &choice.condition,
+            Operand::Long(&choice.chosen),
+            Operand::Long(&choice.other),
             inputs,
             out,
             room,
@@ -100,25 +100,25 @@ pub(crate) fn eval_bool(
 {
     match test {
         BoolExpr::Literal(value) => fill(flag(*value), inputs.live, out),
-        BoolExpr::Compare(comparison, a, b) => {
-            eval_between(Infix::Compare(*comparison), a, b, inputs, out, room)
+        BoolExpr::Compare(comparison, pair) => {
+            eval_between(Infix::Compare(*comparison), pair, inputs, out, room)
         }
         BoolExpr::Not(operand) => {
             let first = eval_bool(operand, inputs, out, room);
             run::<Equal, Own, Number>(Own, Number(0), first.live, out).after(first)
         }
-        BoolExpr::Connect(Connective::And, a, b) => {
-            let b = Operand::Bool(b);
-            eval_chosen(a, b, Operand::Flag(false), inputs, out, room)
+        BoolExpr::Connect(Connective::And, pair) => {
+            let right = Operand::Bool(&pair.right);
+            eval_chosen(&pair.left, right, Operand::Flag(false), inputs, out, room)
         }
-        BoolExpr::Connect(Connective::Or, a, b) => {
-            let b = Operand::Bool(b);
-            eval_chosen(a, Operand::Flag(true), b, inputs, out, room)
+        BoolExpr::Connect(Connective::Or, pair) => {
+            let right = Operand::Bool(&pair.right);
+            eval_chosen(&pair.left, Operand::Flag(true), right, inputs, out, room)
         }
-        BoolExpr::Choose(condition, a, b) => eval_chosen(
-            condition,
-            Operand::Bool(a),
-            Operand::Bool(b),
+        BoolExpr::Choose(choice) => eval_chosen(
+            &choice.condition,
+            Operand::Bool(&choice.chosen),
+            Operand::Bool(&choice.other),
             inputs,
             out,
             room,
@@ -187,8 +187,7 @@ pub(crate) fn eval_branch<'a>(
 #[cycle(register)]
 fn eval_between(
     op: Infix,
-    a: &LongExpr,
-    b: &LongExpr,
+    pair: &LongPair,
     inputs: Inputs<'_>,
     out: &mut [i64],
     room: &mut [i64],
@@ -196,10 +195,12 @@ fn eval_between(
     requires lanes { inputs.live ≤ 1024 }
     requires xs { inputs.live ≤ length inputs.xs.now }
     requires out { inputs.live ≤ length out.old }
-    requires room { FitsBoth (long_of a.now) (long_of b.now) (length room.old) }
-    ensures { Reaches (at_each inputs.entry (λ x env. between (infix_value op) (long_value (long_of a.now) x env)
-        (long_value (long_of b.now) x env))) (at out.new) inputs.entry.live result }
+    requires room { FitsBoth (long_of pair.now.left) (long_of pair.now.right) (length room.old) }
+    ensures { Reaches (at_each inputs.entry (λ x env. between (infix_value op)
+        (long_value (long_of pair.now.left) x env) (long_value (long_of pair.now.right) x env)))
+        (at out.new) inputs.entry.live result }
 {
+    let LongPair { left: a, right: b } = pair;
     if let Some(y) = number_in(b, inputs.env) {
         return eval_before_number(op, a, y, inputs, out, room);
     }

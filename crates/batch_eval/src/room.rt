@@ -17,12 +17,12 @@ pub(crate) fn fits(expr: &LongExpr, room: usize) -> bool
     match expr {
         LongExpr::Number(_) | LongExpr::Parameter(_) | LongExpr::Reference(_) => true,
         LongExpr::Unary(_, operand) => fits(operand, room),
-        LongExpr::Binary(_, a, b) => both_fit(a, b, room),
-        LongExpr::Choose(condition, a, b) => {
+        LongExpr::Binary(_, pair) => both_fit(&pair.left, &pair.right, room),
+        LongExpr::Choose(choice) => {
             room >= 4 * LANES
-                && test_fits(condition, room - LANES)
-                && fits(a, room - 4 * LANES)
-                && fits(b, room - 4 * LANES)
+                && test_fits(&choice.condition, room - LANES)
+                && fits(&choice.chosen, room - 4 * LANES)
+                && fits(&choice.other, room - 4 * LANES)
         }
     }
 }
@@ -42,16 +42,18 @@ pub(crate) fn test_fits(test: &BoolExpr, room: usize) -> bool
 {
     match test {
         BoolExpr::Literal(_) => true,
-        BoolExpr::Compare(_, a, b) => both_fit(a, b, room),
+        BoolExpr::Compare(_, pair) => both_fit(&pair.left, &pair.right, room),
         BoolExpr::Not(operand) => test_fits(operand, room),
-        BoolExpr::Connect(_, a, b) => {
-            room >= 4 * LANES && test_fits(a, room - LANES) && test_fits(b, room - 4 * LANES)
-        }
-        BoolExpr::Choose(condition, a, b) => {
+        BoolExpr::Connect(_, pair) => {
             room >= 4 * LANES
-                && test_fits(condition, room - LANES)
-                && test_fits(a, room - 4 * LANES)
-                && test_fits(b, room - 4 * LANES)
+                && test_fits(&pair.left, room - LANES)
+                && test_fits(&pair.right, room - 4 * LANES)
+        }
+        BoolExpr::Choose(choice) => {
+            room >= 4 * LANES
+                && test_fits(&choice.condition, room - LANES)
+                && test_fits(&choice.chosen, room - 4 * LANES)
+                && test_fits(&choice.other, room - 4 * LANES)
         }
     }
 }

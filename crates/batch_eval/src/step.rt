@@ -26,10 +26,13 @@ pub(crate) fn last_step<'a>(expr: &'a LongExpr, env: &Env) -> LastStep<'a>
     ensures room { (room : ℕ) → Fits (long_of expr.now) room → Fits (long_of result.of.now) room }
     ensures size { size result.of.now ≤ size expr.now }
 {
-    if let LongExpr::Binary(operator, of, by) = expr {
-        if let Some(number) = number_in(by, env) {
+    if let LongExpr::Binary(operator, pair) = expr {
+        if let Some(number) = number_in(&pair.right, env) {
             if let Some(step) = step_of(*operator, number) {
-                return LastStep { of, step };
+                return LastStep {
+                    of: &pair.left,
+                    step,
+                };
             }
         }
     }

@@ -31,7 +31,7 @@ abbrev pub decreases-register::eval_branch : goal.decreases-register::eval_branc
 decreases-register::eval_branch l = 4 * size l.operand + 1
 
 abbrev pub decreases-register::eval_between : goal.decreases-register::eval_between
-decreases-register::eval_between l = 4 * max (size-LongExpr l.a.now) (size-LongExpr l.b.now) + 3
+decreases-register::eval_between l = 4 * max (size-LongExpr l.pair.now.left) (size-LongExpr l.pair.now.right) + 3
 
 abbrev pub decreases-choice::eval_chosen : goal.decreases-choice::eval_chosen
 decreases-choice::eval_chosen l = 4 * max (size-BoolExpr l.condition.now) (max (size l.a) (size l.b)) + 3
