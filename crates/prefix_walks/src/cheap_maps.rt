@@ -110,16 +110,16 @@ fn after_long(expr: &LongExpr, operators: u32) -> Option<u32>
             }
             after_long(operand, operators.checked_sub(1)?)
         }
-        LongExpr::Binary(operator, left, right) => {
-            if !is_total_by(*operator, right) {
+        LongExpr::Binary(operator, pair) => {
+            if !is_total_by(*operator, &pair.right) {
                 return None;
             }
-            let others = after_long(left, operators.checked_sub(cost(*operator))?)?;
-            after_long(right, others)
+            let others = after_long(&pair.left, operators.checked_sub(cost(*operator))?)?;
+            after_long(&pair.right, others)
         }
-        LongExpr::Choose(condition, chosen, other) => {
-            let others = after_test(condition, operators.checked_sub(1)?)?;
-            after_long(other, after_long(chosen, others)?)
+        LongExpr::Choose(choice) => {
+            let others = after_test(&choice.condition, operators.checked_sub(1)?)?;
+            after_long(&choice.other, after_long(&choice.chosen, others)?)
         }
     }
 }
@@ -131,18 +131,18 @@ fn after_test(test: &BoolExpr, operators: u32) -> Option<u32>
 {
     match test {
         BoolExpr::Literal(_) => Some(operators),
-        BoolExpr::Compare(_, left, right) => {
-            let others = after_long(left, operators.checked_sub(1)?)?;
-            after_long(right, others)
+        BoolExpr::Compare(_, pair) => {
+            let others = after_long(&pair.left, operators.checked_sub(1)?)?;
+            after_long(&pair.right, others)
         }
         BoolExpr::Not(operand) => after_test(operand, operators.checked_sub(1)?),
-        BoolExpr::Connect(_, left, right) => {
-            let others = after_test(left, operators.checked_sub(1)?)?;
-            after_test(right, others)
+        BoolExpr::Connect(_, pair) => {
+            let others = after_test(&pair.left, operators.checked_sub(1)?)?;
+            after_test(&pair.right, others)
         }
-        BoolExpr::Choose(condition, chosen, other) => {
-            let others = after_test(condition, operators.checked_sub(1)?)?;
-            after_test(other, after_test(chosen, others)?)
+        BoolExpr::Choose(choice) => {
+            let others = after_test(&choice.condition, operators.checked_sub(1)?)?;
+            after_test(&choice.other, after_test(&choice.chosen, others)?)
         }
     }
 }

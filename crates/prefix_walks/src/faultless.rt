@@ -48,11 +48,15 @@ pub fn never_faults(expr: &LongExpr) -> bool
     match expr {
         LongExpr::Number(_) | LongExpr::Parameter(_) | LongExpr::Reference(_) => true,
         LongExpr::Unary(operator, operand) => is_total(*operator) && never_faults(operand),
-        LongExpr::Binary(operator, left, right) => {
-            is_total_by(*operator, right) && never_faults(left) && never_faults(right)
+        LongExpr::Binary(operator, pair) => {
+            is_total_by(*operator, &pair.right)
+                && never_faults(&pair.left)
+                && never_faults(&pair.right)
         }
-        LongExpr::Choose(condition, chosen, other) => {
-            test_never_faults(condition) && never_faults(chosen) && never_faults(other)
+        LongExpr::Choose(choice) => {
+            test_never_faults(&choice.condition)
+                && never_faults(&choice.chosen)
+                && never_faults(&choice.other)
         }
     }
 }
@@ -64,11 +68,15 @@ pub fn test_never_faults(test: &BoolExpr) -> bool
 {
     match test {
         BoolExpr::Literal(_) => true,
-        BoolExpr::Compare(_, left, right) => never_faults(left) && never_faults(right),
+        BoolExpr::Compare(_, pair) => never_faults(&pair.left) && never_faults(&pair.right),
         BoolExpr::Not(operand) => test_never_faults(operand),
-        BoolExpr::Connect(_, left, right) => test_never_faults(left) && test_never_faults(right),
-        BoolExpr::Choose(condition, chosen, other) => {
-            test_never_faults(condition) && test_never_faults(chosen) && test_never_faults(other)
+        BoolExpr::Connect(_, pair) => {
+            test_never_faults(&pair.left) && test_never_faults(&pair.right)
+        }
+        BoolExpr::Choose(choice) => {
+            test_never_faults(&choice.condition)
+                && test_never_faults(&choice.chosen)
+                && test_never_faults(&choice.other)
         }
     }
 }
