@@ -101,8 +101,8 @@ impl Batch {
         Ok(Batch {
             live: 0,
             start: None,
-            origins: vec![in alloc; 0u64; LANES]?,
             values: vec![in alloc; 0i64; LANES]?,
+            origins: vec![in alloc; 0u64; LANES]?,
             spare: vec![in alloc; 0i64; LANES]?,
             end: End::Done,
         })

@@ -178,7 +178,9 @@ fn by_binary<A: Lanes<i64>>(
         FloorDivide FloorRemainder AddExact SubtractExact MultiplyExact)
 }
 
-/// An exact operator and a number: the wrapping operator, where no operand is out of these bounds.
+/// An exact operator and a number: the wrapping operator, where no operand is out of these bounds. Where it is called a
+/// compiler sees which of the bounds need no look.
+#[inline(always)]
 fn by_exact_number<K: Kernel, W: Kernel, A: Lanes<i64>>(
     bounds: (i64, i64),
     a: A,
