@@ -1,5 +1,5 @@
 -- Condition: the registers of the operands of inner streams, and the values that come from them.
-use Rattle.std.specs.Prelude.{◌≡◌, ℕ, zero, suc, ◌+◌, ◌*◌, ◌<◌, ◌≤◌, ℤ, List, [], ◌∷◌, ◌++◌, length, map, take, Result, Ok, Err}
+use Rattle.std.specs.Prelude.{◌≡◌, ℕ, zero, suc, ◌+◌, ◌*◌, ◌<◌, ◌≤◌, ℤ, Bool, true, false, List, [], ◌∷◌, ◌++◌, length, map, take, Result, Ok, Err}
 use Rattle.lambda_values.specs.declared.fault.FaultKind.{FaultKind}
 use Rattle.lambda_values.specs.Earlier.{Numbers}
 use Rattle.lambda_values.specs.Streams.{Inner, distance, inner_value, range, range_closed, through, up_from, values}
@@ -15,10 +15,15 @@ abbrev pub row : List ℤ → ℕ → ℕ → List ℤ
 row registers lane zero = []
 row registers lane (suc n) = row registers lane n ++ at registers (n * 1024 + lane) ∷ []
 
+-- the integers between two bounds, with the second one if the range is closed
+abbrev pub range_values : Bool → ℤ → ℤ → Result (List ℤ) FaultKind
+range_values true v w = up_from v (through v w)
+range_values false v w = up_from v (distance v w)
+
 -- the values that come from the operands in the registers, at a lane
 abbrev pub given : Inner → List ℤ → ℕ → Result (List ℤ) FaultKind
-given (range a b) registers k = up_from (at registers k) (distance (at registers k) (at registers (1024 + k)))
-given (range_closed a b) registers k = up_from (at registers k) (through (at registers k) (at registers (1024 + k)))
+given (range a b) registers k = range_values false (at registers k) (at registers (1024 + k))
+given (range_closed a b) registers k = range_values true (at registers k) (at registers (1024 + k))
 given (values es) registers k = Ok (row registers k (length es))
 
 -- at each of the first n items the registers hold the operands of the inner stream

@@ -1,11 +1,10 @@
 //! The values of inner streams of few values each, put into a batch without a call for each item.
 
 ghost use Rattle.batch_eval.specs.Batches.{CountsUp, item_at, lanes, origin_at};
-ghost use Rattle.batch_eval.specs.InnerColumns.{ArePut, HaveOperands, IsMore, given, row};
+ghost use Rattle.batch_eval.specs.InnerColumns.{ArePut, HaveOperands, IsMore, given, range_values, row};
 ghost use Rattle.batch_eval.specs.Lanes.{at};
 ghost use Rattle.lambda_values.specs.Earlier.{Numbers};
-ghost use Rattle.lambda_values.specs.Streams.{distance, inner_of, run_values, through, up_from};
-ghost use Rattle.lambda_values.specs.declared.fault.FaultKind.{FaultKind};
+ghost use Rattle.lambda_values.specs.Streams.{inner_of, run_values};
 ghost use Rattle.std.specs.Prelude.{◌≡◌, ◌+◌, ◌*◌, ◌-◌, ◌<◌, ◌≤◌, ℕ, ℤ, List, Result, ◌++◌, IfSome, None, Ok, length};
 ghost use Rattle.trace.specs.Stages.{flat_map, of_item};
 ghost use Rattle.trace.specs.declared.item.Item.{Item};
@@ -14,11 +13,8 @@ use crate::batch::{Batch, origin_of};
 use crate::columns::Columns;
 use crate::listing::{list_items, list_places, list_row};
 use crate::register::LANES;
-use lambda_values::{InnerExpr, Run};
+use lambda_values::{InnerExpr, Run, closed_range, range};
 use trace::InnerItems;
-
-/// The most values of a range; more are a fault.
-const MAX_VALUES: u64 = 1 << 62;
 
 /// How far values were put: of how many items, and the lane after the last value.
 #[derive(Clone, Copy)]
@@ -68,52 +64,16 @@ impl Batch {
     }
 }
 
-/// How the values of a range come from its bounds.
-trait RangeKind {
-    ghost values: { ℤ → ℤ → Result (List ℤ) FaultKind };
-
-    /// The integers of the range, unless they are too many.
-    fn run(from: i64, to: i64) -> Option<Run>
-        ensures { IfSome result (λ run. values from to ≡ Ok (run_values run)) };
-}
-
-/// `range`.
-struct Below;
-
-impl RangeKind for Below {
-    ghost values = { λ v w. up_from v (distance v w) };
-
-    fn run(from: i64, to: i64) -> Option<Run> {
-        let count = if from < to { to.abs_diff(from) } else { 0 };
-        if count > MAX_VALUES {
-            return None;
-        }
-        Some(Run { first: from, count })
-    }
-}
-
-/// `rangeClosed`.
-struct Through;
-
-impl RangeKind for Through {
-    ghost values = { λ v w. up_from v (through v w) };
-
-    fn run(from: i64, to: i64) -> Option<Run> {
-        if to < from {
-            return Some(Run {
-                first: from,
-                count: 0,
-            });
-        }
-        let gap = to.abs_diff(from);
-        if gap >= MAX_VALUES {
-            return None;
-        }
-        Some(Run {
-            first: from,
-            count: gap + 1,
-        })
-    }
+/// The integers of a range, or of a closed one, unless they are too many.
+fn run_of<const CLOSED: bool>(from: i64, to: i64) -> Option<Run>
+    ensures { IfSome result (λ run. range_values CLOSED from to ≡ Ok (run_values run)) }
+{
+    let run = if CLOSED {
+        closed_range(from, to)
+    } else {
+        range(from, to)
+    };
+    run.ok()
 }
 
 /// Puts the values that come from the operands at lanes, from one on, into registers, after those that are there.
@@ -137,9 +97,9 @@ fn put_values(
         result.items result.next (item_at None origins.new values.new) }
 {
     match columns.inner {
-        InnerExpr::Range(..) => put_ranges::<Below>(columns, places, from, first, origins, values),
+        InnerExpr::Range(..) => put_ranges::<false>(columns, places, from, first, origins, values),
         InnerExpr::RangeClosed(..) => {
-            put_ranges::<Through>(columns, places, from, first, origins, values)
+            put_ranges::<true>(columns, places, from, first, origins, values)
         }
         InnerExpr::Of(operands) => match operands.exprs().len() {
             0 => Put {
@@ -160,7 +120,7 @@ fn put_values(
 
 /// Puts the values of ranges of one kind into registers, after the values that are there. Each kind has a loop of its
 /// own: to ask for the kind at each item takes as long as to put its values.
-fn put_ranges<R: RangeKind>(
+fn put_ranges<const CLOSED: bool>(
     columns: Columns<'_>,
     places: Places<'_>,
     from: usize,
@@ -169,7 +129,7 @@ fn put_ranges<R: RangeKind>(
     values: &mut [i64],
 ) -> Put
     requires kind { (k : ℕ) → given (inner_of columns.inner.now) columns.registers.now k
-        ≡ R.values (at columns.registers.now k) (at columns.registers.now (1024 + k)) }
+        ≡ range_values CLOSED (at columns.registers.now k) (at columns.registers.now (1024 + k)) }
     requires lanes { columns.lanes ≤ 1024 }
     requires places { columns.lanes ≤ length places.listed.now }
     requires counts { CountsUp places.start columns.lanes }
@@ -188,7 +148,8 @@ fn put_ranges<R: RangeKind>(
     let count = columns.lanes.saturating_sub(from);
     for items in 0..count {
         let lane = from + items;
-        let Some(run) = R::run(columns.registers[lane], columns.registers[LANES + lane]) else {
+        let Some(run) = run_of::<CLOSED>(columns.registers[lane], columns.registers[LANES + lane])
+        else {
             return Put { items, next };
         };
         if run.count > (LANES - next) as u64 {

@@ -37,8 +37,8 @@ pub enum Inner {
     Values(ListedValues),
 }
 
-// The integers from the first up to, not with, the second one.
-fn range(from: i64, to: i64) -> Result<Run, FaultKind>
+/// The integers from the first up to, not with, the second one.
+pub fn range(from: i64, to: i64) -> Result<Run, FaultKind>
     ensures ok { IfOk result (λ run. up_from from (distance from to) ≡ Ok (run_values run)) }
     ensures fault { IfErr result (λ kind. up_from from (distance from to) ≡ Err kind) }
 {
@@ -49,8 +49,8 @@ fn range(from: i64, to: i64) -> Result<Run, FaultKind>
     Ok(Run { first: from, count })
 }
 
-// The integers from the first up to and with the second one.
-fn closed_range(from: i64, to: i64) -> Result<Run, FaultKind>
+/// The integers from the first up to and with the second one.
+pub fn closed_range(from: i64, to: i64) -> Result<Run, FaultKind>
     ensures ok { IfOk result (λ run. up_from from (through from to) ≡ Ok (run_values run)) }
     ensures fault { IfErr result (λ kind. up_from from (through from to) ≡ Err kind) }
 {

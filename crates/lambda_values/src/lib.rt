@@ -32,7 +32,7 @@ pub use arithmetic::{bits_are_combined_place_by_place, division_rounds_toward_ze
 pub use env::{Env, NamedNumber};
 pub use expr::{BoolChoice, BoolExpr, BoolPair, LongChoice, LongExpr, LongPair};
 pub use fault::FaultKind;
-pub use inner::{Inner, InnerExpr, ListedValues};
+pub use inner::{Inner, InnerExpr, ListedValues, closed_range, range};
 pub use lambda::{Body, Lambda, PairForm};
 pub use names::references_decide;
 pub use operands::Operands;

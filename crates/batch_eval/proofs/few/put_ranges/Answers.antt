@@ -35,5 +35,5 @@ loop-items-preserved g c =
     let size = run.count in
     let o = c.origin_of.result in
     let new : ℕ → Item = item_at None c.list_items.new.origins c.list_items.new.values in
-    let here = c.requires.kind i ∙ ap (λ (a : ℤ). g.R.RangeKind.values a (at rs (1024 + i))) p ∙ ap (λ (b : ℤ). g.R.RangeKind.values v b) q ∙ c.in-Some.ensures in
+    let here = rw (p, q) at (c.requires.kind i) ∙ c.in-Some.ensures in
     put_more inner rs c.args.from (origin_at c.args.places.start c.args.places.listed.now) (lanes c.args.first (item_at None c.args.origins.now c.args.values.now)) n next size o vs (item_at None c.loop-items.origins c.loop-items.values) new here c.origin_of.ensures (items_lanes (at_place o vs) size (λ k. new (next + k)) (sym (length-at_place o vs ∙ length-counted run.first size)) c.list_items.ensures.items) c.list_items.ensures.before (omega (arith, c.if-run-next.false, c.loop-items.invariant.within)) c.loop-items.invariant
