@@ -11,8 +11,8 @@ use lambda_values::BoolExpr;
 use std::alloc::Global;
 use trace::{NoMemory, Stage};
 
-/// How many numbers expressions may take while they are evaluated: at first 5 registers of them, and at most 32. For the
-/// two more see `Space::new`.
+/// How many numbers expressions may take while they are evaluated: at first those of 5 registers, and at most those of
+/// 32. `Space::new` says what the two more are for.
 const FEW_REGISTERS: usize = 5 * LANES + 2;
 
 const MOST_REGISTERS: usize = 32 * LANES + 2;
@@ -107,8 +107,8 @@ impl Space {
     /// A batch without items, and room of this length.
     ///
     /// glibc puts blocks side by side, 16 bytes apart. So the room, if it has two numbers more than its registers, and
-    /// both registers of the batch begin at a multiple of 32 bytes, or none of them does. Where they do, loops over four
-    /// numbers at a time are up to a fifth faster.
+    /// both registers of the batch begin at a multiple of 32 bytes, or none of them does. Where they do, loops over
+    /// four numbers at a time are up to a fifth faster.
     fn new(alloc: Global, room: usize) -> Result<Space, NoMemory>
         ensures { IfOk result (λ space. length space.room.items ≡ room) }
     {
