@@ -11,11 +11,11 @@ use Rattle.job_plan.specs.declared.part.Part.TheVariants as part
 use Rattle.prefix_walks.specs.declared.prefix.Prefix.{Prefix}
 use Rattle.job_plan.specs.declared.segment.Segment.{Segment}
 use Rattle.job_plan.specs.declared.ends.SegmentEnd.TheVariants as ends
-use Rattle.prefix_walks.specs.Maps.{ArePlain, imaged}
+use Rattle.prefix_walks.specs.CheapStages.{AreCheap, left_by}
 use Rattle.job_plan.specs.Parts.{EndsFor, StandsFor, end_in, segment_in}
 use Rattle.prefix_walks.specs.Pieces.{elements, piece_of}
 use Rattle.prefix_walks.specs.Scans.{AbstractScan, scan, scan_append}
-use Rattle.prefix_walks.proofs.MapLemmas.{maps_walk}
+use Rattle.prefix_walks.proofs.CheapLemmas.{cheap_walk}
 use Rattle.job_plan.proofs.PartLemmas.{length-stages_of}
 
 -- items after others
@@ -30,20 +30,20 @@ pub scanned_both : (p q r : AbstractScan) (ys zs all : List Item) → q ≡ scan
 scanned_both p q r ys zs all first second both =
     second ∙ ap (λ (x : AbstractScan). scan_append x (trace zs end.Done)) first ∙ ap (scan p.op p.range p.stage) (grown p.walk ys zs ∙ ap (λ (l : List Item). append p.walk (trace l end.Done)) (sym both))
 
--- what maps make of the items at some positions, and the end of the piece
+-- what cheap stages leave of the items at some positions, and the end of the piece
 pub piece_again : (gs : List AbstractStage) (from : ℕ) (to : Option ℕ) (t : Trace) (ending : End) → ending ≡ (piece_of 0 to t).ending
-    → append (append nothing (trace (imaged gs (elements from to t.items)) end.Done)) (trace [] ending) ≡ trace (imaged gs (piece_of from to t).items) (piece_of from to t).ending
-piece_again gs from None t ending e = (λ j. trace (append-nil (imaged gs (elements from None t.items)) j) (e j))
-piece_again gs from (Some to) t ending e = (λ j. trace (append-nil (imaged gs (elements from (Some to) t.items)) j) (e j))
+    → append (append nothing (trace (left_by gs (elements from to t.items)) end.Done)) (trace [] ending) ≡ trace (left_by gs (piece_of from to t).items) (piece_of from to t).ending
+piece_again gs from None t ending e = (λ j. trace (append-nil (left_by gs (elements from None t.items)) j) (e j))
+piece_again gs from (Some to) t ending e = (λ j. trace (append-nil (left_by gs (elements from (Some to) t.items)) j) (e j))
 
--- a part of a segment whose stages are cheap maps
-pub lent_stands : (segment : Segment) (prefix : Prefix) (p : AbstractScan) (t : Trace) (env : Numbers) → segment.end ≡ ends.Prefix prefix → ArePlain (stages_of segment.stages.items)
-    → p ≡ scan prefix.op prefix.range (segment.first_stage + length segment.stages.items) (trace (imaged (stages_of segment.stages.items) t.items) t.ending) → StandsFor (segment_in segment) env (part.Prefix p) t
+-- a part of a segment whose stages are cheap
+pub lent_stands : (segment : Segment) (prefix : Prefix) (p : AbstractScan) (t : Trace) (env : Numbers) → segment.end ≡ ends.Prefix prefix → AreCheap (stages_of segment.stages.items)
+    → p ≡ scan prefix.op prefix.range (segment.first_stage + length segment.stages.items) (trace (left_by (stages_of segment.stages.items) t.items) t.ending) → StandsFor (segment_in segment) env (part.Prefix p) t
 lent_stands segment prefix p t env e plain is =
     let n = segment.first_stage in
     let gs = stages_of segment.stages.items in
     let last : ℕ = n + length gs in
-    let walk : pipe n gs env t ≡ trace (imaged gs t.items) t.ending = maps_walk n gs plain env t.items t.ending in
+    let walk : pipe n gs env t ≡ trace (left_by gs t.items) t.ending = cheap_walk n gs plain env t.items t.ending in
     let number : n + length segment.stages.items ≡ last = ap (λ m. n + m) (sym (length-stages_of segment.stages.items)) in
     let stands : p ≡ scan prefix.op prefix.range last (pipe n gs env t) = is ∙ (λ j. scan prefix.op prefix.range (number j) (sym walk j)) in
     subst (λ d. EndsFor (end_in d) last env (part.Prefix p) (pipe n gs env t)) (sym e) stands

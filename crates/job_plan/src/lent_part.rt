@@ -1,5 +1,5 @@
-//! The part of a prefix that nothing or cheap maps come before: it borrows the values of the job's sources and the
-//! maps.
+//! The part of a prefix that nothing or cheap stages come before: it borrows the values of the job's sources and the
+//! stages.
 
 ghost use Rattle.std.specs.Prelude.{◌≡◌, ◌+◌, ◌<◌, ◌≤◌, ◌^◌, pos, ◌+ℤ◌, length};
 ghost use Rattle.std.specs.Prelude.{take, drop, true, IfOk, IfSome, OnErr, OnOk};
@@ -9,7 +9,7 @@ ghost use Rattle.trace.specs.Stages.{stages_of};
 ghost use Rattle.trace.specs.Trace.{trace};
 ghost use Rattle.trace.specs.declared.item.End.TheVariants as end;
 ghost use Rattle.job_language.specs.Jobs.{source_of, sources_of};
-ghost use Rattle.prefix_walks.specs.Maps.{imaged};
+ghost use Rattle.prefix_walks.specs.CheapStages.{left_by};
 ghost use Rattle.job_plan.specs.Parts.{StandsFor, end_in, end_keeps_items, segment_in, walk_in};
 ghost use Rattle.prefix_walks.specs.Pieces.{elements, piece_of};
 ghost use Rattle.prefix_walks.specs.Scans.{scan_append};
@@ -23,11 +23,11 @@ use crate::source::{ClosedRange, Source, piece_end, range_piece};
 use crate::sources::{PlainSources, plain_size};
 use batch_eval::Registers;
 use job_language::PlainSource;
-use prefix_walks::{Maps, Portion, PrefixPart, Window, within};
+use prefix_walks::{CheapStages, Portion, PrefixPart, Window, within};
 use std::alloc::Global;
 use trace::NoMemory;
 
-/// The part of the items at these positions, if a prefix goes over the sources of a job with no stage but cheap maps
+/// The part of the items at these positions, if a prefix goes over the sources of a job with no stage but cheap ones
 /// before it. It takes memory for each 1,024 of them, and none for values.
 pub(crate) fn lent_part<'p>(
     alloc: Global,
@@ -46,40 +46,40 @@ pub(crate) fn lent_part<'p>(
     let Source::Plain(plain) = source else {
         return Ok(None);
     };
-    let Some(maps) = Maps::of(alloc, &segment.stages) else {
+    let Some(cheap) = CheapStages::of(alloc, &segment.stages) else {
         return Ok(None);
     };
     let stage = segment.first_stage + segment.stages.len() as u32;
     let mut part = PrefixPart::none(alloc, *prefix, stage);
-    push_plain(&mut part, maps, plain, window, registers)?;
+    push_plain(&mut part, cheap, plain, window, registers)?;
     part.end_with(piece_end(source, window.to));
     Ok(Some(Part::Prefix(part)))
 }
 
-/// Adds what maps make of the items at these positions of sources.
+/// Adds what cheap stages leave of the items at these positions of sources.
 fn push_plain<'a>(
     part: &mut PrefixPart<'a>,
-    maps: Maps<'a>,
+    cheap: CheapStages<'a>,
     plain: &PlainSources<'a, '_>,
     window: Window,
     registers: &mut Registers,
 ) -> Result<(), NoMemory>
     requires open { part.old.walk.ending ≡ end.Done }
     ensures { OnOk result (part.new ≡ scan_append part.old
-        (trace (imaged (stages_of maps.entry.stages.now) (elements window.from window.to (windowed plain.now.window.from
+        (trace (left_by (stages_of cheap.entry.stages.now) (elements window.from window.to (windowed plain.now.window.from
         plain.now.window.to (source_walk (sources_of plain.now.sources.now))).items)) end.Done)) }
 {
     if plain.is_too_long {
         return Ok(());
     }
     let selected = plain.window.within(window.from, window.to);
-    push_sources(part, maps, plain.sources, 0, selected, registers)
+    push_sources(part, cheap, plain.sources, 0, selected, registers)
 }
 
-/// Adds what maps make of the items at these positions of sources. The first item has the place `origin`.
+/// Adds what cheap stages leave of the items at these positions of sources. The first item has the place `origin`.
 fn push_sources<'a>(
     part: &mut PrefixPart<'a>,
-    maps: Maps<'a>,
+    cheap: CheapStages<'a>,
     sources: &'a [PlainSource<'_>],
     origin: u64,
     window: Window,
@@ -87,7 +87,7 @@ fn push_sources<'a>(
 ) -> Result<(), NoMemory>
     requires open { part.old.walk.ending ≡ end.Done }
     requires few { origin + length (values_of (sources_of sources.now)) ≤ 2 ^ 62 }
-    ensures { OnOk result (part.new ≡ scan_append part.old (trace (imaged (stages_of maps.entry.stages.now)
+    ensures { OnOk result (part.new ≡ scan_append part.old (trace (left_by (stages_of cheap.entry.stages.now)
         (elements window.from window.to (placed origin (values_of (sources_of sources.now))))) end.Done)) }
 {
     match sources.split_first() {
@@ -96,17 +96,17 @@ fn push_sources<'a>(
             let size = plain_size(source);
             let (start, count) = within(window.from, window.to, size);
             let portion = Portion { start, count };
-            push_one(part, maps, source, origin + start, portion, registers)?;
+            push_one(part, cheap, source, origin + start, portion, registers)?;
             let left = window.after(size);
-            push_sources(part, maps, later, origin + size, left, registers)
+            push_sources(part, cheap, later, origin + size, left, registers)
         }
     }
 }
 
-/// Adds what maps make of some items of a source; the first of them has the place `origin`.
+/// Adds what cheap stages leave of some items of a source; the first of them has the place `origin`.
 fn push_one<'a>(
     part: &mut PrefixPart<'a>,
-    maps: Maps<'a>,
+    cheap: CheapStages<'a>,
     source: &'a PlainSource<'_>,
     origin: u64,
     portion: Portion,
@@ -116,7 +116,7 @@ fn push_one<'a>(
     requires within { portion.start + portion.count ≤ length (plain_values (source_of source.now)) }
     requires short { length (plain_values (source_of source.now)) ≤ 2 ^ 62 }
     requires few { origin + portion.count ≤ 2 ^ 62 }
-    ensures { OnOk result (part.new ≡ scan_append part.old (trace (imaged (stages_of maps.entry.stages.now)
+    ensures { OnOk result (part.new ≡ scan_append part.old (trace (left_by (stages_of cheap.entry.stages.now)
         (placed origin (take portion.count (drop portion.start (plain_values (source_of source.now)))))) end.Done)) }
 {
     if portion.count == 0 {
@@ -128,33 +128,33 @@ fn push_one<'a>(
                 from: *from,
                 to: *to - 1,
             };
-            push_range(part, maps, origin, range, portion, registers)
+            push_range(part, cheap, origin, range, portion, registers)
         }
         PlainSource::RangeClosed { from, to } => {
             let range = ClosedRange {
                 from: *from,
                 to: *to,
             };
-            push_range(part, maps, origin, range, portion, registers)
+            push_range(part, cheap, origin, range, portion, registers)
         }
         PlainSource::Values(values) => {
             let end = portion.start + portion.count;
             let values = &values[portion.start as usize..end as usize];
-            part.push_lent(maps, origin, values, registers)
+            part.push_lent(cheap, origin, values, registers)
         }
         PlainSource::Column(cells) => {
             let end = portion.start + portion.count;
             let values = &cells[portion.start as usize..end as usize];
-            part.push_lent(maps, origin, values, registers)
+            part.push_lent(cheap, origin, values, registers)
         }
         PlainSource::Result(_) => Ok(()),
     }
 }
 
-/// Adds what maps make of some integers of a range; the first of them has the place `origin`.
+/// Adds what cheap stages leave of some integers of a range; the first of them has the place `origin`.
 fn push_range<'a>(
     part: &mut PrefixPart<'a>,
-    maps: Maps<'a>,
+    cheap: CheapStages<'a>,
     origin: u64,
     range: ClosedRange,
     portion: Portion,
@@ -165,9 +165,9 @@ fn push_range<'a>(
     requires within { portion.start + portion.count ≤ distance range.from (range.to +ℤ pos 1) }
     requires short { portion.start + portion.count ≤ 2 ^ 62 }
     requires few { origin + portion.count ≤ 2 ^ 62 }
-    ensures { OnOk result (part.new ≡ scan_append part.old (trace (imaged (stages_of maps.entry.stages.now)
+    ensures { OnOk result (part.new ≡ scan_append part.old (trace (left_by (stages_of cheap.entry.stages.now)
         (placed origin (counted (range.from +ℤ pos portion.start) portion.count))) end.Done)) }
 {
     let piece = range_piece(origin, range.from, portion.start, portion.count);
-    part.push_range(maps, &piece, registers)
+    part.push_range(cheap, &piece, registers)
 }

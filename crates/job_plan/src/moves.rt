@@ -126,6 +126,9 @@ fn with_slices_first(alloc: Global, segments: Vec<Segment>) -> Result<Vec<Segmen
     ensures same { IfOk result (λ moved. SameAnswers (segments_in moved.items) (segments_in segments.items)) }
     ensures count { IfOk result (λ moved. length moved.items ≡ length segments.items) }
 {
+    if segments.len() < 2 {
+        return Ok(segments);
+    }
     let mut moved = Vec::new(alloc);
     for segment in segments {
         add(alloc, &mut moved, segment)?;
@@ -169,7 +172,7 @@ impl<'c> Plan<'c> {
     /// select positions of the job's sources, and a run cuts what they leave. A `reduce` that keeps the first value
     /// becomes `findFirst`, which ends there, if only maps and filters that can't have a fault come before it.
     ///
-    /// Stages keep their numbers. Takes time for each stage, and memory for each segment.
+    /// Stages keep their numbers. Takes time for each stage, and memory for each segment of a job with several.
     pub fn with_slices_first(self, alloc: Global) -> Result<Plan<'c>, NoMemory>
         ensures meaning { IfOk result (λ moved. planned_meaning (plans_in moved.jobs.items)
             ≡ planned_meaning (plans_in self.entry.jobs.items)) }

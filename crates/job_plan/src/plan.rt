@@ -152,6 +152,9 @@ fn cut(alloc: Global, stages: Vec<JobStage>, terminal: Terminal) -> Result<Vec<S
 {
     let last = SegmentEnd::of(terminal);
     let mut begun = Begun::none(alloc);
+    // Most jobs have one segment, with all stages.
+    begun.segments.reserve_exact(1)?;
+    begun.stages.reserve_exact(stages.len())?;
     for stage in stages {
         begun.add(stage)?;
     }

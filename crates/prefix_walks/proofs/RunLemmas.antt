@@ -22,7 +22,7 @@ use Rattle.prefix_walks.specs.declared.folded_piece.FoldedPiece.{FoldedPiece}
 use Rattle.prefix_walks.specs.declared.run_values.RunValues.{RunValues}
 use Rattle.prefix_walks.specs.declared.piece_items.PieceItems.{PieceItems}
 use Rattle.prefix_walks.specs.declared.piece_items.PieceItems.TheVariants as piece
-use Rattle.prefix_walks.specs.Maps.{image, imaged}
+use Rattle.prefix_walks.specs.CheapStages.{left_by, left_of}
 use Rattle.prefix_walks.specs.Runs.{Fits, first_place, items_in, run_values}
 use Rattle.prefix_walks.proofs.Elements.{counted_piece, elements_none, placed_both, placed_positions, take_counted}
 use Rattle.prefix_walks.specs.Pieces.{elements}
@@ -93,24 +93,24 @@ places_next place i xs x h at o t =
 pub piece_pushed : (ps : List FoldedPiece) (p : FoldedPiece) → all_items (ps ++ p ∷ []) ≡ all_items ps ++ items_of p
 piece_pushed ps p = flat_map-append items_of ps (p ∷ []) ∙ ap (λ (l : List Item). all_items ps ++ l) (append-nil (items_of p))
 
-pub lent_next : (gs : List AbstractStage) (old : List Item) (ps : List FoldedPiece) (p : FoldedPiece) (new : List FoldedPiece) (place taken count : ℕ) (vs : List ℤ) → taken ≤ length vs → new ≡ ps ++ p ∷ [] → items_of p ≡ imaged gs (placed (place + taken) (take count (drop taken vs)))
-    → all_items ps ≡ old ++ imaged gs (placed place (take taken vs)) → all_items new ≡ old ++ imaged gs (placed place (take (taken + count) vs))
+pub lent_next : (gs : List AbstractStage) (old : List Item) (ps : List FoldedPiece) (p : FoldedPiece) (new : List FoldedPiece) (place taken count : ℕ) (vs : List ℤ) → taken ≤ length vs → new ≡ ps ++ p ∷ [] → items_of p ≡ left_by gs (placed (place + taken) (take count (drop taken vs)))
+    → all_items ps ≡ old ++ left_by gs (placed place (take taken vs)) → all_items new ≡ old ++ left_by gs (placed place (take (taken + count) vs))
 lent_next gs old ps p new place taken count vs h is here before =
     let l : length (take taken vs) ≡ taken = let n = length-take taken vs in omega (arith, n, h) in
     ap all_items is ∙ piece_pushed ps p ∙ (λ j. before j ++ here j)
-    ∙ append_assoc old (imaged gs (placed place (take taken vs))) (imaged gs (placed (place + taken) (take count (drop taken vs))))
+    ∙ append_assoc old (left_by gs (placed place (take taken vs))) (left_by gs (placed (place + taken) (take count (drop taken vs))))
     ∙ ap (λ (xs : List Item). old ++ xs)
-    (sym (ap (imaged gs) (ap (placed place) (take-add taken count vs) ∙ placed_both place (take taken vs) (take count (drop taken vs)) ∙ ap (λ n. placed place (take taken vs) ++ placed (place + n) (take count (drop taken vs))) l)
-    ∙ map-append (λ (x : Item). record { origin = x.origin; value = image gs x.value }) (placed place (take taken vs)) (placed (place + taken) (take count (drop taken vs)))))
+    (sym (ap (left_by gs) (ap (placed place) (take-add taken count vs) ∙ placed_both place (take taken vs) (take count (drop taken vs)) ∙ ap (λ n. placed place (take taken vs) ++ placed (place + n) (take count (drop taken vs))) l)
+    ∙ flat_map-append (left_of gs) (placed place (take taken vs)) (placed (place + taken) (take count (drop taken vs)))))
 
-pub counted_more : (gs : List AbstractStage) (old : List Item) (ps : List FoldedPiece) (p : FoldedPiece) (new : List FoldedPiece) (place : ℕ) (first : ℤ) (taken count size : ℕ) → taken + count ≤ size → new ≡ ps ++ p ∷ [] → items_of p ≡ imaged gs (placed (place + taken) (counted (first +ℤ pos taken) count))
-    → all_items ps ≡ old ++ imaged gs (placed place (counted first taken)) → all_items new ≡ old ++ imaged gs (placed place (counted first (taken + count)))
+pub counted_more : (gs : List AbstractStage) (old : List Item) (ps : List FoldedPiece) (p : FoldedPiece) (new : List FoldedPiece) (place : ℕ) (first : ℤ) (taken count size : ℕ) → taken + count ≤ size → new ≡ ps ++ p ∷ [] → items_of p ≡ left_by gs (placed (place + taken) (counted (first +ℤ pos taken) count))
+    → all_items ps ≡ old ++ left_by gs (placed place (counted first taken)) → all_items new ≡ old ++ left_by gs (placed place (counted first (taken + count)))
 counted_more gs old ps p new place first taken count size h is here before =
     let front : take taken (counted first size) ≡ counted first taken = take_counted taken first size (omega arith) in
     let l = length-counted first size in
-    lent_next gs old ps p new place taken count (counted first size) (omega (arith, l)) is (here ∙ ap (λ vs. imaged gs (placed (place + taken) vs)) (sym (counted_piece first size taken count h)))
-    (before ∙ ap (λ vs. old ++ imaged gs (placed place vs)) (sym front))
-    ∙ ap (λ vs. old ++ imaged gs (placed place vs)) (take_counted (taken + count) first size h)
+    lent_next gs old ps p new place taken count (counted first size) (omega (arith, l)) is (here ∙ ap (λ vs. left_by gs (placed (place + taken) vs)) (sym (counted_piece first size taken count h)))
+    (before ∙ ap (λ vs. old ++ left_by gs (placed place vs)) (sym front))
+    ∙ ap (λ vs. old ++ left_by gs (placed place vs)) (take_counted (taken + count) first size h)
 
 -- the front of a buffer, and positions in it
 pub front_of : {A : Type 0} (n : ℕ) (xs ys : List A) → n ≡ length xs → take n (xs ++ ys) ≡ xs

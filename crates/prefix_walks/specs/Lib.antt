@@ -1,5 +1,6 @@
 -- Condition: the files of this crate's definitions; the first line of each says what it is.
 pub mod Batches
+pub mod CheapStages
 pub mod Faultless
 pub mod Kept
 pub mod Maps

@@ -4,7 +4,6 @@ use Rattle.std.specs.Coded.{×_prop, Unit-prop, Coded-set, coded_bool}
 use Rattle.lambda_values.specs.declared.fault.FaultKind.{FaultKind}
 use Rattle.lambda_values.specs.Term.{Long, number, parameter, reference, unary, binary, choose, Truth, literal, compare, opposite, connect, choose_truth}
 use Rattle.lambda_values.specs.Value.{long_value}
-use Rattle.trace.specs.declared.item.Item.{Item}
 use Rattle.trace.specs.Stages.{AbstractStage, map, filter, flat_map}
 use Rattle.prefix_walks.specs.Faultless.{is_total, is_total_by}
 
@@ -51,13 +50,9 @@ image (flat_map g ∷ gs) v = image gs v
 abbrev pub images : List AbstractStage → List ℤ → List ℤ
 images gs vs = each_of (image gs) vs
 
--- and of items, which keep their places
-abbrev pub imaged : List AbstractStage → List Item → List Item
-imaged gs xs = each_of (λ (x : Item). record { origin = x.origin; value = image gs x.value }) xs
-
 -- helper: that stages are maps of this kind has one proof at most
 mutual
-  IsPlain-prop : (e : Long) → IsProp (IsPlain e)
+  pub IsPlain-prop : (e : Long) → IsProp (IsPlain e)
   IsPlain-prop (number z) = Unit-prop
   IsPlain-prop (parameter n) = Unit-prop
   IsPlain-prop (reference name) = λ h k. absurd h
@@ -65,7 +60,7 @@ mutual
   IsPlain-prop (binary o a b) = ×_prop (Coded-set coded_bool (is_total_by o b) true) (×_prop (IsPlain-prop a) (IsPlain-prop b))
   IsPlain-prop (choose c a b) = ×_prop (IsPlainTest-prop c) (×_prop (IsPlain-prop a) (IsPlain-prop b))
 
-  IsPlainTest-prop : (e : Truth) → IsProp (IsPlainTest e)
+  pub IsPlainTest-prop : (e : Truth) → IsProp (IsPlainTest e)
   IsPlainTest-prop (literal b) = Unit-prop
   IsPlainTest-prop (compare o a b) = ×_prop (IsPlain-prop a) (IsPlain-prop b)
   IsPlainTest-prop (opposite a) = IsPlainTest-prop a

@@ -8,12 +8,14 @@ ghost use Rattle.trace.specs.Stages.{stages_of};
 ghost use Rattle.trace.specs.Trace.{trace};
 ghost use Rattle.trace.specs.declared.item.End.TheVariants as end;
 ghost use Rattle.reduce_ops.specs.Parts.{StandsFor as FoldStands};
-ghost use Rattle.prefix_walks.specs.Maps.{imaged};
-ghost use Rattle.prefix_walks.specs.Runs.{FitsPlaces, first_place};
+ghost use Rattle.prefix_walks.specs.CheapStages.{left_by};
+ghost use Rattle.prefix_walks.specs.Runs.{FitsPlaces, FitsRun, first_place, run_values};
 ghost use Rattle.prefix_walks.specs.Scans.{IsFolded, items_of};
 
-use crate::cheap_maps::Maps;
+use crate::buffer::Buffer;
+use crate::cheap_stages::CheapStages;
 use crate::folding::folded;
+use crate::passing::Passing;
 use crate::piece_folds::fold_run;
 use crate::piece_items::PieceItems;
 use crate::run_values::RunValues;
@@ -82,32 +84,34 @@ impl<'a> FoldedPiece<'a> {
         })
     }
 
-    /// The piece of what maps make of lent values, at places that count up from this one. It stores none of them.
+    /// The piece of what cheap stages leave of lent values, at places that count up from this one. It stores none of
+    /// them.
     pub(crate) fn lent(
         op: Op,
-        maps: Maps<'a>,
+        cheap: CheapStages<'a>,
         place: u64,
         values: &'a [i64],
         registers: &mut Registers,
     ) -> FoldedPiece<'a>
         requires few { length values.now ≤ 1024 }
         requires places { place + length values.now ≤ 2 ^ 62 }
-        ensures items { items_of result ≡ imaged (stages_of maps.entry.stages.now) (placed place values.now) }
+        ensures items { items_of result ≡ left_by (stages_of cheap.entry.stages.now) (placed place values.now) }
         ensures folded { IsFolded op result }
     {
-        let values = RunValues::Lent(maps, values);
-        let fold = fold_run(op, &values, registers);
-        FoldedPiece {
-            items: PieceItems::Run(place, values),
-            fold,
+        match cheap.maps() {
+            Some(maps) => FoldedPiece::run(op, place, RunValues::Lent(maps, values), registers),
+            None => {
+                let values = RunValues::Lent(cheap.no_maps(), values);
+                FoldedPiece::passing(op, cheap, place, values, registers)
+            }
         }
     }
 
-    /// The piece of what maps make of integers that count up, at places that count up from this one. It stores none of
-    /// them.
+    /// The piece of what cheap stages leave of integers that count up, at places that count up from this one. It stores
+    /// none of them.
     pub(crate) fn counted(
         op: Op,
-        maps: Maps<'a>,
+        cheap: CheapStages<'a>,
         place: u64,
         first: i64,
         count: u64,
@@ -116,15 +120,63 @@ impl<'a> FoldedPiece<'a> {
         requires few { count ≤ 1024 }
         requires places { place + count ≤ 2 ^ 62 }
         requires fits { (i : ℕ) → i < count → FitsSigned w64 (first +ℤ pos i) }
-        ensures items { items_of result ≡ imaged (stages_of maps.entry.stages.now)
+        ensures items { items_of result ≡ left_by (stages_of cheap.entry.stages.now)
             (placed place (counted first count)) }
         ensures folded { IsFolded op result }
     {
-        let values = RunValues::Counted { maps, first, count };
+        match cheap.maps() {
+            Some(maps) => {
+                let values = RunValues::Counted { maps, first, count };
+                FoldedPiece::run(op, place, values, registers)
+            }
+            None => {
+                let maps = cheap.no_maps();
+                let values = RunValues::Counted { maps, first, count };
+                FoldedPiece::passing(op, cheap, place, values, registers)
+            }
+        }
+    }
+
+    /// The piece of values at places that count up from this one.
+    fn run(op: Op, place: u64, values: RunValues<'a>, registers: &mut Registers) -> FoldedPiece<'a>
+        requires few { length (run_values values) ≤ 1024 }
+        requires fits { FitsRun place values }
+        ensures items { items_of result ≡ placed place (run_values values.entry) }
+        ensures folded { IsFolded op result }
+    {
         let fold = fold_run(op, &values, registers);
         FoldedPiece {
             items: PieceItems::Run(place, values),
             fold,
+        }
+    }
+
+    /// The piece of what stages leave of values at places that count up from this one.
+    fn passing(
+        op: Op,
+        stages: CheapStages<'a>,
+        place: u64,
+        values: RunValues<'a>,
+        registers: &mut Registers,
+    ) -> FoldedPiece<'a>
+        requires few { length (run_values values) ≤ 1024 }
+        requires fits { FitsRun place values }
+        ensures items { items_of result ≡ left_by (stages_of stages.entry.stages.now)
+            (placed place (run_values values.entry)) }
+        ensures folded { IsFolded op result }
+    {
+        let mut left = Buffer::new();
+        let mut passing = Passing {
+            stages,
+            place,
+            values,
+            count: 0,
+        };
+        passing.put_values(registers, &mut left);
+        passing.count = left.values().len();
+        FoldedPiece {
+            items: PieceItems::Passing(passing),
+            fold: folded(op, false, left.values()),
         }
     }
 
@@ -136,6 +188,7 @@ impl<'a> FoldedPiece<'a> {
         match &self.items {
             PieceItems::Listed(items) => items.len(),
             PieceItems::Run(_, values) => values.count(),
+            PieceItems::Passing(passing) => passing.count,
         }
     }
 
@@ -212,7 +265,7 @@ fn first_place(items: &PieceItems) -> Option<u64>
     ensures { result ≡ first_place items.now }
 {
     match items {
-        PieceItems::Listed(_) => None,
+        PieceItems::Listed(_) | PieceItems::Passing(_) => None,
         PieceItems::Run(place, _) => Some(*place),
     }
 }

@@ -14,6 +14,7 @@ ghost use Rattle.prefix_walks.specs.Runs.{Fits, FitsRun, run_values};
 ghost use Rattle.prefix_walks.specs.Scans.{IsFolded, items_of};
 
 use crate::folded_piece::{FoldedPiece, MOST_ITEMS};
+use crate::item_buffer::ItemBuffer;
 use crate::piece_items::PieceItems;
 use crate::pieces::ItemPiece;
 use crate::prefix::Prefix;
@@ -80,6 +81,11 @@ pub(crate) fn feed_piece<S: BatchSink>(
                 values,
             };
             feed_run(line, cut, run, window, registers, sink)
+        }
+        PieceItems::Passing(passing) => {
+            let mut items = ItemBuffer::new();
+            passing.put(registers, &mut items);
+            feed_listed(line, cut, items.items(), window, registers, sink)
         }
     }
 }

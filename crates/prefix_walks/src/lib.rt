@@ -3,22 +3,24 @@
 //! Stands on `prefix_scan`, for folds and scans of pieces, on `reduce_ops`, for operators, and on `batch_eval` and
 //! `trace`, for walks. Used by `job_plan`, which says where a prefix ends a segment.
 //! Begin with `specs/Scans.antt` and `prefix_part.rt`. A piece of a walk gives its items to a `PrefixPart`, which
-//! stores them in pieces of 1,024 with their folds, or borrows the values and the cheap maps that they come out of. Two
+//! stores them in pieces of 1,024 with their folds, or borrows the values and the cheap stages that they come out of. Two
 //! parts side by side merge. `finish` gives a `GivenWalk`, whose items are scanned as `feed_given` takes them through
 //! the stages of the next segment. The folds of batches (`folded`, `folded_flagged`)
 //! and the expressions that can't have a fault (`never_faults`) are of use without a prefix. Not promised: that a value
-//! is read once. What cheap maps make of a borrowed value is worked out for its fold and again where it is read.
+//! is read once. What cheap stages leave of a borrowed value is worked out for its fold and again where it is read.
 #![tactic(auto)]
 
 mod buffer;
-mod cheap_maps;
+mod cheap_stages;
 mod faultless;
 mod folded_piece;
 mod folded_walk;
 mod folding;
 mod given;
+mod item_buffer;
 mod kept;
 mod laws;
+mod passing;
 mod piece_folds;
 mod piece_items;
 mod pieces;
@@ -31,7 +33,7 @@ mod scanned_pieces;
 mod spans;
 mod window;
 
-pub use cheap_maps::Maps;
+pub use cheap_stages::CheapStages;
 pub use faultless::{never_faults, test_never_faults};
 pub use folded_walk::feed_values;
 pub use folding::{folded, folded_flagged};

@@ -13,6 +13,7 @@ ghost use Rattle.prefix_walks.specs.Scans.{IsFolded, items_of};
 
 use crate::folded_piece::{FoldedPiece, MOST_ITEMS};
 use crate::folding::{folded, joined};
+use crate::item_buffer::ItemBuffer;
 use crate::piece_items::PieceItems;
 use crate::run_values::RunValues;
 use batch_eval::Registers;
@@ -70,6 +71,11 @@ impl<'a> FoldedPiece<'a> {
         match &self.items {
             PieceItems::Listed(items) => fold_items(op, at, start, items),
             PieceItems::Run(_, values) => fold_run_at(op, at, start, values, registers),
+            PieceItems::Passing(passing) => {
+                let mut items = ItemBuffer::new();
+                passing.put(registers, &mut items);
+                fold_items(op, at, start, items.items())
+            }
         }
     }
 }

@@ -1,5 +1,6 @@
 //! Items side by side.
 
+use crate::passing::Passing;
 use crate::run_values::RunValues;
 use trace::Item;
 
@@ -10,4 +11,6 @@ pub enum PieceItems<'a> {
     Listed(Vec<Item>),
     /// Values at places that count up from this one.
     Run(u64, RunValues<'a>),
+    /// Items that are worked out where they are read.
+    Passing(Passing<'a>),
 }

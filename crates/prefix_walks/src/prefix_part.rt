@@ -7,10 +7,10 @@ ghost use Rattle.trace.specs.Trace.{trace, nothing, append};
 ghost use Rattle.trace.specs.declared.item.End.TheVariants as end;
 ghost use Rattle.reduce_ops.specs.Operators.{value_of};
 ghost use Rattle.prefix_scan.specs.Prefixes.{ends_after, prefixed, prefixed_items};
-ghost use Rattle.prefix_walks.specs.Maps.{imaged};
+ghost use Rattle.prefix_walks.specs.CheapStages.{left_by};
 ghost use Rattle.prefix_walks.specs.Scans.{IsFolded, all_items, scan, scan_append};
 
-use crate::cheap_maps::Maps;
+use crate::cheap_stages::CheapStages;
 use crate::folded_piece::FoldedPiece;
 use crate::given::GivenWalk;
 use crate::prefix::Prefix;
@@ -25,7 +25,7 @@ use trace::{End, Fault, NoMemory, RangeItems, SourceItems};
 /// The items of a piece for a prefix, the stage with this number, and how the walk ended. Contracts see just that.
 ///
 /// The items lie in pieces of 1,024 at most, each with its fold; joining two parts moves the pieces and no item. Values
-/// of a source are lent if only cheap maps come before the prefix, which then go over them once more where they are
+/// of a source are lent if only cheap stages come before the prefix, which then go over them once more where they are
 /// read; of other items at places that count up the values alone are stored.
 #[derive(Drop)]
 pub struct PrefixPart<'a> {
@@ -78,11 +78,11 @@ impl<'a> PrefixPart<'a> {
         }
     }
 
-    /// Adds what maps make of values of a source that stays as long as the job, at places that count up from this one.
+    /// Adds what cheap stages leave of values of a source that stays as long as the job, at places that count up from this one.
     /// It copies none of them.
     pub fn push_lent(
         &mut self,
-        maps: Maps<'a>,
+        cheap: CheapStages<'a>,
         place: u64,
         values: &'a [i64],
         registers: &mut Registers,
@@ -90,30 +90,30 @@ impl<'a> PrefixPart<'a> {
         requires open { self.old.walk.ending ≡ end.Done }
         requires places { place + length values.now ≤ 2 ^ 62 }
         ensures { OnOk result (self.new ≡ scan_append self.old
-            (trace (imaged (stages_of maps.entry.stages.now) (placed place values.now)) end.Done)) }
+            (trace (left_by (stages_of cheap.entry.stages.now) (placed place values.now)) end.Done)) }
     {
         add_lent(
             &mut self.pieces,
             self.prefix.op,
-            maps,
+            cheap,
             place,
             values,
             registers,
         )
     }
 
-    /// Adds what maps make of the integers of a range. It stores none of them.
+    /// Adds what cheap stages leave of the integers of a range. It stores none of them.
     pub fn push_range(
         &mut self,
-        maps: Maps<'a>,
+        cheap: CheapStages<'a>,
         range: &RangeItems,
         registers: &mut Registers,
     ) -> Result<(), NoMemory>
         requires open { self.old.walk.ending ≡ end.Done }
-        ensures { OnOk result (self.new ≡ scan_append self.old (trace (imaged (stages_of maps.entry.stages.now)
+        ensures { OnOk result (self.new ≡ scan_append self.old (trace (left_by (stages_of cheap.entry.stages.now)
             (placed range.now.origin (counted range.now.first range.now.count))) end.Done)) }
     {
-        add_range(&mut self.pieces, self.prefix.op, maps, range, registers)
+        add_range(&mut self.pieces, self.prefix.op, cheap, range, registers)
     }
 
     /// Ends so, unless a fault has ended the part. It takes no memory.

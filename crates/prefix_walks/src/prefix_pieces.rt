@@ -6,10 +6,10 @@ ghost use Rattle.trace.specs.Stages.{stages_of};
 ghost use Rattle.trace.specs.Trace.{trace};
 ghost use Rattle.trace.specs.declared.item.End.TheVariants as end;
 ghost use Rattle.reduce_ops.specs.Parts.{StandsFor as FoldStands};
-ghost use Rattle.prefix_walks.specs.Maps.{imaged};
+ghost use Rattle.prefix_walks.specs.CheapStages.{left_by};
 ghost use Rattle.prefix_walks.specs.Scans.{IsFolded, all_items};
 
-use crate::cheap_maps::Maps;
+use crate::cheap_stages::CheapStages;
 use crate::folded_piece::{FoldedPiece, MOST_ITEMS};
 use crate::folding::folded;
 use batch_eval::Registers;
@@ -133,11 +133,11 @@ fn add_to_last<I: SourceItems>(
     }
 }
 
-/// Adds what maps make of values that are lent, at places that count up from this one, in pieces of 1,024.
+/// Adds what cheap stages leave of values that are lent, at places that count up from this one, in pieces of 1,024.
 pub(crate) fn add_lent<'a>(
     pieces: &mut Vec<FoldedPiece<'a>>,
     op: Op,
-    maps: Maps<'a>,
+    cheap: CheapStages<'a>,
     place: u64,
     values: &'a [i64],
     registers: &mut Registers,
@@ -145,31 +145,31 @@ pub(crate) fn add_lent<'a>(
     requires folds { All (IsFolded op) pieces.old.items }
     requires places { place + length values.now ≤ 2 ^ 62 }
     ensures ok { OnOk result (all_items pieces.new.items ≡ all_items pieces.old.items
-        ++ imaged (stages_of maps.entry.stages.now) (placed place values.now)) }
+        ++ left_by (stages_of cheap.entry.stages.now) (placed place values.now)) }
     ensures folds { All (IsFolded op) pieces.new.items }
 {
     let mut taken = 0;
     while taken < values.len() {
         let count = MOST_ITEMS.min(values.len() - taken);
         let part = &values[taken..taken + count];
-        let piece = FoldedPiece::lent(op, maps, place + taken as u64, part, registers);
+        let piece = FoldedPiece::lent(op, cheap, place + taken as u64, part, registers);
         pieces.push(piece)?;
         taken += count;
     }
     Ok(())
 }
 
-/// Adds what maps make of the integers of a range, in pieces of 1,024.
+/// Adds what cheap stages leave of the integers of a range, in pieces of 1,024.
 pub(crate) fn add_range<'a>(
     pieces: &mut Vec<FoldedPiece<'a>>,
     op: Op,
-    maps: Maps<'a>,
+    cheap: CheapStages<'a>,
     range: &RangeItems,
     registers: &mut Registers,
 ) -> Result<(), NoMemory>
     requires folds { All (IsFolded op) pieces.old.items }
-    ensures ok { OnOk result (all_items pieces.new.items ≡ all_items pieces.old.items ++ imaged
-        (stages_of maps.entry.stages.now) (placed range.now.origin (counted range.now.first range.now.count))) }
+    ensures ok { OnOk result (all_items pieces.new.items ≡ all_items pieces.old.items ++ left_by
+        (stages_of cheap.entry.stages.now) (placed range.now.origin (counted range.now.first range.now.count))) }
     ensures folds { All (IsFolded op) pieces.new.items }
 {
     let mut taken = 0u64;
@@ -177,7 +177,7 @@ pub(crate) fn add_range<'a>(
         let count = (MOST_ITEMS as u64).min(range.count - taken);
         let first = range.first + taken as i64;
         let place = range.origin + taken;
-        let piece = FoldedPiece::counted(op, maps, place, first, count, registers);
+        let piece = FoldedPiece::counted(op, cheap, place, first, count, registers);
         pieces.push(piece)?;
         taken += count;
     }

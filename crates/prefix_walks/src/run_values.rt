@@ -8,7 +8,7 @@ ghost use Rattle.trace.specs.Stages.{stages_of};
 ghost use Rattle.prefix_walks.specs.Maps.{images};
 ghost use Rattle.prefix_walks.specs.Runs.{Fits, run_values};
 
-use crate::cheap_maps::Maps;
+use crate::cheap_stages::Maps;
 use crate::folded_piece::MOST_ITEMS;
 use batch_eval::Registers;
 use trace::NoMemory;

@@ -2,7 +2,7 @@ use Rattle.std.proofs.Common.{◌≡◌, ◌+◌, [], length, sym, ap, subst, �
 use Rattle.trace.specs.declared.item.End.TheVariants as end
 use Rattle.trace.specs.Stages.{stages_of}
 use Rattle.trace.specs.Trace.{trace, nothing, append}
-use Rattle.prefix_walks.specs.Maps.{ArePlain, imaged}
+use Rattle.prefix_walks.specs.CheapStages.{AreCheap, left_by}
 use Rattle.job_plan.specs.Parts.{walk_in}
 use Rattle.prefix_walks.specs.Pieces.{elements, piece_of}
 use Rattle.prefix_walks.specs.Scans.{scan, scan_append}
@@ -17,13 +17,13 @@ returns-clause-stands c = λ env.
     let t = walk_in c.args.source.now in
     let from = c.args.window.from in
     let to = c.args.window.to in
-    let same : c.in-Some.maps.stages.now ≡ s.stages.items = c.in-Some.ensures ∙ c.deref.ensures.value in
-    let plain : ArePlain gs = subst (λ ss. ArePlain (stages_of ss)) same c.in-Some.maps.plain in
+    let same : c.in-Some.cheap.stages.now ≡ s.stages.items = c.in-Some.ensures ∙ c.deref.ensures.value in
+    let plain : AreCheap gs = subst (λ ss. AreCheap (stages_of ss)) same c.in-Some.cheap.cheap in
     let len : c.len.result ≡ length s.stages.items = search rules in
     let n = s.first_stage + length s.stages.items in
     let none : c.none-part.result ≡ scan p.op p.range n nothing = c.none-part.ensures ∙ ap (λ m. scan p.op p.range (s.first_stage + m) nothing) len in
-    let pushed : c.push_plain.new.part ≡ scan p.op p.range n (append nothing (trace (imaged gs (elements from to t.items)) end.Done)) =
-    c.in_ok-push_plain.ensures ∙ (λ j. scan_append (none j) (trace (imaged (stages_of (same j)) (elements from to (walk_in (sym c.in-Plain.is j)).items)) end.Done)) in
-    let whole : c.end_with.new.self ≡ scan p.op p.range n (trace (imaged gs (piece_of from to t).items) (piece_of from to t).ending) =
+    let pushed : c.push_plain.new.part ≡ scan p.op p.range n (append nothing (trace (left_by gs (elements from to t.items)) end.Done)) =
+    c.in_ok-push_plain.ensures ∙ (λ j. scan_append (none j) (trace (left_by (stages_of (same j)) (elements from to (walk_in (sym c.in-Plain.is j)).items)) end.Done)) in
+    let whole : c.end_with.new.self ≡ scan p.op p.range n (trace (left_by gs (piece_of from to t).items) (piece_of from to t).ending) =
     c.end_with.ensures ∙ (λ j. scan_append (pushed j) (trace [] c.piece_end.result)) ∙ ap (scan p.op p.range n) (piece_again gs from to t c.piece_end.result c.piece_end.ensures) in
     lent_stands s p c.end_with.new.self (piece_of from to t) env c.in-Prefix.is plain whole

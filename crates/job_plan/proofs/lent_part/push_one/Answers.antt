@@ -7,7 +7,7 @@ use Rattle.trace.specs.Stages.{stages_of}
 use Rattle.trace.specs.Trace.{trace}
 use Rattle.trace.proofs.Sources.{length-counted}
 use Rattle.job_language.specs.Jobs.{source_of}
-use Rattle.prefix_walks.specs.Maps.{imaged}
+use Rattle.prefix_walks.specs.CheapStages.{left_by}
 use Rattle.prefix_walks.specs.Scans.{scan_append}
 use Rattle.job_meaning.specs.Walks.{plain_values}
 use Rattle.prefix_walks.proofs.Elements.{counted_piece, less_one_fits}
@@ -44,9 +44,9 @@ returns-in-Range c =
     let fa : FitsSigned w64 c.in-Range.from = search rules in
     let l = ap (λ s. length (plain_values (source_of s))) c.in-Range.is ∙ length-counted a n in
     let few : c.args.portion.start + c.args.portion.count ≤ n = subst (λ (m : ℕ). c.args.portion.start + c.args.portion.count ≤ m) l c.requires.within in
-    let gs = stages_of c.args.maps.stages.now in
-    let e = ap (λ s. imaged gs (placed o (take c.args.portion.count (drop c.args.portion.start (plain_values (source_of s)))))) c.in-Range.is ∙ ap (λ vs. imaged gs (placed o vs)) (counted_piece a n c.args.portion.start c.args.portion.count few)
-    ∙ ap (λ (z : ℤ). imaged gs (placed o (counted (z +ℤ pos c.args.portion.start) c.args.portion.count))) (sym (to_z-of_z w64 a fa)) in
+    let gs = stages_of c.args.cheap.stages.now in
+    let e = ap (λ s. left_by gs (placed o (take c.args.portion.count (drop c.args.portion.start (plain_values (source_of s)))))) c.in-Range.is ∙ ap (λ vs. left_by gs (placed o vs)) (counted_piece a n c.args.portion.start c.args.portion.count few)
+    ∙ ap (λ (z : ℤ). left_by gs (placed o (counted (z +ℤ pos c.args.portion.start) c.args.portion.count))) (sym (to_z-of_z w64 a fa)) in
     subst (λ (ys : List Item). OnOk c.push_range.result (c.push_range.new.part ≡ scan_append c.args.part.now (trace ys end.Done))) (sym e) c.push_range.ensures
 
 pub returns-in-RangeClosed : goal.returns-in-RangeClosed
@@ -57,7 +57,7 @@ returns-in-RangeClosed c =
     let fa : FitsSigned w64 c.in-RangeClosed.from = search rules in
     let l = ap (λ s. length (plain_values (source_of s))) c.in-RangeClosed.is ∙ length-counted a n in
     let few : c.args.portion.start + c.args.portion.count ≤ n = subst (λ (m : ℕ). c.args.portion.start + c.args.portion.count ≤ m) l c.requires.within in
-    let gs = stages_of c.args.maps.stages.now in
-    let e = ap (λ s. imaged gs (placed o (take c.args.portion.count (drop c.args.portion.start (plain_values (source_of s)))))) c.in-RangeClosed.is ∙ ap (λ vs. imaged gs (placed o vs)) (counted_piece a n c.args.portion.start c.args.portion.count few)
-    ∙ ap (λ (z : ℤ). imaged gs (placed o (counted (z +ℤ pos c.args.portion.start) c.args.portion.count))) (sym (to_z-of_z w64 a fa)) in
+    let gs = stages_of c.args.cheap.stages.now in
+    let e = ap (λ s. left_by gs (placed o (take c.args.portion.count (drop c.args.portion.start (plain_values (source_of s)))))) c.in-RangeClosed.is ∙ ap (λ vs. left_by gs (placed o vs)) (counted_piece a n c.args.portion.start c.args.portion.count few)
+    ∙ ap (λ (z : ℤ). left_by gs (placed o (counted (z +ℤ pos c.args.portion.start) c.args.portion.count))) (sym (to_z-of_z w64 a fa)) in
     subst (λ (ys : List Item). OnOk c.push_range-in-RangeClosed.result (c.push_range-in-RangeClosed.new.part ≡ scan_append c.args.part.now (trace ys end.Done))) (sym e) c.push_range-in-RangeClosed.ensures

@@ -33,3 +33,14 @@ returns-in-Run-clause-fed g c = λ xs took.
     let zs = items_of c.args.piece.now in
     let same = sym (scanned_cut op r at c.args.scan.position c.count.result c.args.scan.start zs c.cut_to-at.ensures c.count.ensures) ∙ ap (λ (ys : List Item). scan_at (value_of op) at 0 c.args.scan.start ys) (ap items_in c.in-Run.is) in
     subst (λ (ys : List Item). IsFed g.S.LongSink.has_taken xs (piped c.args.line (trace (elements c.args.window.from c.args.window.to ys) end.Done)) c.feed_run.result c.feed_run.new.sink) (sym same) (c.feed_run.ensures.fed xs took)
+
+pub returns-in-Passing-clause-fed : goal.returns-in-Passing-clause-fed
+returns-in-Passing-clause-fed g c = λ xs took.
+    let op = c.args.scan.prefix.op in
+    let r = c.args.scan.prefix.range in
+    let at = c.cut_to-at.result in
+    let zs = items_of c.args.piece.now in
+    let same = sym (scanned_cut op r at c.args.scan.position c.count.result c.args.scan.start zs c.cut_to-at.ensures c.count.ensures)
+    ∙ ap (λ (ys : List Item). scan_at (value_of op) at 0 c.args.scan.start ys) (ap items_in c.in-Passing.is ∙ sym (c.items.ensures ∙ c.put.ensures)) in
+    subst (λ (ys : List Item). IsFed g.S.LongSink.has_taken xs (piped c.args.line (trace (elements c.args.window.from c.args.window.to ys) end.Done)) c.feed_listed-in-Passing.result c.feed_listed-in-Passing.new.sink)
+    (sym same) (c.feed_listed-in-Passing.ensures.fed xs took)

@@ -1,12 +1,12 @@
 use Rattle.std.proofs.Common.{◌≡◌, ◌≤◌, ◌-◌, ◌++◌, All}
 use Rattle.trace.specs.Cover.{counted, placed}
 use Rattle.trace.specs.Stages.{stages_of}
-use Rattle.prefix_walks.specs.Maps.{imaged}
+use Rattle.prefix_walks.specs.CheapStages.{left_by}
 use Rattle.prefix_walks.specs.Scans.{IsFolded, all_items}
 use Rattle.prefix_walks.proofs.prefix_pieces.add_range.Given as goal
 
 abbrev pub invariant-loop-taken : goal.invariant-loop-taken
-invariant-loop-taken l = (all_items l.pieces.items ≡ all_items l.fn.pieces.items ++ imaged (stages_of l.maps.stages.now) (placed l.range.origin (counted l.range.first l.taken)))
+invariant-loop-taken l = (all_items l.pieces.items ≡ all_items l.fn.pieces.items ++ left_by (stages_of l.cheap.stages.now) (placed l.range.origin (counted l.range.first l.taken)))
     × All (IsFolded l.op) l.pieces.items
     × (l.taken ≤ l.range.count)
 

@@ -1,21 +1,18 @@
-use Rattle.std.proofs.Common.{sym, arith}
-use Rattle.std.proofs.lemmas.List.{length-map}
+use Rattle.std.proofs.Common.{sym, ap, ◌∙◌}
+use Rattle.trace.specs.Cover.{placed}
 use Rattle.trace.specs.Stages.{stages_of}
-use Rattle.prefix_walks.specs.Maps.{image}
-use Rattle.prefix_walks.specs.declared.run_values.RunValues.TheVariants as run
-use Rattle.prefix_walks.proofs.MapLemmas.{imaged_placed}
-use Rattle.prefix_walks.proofs.RunLemmas.{run_folded}
+use Rattle.prefix_walks.specs.CheapStages.{left_by}
+use Rattle.prefix_walks.specs.Maps.{images}
+use Rattle.prefix_walks.proofs.CheapLemmas.{only_maps}
+use Rattle.prefix_walks.proofs.MapLemmas.{images_none}
 use Rattle.prefix_walks.proofs.folded_piece.FoldedPiece.lent.Goals as goal
 
-pub fold_run-fold-requires-clause-few : goal.fold_run-fold-requires-clause-few
-fold_run-fold-requires-clause-few c =
-    let l = length-map c.args.values.now (image (stages_of c.args.maps.stages.now)) in
-    omega (arith, l, c.requires.few)
+pub returns-in-Some-clause-items : goal.returns-in-Some-clause-items
+returns-in-Some-clause-items c =
+    let vs = c.args.values.now in
+    c.run.ensures.items ∙ sym (only_maps (stages_of c.in-Some.maps.stages.now) c.in-Some.maps.plain c.args.place vs) ∙ ap (λ ss. left_by (stages_of ss) (placed c.args.place vs)) c.in-Some.ensures
 
-pub returns-clause-items : goal.returns-clause-items
-returns-clause-items c = sym (imaged_placed (stages_of c.args.maps.stages.now) c.args.place c.args.values.now)
-
-pub returns-clause-folded : goal.returns-clause-folded
-returns-clause-folded c =
-    let l = length-map c.args.values.now (image (stages_of c.args.maps.stages.now)) in
-    run_folded c.args.op c.args.place (run.Lent c.args.maps c.args.values) c.fold_run-fold.result c.fold_run-fold.ensures.op (c.fold_run-fold.ensures.stands c.args.place) (omega (arith, l, c.requires.few)) (omega (arith, l, c.requires.places)) tt
+pub returns-in-None-clause-items : goal.returns-in-None-clause-items
+returns-in-None-clause-items c =
+    let vs = c.args.values.now in
+    c.passing.ensures.items ∙ ap (λ us. left_by (stages_of c.args.cheap.stages.now) (placed c.args.place us)) (ap (λ ss. images (stages_of ss) vs) c.no_maps.ensures ∙ images_none vs)

@@ -1,8 +1,8 @@
 use Rattle.std.proofs.Common.{List, []}
 use Rattle.trace.specs.declared.item.Item.{Item}
 use Rattle.trace.specs.Stages.{stages_of}
-use Rattle.prefix_walks.proofs.MapLemmas.{images_put}
-use Rattle.prefix_walks.proofs.cheap_maps.Maps.put_images.Goals as goal
+use Rattle.prefix_walks.proofs.CheapLemmas.{images_put}
+use Rattle.prefix_walks.proofs.cheap_stages.Maps.put_images.Goals as goal
 
 pub returns : goal.returns
 returns c =

@@ -1,23 +1,100 @@
-//! Maps that are so cheap that what they make of values is computed where it is read, and not kept.
+//! Maps and filters that are so cheap that what they leave of values is computed where it is read, and not kept.
 
-ghost use Rattle.std.specs.Prelude.{◌≡◌, ◌≤◌, ◌<◌, ◌^◌, [], IfSome, length, true};
+ghost use Rattle.std.specs.Prelude.{◌≡◌, ◌≤◌, ◌<◌, ◌+◌, ◌^◌, [], IfSome, List, OnErr, length, true};
 ghost use Rattle.lambda_values.specs.Term.{long_of, truth_of};
+ghost use Rattle.trace.specs.Cover.{placed};
+ghost use Rattle.trace.specs.Sinks.{IsFed, flow_after};
 ghost use Rattle.trace.specs.Stages.{stage_of, stages_of};
-ghost use Rattle.prefix_walks.specs.Maps.{ArePlain, ArePlain-prop, IsPlain, IsPlainStage, IsPlainTest, images};
+ghost use Rattle.trace.specs.Trace.{trace};
+ghost use Rattle.trace.specs.declared.item.End.TheVariants as end;
+ghost use Rattle.trace.specs.declared.item.Item.{Item as item};
+ghost use Rattle.prefix_walks.specs.CheapStages.{AreCheap, AreCheap-prop, IsCheapStage, left_by};
+ghost use Rattle.prefix_walks.specs.Maps.{ArePlain, ArePlain-prop, IsPlain, IsPlainTest, images};
 
 use crate::buffer::Buffer;
 use crate::faultless::{is_total, is_total_by};
-use batch_eval::{Pipeline, Registers, feed_at_once};
+use batch_eval::{BatchSink, Pipeline, Registers, feed_at_once};
 use lambda_values::{BinaryOperator, BoolExpr, Env, Faults, LongExpr};
 use std::alloc::Global;
-use trace::{PlacedValues, Stage};
+use trace::{Fed, Flow, NoMemory, PlacedValues, Stage};
 
-/// How many operators the maps have at most. What they make of a value is computed twice: for the fold of a piece, and
-/// where the piece is read. Up to about this many, that takes less time than to write 8 bytes for each value and to
-/// read them again.
+/// How many operators cheap stages have at most. What they leave of a value is computed twice: for the fold of a piece,
+/// and where the piece is read. Up to about this many, that takes less time than to write each value and to read it
+/// again.
 const MOST_OPERATORS: u32 = 4;
 
-/// Maps, one after the other. Each names no earlier job and can't have a fault. There may be none.
+/// Maps and filters, one after the other. Each names no earlier job and can't have a fault. There may be none.
+#[derive(Clone, Copy)]
+pub struct CheapStages<'a> {
+    alloc: Global,
+    pub(crate) stages: &'a [Stage],
+    ghost cheap: { AreCheap (stages_of stages.now) } by { AreCheap-prop (stages_of stages.now) },
+    ghost few: { length stages.now < 2 ^ 32 },
+}
+
+impl<'a> CheapStages<'a> {
+    /// These stages, if all of them are cheap, can't have a fault and name no earlier job.
+    pub fn of(alloc: Global, stages: &'a [Stage]) -> Option<CheapStages<'a>>
+        requires { length stages.now < 2 ^ 32 }
+        ensures { IfSome result (λ cheap. cheap.stages.now ≡ stages.now) }
+    {
+        let _ = after_stages(stages, MOST_OPERATORS)?;
+        Some(CheapStages { alloc, stages })
+    }
+
+    /// The stages, if all of them are maps.
+    pub(crate) fn maps(&self) -> Option<Maps<'a>>
+        ensures { IfSome result (λ maps. maps.stages.now ≡ self.now.stages.now) }
+    {
+        if !are_maps(self.stages) {
+            return None;
+        }
+        Some(Maps {
+            alloc: self.alloc,
+            stages: self.stages,
+        })
+    }
+
+    /// No maps: what they make of values is these values.
+    pub(crate) fn no_maps(&self) -> Maps<'a>
+        ensures { result.stages.now ≡ [] }
+    {
+        Maps {
+            alloc: self.alloc,
+            stages: &[],
+        }
+    }
+
+    /// Gives a sink what the stages leave of values at places that count up from this one.
+    pub(crate) fn feed<S: BatchSink>(
+        &self,
+        place: u64,
+        values: &[i64],
+        registers: &mut Registers,
+        sink: &mut S,
+    ) -> Result<Fed, NoMemory>
+        requires wants { S.flow sink.old ≡ Flow.More }
+        requires places { place + length values.now ≤ 2 ^ 62 }
+        ensures fed { (xs : List item) → S.has_taken sink.old xs → IsFed S.has_taken xs
+            (trace (left_by (stages_of self.now.stages.now) (placed place values.now)) end.Done) result sink.new }
+        ensures flow { S.flow sink.new ≡ flow_after result }
+        ensures refused { OnErr result S.takes_memory }
+    {
+        let env = Env::empty(self.alloc);
+        let items = PlacedValues {
+            origin: place,
+            values,
+        };
+        let line = Pipeline {
+            stages: self.stages,
+            first: 0,
+            env: &env,
+        };
+        feed_at_once(line, &items, registers, sink)
+    }
+}
+
+/// Cheap stages that are maps.
 #[derive(Clone, Copy)]
 pub struct Maps<'a> {
     alloc: Global,
@@ -27,15 +104,6 @@ pub struct Maps<'a> {
 }
 
 impl<'a> Maps<'a> {
-    /// These stages, if all of them are cheap maps that can't have a fault and name no earlier job.
-    pub fn of(alloc: Global, stages: &'a [Stage]) -> Option<Maps<'a>>
-        requires { length stages.now < 2 ^ 32 }
-        ensures { IfSome result (λ maps. maps.stages.now ≡ stages.now) }
-    {
-        let _ = after_stages(stages, MOST_OPERATORS)?;
-        Some(Maps { alloc, stages })
-    }
-
     /// Whether there are none.
     pub(crate) fn is_empty(&self) -> bool
         ensures { result ≡ true → self.now.stages.now ≡ [] }
@@ -73,9 +141,20 @@ impl<'a> Maps<'a> {
     }
 }
 
-/// How many of these operators stages leave, if all of them are maps that can't have a fault and name no earlier job.
+/// Whether all of these cheap stages are maps.
+fn are_maps(stages: &[Stage]) -> bool
+    ensures { result ≡ true → AreCheap (stages_of stages.now) → ArePlain (stages_of stages.now) }
+{
+    match stages.split_first() {
+        None => true,
+        Some((stage, later)) => matches!(stage, Stage::Map(_)) && are_maps(later),
+    }
+}
+
+/// How many of these operators stages leave, if all of them are maps and filters that can't have a fault and name no
+/// earlier job.
 fn after_stages(stages: &[Stage], operators: u32) -> Option<u32>
-    ensures { IfSome result (λ _. ArePlain (stages_of stages.now)) }
+    ensures { IfSome result (λ _. AreCheap (stages_of stages.now)) }
 {
     match stages.split_first() {
         None => Some(operators),
@@ -86,13 +165,15 @@ fn after_stages(stages: &[Stage], operators: u32) -> Option<u32>
     }
 }
 
-/// How many of these operators a stage leaves, if it is a map that can't have a fault and names no earlier job.
+/// How many of these operators a stage leaves, if it is a map or a filter that can't have a fault and names no earlier
+/// job.
 fn after_stage(stage: &Stage, operators: u32) -> Option<u32>
-    ensures { IfSome result (λ _. IsPlainStage (stage_of stage.now)) }
+    ensures { IfSome result (λ _. IsCheapStage (stage_of stage.now)) }
 {
     match stage {
         Stage::Map(image) => after_long(image, operators),
-        Stage::Filter(_) | Stage::FlatMap(_) => None,
+        Stage::Filter(test) => after_test(test, operators),
+        Stage::FlatMap(_) => None,
     }
 }
 
