@@ -1,21 +1,12 @@
 -- Values that maps make where they are read.
-use Rattle.std.proofs.Common.{◌≡◌, ℕ, suc, ◌+◌, ◌≤◌, ℤ, Bool, true, ◌&&◌, List, [], ◌∷◌, ◌++◌, length, length-append, map as each_of, Result, Ok, Err, OnErr, refl, sym, ap, subst, ◌∙◌, not, arith}
-use Rattle.std.specs.declared.alloc.AllocError.{AllocError}
+use Rattle.std.proofs.Common.{◌≡◌, ℕ, ◌+◌, ◌≤◌, ℤ, Bool, true, ◌&&◌, List, [], ◌∷◌, ◌++◌, length, length-append, map as each_of, Ok, refl, sym, ap, ◌∙◌, not, arith}
 use Rattle.std.proofs.lemmas.List.{length-map, map-append}
 use Rattle.lambda_values.specs.Earlier.{Numbers}
 use Rattle.lambda_values.specs.Operators.{on, unary_value, binary_value, comparison_value}
 use Rattle.lambda_values.specs.Term.{Long, number, parameter, reference, unary, binary, choose, Truth, literal, compare, opposite, connect, choose_truth}
 use Rattle.lambda_values.specs.Value.{chosen, connected, long_value, truth_value}
 use Rattle.trace.specs.Cover.{placed}
-use Rattle.trace.specs.Sinks.{IsFed, flow_after}
-use Rattle.trace.specs.Stages.{AbstractStage, map, filter, flat_map, image as item_image, pipe, through}
-use Rattle.trace.specs.Trace.{Trace, trace, append}
-use Rattle.trace.specs.declared.feeding.Fed.{Fed}
-use Rattle.trace.specs.declared.feeding.Fed.TheVariants as fed
 use Rattle.trace.specs.declared.item.Item.{Item}
-use Rattle.trace.specs.declared.item.End.{End}
-use Rattle.trace.specs.declared.item.End.TheVariants as end
-use Rattle.trace.specs.declared.sink.Flow.TheVariants as flow
 use Rattle.trace.proofs.Sources.{length-placed}
 use Rattle.prefix_walks.specs.CheapStages.{truth_in}
 use Rattle.prefix_walks.specs.Maps.{IsPlain, IsPlainTest, images, value_in}

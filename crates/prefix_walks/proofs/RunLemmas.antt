@@ -93,17 +93,17 @@ places_next place i xs x h at o t =
 pub piece_pushed : (ps : List FoldedPiece) (p : FoldedPiece) → all_items (ps ++ p ∷ []) ≡ all_items ps ++ items_of p
 piece_pushed ps p = flat_map-append items_of ps (p ∷ []) ∙ ap (λ (l : List Item). all_items ps ++ l) (append-nil (items_of p))
 
-pub lent_next : (gs : List AbstractStage) (old : List Item) (ps : List FoldedPiece) (p : FoldedPiece) (new : List FoldedPiece) (place taken count : ℕ) (vs : List ℤ) → taken ≤ length vs → new ≡ ps ++ p ∷ [] → items_of p ≡ left_by gs (placed (place + taken) (take count (drop taken vs)))
+pub lent_next : (gs : List AbstractStage) (old : List Item) (ps : List FoldedPiece) (p : FoldedPiece) (new : List FoldedPiece) (place taken count : ℕ) (vs : List ℤ) → taken ≤ length vs → all_items new ≡ all_items ps ++ items_of p → items_of p ≡ left_by gs (placed (place + taken) (take count (drop taken vs)))
     → all_items ps ≡ old ++ left_by gs (placed place (take taken vs)) → all_items new ≡ old ++ left_by gs (placed place (take (taken + count) vs))
 lent_next gs old ps p new place taken count vs h is here before =
     let l : length (take taken vs) ≡ taken = let n = length-take taken vs in omega (arith, n, h) in
-    ap all_items is ∙ piece_pushed ps p ∙ (λ j. before j ++ here j)
+    is ∙ (λ j. before j ++ here j)
     ∙ append_assoc old (left_by gs (placed place (take taken vs))) (left_by gs (placed (place + taken) (take count (drop taken vs))))
     ∙ ap (λ (xs : List Item). old ++ xs)
     (sym (ap (left_by gs) (ap (placed place) (take-add taken count vs) ∙ placed_both place (take taken vs) (take count (drop taken vs)) ∙ ap (λ n. placed place (take taken vs) ++ placed (place + n) (take count (drop taken vs))) l)
     ∙ flat_map-append (left_of gs) (placed place (take taken vs)) (placed (place + taken) (take count (drop taken vs)))))
 
-pub counted_more : (gs : List AbstractStage) (old : List Item) (ps : List FoldedPiece) (p : FoldedPiece) (new : List FoldedPiece) (place : ℕ) (first : ℤ) (taken count size : ℕ) → taken + count ≤ size → new ≡ ps ++ p ∷ [] → items_of p ≡ left_by gs (placed (place + taken) (counted (first +ℤ pos taken) count))
+pub counted_more : (gs : List AbstractStage) (old : List Item) (ps : List FoldedPiece) (p : FoldedPiece) (new : List FoldedPiece) (place : ℕ) (first : ℤ) (taken count size : ℕ) → taken + count ≤ size → all_items new ≡ all_items ps ++ items_of p → items_of p ≡ left_by gs (placed (place + taken) (counted (first +ℤ pos taken) count))
     → all_items ps ≡ old ++ left_by gs (placed place (counted first taken)) → all_items new ≡ old ++ left_by gs (placed place (counted first (taken + count)))
 counted_more gs old ps p new place first taken count size h is here before =
     let front : take taken (counted first size) ≡ counted first taken = take_counted taken first size (omega arith) in

@@ -1,5 +1,5 @@
 -- Condition: items that cheap stages leave where they are read.
-use Rattle.std.specs.Prelude.{◌≡◌, if◌then◌else◌, Bool, true, false, List, [], ◌∷◌, flat_map as joined_of, Result, Ok, Err, ⊤}
+use Rattle.std.specs.Prelude.{if◌then◌else◌, Bool, false, List, [], ◌∷◌, flat_map as joined_of, Result, Ok, Err, ⊤}
 use Rattle.std.specs.Coded.{×_prop, Unit-prop}
 use Rattle.lambda_values.specs.declared.fault.FaultKind.{FaultKind}
 use Rattle.lambda_values.specs.Value.{long_value, truth_value}

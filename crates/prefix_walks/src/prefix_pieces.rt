@@ -7,17 +7,24 @@ ghost use Rattle.trace.specs.Trace.{trace};
 ghost use Rattle.trace.specs.declared.item.End.TheVariants as end;
 ghost use Rattle.reduce_ops.specs.Parts.{StandsFor as FoldStands};
 ghost use Rattle.prefix_walks.specs.CheapStages.{left_by};
-ghost use Rattle.prefix_walks.specs.Scans.{IsFolded, all_items};
+ghost use Rattle.prefix_walks.specs.Scans.{IsFolded, all_items, items_of};
 
 use crate::cheap_stages::CheapStages;
 use crate::folded_piece::{FoldedPiece, MOST_ITEMS};
 use crate::folding::folded;
+use crate::item_buffer::ItemBuffer;
+use crate::piece_items::PieceItems;
+use crate::pieces::ItemPiece;
 use batch_eval::Registers;
 use reduce_ops::{Op, Partial};
 use trace::{MAX_SOURCE_SIZE, NoMemory, RangeItems, SourceItems};
 
 /// How many items there are at least whose values are stored without their places, if these count up.
 const LEAST_RUN: usize = 16;
+
+/// From how many items of a piece on these are worked out again where they are read. To work out few takes longer than
+/// to store them.
+const LEAST_PASSING: usize = 64;
 
 /// The place of the first of this many items, if the places count up and there are enough of them.
 pub(crate) fn run_place<I: SourceItems>(source: &I, count: usize) -> Option<u64>
@@ -102,7 +109,25 @@ pub(crate) fn add_items<I: SourceItems>(
     if count > MOST_ITEMS {
         return Err(NoMemory);
     }
-    let fold = folded(op, false, values);
+    add_folded(pieces, op, source, count, folded(op, false, values))
+}
+
+/// Adds the items of a source, which have this fold, to the last piece, or as a piece of their own.
+fn add_folded<I: SourceItems>(
+    pieces: &mut Vec<FoldedPiece<'_>>,
+    op: Op,
+    source: &I,
+    count: usize,
+    fold: Partial,
+) -> Result<(), NoMemory>
+    requires folds { All (IsFolded op) pieces.old.items }
+    requires fold { (fold.op ≡ op) × FoldStands fold (trace (I.items source.now) end.Done) }
+    requires count { length (I.items source.now) ≡ count }
+    requires few { count ≤ 1024 }
+    ensures ok { OnOk result (all_items pieces.new.items ≡ all_items pieces.old.items ++ I.items source.now) }
+    ensures err { OnErr result (all_items pieces.new.items ≡ all_items pieces.old.items) }
+    ensures folds { All (IsFolded op) pieces.new.items }
+{
     if add_to_last(pieces, op, source, count, fold)? {
         return Ok(());
     }
@@ -133,6 +158,32 @@ fn add_to_last<I: SourceItems>(
     }
 }
 
+/// Adds a piece. If stages leave few items of it, these are stored.
+fn add_piece<'a>(
+    pieces: &mut Vec<FoldedPiece<'a>>,
+    op: Op,
+    piece: FoldedPiece<'a>,
+    registers: &mut Registers,
+) -> Result<(), NoMemory>
+    requires folds { All (IsFolded op) pieces.old.items }
+    requires piece { IsFolded op piece }
+    ensures ok { OnOk result (all_items pieces.new.items ≡ all_items pieces.old.items ++ items_of piece.entry) }
+    ensures folds { All (IsFolded op) pieces.new.items }
+{
+    if let PieceItems::Passing(passing) = &piece.items {
+        if passing.count < LEAST_PASSING {
+            let mut items = ItemBuffer::new();
+            passing.put(registers, &mut items);
+            let stored = ItemPiece {
+                items: items.items(),
+            };
+            return add_folded(pieces, op, &stored, passing.count, piece.fold);
+        }
+    }
+    pieces.push(piece)?;
+    Ok(())
+}
+
 /// Adds what cheap stages leave of values that are lent, at places that count up from this one, in pieces of 1,024.
 pub(crate) fn add_lent<'a>(
     pieces: &mut Vec<FoldedPiece<'a>>,
@@ -153,7 +204,7 @@ pub(crate) fn add_lent<'a>(
         let count = MOST_ITEMS.min(values.len() - taken);
         let part = &values[taken..taken + count];
         let piece = FoldedPiece::lent(op, cheap, place + taken as u64, part, registers);
-        pieces.push(piece)?;
+        add_piece(pieces, op, piece, registers)?;
         taken += count;
     }
     Ok(())
@@ -178,7 +229,7 @@ pub(crate) fn add_range<'a>(
         let first = range.first + taken as i64;
         let place = range.origin + taken;
         let piece = FoldedPiece::counted(op, cheap, place, first, count, registers);
-        pieces.push(piece)?;
+        add_piece(pieces, op, piece, registers)?;
         taken += count;
     }
     Ok(())

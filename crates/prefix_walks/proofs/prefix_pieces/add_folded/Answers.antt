@@ -1,6 +1,6 @@
 use Rattle.prefix_walks.specs.Scans.{IsFolded}
 use Rattle.prefix_walks.proofs.RunLemmas.{all_pushed}
-use Rattle.prefix_walks.proofs.prefix_pieces.add_items.Goals as goal
+use Rattle.prefix_walks.proofs.prefix_pieces.add_folded.Goals as goal
 
 pub returns-clause-folds : goal.returns-clause-folds
 returns-clause-folds g c =
