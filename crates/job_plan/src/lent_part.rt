@@ -66,8 +66,9 @@ fn push_plain<'a>(
 ) -> Result<(), NoMemory>
     requires open { part.old.walk.ending ≡ end.Done }
     ensures { OnOk result (part.new ≡ scan_append part.old
-        (trace (left_by (stages_of cheap.entry.stages.now) (elements window.from window.to (windowed plain.now.window.from
-        plain.now.window.to (source_walk (sources_of plain.now.sources.now))).items)) end.Done)) }
+        (trace (left_by (stages_of cheap.entry.stages.now) (elements window.from window.to
+        (windowed plain.now.window.from plain.now.window.to (source_walk (sources_of plain.now.sources.now))).items))
+        end.Done)) }
 {
     if plain.is_too_long {
         return Ok(());

@@ -78,8 +78,8 @@ impl<'a> PrefixPart<'a> {
         }
     }
 
-    /// Adds what cheap stages leave of values of a source that stays as long as the job, at places that count up from this one.
-    /// It copies none of them.
+    /// Adds what cheap stages leave of values of a source that stays as long as the job, at places that count up from
+    /// this one. It copies none of them.
     pub fn push_lent(
         &mut self,
         cheap: CheapStages<'a>,
