@@ -1,5 +1,5 @@
 -- Parts, faults and answers as they are handed in, and where they go.
-use Rattle.std.proofs.Common.{◌≡◌, ◌≢◌, ℕ, ◌<◌, ◌≤◌, Bool, true, false, Option, Some, None, Result, Ok, Err, IfOk, IfSome, subst, sym, refl, ◌∙◌, le_refl, arith}
+use Rattle.std.proofs.Common.{◌≡◌, ◌≢◌, ℕ, ◌<◌, ◌≤◌, Bool, true, false, Option, Some, None, Result, Ok, Err, subst, sym, refl, ◌∙◌, arith}
 use Rattle.trace.specs.declared.item.Fault.{Fault}
 use Rattle.pending_count.specs.declared.place.Side.{Side}
 use Rattle.pending_count.specs.declared.place.Side.TheVariants.{Left, Right, Whole}
@@ -10,7 +10,7 @@ use Rattle.completer_tree.specs.Places.{Goes, IsLeftmost}
 use Rattle.job_runner.specs.declared.cut.CutPiece.{CutPiece}
 use Rattle.job_runner.specs.declared.cut.Merged.{Merged}
 use Rattle.job_runner.specs.declared.cut.Merged.TheVariants.{Part, Caught}
-use Rattle.job_runner.specs.Cuts.{ComesOf, Fits, HandedIn, IfMerged, IsInstead, IsSideOf, StandsWhole, begins, ends_at}
+use Rattle.job_runner.specs.Cuts.{Fits, HandedIn, IfMerged, IsInstead, IsSideOf, StandsWhole, begins, ends_at}
 
 -- a fact by other names for job, segment and positions
 pub moved : (P : ℕ → ℕ → ℕ → ℕ → Type 0) {j j' k k' a a' b b' : ℕ} → j ≡ j' → k ≡ k' → a ≡ a' → b ≡ b' → P j k a b → P j' k' a' b'

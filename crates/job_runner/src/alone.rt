@@ -52,15 +52,22 @@ fn walk_alone<S: JobSegments, G: Gate>(
             given,
             earlier,
         };
-        let part = walk_whole(alloc, jobs, job, segment, input, &mut scratch)?;
-        source = jobs.next_source(alloc, job, segment, part, given)?;
+        let Ok(part) = walk_whole(alloc, jobs, job, segment, input, &mut scratch) else {
+            return Err(NoMemory);
+        };
+        source = match jobs.next_source(alloc, job, segment, part, given) {
+            Ok(next) => next,
+            Err(refused) => return Err(refused),
+        };
     }
     let input = SegmentInput {
         source: &source,
         given,
         earlier,
     };
-    let part = walk_whole(alloc, jobs, job, last, input, &mut scratch)?;
+    let Ok(part) = walk_whole(alloc, jobs, job, last, input, &mut scratch) else {
+        return Err(NoMemory);
+    };
     let input = SegmentInput {
         source: &source,
         given,
@@ -80,10 +87,13 @@ pub(crate) fn answer_alone<S: JobSegments, G: Gate>(
     requires job { job < S.job_count }
     ensures { IfOk result (λ answer. S.is_answer job answer) }
 {
-    let answer = match jobs.given(alloc, job, earlier)? {
-        Begun::Walk(given) => walk_alone(alloc, gate, jobs, job, &given, earlier)?,
-        Begun::Known(answer) => answer,
+    let answer = match jobs.given(alloc, job, earlier) {
+        Ok(Begun::Walk(given)) => walk_alone(alloc, gate, jobs, job, &given, earlier),
+        Ok(Begun::Known(answer)) => Ok(answer),
+        Err(refused) => Err(refused),
     };
-    gate.at_answer(job);
-    Ok(answer)
+    if answer.is_ok() {
+        gate.at_answer(job);
+    }
+    answer
 }

@@ -79,6 +79,21 @@ fn wait_for_all(all: &mut Vec<Vec<Waiting>>, names: &[usize], job: Waiting) -> R
     Ok(())
 }
 
+/// Adds the start node of a job that names these ones.
+fn add_start(armed: &mut Armed, start: Start, names: &[usize], job: usize) -> Result<(), NoMemory>
+    ensures starts { OnOk result (armed.new.starts.items ≡ armed.old.starts.items ++ start ∷ []) }
+    ensures waiting { OnOk result ((i : ℕ) → count i (all_waiting armed.new.waiting.items)
+        ≤ count i (copies (length names.now) start.node) + count i (all_waiting armed.old.waiting.items)) }
+{
+    let waiting = Waiting {
+        job,
+        node: start.node,
+    };
+    wait_for_all(&mut armed.waiting, names, waiting)?;
+    armed.starts.push(start)?;
+    Ok(())
+}
+
 /// Claims and arms the start node of the last job that has none. `None` if there is no node.
 fn arm_one<S: JobSegments>(
     alloc: Global,
@@ -97,24 +112,30 @@ fn arm_one<S: JobSegments>(
     ensures has { IfOk result (λ found. IfSome found
         (λ later. HasStarts job armed.new.starts.items (all_waiting armed.new.waiting.items) (view_of later))) }
 {
-    let names = jobs.names(alloc, job)?;
+    let Ok(names) = jobs.names(alloc, job) else {
+        return Err(NoMemory);
+    };
     let Ok(pending) = u32::try_from(names.len()) else {
         return Err(NoMemory);
     };
     let waiting = take_waiting(alloc, &mut armed.waiting, job);
-    let onward = onward_of(alloc, &waiting)?;
+    let Ok(onward) = onward_of(alloc, &waiting) else {
+        return Err(NoMemory);
+    };
     let (seat, drawn) = counts.claim(seat);
     let Some(node) = drawn else {
         return Ok(None);
     };
     let seat = counts.arm(seat, node, pending, &onward);
-    wait_for_all(&mut armed.waiting, &names, Waiting { job, node })?;
-    armed.starts.push(Start {
+    let start = Start {
         node,
         onward,
         waiting,
-    })?;
-    Ok(Some(seat))
+    };
+    match add_start(armed, start, &names, job) {
+        Ok(()) => Ok(Some(seat)),
+        Err(refused) => Err(refused),
+    }
 }
 
 /// Claims and arms the start nodes of all jobs, the last job's first, so that what a node keeps has smaller numbers.
@@ -139,10 +160,11 @@ pub(crate) fn arm_all<S: JobSegments>(
     let mut seat = first;
     for done in 0..count {
         let job = count - 1 - done;
-        let Some(later) = arm_one(alloc, jobs, counts, job, seat, &mut armed)? else {
-            return Ok(None);
+        seat = match arm_one(alloc, jobs, counts, job, seat, &mut armed) {
+            Ok(Some(later)) => later,
+            Ok(None) => return Ok(None),
+            Err(refused) => return Err(refused),
         };
-        seat = later;
     }
     Ok(Some((seat, armed.starts)))
 }

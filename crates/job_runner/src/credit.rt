@@ -1,38 +1,36 @@
 //! The credit of the workers: what pays for the nodes of the trees that they begin.
 ghost use Rattle.std.specs.Prelude.{◌≡◌, ◌+◌, ◌-◌, ◌^◌, ◌<◌, ◌≤◌, min, IfSome};
 ghost use Rattle.pending_count.specs.Seats.{view_of};
-ghost use Rattle.completer_tree.specs.Trees.{table_id_of};
 
-use crate::cut::{TableCounts, TableKept, TablePart};
+use crate::cut::{TableKept, TablePart};
 use crate::segments::JobSegments;
 use crate::task::{JobSeat, RunBrand, Spare, TableJobSeat, TableSpare};
 use crate::work::JobWork;
 use completion_core::END;
 use std::marker::PhantomData;
 
-/// Splits an equal part off a worker's credit, if that many parts are to be made of it.
-pub(crate) fn split_spare<S: JobSegments, R: RunBrand>(
-    counts: &TableCounts<S>,
-    spare: Option<TableSpare<S, R>>,
-    parts: u64,
-) -> (Option<TableSpare<S, R>>, Option<TableSpare<S, R>>)
-    requires table { table_id_of counts.now ≡ R.table }
-    requires parts { 0 < parts }
-{
-    let Some(Spare { seat, of }) = spare else {
-        return (None, None);
-    };
-    let share = seat.credit() / parts;
-    let (seat, part) = counts.split(seat, END, 0, share);
-    let rest = Spare { seat, of };
-    let part = Spare {
-        seat: part,
-        of: PhantomData,
-    };
-    (Some(rest), Some(part))
-}
-
 impl<'a, S: JobSegments, R: RunBrand> JobWork<'a, S, TablePart<S>, TableKept<S>, R> {
+    /// Splits an equal part off a worker's credit, if that many parts are to be made of it.
+    pub(crate) fn split_spare(
+        &self,
+        spare: Option<TableSpare<S, R>>,
+        parts: u64,
+    ) -> (Option<TableSpare<S, R>>, Option<TableSpare<S, R>>)
+        requires parts { 0 < parts }
+    {
+        let Some(Spare { seat, of }) = spare else {
+            return (None, None);
+        };
+        let share = seat.credit() / parts;
+        let (seat, part) = self.counts.split(seat, END, 0, share);
+        let rest = Spare { seat, of };
+        let part = Spare {
+            seat: part,
+            of: PhantomData,
+        };
+        (Some(rest), Some(part))
+    }
+
     /// Gives a job the credit for one more tree, out of the credit of the worker that begins it.
     pub(crate) fn pay(
         &self,

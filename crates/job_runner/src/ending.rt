@@ -1,5 +1,5 @@
 //! What happens when a segment is complete: the next one begins, or the job ends and those that wait for it begin.
-ghost use Rattle.std.specs.Prelude.{◌≡◌, ◌<◌, ◌≤◌, ◌+◌, IfSome, IfOk};
+ghost use Rattle.std.specs.Prelude.{◌≡◌, ◌<◌, ◌≤◌, ◌+◌, ◌^◌, IfSome, IfOk};
 ghost use Rattle.job_runner.specs.Cuts.{StandsWhole};
 
 use crate::NoMemory;
@@ -7,7 +7,7 @@ use crate::cut::{Merged, SegmentPart, TableKept, TablePart};
 use crate::earlier::Earlier;
 use crate::piece::SegmentInput;
 use crate::places::{
-    drop_source, hold_source, keep_answer, keep_given, keep_source, kept_given, size_of, source_in,
+    drop_source, hold_source, keep_answer, keep_given, keep_source, kept_given, size_of,
 };
 use crate::segments::{Begun, JobSegments};
 use crate::task::{
@@ -16,6 +16,10 @@ use crate::task::{
 use crate::tools::TableTools;
 use crate::work::{JobWork, TableWork};
 use worker_pool::{Gate, Spawn};
+
+/// How far a job has come on a worker: `Ok` with a segment that was walked whole, `Ok(None)` if others have the rest of
+/// a segment, `Err` if the job is over.
+type TableTurn<S, R> = Result<Option<TableFinishedSegment<S, R>>, TableJobSeat<S, R>>;
 
 /// The answer of a job, of the part of its whole last segment.
 fn last_answer<S: JobSegments, R: RunBrand>(
@@ -32,25 +36,16 @@ fn last_answer<S: JobSegments, R: RunBrand>(
     requires part { S.stands_for job segment 0 (S.size_of job segment) part }
     ensures { IfOk result (λ answer. S.is_answer job answer) }
 {
-    let earlier = Earlier::in_places(&work.places);
-    if segment == 0 {
-        let input = SegmentInput {
-            source: &work.jobs.first_source(job),
-            given,
-            earlier: &earlier,
-        };
-        return work.jobs.answer(work.alloc, job, part, input, scratch);
-    }
-    let Some(held) = hold_source(&work.places, job, segment) else {
+    let Some(held) = hold_source(work.jobs, &work.places, job, segment) else {
         return Err(NoMemory);
     };
-    let Some(source) = source_in(&held, job, segment) else {
+    let Some(source) = held.source(job, segment) else {
         return Err(NoMemory);
     };
     let input = SegmentInput {
         source,
         given,
-        earlier: &earlier,
+        earlier: &Earlier::in_places(&work.places),
     };
     work.jobs.answer(work.alloc, job, part, input, scratch)
 }
@@ -70,20 +65,47 @@ impl<'a, S: JobSegments, R: RunBrand> JobWork<'a, S, TablePart<S>, TableKept<S>,
         }
     }
 
-    /// Begins a job, and walks what others don't take. `Some` if the job is over.
-    fn run_job<G: Gate, P: Spawn<TableTask<S, R>>>(
+    /// Begins a job.
+    fn begin_job<G: Gate, P: Spawn<TableTask<S, R>>>(
         &self,
         gate: &G,
         begun: TableJobSeat<S, R>,
         spawn: &mut P,
         tools: &mut TableTools<'_, S, R>,
-    ) -> Option<TableJobSeat<S, R>> {
+    ) -> TableTurn<S, R>
+        ensures { IfOk result (λ next. IfSome next (λ whole.
+            StandsWhole S.stands_for S.is_instead S.size_of whole.job.job whole.segment (λ x. x.found) whole.part)) }
+    {
         self.prepare(gate, begun.job);
-        let Some(size) = size_of(self.jobs, &self.places, begun.job, 0) else {
-            return Some(begun);
+        match size_of(self.jobs, &self.places, begun.job, 0) {
+            Some(size) => Ok(self.begin(gate, begun, 0, size, spawn, tools)),
+            None => Err(begun),
+        }
+    }
+
+    /// Leaves the source of the next segment in its place, and frees that of this one. `Some` is the next segment, with
+    /// its number of positions.
+    fn leave_source(
+        &self,
+        job: usize,
+        segment: usize,
+        part: S::Part,
+        given: &S::Given,
+    ) -> Option<(usize, u64)>
+        requires known { (job < S.job_count) × (segment < S.last_of job) }
+        requires next { segment + 1 < 2 ^ 64 }
+        requires given { S.is_given job given.now }
+        requires part { S.stands_for job segment 0 (S.size_of job segment) part }
+        ensures { IfSome result (λ next. (next.0 ≤ S.last_of job) × (next.1 ≡ S.size_of job next.0)) }
+    {
+        drop_source(&self.places, job, segment);
+        let Ok(source) = self.jobs.next_source(self.alloc, job, segment, part, given) else {
+            return None;
         };
-        let whole = self.begin(gate, begun, 0, size, spawn, tools);
-        self.go_on(gate, whole, spawn, tools)
+        let next = segment + 1;
+        let size = self.jobs.size(job, next, &source, given);
+        keep_source(&self.places, job, next, source);
+        Some((next, size))
     }
 
     /// Leaves what the part of a whole segment gives in its place, and frees the source of the segment. `Some` is the
@@ -100,14 +122,11 @@ impl<'a, S: JobSegments, R: RunBrand> JobWork<'a, S, TablePart<S>, TableKept<S>,
         requires part { S.stands_for job segment 0 (S.size_of job segment) part }
         ensures { IfSome result (λ next. (next.0 ≤ S.last_of job) × (next.1 ≡ S.size_of job next.0)) }
     {
-        let given = kept_given(&self.places, job)?;
+        let Some(given) = kept_given(&self.places, job) else {
+            return None;
+        };
         if segment < self.jobs.last_segment(job) {
-            let next = segment + 1;
-            drop_source(&self.places, job, segment);
-            if let Ok(source) = self.jobs.next_source(self.alloc, job, segment, part, given) {
-                keep_source(&self.places, job, next, source);
-            }
-            return Some((next, size_of(self.jobs, &self.places, job, next)?));
+            return self.leave_source(job, segment, part, given);
         }
         if let Ok(answer) = last_answer(self, job, segment, part, given, scratch) {
             keep_answer(&self.places, gate, job, answer);
@@ -143,15 +162,14 @@ impl<'a, S: JobSegments, R: RunBrand> JobWork<'a, S, TablePart<S>, TableKept<S>,
         }
     }
 
-    /// Ends a segment whose last part this worker has, and begins the next one: `Ok` with the next segment if this
-    /// worker has its last part too, `Err` if the job is over.
+    /// Ends a segment whose last part this worker has, and begins the next one.
     fn end_segment<G: Gate, P: Spawn<TableTask<S, R>>>(
         &self,
         gate: &G,
         whole: TableFinishedSegment<S, R>,
         spawn: &mut P,
         tools: &mut TableTools<'_, S, R>,
-    ) -> Result<Option<TableFinishedSegment<S, R>>, TableJobSeat<S, R>>
+    ) -> TableTurn<S, R>
         requires { StandsWhole S.stands_for S.is_instead S.size_of whole.job.job whole.segment
             (λ x. x.found) whole.part }
         ensures { IfOk result (λ next. IfSome next (λ whole.
@@ -162,28 +180,6 @@ impl<'a, S: JobSegments, R: RunBrand> JobWork<'a, S, TablePart<S>, TableKept<S>,
             Some((next, size)) => Ok(self.begin(gate, job, next, size, spawn, tools)),
             None => Err(job),
         }
-    }
-
-    /// Ends one segment after the other, while this worker has the last part of one. Each is a later one of the same
-    /// job. `Some` if the job is over.
-    fn go_on<G: Gate, P: Spawn<TableTask<S, R>>>(
-        &self,
-        gate: &G,
-        first: Option<TableFinishedSegment<S, R>>,
-        spawn: &mut P,
-        tools: &mut TableTools<'_, S, R>,
-    ) -> Option<TableJobSeat<S, R>>
-        requires { IfSome first (λ whole. StandsWhole S.stands_for S.is_instead S.size_of whole.job.job whole.segment
-            (λ x. x.found) whole.part) }
-    {
-        let mut left = first;
-        for _ in 0..u64::MAX {
-            match self.end_segment(gate, left?, spawn, tools) {
-                Ok(next) => left = next,
-                Err(over) => return Some(over),
-            }
-        }
-        None
     }
 }
 
@@ -230,31 +226,36 @@ impl<'a, S: JobSegments, R: RunBrand> JobWork<'a, S, TablePart<S>, TableKept<S>,
     ) {
         if let Err(Task::Begin(begun)) = spawn.push(Task::Begin(begun)) {
             if let Some(depth) = depth.checked_sub(1) {
-                let over = self.run_job(gate, begun, spawn, tools);
-                self.finish(gate, over, spawn, tools, depth);
+                let turn = self.begin_job(gate, begun, spawn, tools);
+                self.go_on(gate, turn, spawn, tools, depth);
             }
         }
     }
 
-    /// Ends a job that is over, and runs the jobs that may begin then.
+    /// Ends one segment after the other, while this worker has the last part of one, and then the job, and goes on with
+    /// a job that may begin then.
     #[cycle(over)]
-    fn finish<G: Gate, P: Spawn<TableTask<S, R>>>(
+    fn go_on<G: Gate, P: Spawn<TableTask<S, R>>>(
         &self,
         gate: &G,
-        over: Option<TableJobSeat<S, R>>,
+        first: TableTurn<S, R>,
         spawn: &mut P,
         tools: &mut TableTools<'_, S, R>,
         depth: usize,
-    ) {
-        let mut left = over;
+    )
+        requires { IfOk first (λ next. IfSome next (λ whole.
+            StandsWhole S.stands_for S.is_instead S.size_of whole.job.job whole.segment (λ x. x.found) whole.part)) }
+    {
+        let mut turn = first;
         for _ in 0..u64::MAX {
-            let Some(over) = left else {
-                break;
+            turn = match turn {
+                Ok(Some(whole)) => self.end_segment(gate, whole, spawn, tools),
+                Ok(None) => return,
+                Err(over) => match self.end_job(gate, over, spawn, tools, depth) {
+                    Some(next) => self.begin_job(gate, next, spawn, tools),
+                    None => return,
+                },
             };
-            let Some(next) = self.end_job(gate, over, spawn, tools, depth) else {
-                break;
-            };
-            left = self.run_job(gate, next, spawn, tools);
         }
     }
 
@@ -266,13 +267,10 @@ impl<'a, S: JobSegments, R: RunBrand> JobWork<'a, S, TablePart<S>, TableKept<S>,
         spawn: &mut P,
         tools: &mut TableTools<'_, S, R>,
     ) {
-        let over = match task {
-            Task::Begin(begun) => self.run_job(gate, begun, spawn, tools),
-            Task::Walk(side) => {
-                let whole = self.walk(gate, side, spawn, tools);
-                self.go_on(gate, whole, spawn, tools)
-            }
+        let turn = match task {
+            Task::Begin(begun) => self.begin_job(gate, begun, spawn, tools),
+            Task::Walk(side) => Ok(self.walk(gate, side, spawn, tools)),
         };
-        self.finish(gate, over, spawn, tools, self.starts.len());
+        self.go_on(gate, turn, spawn, tools, self.starts.len());
     }
 }

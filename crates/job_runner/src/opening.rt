@@ -9,7 +9,6 @@ ghost use Rattle.job_runner.specs.Tasks.{CanArrive};
 
 use crate::NoMemory;
 use crate::arming::arm_all;
-use crate::credit::split_spare;
 use crate::cut::{CutPiece, TableCounts, TableKept, TablePart, TableSeat};
 use crate::nodes::{most_positions, node_count, segment_count};
 use crate::segments::JobSegments;
@@ -60,10 +59,16 @@ impl<S: JobSegments> FreshCounts<S, TablePart<S>, TableKept<S>> {
     {
         let longest = most_positions(jobs, settings);
         let nodes = node_count(jobs, settings, longest);
-        let (stops, stop_seat) = stop_words(alloc, jobs)?;
-        let (counts, seat) = TableCounts::<S>::new(alloc, nodes, jobs.jobs() as u64)?;
-        let Some((seat, starts)) = arm_all(alloc, jobs, &counts, seat)? else {
-            return Ok(None);
+        let Ok((stops, stop_seat)) = stop_words(alloc, jobs) else {
+            return Err(NoMemory);
+        };
+        let Ok((counts, seat)) = TableCounts::<S>::new(alloc, nodes, jobs.jobs() as u64) else {
+            return Err(NoMemory);
+        };
+        let (seat, starts) = match arm_all(alloc, jobs, &counts, seat) {
+            Ok(Some(armed)) => armed,
+            Ok(None) => return Ok(None),
+            Err(refused) => return Err(refused),
         };
         Ok(Some(FreshCounts {
             counts,
@@ -151,99 +156,81 @@ impl<'a, S: JobSegments, R: RunBrand> JobWork<'a, S, TablePart<S>, TableKept<S>,
                 tasks.push(Task::Begin(begun))?;
             }
         }
-        let first = empty(self.alloc, self.jobs, unopened, spare, stop_seat);
-        let idles = idle_seats(
-            self.alloc,
-            self.jobs,
-            &self.counts,
-            &self.stops,
-            first,
-            workers,
-        )?;
-        Ok((tasks, idles))
+        let first = self.first_idle(unopened, spare, stop_seat);
+        match self.idle_seats(first, workers) {
+            Ok(idles) => Ok((tasks, idles)),
+            Err(refused) => Err(refused),
+        }
     }
 }
 
-/// The credit of all workers, once all jobs are opened.
-fn empty<S: JobSegments, R: RunBrand>(
-    alloc: Global,
-    jobs: &S,
-    unopened: TableUnopenedJobs<S, R>,
-    spare: TableSpare<S, R>,
-    stop_seat: CutSeat,
-) -> TableIdle<S, R>
-    requires stops { stop_table_of stop_seat ≡ R.stops }
-{
-    let UnopenedJobs { seat, jobs: _, of } = unopened;
-    Idle {
-        seat,
-        spare: Some(spare),
-        stop_seat,
-        scratch: jobs.scratch(alloc),
-        of,
-    }
-}
-
-/// This many `Idle`s, split off the first one, each with an equal part of its credit.
-fn idle_seats<S: JobSegments, R: RunBrand>(
-    alloc: Global,
-    jobs: &S,
-    counts: &TableCounts<S>,
-    stops: &RunStops<S>,
-    first: TableIdle<S, R>,
-    workers: u64,
-) -> Result<Vec<TableIdle<S, R>>, NoMemory>
-    requires table { table_id_of counts.now ≡ R.table }
-    requires stops { stop_id_of stops.now ≡ R.stops }
-    ensures { IfOk result (λ idles. length idles.items ≡ workers) }
-{
-    let mut idles = Vec::new(alloc);
-    let mut left = first;
-    for made in 0..workers {
-        let (rest, part) = idle_one(alloc, jobs, counts, stops, left, workers - made);
-        left = rest;
-        idles.push(part)?;
-    }
-    Ok(idles)
-}
-
-/// One `Idle` with one of that many equal parts of the credit, and the one that it was split off from.
-fn idle_one<S: JobSegments, R: RunBrand>(
-    alloc: Global,
-    jobs: &S,
-    counts: &TableCounts<S>,
-    stops: &RunStops<S>,
-    from: TableIdle<S, R>,
-    parts: u64,
-) -> (TableIdle<S, R>, TableIdle<S, R>)
-    requires parts { 0 < parts }
-    requires table { table_id_of counts.now ≡ R.table }
-    requires stops { stop_id_of stops.now ≡ R.stops }
-{
-    let Idle {
-        seat,
-        spare,
-        stop_seat,
-        scratch,
-        of,
-    } = from;
-    let (seat, part) = counts.split(seat, END, 0, 0);
-    let (spare, spare_part) = split_spare(counts, spare, parts);
-    let (stop_seat, stop_part) = stops.split(stop_seat);
-    (
+impl<'a, S: JobSegments, R: RunBrand> JobWork<'a, S, TablePart<S>, TableKept<S>, R> {
+    /// The credit of all workers, once all jobs are opened.
+    fn first_idle(
+        &self,
+        unopened: TableUnopenedJobs<S, R>,
+        spare: TableSpare<S, R>,
+        stop_seat: CutSeat,
+    ) -> TableIdle<S, R>
+        requires stops { stop_table_of stop_seat ≡ R.stops }
+    {
+        let UnopenedJobs { seat, jobs: _, of } = unopened;
         Idle {
+            seat,
+            spare: Some(spare),
+            stop_seat,
+            scratch: self.jobs.scratch(self.alloc),
+            of,
+        }
+    }
+
+    /// This many `Idle`s, split off the first one, each with an equal part of its credit.
+    fn idle_seats(
+        &self,
+        first: TableIdle<S, R>,
+        workers: u64,
+    ) -> Result<Vec<TableIdle<S, R>>, NoMemory>
+        ensures { IfOk result (λ idles. length idles.items ≡ workers) }
+    {
+        let mut idles = Vec::new(self.alloc);
+        let mut left = first;
+        for made in 0..workers {
+            let (rest, part) = self.idle_one(left, workers - made);
+            left = rest;
+            idles.push(part)?;
+        }
+        Ok(idles)
+    }
+
+    /// One `Idle` with one of that many equal parts of the credit, and the one that it was split off from.
+    fn idle_one(&self, from: TableIdle<S, R>, parts: u64) -> (TableIdle<S, R>, TableIdle<S, R>)
+        requires parts { 0 < parts }
+    {
+        let Idle {
             seat,
             spare,
             stop_seat,
             scratch,
             of,
-        },
-        Idle {
-            seat: part,
-            spare: spare_part,
-            stop_seat: stop_part,
-            scratch: jobs.scratch(alloc),
-            of: PhantomData,
-        },
-    )
+        } = from;
+        let (seat, part) = self.counts.split(seat, END, 0, 0);
+        let (spare, spare_part) = self.split_spare(spare, parts);
+        let (stop_seat, stop_part) = self.stops.split(stop_seat);
+        (
+            Idle {
+                seat,
+                spare,
+                stop_seat,
+                scratch,
+                of,
+            },
+            Idle {
+                seat: part,
+                spare: spare_part,
+                stop_seat: stop_part,
+                scratch: self.jobs.scratch(self.alloc),
+                of: PhantomData,
+            },
+        )
+    }
 }

@@ -1,12 +1,11 @@
 //! The part of a piece: walked, or left out.
-ghost use Rattle.std.specs.Prelude.{◌≡◌, ◌<◌, ◌≤◌, ℕ, IfOk};
-ghost use Rattle.early_stop.specs.Decisive.{Decides};
+ghost use Rattle.std.specs.Prelude.{◌≡◌, IfOk};
 ghost use Rattle.job_runner.specs.Cuts.{IsPiece};
 
 use crate::NoMemory;
 use crate::earlier::Earlier;
 use crate::piece::{Piece, SegmentInput};
-use crate::places::{hold_source, kept_given, source_in};
+use crate::places::{hold_source, kept_given};
 use crate::segments::JobSegments;
 use crate::task::RunBrand;
 use crate::tools::TableTools;
@@ -17,58 +16,32 @@ use worker_pool::Gate;
 fn walked<S: JobSegments, R: RunBrand>(
     work: &TableWork<S, R>,
     piece: Piece,
+    given: &S::Given,
     tools: &mut TableTools<'_, S, R>,
 ) -> Result<S::Part, NoMemory>
     requires watched { (tools.old.watch.job ≡ piece.job) × (tools.old.watch.segment ≡ piece.segment) }
     requires piece { IsPiece S.job_count S.last_of S.size_of piece.job piece.segment piece.from piece.to }
+    requires given { S.is_given piece.job given.now }
     ensures { IfOk result (λ part. S.stands_for piece.job piece.segment piece.from piece.to part) }
 {
-    let Some(given) = kept_given(&work.places, piece.job) else {
+    let Some(held) = hold_source(work.jobs, &work.places, piece.job, piece.segment) else {
         return Err(NoMemory);
     };
-    let earlier = Earlier::in_places(&work.places);
-    let scratch = &mut tools.scratch;
-    let watch = &mut tools.watch;
-    if piece.segment == 0 {
-        let first = Piece {
-            segment: 0,
-            ..piece
-        };
-        let input = SegmentInput {
-            source: &work.jobs.first_source(piece.job),
-            given,
-            earlier: &earlier,
-        };
-        return work.jobs.leaf(work.alloc, first, input, scratch, watch);
-    }
-    let Some(held) = hold_source(&work.places, piece.job, piece.segment) else {
-        return Err(NoMemory);
-    };
-    let Some(source) = source_in(&held, piece.job, piece.segment) else {
+    let Some(source) = held.source(piece.job, piece.segment) else {
         return Err(NoMemory);
     };
     let input = SegmentInput {
         source,
         given,
-        earlier: &earlier,
+        earlier: &Earlier::in_places(&work.places),
     };
-    work.jobs.leaf(work.alloc, piece, input, scratch, watch)
-}
-
-/// The part of a piece that isn't walked, since a place at or before its first position decides.
-fn left_out<S: JobSegments, R: RunBrand>(
-    work: &TableWork<S, R>,
-    piece: Piece,
-) -> Result<S::Part, NoMemory>
-    requires piece { IsPiece S.job_count S.last_of S.size_of piece.job piece.segment piece.from piece.to }
-    requires decided { (c : ℕ) × (c ≤ piece.from)
-        × Decides (S.gives piece.job piece.segment) (S.goes_over piece.job piece.segment) c }
-    ensures { IfOk result (λ part. S.stands_for piece.job piece.segment piece.from piece.to part) }
-{
-    match kept_given(&work.places, piece.job) {
-        Some(given) => Ok(work.jobs.left_out(work.alloc, piece, given)),
-        None => Err(NoMemory),
-    }
+    work.jobs.leaf(
+        work.alloc,
+        piece,
+        input,
+        &mut tools.scratch,
+        &mut tools.watch,
+    )
 }
 
 /// Enters the gate and walks a piece, unless a place at or before its first position decides what the segment gives:
@@ -83,11 +56,14 @@ pub(crate) fn part_of<S: JobSegments, R: RunBrand, G: Gate>(
     requires piece { IsPiece S.job_count S.last_of S.size_of piece.job piece.segment piece.from piece.to }
     ensures { IfOk result (λ part. S.stands_for piece.job piece.segment piece.from piece.to part) }
 {
+    let Some(given) = kept_given(&work.places, piece.job) else {
+        return Err(NoMemory);
+    };
     tools.watch.aim(piece.job, piece.segment);
     let seen = tools.watch.seen();
     if seen <= piece.from && seen != u64::MAX {
-        return left_out(work, piece);
+        return Ok(work.jobs.left_out(work.alloc, piece, given));
     }
     gate.at_leaf(piece.job, piece.from, piece.to);
-    walked(work, piece, tools)
+    walked(work, piece, given, tools)
 }

@@ -19,8 +19,30 @@ pub struct KeptSource<S: JobSegments> {
     ghost is: { S.is_source job segment source } by { S.one_source job segment source },
 }
 
-/// The place of a segment's source, while it is read.
-pub(crate) type HeldSource<'w, S> = RwLockReadGuard<'w, Option<KeptSource<S>>>;
+/// The source of a segment, while it is read.
+#[derive(Drop)]
+pub(crate) enum HeldSource<'w, S: JobSegments> {
+    /// The source of a job's first segment, which lies in no place.
+    First(KeptSource<S>),
+    /// A place, so that nobody empties it.
+    Place(RwLockReadGuard<'w, Option<KeptSource<S>>>),
+}
+
+impl<S: JobSegments> HeldSource<'_, S> {
+    /// The source of a segment, if it is held.
+    pub(crate) fn source(&self, job: usize, segment: usize) -> Option<&S::Source>
+        ensures { IfSome result (λ source. S.is_source job segment source.now) }
+    {
+        let held = match self {
+            HeldSource::First(kept) => Some(kept),
+            HeldSource::Place(place) => place.as_ref(),
+        };
+        match held {
+            Some(kept) if kept.job == job && kept.segment == segment => Some(&kept.source),
+            _ => None,
+        }
+    }
+}
 
 /// The inputs of a job from the answers that it names, with the number of the job.
 #[derive(Drop)]
@@ -132,8 +154,26 @@ fn source_place<S: JobSegments>(
     job: usize,
     segment: usize,
 ) -> Option<&RwLock<Option<KeptSource<S>>>> {
-    let before = segment.checked_sub(1)?;
-    places.get(job)?.sources.get(before)
+    match (places.get(job), segment.checked_sub(1)) {
+        (Some(of_job), Some(before)) => of_job.sources.get(before),
+        _ => None,
+    }
+}
+
+/// Leaves the source of a segment in its place, or empties it. If it has none, or a reader holds the place, nothing
+/// changes, and what was to be left is dropped.
+fn put_source<S: JobSegments>(
+    places: &[JobPlaces<S>],
+    job: usize,
+    segment: usize,
+    source: Option<KeptSource<S>>,
+) {
+    let Some(place) = source_place(places, job, segment) else {
+        return;
+    };
+    if let Some(mut held) = place.try_write() {
+        *held = source;
+    }
 }
 
 /// Leaves the source of a segment in its place. If it has none, or a reader holds the place, the source is dropped.
@@ -145,52 +185,41 @@ pub(crate) fn keep_source<S: JobSegments>(
 )
     requires { S.is_source job segment source }
 {
-    let Some(place) = source_place(places, job, segment) else {
-        return;
+    let kept = KeptSource {
+        job,
+        segment,
+        source,
+        of: PhantomData,
     };
-    if let Some(mut held) = place.try_write() {
-        *held = Some(KeptSource {
-            job,
-            segment,
-            source,
-            of: PhantomData,
-        });
-    }
+    put_source(places, job, segment, Some(kept));
 }
 
 /// Empties the place of a segment that has ended, and frees what lay there. If a reader holds the place, the source
 /// stays until the run ends.
 pub(crate) fn drop_source<S: JobSegments>(places: &[JobPlaces<S>], job: usize, segment: usize) {
-    let Some(place) = source_place(places, job, segment) else {
-        return;
-    };
-    if let Some(mut held) = place.try_write() {
-        *held = None;
-    }
+    put_source(places, job, segment, None);
 }
 
-/// Holds the place of a segment, so that nobody empties it. It doesn't wait.
-pub(crate) fn hold_source<S: JobSegments>(
-    places: &[JobPlaces<S>],
+/// Holds the source of a segment. It doesn't wait.
+pub(crate) fn hold_source<'w, S: JobSegments>(
+    jobs: &S,
+    places: &'w [JobPlaces<S>],
     job: usize,
     segment: usize,
-) -> Option<HeldSource<'_, S>> {
-    source_place(places, job, segment)?.try_read()
-}
-
-/// The source of a segment, if it lies in the place that is held.
-pub(crate) fn source_in<S: JobSegments>(
-    held: &Option<KeptSource<S>>,
-    job: usize,
-    segment: usize,
-) -> Option<&S::Source>
-    ensures { IfSome result (λ source. S.is_source job segment source.now) }
+) -> Option<HeldSource<'w, S>>
+    requires { job < S.job_count }
 {
-    let kept = held.as_ref()?;
-    if kept.job == job && kept.segment == segment {
-        Some(&kept.source)
-    } else {
-        None
+    if segment == 0 {
+        return Some(HeldSource::First(KeptSource {
+            job,
+            segment: 0,
+            source: jobs.first_source(job),
+            of: PhantomData,
+        }));
+    }
+    match source_place(places, job, segment)?.try_read() {
+        Some(place) => Some(HeldSource::Place(place)),
+        None => None,
     }
 }
 
@@ -211,11 +240,12 @@ pub(crate) fn keep_given<S: JobSegments>(places: &[JobPlaces<S>], job: usize, gi
 pub(crate) fn kept_given<S: JobSegments>(places: &[JobPlaces<S>], job: usize) -> Option<&S::Given>
     ensures { IfSome result (λ given. S.is_given job given.now) }
 {
-    let kept = places.get(job)?.given.get()?;
-    if kept.job == job {
-        Some(&kept.given)
-    } else {
-        None
+    let Some(of_job) = places.get(job) else {
+        return None;
+    };
+    match of_job.given.get() {
+        Some(kept) if kept.job == job => Some(&kept.given),
+        _ => None,
     }
 }
 
@@ -229,13 +259,16 @@ pub(crate) fn size_of<S: JobSegments>(
     requires known { (job < S.job_count) × (segment ≤ S.last_of job) }
     ensures { IfSome result (λ size. size ≡ S.size_of job segment) }
 {
-    let given = kept_given(places, job)?;
-    if segment == 0 {
-        return Some(jobs.size(job, 0, &jobs.first_source(job), given));
+    let Some(given) = kept_given(places, job) else {
+        return None;
+    };
+    let Some(held) = hold_source(jobs, places, job, segment) else {
+        return None;
+    };
+    match held.source(job, segment) {
+        Some(source) => Some(jobs.size(job, segment, source, given)),
+        None => None,
     }
-    let held = hold_source(places, job, segment)?;
-    let source = source_in(&held, job, segment)?;
-    Some(jobs.size(job, segment, source, given))
 }
 
 /// Leaves the answer of a job in its place, and calls the gate.
@@ -261,11 +294,12 @@ pub(crate) fn keep_answer<S: JobSegments, G: Gate>(
 pub(crate) fn kept_answer<S: JobSegments>(places: &[JobPlaces<S>], job: usize) -> Option<&S::Answer>
     ensures { IfSome result (λ answer. S.is_answer job answer.now) }
 {
-    let kept = places.get(job)?.answer.get()?;
-    if kept.job == job {
-        Some(&kept.answer)
-    } else {
-        None
+    let Some(of_job) = places.get(job) else {
+        return None;
+    };
+    match of_job.answer.get() {
+        Some(kept) if kept.job == job => Some(&kept.answer),
+        _ => None,
     }
 }
 
@@ -280,11 +314,8 @@ pub(crate) fn answer_in<S: JobSegments>(places: JobPlaces<S>, job: usize) -> Opt
         sources: _,
         answer,
     } = places;
-    let kept = answer.into_inner()?;
-    let KeptAnswer {
-        job: kept_job,
-        answer,
-        of: _,
-    } = kept;
-    if kept_job == job { Some(answer) } else { None }
+    match answer.into_inner() {
+        Some(kept) if kept.job == job => Some(kept.answer),
+        _ => None,
+    }
 }

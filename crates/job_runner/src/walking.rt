@@ -1,5 +1,5 @@
 //! Pieces: cut in two while they are long, and walked.
-ghost use Rattle.std.specs.Prelude.{◌≡◌, ◌+◌, ◌<◌, ◌≤◌, ℕ, Some, IfErr, IfOk, IfSome};
+ghost use Rattle.std.specs.Prelude.{◌≡◌, ◌+◌, ◌<◌, ◌≤◌, IfErr, IfOk, IfSome};
 ghost use Rattle.trace.specs.declared.item.Fault.{Fault};
 ghost use Rattle.job_runner.specs.Cuts.{HandedIn, IfMerged, IsPiece, StandsWhole, begins, ends_at, positions_at};
 
@@ -22,25 +22,6 @@ use std::marker::PhantomData;
 use trace::Fault;
 use worker_pool::{Gate, Spawn};
 
-/// The fault that ends a piece, if the job gives an answer in its place.
-fn fault_of<S: JobSegments, R: RunBrand>(
-    work: &TableWork<S, R>,
-    piece: Piece,
-    part: &S::Part,
-) -> Result<Option<Fault>, NoMemory>
-    requires piece { IsPiece S.job_count S.last_of S.size_of piece.job piece.segment piece.from piece.to }
-    requires part { S.stands_for piece.job piece.segment piece.from piece.to part.now }
-    ensures among { IfOk result (λ found. IfSome found
-        (λ fault. S.faults_with piece.job piece.segment piece.from piece.to fault)) }
-    ensures caught { IfOk result (λ found. (fault : Fault) → S.is_caught piece.job piece.segment part.now fault
-        → found ≡ Some fault) }
-{
-    match kept_given(&work.places, piece.job) {
-        Some(given) => Ok(work.jobs.fault(piece, given, part)),
-        None => Err(NoMemory),
-    }
-}
-
 /// Walks a piece. What is handed in for it: its part, or the fault that ends it, if the job gives an answer in its
 /// place.
 fn handed<S: JobSegments, R: RunBrand, G: Gate>(
@@ -58,10 +39,12 @@ fn handed<S: JobSegments, R: RunBrand, G: Gate>(
     let Ok(part) = part_of(work, gate, piece, tools) else {
         return Err(Failure::NoMemory);
     };
-    match fault_of(work, piece, &part) {
-        Ok(Some(fault)) => Err(Failure::Fault(fault)),
-        Ok(None) => Ok(SegmentPart::of_part(part)),
-        Err(_refused) => Err(Failure::NoMemory),
+    let Some(given) = kept_given(&work.places, piece.job) else {
+        return Err(Failure::NoMemory);
+    };
+    match work.jobs.fault(piece, given, &part) {
+        Some(fault) => Err(Failure::Fault(fault)),
+        None => Ok(SegmentPart::of_part(part)),
     }
 }
 
@@ -84,7 +67,9 @@ fn leaf<S: JobSegments, R: RunBrand, G: Gate>(
     let watch = &mut tools.watch;
     watch.aim(cut.job, cut.segment);
     let (seat, found) = tree.try_complete_with(seat, Some(place), value, watch);
-    let part = found?;
+    let Some(part) = found else {
+        return None;
+    };
     let begun = JobSeat {
         seat,
         job: cut.job,

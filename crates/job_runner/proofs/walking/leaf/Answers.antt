@@ -9,6 +9,6 @@ invariant_of-begun g c =
     let side = c.args.side in
     let p = side.half.place in
     record {
-      has = kept_back p.tag.job side.half.seat t.result.0 p side.piece.known (t.ensures.seat.0 ∙ side.can.can_hand.table) side.can.can_hand side.top side.knows (at_some _ t.result.1 t.ensures.kept c.in_ok-part.part c.in_ok-part.was);
+      has = kept_back p.tag.job side.half.seat t.result.0 p side.piece.known (t.ensures.seat.0 ∙ side.can.can_hand.table) side.can.can_hand side.top side.knows (at_some _ t.result.1 t.ensures.kept c.in-Some.part c.in-Some.is);
       known = side.piece.known;
     }

@@ -1,6 +1,0 @@
-use Rattle.std.proofs.Common.{IfSome}
-use Rattle.job_runner.specs.Cuts.{StandsWhole}
-use Rattle.job_runner.proofs.ending.JobWork+S+TablePart+S+TableKept+S+R.go_on.Given as goal
-
-abbrev pub invariant-loop : goal.invariant-loop
-invariant-loop g l = IfSome l.left (λ whole. StandsWhole g.S.JobSegments.stands_for g.S.JobSegments.is_instead g.S.JobSegments.size_of whole.job.job whole.segment (λ x. x.found) whole.part)
