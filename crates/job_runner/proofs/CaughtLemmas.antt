@@ -1,4 +1,4 @@
--- Parts, faults and answers as they are handed in, and where they go.
+-- Parts and faults as they are handed in, and where they go.
 use Rattle.std.proofs.Common.{◌≡◌, ◌≢◌, ℕ, ◌<◌, ◌≤◌, Bool, true, false, Option, Some, None, Result, Ok, Err, subst, sym, refl, ◌∙◌, arith}
 use Rattle.trace.specs.declared.item.Fault.{Fault}
 use Rattle.pending_count.specs.declared.place.Side.{Side}
@@ -10,28 +10,28 @@ use Rattle.completer_tree.specs.Places.{Goes, IsLeftmost}
 use Rattle.job_runner.specs.declared.cut.CutPiece.{CutPiece}
 use Rattle.job_runner.specs.declared.cut.Merged.{Merged}
 use Rattle.job_runner.specs.declared.cut.Merged.TheVariants.{Part, Caught}
-use Rattle.job_runner.specs.Cuts.{Fits, HandedIn, IfMerged, IsInstead, IsSideOf, StandsWhole, begins, ends_at}
+use Rattle.job_runner.specs.Cuts.{Fits, HandedIn, IfMerged, IsSideOf, StandsWhole, begins, ends_at}
 
 -- a fact by other names for job, segment and positions
 pub moved : (P : ℕ → ℕ → ℕ → ℕ → Type 0) {j j' k k' a a' b b' : ℕ} → j ≡ j' → k ≡ k' → a ≡ a' → b ≡ b' → P j k a b → P j' k' a' b'
 moved P {j} {j'} {k} {k'} {a} {a'} {b} {b'} ej ek ea eb h =
     subst (λ z. P z k' a' b') ej (subst (λ z. P j z a' b') ek (subst (λ z. P j k z b') ea (subst (λ z. P j k a z) eb h)))
 
-module _ {A B X : Type 0} (stands : ℕ → ℕ → ℕ → ℕ → A → Type 0) (faults : ℕ → ℕ → ℕ → ℕ → Fault → Type 0) (answers : ℕ → B → Type 0) (found : X → Merged A B) where
+module _ {A X : Type 0} (stands : ℕ → ℕ → ℕ → ℕ → A → Type 0) (faults : ℕ → ℕ → ℕ → ℕ → Fault → Type 0) (found : X → Merged A) where
   -- at a side of a cut
-  pub side_handed : (cut : CutPiece) (side : Side) (v : Result X Failure) → side ≢ Whole → Fits stands faults answers found cut side v → HandedIn stands faults found cut.job cut.segment (begins cut side) (ends_at cut side) v
+  pub side_handed : (cut : CutPiece) (side : Side) (v : Result X Failure) → side ≢ Whole → Fits stands faults found cut side v → HandedIn stands faults found cut.job cut.segment (begins cut side) (ends_at cut side) v
   side_handed cut Left v some h = h
   side_handed cut Right v some h = h
   side_handed cut Whole v some h = absurd (some refl)
 
-  pub handed_side : (cut : CutPiece) (side : Side) (v : Result X Failure) → side ≢ Whole → HandedIn stands faults found cut.job cut.segment (begins cut side) (ends_at cut side) v → Fits stands faults answers found cut side v
+  pub handed_side : (cut : CutPiece) (side : Side) (v : Result X Failure) → side ≢ Whole → HandedIn stands faults found cut.job cut.segment (begins cut side) (ends_at cut side) v → Fits stands faults found cut side v
   handed_side cut Left v some h = h
   handed_side cut Right v some h = h
   handed_side cut Whole v some h = absurd (some refl)
 
   -- what a part or a fault that is handed in says
   pub handed_part : (job segment from to : ℕ) (v : Result X Failure) (x : X) (p : A) → v ≡ Ok x → found x ≡ Part p → HandedIn stands faults found job segment from to v → stands job segment from to p
-  handed_part job segment from to v x p is part h = subst (IfMerged (stands job segment from to) (λ a. ⊥)) part (subst (HandedIn stands faults found job segment from to) is h)
+  handed_part job segment from to v x p is part h = subst (IfMerged (stands job segment from to) ⊥) part (subst (HandedIn stands faults found job segment from to) is h)
 
   pub handed_fault : (job segment from to : ℕ) (v : Result X Failure) (f : Fault) → v ≡ Err (failure.Fault f) → HandedIn stands faults found job segment from to v → faults job segment from to f
   handed_fault job segment from to v f is h = subst (HandedIn stands faults found job segment from to) is h
@@ -39,53 +39,53 @@ module _ {A B X : Type 0} (stands : ℕ → ℕ → ℕ → ℕ → A → Type 0
   pub handed_failure : (job segment from to : ℕ) (v : Result X Failure) (e : Failure) (f : Fault) → v ≡ Err e → e ≡ failure.Fault f → HandedIn stands faults found job segment from to v → faults job segment from to f
   handed_failure job segment from to v e f is fault h = subst (λ (d : Failure). HandedIn stands faults found job segment from to (Err d)) fault (subst (HandedIn stands faults found job segment from to) is h)
 
-  pub no_answer_handed : (job segment from to : ℕ) (v : Result X Failure) (x : X) (a : B) → v ≡ Ok x → found x ≡ Caught a → HandedIn stands faults found job segment from to v → ⊥
-  no_answer_handed job segment from to v x a is caught h = subst (IfMerged (stands job segment from to) (λ a. ⊥)) caught (subst (HandedIn stands faults found job segment from to) is h)
+  pub none_caught : (job segment from to : ℕ) (v : Result X Failure) (x : X) → v ≡ Ok x → found x ≡ Caught → HandedIn stands faults found job segment from to v → ⊥
+  none_caught job segment from to v x is caught h = subst (IfMerged (stands job segment from to) ⊥) caught (subst (HandedIn stands faults found job segment from to) is h)
 
   -- and what is handed in for them
   pub part_handed : (job segment from to : ℕ) (x : X) (p : A) → found x ≡ Part p → stands job segment from to p → HandedIn stands faults found job segment from to (Ok x)
-  part_handed job segment from to x p part h = subst (IfMerged (stands job segment from to) (λ a. ⊥)) (sym part) h
+  part_handed job segment from to x p part h = subst (IfMerged (stands job segment from to) ⊥) (sym part) h
 
   -- of a whole segment
-  pub whole_part : (size : ℕ → ℕ → ℕ) (job segment : ℕ) (v : Result X Failure) (x : X) (p : A) → v ≡ Ok x → found x ≡ Part p → StandsWhole stands answers size job segment found v → stands job segment 0 (size job segment) p
-  whole_part size job segment v x p is part h = subst (IfMerged (stands job segment 0 (size job segment)) (answers job)) part (subst (StandsWhole stands answers size job segment found) is h)
+  pub whole_part : (size : ℕ → ℕ → ℕ) (job segment : ℕ) (v : Result X Failure) (x : X) (p : A) → v ≡ Ok x → found x ≡ Part p → StandsWhole stands faults size job segment found v → stands job segment 0 (size job segment) p
+  whole_part size job segment v x p is part h = subst (IfMerged (stands job segment 0 (size job segment)) ((f : Fault) × faults job segment 0 (size job segment) f)) part (subst (StandsWhole stands faults size job segment found) is h)
 
-  pub whole_answer : (size : ℕ → ℕ → ℕ) (job segment : ℕ) (v : Result X Failure) (x : X) (a : B) → v ≡ Ok x → found x ≡ Caught a → StandsWhole stands answers size job segment found v → answers job a
-  whole_answer size job segment v x a is caught h = subst (IfMerged (stands job segment 0 (size job segment)) (answers job)) caught (subst (StandsWhole stands answers size job segment found) is h)
+  pub whole_caught : (size : ℕ → ℕ → ℕ) (job segment : ℕ) (v : Result X Failure) (x : X) → v ≡ Ok x → found x ≡ Caught → StandsWhole stands faults size job segment found v → (f : Fault) × faults job segment 0 (size job segment) f
+  whole_caught size job segment v x is caught h = subst (IfMerged (stands job segment 0 (size job segment)) ((f : Fault) × faults job segment 0 (size job segment) f)) caught (subst (StandsWhole stands faults size job segment found) is h)
 
-  pub part_whole : (size : ℕ → ℕ → ℕ) (job segment n : ℕ) (x : X) (p : A) → found x ≡ Part p → n ≡ size job segment → stands job segment 0 n p → StandsWhole stands answers size job segment found (Ok x)
-  part_whole size job segment n x p part e h = subst (IfMerged (stands job segment 0 (size job segment)) (answers job)) (sym part) (subst (λ z. stands job segment 0 z p) e h)
+  pub part_whole : (size : ℕ → ℕ → ℕ) (job segment n : ℕ) (x : X) (p : A) → found x ≡ Part p → n ≡ size job segment → stands job segment 0 n p → StandsWhole stands faults size job segment found (Ok x)
+  part_whole size job segment n x p part e h = subst (IfMerged (stands job segment 0 (size job segment)) ((f : Fault) × faults job segment 0 (size job segment) f)) (sym part) (subst (λ z. stands job segment 0 z p) e h)
 
   -- ---- where the answer of a node goes
 
-  goes_side : (cut : CutPiece) (p : CutPiece × Bool) (v : Result X Failure) → IsSideOf cut p → HandedIn stands faults found cut.job cut.segment cut.from cut.to v → Fits stands faults answers found p.0 (side_of p.1) v
+  goes_side : (cut : CutPiece) (p : CutPiece × Bool) (v : Result X Failure) → IsSideOf cut p → HandedIn stands faults found cut.job cut.segment cut.from cut.to v → Fits stands faults found p.0 (side_of p.1) v
   goes_side cut (q, true) v s h = moved (λ j k a b. HandedIn stands faults found j k a b v) (sym s.0) (sym s.1) (sym s.2) (sym s.3) h
   goes_side cut (q, false) v s h = moved (λ j k a b. HandedIn stands faults found j k a b v) (sym s.0) (sym s.1) (sym s.2) (sym s.3) h
 
   -- a merged part
   pub part_goes : (cut : CutPiece) (parent : Option (CutPiece × Bool)) (x : X) (p : A) → found x ≡ Part p → ((q : CutPiece × Bool) → parent ≡ Some q → IsSideOf cut q) → stands cut.job cut.segment cut.from cut.to p
-      → Goes {T = CutPiece} {V = X} {F = Failure} (λ c side v. Fits stands faults answers found c side v) cut parent (Ok x)
-  part_goes cut None x p part side h = subst (IfMerged (stands cut.job cut.segment cut.from cut.to) (answers cut.job)) (sym part) h
+      → Goes {T = CutPiece} {V = X} {F = Failure} (λ c side v. Fits stands faults found c side v) cut parent (Ok x)
+  part_goes cut None x p part side h = subst (IfMerged (stands cut.job cut.segment cut.from cut.to) ((f : Fault) × faults cut.job cut.segment cut.from cut.to f)) (sym part) h
   part_goes cut (Some q) x p part side h = goes_side cut q (Ok x) (side q refl) (part_handed cut.job cut.segment cut.from cut.to x p part h)
 
   -- a fault below the top
   pub fault_goes : (cut : CutPiece) (parent : Option (CutPiece × Bool)) (f : Fault) → (parent ≡ None → ⊥) → ((q : CutPiece × Bool) → parent ≡ Some q → IsSideOf cut q) → faults cut.job cut.segment cut.from cut.to f
-      → Goes {T = CutPiece} {V = X} {F = Failure} (λ c side v. Fits stands faults answers found c side v) cut parent (Err (failure.Fault f))
+      → Goes {T = CutPiece} {V = X} {F = Failure} (λ c side v. Fits stands faults found c side v) cut parent (Err (failure.Fault f))
   fault_goes cut None f some side h = absurd (some refl)
   fault_goes cut (Some q) f some side h = goes_side cut q (Err (failure.Fault f)) (side q refl) h
 
   -- a refused allocation
-  pub nothing_goes : (cut : CutPiece) (parent : Option (CutPiece × Bool)) → Goes {T = CutPiece} {V = X} {F = Failure} (λ c side v. Fits stands faults answers found c side v) cut parent (Err failure.NoMemory)
+  pub nothing_goes : (cut : CutPiece) (parent : Option (CutPiece × Bool)) → Goes {T = CutPiece} {V = X} {F = Failure} (λ c side v. Fits stands faults found c side v) cut parent (Err failure.NoMemory)
   nothing_goes cut None = tt
   nothing_goes cut (Some (q, true)) = tt
   nothing_goes cut (Some (q, false)) = tt
 
-  -- at the top, the answer that the job gives after a fault
-  pub answer_goes : (cut : CutPiece) (parent : Option (CutPiece × Bool)) (x : X) (a : B) → found x ≡ Caught a → parent ≡ None → answers cut.job a
-      → Goes {T = CutPiece} {V = X} {F = Failure} (λ c side v. Fits stands faults answers found c side v) cut parent (Ok x)
-  answer_goes cut parent x a caught top h =
-      subst (λ (o : Option (CutPiece × Bool)). Goes {T = CutPiece} {V = X} {F = Failure} (λ c side v. Fits stands faults answers found c side v) cut o (Ok x)) (sym top)
-      (subst (IfMerged (stands cut.job cut.segment cut.from cut.to) (answers cut.job)) (sym caught) h)
+  -- at the top, a caught fault
+  pub caught_goes : (cut : CutPiece) (parent : Option (CutPiece × Bool)) (x : X) → found x ≡ Caught → parent ≡ None → (f : Fault) × faults cut.job cut.segment cut.from cut.to f
+      → Goes {T = CutPiece} {V = X} {F = Failure} (λ c side v. Fits stands faults found c side v) cut parent (Ok x)
+  caught_goes cut parent x caught top h =
+      subst (λ (o : Option (CutPiece × Bool)). Goes {T = CutPiece} {V = X} {F = Failure} (λ c side v. Fits stands faults found c side v) cut o (Ok x)) (sym top)
+      (subst (IfMerged (stands cut.job cut.segment cut.from cut.to) ((f : Fault) × faults cut.job cut.segment cut.from cut.to f)) (sym caught) h)
 
   -- ---- the leftmost fault of two sides is one among the positions of both
 
@@ -94,7 +94,7 @@ module _ {A B X : Type 0} (stands : ℕ → ℕ → ℕ → ℕ → A → Type 0
 
   pub leftmost_fault : ((job segment from to : ℕ) (f : Fault) (a b : ℕ) → a ≤ from → to ≤ b → faults job segment from to f → faults job segment a b f)
       → (cut : CutPiece) (e : Failure) (f : Fault) → e ≡ failure.Fault f → (cut.from < cut.middle) × (cut.middle < cut.to)
-      → IsLeftmost {T = CutPiece} {V = X} {F = Failure} (λ c side v. Fits stands faults answers found c side v) cut e → faults cut.job cut.segment cut.from cut.to f
+      → IsLeftmost {T = CutPiece} {V = X} {F = Failure} (λ c side v. Fits stands faults found c side v) cut e → faults cut.job cut.segment cut.from cut.to f
   leftmost_fault among cut e f is within (Err d, r, first, l, k) =
       let w = within.0 in let u = within.1 in
       among cut.job cut.segment cut.from cut.middle f cut.from cut.to (omega arith) (omega arith)
@@ -104,14 +104,3 @@ module _ {A B X : Type 0} (stands : ℕ → ℕ → ℕ → ℕ → A → Type 0
       among cut.job cut.segment cut.middle cut.to f cut.from cut.to (omega arith) (omega arith)
       (handed_fault cut.job cut.segment cut.middle cut.to (Err d) f (λ i. Err ((some_same d e first ∙ is) i)) k)
   leftmost_fault among cut e f is within (Ok a, Ok b, first, l, k) = absurd (let z : None ≡ Some e = first in cc)
-
--- ---- what the job gives after a fault
-
-module _ {B : Type 0} (faults : ℕ → ℕ → ℕ → ℕ → Fault → Type 0) (answers : ℕ → B → Type 0) where
-  pub instead_answers : (size : ℕ → ℕ → ℕ) (job segment from to : ℕ) (o : Option B) (a : B) (f : Fault) → o ≡ Some a → from ≡ 0 → to ≡ size job segment → IsInstead faults size answers job o → faults job segment from to f → answers job a
-  instead_answers size job segment from to o a f is first last h among =
-      (subst (IsInstead faults size answers job) is h) segment f (moved (λ j k a b. faults j k a b f) refl refl first last among)
-
-  pub instead_there : (size : ℕ → ℕ → ℕ) (job segment from to : ℕ) (o : Option B) (f : Fault) → o ≡ None → from ≡ 0 → to ≡ size job segment → IsInstead faults size answers job o → faults job segment from to f → ⊥
-  instead_there size job segment from to o f is first last h among =
-      (subst (IsInstead faults size answers job) is h) segment f (moved (λ j k a b. faults j k a b f) refl refl first last among)

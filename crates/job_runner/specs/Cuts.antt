@@ -1,5 +1,5 @@
 -- Condition: which positions belong to a side of a cut, and which pieces a run has.
-use Rattle.std.specs.Prelude.{◌≡◌, ℕ, ◌-◌, ◌<◌, ◌≤◌, Bool, Option, Some, None, Result, Ok, Err, ⊤}
+use Rattle.std.specs.Prelude.{◌≡◌, ℕ, ◌-◌, ◌<◌, ◌≤◌, Bool, Result, Ok, Err, ⊤}
 use Rattle.trace.specs.declared.item.Fault.{Fault}
 use Rattle.completer_tree.specs.declared.part.Failure.{Failure}
 use Rattle.completer_tree.specs.declared.part.Failure.TheVariants as failure
@@ -37,10 +37,10 @@ pub record IsPiece (jobs : ℕ) (last : ℕ → ℕ) (size : ℕ → ℕ → ℕ
   pub ordered : from ≤ to
   pub within : to ≤ size job segment
 
--- of what comes of pieces: this holds if it is a part, and this if it is an answer
-abbrev pub IfMerged : {A B : Type 0} → (A → Type 0) → (B → Type 0) → Merged A B → Type 0
-IfMerged stands answers (Part p) = stands p
-IfMerged stands answers (Caught a) = answers a
+-- of what comes of pieces: this holds if it is a part, and this if a fault was caught
+abbrev pub IfMerged : {A : Type 0} → (A → Type 0) → Type 0 → Merged A → Type 0
+IfMerged stands caught (Part p) = stands p
+IfMerged stands caught Caught = caught
 
 -- of what is handed in: this holds if it is a value, and this if it is a fault; a refused allocation says nothing
 abbrev pub IfHanded : {X : Type 0} → (X → Type 0) → (Fault → Type 0) → Result X Failure → Type 0
@@ -50,24 +50,19 @@ IfHanded value faults (Err failure.NoMemory) = ⊤
 
 -- what is handed in at a side of a cut: the part of these positions, a fault among them that the job catches, or
 -- nothing
-abbrev pub HandedIn : {A B X : Type 0} → (ℕ → ℕ → ℕ → ℕ → A → Type 0) → (ℕ → ℕ → ℕ → ℕ → Fault → Type 0) → (X → Merged A B) → ℕ → ℕ → ℕ → ℕ → Result X Failure → Type 0
-HandedIn stands faults found job segment from to v = IfHanded (λ x. IfMerged (stands job segment from to) (λ a. ⊥) (found x)) (faults job segment from to) v
+abbrev pub HandedIn : {A X : Type 0} → (ℕ → ℕ → ℕ → ℕ → A → Type 0) → (ℕ → ℕ → ℕ → ℕ → Fault → Type 0) → (X → Merged A) → ℕ → ℕ → ℕ → ℕ → Result X Failure → Type 0
+HandedIn stands faults found job segment from to v = IfHanded (λ x. IfMerged (stands job segment from to) ⊥ (found x)) (faults job segment from to) v
 
--- what comes of all pieces between these positions: their part, the answer of the job, or nothing; no fault goes on
-abbrev pub ComesOf : {A B X : Type 0} → (ℕ → ℕ → ℕ → ℕ → A → Type 0) → (ℕ → B → Type 0) → (X → Merged A B) → ℕ → ℕ → ℕ → ℕ → Result X Failure → Type 0
-ComesOf stands answers found job segment from to v = IfHanded (λ x. IfMerged (stands job segment from to) (answers job) (found x)) (λ f. ⊥) v
+-- what comes of all pieces between these positions: their part, a caught fault, or nothing; no fault goes on
+abbrev pub ComesOf : {A X : Type 0} → (ℕ → ℕ → ℕ → ℕ → A → Type 0) → (ℕ → ℕ → ℕ → ℕ → Fault → Type 0) → (X → Merged A) → ℕ → ℕ → ℕ → ℕ → Result X Failure → Type 0
+ComesOf stands faults found job segment from to v = IfHanded (λ x. IfMerged (stands job segment from to) ((f : Fault) × faults job segment from to f) (found x)) (λ f. ⊥) v
 
 -- what is handed in at a side of a cut, or comes of both sides
-abbrev pub Fits : {A B X : Type 0} → (ℕ → ℕ → ℕ → ℕ → A → Type 0) → (ℕ → ℕ → ℕ → ℕ → Fault → Type 0) → (ℕ → B → Type 0) → (X → Merged A B) → CutPiece → Side → Result X Failure → Type 0
-Fits stands faults answers found cut Left v = HandedIn stands faults found cut.job cut.segment cut.from cut.middle v
-Fits stands faults answers found cut Right v = HandedIn stands faults found cut.job cut.segment cut.middle cut.to v
-Fits stands faults answers found cut Whole v = ComesOf stands answers found cut.job cut.segment cut.from cut.to v
+abbrev pub Fits : {A X : Type 0} → (ℕ → ℕ → ℕ → ℕ → A → Type 0) → (ℕ → ℕ → ℕ → ℕ → Fault → Type 0) → (X → Merged A) → CutPiece → Side → Result X Failure → Type 0
+Fits stands faults found cut Left v = HandedIn stands faults found cut.job cut.segment cut.from cut.middle v
+Fits stands faults found cut Right v = HandedIn stands faults found cut.job cut.segment cut.middle cut.to v
+Fits stands faults found cut Whole v = ComesOf stands faults found cut.job cut.segment cut.from cut.to v
 
--- what comes of a whole segment: its part, the answer of the job, or nothing
-abbrev pub StandsWhole : {A B X : Type 0} → (ℕ → ℕ → ℕ → ℕ → A → Type 0) → (ℕ → B → Type 0) → (ℕ → ℕ → ℕ) → ℕ → ℕ → (X → Merged A B) → Result X Failure → Type 0
-StandsWhole stands answers size job segment found v = ComesOf stands answers found job segment 0 (size job segment) v
-
--- a job with a fault that it catches has this answer; without one, it catches no fault
-abbrev pub IsInstead : {B : Type 0} → (ℕ → ℕ → ℕ → ℕ → Fault → Type 0) → (ℕ → ℕ → ℕ) → (ℕ → B → Type 0) → ℕ → Option B → Type 0
-IsInstead faults size answers job (Some a) = (segment : ℕ) (f : Fault) → faults job segment 0 (size job segment) f → answers job a
-IsInstead faults size answers job None = (segment : ℕ) (f : Fault) → faults job segment 0 (size job segment) f → ⊥
+-- what comes of a whole segment: its part, a caught fault, or nothing
+abbrev pub StandsWhole : {A X : Type 0} → (ℕ → ℕ → ℕ → ℕ → A → Type 0) → (ℕ → ℕ → ℕ → ℕ → Fault → Type 0) → (ℕ → ℕ → ℕ) → ℕ → ℕ → (X → Merged A) → Result X Failure → Type 0
+StandsWhole stands faults size job segment found v = ComesOf stands faults found job segment 0 (size job segment) v

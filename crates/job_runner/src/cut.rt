@@ -3,8 +3,8 @@ ghost use Rattle.std.specs.Prelude.{◌≡◌, ◌≢◌, ◌+◌, ◌-◌, ◌<
 ghost use Rattle.trace.specs.declared.item.Fault.{Fault};
 ghost use Rattle.pending_count.specs.Pairs.{side_of};
 ghost use Rattle.pending_count.specs.declared.place.Side.TheVariants.{Whole};
-ghost use Rattle.job_runner.specs.Cuts.{begins, ends_at, Fits, IsInstead, IsPiece, IsSideOf, StandsWhole};
-ghost use Rattle.job_runner.specs.CutLaws.{one_instead, stands_moved, stands_whole};
+ghost use Rattle.job_runner.specs.Cuts.{begins, ends_at, Fits, IsPiece, IsSideOf, StandsWhole};
+ghost use Rattle.job_runner.specs.CutLaws.{stands_moved, stands_whole};
 
 use crate::piece::Piece;
 use crate::segments::JobSegments;
@@ -79,17 +79,17 @@ pub(crate) fn side_at(place: &Place<CutPiece>) -> Piece
 
 /// What comes of pieces that were merged.
 #[derive(Drop)]
-pub enum Merged<P, I> {
+pub enum Merged<P> {
     /// The part that they were merged to.
     Part(P),
-    /// At the top of a tree whose pieces have a fault: what the job gives instead of the fault.
-    Caught(I),
+    /// At the top of a tree: a piece has a fault, and the job gives another answer after it.
+    Caught,
 }
 
 /// A part as completion trees see it.
 #[derive(Drop)]
 pub struct SegmentPart<S: JobSegments> {
-    pub(crate) found: Merged<S::Part, S::Instead>,
+    pub(crate) found: Merged<S::Part>,
     pub(crate) of: PhantomData<S>,
 }
 
@@ -108,26 +108,22 @@ impl<S: JobSegments> SegmentPart<S> {
 impl<S: JobSegments> PartValue for SegmentPart<S> {
     type Tag = CutPiece;
 
-    ghost fits = { λ cut side v. Fits S.stands_for S.faults_with S.is_instead (λ x. x.found) cut side v };
+    ghost fits = { λ cut side v. Fits S.stands_for S.faults_with (λ x. x.found) cut side v };
 
-    ghost result = { λ cut v. StandsWhole S.stands_for S.is_instead S.size_of cut.job cut.segment (λ x. x.found) v };
+    ghost result = { λ cut v. StandsWhole S.stands_for S.faults_with S.size_of cut.job cut.segment (λ x. x.found) v };
 }
 
-/// Merges the parts of the two sides of a cut. A fault on a side goes on to the parent; at the top of a tree it becomes
-/// what the job gives after a fault.
+/// Merges the parts of the two sides of a cut. A fault on a side goes on to the parent; at the top of a tree it is
+/// caught.
 #[derive(Drop)]
 pub struct Join<S: JobSegments> {
     pub(crate) cut: CutPiece,
     pub(crate) parent: Option<(CutPiece, bool)>,
-    /// At the top of a tree, what the job gives after a fault, if anything.
-    pub(crate) instead: Option<S::Instead>,
     pub(crate) of: PhantomData<S>,
     ghost piece: { IsPiece S.job_count S.last_of S.size_of cut.job cut.segment cut.from cut.to },
     ghost within: { (cut.from < cut.middle) × (cut.middle < cut.to) },
     ghost side: { (p : _) → parent ≡ Some p → IsSideOf cut p },
     ghost top: { parent ≡ None → (cut.from ≡ 0) × (cut.to ≡ S.size_of cut.job cut.segment) },
-    ghost caught: { parent ≡ None → IsInstead S.faults_with S.size_of S.is_instead cut.job instead } by { one_instead
-        S.faults_with S.size_of S.is_instead S.one_instead cut.job instead (parent ≡ None) },
 }
 
 impl<S: JobSegments> Continuation<SegmentPart<S>> for Join<S> {
@@ -136,9 +132,9 @@ impl<S: JobSegments> Continuation<SegmentPart<S>> for Join<S> {
     ghost goes_to = { λ c. c.parent };
 
     ghost leads = { λ c p e v h.
-        stands_moved S.stands_for S.is_instead S.size_of (λ x. x.found) v (c.side p e).0 (c.side p e).1 h };
+        stands_moved S.stands_for S.faults_with S.size_of (λ x. x.found) v (c.side p e).0 (c.side p e).1 h };
 
-    ghost ends = { λ c e v h. stands_whole S.stands_for S.is_instead S.size_of
+    ghost ends = { λ c e v h. stands_whole S.stands_for S.faults_with S.size_of
         (λ x. x.found) v c.cut.job c.cut.segment (c.top e).0 (c.top e).1 h };
 
     fn tag(&self) -> CutPiece {
@@ -171,21 +167,12 @@ impl<S: JobSegments> Continuation<SegmentPart<S>> for Join<S> {
         let Failure::Fault(_) = failure else {
             return Err(failure);
         };
-        let Join {
-            cut: _,
-            parent,
-            instead,
-            of,
-        } = self;
-        if parent.is_some() {
+        if self.parent.is_some() {
             return Err(failure);
         }
-        let Some(instead) = instead else {
-            unreachable!()
-        };
         Ok(SegmentPart {
-            found: Merged::Caught(instead),
-            of,
+            found: Merged::Caught,
+            of: PhantomData,
         })
     }
 }

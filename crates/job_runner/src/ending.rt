@@ -74,7 +74,7 @@ impl<'a, S: JobSegments, R: RunBrand> JobWork<'a, S, TablePart<S>, TableKept<S>,
         tools: &mut TableTools<'_, S, R>,
     ) -> TableTurn<S, R>
         ensures { IfOk result (λ next. IfSome next (λ whole.
-            StandsWhole S.stands_for S.is_instead S.size_of whole.job.job whole.segment (λ x. x.found) whole.part)) }
+            StandsWhole S.stands_for S.faults_with S.size_of whole.job.job whole.segment (λ x. x.found) whole.part)) }
     {
         self.prepare(gate, begun.job);
         match size_of(self.jobs, &self.places, begun.job, 0) {
@@ -145,7 +145,7 @@ impl<'a, S: JobSegments, R: RunBrand> JobWork<'a, S, TablePart<S>, TableKept<S>,
         scratch: &mut S::Scratch,
     ) -> Option<(usize, u64)>
         requires known { (job < S.job_count) × (segment ≤ S.last_of job) }
-        requires part { StandsWhole S.stands_for S.is_instead S.size_of job segment (λ x. x.found) part }
+        requires part { StandsWhole S.stands_for S.faults_with S.size_of job segment (λ x. x.found) part }
         ensures { IfSome result (λ next. (next.0 ≤ S.last_of job) × (next.1 ≡ S.size_of job next.0)) }
     {
         let Ok(SegmentPart { found, of: _ }) = part else {
@@ -153,8 +153,8 @@ impl<'a, S: JobSegments, R: RunBrand> JobWork<'a, S, TablePart<S>, TableKept<S>,
         };
         match found {
             Merged::Part(part) => self.leave_part(gate, job, segment, part, scratch),
-            Merged::Caught(instead) => {
-                let answer = self.jobs.answer_instead(job, instead);
+            Merged::Caught => {
+                let answer = self.jobs.answer_instead(job);
                 keep_answer(&self.places, gate, job, answer);
                 drop_source(&self.places, job, segment);
                 None
@@ -170,10 +170,10 @@ impl<'a, S: JobSegments, R: RunBrand> JobWork<'a, S, TablePart<S>, TableKept<S>,
         spawn: &mut P,
         tools: &mut TableTools<'_, S, R>,
     ) -> TableTurn<S, R>
-        requires { StandsWhole S.stands_for S.is_instead S.size_of whole.job.job whole.segment
+        requires { StandsWhole S.stands_for S.faults_with S.size_of whole.job.job whole.segment
             (λ x. x.found) whole.part }
         ensures { IfOk result (λ next. IfSome next (λ whole.
-            StandsWhole S.stands_for S.is_instead S.size_of whole.job.job whole.segment (λ x. x.found) whole.part)) }
+            StandsWhole S.stands_for S.faults_with S.size_of whole.job.job whole.segment (λ x. x.found) whole.part)) }
     {
         let FinishedSegment { job, segment, part } = whole;
         match self.leave(gate, job.job, segment, part, &mut tools.scratch) {
@@ -244,7 +244,7 @@ impl<'a, S: JobSegments, R: RunBrand> JobWork<'a, S, TablePart<S>, TableKept<S>,
         depth: usize,
     )
         requires { IfOk first (λ next. IfSome next (λ whole.
-            StandsWhole S.stands_for S.is_instead S.size_of whole.job.job whole.segment (λ x. x.found) whole.part)) }
+            StandsWhole S.stands_for S.faults_with S.size_of whole.job.job whole.segment (λ x. x.found) whole.part)) }
     {
         let mut turn = first;
         for _ in 0..u64::MAX {

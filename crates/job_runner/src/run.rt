@@ -81,7 +81,6 @@ where
     S::Source: Send + Sync,
     S::Answer: Send + Sync,
     S::Given: Send + Sync,
-    S::Instead: Send,
     S::Scratch: Send,
 {
     idles.truncate(work.counts.nodes() as usize);
@@ -115,7 +114,6 @@ where
     S::Source: Send + Sync,
     S::Answer: Send + Sync,
     S::Given: Send + Sync,
-    S::Instead: Send,
     S::Scratch: Send,
     requires count { length opened.starts.items ≡ S.job_count }
     requires started { (j : ℕ) → (R.start j ≡ node_at opened.starts.items (R.jobs - 1 - j))
@@ -147,7 +145,6 @@ where
     S::Source: Send + Sync,
     S::Answer: Send + Sync,
     S::Given: Send + Sync,
-    S::Instead: Send,
     S::Scratch: Send,
     ensures count { IfOk result (λ answers. length answers.items ≡ S.job_count) }
     ensures each { IfOk result (λ answers. AreAnswers S.is_answer 0 answers.items) }

@@ -4,7 +4,7 @@ ghost use Rattle.trace.specs.declared.item.Fault.{Fault};
 ghost use Rattle.trace.specs.Trace.{Trace};
 ghost use Rattle.early_stop.specs.Decisive.{Decides};
 ghost use Rattle.job_runner.specs.Begins.{IsBegun};
-ghost use Rattle.job_runner.specs.Cuts.{IsInstead, IsPiece};
+ghost use Rattle.job_runner.specs.Cuts.{IsPiece};
 
 use crate::NoMemory;
 use crate::cut::CutPiece;
@@ -43,9 +43,6 @@ pub trait JobSegments {
     /// What a worker keeps from one leaf to the next, like room to compute in. No part depends on what it holds.
     type Scratch: Drop;
 
-    /// What a job gives after a fault, as it is kept while the job is walked. An answer is made of it.
-    type Instead: Copy;
-
     /// What a segment gives, to contracts. No value of it is made.
     type Outcome;
 
@@ -82,9 +79,6 @@ pub trait JobSegments {
     // It is the answer of a job.
     ghost is_answer: { ℕ → Self.Answer → Type 0 };
 
-    // The answer that is made of it is the answer of a job.
-    ghost is_instead: { ℕ → Self.Instead → Type 0 };
-
     // It is what a job takes of the answers that it names, and the job is to be walked.
     ghost is_given: { ℕ → Self.Given → Type 0 };
 
@@ -92,8 +86,6 @@ pub trait JobSegments {
     ghost one_source: { (job segment : ℕ) (source : Self.Source) → IsProp (is_source job segment source) };
 
     ghost one_answer: { (job : ℕ) (answer : Self.Answer) → IsProp (is_answer job answer) };
-
-    ghost one_instead: { (job : ℕ) (instead : Self.Instead) → IsProp (is_instead job instead) };
 
     ghost one_given: { (job : ℕ) (given : Self.Given) → IsProp (is_given job given) };
 
@@ -187,14 +179,11 @@ pub trait JobSegments {
         ensures among { IfSome result (λ fault. faults_with piece.job piece.segment piece.from piece.to fault) }
         ensures caught { (fault : Fault) → is_caught piece.job piece.segment part.now fault → result ≡ Some fault };
 
-    /// What a job gives after a fault, if anything.
-    fn instead(&self, job: usize) -> Option<Self::Instead>
+    /// The answer of a job that gives another answer after a fault, if a piece has one.
+    fn answer_instead(&self, job: usize) -> Self::Answer
         requires job { job < job_count }
-        ensures { IsInstead faults_with size_of is_instead job result };
-
-    /// The answer of a job that gives `instead` after a fault.
-    fn answer_instead(&self, job: usize, instead: Self::Instead) -> Self::Answer
-        requires instead { is_instead job instead }
+        requires caught { (segment : ℕ) × (fault : Fault)
+            × faults_with job segment 0 (size_of job segment) fault }
         ensures { is_answer job result };
 
     /// Walks a piece. It may stop at a place that `stop` names, or after it. `NoMemory` also if an answer that the job

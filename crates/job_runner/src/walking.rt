@@ -34,7 +34,7 @@ fn handed<S: JobSegments, R: RunBrand, G: Gate>(
     ensures handed { HandedIn S.stands_for S.faults_with
         (λ x. x.found) piece.job piece.segment piece.from piece.to result }
     ensures caught { IfOk result (λ x.
-        IfMerged (λ part. (fault : Fault) → S.is_caught piece.job piece.segment part fault → ⊥) (λ answer. ⊥) x.found) }
+        IfMerged (λ part. (fault : Fault) → S.is_caught piece.job piece.segment part fault → ⊥) ⊥ x.found) }
 {
     let Ok(part) = part_of(work, gate, piece, tools) else {
         return Err(Failure::NoMemory);
@@ -56,7 +56,7 @@ fn leaf<S: JobSegments, R: RunBrand, G: Gate>(
     side: TableSideTask<S, R>,
     tools: &mut TableTools<'_, S, R>,
 ) -> Option<TableFinishedSegment<S, R>>
-    ensures { IfSome result (λ whole. StandsWhole S.stands_for S.is_instead S.size_of whole.job.job whole.segment
+    ensures { IfSome result (λ whole. StandsWhole S.stands_for S.faults_with S.size_of whole.job.job whole.segment
         (λ x. x.found) whole.part) }
 {
     let SideTask { half, of: _ } = side;
@@ -124,7 +124,6 @@ impl<'a, S: JobSegments, R: RunBrand> JobWork<'a, S, TablePart<S>, TableKept<S>,
         let run = Join {
             cut: CutPiece::halves(piece),
             parent: Some((place.tag, is_left(&place))),
-            instead: None,
             of: PhantomData,
         };
         let tree = Tree::new(&self.counts, &[]);
@@ -161,7 +160,7 @@ impl<'a, S: JobSegments, R: RunBrand> JobWork<'a, S, TablePart<S>, TableKept<S>,
         spawn: &mut P,
         tools: &mut TableTools<'_, S, R>,
     ) -> Option<TableFinishedSegment<S, R>>
-        ensures { IfSome result (λ whole. StandsWhole S.stands_for S.is_instead S.size_of whole.job.job whole.segment
+        ensures { IfSome result (λ whole. StandsWhole S.stands_for S.faults_with S.size_of whole.job.job whole.segment
             (λ x. x.found) whole.part) }
     {
         let piece = side_at(&side.half.place);
@@ -185,7 +184,7 @@ impl<'a, S: JobSegments, R: RunBrand> JobWork<'a, S, TablePart<S>, TableKept<S>,
         spawn: &mut P,
         tools: &mut TableTools<'_, S, R>,
     ) -> Option<TableFinishedSegment<S, R>>
-        ensures { IfSome result (λ whole. StandsWhole S.stands_for S.is_instead S.size_of whole.job.job whole.segment
+        ensures { IfSome result (λ whole. StandsWhole S.stands_for S.faults_with S.size_of whole.job.job whole.segment
             (λ x. x.found) whole.part) }
     {
         let pushed = spawn.push(Task::Walk(other));
@@ -210,7 +209,7 @@ fn walk_whole<S: JobSegments, R: RunBrand, G: Gate>(
 ) -> TableFinishedSegment<S, R>
     requires known { segment ≤ R.last job.job }
     requires size { size ≡ R.size job.job segment }
-    ensures { StandsWhole S.stands_for S.is_instead S.size_of result.job.job result.segment (λ x. x.found) result.part }
+    ensures { StandsWhole S.stands_for S.faults_with S.size_of result.job.job result.segment (λ x. x.found) result.part }
 {
     let all = Piece::all(job.job, segment, size);
     let walked = part_of(work, gate, all, tools);
@@ -241,7 +240,6 @@ impl<'a, S: JobSegments, R: RunBrand> JobWork<'a, S, TablePart<S>, TableKept<S>,
         let run = Join {
             cut: CutPiece::halves(all),
             parent: None,
-            instead: self.jobs.instead(job),
             of: PhantomData,
         };
         let tree = Tree::new(&self.counts, &self.start(job).onward);
@@ -277,7 +275,7 @@ impl<'a, S: JobSegments, R: RunBrand> JobWork<'a, S, TablePart<S>, TableKept<S>,
     ) -> Option<TableFinishedSegment<S, R>>
         requires known { segment ≤ R.last begun.job }
         requires size { size ≡ R.size begun.job segment }
-        ensures { IfSome result (λ whole. StandsWhole S.stands_for S.is_instead S.size_of whole.job.job whole.segment
+        ensures { IfSome result (λ whole. StandsWhole S.stands_for S.faults_with S.size_of whole.job.job whole.segment
             (λ x. x.found) whole.part) }
     {
         if size <= self.threshold || !self.jobs.is_divided(begun.job, segment) {

@@ -177,7 +177,6 @@ where
     S::Source: Send + Sync,
     S::Answer: Send + Sync,
     S::Given: Send + Sync,
-    S::Instead: Send,
     S::Scratch: Send,
 {
     type Task = TableTask<S, R>;

@@ -15,11 +15,10 @@ use Rattle.early_stop.proofs.Settling.{later_decides}
 use Rattle.job_meaning.specs.declared.answer.Answer.{Answer}
 use Rattle.job_meaning.specs.declared.answer.Answer.TheVariants as answer
 use Rattle.job_plan.specs.declared.outcome.Outcome.TheVariants as outcome
-use Rattle.job_plan.specs.declared.fallback.Fallback.{Fallback}
 use Rattle.job_plan.specs.declared.fold_part.FoldPart.{FoldPart}
 use Rattle.job_plan.specs.declared.part.Part.{Part}
 use Rattle.job_plan.specs.declared.part.Part.TheVariants as part
-use Rattle.job_plan.specs.Parts.{EndsFor, StandsEnough, fallback_in, is_fault}
+use Rattle.job_plan.specs.Parts.{EndsFor, StandsEnough, is_fault}
 use Rattle.job_plan.specs.FoldFaults.{end_fault, fold_fault}
 use Rattle.job_plan.specs.Links.{AbstractLeg, legs_answer, plan_legs}
 use Rattle.prefix_walks.specs.Pieces.{piece_of}
@@ -30,7 +29,6 @@ use Rattle.job_meaning.specs.Walks.{instead_of_fault, unless_fault}
 use Rattle.prefix_walks.proofs.Elements.{length_dropped}
 use Rattle.prefix_walks.proofs.SideBySide.{pieces_joined, whole_piece}
 use Rattle.job_table.specs.Caught.{FaultAmong, IsCaught}
-use Rattle.job_runner.specs.Cuts.{IsInstead}
 use Rattle.job_table.specs.PlanSegments.{AbstractChain, PartStands, answer_of, answers_before, chain_at, gives_at, piece_between, plan_at, size_at, prefixes_first, source_at, walk_at}
 use Rattle.job_table.proofs.PlanAnswers.{answer_at, answer_there, given_answer}
 use Rattle.job_table.proofs.PlanParts.{chain_answer, part_decides, size_within, there_walk}
@@ -202,8 +200,3 @@ catches_it plans job segment q f p same h =
       h.last ∙ ap prefixes_first legs,
       λ e. (let z : None ≡ Some h.of = sym e ∙ ap (λ (ls : List AbstractLeg). slice_get ls segment) (sym legs) ∙ h.there in cc),
     )
-
--- what a job gives after a fault
-pub instead_is : (plans : List AbstractPlan) (job : ℕ) (o : Option Fallback) → option_map fallback_in o ≡ (plan_at plans job).fallback → IsInstead (λ job segment from to f. FaultAmong plans job segment from to f) (λ job segment. size_at (chain_at plans job) segment) (λ job b. fallback_in b ≡ answer_of plans job) job o
-instead_is plans job (Some b) e = λ segment f h. caught_answer plans job segment (size_at (chain_at plans job) segment) f (fallback_in b) (sym e) h
-instead_is plans job None e = λ segment f h. nothing_caught plans job segment (size_at (chain_at plans job) segment) f (sym e) h

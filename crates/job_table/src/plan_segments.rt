@@ -1,7 +1,7 @@
 //! The jobs of a plan as segments of a run. A segment of the run is a leg of the plan.
 ghost use Rattle.std.specs.Prelude.{◌≡◌, ◌<◌, ◌≤◌, ◌+◌, ℕ, length, slice_get, IfOk};
 ghost use Rattle.job_meaning.specs.declared.answer.Answer.{Answer as answers};
-ghost use Rattle.job_plan.specs.Parts.{fallback_in, plans_in};
+ghost use Rattle.job_plan.specs.Parts.{plans_in};
 ghost use Rattle.job_table.specs.Caught.{FaultAmong, IsCaught};
 ghost use Rattle.job_table.specs.CaughtLaws.{among_more};
 ghost use Rattle.job_runner.specs.Cuts.{IsPiece};
@@ -22,7 +22,7 @@ use crate::planned::{PlanBrand, PlanJobs};
 use batch_eval::Registers;
 use early_stop::Stop;
 use job_meaning::Answer;
-use job_plan::{Fallback, Outcome, Part, Source, Walked};
+use job_plan::{Outcome, Part, Source, Walked};
 use job_runner::{Begun, CutPiece, EarlierAnswers, JobSegments, NoMemory, Piece, SegmentInput};
 use std::alloc::Global;
 use trace::Fault;
@@ -35,8 +35,6 @@ impl<'a, 'c, P: PlanBrand> JobSegments for PlanJobs<'a, 'c, P> {
     type Answer = Answer;
 
     type Given = Taken;
-
-    type Instead = Fallback;
 
     type Scratch = Registers;
 
@@ -65,15 +63,11 @@ impl<'a, 'c, P: PlanBrand> JobSegments for PlanJobs<'a, 'c, P> {
 
     ghost is_answer = { λ job answer. answer ≡ answer_of (plans_in P.jobs) job };
 
-    ghost is_instead = { λ job instead. fallback_in instead ≡ answer_of (plans_in P.jobs) job };
-
     ghost is_given = { λ job given. IsTaken (plans_in P.jobs) job given };
 
     ghost one_source = { λ job segment source. one_kept (chain_at (plans_in P.jobs) job) segment source };
 
     ghost one_answer = { λ job answer. one_answer answer (answer_of (plans_in P.jobs) job) };
-
-    ghost one_instead = { λ job instead. one_answer (fallback_in instead) (answer_of (plans_in P.jobs) job) };
 
     ghost one_given = { λ job given. one_taken (plans_in P.jobs) job given };
 
@@ -156,12 +150,11 @@ impl<'a, 'c, P: PlanBrand> JobSegments for PlanJobs<'a, 'c, P> {
         }
     }
 
-    fn instead(&self, job: usize) -> Option<Fallback> {
-        self.job(job).fallback
-    }
-
-    fn answer_instead(&self, _job: usize, instead: Fallback) -> Answer {
-        instead.answer()
+    fn answer_instead(&self, job: usize) -> Answer {
+        match self.job(job).fallback {
+            Some(instead) => instead.answer(),
+            None => unreachable!(),
+        }
     }
 
     fn leaf<E: EarlierAnswers<Answer>, W: Stop>(

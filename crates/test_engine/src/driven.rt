@@ -81,7 +81,6 @@ where
     S::Source: Send + Sync,
     S::Answer: Send + Sync,
     S::Given: Send + Sync,
-    S::Instead: Send,
     S::Scratch: Send,
     requires count { length opened.starts.items ≡ S.job_count }
     requires started { (j : ℕ) → (R.start j ≡ node_at opened.starts.items (R.jobs - 1 - j))
@@ -115,7 +114,6 @@ where
     S::Source: Send + Sync,
     S::Answer: Send + Sync,
     S::Given: Send + Sync,
-    S::Instead: Send,
     S::Scratch: Send,
 {
     match TableFreshCounts::<S>::new(alloc, jobs, settings)? {

@@ -90,9 +90,6 @@ impl<'a, P: JobNumbers + Sync> JobSegments for Lists<'a, P> {
 
     type Given = ();
 
-    // An empty list is made of it, without memory.
-    type Instead = Global;
-
     type Scratch = ();
 
     type Outcome = End;
@@ -119,15 +116,11 @@ impl<'a, P: JobNumbers + Sync> JobSegments for Lists<'a, P> {
 
     ghost is_answer = { λ job answer. answer.items ≡ P.numbers job };
 
-    ghost is_instead = { λ job _. P.numbers job ≡ [] };
-
     ghost is_given = { λ _ _. ⊤ };
 
     ghost one_source = { λ job _ source. one_list (numbers_in (P.numbers job) source) (P.numbers job) };
 
     ghost one_answer = { λ job answer. one_list answer.items (P.numbers job) };
-
-    ghost one_instead = { λ job _. one_list (P.numbers job) [] };
 
     ghost one_given = { λ _ _. Unit-prop };
 
@@ -188,14 +181,9 @@ impl<'a, P: JobNumbers + Sync> JobSegments for Lists<'a, P> {
         None
     }
 
-    /// Nothing: no list has a fault.
-    #[tactic(auto, using(crate::proofs::Walks::no_place_decides))]
-    fn instead(&self, _job: usize) -> Option<Global> {
-        None
-    }
-
-    fn answer_instead(&self, _job: usize, instead: Global) -> Vec<i64> {
-        Vec::new(instead)
+    /// No list has a fault.
+    fn answer_instead(&self, _job: usize) -> Vec<i64> {
+        unreachable!()
     }
 
     fn leaf<E: EarlierAnswers<Vec<i64>>, W: Stop>(

@@ -18,4 +18,4 @@ abbrev pub invariant-end_job-loop-at : goal.invariant-end_job-loop-at
 invariant-end_job-loop-at g l = HasKept g.R.RunBrand.table g.R.RunBrand.jobs g.R.RunBrand.start g.R.RunBrand.keeps (nodes_in (drop l.at l.waiting) ++ 0 ∷ []) l.seat
 
 abbrev pub invariant-go_on-loop : goal.invariant-go_on-loop
-invariant-go_on-loop g l = IfOk l.turn (λ next. IfSome next (λ whole. StandsWhole g.S.JobSegments.stands_for g.S.JobSegments.is_instead g.S.JobSegments.size_of whole.job.job whole.segment (λ x. x.found) whole.part))
+invariant-go_on-loop g l = IfOk l.turn (λ next. IfSome next (λ whole. StandsWhole g.S.JobSegments.stands_for g.S.JobSegments.faults_with g.S.JobSegments.size_of whole.job.job whole.segment (λ x. x.found) whole.part))
