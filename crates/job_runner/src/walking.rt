@@ -209,7 +209,8 @@ fn walk_whole<S: JobSegments, R: RunBrand, G: Gate>(
 ) -> TableFinishedSegment<S, R>
     requires known { segment ≤ R.last job.job }
     requires size { size ≡ R.size job.job segment }
-    ensures { StandsWhole S.stands_for S.faults_with S.size_of result.job.job result.segment (λ x. x.found) result.part }
+    ensures { StandsWhole S.stands_for S.faults_with S.size_of result.job.job result.segment
+        (λ x. x.found) result.part }
 {
     let all = Piece::all(job.job, segment, size);
     let walked = part_of(work, gate, all, tools);

@@ -1,5 +1,5 @@
 -- A piece that ends in a fault: what the whole segment gives, and what the job answers.
-use Rattle.std.proofs.Common.{◌≡◌, ◌≢◌, ℕ, ◌+◌, ◌-◌, ◌<◌, ◌≤◌, ◌==◌, Bool, true, false, List, length, drop, Option, Some, None, IfSome, slice_get, option_map, if◌then◌else◌, ap, sym, subst, refl, ◌∙◌, le_refl, arith}
+use Rattle.std.proofs.Common.{◌≡◌, ◌≢◌, ℕ, ◌+◌, ◌-◌, ◌<◌, ◌≤◌, ◌==◌, Bool, true, false, List, length, drop, Option, Some, None, IfSome, slice_get, if◌then◌else◌, ap, sym, subst, refl, ◌∙◌, le_refl, arith}
 use Rattle.std.proofs.lemmas.List.{length-take}
 use Rattle.lambda_values.specs.Earlier.{Numbers}
 use Rattle.trace.specs.declared.item.Fault.{Fault}

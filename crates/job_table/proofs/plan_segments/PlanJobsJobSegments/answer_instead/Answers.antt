@@ -7,8 +7,8 @@ use Rattle.job_table.specs.PlanSegments.{plan_at}
 use Rattle.job_table.proofs.PlanFaults.{caught_answer, nothing_caught}
 use Rattle.job_table.proofs.plan_segments.PlanJobsJobSegments.answer_instead.Goals as goal
 
-pub returns-in-Some : goal.returns-in-Some
-returns-in-Some g c =
+pub returns : goal.returns
+returns g c =
     let plans = plans_in g.P.PlanBrand.jobs in
     let h = c.requires.caught in
     let gives : (plan_at plans c.args.job).fallback ≡ Some (fallback_in c.in-Some.instead) = sym (ap (λ (q : AbstractPlan). q.fallback) c.job.ensures) ∙ ap (λ (o : Option Fallback). option_map fallback_in o) c.in-Some.is in
