@@ -1,5 +1,4 @@
 pub mod NamedTexts
 mod OutcomeLemmas
-mod PlannedJobLemmas
 mod RunLemmas
 mod WorkedFiles

@@ -6,8 +6,7 @@ ghost use Rattle.engine.specs.Refused.{IsEarly};
 ghost use Rattle.engine.specs.Run.{Faulted, Input, IsReport, Reported, Says, columns_of, report_in};
 ghost use Rattle.job_language.specs.Jobs.{jobs_of, names_of};
 ghost use Rattle.job_meaning.specs.FileAnswers.{meaning_of};
-ghost use Rattle.job_plan.specs.Parts.{plans_in};
-ghost use Rattle.job_plan.specs.Plans.{AbstractPlan};
+ghost use Rattle.job_plan.specs.Parts.{plan_names};
 ghost use Rattle.run_settings.specs.SettingsParts.{form_of};
 ghost use Rattle.report.specs.Named.{IsNamed, IsText};
 ghost use Rattle.std.specs.Io.KnownBytes.{IsAtEnd, Keeps};
@@ -201,7 +200,6 @@ fn written<H: Threads + Wait + Sync, G: RunGate + Sync>(
         (meaning_of (jobs_of jobs.entry.items))) }
 {
     let plan = Plan::of(alloc, jobs)?;
-    let plan = plan.with_slices_first(alloc)?;
     announce(&plan, gate);
     let answers = match run_jobs(rt, alloc, &plan, settings, gate) {
         Ok(answers) => answers,
@@ -214,7 +212,11 @@ fn written<H: Threads + Wait + Sync, G: RunGate + Sync>(
 /// Says to the gate which jobs there are.
 fn announce<G: RunGate>(plan: &Plan, gate: &G) {
     for (number, job) in plan.jobs.iter().enumerate() {
-        let items = if job.streams() { 0 } else { job.likely_size };
+        let items = if job.leg(0).streams() {
+            0
+        } else {
+            job.likely_size
+        };
         gate.before_job(number, items);
     }
 }
@@ -240,11 +242,11 @@ fn printed<H: Threads + Sync>(
 
 /// The names of planned jobs, in their order; nothing is copied.
 fn names_in(alloc: Global, jobs: Vec<JobPlan>) -> Result<Vec<Bytes>, NoMemory>
-    ensures { IfOk result (λ names. names.items ≡ map (λ (p : AbstractPlan). p.name) (plans_in jobs.entry.items)) }
+    ensures { IfOk result (λ names. names.items ≡ plan_names jobs.entry.items) }
 {
     let mut names = Vec::new(alloc);
     for job in jobs {
-        names.push(job.name)?;
+        names.push(job.into_name())?;
     }
     Ok(names)
 }

@@ -26,14 +26,14 @@ use Rattle.job_plan.specs.declared.ends.Fold.{Fold}
 use Rattle.job_plan.specs.declared.segment.Segment.{Segment}
 use Rattle.job_plan.specs.declared.ends.SegmentEnd.TheVariants as ends
 use Rattle.prefix_walks.specs.Faultless.{never_faults}
-use Rattle.job_plan.specs.Moves.{all_keep}
+use Rattle.job_plan.specs.Building.{all_keep}
 use Rattle.job_plan.specs.Parts.{EndsFor, IsFold, StandsFor, end_in, segment_in}
 use Rattle.prefix_walks.specs.Pieces.{piece_of}
 use Rattle.prefix_walks.specs.Batches.{counted_as}
 use Rattle.prefix_walks.specs.Spans.{span}
 use Rattle.prefix_walks.proofs.Elements.{length_dropped}
 use Rattle.prefix_walks.proofs.FaultlessLemmas.{both, value_there}
-use Rattle.job_plan.proofs.MoveLemmas.{first_of}
+use Rattle.job_plan.proofs.MapLemmas.{first_of}
 use Rattle.job_plan.proofs.WalkLemmas.{same_ending}
 
 -- two walks have equally many items, and one end

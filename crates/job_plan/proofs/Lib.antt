@@ -1,4 +1,5 @@
 -- The lemmas of this crate; the first line of each file says what they are about.
+pub mod BuiltLemmas
 pub mod CountLemmas
 pub mod EnoughLemmas
 pub mod FeedLemmas
@@ -8,13 +9,12 @@ pub mod ItemCounts
 pub mod LentLemmas
 pub mod LinkLemmas
 pub mod LookLemmas
+pub mod MapLemmas
 pub mod MeaningLemmas
-pub mod MoveLemmas
 pub mod NameLemmas
 pub mod NestLemmas
 pub mod PartLemmas
 pub mod PassageLemmas
-pub mod SegmentLemmas
 pub mod SettleLemmas
 pub mod StretchLemmas
 pub mod WalkLemmas

@@ -1,18 +1,21 @@
--- The answers of jobs in segments are the answers of their file.
-use Rattle.std.proofs.Common.{◌≡◌, ℕ, suc, Bool, true, false, List, [], ◌∷◌, ◌++◌, Option, Some, None, refl, sym, ap, ◌∙◌}
+-- The answers of routes are the answers of their file.
+use Rattle.std.proofs.Common.{◌≡◌, ℕ, suc, Bool, true, false, List, [], ◌∷◌, ◌++◌, length, Option, Some, None, refl, sym, ap, subst, ◌∙◌}
 use Rattle.std.specs.Prelude.{if◌then◌else◌, map, slice_get}
 use Rattle.std.specs.Cmp.Lexicographic.{same_text}
 use Rattle.std.proofs.lemmas.Cmp.{nat_list_eq_equiv}
 use Rattle.lambda_values.specs.Earlier.{Numbers}
-use Rattle.job_language.specs.Jobs.{AbstractPlainSource, range, range_closed, values, result, AbstractJob}
+use Rattle.job_language.specs.Jobs.{AbstractPlainSource, range, range_closed, values, result, AbstractJob, job_stages_of, names_of}
+use Rattle.job_language.specs.declared.job.JobStage.{JobStage}
 use Rattle.job_meaning.specs.declared.answer.Answer.{Answer}
-use Rattle.job_plan.specs.declared.segment.Named.{Named}
+use Rattle.job_plan.specs.declared.plan.Named.{Named}
 use Rattle.job_meaning.specs.FileAnswers.{NamedAnswer, answer_after, answers_after, meaning_of, all_put_in, array_found, first_unusable, found, found_later, number_found, numbers_named, or_else, unless_unusable, unusable_at}
 use Rattle.job_meaning.specs.Names.{all_source_names, names_in_job, one_later, place_of, same_name}
 use Rattle.job_plan.specs.PlannedAnswers.{all_put_at, array_at, array_in, first_unusable_at, number_there, numbers_at, place_in, planned_after, planned_from, planned_meaning, unusable_there}
-use Rattle.job_plan.specs.Plans.{all_placed, placed, plan_of, plans_after, plans_of, planned_answer}
-use Rattle.job_meaning.specs.Walks.{fallback_of, instead_of_fault}
-use Rattle.job_plan.proofs.SegmentLemmas.{planned_job}
+use Rattle.job_plan.specs.declared.plan.JobPlan.{JobPlan}
+use Rattle.job_plan.specs.Building.{AreRoutes, IsRoute}
+use Rattle.job_plan.specs.Parts.{plan_names, plans_in}
+use Rattle.job_plan.specs.Plans.{AbstractPlan, all_placed, legs_answer, placed, windowed}
+use Rattle.job_meaning.specs.Walks.{fallback_of, instead_of_fault, source_walk}
 
 abbrev names_in : List NamedAnswer → List (List ℕ)
 names_in before = map (λ (a : NamedAnswer). a.name) before
@@ -153,24 +156,43 @@ module _ (before : List NamedAnswer) (names : List (List ℕ)) where
 
 -- ---- the jobs of a file
 
-one_answer : (before : List NamedAnswer) (job : AbstractJob) → planned_after (answers_in before) (plan_of (names_in before) job) ≡ answer_after before job
-one_answer before job =
+one_answer : (before : List NamedAnswer) (plan : AbstractPlan) (job : AbstractJob) → IsRoute (names_in before) plan job → planned_after (answers_in before) plan ≡ answer_after before job
+one_answer before plan job h =
     let names = names_in_job job in
     let within : (name : List ℕ) → has (all_source_names job.sources) name ≡ true → has names name ≡ true = λ name h. has_left (all_source_names job.sources) _ name h in
-    let env = numbers_named before names in
-    let sources = sources_placed before names job.sources within in
-    (λ i. unless_unusable (first_placed before names i) (planned_answer (numbers_placed before names i)
-    (record { name = job.name; named = all_placed (names_in before) names; sources = sources i; segments = (plan_of (names_in before) job).segments; fallback = fallback_of job })))
-    ∙ ap (λ (a : Answer). unless_unusable (first_unusable before names) (instead_of_fault (fallback_of job) a)) (planned_job env (all_put_in before job.sources) job.stages job.terminal)
+    let first = ap (first_unusable_at (answers_in before)) h.named ∙ first_placed before names in
+    let env = ap (numbers_at (answers_in before)) h.named ∙ numbers_placed before names in
+    let sources = (λ i. all_put_at (answers_in before) (h.named i) (h.sources i)) ∙ sources_placed before names job.sources within in
+    (λ i. unless_unusable (first i) (instead_of_fault (h.fallback i) (legs_answer plan.legs (env i) (windowed plan.from plan.to (source_walk (sources i))))))
+    ∙ ap (λ (a : Answer). unless_unusable (first_unusable before names) (instead_of_fault (fallback_of job) a)) (h.answers (numbers_named before names) (all_put_in before job.sources))
 
-each_answer : (before : List NamedAnswer) (jobs : List AbstractJob) → planned_from (answers_in before) (plans_after (names_in before) jobs) ≡ answers_after before jobs
-each_answer before [] = refl
-each_answer before (job ∷ jobs) =
-    let here = one_answer before job in
+each_answer : (before : List NamedAnswer) (plans : List AbstractPlan) (jobs : List AbstractJob) → AreRoutes (names_in before) plans jobs → planned_from (answers_in before) plans ≡ answers_after before jobs
+each_answer before [] [] h = refl
+each_answer before [] (job ∷ jobs) h = absurd h
+each_answer before (plan ∷ plans) [] h = absurd h
+each_answer before (plan ∷ plans) (job ∷ jobs) h =
+    let here = one_answer before plan job h.0 in
     let next : NamedAnswer = record { name = job.name; answer = answer_after before job } in
     let answers = ap (λ (a : Answer). answers_in before ++ a ∷ []) here ∙ sym (answers_more before next) in
-    let names = sym (names_more before next) in
-    λ i. here i ∷ ((λ j. planned_from (answers j) (plans_after (names j) jobs)) ∙ each_answer (before ++ next ∷ []) jobs) i
+    let later = subst (λ (names : List (List ℕ)). AreRoutes names plans jobs) (sym (names_more before next)) h.1 in
+    λ i. here i ∷ (ap (λ (given : List Answer). planned_from given plans) answers ∙ each_answer (before ++ next ∷ []) plans jobs later) i
 
-pub planned : (jobs : List AbstractJob) → planned_meaning (plans_of jobs) ≡ meaning_of jobs
-planned jobs = each_answer [] jobs
+-- routes have the answers of their file
+pub planned : (plans : List AbstractPlan) (jobs : List AbstractJob) → AreRoutes [] plans jobs → planned_meaning plans ≡ meaning_of jobs
+planned plans jobs h = each_answer [] plans jobs h
+
+-- and the names of its jobs
+pub route_names : (before : List (List ℕ)) (js : List JobPlan) (jobs : List AbstractJob) → AreRoutes before (plans_in js) jobs → plan_names js ≡ names_of jobs
+route_names before [] [] h = refl
+route_names before [] (job ∷ jobs) h = absurd h
+route_names before (j ∷ js) [] h = absurd h
+route_names before (j ∷ js) (job ∷ jobs) h = λ i. h.0.name i ∷ route_names (before ++ job.name ∷ []) js jobs h.1 i
+
+-- one route more
+pub routes_on : (names : List (List ℕ)) (plan : AbstractPlan) (plans : List AbstractPlan) (job : AbstractJob) (jobs : List AbstractJob) → IsRoute names plan job → AreRoutes (names ++ plan.name ∷ []) plans jobs
+    → AreRoutes names (plan ∷ plans) (job ∷ jobs)
+routes_on names plan plans job jobs is later = (is, subst (λ (n : List ℕ). AreRoutes (names ++ n ∷ []) plans jobs) is.name later)
+
+pub length_job_stages : (gs : List JobStage) → length (job_stages_of gs) ≡ length gs
+length_job_stages [] = refl
+length_job_stages (g ∷ gs) = ap suc (length_job_stages gs)

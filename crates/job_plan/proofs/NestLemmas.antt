@@ -1,22 +1,23 @@
 -- What a sink makes of the whole walk of a source.
-use Rattle.std.proofs.Common.{◌≡◌, ℕ, List, [], ◌++◌, take, None, Some, sym, ap, subst, ◌∙◌}
+use Rattle.std.proofs.Common.{◌≡◌, ℕ, List, [], ◌++◌, take, length, ◌+◌, None, sym, ap, subst, ◌∙◌}
 use Rattle.lambda_values.specs.Earlier.{Numbers}
 use Rattle.trace.specs.declared.item.Item.{Item}
 use Rattle.trace.specs.declared.item.Fault.{Fault}
 use Rattle.trace.specs.declared.item.End.{End}
 use Rattle.trace.specs.declared.item.End.TheVariants as end
 use Rattle.trace.specs.declared.sink.Flow.{Flow}
+use Rattle.trace.specs.Stages.{pipe}
 use Rattle.trace.specs.Trace.{Trace, trace, nothing, append}
 use Rattle.trace.proofs.JoinLemmas.{pipe_ended}
-use Rattle.slice_ops.specs.Slices.{AbstractSlice}
+use Rattle.slice_ops.specs.Slices.{AbstractSlice, sliced}
 use Rattle.job_plan.specs.declared.link_sink.Passage.{Passage}
 use Rattle.job_plan.specs.declared.part.Part.{Part}
-use Rattle.job_plan.specs.Links.{link_at, link_walk, open_link, slice_at}
+use Rattle.job_plan.specs.Links.{open_link}
+use Rattle.job_plan.specs.Plans.{link_walk, AbstractEnd, AbstractLink, AbstractSegment, last_stage, walk_of}
 use Rattle.job_plan.specs.Parts.{EndsFor, GoesOnFrom, HasTaken, StandsFor}
 use Rattle.job_plan.specs.Passages.{HasPassed}
 use Rattle.prefix_walks.specs.Pieces.{elements}
-use Rattle.job_plan.specs.Plans.{AbstractEnd, AbstractSegment, last_stage, slice_in, walk_of}
-use Rattle.job_plan.proofs.MoveLemmas.{skip_none}
+use Rattle.job_plan.proofs.MapLemmas.{skip_none}
 use Rattle.job_plan.proofs.FeedLemmas.{piece_in_two, stands_more, stands_fault, stands_enough}
 use Rattle.prefix_walks.proofs.SideBySide.{whole_piece}
 use Rattle.job_plan.proofs.WalkLemmas.{taken_none}
@@ -46,12 +47,9 @@ pub begun_as : {S : Type 0} (h : S → List Item → Type 0) (f : S → Flow) (d
     → HasPassed h f d n g env d p s [] → HasPassed h f e n g env d p s []
 begun_as h f d e n g env p s is x = subst (λ (b : AbstractSlice). HasPassed h f b n g env d p s []) is x
 
--- a segment that lets all items pass
-pub open_slice : (s : AbstractSegment) → s ≡ open_link → slice_in s.ending ≡ Some (slice_at s)
-open_slice s is = ap (λ (r : AbstractSegment). slice_in r.ending) is ∙ sym (ap (λ (r : AbstractSegment). Some (slice_at r)) is)
-
-pub open_walk : (s : AbstractSegment) → s ≡ open_link → (env : Numbers) (t : Trace) → link_walk (link_at s) env t ≡ t
-open_walk s is env t = ap (λ (r : AbstractSegment). link_walk (link_at r) env t) is ∙ skip_none t
+-- a link that lets all items pass
+pub open_walk : (l : AbstractLink) → l ≡ open_link → (env : Numbers) (t : Trace) → sliced l.slice (l.first + length l.stages) env (pipe l.first l.stages env t) ≡ t
+open_walk l is env t = ap (λ (k : AbstractLink). link_walk k env t) is ∙ skip_none t
 
 -- ---- from the part of no item
 

@@ -30,11 +30,10 @@ use Rattle.job_plan.specs.declared.fold_part.FoldPart.{FoldPart}
 use Rattle.job_plan.specs.declared.part.Part.{Part}
 use Rattle.job_plan.specs.declared.part.Part.TheVariants as part
 use Rattle.job_plan.specs.declared.outcome.Outcome.TheVariants as outcome
-use Rattle.job_plan.specs.declared.segment.Segment.{Segment}
-use Rattle.job_plan.specs.declared.segment.JobPlan.{JobPlan}
-use Rattle.job_plan.specs.Parts.{IsFold, EndsFor, StandsEnough, StandsFor, is_running, is_settled, is_fault, may_search, segment_in, segments_in, settles, plan_in, plans_in}
+use Rattle.job_plan.specs.declared.plan.JobPlan.{JobPlan}
+use Rattle.job_plan.specs.Parts.{IsFold, EndsFor, StandsEnough, StandsFor, is_running, is_settled, is_fault, may_search, settles, plan_in, plans_in}
 use Rattle.prefix_walks.specs.Batches.{counted_as}
-use Rattle.job_plan.specs.Plans.{AbstractEnd, folding, finding, collecting, exactly, scanning, AbstractSegment, AbstractPlan, end_of, ended, last_stage, on_outcome, outcome_of, walk_of}
+use Rattle.job_plan.specs.Plans.{AbstractEnd, folding, finding, collecting, exactly, scanning, AbstractSegment, AbstractPlan, end_of, ended, given_answer, last_stage, outcome_of, walk_of}
 use Rattle.prefix_walks.specs.Pieces.{piece_of}
 use Rattle.job_meaning.specs.Walks.{answer_of, exact_answer, found_answer, unless_fault}
 use Rattle.job_plan.proofs.SettleLemmas.{faults, find_settles, settles_on}
@@ -186,17 +185,6 @@ pub stages_more : (gs : List Stage) (g : Stage) → stages_of (gs ++ g ∷ []) �
 stages_more [] g = refl
 stages_more (f ∷ gs) g = ap (λ (hs : List AbstractStage). stage_of f ∷ hs) (stages_more gs g)
 
-pub length_segments : (ss : List Segment) → length (segments_in ss) ≡ length ss
-length_segments [] = refl
-length_segments (s ∷ ss) = ap suc (length_segments ss)
-
-segments_snoc : (ss : List Segment) (s : Segment) → segments_in (ss ++ s ∷ []) ≡ segments_in ss ++ segment_in s ∷ []
-segments_snoc [] s = refl
-segments_snoc (r ∷ ss) s = ap (λ (rs : List AbstractSegment). segment_in r ∷ rs) (segments_snoc ss s)
-
-pub segments_more : (new ss : List Segment) (s : Segment) → new ≡ ss ++ s ∷ [] → segments_in new ≡ segments_in ss ++ segment_in s ∷ []
-segments_more new ss s e = ap segments_in e ∙ segments_snoc ss s
-
 plans_snoc : (js : List JobPlan) (j : JobPlan) → plans_in (js ++ j ∷ []) ≡ plans_in js ++ plan_in j ∷ []
 plans_snoc [] j = refl
 plans_snoc (k ∷ js) j = ap (λ (ks : List AbstractPlan). plan_in k ∷ ks) (plans_snoc js j)
@@ -286,7 +274,7 @@ settled_there (suc n) p h = by (is_running p) h
 -- ---- terminals
 
 -- the end of the last segment is the terminal
-pub terminal_ends : (d : AbstractTerminal) (n : ℕ) (env : Numbers) (t : Trace) (later : Trace → Answer) → on_outcome (ended (end_of d) n env t) later ≡ answer_of n env d t
-terminal_ends sum n env t later = ap (λ z. unless_fault t.ending (answer.Number z)) (wrapped_sum t.items)
-terminal_ends count n env t later = ap (λ z. unless_fault t.ending (answer.Number z)) (counted t.items)
-terminal_ends d n env t later = refl
+pub terminal_ends : (d : AbstractTerminal) (n : ℕ) (env : Numbers) (t : Trace) → given_answer (ended (end_of d) n env t) ≡ answer_of n env d t
+terminal_ends sum n env t = ap (λ z. unless_fault t.ending (answer.Number z)) (wrapped_sum t.items)
+terminal_ends count n env t = ap (λ z. unless_fault t.ending (answer.Number z)) (counted t.items)
+terminal_ends d n env t = refl

@@ -8,8 +8,6 @@ use Rattle.trace.specs.declared.item.End.TheVariants as end
 use Rattle.trace.specs.Trace.{Trace, trace, append}
 use Rattle.trace.proofs.JoinLemmas.{append_grouped, append_nothing, pipe_append}
 use Rattle.job_meaning.specs.declared.answer.Answer.{Answer}
-use Rattle.job_plan.specs.declared.outcome.Outcome.{Outcome}
-use Rattle.job_plan.specs.declared.outcome.Outcome.TheVariants as outcome
 use Rattle.job_plan.specs.declared.part.Part.{Part}
 use Rattle.std.specs.declared.alloc.AllocError.{AllocError}
 use Rattle.trace.specs.declared.feeding.Fed.{Fed}
@@ -17,9 +15,8 @@ use Rattle.trace.specs.declared.feeding.Fed.TheVariants as fed
 use Rattle.trace.specs.Sinks.{IsFed}
 use Rattle.trace.specs.declared.sink.Flow.TheVariants as flow
 use Rattle.job_plan.specs.Parts.{EndsFor, HasTaken, StandsFor, flow_of, is_settled, may_search}
+use Rattle.job_plan.specs.Plans.{AbstractEnd, AbstractSegment, last_stage, walk_of}
 use Rattle.prefix_walks.specs.Pieces.{elements, piece_of}
-use Rattle.job_plan.specs.Plans.{AbstractEnd, AbstractSegment, last_stage, on_outcome, walk_of}
-use Rattle.job_plan.specs.Links.{AbstractLeg, leg_outcome, legs_answer}
 use Rattle.prefix_walks.specs.Spans.{IsNotAfter}
 use Rattle.job_plan.proofs.FeedLemmas.{piece_in_two, stands_more, stands_fault, stands_enough}
 use Rattle.job_plan.proofs.LentLemmas.{grown}
@@ -43,13 +40,6 @@ settled_piece s env p t from middle to h k is x =
 pub merged_piece : (s : AbstractSegment) (env : Numbers) (p : Part) (t : Trace) (from middle : ℕ) (to : Option ℕ) → from ≤ middle → IsNotAfter middle to
     → StandsFor s env p (append (piece_of from (Some middle) t) (piece_of middle to t)) → StandsFor s env p (piece_of from to t)
 merged_piece s env p t from middle to h k x = subst (λ (u : Trace). StandsFor s env p u) (pieces_joined t from middle to h k) x
-
--- the last leg, and a leg before others
-pub answered : (l : AbstractLeg) (ls : List AbstractLeg) (env : Numbers) (t : Trace) (o : Outcome) (a : Answer) → o ≡ leg_outcome l env t → o ≡ outcome.Answer a → a ≡ legs_answer (l ∷ ls) env t
-answered l ls env t o a e is = ap (λ x. on_outcome x (legs_answer ls env)) (sym is ∙ e)
-
-pub went_on : (l : AbstractLeg) (ls : List AbstractLeg) (env : Numbers) (t u : Trace) (o : Outcome) (a : Answer) → o ≡ leg_outcome l env t → o ≡ outcome.Source u → a ≡ legs_answer ls env u → a ≡ legs_answer (l ∷ ls) env t
-went_on l ls env t u o a e is later = later ∙ ap (λ x. on_outcome x (legs_answer ls env)) (sym is ∙ e)
 
 -- a part that goes on from another one with some items, and then with others
 pub taken_on : (e : AbstractEnd) (n : ℕ) (env : Numbers) (begun p q : Part) (xs ys : List Item) → HasTaken e n env begun p xs

@@ -28,39 +28,59 @@ use Rattle.job_plan.specs.declared.fallback.Fallback.TheVariants as fallback
 use Rattle.job_plan.specs.declared.ends.SegmentEnd.{SegmentEnd}
 use Rattle.job_plan.specs.declared.ends.SegmentEnd.TheVariants as ends
 use Rattle.job_plan.specs.declared.segment.Segment.{Segment}
-use Rattle.job_plan.specs.declared.segment.JobPlan.{JobPlan}
+use Rattle.job_plan.specs.declared.leg.Leg.{Leg}
+use Rattle.job_plan.specs.declared.leg.Link.{Link}
+use Rattle.job_plan.specs.declared.plan.JobPlan.{JobPlan}
 use Rattle.job_plan.specs.declared.source.Source.{Source}
 use Rattle.job_plan.specs.declared.source.Source.TheVariants as source
 use Rattle.prefix_walks.specs.Batches.{counted_as}
-use Rattle.job_plan.specs.Plans.{AbstractEnd, slicing, folding, finding, collecting, exactly, scanning, AbstractSegment, AbstractPlan, walk_of, last_stage}
+use Rattle.job_plan.specs.Plans.{AbstractEnd, folding, finding, collecting, exactly, scanning, AbstractSegment, AbstractLink, AbstractLeg, AbstractPlan, walk_of, last_stage, windowed}
 use Rattle.job_meaning.specs.Walks.{source_walk}
-use Rattle.job_plan.specs.Windows.{windowed}
 
 -- the end of a segment of the program
 abbrev pub end_in : SegmentEnd → AbstractEnd
-end_in (ends.Slice d) = slicing (slice_of d)
 end_in (ends.Fold f) = folding f.op f.start f.counts
 end_in (ends.Find d) = finding (find_of d)
 end_in ends.Array = collecting
 end_in ends.ExactSum = exactly
 end_in (ends.Prefix p) = scanning p.op p.range
 
--- a segment of the program, and several
+-- a segment of the program
 abbrev pub segment_in : Segment → AbstractSegment
 segment_in s = record { first = s.first_stage; stages = stages_of s.stages.items; ending = end_in s.end }
 
-abbrev pub segments_in : List Segment → List AbstractSegment
-segments_in [] = []
-segments_in (s ∷ ss) = segment_in s ∷ segments_in ss
+-- a slice of the program with the stages before it, and several
+abbrev pub link_in : Link → AbstractLink
+link_in l = record { first = l.first_stage; stages = stages_of l.stages.items; slice = slice_of l.slice }
+
+abbrev pub links_in : List Link → List AbstractLink
+links_in [] = []
+links_in (l ∷ ls) = link_in l ∷ links_in ls
+
+-- a leg of the program, and several
+abbrev pub leg_in : Leg → AbstractLeg
+leg_in l = record { links = links_in l.links.items; last = segment_in l.last }
+
+abbrev pub legs_in : List Leg → List AbstractLeg
+legs_in [] = []
+legs_in (l ∷ ls) = leg_in l ∷ legs_in ls
 
 -- the answer that a fallback of the program means
 abbrev pub fallback_in : Fallback → Answer
 fallback_in (fallback.Number z) = answer.Number z
 fallback_in (fallback.Optional z) = answer.Optional (Some z)
 
--- a job of the program in segments, and several
+-- the route of a job of the program, and several
 abbrev pub plan_in : JobPlan → AbstractPlan
-plan_in j = record { name = j.name; named = j.named.items; sources = sources_of j.sources.items; segments = segments_in j.segments.items; fallback = option_map fallback_in j.fallback }
+plan_in j = record {
+  name = j.name;
+  named = j.named.items;
+  sources = sources_of j.sources.items;
+  from = j.window.from;
+  to = j.window.to;
+  legs = record { scans = legs_in j.scans.items; last = leg_in j.last };
+  fallback = option_map fallback_in j.fallback;
+}
 
 abbrev pub plans_in : List JobPlan → List AbstractPlan
 plans_in [] = []

@@ -1,9 +1,9 @@
--- Design: the answers of jobs in segments. Jobs that a job names are found by their places.
+-- Design: the answers of jobs by their routes. Jobs that a job names are found by their places.
 use Rattle.std.specs.Prelude.{ℕ, ℤ, if◌then◌else◌, List, [], ◌∷◌, ◌++◌, Option, Some, None, slice_get}
 use Rattle.lambda_values.specs.Earlier.{Numbers}
 use Rattle.job_language.specs.Jobs.{AbstractPlainSource, range, range_closed, values, result}
 use Rattle.job_meaning.specs.declared.answer.Answer.{Answer}
-use Rattle.job_plan.specs.declared.segment.Named.{Named}
+use Rattle.job_plan.specs.declared.plan.Named.{Named}
 use Rattle.job_meaning.specs.FileAnswers.{numbered, or_else, unless_unusable, unless_usable}
 use Rattle.job_meaning.specs.Names.{same_name}
 use Rattle.job_plan.specs.Plans.{AbstractPlan, planned_answer}
@@ -57,7 +57,7 @@ all_put_at before named (s ∷ ss) = put_at before named s ∷ all_put_at before
 
 -- a job; the arrays that it names become values
 abbrev pub put_into : List Answer → AbstractPlan → AbstractPlan
-put_into before plan = record { name = plan.name; named = plan.named; sources = all_put_at before plan.named plan.sources; segments = plan.segments; fallback = plan.fallback }
+put_into before plan = record { name = plan.name; named = plan.named; sources = all_put_at before plan.named plan.sources; from = plan.from; to = plan.to; legs = plan.legs; fallback = plan.fallback }
 
 -- the answer of a job after the answers of the jobs before it
 abbrev pub planned_after : List Answer → AbstractPlan → Answer

@@ -11,8 +11,8 @@ ghost use Rattle.job_plan.specs.Parts.{IsFold, StandsFor, segment_in, walk_in};
 ghost use Rattle.prefix_walks.specs.Pieces.{piece_of};
 
 use crate::ends::{Fold, SegmentEnd};
+use crate::faultless::all_keep;
 use crate::fold_part::FoldPart;
-use crate::moves::all_keep;
 use crate::part::Part;
 use crate::segment::Segment;
 use crate::source::{Source, piece_end};

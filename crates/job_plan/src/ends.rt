@@ -1,13 +1,12 @@
 //! What ends a segment, and all that is asked of it but its parts.
 
-ghost use Rattle.std.specs.Prelude.{◌≡◌, None, Some, IfNone, IfSome, option_map};
-ghost use Rattle.slice_ops.specs.Slices.{slice_of};
+ghost use Rattle.std.specs.Prelude.{◌≡◌, option_map};
 ghost use Rattle.find_ops.specs.Finds.{find_of};
 ghost use Rattle.job_language.specs.Jobs.{terminal_of};
 ghost use Rattle.lambda_values.specs.Term.{truth_of};
 ghost use Rattle.job_plan.specs.EndRows.{end_test, find_test, takes_flags};
 ghost use Rattle.job_plan.specs.Parts.{end_in, fallback_in};
-ghost use Rattle.job_plan.specs.Plans.{end_of, gives_walk, slice_in};
+ghost use Rattle.job_plan.specs.Plans.{end_of};
 ghost use Rattle.job_meaning.specs.Walks.{number_as};
 
 use crate::fallback::Fallback;
@@ -16,7 +15,6 @@ use job_language::Terminal;
 use lambda_values::BoolExpr;
 use prefix_walks::Prefix;
 use reduce_ops::Op;
-use slice_ops::Slice;
 
 /// A fold of the values of a walk.
 #[derive(Clone, Copy)]
@@ -31,8 +29,6 @@ pub struct Fold {
 /// What ends a segment.
 #[derive(Drop)]
 pub enum SegmentEnd {
-    /// A stage that looks at a whole walk.
-    Slice(Slice),
     /// `sum`, `count`, `min`, `max`, `reduce`.
     Fold(Fold),
     /// `findFirst` and the three matches.
@@ -48,10 +44,6 @@ pub enum SegmentEnd {
 /// What is asked of an end of any kind, apart from its parts.
 #[derive(Clone, Copy)]
 pub(crate) struct EndRow<'e> {
-    /// The stage that looks at a whole walk, if the segment ends in one.
-    slice: Option<&'e Slice>,
-    /// Whether it makes a walk of a walk, over which the next segment goes.
-    gives_walk: bool,
     /// The test that it asks of items while it takes them, if it asks one.
     pub(crate) test: Option<&'e BoolExpr>,
     /// Whether the items of lanes with flags are to be given with their flags: to a fold, which then moves no value,
@@ -77,57 +69,21 @@ impl SegmentEnd {
         }
     }
 
-    /// The stage that looks at a whole walk, if the segment ends in one.
-    pub fn slice(&self) -> Option<&Slice>
-        ensures some { IfSome result (λ slice. slice_in (end_in self.now) ≡ Some (slice_of slice.now)) }
-        ensures none { IfNone result (slice_in (end_in self.now) ≡ None) }
-    {
-        self.row().slice
-    }
-
-    /// Whether it makes a walk of a walk; the next segment goes over it. Other ends give the answer of the job.
-    pub fn gives_walk(&self) -> bool
-        ensures { result ≡ gives_walk (end_in self.now) }
-    {
-        self.row().gives_walk
-    }
-
     /// What is asked of it, apart from its parts: one row for each kind.
     pub(crate) fn row(&self) -> EndRow<'_>
-        ensures some { IfSome result.slice (λ slice. slice_in (end_in self.now) ≡ Some (slice_of slice.now)) }
-        ensures none { IfNone result.slice (slice_in (end_in self.now) ≡ None) }
-        ensures walk { result.gives_walk ≡ gives_walk (end_in self.now) }
         ensures test { option_map (λ test. truth_of test.now) result.test ≡ end_test (end_in self.now) }
         ensures flags { result.takes_flags ≡ takes_flags (end_in self.now) }
     {
         match self {
-            SegmentEnd::Slice(slice) => EndRow {
-                slice: Some(slice),
-                gives_walk: true,
-                test: None,
-                takes_flags: false,
-            },
             SegmentEnd::Fold(fold) => EndRow {
-                slice: None,
-                gives_walk: false,
                 test: None,
                 takes_flags: fold.op.identity().is_some(),
             },
             SegmentEnd::Find(find) => EndRow {
-                slice: None,
-                gives_walk: false,
                 test: test_of_find(find),
                 takes_flags: matches!(find, FindTerminal::First),
             },
-            SegmentEnd::Prefix(_) => EndRow {
-                slice: None,
-                gives_walk: true,
-                test: None,
-                takes_flags: false,
-            },
-            SegmentEnd::Array | SegmentEnd::ExactSum => EndRow {
-                slice: None,
-                gives_walk: false,
+            SegmentEnd::Array | SegmentEnd::Prefix(_) | SegmentEnd::ExactSum => EndRow {
                 test: None,
                 takes_flags: false,
             },

@@ -6,7 +6,7 @@ ghost use Rattle.job_plan.specs.Parts.{fallback_in, plan_in};
 ghost use Rattle.job_meaning.specs.Walks.{fallback_as, instead_of_fault};
 
 use crate::ends::number_as;
-use crate::segment::JobPlan;
+use crate::plan::JobPlan;
 use job_language::Terminal;
 use job_meaning::Answer;
 

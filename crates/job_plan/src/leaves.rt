@@ -36,18 +36,18 @@ use trace::{End, Fed, NoMemory};
 /// after maps that can't have a fault needs no walk: it takes the number of the positions.
 pub fn leaf_until<'p, W: Stop>(
     alloc: Global,
-    leg: Leg<'p>,
+    leg: &'p Leg,
     walked: Walked<'_, 'p, '_, '_>,
     window: Window,
     registers: &mut Registers,
     stop: &mut W,
 ) -> Result<Part<'p>, NoMemory>
     requires ordered { IsNotAfter window.from window.to }
-    ensures stands { IfOk result (λ part. StandsEnough (W.decides stop.old) (segment_in leg.entry.last.now)
+    ensures stands { IfOk result (λ part. StandsEnough (W.decides stop.old) (segment_in leg.now.last)
         walked.entry.env.now part window.from (piece_of window.from window.to (walk_in walked.entry.source))) }
-    ensures memory { OnErr result (end_keeps_items (end_in leg.entry.last.now.end) ≡ true) }
+    ensures memory { OnErr result (end_keeps_items (end_in leg.now.last.end) ≡ true) }
 {
-    if let Some(part) = lent_part(alloc, leg.last, &walked.source, window, registers)? {
+    if let Some(part) = lent_part(alloc, &leg.last, &walked.source, window, registers)? {
         return Ok(part);
     }
     leaf_stored(alloc, leg, walked, window, registers, stop)
@@ -56,18 +56,18 @@ pub fn leaf_until<'p, W: Stop>(
 /// The part that `leaf_until` gives, but it borrows no value of the source: the source may go before the part.
 pub fn leaf_stored<'p, W: Stop>(
     alloc: Global,
-    leg: Leg<'p>,
+    leg: &'p Leg,
     walked: Walked,
     window: Window,
     registers: &mut Registers,
     stop: &mut W,
 ) -> Result<Part<'p>, NoMemory>
     requires ordered { IsNotAfter window.from window.to }
-    ensures stands { IfOk result (λ part. StandsEnough (W.decides stop.old) (segment_in leg.entry.last.now)
+    ensures stands { IfOk result (λ part. StandsEnough (W.decides stop.old) (segment_in leg.now.last)
         walked.entry.env.now part window.from (piece_of window.from window.to (walk_in walked.entry.source))) }
-    ensures memory { OnErr result (end_keeps_items (end_in leg.entry.last.now.end) ≡ true) }
+    ensures memory { OnErr result (end_keeps_items (end_in leg.now.last.end) ≡ true) }
 {
-    if let Some(part) = counted_part(leg.last, &walked.source, window) {
+    if let Some(part) = counted_part(&leg.last, &walked.source, window) {
         return Ok(part);
     }
     let none = with_room(alloc, leg, walked, window);
@@ -78,19 +78,19 @@ pub fn leaf_stored<'p, W: Stop>(
 fn leaf_until_as<'p, K: EndBrand, W: Stop>(
     alloc: Global,
     part: Part<'p>,
-    leg: Leg<'p>,
+    leg: &'p Leg,
     walked: Walked,
     window: Window,
     registers: &mut Registers,
     stop: &mut W,
 ) -> Result<Part<'p>, NoMemory>
-    requires last { leg.last.now.end ≡ K.last }
-    requires stage { last_stage (segment_in leg.last.now) ≡ K.stage }
+    requires last { leg.now.last.end ≡ K.last }
+    requires stage { last_stage (segment_in leg.now.last) ≡ K.stage }
     requires env { walked.env.now ≡ K.env }
     requires begun { part ≡ K.begun }
-    requires none { StandsFor (segment_in leg.last.now) walked.env.now part nothing }
+    requires none { StandsFor (segment_in leg.now.last) walked.env.now part nothing }
     requires ordered { IsNotAfter window.from window.to }
-    ensures stands { IfOk result (λ made. StandsEnough (W.decides stop.old) (segment_in leg.entry.last.now)
+    ensures stands { IfOk result (λ made. StandsEnough (W.decides stop.old) (segment_in leg.now.last)
         walked.entry.env.now made window.from (piece_of window.from window.to (walk_in walked.entry.source))) }
     ensures memory { OnErr result (keeps_items part.entry ≡ true) }
 {
@@ -99,7 +99,7 @@ fn leaf_until_as<'p, K: EndBrand, W: Stop>(
     }
     let sink = PartSink::<K> {
         part,
-        segment: leg.last,
+        segment: &leg.last,
         stage: leg.last.first_stage + leg.last.stages.len() as u32,
         env: walked.env,
         of: PhantomData,
@@ -119,22 +119,22 @@ fn leaf_until_as<'p, K: EndBrand, W: Stop>(
 }
 
 /// The part of a piece that isn't walked. It takes no memory.
-pub fn unwalked<'p>(alloc: Global, leg: Leg<'p>, env: &Env) -> Part<'p>
-    ensures stands { StandsFor (segment_in leg.entry.last.now) env.now result nothing }
-    ensures keeps { keeps_items result ≡ end_keeps_items (end_in leg.entry.last.now.end) }
+pub fn unwalked<'p>(alloc: Global, leg: &'p Leg, env: &Env) -> Part<'p>
+    ensures stands { StandsFor (segment_in leg.now.last) env.now result nothing }
+    ensures keeps { keeps_items result ≡ end_keeps_items (end_in leg.now.last.end) }
 {
-    let last = leg.last;
+    let last = &leg.last;
     let stage = last.first_stage + last.stages.len() as u32;
     Part::none(alloc, &last.end, stage, env)
 }
 
 /// The part of no item, for a piece that begins at the first item of its source. It takes no memory.
-pub(crate) fn first_part<'p>(alloc: Global, leg: Leg<'p>, env: &Env) -> Part<'p>
-    ensures stands { StandsFor (segment_in leg.entry.last.now) env.now result nothing }
+pub(crate) fn first_part<'p>(alloc: Global, leg: &'p Leg, env: &Env) -> Part<'p>
+    ensures stands { StandsFor (segment_in leg.now.last) env.now result nothing }
     ensures kind { may_search result ≡ false }
-    ensures keeps { keeps_items result ≡ end_keeps_items (end_in leg.entry.last.now.end) }
+    ensures keeps { keeps_items result ≡ end_keeps_items (end_in leg.now.last.end) }
 {
-    let last = leg.last;
+    let last = &leg.last;
     let stage = last.first_stage + last.stages.len() as u32;
     Part::first(alloc, &last.end, stage, env)
 }

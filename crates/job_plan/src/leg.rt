@@ -1,32 +1,61 @@
-//! A leg of a job: slices that a walk goes through one after another, and the segment after them.
+//! A leg of a route: what a walk goes through at once.
 
-ghost use Rattle.std.specs.Prelude.{◌≡◌, ◌≤◌, false, is_some, length};
-ghost use Rattle.job_plan.specs.Links.{first_links};
-ghost use Rattle.job_plan.specs.Parts.{end_in, segments_in};
-ghost use Rattle.job_plan.specs.Plans.{slice_in};
+ghost use Rattle.std.specs.Prelude.{◌≡◌, ◌≤◌, ◌+◌, ◌<◌, ◌^◌, length};
 
 use crate::segment::Segment;
+use batch_eval::Pipeline;
+use lambda_values::Env;
+use slice_ops::Slice;
+use trace::Stage;
 
-/// What a walk goes through at once: slices one after another, and the segment after them.
-#[derive(Clone, Copy)]
-pub struct Leg<'p> {
-    /// Segments that end in the slices.
-    pub(crate) links: &'p [Segment],
-    /// The segment after them, which doesn't end in a slice.
-    pub last: &'p Segment,
-    ghost few: { length links.now ≤ 32 },
-    ghost linked: { length (first_links (segments_in links.now)) ≡ length links.now },
-    ghost whole: { is_some (slice_in (end_in last.now.end)) ≡ false },
+/// A slice, and the stages before it.
+#[derive(Drop)]
+pub struct Link {
+    /// The number of the first stage; the slice is the stage after the last one.
+    pub first_stage: u32,
+    pub stages: Vec<Stage>,
+    pub slice: Slice,
+    ghost numbered: { first_stage + length stages.items < 2 ^ 32 },
 }
 
-impl<'p> Leg<'p> {
-    ghost use Rattle.job_plan.specs.Legs.{leg_in};
+/// What a walk goes through at once: slices one after another, and the segment after them.
+#[derive(Drop)]
+pub struct Leg {
+    pub links: Vec<Link>,
+    pub last: Segment,
+    ghost few: { length links.items ≤ 32 },
+}
+
+impl Link {
+    ghost use Rattle.trace.specs.Trace.{Trace};
+    ghost use Rattle.trace.specs.Stages.{pipe, stages_of};
+    ghost use Rattle.batch_eval.specs.Pipelines.{piped};
+
+    /// The stages before the slice, with these values of the job's names.
+    pub(crate) fn pipeline<'a>(&'a self, env: &'a Env) -> Pipeline<'a>
+        ensures walk { (t : Trace)
+            → piped result t ≡ pipe self.now.first_stage (stages_of self.now.stages.items) env.now t }
+        ensures env { result.env.now ≡ env.now }
+    {
+        Pipeline {
+            stages: &self.stages,
+            first: self.first_stage,
+            env,
+        }
+    }
+}
+
+impl Leg {
     ghost use Rattle.job_plan.specs.Links.{is_linked};
+    ghost use Rattle.job_plan.specs.Parts.{leg_in};
 
     /// Whether there is a slice. The walk is then one piece, whatever its length is.
     pub fn streams(&self) -> bool
         ensures { result ≡ is_linked (leg_in self.now).links }
     {
-        !self.links.is_empty()
+        match self.links.split_first() {
+            Some(_) => true,
+            None => false,
+        }
     }
 }

@@ -1,6 +1,6 @@
 //! Which jobs give arrays that later jobs go over.
 
-use crate::segment::{JobPlan, Named, Plan};
+use crate::plan::{JobPlan, Named, Plan};
 use std::alloc::Global;
 use trace::NoMemory;
 

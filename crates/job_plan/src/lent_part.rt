@@ -11,10 +11,10 @@ ghost use Rattle.trace.specs.declared.item.End.TheVariants as end;
 ghost use Rattle.job_language.specs.Jobs.{source_of, sources_of};
 ghost use Rattle.prefix_walks.specs.CheapStages.{left_by};
 ghost use Rattle.job_plan.specs.Parts.{StandsFor, end_in, end_keeps_items, segment_in, walk_in};
+ghost use Rattle.job_plan.specs.Plans.{windowed};
 ghost use Rattle.prefix_walks.specs.Pieces.{elements, piece_of};
 ghost use Rattle.prefix_walks.specs.Scans.{scan_append};
 ghost use Rattle.job_meaning.specs.Walks.{plain_values, source_walk, values_of};
-ghost use Rattle.job_plan.specs.Windows.{windowed};
 
 use crate::ends::SegmentEnd;
 use crate::part::Part;

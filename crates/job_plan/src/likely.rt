@@ -1,9 +1,8 @@
 //! How many positions a job has, as far as it is known before a run.
 
 use crate::names::place_of;
-use crate::segment::{JobPlan, Segment};
+use crate::plan::JobPlan;
 use crate::sources::plain_size;
-use crate::windows::selected_window;
 use job_language::PlainSource;
 use prefix_walks::{Window, within};
 
@@ -18,18 +17,13 @@ fn likely_values(source: &PlainSource, before: &[JobPlan]) -> u64 {
     }
 }
 
-/// How many positions the first segment of a job has that is walked. No answer rests on it: it shares out nodes before
-/// a run.
-pub(crate) fn likely_size(
-    sources: &[PlainSource],
-    segments: &[Segment],
-    before: &[JobPlan],
-) -> u64 {
+/// How many positions the first leg of a job has, if it goes over these of its sources. No answer rests on it: it
+/// shares out nodes before a run.
+pub(crate) fn likely_size(sources: &[PlainSource], window: Window, before: &[JobPlan]) -> u64 {
     let mut values = 0u64;
     for source in sources {
         values = values.saturating_add(likely_values(source, before));
     }
-    let window = selected_window(segments, Window::all());
     let (_, count) = within(window.from, window.to, values);
     count
 }

@@ -11,17 +11,16 @@ ghost use Rattle.trace.specs.declared.item.Item.{Item as item};
 ghost use Rattle.slice_ops.specs.Rests.{rest_of};
 ghost use Rattle.slice_ops.specs.Slices.{AbstractSlice, limit, sliced};
 ghost use Rattle.batch_eval.specs.Pipelines.{piped};
-ghost use Rattle.job_plan.specs.Parts.{segment_in};
+ghost use Rattle.job_plan.specs.Links.{line_in};
 ghost use Rattle.job_plan.specs.Passages.{HasPassed, IsAfter, fed_by, passage_flow, through_link};
 ghost use Rattle.job_plan.specs.Plans.{AbstractSegment, collecting};
 
 use crate::closing::Closing;
 use crate::fronts::tested;
-use crate::segment::Segment;
 use batch_eval::{
     Batch, BatchSink, BatchSource, Pipeline, Registers, SourcePart, accept_each, feed_at_once,
 };
-use lambda_values::{BoolExpr, Env};
+use lambda_values::BoolExpr;
 use prefix_walks::ItemPiece;
 use slice_ops::{SliceCut, SliceRest};
 use std::marker::{Brand, PhantomData};
@@ -87,14 +86,13 @@ pub(crate) struct Passing<'p, S: Drop> {
     pub(crate) inner: Box<S>,
 }
 
-/// Where a slice stands in a walk, with the values of the job's names.
+/// Where a slice stands in a walk.
 #[derive(Clone, Copy)]
-pub(crate) struct Junction<'p, 'e> {
+pub(crate) struct Junction<'e> {
     /// The number of its stage.
     pub(crate) stage: u32,
-    /// The segment after it.
-    pub(crate) next: &'p Segment,
-    pub(crate) env: &'e Env,
+    /// The stages after it, with the values of the job's names.
+    pub(crate) next: Pipeline<'e>,
 }
 
 /// A sink that lets items pass as a slice does, and takes them through the stages of the next segment into the next
@@ -102,7 +100,7 @@ pub(crate) struct Junction<'p, 'e> {
 #[derive(Drop)]
 pub(crate) struct LinkSink<'p, 'e, K: LinkBrand, S: Drop> {
     pub(crate) passing: Passing<'p, S>,
-    pub(crate) junction: Junction<'p, 'e>,
+    pub(crate) junction: Junction<'e>,
     pub(crate) registers: Registers,
     pub(crate) of: PhantomData<K>,
 }
@@ -145,14 +143,14 @@ fn cut_of<'p, I: BatchSource>(
     ensures ordered { result.from ≤ result.to }
     ensures within { result.to ≤ length (I.items source.now) }
     ensures passes { (later : Trace)
-        → sliced (rest_of rest.entry) junction.entry.stage junction.entry.env.now
+        → sliced (rest_of rest.entry) junction.entry.stage junction.entry.next.env.now
         (append (trace (I.items source.now) end.Done) later)
         ≡ append (trace (take (result.to - result.from) (drop result.from (I.items source.now))) result.end)
-        (sliced (rest_of result.rest) junction.entry.stage junction.entry.env.now later) }
+        (sliced (rest_of result.rest) junction.entry.stage junction.entry.next.env.now later) }
 {
-    let Junction { stage, env, .. } = junction;
-    let front = tested(&rest, env, values, room);
-    rest.cut(stage, env, source, front)
+    let Junction { stage, next } = junction;
+    let front = tested(&rest, next.env, values, room);
+    rest.cut(stage, next.env, source, front)
 }
 
 /// Takes the items of a source that a slice cut out of it through the stages and into a sink.
@@ -205,16 +203,16 @@ fn pass<I: BatchSource, S: BatchSink + Drop>(
     requires wants { passage_flow passing.old.passage (S.flow passing.old.inner.value) ≡ Flow.More }
     requires values { map (λ x. x.value) (I.items source.now) ≡ values.now }
     ensures fed { (begun : AbstractSlice) (xs : List item)
-        → HasPassed S.has_taken S.flow begun junction.entry.stage (segment_in junction.entry.next.now)
-        junction.entry.env.now (rest_of passing.old.rest) passing.old.passage passing.old.inner.value xs
+        → HasPassed S.has_taken S.flow begun junction.entry.stage (line_in junction.entry.next)
+        junction.entry.next.env.now (rest_of passing.old.rest) passing.old.passage passing.old.inner.value xs
         → IsFed (λ p. HasPassed S.has_taken S.flow begun junction.entry.stage
-        (segment_in junction.entry.next.now) junction.entry.env.now (rest_of p.rest) p.passage p.inner.value) xs
+        (line_in junction.entry.next) junction.entry.next.env.now (rest_of p.rest) p.passage p.inner.value) xs
         (trace (I.items source.now) end.Done) result passing.new }
     ensures all { OnOk result ((begun : AbstractSlice) (xs : List item)
-        → HasPassed S.has_taken S.flow begun junction.entry.stage (segment_in junction.entry.next.now)
-        junction.entry.env.now (rest_of passing.old.rest) passing.old.passage passing.old.inner.value xs
-        → HasPassed S.has_taken S.flow begun junction.entry.stage (segment_in junction.entry.next.now)
-        junction.entry.env.now (rest_of passing.new.rest) passing.new.passage passing.new.inner.value
+        → HasPassed S.has_taken S.flow begun junction.entry.stage (line_in junction.entry.next)
+        junction.entry.next.env.now (rest_of passing.old.rest) passing.old.passage passing.old.inner.value xs
+        → HasPassed S.has_taken S.flow begun junction.entry.stage (line_in junction.entry.next)
+        junction.entry.next.env.now (rest_of passing.new.rest) passing.new.passage passing.new.inner.value
         (xs ++ I.items source.now)) }
     ensures flow { passage_flow passing.new.passage (S.flow passing.new.inner.value) ≡ flow_after result }
 {
@@ -226,8 +224,7 @@ fn pass<I: BatchSource, S: BatchSink + Drop>(
     }
     let cut = cut_of(passing.rest, junction, source, values, room);
     let inner = &mut *passing.inner;
-    let line = junction.next.pipeline(junction.env);
-    let fed = match hand_on(line, source, &cut, registers, room, inner) {
+    let fed = match hand_on(junction.next, source, &cut, registers, room, inner) {
         Ok(fed) => fed,
         Err(refused) => {
             passing.passage = Passage::Refused;
@@ -241,8 +238,8 @@ fn pass<I: BatchSource, S: BatchSink + Drop>(
 }
 
 impl<K: LinkBrand, S: Closing> LongSink for LinkSink<'_, '_, K, S> {
-    ghost has_taken = { λ sink items. (segment_in sink.junction.next.now ≡ K.next) × (sink.junction.stage ≡ K.stage)
-        × (sink.junction.env.now ≡ K.env)
+    ghost has_taken = { λ sink items. (line_in sink.junction.next ≡ K.next) × (sink.junction.stage ≡ K.stage)
+        × (sink.junction.next.env.now ≡ K.env)
         × HasPassed S.has_taken S.flow K.rest K.stage K.next K.env
         (rest_of sink.passing.rest) sink.passing.passage sink.passing.inner.value items };
 

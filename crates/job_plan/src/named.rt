@@ -3,10 +3,10 @@
 ghost use Rattle.std.specs.Prelude.{◌≡◌, false, List};
 ghost use Rattle.job_language.specs.Jobs.{sources_of};
 ghost use Rattle.job_meaning.specs.declared.answer.Answer.{Answer as answer};
-ghost use Rattle.job_plan.specs.declared.segment.Named.{Named as named};
+ghost use Rattle.job_plan.specs.declared.plan.Named.{Named as named};
 ghost use Rattle.job_plan.specs.PlannedAnswers.{all_put_at, place_in};
 
-use crate::segment::JobPlan;
+use crate::plan::JobPlan;
 use job_language::PlainSource;
 
 /// Whether a source is the array of an earlier job.

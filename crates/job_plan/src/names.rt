@@ -6,7 +6,7 @@ ghost use Rattle.job_meaning.specs.Names.{names_in_job, place_of};
 ghost use Rattle.job_plan.specs.Parts.{plan_names};
 ghost use Rattle.job_plan.specs.Plans.{all_placed};
 
-use crate::segment::{JobPlan, Named};
+use crate::plan::{JobPlan, Named};
 use job_language::Job;
 use job_meaning::names_in_job;
 use std::alloc::Global;

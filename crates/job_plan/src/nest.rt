@@ -1,18 +1,20 @@
 //! A walk through several slices. Each of them is a sink with the next one inside.
 
-ghost use Rattle.std.specs.Prelude.{◌≡◌, ◌≤◌, ◌<◌, ℕ, suc, [], IfNone, IfOk, IfSome, Some, length};
-ghost use Rattle.lambda_values.specs.Earlier.{Numbers};
+ghost use Rattle.std.specs.Prelude.{◌≡◌, ◌+◌, ◌≤◌, ◌<◌, ℕ, suc, [], IfNone, IfOk, IfSome, length};
+ghost use Rattle.batch_eval.specs.Pipelines.{piped};
+ghost use Rattle.trace.specs.Stages.{pipe, stages_of};
 ghost use Rattle.trace.specs.Trace.{Trace};
-ghost use Rattle.job_plan.specs.Links.{first_links, link_at, link_walk, linked, open_link, slice_at};
-ghost use Rattle.job_plan.specs.Parts.{segment_in, segments_in, walk_in};
+ghost use Rattle.slice_ops.specs.Slices.{slice_of, sliced};
+ghost use Rattle.job_plan.specs.Links.{line_in, open_link};
+ghost use Rattle.job_plan.specs.Parts.{link_in, links_in, walk_in};
 ghost use Rattle.job_plan.specs.Passages.{through_link};
-ghost use Rattle.job_plan.specs.Plans.{last_stage, slice_in, walk_of};
+ghost use Rattle.job_plan.specs.Plans.{linked};
 
 use crate::closing::Closing;
+use crate::leg::Link;
 use crate::link_sink::{Junction, LinkBrand, LinkSink, Passage, Passing};
-use crate::segment::Segment;
-use crate::source::Walked;
-use batch_eval::Registers;
+use crate::source::Source;
+use batch_eval::{Pipeline, Registers};
 use prefix_walks::Window;
 use slice_ops::SliceRest;
 use std::alloc::Global;
@@ -29,36 +31,46 @@ type Seven<N> = Three<Inner<Three<N>>>;
 
 type Fifteen<N> = Seven<Inner<Seven<N>>>;
 
-/// Segments that end in slices, and the segment after them.
+/// Slices that a walk goes through, and the stages after them.
 #[derive(Clone, Copy)]
 pub(crate) struct Chain<'p> {
-    pub(crate) links: &'p [Segment],
-    pub(crate) next: &'p Segment,
-    /// A segment that lets all items pass.
-    pub(crate) pass_all: &'p Segment,
-    ghost linked: { length (first_links (segments_in links.now)) ≡ length links.now },
+    pub(crate) links: &'p [Link],
+    pub(crate) line: Pipeline<'p>,
+    /// A link that lets all items pass.
+    pub(crate) pass_all: &'p Link,
 }
 
 impl<'p> Chain<'p> {
-    /// The chain up to and with its last link.
-    fn before(self) -> Option<Chain<'p>>
-        ensures slice { IfSome result
-            (λ chain. slice_in (segment_in chain.next.now).ending ≡ Some (slice_at (segment_in chain.next.now))) }
-        ensures fewer { IfSome result (λ chain. length chain.links.now < length self.entry.links.now) }
-        ensures walk { IfSome result (λ chain. (env : Numbers) (t : Trace)
-            → linked (first_links (segments_in self.entry.links.now)) env t
-            ≡ link_walk (link_at (segment_in chain.next.now)) env
-            (linked (first_links (segments_in chain.links.now)) env t)) }
-        ensures passes { IfSome result (λ chain. chain.pass_all.now ≡ self.entry.pass_all.now) }
+    /// The last link, and the chain up to its stages.
+    fn before(self) -> Option<(&'p Link, Chain<'p>)>
+        ensures fewer { IfSome result (λ before. length before.1.links.now < length self.entry.links.now) }
+        ensures walk { IfSome result (λ before. (t : Trace)
+            → linked (links_in self.entry.links.now) self.entry.line.env.now t
+            ≡ sliced (slice_of before.0.now.slice) (before.0.now.first_stage + length before.0.now.stages.items)
+            self.entry.line.env.now (piped before.1.line (linked (links_in before.1.links.now)
+            self.entry.line.env.now t))) }
+        ensures passes { IfSome result (λ before. before.1.pass_all.now ≡ self.entry.pass_all.now) }
+        ensures env { IfSome result (λ before. before.1.line.env.now ≡ self.entry.line.env.now) }
         ensures none { IfNone result (self.entry.links.now ≡ []) }
     {
         match self.links.split_last() {
-            Some((next, links)) => Some(Chain {
-                links,
-                next,
-                pass_all: self.pass_all,
-            }),
+            Some((link, links)) => Some((link, self.up_to(links, link))),
             None => None,
+        }
+    }
+
+    /// The chain of these links and the stages of another one.
+    fn up_to(self, links: &'p [Link], link: &'p Link) -> Chain<'p>
+        ensures links { result.links.now ≡ links.now }
+        ensures line { (t : Trace) → piped result.line t
+            ≡ pipe link.now.first_stage (stages_of link.now.stages.items) self.entry.line.env.now t }
+        ensures passes { result.pass_all.now ≡ self.entry.pass_all.now }
+        ensures env { result.line.env.now ≡ self.entry.line.env.now }
+    {
+        Chain {
+            links,
+            line: link.pipeline(self.line.env),
+            pass_all: self.pass_all,
         }
     }
 }
@@ -68,21 +80,20 @@ impl<'p> Chain<'p> {
 pub(crate) trait Nest {
     ghost depth: { ℕ };
 
-    /// What a sink makes of the walk of a source that went through the links of a chain and then through the stages of
-    /// the segment after them.
+    /// What a sink makes of the walk of a source that went through the links of a chain and then through the stages
+    /// after them.
     fn feed<S: Closing>(
         alloc: Global,
         chain: Chain,
-        walked: Walked,
+        source: &Source,
         registers: &mut Registers,
         sink: S,
     ) -> Result<S::Made, NoMemory>
         requires few { length chain.links.now ≤ Self.depth }
-        requires passes { segment_in chain.pass_all.now ≡ open_link }
+        requires passes { link_in chain.pass_all.now ≡ open_link }
         requires begun { S.has_taken sink [] }
-        ensures { IfOk result (λ made. S.stands made (walk_of (segment_in chain.entry.next.now) walked.entry.env.now
-            (linked (first_links (segments_in chain.entry.links.now)) walked.entry.env.now
-            (walk_in walked.entry.source)))) };
+        ensures { IfOk result (λ made. S.stands made (piped chain.entry.line
+            (linked (links_in chain.entry.links.now) chain.entry.line.env.now (walk_in source.now)))) };
 }
 
 /// No sink but the one that is given.
@@ -104,11 +115,11 @@ impl Nest for Zero {
     fn feed<S: Closing>(
         _alloc: Global,
         chain: Chain,
-        walked: Walked,
+        source: &Source,
         registers: &mut Registers,
         sink: S,
     ) -> Result<S::Made, NoMemory> {
-        feed_source(chain.next, walked, registers, sink)
+        feed_source(chain.line, source, registers, sink)
     }
 }
 
@@ -118,15 +129,15 @@ impl<N: Nest> Nest for Next<N> {
     fn feed<S: Closing>(
         alloc: Global,
         chain: Chain,
-        walked: Walked,
+        source: &Source,
         registers: &mut Registers,
         sink: S,
     ) -> Result<S::Made, NoMemory> {
         match chain.before() {
-            Some(before) => {
-                feed_link::<Brand, N, S>(alloc, before, chain.next, walked, registers, sink)
+            Some((link, before)) => {
+                feed_link::<Brand, N, S>(alloc, link, before, chain.line, source, registers, sink)
             }
-            None => feed_source(chain.next, walked, registers, sink),
+            None => feed_source(chain.line, source, registers, sink),
         }
     }
 }
@@ -137,57 +148,50 @@ impl<N: Nest> Nest for Inner<N> {
     fn feed<S: Closing>(
         alloc: Global,
         chain: Chain,
-        walked: Walked,
+        source: &Source,
         registers: &mut Registers,
         sink: S,
     ) -> Result<S::Made, NoMemory> {
-        let Some(before) = chain.before() else {
-            let before = Chain {
-                links: chain.links,
-                next: chain.pass_all,
-                pass_all: chain.pass_all,
-            };
-            return feed_link::<Brand, N, S>(alloc, before, chain.next, walked, registers, sink);
+        let Some((link, before)) = chain.before() else {
+            let link = chain.pass_all;
+            let before = chain.up_to(chain.links, link);
+            return feed_link::<Brand, N, S>(
+                alloc, link, before, chain.line, source, registers, sink,
+            );
         };
-        feed_link::<Brand, N, S>(alloc, before, chain.next, walked, registers, sink)
+        feed_link::<Brand, N, S>(alloc, link, before, chain.line, source, registers, sink)
     }
 }
 
-/// Wraps `sink` in the slice at the end of a chain, with the stages of `next` after it, and feeds it.
+/// Wraps `sink` in a slice, with the stages of `next` after it, and feeds it what comes through a chain.
 fn feed_link<K: LinkBrand, N: Nest, S: Closing>(
     alloc: Global,
-    chain: Chain,
-    next: &Segment,
-    walked: Walked,
+    link: &Link,
+    before: Chain,
+    next: Pipeline<'_>,
+    source: &Source,
     registers: &mut Registers,
     sink: S,
 ) -> Result<S::Made, NoMemory>
-    requires slice { slice_in (segment_in chain.next.now).ending ≡ Some K.rest }
-    requires stage { last_stage (segment_in chain.next.now) ≡ K.stage }
-    requires next { segment_in next.now ≡ K.next }
-    requires env { walked.env.now ≡ K.env }
-    requires few { length chain.links.now ≤ N.depth }
-    requires passes { segment_in chain.pass_all.now ≡ open_link }
+    requires slice { slice_of link.now.slice ≡ K.rest }
+    requires stage { link.now.first_stage + length link.now.stages.items ≡ K.stage }
+    requires next { line_in next ≡ K.next }
+    requires env { next.env.now ≡ K.env }
+    requires few { length before.links.now ≤ N.depth }
+    requires passes { link_in before.pass_all.now ≡ open_link }
     requires begun { S.has_taken sink [] }
-    ensures { IfOk result (λ made. S.stands made (through_link K.rest K.stage K.next K.env
-        (walk_of (segment_in chain.entry.next.now) walked.entry.env.now
-        (linked (first_links (segments_in chain.entry.links.now)) walked.entry.env.now
-        (walk_in walked.entry.source))))) }
+    ensures { IfOk result (λ made. S.stands made (through_link K.rest K.stage K.next K.env (piped before.entry.line
+        (linked (links_in before.entry.links.now) before.entry.line.env.now (walk_in source.now))))) }
 {
-    let last = chain.next;
-    let Some(slice) = last.end.slice() else {
-        unreachable!()
-    };
-    let rest = SliceRest::of(slice);
+    let rest = SliceRest::of(&link.slice);
     let passing = Passing {
         rest,
         passage: Passage::of(&rest),
         inner: Box::new(alloc, sink)?,
     };
     let junction = Junction {
-        stage: last.first_stage + last.stages.len() as u32,
+        stage: link.first_stage + link.stages.len() as u32,
         next,
-        env: walked.env,
     };
     let sink = LinkSink::<K, S> {
         passing,
@@ -195,28 +199,26 @@ fn feed_link<K: LinkBrand, N: Nest, S: Closing>(
         registers: Registers::new(alloc),
         of: PhantomData,
     };
-    N::feed(alloc, chain, walked, registers, sink)
+    N::feed(alloc, before, source, registers, sink)
 }
 
-/// What a sink makes of the walk of a source through the stages of `next`.
+/// What a sink makes of the walk of a source through stages.
 fn feed_source<S: Closing>(
-    next: &Segment,
-    walked: Walked,
+    line: Pipeline<'_>,
+    source: &Source,
     registers: &mut Registers,
     sink: S,
 ) -> Result<S::Made, NoMemory>
     requires begun { S.has_taken sink [] }
-    ensures { IfOk result
-        (λ made. S.stands made (walk_of (segment_in next.now) walked.entry.env.now (walk_in walked.entry.source))) }
+    ensures { IfOk result (λ made. S.stands made (piped line.entry (walk_in source.now))) }
 {
     if sink.has_enough() {
         return sink.close(End::Done);
     }
     let mut sink = sink;
-    let line = next.pipeline(walked.env);
     let all = Window { from: 0, to: None };
-    match walked.source.feed(line, all, registers, &mut sink)? {
-        Fed::More => sink.close(walked.source.end()),
+    match source.feed(line, all, registers, &mut sink)? {
+        Fed::More => sink.close(source.end()),
         Fed::Fault(fault) => sink.close(End::Fault(fault)),
         Fed::Enough => sink.close(End::Done),
     }

@@ -10,7 +10,7 @@ ghost use Rattle.trace.specs.declared.item.Item.{Item as item};
 ghost use Rattle.job_plan.specs.FoldFaults.{end_fault, fold_fault};
 ghost use Rattle.job_plan.specs.Parts.{EndsFor, StandsFor, end_in, end_keeps_items, is_fault};
 ghost use Rattle.job_plan.specs.Parts.{is_running, is_settled, keeps_items, may_search, settles};
-ghost use Rattle.job_plan.specs.Plans.{AbstractEnd, AbstractSegment, outcome_of, slice_in};
+ghost use Rattle.job_plan.specs.Plans.{AbstractEnd, AbstractSegment, outcome_of};
 
 use crate::array_part::ArrayPart;
 use crate::end_part::{EndPart, LastStage};
@@ -66,14 +66,12 @@ macro_rules! of_one_kind {
 }
 
 impl<'p> Part<'p> {
-    /// The part of no item. The end isn't a slice, and is the stage with this number. It takes no memory.
+    /// The part of no item. The end is the stage with this number. It takes no memory.
     pub(crate) fn none(alloc: Global, end: &'p SegmentEnd, stage: u32, env: &Env) -> Part<'p>
-        requires whole { is_some (slice_in (end_in end.now)) ≡ false }
         ensures stands { EndsFor (end_in end.now) stage env.now result nothing }
         ensures keeps { keeps_items result ≡ end_keeps_items (end_in end.now) }
     {
         match end {
-            SegmentEnd::Slice(_) => unreachable!(),
             SegmentEnd::Fold(fold) => Part::Fold(FoldPart::none(*fold)),
             SegmentEnd::Find(find) => Part::Find(FindPart::none(find, End::Done)),
             SegmentEnd::Array => Part::Array(ArrayPart::none(alloc)),
@@ -84,7 +82,6 @@ impl<'p> Part<'p> {
 
     /// The part of no item of a walk from the first item of a source on. It takes no memory.
     pub(crate) fn first(alloc: Global, end: &'p SegmentEnd, stage: u32, env: &Env) -> Part<'p>
-        requires whole { is_some (slice_in (end_in end.now)) ≡ false }
         ensures stands { EndsFor (end_in end.now) stage env.now result nothing }
         ensures kind { may_search result ≡ false }
         ensures keeps { keeps_items result ≡ end_keeps_items (end_in end.now) }

@@ -1,30 +1,77 @@
-//! How jobs are cut into segments.
+//! The routes of jobs: what a run walks.
 
-ghost use Rattle.std.specs.Prelude.{◌≡◌, ◌≤◌, ◌+◌, List, [], ◌∷◌, ◌++◌, length, IfOk, OnOk};
-ghost use Rattle.trace.specs.Stages.{stages_of};
-ghost use Rattle.job_language.specs.Jobs.{AbstractJobStage, AbstractTerminal, job_of};
-ghost use Rattle.job_language.specs.Jobs.{jobs_of, job_stage_of, job_stages_of, terminal_of};
-ghost use Rattle.job_plan.specs.Parts.{end_in, plan_in, plan_names, plans_in, segment_in, segments_in};
-ghost use Rattle.job_plan.specs.Plans.{plan_of, plans_of, segments_from};
+ghost use Rattle.std.specs.Prelude.{◌≡◌, IfOk, length};
+ghost use Rattle.job_language.specs.Jobs.{job_of, jobs_of, names_of};
+ghost use Rattle.job_meaning.specs.FileAnswers.{meaning_of};
+ghost use Rattle.job_plan.specs.Building.{IsRoute};
+ghost use Rattle.job_plan.specs.Parts.{leg_in, plan_in, plan_names, plans_in};
+ghost use Rattle.job_plan.specs.PlannedAnswers.{planned_meaning};
+ghost use Rattle.job_plan.specs.Plans.{leg_at};
 
-use crate::ends::SegmentEnd;
-use crate::fallback::fallback_of;
+use crate::building::{Way, way_of};
+use crate::fallback::{Fallback, fallback_of};
+use crate::leg::Leg;
 use crate::lent_arrays::lent_arrays;
 use crate::likely::likely_size;
 use crate::names::named_in;
-use crate::segment::{JobPlan, Plan, Segment};
-use job_language::{Job, JobStage, Terminal};
-use prefix_walks::Prefix;
+use job_language::{Job, PlainSource};
+use prefix_walks::Window;
 use std::alloc::Global;
-use std::mem;
-use trace::{NoMemory, Stage};
+use stream_tokens::Bytes;
+use trace::NoMemory;
+
+/// An earlier job that a job names.
+#[derive(Drop)]
+pub struct Named {
+    pub name: Bytes,
+    /// The place of the earlier job in the file, from 0.
+    pub job: usize,
+}
+
+/// The route of a job. Its first leg goes over positions of the job's sources, each further one over what the prefix at
+/// the end of the leg before it gives, and the last one gives the answer.
+#[derive(Drop)]
+pub struct JobPlan<'c> {
+    pub name: Bytes,
+    /// The earlier jobs that it names, `result(NAME)` or `$NAME`, in order of writing, repeated where they are
+    /// repeated.
+    pub named: Vec<Named>,
+    /// How many positions its first leg has, as far as it is known before a run. For the array of an earlier job it
+    /// takes this number of that job. No answer depends on it.
+    pub likely_size: u64,
+    pub sources: Vec<PlainSource<'c>>,
+    /// The positions of the sources that the first leg goes over.
+    pub window: Window,
+    /// The legs that end in prefixes.
+    pub scans: Vec<Leg>,
+    pub last: Leg,
+    /// What the job gives after a fault, if anything.
+    pub fallback: Option<Fallback>,
+}
+
+/// The routes of the jobs of a file, in file order.
+#[derive(Drop)]
+pub struct Plan<'c> {
+    pub jobs: Vec<JobPlan<'c>>,
+    /// Whether a later job goes over the array of the job at a place. It is empty if no job goes over an array. No
+    /// answer depends on it.
+    pub lent: Vec<bool>,
+}
 
 impl<'c> Plan<'c> {
-    /// Cuts each job into segments, and finds the earlier jobs that it names. A name that no earlier job has is left
-    /// out. The jobs are moved; after a refused allocation they are dropped. Each name in a job is compared with the
-    /// names of the jobs before.
+    /// The routes of jobs, with the earlier jobs that they name. A name that no earlier job has is left out.
+    ///
+    /// `limit` goes before maps, and so does `skip` if these can't have a fault. So they select positions of the job's
+    /// sources, and a run cuts what they leave. A `reduce` that keeps the first value becomes `findFirst`, which ends
+    /// there, if only maps and filters that can't have a fault come before it. Before `limit(0)` nothing is walked.
+    /// Stages keep their numbers.
+    ///
+    /// The jobs are moved; after a refused allocation they are dropped. Takes time and memory for each stage, and each
+    /// name in a job is compared with the names of the jobs before.
     pub fn of(alloc: Global, jobs: Vec<Job<'c>>) -> Result<Plan<'c>, NoMemory>
-        ensures ok { IfOk result (λ plan. plans_in plan.jobs.items ≡ plans_of (jobs_of jobs.entry.items)) }
+        ensures meaning { IfOk result (λ plan.
+            planned_meaning (plans_in plan.jobs.items) ≡ meaning_of (jobs_of jobs.entry.items)) }
+        ensures names { IfOk result (λ plan. plan_names plan.jobs.items ≡ names_of (jobs_of jobs.entry.items)) }
     {
         let mut plans = Vec::new(alloc);
         for job in jobs {
@@ -37,9 +84,9 @@ impl<'c> Plan<'c> {
 }
 
 impl<'c> JobPlan<'c> {
-    /// Cuts a job into segments, and finds the jobs that it names among those before it.
+    /// The route of a job after these.
     fn of(alloc: Global, job: Job<'c>, before: &[JobPlan<'c>]) -> Result<JobPlan<'c>, NoMemory>
-        ensures ok { IfOk result (λ plan. plan_in plan ≡ plan_of (plan_names before.now) (job_of job.entry)) }
+        ensures ok { IfOk result (λ plan. IsRoute (plan_names before.now) (plan_in plan) (job_of job.entry)) }
     {
         let named = named_in(alloc, &job, before)?;
         let Job {
@@ -50,114 +97,46 @@ impl<'c> JobPlan<'c> {
             on_fault,
         } = job;
         let fallback = fallback_of(&terminal, on_fault);
-        let segments = cut(alloc, stages, terminal)?;
-        let likely_size = likely_size(&sources, &segments, before);
+        let Way {
+            window,
+            scans,
+            last,
+        } = way_of(alloc, stages, terminal)?;
+        let likely_size = likely_size(&sources, window, before);
         Ok(JobPlan {
             name,
             named,
             likely_size,
             sources,
-            segments,
+            window,
+            scans,
+            last,
             fallback,
         })
     }
-}
 
-/// Segments that are cut, and the stages after the last of them.
-#[derive(Drop)]
-struct Begun {
-    alloc: Global,
-    segments: Vec<Segment>,
-    /// The number of the first stage after the segments.
-    first_stage: u32,
-    stages: Vec<Stage>,
-}
-
-impl Begun {
-    /// No stages yet.
-    fn none(alloc: Global) -> Begun
-        ensures { (result.segments.items ≡ []) × (result.first_stage ≡ 1) × (result.stages.items ≡ []) }
+    /// The name of the job. Nothing is copied.
+    pub fn into_name(self) -> Bytes
+        ensures { result ≡ self.entry.name }
     {
-        Begun {
-            alloc,
-            segments: Vec::new(alloc),
-            first_stage: 1,
-            stages: Vec::new(alloc),
+        self.name
+    }
+
+    /// The number of the leg that gives the answer.
+    pub fn last_leg(&self) -> usize
+        ensures { result ≡ length (plan_in self.now).legs.scans }
+    {
+        self.scans.len()
+    }
+
+    /// The leg with this number, from 0; a number after the last one's is the last one's.
+    pub fn leg(&self, number: usize) -> &Leg
+        ensures { leg_in result.now ≡ leg_at number (plan_in self.now).legs }
+    {
+        if number < self.scans.len() {
+            &self.scans[number]
+        } else {
+            &self.last
         }
     }
-
-    /// Takes the segment of the stages, with this end, and begins the next one.
-    fn next_segment(&mut self, end: SegmentEnd) -> Segment
-        requires few { self.old.first_stage + length self.old.stages.items ≤ 33 }
-        ensures segment { segment_in result
-            ≡ record { first = self.old.first_stage; stages = stages_of self.old.stages.items; ending = end_in end } }
-        ensures kept { self.new.segments.items ≡ self.old.segments.items }
-        ensures next { (self.new.first_stage ≡ self.old.first_stage + length self.old.stages.items + 1)
-            × (self.new.stages.items ≡ []) }
-    {
-        let first_stage = self.first_stage;
-        let stages = mem::replace(&mut self.stages, Vec::new(self.alloc));
-        self.first_stage = first_stage + stages.len() as u32 + 1;
-        Segment {
-            first_stage,
-            stages,
-            end,
-        }
-    }
-
-    /// Adds the segment of the stages, with this end.
-    fn end(&mut self, end: SegmentEnd) -> Result<(), NoMemory>
-        requires few { self.old.first_stage + length self.old.stages.items ≤ 33 }
-        ensures segments { OnOk result (segments_in self.new.segments.items
-            ≡ segments_in self.old.segments.items
-            ++ record { first = self.old.first_stage; stages = stages_of self.old.stages.items; ending = end_in end }
-            ∷ []) }
-        ensures next { (self.new.first_stage ≡ self.old.first_stage + length self.old.stages.items + 1)
-            × (self.new.stages.items ≡ []) }
-    {
-        let segment = self.next_segment(end);
-        self.segments.push(segment)?;
-        Ok(())
-    }
-
-    /// Adds a stage.
-    fn add(&mut self, stage: JobStage) -> Result<(), NoMemory>
-        requires few { self.old.first_stage + length self.old.stages.items ≤ 32 }
-        ensures cut { OnOk result ((later : List AbstractJobStage) (d : AbstractTerminal)
-            → segments_in self.new.segments.items ++ segments_from self.new.first_stage
-            (stages_of self.new.stages.items) later d
-            ≡ segments_in self.old.segments.items ++ segments_from self.old.first_stage
-            (stages_of self.old.stages.items) (job_stage_of stage ∷ later) d) }
-        ensures few { OnOk result (self.new.first_stage + length self.new.stages.items
-            ≤ self.old.first_stage + length self.old.stages.items + 1) }
-    {
-        match stage {
-            JobStage::Item(stage) => self.stages.push(stage)?,
-            JobStage::Slice(slice) => self.end(SegmentEnd::Slice(slice))?,
-            JobStage::Prefix { positions, op } => self.end(SegmentEnd::Prefix(Prefix {
-                op,
-                range: positions,
-            }))?,
-        }
-        Ok(())
-    }
-}
-
-/// The segments of stages and a terminal.
-fn cut(alloc: Global, stages: Vec<JobStage>, terminal: Terminal) -> Result<Vec<Segment>, NoMemory>
-    requires few { length stages.items ≤ 32 }
-    ensures ok { IfOk result (λ segments. segments_in segments.items
-        ≡ segments_from 1 [] (job_stages_of stages.items) (terminal_of terminal)) }
-    ensures few { IfOk result (λ segments. length segments.items ≤ 33) }
-{
-    let last = SegmentEnd::of(terminal);
-    let mut begun = Begun::none(alloc);
-    // Most jobs have one segment, with all stages.
-    begun.segments.reserve_exact(1)?;
-    begun.stages.reserve_exact(stages.len())?;
-    for stage in stages {
-        begun.add(stage)?;
-    }
-    begun.end(last)?;
-    Ok(begun.segments)
 }

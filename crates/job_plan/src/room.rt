@@ -4,9 +4,9 @@ ghost use Rattle.std.specs.Prelude.{◌≡◌};
 ghost use Rattle.trace.specs.Trace.{nothing};
 ghost use Rattle.job_plan.specs.Parts.{StandsFor, end_in, end_keeps_items, keeps_items, segment_in};
 
+use crate::faultless::all_keep;
 use crate::leaves::{first_part, unwalked};
 use crate::leg::Leg;
-use crate::moves::all_keep;
 use crate::part::Part;
 use crate::source::Walked;
 use lambda_values::Env;
@@ -20,9 +20,9 @@ const MOST: u64 = 65_536;
 ///
 /// An array gets room for the values of all of them, if each item has one, so that it isn't copied as it grows. If that
 /// memory is refused, it grows as any other part does.
-pub(crate) fn with_room<'p>(alloc: Global, leg: Leg<'p>, walked: Walked, window: Window) -> Part<'p>
-    ensures stands { StandsFor (segment_in leg.entry.last.now) walked.entry.env.now result nothing }
-    ensures keeps { keeps_items result ≡ end_keeps_items (end_in leg.entry.last.now.end) }
+pub(crate) fn with_room<'p>(alloc: Global, leg: &'p Leg, walked: Walked, window: Window) -> Part<'p>
+    ensures stands { StandsFor (segment_in leg.now.last) walked.entry.env.now result nothing }
+    ensures keeps { keeps_items result ≡ end_keeps_items (end_in leg.now.last.end) }
 {
     let part = begun(alloc, leg, window.from, walked.env);
     if !all_keep(&leg.last.stages, false) {
@@ -36,9 +36,9 @@ pub(crate) fn with_room<'p>(alloc: Global, leg: Leg<'p>, walked: Walked, window:
 }
 
 /// The part of no item, for a piece that begins at this position.
-fn begun<'p>(alloc: Global, leg: Leg<'p>, from: u64, env: &Env) -> Part<'p>
-    ensures stands { StandsFor (segment_in leg.entry.last.now) env.now result nothing }
-    ensures keeps { keeps_items result ≡ end_keeps_items (end_in leg.entry.last.now.end) }
+fn begun<'p>(alloc: Global, leg: &'p Leg, from: u64, env: &Env) -> Part<'p>
+    ensures stands { StandsFor (segment_in leg.now.last) env.now result nothing }
+    ensures keeps { keeps_items result ≡ end_keeps_items (end_in leg.now.last.end) }
 {
     if from == 0 {
         first_part(alloc, leg, env)

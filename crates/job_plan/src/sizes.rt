@@ -3,8 +3,8 @@
 ghost use Rattle.std.specs.Prelude.{◌≡◌, ◌-◌, ◌^◌, min, length};
 ghost use Rattle.job_language.specs.Jobs.{sources_of};
 ghost use Rattle.job_plan.specs.Parts.{walk_in};
+ghost use Rattle.job_plan.specs.Plans.{windowed};
 ghost use Rattle.job_meaning.specs.Walks.{source_walk};
-ghost use Rattle.job_plan.specs.Windows.{windowed};
 
 use crate::source::Source;
 use crate::sources::{PlainSources, total_size};

@@ -1,4 +1,4 @@
-//! What a segment walks over, by position.
+//! What a leg goes over, by position.
 
 ghost use Rattle.std.specs.Prelude.{◌≡◌, ◌+◌, ◌<◌, ◌≤◌, ◌^◌, pos, ◌+ℤ◌, ℕ, FitsSigned, List, length, take, drop, OnErr};
 ghost use Rattle.std.specs.Int.{w64};
@@ -10,14 +10,13 @@ ghost use Rattle.trace.specs.declared.item.End.TheVariants as end;
 ghost use Rattle.batch_eval.specs.Pipelines.{piped};
 ghost use Rattle.job_language.specs.Jobs.{source_of, sources_of};
 ghost use Rattle.job_plan.specs.Parts.{plan_in, walk_in};
+ghost use Rattle.job_plan.specs.Plans.{selected_source, windowed};
 ghost use Rattle.prefix_walks.specs.Pieces.{elements, piece_of};
 ghost use Rattle.prefix_walks.specs.Spans.{after};
 ghost use Rattle.job_meaning.specs.Walks.{plain_values, source_walk, values_of};
-ghost use Rattle.job_plan.specs.Windows.{selected_source, selected_walk};
 
-use crate::segment::JobPlan;
+use crate::plan::JobPlan;
 use crate::sources::{PlainSources, plain_size};
-use crate::windows::selected_window;
 use batch_eval::{BatchSink, Pipeline, Registers, feed_batches};
 use job_language::PlainSource;
 use lambda_values::{Env, FaultKind};
@@ -31,12 +30,12 @@ const TOO_LONG: Fault = Fault {
     origin: None,
 };
 
-/// What a segment walks over. It borrows the values and copies none.
+/// What a leg goes over. It borrows the values and copies none.
 #[derive(Clone, Copy)]
 pub enum Source<'g, 'a, 'c> {
-    /// Of the first segment: the sources of the job, or positions of them.
+    /// Of the first leg: positions of the sources of the job.
     Plain(PlainSources<'a, 'c>),
-    /// Of a later segment: what the segment before it gave.
+    /// Of a later leg: what the leg before it gave.
     Given(&'g GivenWalk<'a>),
 }
 
@@ -48,24 +47,22 @@ pub struct Walked<'g, 'a, 'c, 'e> {
 }
 
 impl<'g, 'a, 'c> Source<'g, 'a, 'c> {
-    /// The source of the first of a job's `later_segments`: the positions of its sources that the slices before it
-    /// select. It takes no memory.
+    /// The source of a job's first leg: positions of the job's sources. It takes no memory.
     pub fn of_selected(job: &'a JobPlan<'c>) -> Source<'g, 'a, 'c>
         ensures { walk_in result ≡ selected_source (plan_in job.now) }
     {
         Source::of_sources(&job.sources, job)
     }
 
-    /// The source of a job's `later_segments`, as `of_selected` gives it, but over these sources instead of the job's
-    /// own.
+    /// The source of a job's first leg, as `of_selected` gives it, but over these sources instead of the job's own.
     pub fn of_sources(sources: &'a [PlainSource<'c>], job: &JobPlan) -> Source<'g, 'a, 'c>
-        ensures { walk_in result ≡ selected_walk (plan_in job.now).segments (source_walk (sources_of sources.now)) }
+        ensures { walk_in result
+            ≡ windowed job.now.window.from job.now.window.to (source_walk (sources_of sources.now)) }
     {
-        let window = selected_window(&job.segments, Window::all());
-        Source::Plain(PlainSources::within(sources, window))
+        Source::Plain(PlainSources::within(sources, job.window))
     }
 
-    /// The source of a segment after another one that was walked.
+    /// The source of a leg after another one that was walked.
     pub fn of_given(given: &'g GivenWalk<'a>) -> Source<'g, 'a, 'c>
         ensures { walk_in result ≡ given.now }
     {

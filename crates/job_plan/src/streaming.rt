@@ -2,18 +2,14 @@
 //! between isn't kept.
 
 ghost use Rattle.std.specs.Prelude.{◌≡◌, false, IfOk};
-ghost use Rattle.job_plan.specs.Legs.{leg_in};
-ghost use Rattle.job_plan.specs.Links.{linked};
-ghost use Rattle.job_plan.specs.Parts.{GoesOnFrom, StandsFor, end_in, may_search, segment_in, walk_in};
-ghost use Rattle.job_plan.specs.Plans.{last_stage, walk_of};
+ghost use Rattle.job_plan.specs.Parts.{GoesOnFrom, StandsFor, end_in, leg_in, may_search, segment_in, walk_in};
+ghost use Rattle.job_plan.specs.Plans.{last_stage, linked, walk_of};
 
-use crate::ends::SegmentEnd;
 use crate::leaves::first_part;
-use crate::leg::Leg;
+use crate::leg::{Leg, Link};
 use crate::nest::{Chain, Deepest, Nest};
 use crate::part::Part;
 use crate::part_sink::{EndBrand, PartSink};
-use crate::segment::Segment;
 use crate::source::Walked;
 use batch_eval::Registers;
 use slice_ops::Slice;
@@ -26,12 +22,12 @@ use trace::NoMemory;
 /// slices.
 pub fn streamed<'p>(
     alloc: Global,
-    leg: Leg<'p>,
+    leg: &'p Leg,
     walked: Walked,
     registers: &mut Registers,
 ) -> Result<Part<'p>, NoMemory>
-    ensures stands { IfOk result (λ part. StandsFor (leg_in leg.entry).last walked.entry.env.now part
-        (linked (leg_in leg.entry).links walked.entry.env.now (walk_in walked.entry.source))) }
+    ensures stands { IfOk result (λ part. StandsFor (leg_in leg.now).last walked.entry.env.now part
+        (linked (leg_in leg.now).links walked.entry.env.now (walk_in walked.entry.source))) }
     ensures kind { IfOk result (λ part. may_search part ≡ false) }
 {
     let none = first_part(alloc, leg, walked.env);
@@ -42,19 +38,19 @@ pub fn streamed<'p>(
 fn nested<'p, K: EndBrand>(
     alloc: Global,
     none: Part<'p>,
-    leg: Leg<'p>,
+    leg: &'p Leg,
     walked: Walked,
     registers: &mut Registers,
 ) -> Result<Part<'p>, NoMemory>
-    requires last { leg.last.now.end ≡ K.last }
-    requires stage { last_stage (segment_in leg.last.now) ≡ K.stage }
+    requires last { leg.now.last.end ≡ K.last }
+    requires stage { last_stage (segment_in leg.now.last) ≡ K.stage }
     requires env { walked.env.now ≡ K.env }
     requires begun { none ≡ K.begun }
     ensures { IfOk result (λ part. GoesOnFrom (end_in K.last) K.stage K.env K.begun part
-        (walk_of (leg_in leg.entry).last walked.entry.env.now
-        (linked (leg_in leg.entry).links walked.entry.env.now (walk_in walked.entry.source)))) }
+        (walk_of (leg_in leg.now).last walked.entry.env.now
+        (linked (leg_in leg.now).links walked.entry.env.now (walk_in walked.entry.source)))) }
 {
-    let last = leg.last;
+    let last = &leg.last;
     let sink = PartSink::<K> {
         part: none,
         segment: last,
@@ -62,15 +58,15 @@ fn nested<'p, K: EndBrand>(
         env: walked.env,
         of: PhantomData,
     };
-    let pass_all = Segment {
+    let pass_all = Link {
         first_stage: 0,
         stages: Vec::new(alloc),
-        end: SegmentEnd::Slice(Slice::Skip(0)),
+        slice: Slice::Skip(0),
     };
     let chain = Chain {
-        links: leg.links,
-        next: last,
+        links: &leg.links,
+        line: last.pipeline(walked.env),
         pass_all: &pass_all,
     };
-    Deepest::feed(alloc, chain, walked, registers, sink)
+    Deepest::feed(alloc, chain, &walked.source, registers, sink)
 }

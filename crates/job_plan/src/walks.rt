@@ -2,21 +2,17 @@
 
 ghost use Rattle.std.specs.Prelude.{◌≡◌, ◌≤◌, ◌<◌, length, pos, IfOk, IfSome, slice_get, OnSome, Some};
 ghost use Rattle.trace.specs.Trace.{Trace};
-ghost use Rattle.job_plan.specs.Parts.{StandsFor, plan_in, plans_in, segment_in, segments_in, walk_in};
+ghost use Rattle.job_plan.specs.Parts.{StandsFor, leg_in, legs_in, plan_in, segment_in, walk_in};
 ghost use Rattle.prefix_walks.specs.Pieces.{piece_of};
-ghost use Rattle.job_plan.specs.Legs.{leg_in};
-ghost use Rattle.job_plan.specs.Links.{leg_outcome, legs_answer, legs_of};
-ghost use Rattle.job_plan.specs.Plans.{planned_answer};
+ghost use Rattle.job_plan.specs.Plans.{leg_outcome, legs_answer, planned_answer};
 
 use crate::leaves::leaf_until;
 use crate::leg::Leg;
-use crate::links::first_leg;
 use crate::outcome::Outcome;
 use crate::part::Part;
-use crate::segment::{JobPlan, Segment};
+use crate::plan::JobPlan;
 use crate::source::{Source, Walked};
 use crate::streaming::streamed;
-use crate::windows::later_segments;
 use batch_eval::Registers;
 use early_stop::Never;
 use job_meaning::Answer;
@@ -49,9 +45,16 @@ pub fn walk_tree(
     ensures { IfOk result (λ answer. answer ≡ planned_answer env.now (plan_in job.now)) }
 {
     let mut registers = Registers::new(alloc);
-    let segments = later_segments(&job.segments);
     let source = Source::of_selected(job);
-    let given = walk_legs(alloc, segments, &source, tree, env, &mut registers)?;
+    let given = walk_legs(
+        alloc,
+        &job.scans,
+        &job.last,
+        &source,
+        tree,
+        env,
+        &mut registers,
+    )?;
     Ok(job.without_fault(given))
 }
 
@@ -62,45 +65,45 @@ pub fn walk(alloc: Global, job: &JobPlan, env: &Env) -> Result<Answer, NoMemory>
     walk_tree(alloc, job, &SplitTree::Leaf, env)
 }
 
-/// The answer of segments by their legs. The first one goes over this source.
+/// The answer of legs up to prefixes and a last one. The first of them goes over this source.
 fn walk_legs<'p>(
     alloc: Global,
-    segments: &'p [Segment],
+    scans: &'p [Leg],
+    last: &'p Leg,
     source: &Source<'_, 'p, '_>,
     tree: &SplitTree,
     env: &Env,
     registers: &mut Registers,
 ) -> Result<Answer, NoMemory>
-    requires few { length segments.now ≤ 33 }
-    ensures { IfOk result
-        (λ answer. answer ≡ legs_answer (legs_of (segments_in segments.now)) env.now (walk_in source.now)) }
+    ensures { IfOk result (λ answer. answer
+        ≡ legs_answer (record { scans = legs_in scans.now; last = leg_in last.now }) env.now (walk_in source.now)) }
 {
-    let Some((leg, later)) = first_leg(segments) else {
-        return Ok(Answer::Number(0));
+    let Some((leg, later)) = scans.split_first() else {
+        let outcome = walk_leg(alloc, last, source, tree, env, registers)?;
+        return Ok(outcome.answer());
     };
-    match walk_leg(alloc, leg, source, tree, env, registers)? {
-        Outcome::Answer(answer) => Ok(answer),
-        Outcome::Source(given) => walk_legs(
-            alloc,
-            later,
-            &Source::of_given(&given),
-            tree,
-            env,
-            registers,
-        ),
-    }
+    let given = walk_leg(alloc, leg, source, tree, env, registers)?.walk();
+    walk_legs(
+        alloc,
+        later,
+        last,
+        &Source::of_given(&given),
+        tree,
+        env,
+        registers,
+    )
 }
 
 /// What a leg makes of its source, in the pieces of a tree if it goes through no slices.
 fn walk_leg<'p>(
     alloc: Global,
-    leg: Leg<'p>,
+    leg: &'p Leg,
     source: &Source<'_, 'p, '_>,
     tree: &SplitTree,
     env: &Env,
     registers: &mut Registers,
 ) -> Result<Outcome<'p>, NoMemory>
-    ensures { IfOk result (λ outcome. outcome ≡ leg_outcome (leg_in leg.entry) env.now (walk_in source.now)) }
+    ensures { IfOk result (λ outcome. outcome ≡ leg_outcome (leg_in leg.now) env.now (walk_in source.now)) }
 {
     let walked = Walked {
         source: *source,
@@ -123,14 +126,14 @@ fn walk_leg<'p>(
 /// The part of the items at these positions, in the pieces of a tree.
 fn walk_piece<'p>(
     alloc: Global,
-    leg: Leg<'p>,
+    leg: &'p Leg,
     walked: Walked<'_, 'p, '_, '_>,
     window: Window,
     tree: &SplitTree,
     registers: &mut Registers,
 ) -> Result<Part<'p>, NoMemory>
     requires ordered { IfSome window.to (λ last. window.from ≤ last) }
-    ensures { IfOk result (λ part. StandsFor (segment_in leg.entry.last.now) walked.entry.env.now part
+    ensures { IfOk result (λ part. StandsFor (segment_in leg.now.last) walked.entry.env.now part
         (piece_of window.from window.to (walk_in walked.entry.source))) }
 {
     let Window { from, to } = window;

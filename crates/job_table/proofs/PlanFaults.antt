@@ -1,5 +1,5 @@
 -- A piece that ends in a fault: what the whole segment gives, and what the job answers.
-use Rattle.std.proofs.Common.{◌≡◌, ◌≢◌, ℕ, ◌+◌, ◌-◌, ◌<◌, ◌≤◌, ◌==◌, Bool, true, false, List, length, drop, Option, Some, None, IfSome, slice_get, if◌then◌else◌, ap, sym, subst, refl, ◌∙◌, le_refl, arith}
+use Rattle.std.proofs.Common.{◌≡◌, ◌≢◌, ℕ, ◌+◌, ◌-◌, ◌<◌, ◌≤◌, ◌==◌, Bool, true, false, List, length, drop, Option, Some, None, IfSome, if◌then◌else◌, ap, sym, subst, refl, ◌∙◌, le_refl, arith}
 use Rattle.std.proofs.lemmas.List.{length-take}
 use Rattle.lambda_values.specs.Earlier.{Numbers}
 use Rattle.trace.specs.declared.item.Fault.{Fault}
@@ -19,19 +19,18 @@ use Rattle.job_plan.specs.declared.fold_part.FoldPart.{FoldPart}
 use Rattle.job_plan.specs.declared.part.Part.{Part}
 use Rattle.job_plan.specs.declared.part.Part.TheVariants as part
 use Rattle.job_plan.specs.Parts.{EndsFor, StandsEnough, is_fault}
+use Rattle.job_plan.specs.Plans.{AbstractEnd, folding, finding, collecting, exactly, scanning, AbstractPlan, AbstractSegment, ended, folded, given_answer, last_stage, leg_at, legs_answer, walk_of}
 use Rattle.job_plan.specs.FoldFaults.{end_fault, fold_fault}
-use Rattle.job_plan.specs.Links.{AbstractLeg, legs_answer, plan_legs}
 use Rattle.prefix_walks.specs.Pieces.{piece_of}
-use Rattle.job_plan.specs.PlannedAnswers.{first_unusable_at, put_into}
+use Rattle.job_plan.specs.PlannedAnswers.{first_unusable_at}
 use Rattle.prefix_walks.specs.Batches.{counted_as}
-use Rattle.job_plan.specs.Plans.{AbstractEnd, slicing, folding, finding, collecting, exactly, scanning, AbstractPlan, AbstractSegment, ended, folded, last_stage, outcome_of, walk_of}
 use Rattle.job_meaning.specs.Walks.{instead_of_fault, unless_fault}
 use Rattle.prefix_walks.proofs.Elements.{length_dropped}
 use Rattle.prefix_walks.proofs.SideBySide.{pieces_joined, whole_piece}
 use Rattle.job_table.specs.Caught.{FaultAmong, IsCaught}
-use Rattle.job_table.specs.PlanSegments.{AbstractChain, PartStands, answer_of, answers_before, chain_at, gives_at, piece_between, plan_at, size_at, prefixes_first, source_at, walk_at}
-use Rattle.job_table.proofs.PlanAnswers.{answer_at, answer_there, given_answer}
-use Rattle.job_table.proofs.PlanParts.{chain_answer, part_decides, size_within, there_walk}
+use Rattle.job_table.specs.PlanSegments.{AbstractChain, PartStands, answer_of, answers_before, chain_at, gives_at, piece_between, plan_at, size_at, last_leg, walk_at}
+use Rattle.job_table.proofs.PlanAnswers.{answer_there}
+use Rattle.job_table.proofs.PlanParts.{part_decides, size_within}
 use Rattle.job_table.proofs.PlanSources.{legs_there}
 use Rattle.job_table.proofs.PlannedAnswers.{walked_answer}
 
@@ -59,7 +58,6 @@ fault_decides plans job segment from to f low h =
 -- ---- a fold of a walk that ends in a fault
 
 fold_gives : (e : AbstractEnd) (n : ℕ) (env : Numbers) (p : FoldPart) (t u : Trace) (f g : Fault) → EndsFor e n env (part.Fold p) t → u.ending ≡ end.Fault g → ended e n env u ≡ outcome.Answer (answer.Fault g)
-fold_gives (slicing d) n env p t u f g s h = absurd s
 fold_gives (folding op a c) n env p t u f g s h = ap (λ (e : End). outcome.Answer (unless_fault e (folded op a (counted_as c u.items)))) h
 fold_gives (finding d) n env p t u f g s h = absurd s
 fold_gives collecting n env p t u f g s h = absurd s
@@ -67,7 +65,6 @@ fold_gives exactly n env p t u f g s h = absurd s
 fold_gives (scanning op r) n env p t u f g s h = absurd s
 
 fold_walk : (e : AbstractEnd) (n : ℕ) (env : Numbers) (p : FoldPart) (t : Trace) (f : Fault) → EndsFor e n env (part.Fold p) t → p.partial.end ≡ end.Fault f → t.ending ≡ end.Fault f
-fold_walk (slicing d) n env p t f s h = absurd s
 fold_walk (folding op a c) n env p t f s h = sym s.stands.ending ∙ h
 fold_walk (finding d) n env p t f s h = absurd s
 fold_walk collecting n env p t f s h = absurd s
@@ -114,43 +111,33 @@ whole_of decides w size from to t h low enough =
     (subst (λ (n : ℕ). IsEnough decides n (piece_of from None w) (append t rest)) (sym (left_long w from low)) right))
 
 -- so the segment gives a fault
-pub segment_faults : (chain : AbstractChain) (segment from to : ℕ) (p : FoldPart) (f : Fault) (l : AbstractLeg) → slice_get chain.legs segment ≡ Some l → from ≤ to → to ≤ size_at chain segment → PartStands chain segment from to (part.Fold p) → p.partial.end ≡ end.Fault f
-    → (g : Fault) × (outcome_of l.last chain.numbers (walk_at chain segment) ≡ outcome.Answer (answer.Fault g))
-segment_faults chain segment from to p f l there h within stands faulted = by (subst (λ (o : Option AbstractLeg). IfSome o (λ l. Is l.last)) there stands)
-  where
-    w : Trace
-    w = walk_at chain segment
-
-    Is : AbstractSegment → Type 0
-    Is r = StandsEnough (Decides (outcome_of r chain.numbers) (walk_at chain segment)) r chain.numbers (part.Fold p) from (piece_between (size_at chain segment) from to (walk_at chain segment))
-
-    by : Is l.last → (g : Fault) × (outcome_of l.last chain.numbers (walk_at chain segment) ≡ outcome.Answer (answer.Fault g))
-    by (t, enough, is) =
-        let rest = right_of (size_at chain segment) to (walk_at chain segment) in
-        let left = piece_of 0 (Some from) (walk_at chain segment) in
-        let fits = size_within chain segment in
-        let all = whole_of (Decides (outcome_of l.last chain.numbers) (walk_at chain segment)) (walk_at chain segment) (size_at chain segment) from to t h (omega arith) enough in
-        let inside = faulted_inside l.last chain.numbers left t rest f (fold_walk l.last.ending (last_stage l.last) chain.numbers p (walk_of l.last chain.numbers t) f is faulted) in (
-          inside.0,
-          sym (enough_gives (outcome_of l.last chain.numbers) (walk_at chain segment) (append left (append t rest)) all)
-              ∙ fold_gives l.last.ending (last_stage l.last) chain.numbers p (walk_of l.last chain.numbers t) (walk_of l.last chain.numbers (append left (append t rest))) f inside.0 is inside.1,
-        )
+pub segment_faults : (chain : AbstractChain) (segment from to : ℕ) (p : FoldPart) (f : Fault) → from ≤ to → to ≤ size_at chain segment → PartStands chain segment from to (part.Fold p) → p.partial.end ≡ end.Fault f
+    → (g : Fault) × (gives_at chain segment (walk_at chain segment) ≡ outcome.Answer (answer.Fault g))
+segment_faults chain segment from to p f h within (t, enough, is) faulted =
+    let s = (leg_at segment chain.legs).last in
+    let w = walk_at chain segment in
+    let rest = right_of (size_at chain segment) to w in
+    let left = piece_of 0 (Some from) w in
+    let fits = size_within chain segment in
+    let all = whole_of (Decides (gives_at chain segment) w) w (size_at chain segment) from to t h (omega arith) enough in
+    let inside = faulted_inside s chain.numbers left t rest f (fold_walk s.ending (last_stage s) chain.numbers p (walk_of s chain.numbers t) f is faulted) in (
+      inside.0,
+      sym (enough_gives (gives_at chain segment) w (append left (append t rest)) all)
+          ∙ fold_gives s.ending (last_stage s) chain.numbers p (walk_of s chain.numbers t) (walk_of s chain.numbers (append left (append t rest))) f inside.0 is inside.1,
+    )
 
 -- and the job answers what it gives in its place
 pub caught_answer : (plans : List AbstractPlan) (job segment to : ℕ) (f : Fault) (a : Answer) → (plan_at plans job).fallback ≡ Some a → FaultAmong plans job segment 0 to f → a ≡ answer_of plans job
 caught_answer plans job segment to f a gives h =
     let chain = chain_at plans job in
     let fold = fold_of h.piece f h.caught.fault in
-    let faults = segment_faults chain segment h.begins h.ends fold.0 f h.caught.of h.caught.there h.ordered h.within (subst (PartStands chain segment h.begins h.ends) fold.1 h.stands) fold.2 in
+    let faults = segment_faults chain segment h.begins h.ends fold.0 f h.ordered h.within (subst (PartStands chain segment h.begins h.ends) fold.1 h.stands) fold.2 in
     let answers : legs_answer chain.legs chain.numbers chain.source ≡ answer.Fault faults.0 =
     answer_there chain.numbers chain.legs chain.source
-    ∙ ap (λ (k : ℕ). answer_at chain.numbers (slice_get chain.legs k) (source_at chain k)) (sym h.caught.last)
-    ∙ ap (λ (o : Option AbstractLeg). answer_at chain.numbers o (source_at chain segment)) h.caught.there
-    ∙ ap (λ (t : Trace). given_answer (outcome_of h.caught.of.last chain.numbers t)) (there_walk chain segment h.caught.of h.caught.there)
+    ∙ ap (λ (k : ℕ). given_answer (gives_at chain k (walk_at chain k))) (sym h.caught.last)
     ∙ ap given_answer faults.1 in
     ap (λ (x : Answer). instead_of_fault (Some a) x) (sym answers)
     ∙ ap (λ (o : Option Answer). instead_of_fault o (legs_answer chain.legs chain.numbers chain.source)) (sym gives)
-    ∙ chain_answer chain.numbers (put_into (answers_before plans job) (plan_at plans job))
     ∙ walked_answer plans job h.known h.usable
 
 pub nothing_caught : (plans : List AbstractPlan) (job segment to : ℕ) (f : Fault) → (plan_at plans job).fallback ≡ None → FaultAmong plans job segment 0 to f → ⊥
@@ -162,14 +149,13 @@ some_of (Some a) h = (a, refl)
 
 -- the fault of a piece of a job that catches it
 pub piece_fault : (plans : List AbstractPlan) (job segment from to : ℕ) (p : AbstractPlan) (q : Part) (r : Option Fault) → job < length plans → first_unusable_at (answers_before plans job) (plan_at plans job).named ≡ None → p ≡ plan_at plans job
-    → p.fallback ≢ None → segment ≡ prefixes_first (plan_legs p) → slice_get (plan_legs p) segment ≢ None → from ≤ to → to ≤ size_at (chain_at plans job) segment → PartStands (chain_at plans job) segment from to q
+    → p.fallback ≢ None → segment ≡ last_leg p.legs → from ≤ to → to ≤ size_at (chain_at plans job) segment → PartStands (chain_at plans job) segment from to q
     → r ≡ fold_fault q → IfSome r (λ f. FaultAmong plans job segment from to f)
-piece_fault plans job segment from to p q None low usable same caught last there ordered within stands h = tt
-piece_fault plans job segment from to p q (Some f) low usable same caught last there ordered within stands h =
+piece_fault plans job segment from to p q None low usable same caught last ordered within stands h = tt
+piece_fault plans job segment from to p q (Some f) low usable same caught last ordered within stands h =
     let chain = chain_at plans job in
     let legs = legs_there plans job p same in
     let b = some_of p.fallback caught in
-    let o = some_of (slice_get chain.legs segment) (λ e. there (ap (λ (ls : List AbstractLeg). slice_get ls segment) (sym legs) ∙ e)) in
     record {
       known = low;
       usable = usable;
@@ -184,19 +170,15 @@ piece_fault plans job segment from to p q (Some f) low usable same caught last t
       caught = record {
         instead = b.0;
         gives = ap (λ (x : AbstractPlan). x.fallback) (sym same) ∙ b.1;
-        last = last ∙ ap prefixes_first (sym legs);
-        of = o.0;
-        there = o.1;
+        last = last ∙ ap last_leg (sym legs);
         fault = sym h;
       };
     }
 
 -- a job with a fault that it catches gives an answer in its place, and so on
 pub catches_it : (plans : List AbstractPlan) (job segment : ℕ) (q : Part) (f : Fault) (p : AbstractPlan) → p ≡ plan_at plans job → IsCaught plans job segment q f
-    → (p.fallback ≢ None) × (segment ≡ prefixes_first (plan_legs p)) × (slice_get (plan_legs p) segment ≢ None)
-catches_it plans job segment q f p same h =
-    let legs = legs_there plans job p same in (
-      λ e. (let z : None ≡ Some h.instead = sym e ∙ ap (λ (x : AbstractPlan). x.fallback) same ∙ h.gives in cc),
-      h.last ∙ ap prefixes_first legs,
-      λ e. (let z : None ≡ Some h.of = sym e ∙ ap (λ (ls : List AbstractLeg). slice_get ls segment) (sym legs) ∙ h.there in cc),
-    )
+    → (p.fallback ≢ None) × (segment ≡ last_leg p.legs)
+catches_it plans job segment q f p same h = (
+  λ e. (let z : None ≡ Some h.instead = sym e ∙ ap (λ (x : AbstractPlan). x.fallback) same ∙ h.gives in cc),
+  h.last ∙ ap last_leg (legs_there plans job p same),
+)

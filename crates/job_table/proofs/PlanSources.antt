@@ -8,44 +8,40 @@ use Rattle.trace.specs.Trace.{Trace}
 use Rattle.job_meaning.specs.declared.answer.Answer.{Answer}
 use Rattle.job_meaning.specs.declared.answer.Answer.TheVariants as answer
 use Rattle.job_plan.specs.declared.part.Part.{Part}
-use Rattle.job_plan.specs.declared.segment.Named.{Named}
-use Rattle.job_plan.specs.PlannedAnswers.{all_put_at, first_unusable_at, put_at, put_into}
-use Rattle.job_plan.specs.Plans.{AbstractPlan}
+use Rattle.job_plan.specs.declared.plan.Named.{Named}
+use Rattle.job_plan.specs.PlannedAnswers.{all_put_at, first_unusable_at, put_at}
+use Rattle.job_plan.specs.Plans.{AbstractPlan, legs_answer, windowed}
 use Rattle.job_meaning.specs.Walks.{instead_of_fault, source_walk}
-use Rattle.job_plan.specs.Links.{legs_answer, plan_legs}
-use Rattle.job_plan.specs.Windows.{selected_walk}
-use Rattle.job_table.specs.PlanSegments.{AbstractChain, PartStands, answer_of, answers_before, chain_at, plan_at, prefixes_first, size_at, source_at}
+use Rattle.job_table.specs.PlanSegments.{AbstractChain, PartStands, answer_of, answers_before, chain_at, plan_at, last_leg, size_at, source_at}
 use Rattle.job_table.specs.declared.kept.SegmentSource.{SegmentSource}
 use Rattle.job_table.specs.declared.kept.SegmentSource.TheVariants.{Own, Kept}
 use Rattle.job_runner.specs.declared.segments.Begun.{Begun}
 use Rattle.job_runner.specs.declared.segments.Begun.TheVariants.{Known}
 use Rattle.job_runner.specs.Begins.{IsBegun}
 use Rattle.job_table.specs.Sources.{IsKept}
-use Rattle.job_table.proofs.PlanParts.{chain_answer}
 use Rattle.job_table.proofs.PlannedAnswers.{unusable_answer, walked_answer}
 
 module _ (plans : List AbstractPlan) (job : ℕ) (p : AbstractPlan) (same : p ≡ plan_at plans job) where
   -- the sources of a job with the arrays put in
-  pub put_walk : (segment : ℕ) (sources : List AbstractPlainSource) → segment ≡ 0 → sources ≡ all_put_at (answers_before plans job) p.named p.sources → selected_walk p.segments (source_walk sources) ≡ source_at (chain_at plans job) segment
+  pub put_walk : (segment : ℕ) (sources : List AbstractPlainSource) → segment ≡ 0 → sources ≡ all_put_at (answers_before plans job) p.named p.sources → windowed p.from p.to (source_walk sources) ≡ source_at (chain_at plans job) segment
   put_walk segment sources first put =
-      ap (λ (ss : List AbstractPlainSource). selected_walk p.segments (source_walk ss)) put
-      ∙ ap (λ (q : AbstractPlan). selected_walk q.segments (source_walk (all_put_at (answers_before plans job) q.named q.sources))) same
+      ap (λ (ss : List AbstractPlainSource). windowed p.from p.to (source_walk ss)) put
+      ∙ ap (λ (q : AbstractPlan). windowed q.from q.to (source_walk (all_put_at (answers_before plans job) q.named q.sources))) same
       ∙ ap (source_at (chain_at plans job)) (sym first)
 
-  pub legs_there : (chain_at plans job).legs ≡ plan_legs p
-  legs_there = sym (ap plan_legs same)
+  pub legs_there : (chain_at plans job).legs ≡ p.legs
+  legs_there = sym (ap (λ (q : AbstractPlan). q.legs) same)
 
   -- the answer of a job that is walked
   pub answered : {F : Type 0} (env : Numbers) (part : Part) (r : Result Answer F) → job < length plans → first_unusable_at (answers_before plans job) (plan_at plans job).named ≡ None → env ≡ (chain_at plans job).numbers
-      → PartStands (chain_at plans job) (prefixes_first (chain_at plans job).legs) 0 (size_at (chain_at plans job) (prefixes_first (chain_at plans job).legs)) part
-      → IfOk r (λ answer. (chain : AbstractChain) → chain.legs ≡ plan_legs p → chain.numbers ≡ env → PartStands chain (prefixes_first chain.legs) 0 (size_at chain (prefixes_first chain.legs)) part
+      → PartStands (chain_at plans job) (last_leg (chain_at plans job).legs) 0 (size_at (chain_at plans job) (last_leg (chain_at plans job).legs)) part
+      → IfOk r (λ answer. (chain : AbstractChain) → chain.legs ≡ p.legs → chain.numbers ≡ env → PartStands chain (last_leg chain.legs) 0 (size_at chain (last_leg chain.legs)) part
       → answer ≡ instead_of_fault p.fallback (legs_answer chain.legs chain.numbers chain.source))
       → IfOk r (λ answer. answer ≡ answer_of plans job)
   answered env part (Ok a) low usable numbers stands h =
       let chain = chain_at plans job in
       h chain legs_there (sym numbers) stands
       ∙ (λ i. instead_of_fault (same i).fallback (legs_answer chain.legs chain.numbers chain.source))
-      ∙ chain_answer chain.numbers (put_into (answers_before plans job) (plan_at plans job))
       ∙ walked_answer plans job low usable
   answered env part (Err e) low usable numbers stands h = tt
 

@@ -4,7 +4,7 @@ use Rattle.std.specs.Prelude.{slice_index_or}
 use Rattle.std.proofs.lemmas.List.{append-nil}
 use Rattle.job_meaning.specs.declared.answer.Answer.{Answer}
 use Rattle.job_meaning.specs.declared.answer.Answer.TheVariants as answer
-use Rattle.job_plan.specs.declared.segment.JobPlan.{JobPlan}
+use Rattle.job_plan.specs.declared.plan.JobPlan.{JobPlan}
 use Rattle.job_meaning.specs.FileAnswers.{unless_unusable}
 use Rattle.job_plan.specs.Parts.{plans_in}
 use Rattle.job_plan.specs.PlannedAnswers.{first_unusable_at, planned_after, planned_from, planned_meaning, put_into}

@@ -8,8 +8,10 @@ use Rattle.lambda_values.specs.contracts.expr.BoolExpr as truths
 use Rattle.lambda_values.specs.contracts.expr.LongExpr as longs
 use Rattle.trace.specs.contracts.stage.Stage as stages
 use Rattle.job_plan.specs.contracts.segment.Segment as segments
-use Rattle.job_plan.specs.contracts.segment.JobPlan as jobs
-use Rattle.job_plan.specs.contracts.segment.Plan as plans
+use Rattle.job_plan.specs.contracts.leg.Link as links
+use Rattle.job_plan.specs.contracts.leg.Leg as legs
+use Rattle.job_plan.specs.contracts.plan.JobPlan as jobs
+use Rattle.job_plan.specs.contracts.plan.Plan as plans
 use Rattle.prefix_walks.specs.contracts.folded_piece.FoldedPiece as pieces
 use Rattle.job_plan.specs.contracts.part.Part as parts
 use Rattle.job_table.specs.contracts.kept.SegmentSource as segment_sources
@@ -28,11 +30,20 @@ long_sync = search (sendable, crosses, long_field) depth 60 fits 20000
 stage_sync : IsSync stages.the_row
 stage_sync = search (sendable, crosses, long_field, truth_field, long_sync) depth 60 fits 20000
 
-segment_sync : IsSync segments.the_row
-segment_sync = search (sendable, crosses, truth_field, stage_sync) depth 60 fits 20000
+segment_field : IsSync (segments.the_field).row
+segment_field = search (sendable, crosses, truth_field, stage_sync) depth 60 fits 20000
+
+link_sync : IsSync links.the_row
+link_sync = search (sendable, crosses, truth_field, stage_sync) depth 60 fits 20000
+
+leg_sync : IsSync legs.the_row
+leg_sync = search (sendable, crosses, segment_field, link_sync) depth 60 fits 20000
+
+leg_field : IsSync (legs.the_field).row
+leg_field = search (sendable, crosses, segment_field, link_sync) depth 60 fits 20000
 
 job_sync : (a : NamedLft) → IsSync (jobs.the_row a)
-job_sync a = search (sendable, crosses, segment_sync) depth 60 fits 20000
+job_sync a = search (sendable, crosses, leg_sync, leg_field) depth 60 fits 20000
 
 pub plan_sync : (a : NamedLft) → IsSync (plans.the_row a)
 plan_sync a = search (sendable, crosses, job_sync) depth 30

@@ -1,22 +1,19 @@
 -- Condition: faults that the jobs of a plan catch.
-use Rattle.std.specs.Prelude.{◌≡◌, ◌<◌, ◌≤◌, ℕ, List, length, Some, None, slice_get}
+use Rattle.std.specs.Prelude.{◌≡◌, ◌<◌, ◌≤◌, ℕ, List, length, Some, None}
 use Rattle.trace.specs.declared.item.Fault.{Fault}
 use Rattle.job_meaning.specs.declared.answer.Answer.{Answer}
 use Rattle.job_plan.specs.declared.part.Part.{Part}
 use Rattle.job_plan.specs.FoldFaults.{fold_fault}
 use Rattle.job_plan.specs.PlannedAnswers.{first_unusable_at}
 use Rattle.job_plan.specs.Plans.{AbstractPlan}
-use Rattle.job_plan.specs.Links.{AbstractLeg}
-use Rattle.job_table.specs.PlanSegments.{PartStands, answers_before, chain_at, plan_at, size_at, prefixes_first}
+use Rattle.job_table.specs.PlanSegments.{PartStands, answers_before, chain_at, plan_at, last_leg, size_at}
 
 -- a part of this leg of the job ends in this fault; the leg gives the job's answer, by a fold; and the job
 -- gives another answer after a fault
 pub record IsCaught (plans : List AbstractPlan) (job segment : ℕ) (p : Part) (f : Fault) : Type 0 where
   pub instead : Answer
   pub gives : (plan_at plans job).fallback ≡ Some instead
-  pub last : segment ≡ prefixes_first (chain_at plans job).legs
-  pub of : AbstractLeg
-  pub there : slice_get (chain_at plans job).legs segment ≡ Some of
+  pub last : segment ≡ last_leg (chain_at plans job).legs
   pub fault : fold_fault p ≡ Some f
 
 -- the job is walked, and a piece of this leg among these positions ends in this fault, which the job catches

@@ -7,9 +7,9 @@ use Rattle.lambda_values.specs.contracts.env.Env as envs
 use Rattle.trace.specs.Trace.{Trace}
 use Rattle.trace.specs.contracts.chunk.Chunk as chunks
 use Rattle.job_meaning.specs.contracts.answer.Answer as answers
-use Rattle.job_plan.specs.contracts.segment.JobPlan as plans
+use Rattle.job_plan.specs.contracts.plan.JobPlan as plans
 use Rattle.job_meaning.specs.declared.answer.Answer.{Answer}
-use Rattle.job_plan.specs.declared.segment.JobPlan.{JobPlan}
+use Rattle.job_plan.specs.declared.plan.JobPlan.{JobPlan}
 
 pub one_answer : (a b : Answer) → IsProp (a ≡ b)
 one_answer a b = Coded-set (answers.the_row).coded a b

@@ -2,12 +2,12 @@
 ghost use Rattle.std.specs.Prelude.{◌≡◌, ◌<◌, ℕ, false, length, IfOk};
 ghost use Rattle.job_meaning.specs.declared.answer.Answer.{Answer as answers};
 ghost use Rattle.job_plan.specs.Parts.{may_search, plans_in};
-ghost use Rattle.job_table.specs.PlanSegments.{PartStands, answer_of, chain_at, prefixes_first, size_at};
+ghost use Rattle.job_table.specs.PlanSegments.{PartStands, answer_of, chain_at, last_leg, size_at};
 ghost use Rattle.job_table.specs.Sources.{IsKept};
 ghost use Rattle.job_table.specs.Takings.{IsTaken};
 
 use crate::kept::{SegmentSource, Taken};
-use crate::plan_parts::{last_leg, part_in_order};
+use crate::plan_parts::part_in_order;
 use crate::planned::{PlanBrand, PlanJobs};
 use batch_eval::Registers;
 use job_meaning::Answer;
@@ -26,17 +26,17 @@ impl<'a, 'c, P: PlanBrand> PlanJobs<'a, 'c, P> {
     ) -> Result<Part<'a>, NoMemory>
         requires job { job < length P.jobs }
         requires source { IsKept (chain_at (plans_in P.jobs) job)
-            (prefixes_first (chain_at (plans_in P.jobs) job).legs) input.source.now }
+            (last_leg (chain_at (plans_in P.jobs) job).legs) input.source.now }
         requires given { IsTaken (plans_in P.jobs) job input.given.now }
         requires earlier { (j : ℕ) (a : answers) → E.is_answer j a → a ≡ answer_of (plans_in P.jobs) j }
         ensures stands { IfOk result (λ part. PartStands (chain_at (plans_in P.jobs) job)
-            (prefixes_first (chain_at (plans_in P.jobs) job).legs) 0
-            (size_at (chain_at (plans_in P.jobs) job) (prefixes_first (chain_at (plans_in P.jobs) job).legs)) part) }
+            (last_leg (chain_at (plans_in P.jobs) job).legs) 0
+            (size_at (chain_at (plans_in P.jobs) job) (last_leg (chain_at (plans_in P.jobs) job).legs)) part) }
         ensures kind { IfOk result (λ part. may_search part ≡ false) }
     {
         let plan = self.job(job);
         let env = &input.given.numbers;
-        let last = last_leg(plan.later_segments());
+        let last = plan.last_leg();
         match input.source {
             SegmentSource::Own if plan.takes_arrays() => {
                 let own = self.own(job);

@@ -236,7 +236,7 @@ impl<'a, 'c, P: PlanBrand> PlanJobs<'a, 'c, P> {
         requires plan { plan_in plan.now ≡ plan_at (plans_in P.jobs) job }
         ensures { IfOk result (λ size. size ≡ size_at (chain_at (plans_in P.jobs) job) 0) }
     {
-        if plan.streams() {
+        if plan.leg(0).streams() {
             return Ok(0);
         }
         if !plan.takes_arrays() {

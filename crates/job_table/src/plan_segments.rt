@@ -1,28 +1,26 @@
 //! The jobs of a plan as segments of a run. A segment of the run is a leg of the plan.
-ghost use Rattle.std.specs.Prelude.{◌≡◌, ◌<◌, ◌≤◌, ◌+◌, ℕ, length, slice_get, IfOk};
+ghost use Rattle.std.specs.Prelude.{◌≡◌, ◌<◌, ◌≤◌, ◌+◌, ℕ, length, IfOk};
 ghost use Rattle.job_meaning.specs.declared.answer.Answer.{Answer as answers};
 ghost use Rattle.job_plan.specs.Parts.{plans_in};
+ghost use Rattle.job_plan.specs.Plans.{leg_at};
 ghost use Rattle.job_table.specs.Caught.{FaultAmong, IsCaught};
 ghost use Rattle.job_table.specs.CaughtLaws.{among_more};
 ghost use Rattle.job_runner.specs.Cuts.{IsPiece};
 ghost use Rattle.early_stop.specs.Decisive.{Decides};
 ghost use Rattle.job_table.specs.PlanSegments.{PartStands, answer_of, chain_at, gives_at};
-ghost use Rattle.job_table.specs.PlanSegments.{leg_divides, prefixes_first, size_at, walk_at};
+ghost use Rattle.job_table.specs.PlanSegments.{leg_divides, last_leg, size_at, walk_at};
 ghost use Rattle.job_table.specs.Sources.{IsKept, one_kept};
 ghost use Rattle.job_table.specs.PlanLaws.{one_answer};
 ghost use Rattle.job_table.specs.Takings.{IsTaken, one_taken};
 
 use crate::kept::{SegmentSource, Taken};
 use crate::plan_names::different;
-use crate::plan_parts::{
-    catches, is_divided, job_answer, last_leg, left_out, lent_piece, next_walk, positions,
-    stored_piece,
-};
+use crate::plan_parts::{catches, job_answer, lent_piece, next_walk, positions, stored_piece};
 use crate::planned::{PlanBrand, PlanJobs};
 use batch_eval::Registers;
 use early_stop::Stop;
 use job_meaning::Answer;
-use job_plan::{Outcome, Part, Source, Walked};
+use job_plan::{Outcome, Part, Source, Walked, unwalked};
 use job_runner::{Begun, CutPiece, EarlierAnswers, JobSegments, NoMemory, Piece, SegmentInput};
 use std::alloc::Global;
 use trace::Fault;
@@ -42,7 +40,7 @@ impl<'a, 'c, P: PlanBrand> JobSegments for PlanJobs<'a, 'c, P> {
 
     ghost job_count = { length P.jobs };
 
-    ghost last_of = { λ job. prefixes_first (chain_at (plans_in P.jobs) job).legs };
+    ghost last_of = { λ job. last_leg (chain_at (plans_in P.jobs) job).legs };
 
     ghost size_of = { λ job segment. size_at (chain_at (plans_in P.jobs) job) segment };
 
@@ -81,7 +79,7 @@ impl<'a, 'c, P: PlanBrand> JobSegments for PlanJobs<'a, 'c, P> {
 
     fn likely_size(&self, job: usize) -> u64 {
         let plan = self.job(job);
-        if plan.streams() {
+        if plan.leg(0).streams() {
             return 1;
         }
         plan.likely_size
@@ -104,7 +102,7 @@ impl<'a, 'c, P: PlanBrand> JobSegments for PlanJobs<'a, 'c, P> {
     }
 
     fn last_segment(&self, job: usize) -> usize {
-        last_leg(self.job(job).later_segments())
+        self.job(job).last_leg()
     }
 
     fn first_source(&self, _job: usize) -> SegmentSource<'a> {
@@ -120,10 +118,10 @@ impl<'a, 'c, P: PlanBrand> JobSegments for PlanJobs<'a, 'c, P> {
 
     fn is_divided(&self, job: usize, segment: usize) -> bool
         requires job { job < length P.jobs }
-        requires segment { segment ≤ prefixes_first (chain_at (plans_in P.jobs) job).legs }
-        ensures { result ≡ leg_divides (slice_get (chain_at (plans_in P.jobs) job).legs segment) }
+        requires segment { segment ≤ last_leg (chain_at (plans_in P.jobs) job).legs }
+        ensures { result ≡ leg_divides (leg_at segment (chain_at (plans_in P.jobs) job).legs) }
     {
-        is_divided(self.job(job), segment)
+        !self.job(job).leg(segment).streams()
     }
 
     fn scratch(&self, alloc: Global) -> Registers {
@@ -131,7 +129,11 @@ impl<'a, 'c, P: PlanBrand> JobSegments for PlanJobs<'a, 'c, P> {
     }
 
     fn left_out(&self, alloc: Global, piece: Piece, given: &Taken) -> Part<'a> {
-        left_out(alloc, self.job(piece.job), piece.segment, &given.numbers)
+        unwalked(
+            alloc,
+            self.job(piece.job).leg(piece.segment),
+            &given.numbers,
+        )
     }
 
     fn is_settled(&self, piece: Piece, part: &Part<'a>) -> bool {
@@ -168,7 +170,7 @@ impl<'a, 'c, P: PlanBrand> JobSegments for PlanJobs<'a, 'c, P> {
         requires stop { (c : ℕ) → W.decides stop.old c
             → Decides (gives_at (chain_at (plans_in P.jobs) piece.job) piece.segment)
             (walk_at (chain_at (plans_in P.jobs) piece.job) piece.segment) c }
-        requires piece { IsPiece (length P.jobs) (λ job. prefixes_first (chain_at (plans_in P.jobs) job).legs)
+        requires piece { IsPiece (length P.jobs) (λ job. last_leg (chain_at (plans_in P.jobs) job).legs)
             (λ job segment. size_at (chain_at (plans_in P.jobs) job) segment)
             piece.job piece.segment piece.from piece.to }
         requires source { IsKept (chain_at (plans_in P.jobs) piece.job) piece.segment input.source.now }
@@ -198,7 +200,7 @@ impl<'a, 'c, P: PlanBrand> JobSegments for PlanJobs<'a, 'c, P> {
     }
 
     fn merge(cut: CutPiece, left: Part<'a>, right: Part<'a>) -> Result<Part<'a>, NoMemory>
-        requires piece { IsPiece (length P.jobs) (λ job. prefixes_first (chain_at (plans_in P.jobs) job).legs)
+        requires piece { IsPiece (length P.jobs) (λ job. last_leg (chain_at (plans_in P.jobs) job).legs)
             (λ job segment. size_at (chain_at (plans_in P.jobs) job) segment) cut.job cut.segment cut.from cut.to }
         requires within { (cut.from < cut.middle) × (cut.middle < cut.to) }
         requires left { PartStands (chain_at (plans_in P.jobs) cut.job) cut.segment cut.from cut.middle left }
@@ -233,12 +235,12 @@ impl<'a, 'c, P: PlanBrand> JobSegments for PlanJobs<'a, 'c, P> {
     ) -> Result<Answer, NoMemory>
         requires job { job < length P.jobs }
         requires source { IsKept (chain_at (plans_in P.jobs) job)
-            (prefixes_first (chain_at (plans_in P.jobs) job).legs) input.source.now }
+            (last_leg (chain_at (plans_in P.jobs) job).legs) input.source.now }
         requires given { IsTaken (plans_in P.jobs) job input.given.now }
         requires earlier { (j : ℕ) (a : answers) → E.is_answer j a → a ≡ answer_of (plans_in P.jobs) j }
         requires part { PartStands (chain_at (plans_in P.jobs) job)
-            (prefixes_first (chain_at (plans_in P.jobs) job).legs) 0
-            (size_at (chain_at (plans_in P.jobs) job) (prefixes_first (chain_at (plans_in P.jobs) job).legs)) part }
+            (last_leg (chain_at (plans_in P.jobs) job).legs) 0
+            (size_at (chain_at (plans_in P.jobs) job) (last_leg (chain_at (plans_in P.jobs) job).legs)) part }
         ensures { IfOk result (λ answer. answer ≡ answer_of (plans_in P.jobs) job) }
     {
         let plan = self.job(job);

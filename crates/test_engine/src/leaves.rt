@@ -105,7 +105,7 @@ fn run<H: Threads + Wait + Sync>(
     settings: Settings,
     gate: &Watching,
 ) -> Result<Vec<Answer>, AllocError> {
-    let plan = plan_of(alloc, file.as_bytes(), columns)?.with_slices_first(alloc)?;
+    let plan = plan_of(alloc, file.as_bytes(), columns)?;
     match run_jobs(rt, alloc, &plan, &settings, gate) {
         Ok(answers) => Ok(answers),
         Err(RunFault::NoMemory) => Err(AllocError),

@@ -1,8 +1,8 @@
-//! Jobs in segments: their walks, walks on trees that cut them, and how many segments are walked.
+//! Routes of jobs: what they go over, their walks, and walks on trees that cut them.
 
 use crate::shown::{plan_of, shown};
 use columns::Columns;
-use job_plan::{JobPlan, SplitTree, walk, walk_tree};
+use job_plan::{JobPlan, Leg, SplitTree, walk, walk_tree};
 use lambda_values::Env;
 use std::alloc::{AllocError, Global};
 use std::test::Fail;
@@ -40,35 +40,54 @@ fn tree_gives(
     Ok(shown(alloc, &answer)?.as_str() == want)
 }
 
-/// Whether a job is walked in the segments that a text says.
-fn has_segments(alloc: Global, job: &JobPlan, segments: &str) -> Result<bool, AllocError> {
-    let walked = job.later_segments();
-    let first = walked.first().map_or(0, |segment| segment.first_stage);
-    let shown = format!(in alloc; "{} from {first}", walked.len())?;
-    Ok(shown.as_str() == segments)
+/// Adds the number of slices of a leg, of the stages after them, and of the first of these.
+fn add_leg(alloc: Global, shown: &mut String, leg: &Leg) -> Result<(), AllocError> {
+    let first = leg.last.first_stage;
+    let stages = leg.last.stages.len();
+    let text = format!(in alloc; ", {} slices, {stages} at {first}", leg.links.len())?;
+    shown.push_str(text.as_str())
 }
 
-/// Jobs, each with its answer, with how many segments are walked after it, and the number of the first stage of the
-/// first of them; worked out by hand. Slices that stand before every other stage select positions of the source, so
-/// they are not walked.
+/// Whether a job has the route that a text says.
+fn has_route(alloc: Global, job: &JobPlan, route: &str) -> Result<bool, AllocError> {
+    let mut shown = format!(in alloc; "from {}", job.window.from)?;
+    if let Some(to) = job.window.to {
+        shown.push_str(format!(in alloc; " to {to}")?.as_str())?;
+    }
+    let last = job.last_leg();
+    for number in 0..last {
+        add_leg(alloc, &mut shown, job.leg(number))?;
+    }
+    add_leg(alloc, &mut shown, job.leg(last))?;
+    Ok(shown.as_str() == route)
+}
+
+/// Jobs, each with its answer, and after it the positions that its first leg goes over, and of each leg the number of
+/// slices, of stages after them, and of the first of these; worked out by hand. Slices that stand before every other
+/// stage, or after maps alone, select positions of the source. Nothing is walked before `limit(0)`.
 const WALKED: &str = "\
-range(0, 9).sum() => 36, 1 from 1
-range(0, 9).skip(1).sum() => 36, 1 from 2
-range(0, 9).skip(1).limit(2).map(x -> x).sum() => 3, 1 from 3
-range(0, 9).limit(2).skip(0).map(x -> x).skip(1).sum() => 1, 2 from 3
-range(0, 9).map(x -> x).skip(1).sum() => 36, 2 from 1
-range(0, 9).limit(1).limit(0).skip(1).sum() => 0, 3 from 2
-range(0, 9).skip(1).takeWhile(x -> true).skip(1).sum() => 35, 3 from 2
-range(0, 9).dropWhile(x -> true).skip(1).sum() => 0, 3 from 1
-of(5, 3, 8).skip(1).map(x -> 24 / x).toArray() => [8, 3], 1 from 2
-of(3, 0).prefix(sum).map(x -> 6 / (x - 3)).findFirst() => fault divide-by-zero stage 2 item 0, 2 from 1";
+range(0, 9).sum() => 36; from 0, 0 slices, 0 at 1
+range(0, 9).skip(1).sum() => 36; from 1, 0 slices, 0 at 2
+range(0, 9).skip(1).limit(2).map(x -> x).sum() => 3; from 1 to 3, 0 slices, 1 at 3
+range(0, 9).limit(2).skip(0).map(x -> x).skip(1).sum() => 1; from 1 to 2, 0 slices, 2 at 3
+range(0, 9).map(x -> x).skip(1).sum() => 36; from 1, 0 slices, 2 at 1
+range(0, 9).limit(1).limit(0).skip(1).sum() => 0; from 0 to 1, 2 slices, 0 at 4
+range(0, 9).skip(1).takeWhile(x -> true).skip(1).sum() => 35; from 1, 2 slices, 0 at 4
+range(0, 9).dropWhile(x -> true).skip(1).sum() => 0; from 0, 2 slices, 0 at 3
+range(0, 9).filter(x -> x > 2).skip(1).map(x -> x).sum() => 30; from 0, 1 slices, 1 at 3
+of(5, 3, 8).skip(1).map(x -> 24 / x).toArray() => [8, 3]; from 1, 0 slices, 1 at 2
+of(5, 3, 0).map(x -> 24 / x).skip(1).toArray() => fault divide-by-zero stage 1 item 2; from 0, 1 slices, 0 at 3
+of(3, 0).prefix(sum).map(x -> 6 / (x - 3)).findFirst() => fault divide-by-zero stage 2 item 0; \
+from 0, 0 slices, 0 at 1, 0 slices, 1 at 2
+range(0, 9).prefix(sum).skip(2).prefix(max).limit(2).sum() => 9; \
+from 0, 0 slices, 0 at 1, 1 slices, 0 at 3, 1 slices, 0 at 5";
 
 /// Whether the jobs of a text are walked so, whatever the first piece.
-fn is_walked(alloc: Global, text: &str, answer: &str, segments: &str) -> Result<bool, Fail> {
+fn is_walked(alloc: Global, text: &str, answer: &str, route: &str) -> Result<bool, Fail> {
     let columns = Columns::none();
     let plan = plan_of(alloc, text.as_bytes(), &columns)?;
     for job in &plan.jobs {
-        if !has_segments(alloc, job, segments)? || !walk_gives(alloc, job, answer)? {
+        if !has_route(alloc, job, route)? || !walk_gives(alloc, job, answer)? {
             return Ok(false);
         }
         for items in [0, 1, 4, u64::MAX] {
@@ -81,13 +100,13 @@ fn is_walked(alloc: Global, text: &str, answer: &str, segments: &str) -> Result<
 }
 
 #[test]
-fn slices_before_every_other_stage_are_not_walked(rt: HostRuntime) -> Result<(), Fail> {
+fn jobs_have_routes(rt: HostRuntime) -> Result<(), Fail> {
     let alloc = rt.alloc();
     for row in WALKED.lines() {
         let (job, wanted) = row.split_once(" => ").unwrap_or((row, ""));
-        let (answer, segments) = wanted.rsplit_once(", ").unwrap_or((wanted, ""));
+        let (answer, route) = wanted.split_once("; ").unwrap_or((wanted, ""));
         let text = format!(in alloc; "q = {job}")?;
-        assert!(rt; is_walked(alloc, text.as_str(), answer, segments)?, "{row}");
+        assert!(rt; is_walked(alloc, text.as_str(), answer, route)?, "{row}");
     }
     Ok(())
 }

@@ -1,28 +1,24 @@
-use Rattle.std.proofs.Common.{◌≡◌, ℕ, List, length, map, IfOk, ap, sym, ◌∙◌, subst}
+use Rattle.std.proofs.Common.{◌≡◌, ℕ, List, length, IfOk, ap, sym, ◌∙◌, subst}
 use Rattle.std.specs.Prelude.{All}
 use Rattle.engine.specs.Run.{report_in}
 use Rattle.job_language.specs.Jobs.{jobs_of, names_of}
 use Rattle.job_meaning.specs.declared.answer.Answer.{Answer}
 use Rattle.run_settings.specs.SettingsParts.{form_of}
 use Rattle.job_meaning.specs.FileAnswers.{meaning_of}
-use Rattle.job_plan.specs.PlannedAnswers.{planned_meaning}
-use Rattle.job_plan.specs.Plans.{AbstractPlan}
-use Rattle.job_plan.proofs.MeaningLemmas.{planned}
 use Rattle.report.specs.Named.{IsNamed, IsText}
 use Rattle.report.proofs.EachNamed.{paired, named}
 use Rattle.engine.proofs.NamedTexts.{names_text}
-use Rattle.engine.proofs.PlannedJobLemmas.{planned_names}
 use Rattle.engine.proofs.running.written.Goals as goal
 use Rattle.engine.proofs.running.written.Given.{Over}
 use Rattle.engine.proofs.running.written.Goals.{After-deref-2}
 
 names : (g : Over) (c : After-deref-2 g) → names_of (jobs_of c.args.jobs.items) ≡ c.deref.result.now
 names g c =
-    sym (c.deref.ensures.value ∙ c.in_ok-names.ensures ∙ c.in_ok-plan-2.ensures.names ∙ ap (map (λ (p : AbstractPlan). p.name)) c.in_ok-plan.ensures.ok ∙ planned_names (jobs_of c.args.jobs.items))
+    sym (c.deref.ensures.value ∙ c.in_ok-names.ensures ∙ c.in_ok-plan.ensures.names)
 
 answers : (g : Over) (c : After-deref-2 g) → meaning_of (jobs_of c.args.jobs.items) ≡ c.deref-2.result.now
 answers g c =
-    sym (c.deref-2.ensures.value ∙ c.in-Ok.ensures ∙ c.in_ok-plan-2.ensures.meaning ∙ ap planned_meaning c.in_ok-plan.ensures.ok ∙ planned (jobs_of c.args.jobs.items))
+    sym (c.deref-2.ensures.value ∙ c.in-Ok.ensures ∙ c.in_ok-plan.ensures.meaning)
 
 pub printed-requires-clause-paired : goal.printed-requires-clause-paired
 printed-requires-clause-paired g c = λ lifetimes lives.

@@ -1,6 +1,6 @@
 use Rattle.std.proofs.Common.{◌≡◌, true, length, ap, ◌∙◌, arith, rules}
 use Rattle.trace.specs.Stages.{stages_of}
-use Rattle.job_plan.specs.Moves.{all_keep}
+use Rattle.job_plan.specs.Building.{all_keep}
 use Rattle.job_plan.specs.Parts.{walk_in}
 use Rattle.prefix_walks.specs.Spans.{span}
 use Rattle.job_plan.proofs.CountLemmas.{counted_stands}

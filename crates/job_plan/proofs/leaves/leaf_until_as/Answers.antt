@@ -17,15 +17,15 @@ use Rattle.job_plan.proofs.leaves.leaf_until_as.Goals as goal
 
 pub returns-then-is_settled-clause-stands : goal.returns-then-is_settled-clause-stands
 returns-then-is_settled-clause-stands g c =
-    let s = segment_in c.args.leg.last.now in
+    let s = segment_in c.args.leg.now.last in
     let env = c.args.walked.env.now in
     whole_enough s env c.args.part (g.W.Stop.decides c.args.stop.now) c.args.window.from (piece_of c.args.window.from c.args.window.to (walk_in c.args.walked.source))
     (settled_first s env c.args.part nothing (walk_in c.args.walked.source) c.args.window.from c.args.window.to (sym c.is_settled.ensures ∙ c.if-is_settled.true) c.requires.none)
 
 pub returns-clause-stands : goal.returns-clause-stands
 returns-clause-stands g c =
-    let s = segment_in c.args.leg.last.now in
-    let e = end_in c.args.leg.last.now.end in
+    let s = segment_in c.args.leg.now.last in
+    let e = end_in c.args.leg.now.last.end in
     let f = end_in g.K.EndBrand.last in
     let m = last_stage s in
     let n = g.K.EndBrand.stage in
@@ -35,8 +35,8 @@ returns-clause-stands g c =
     let t = walk_in c.args.walked.source in
     let from = c.args.window.from in
     let to = c.args.window.to in
-    let len : c.len.result ≡ length c.args.leg.last.now.stages.items = search rules in
-    let stage = ap (λ k. c.args.leg.last.now.first_stage + k) (len ∙ sym (length-stages_of c.args.leg.last.now.stages.items)) in
+    let len : c.len.result ≡ length c.args.leg.now.last.stages.items = search rules in
+    let stage = ap (λ k. c.args.leg.now.last.first_stage + k) (len ∙ sym (length-stages_of c.args.leg.now.last.stages.items)) in
     let ends : e ≡ f = ap end_in c.requires.last in
     let no_items : List Item = [] in
     let first : HasTaken f n named begun c.args.part no_items = subst (λ (b : Part). HasTaken f n named b c.args.part no_items) c.requires.begun (taken_none f n named c.args.part) in
@@ -46,7 +46,7 @@ returns-clause-stands g c =
     let w_before = walk_of s env nothing in
     let has = λ (sink : PartSink g.row.K.Denot g.K.EndBrand) (items : List Item). (sink.segment.now.end ≡ g.K.EndBrand.last) × (sink.stage ≡ n) × (sink.env.now ≡ named) × HasTaken f n named begun sink.part items in
     let piped_fed = (rw c.in-Some.is at c.in_ok-ended.ensures.fed) no_items (c.requires.last, stage ∙ c.requires.stage, c.requires.env, first) in
-    let fed = subst (λ (u : Trace). IsFed has no_items u (Ok c.in-Some.fed) c.in-Some.taken) (c.pipeline-line.ensures (trace (elements from to t.items) end.Done)) piped_fed in
+    let fed = subst (λ (u : Trace). IsFed has no_items u (Ok c.in-Some.fed) c.in-Some.taken) (c.pipeline-line.ensures.walk (trace (elements from to t.items) end.Done)) piped_fed in
     let part = c.in-Some.taken.part in
     whole_enough s env c.match-fed.sink.0 (g.W.Stop.decides c.args.stop.now) from (piece_of from to t)
     (elim c.match-fed.branch [
@@ -73,13 +73,13 @@ returns-clause-stands g c =
 
 pub returns-in_default-clause-stands : goal.returns-in_default-clause-stands
 returns-in_default-clause-stands g c =
-    let s = segment_in c.args.leg.last.now in
+    let s = segment_in c.args.leg.now.last in
     let f = end_in g.K.EndBrand.last in
     let n = g.K.EndBrand.stage in
     let env = c.args.walked.env.now in
     let begun = g.K.EndBrand.begun in
-    let len : c.len.result ≡ length c.args.leg.last.now.stages.items = search rules in
-    let stage = ap (λ k. c.args.leg.last.now.first_stage + k) (len ∙ sym (length-stages_of c.args.leg.last.now.stages.items)) in
+    let len : c.len.result ≡ length c.args.leg.now.last.stages.items = search rules in
+    let stage = ap (λ k. c.args.leg.now.last.first_stage + k) (len ∙ sym (length-stages_of c.args.leg.now.last.stages.items)) in
     let no_items : List Item = [] in
     let first : HasTaken f n g.K.EndBrand.env begun c.args.part no_items = subst (λ (b : Part). HasTaken f n g.K.EndBrand.env b c.args.part no_items) c.requires.begun (taken_none f n g.K.EndBrand.env c.args.part) in
     let known = (rw c.in_default.is at c.in_ok-ended.ensures.left) no_items (c.requires.last, stage ∙ c.requires.stage, c.requires.env, first) in

@@ -8,8 +8,8 @@ use Rattle.job_plan.proofs.leaves.unwalked.Goals as goal
 
 pub returns-clause-stands : goal.returns-clause-stands
 returns-clause-stands c =
-    let s = segment_in c.args.leg.last.now in
+    let s = segment_in c.args.leg.now.last in
     let env = c.args.env.now in
-    let len : c.len.result ≡ length c.args.leg.last.now.stages.items = search rules in
-    let stage = ap (λ m. c.args.leg.last.now.first_stage + m) (len ∙ sym (length-stages_of c.args.leg.last.now.stages.items)) in
+    let len : c.len.result ≡ length c.args.leg.now.last.stages.items = search rules in
+    let stage = ap (λ m. c.args.leg.now.last.first_stage + m) (len ∙ sym (length-stages_of c.args.leg.now.last.stages.items)) in
     subst (λ (t : Trace). EndsFor s.ending (s.first + length s.stages) env c.none.result t) (sym (pipe_ended s.first s.stages env end.Done)) (subst (λ m. EndsFor s.ending m env c.none.result nothing) stage c.none.ensures.stands)

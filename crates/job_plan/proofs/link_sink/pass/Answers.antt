@@ -8,7 +8,7 @@ use Rattle.slice_ops.specs.Rests.{rest_of}
 use Rattle.job_plan.specs.declared.link_sink.Passage.{Passage}
 use Rattle.job_plan.specs.declared.link_sink.Passage.TheVariants as passage
 use Rattle.job_plan.specs.declared.link_sink.Passing.{Passing}
-use Rattle.job_plan.specs.Parts.{segment_in}
+use Rattle.job_plan.specs.Links.{line_in}
 use Rattle.job_plan.specs.Passages.{HasPassed}
 use Rattle.job_plan.proofs.PassageLemmas.{answered, passed_on}
 use Rattle.job_plan.proofs.link_sink.pass.Goals as goal
@@ -19,14 +19,14 @@ returns-clause-fed g c = λ begun xs took.
     let h = g.S.LongSink.has_taken in
     let f = g.S.LongSink.flow in
     let n = c.args.junction.stage in
-    let next = segment_in c.args.junction.next.now in
-    let env = c.args.junction.env.now in
+    let next = line_in c.args.junction.next in
+    let env = c.args.junction.next.env.now in
     let items = g.I.SourceItems.items c.args.source.now in
     let cut = c.cut_of-cut.result in
     let win = take (cut.to - cut.from) (drop cut.from items) in
     let here : HasPassed h f begun n next env (rest_of p.rest) passage.Open p.inner.value xs = subst (λ (q : Passage). HasPassed h f begun n next env (rest_of p.rest) q p.inner.value xs) c.in-Open.is took in
     let on = passed_on h f begun n next env xs items win cut.end (rest_of p.rest) (rest_of cut.rest) here.0 c.hand_on.new.sink here.2 c.cut_of-cut.ensures.passes
-    c.in-Ok.fed c.after-passage.result (subst (λ (u : Trace). IsFed h here.0 u (Ok c.in-Ok.fed) c.hand_on.new.sink) (c.pipeline-line.ensures (trace win end.Done)) (c.in-Ok.ensures.fed here.0 (subst (λ (s : g.row.S.Denot). h s here.0) (sym c.deref_mut-inner.ensures.value) here.1))) c.in-Ok.ensures.flow c.after-passage.ensures in
+    c.in-Ok.fed c.after-passage.result (c.in-Ok.ensures.fed here.0 (subst (λ (s : g.row.S.Denot). h s here.0) (sym c.deref_mut-inner.ensures.value) here.1)) c.in-Ok.ensures.flow c.after-passage.ensures in
     let t : Passing g.row.S.Denot = record { rest = cut.rest; passage = c.after-passage.result; inner = record p.inner { value = c.hand_on.new.sink } } in
     let has : Passing g.row.S.Denot → List Item → Type 0 = λ q zs. HasPassed h f begun n next env (rest_of q.rest) q.passage q.inner.value zs in
     subst (λ (r : Fed). IsFed has xs (trace items end.Done) (Ok r) t) (sym c.answer.ensures) (answered has t xs items c.after-passage.result on)
@@ -37,11 +37,11 @@ returns-clause-all g c = λ begun xs took.
     let h = g.S.LongSink.has_taken in
     let f = g.S.LongSink.flow in
     let n = c.args.junction.stage in
-    let next = segment_in c.args.junction.next.now in
-    let env = c.args.junction.env.now in
+    let next = line_in c.args.junction.next in
+    let env = c.args.junction.next.env.now in
     let items = g.I.SourceItems.items c.args.source.now in
     let cut = c.cut_of-cut.result in
     let win = take (cut.to - cut.from) (drop cut.from items) in
     let here : HasPassed h f begun n next env (rest_of p.rest) passage.Open p.inner.value xs = subst (λ (q : Passage). HasPassed h f begun n next env (rest_of p.rest) q p.inner.value xs) c.in-Open.is took in
     passed_on h f begun n next env xs items win cut.end (rest_of p.rest) (rest_of cut.rest) here.0 c.hand_on.new.sink here.2 c.cut_of-cut.ensures.passes
-    c.in-Ok.fed c.after-passage.result (subst (λ (u : Trace). IsFed h here.0 u (Ok c.in-Ok.fed) c.hand_on.new.sink) (c.pipeline-line.ensures (trace win end.Done)) (c.in-Ok.ensures.fed here.0 (subst (λ (s : g.row.S.Denot). h s here.0) (sym c.deref_mut-inner.ensures.value) here.1))) c.in-Ok.ensures.flow c.after-passage.ensures
+    c.in-Ok.fed c.after-passage.result (c.in-Ok.ensures.fed here.0 (subst (λ (s : g.row.S.Denot). h s here.0) (sym c.deref_mut-inner.ensures.value) here.1)) c.in-Ok.ensures.flow c.after-passage.ensures

@@ -1,14 +1,13 @@
-use Rattle.job_plan.specs.Legs.{leg_in}
-use Rattle.job_plan.specs.Links.{linked}
-use Rattle.job_plan.specs.Parts.{segment_in, walk_in}
+use Rattle.job_plan.specs.Parts.{leg_in, segment_in, walk_in}
+use Rattle.job_plan.specs.Plans.{linked}
 use Rattle.job_plan.proofs.NestLemmas.{stands_after}
 use Rattle.job_plan.proofs.PassageLemmas.{if_ok_map}
 use Rattle.job_plan.proofs.streaming.streamed.Goals as goal
 
 pub returns-clause-stands : goal.returns-clause-stands
 returns-clause-stands c =
-    let leg = c.args.leg in
+    let leg = c.args.leg.now in
     let env = c.args.walked.env.now in
     if_ok_map _ _ c.nested.result
-    (λ part on. stands_after (segment_in leg.last.now) env c.first_part-none.result part (linked (leg_in leg).links env (walk_in c.args.walked.source)) c.first_part-none.ensures.stands on)
+    (λ part on. stands_after (segment_in leg.last) env c.first_part-none.result part (linked (leg_in leg).links env (walk_in c.args.walked.source)) c.first_part-none.ensures.stands on)
     c.nested.ensures

@@ -7,12 +7,12 @@ use Rattle.job_plan.proofs.walks.+walk_piece.Goals as goal
 pub returns-then-is_settled : goal.returns-then-is_settled
 returns-then-is_settled t c =
     let middle = c.middle_of-middle.result in
-    settled_piece (segment_in c.args.leg.last.now) c.args.walked.env.now c.in_ok-left-in-Node.left (walk_in c.args.walked.source) c.args.window.from middle c.args.window.to
+    settled_piece (segment_in c.args.leg.now.last) c.args.walked.env.now c.in_ok-left-in-Node.left (walk_in c.args.walked.source) c.args.window.from middle c.args.window.to
     c.middle_of-middle.ensures.not_before (not_after middle c.args.window.to c.middle_of-middle.ensures.not_after) (sym c.is_settled.ensures ∙ c.if-is_settled.true) c.in_ok-left-in-Node.ensures
 
 pub returns-in-Ok : goal.returns-in-Ok
 returns-in-Ok t c =
-    let s = segment_in c.args.leg.last.now in
+    let s = segment_in c.args.leg.now.last in
     let env = c.args.walked.env.now in
     let source = walk_in c.args.walked.source in
     let middle = c.middle_of-middle.result in

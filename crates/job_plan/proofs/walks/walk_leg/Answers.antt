@@ -1,17 +1,15 @@
 use Rattle.std.proofs.Common.{None, sym, ap, ◌∙◌}
-use Rattle.job_plan.specs.Legs.{leg_in}
-use Rattle.job_plan.specs.Links.{linked}
-use Rattle.job_plan.specs.Parts.{segment_in, walk_in}
+use Rattle.job_plan.specs.Parts.{leg_in, segment_in, walk_in}
+use Rattle.job_plan.specs.Plans.{linked, outcome_of}
 use Rattle.prefix_walks.specs.Pieces.{piece_of}
-use Rattle.job_plan.specs.Plans.{outcome_of}
 use Rattle.prefix_walks.proofs.SideBySide.{whole_piece}
 use Rattle.job_plan.proofs.LinkLemmas.{unlinked}
 use Rattle.job_plan.proofs.walks.walk_leg.Goals as goal
 
 pub returns-in-Some : goal.returns-in-Some
 returns-in-Some c =
-    let leg = c.args.leg in
-    let s = segment_in leg.last.now in
+    let leg = c.args.leg.now in
+    let s = segment_in leg.last in
     let env = c.args.env.now in
     let source = walk_in c.args.source.now in
     (rw c.in-Some.is at c.in_ok-outcome.ensures.some) s (piece_of 0 None source) c.in_ok-part.ensures
@@ -19,6 +17,6 @@ returns-in-Some c =
 
 pub returns : goal.returns
 returns c =
-    let leg = c.args.leg in
+    let leg = c.args.leg.now in
     let env = c.args.env.now in
-    (rw c.in-Some-2.is at c.in_ok-outcome-2.ensures.some) (segment_in leg.last.now) (linked (leg_in leg).links env (walk_in c.args.source.now)) c.in_ok-part-2.ensures.stands
+    (rw c.in-Some-2.is at c.in_ok-outcome-2.ensures.some) (segment_in leg.last) (linked (leg_in leg).links env (walk_in c.args.source.now)) c.in_ok-part-2.ensures.stands

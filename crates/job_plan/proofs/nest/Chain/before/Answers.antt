@@ -1,11 +1,22 @@
-use Rattle.job_plan.proofs.LinkLemmas.{before_linked, last_link, last_slice}
+use Rattle.std.proofs.Common.{◌+◌, ℕ, List, length, sym, ap, ◌∙◌}
+use Rattle.batch_eval.specs.Pipelines.{piped}
+use Rattle.slice_ops.specs.Slices.{slice_of, sliced}
+use Rattle.trace.specs.Stages.{pipe, stages_of}
+use Rattle.job_plan.specs.declared.leg.Link.{Link}
+use Rattle.job_plan.specs.Parts.{links_in}
+use Rattle.job_plan.specs.Plans.{linked}
+use Rattle.job_plan.proofs.LinkLemmas.{last_linked}
+use Rattle.job_plan.proofs.PartLemmas.{length-stages_of}
 use Rattle.job_plan.proofs.nest.Chain.before.Goals as goal
 
-pub invariant_of-result : goal.invariant_of-result
-invariant_of-result c = record { linked = before_linked c.args.self.links.now c.in-Some.links.now c.in-Some.next.now c.in-Some.ensures.cases.0 c.args.self.linked }
-
-pub returns-in-Some-clause-slice : goal.returns-in-Some-clause-slice
-returns-in-Some-clause-slice c = last_slice c.args.self.links.now c.in-Some.links.now c.in-Some.next.now c.in-Some.ensures.cases.0 c.args.self.linked
-
 pub returns-in-Some-clause-walk : goal.returns-in-Some-clause-walk
-returns-in-Some-clause-walk c = last_link c.args.self.links.now c.in-Some.links.now c.in-Some.next.now c.in-Some.ensures.cases.0 c.args.self.linked
+returns-in-Some-clause-walk c = λ t.
+    let env = c.args.self.line.env.now in
+    let link = c.in-Some.link.now in
+    let links = c.in-Some.links.now in
+    let u = linked (links_in links) env t in
+    let up = c.up_to.ensures in
+    last_linked c.args.self.links.now links link env t c.in-Some.ensures.cases.0
+    ∙ ap (λ (n : ℕ). sliced (slice_of link.slice) (link.first_stage + n) env (pipe link.first_stage (stages_of link.stages.items) env u)) (length-stages_of link.stages.items)
+    ∙ ap (sliced (slice_of link.slice) (link.first_stage + length link.stages.items) env)
+    (sym (up.line u) ∙ ap (λ (ls : List Link). piped c.up_to.result.line (linked (links_in ls) env t)) (sym up.links))

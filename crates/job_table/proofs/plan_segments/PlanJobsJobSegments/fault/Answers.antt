@@ -13,7 +13,7 @@ returns-then-catches-clause-among g c =
     let low : c.args.piece.job < length (plans_in js) = omega (arith, known, l) in
     let yes = c.if-catches.true in
     piece_fault (plans_in js) c.args.piece.job c.args.piece.segment c.args.piece.from c.args.piece.to (plan_in c.job.result.now) c.args.part.now c.fold_fault.result low c.requires.given.0 c.job.ensures
-    (c.catches.ensures.instead yes) (c.catches.ensures.last yes) (c.catches.ensures.there yes) piece.ordered piece.within c.requires.part c.fold_fault.ensures
+    (c.catches.ensures.instead yes) (c.catches.ensures.last yes) piece.ordered piece.within c.requires.part c.fold_fault.ensures
 
 pub returns-then-catches-clause-caught : goal.returns-then-catches-clause-caught
 returns-then-catches-clause-caught g c = λ fault caught. c.fold_fault.ensures ∙ caught.fault
@@ -21,4 +21,4 @@ returns-then-catches-clause-caught g c = λ fault caught. c.fold_fault.ensures �
 pub returns-else-catches-clause-caught : goal.returns-else-catches-clause-caught
 returns-else-catches-clause-caught g c = λ fault caught.
     let it = catches_it (plans_in g.P.PlanBrand.jobs) c.args.piece.job c.args.piece.segment c.args.part.now fault (plan_in c.job.result.now) c.job.ensures caught in
-    absurd (let z : false ≡ true = sym c.if-catches.false ∙ c.catches.ensures.all it.0 it.1 it.2 in cc)
+    absurd (let z : false ≡ true = sym c.if-catches.false ∙ c.catches.ensures.all it.0 it.1 in cc)

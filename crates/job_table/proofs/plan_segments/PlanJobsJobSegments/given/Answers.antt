@@ -1,6 +1,6 @@
 use Rattle.std.proofs.Common.{◌≡◌, ◌<◌, length, List, Some, None, ℕ, ap, arith, ◌∙◌, sym}
 use Rattle.job_meaning.specs.declared.answer.Answer.TheVariants as answer
-use Rattle.job_plan.specs.declared.segment.Named.{Named}
+use Rattle.job_plan.specs.declared.plan.Named.{Named}
 use Rattle.job_plan.specs.Parts.{plan_in, plans_in}
 use Rattle.job_plan.specs.PlannedAnswers.{first_unusable_at, numbers_at}
 use Rattle.job_table.specs.PlanSegments.{answers_before}

@@ -1,8 +1,7 @@
 use Rattle.std.proofs.Common.{◌≡◌, ◌∙◌, IfOk, ap, subst, sym, ℕ}
 use Rattle.job_language.specs.Jobs.{sources_of}
-use Rattle.job_plan.specs.Links.{legs_of}
 use Rattle.job_plan.specs.Parts.{plan_in, plans_in}
-use Rattle.job_table.specs.PlanSegments.{PartStands, answers_before, chain_at, prefixes_first, size_at, source_at}
+use Rattle.job_table.specs.PlanSegments.{PartStands, answers_before, chain_at, last_leg, size_at, source_at}
 use Rattle.job_table.proofs.PlanSources.{kept_walk, legs_there, own_first, put_walk}
 use Rattle.job_table.proofs.planned.PlanJobs.in_order.Goals as goal
 
@@ -13,8 +12,8 @@ returns-in_ok-sources-in-Own g c =
     let chain = chain_at plans job in
     let p = plan_in c.job-plan.result.now in
     let legs = legs_there plans job p c.job-plan.ensures in
-    let here : c.last_leg-last.result ≡ prefixes_first chain.legs = c.last_leg-last.ensures.value ∙ ap (λ ss. prefixes_first (legs_of ss)) c.later_segments.ensures ∙ ap prefixes_first (sym legs) in
-    let first = here ∙ own_first chain (prefixes_first chain.legs) c.args.input.source.now c.in-Own.is c.requires.source in
+    let here : c.last_leg-last.result ≡ last_leg chain.legs = c.last_leg-last.ensures ∙ ap last_leg (sym legs) in
+    let first = here ∙ own_first chain (last_leg chain.legs) c.args.input.source.now c.in-Own.is c.requires.source in
     let put = ap sources_of c.deref.ensures.value ∙ c.in_ok-sources-in-Own.ensures in
     record {
       stands = subst (λ (k : ℕ). IfOk c.part_in_order.result (λ part. PartStands chain k 0 (size_at chain k) part)) here
@@ -30,8 +29,8 @@ returns-in-Own-2 g c =
     let chain = chain_at plans job in
     let p = plan_in c.job-plan.result.now in
     let legs = legs_there plans job p c.job-plan.ensures in
-    let here : c.last_leg-last.result ≡ prefixes_first chain.legs = c.last_leg-last.ensures.value ∙ ap (λ ss. prefixes_first (legs_of ss)) c.later_segments.ensures ∙ ap prefixes_first (sym legs) in
-    let first = here ∙ own_first chain (prefixes_first chain.legs) c.args.input.source.now c.in-Own-2.is c.requires.source in
+    let here : c.last_leg-last.result ≡ last_leg chain.legs = c.last_leg-last.ensures ∙ ap last_leg (sym legs) in
+    let first = here ∙ own_first chain (last_leg chain.legs) c.args.input.source.now c.in-Own-2.is c.requires.source in
     let none = sym (c.takes_arrays.ensures c.if-takes_arrays.false (answers_before plans job) p.named) in
     record {
       stands = subst (λ (k : ℕ). IfOk c.part_in_order-in-Own-2.result (λ part. PartStands chain k 0 (size_at chain k) part)) here
@@ -47,9 +46,9 @@ returns-in-Kept g c =
     let chain = chain_at plans job in
     let p = plan_in c.job-plan.result.now in
     let legs = legs_there plans job p c.job-plan.ensures in
-    let last = prefixes_first chain.legs in
+    let last = last_leg chain.legs in
     let kept = kept_walk chain last c.args.input.source.now c.in-Kept.walk c.in-Kept.is c.requires.source in
-    let here : c.last_leg-last.result ≡ last = c.last_leg-last.ensures.value ∙ ap (λ ss. prefixes_first (legs_of ss)) c.later_segments.ensures ∙ ap prefixes_first (sym legs) in
+    let here : c.last_leg-last.result ≡ last = c.last_leg-last.ensures ∙ ap last_leg (sym legs) in
     record {
       stands = subst (λ (k : ℕ). IfOk c.part_in_order-in-Kept.result (λ part. PartStands chain k 0 (size_at chain k) part)) here
           (c.part_in_order-in-Kept.ensures.stands chain legs (sym c.requires.given.1.0)

@@ -1,5 +1,5 @@
 use Rattle.std.proofs.Common.{◌∙◌, ◌≡◌, ◌<◌, ap, length, List, arith}
-use Rattle.job_plan.specs.declared.segment.JobPlan.{JobPlan}
+use Rattle.job_plan.specs.declared.plan.JobPlan.{JobPlan}
 use Rattle.job_plan.specs.Parts.{plans_in}
 use Rattle.job_table.specs.PlanSegments.{plan_at}
 use Rattle.job_table.proofs.PlanAnswers.{plan_got}

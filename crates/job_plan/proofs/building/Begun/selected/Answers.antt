@@ -1,0 +1,28 @@
+use Rattle.std.proofs.Common.{◌≡◌, ◌<◌, true, false, sym, ap, ◌∙◌, rules}
+use Rattle.trace.specs.Stages.{pipe, stages_of}
+use Rattle.slice_ops.specs.Slices.{slice_of, sliced}
+use Rattle.job_meaning.specs.Walks.{source_walk}
+use Rattle.job_plan.specs.Building.{all_keep}
+use Rattle.job_plan.specs.Plans.{windowed}
+use Rattle.job_plan.proofs.BuiltLemmas.{limit_selects, skip_selects}
+use Rattle.job_plan.proofs.WindowLemmas.{limits, skips}
+use Rattle.job_plan.proofs.building.Begun.selected.Goals as goal
+
+pub returns-in-Limit-clause-window : goal.returns-in-Limit-clause-window
+returns-in-Limit-clause-window c = λ m env ss.
+    let b = c.args.self.now in
+    let gs = stages_of b.stages.items in
+    let w = c.within.result in
+    let keep : all_keep false gs ≡ true = search rules in
+    let some : 0 < c.in-Limit.count = search rules in
+    limit_selects b.first_stage gs c.in-Limit.count keep (windowed b.window.from b.window.to (source_walk ss)) (windowed w.from w.to (source_walk ss)) (limits ss b.window.from b.window.to c.in-Limit.count w.from w.to some c.within.ensures) m env
+    ∙ sym (ap (λ d. sliced (slice_of d) m env (pipe b.first_stage gs env (windowed b.window.from b.window.to (source_walk ss)))) c.in-Limit.is)
+
+pub returns-in-Skip-clause-window : goal.returns-in-Skip-clause-window
+returns-in-Skip-clause-window c = λ m env ss.
+    let b = c.args.self.now in
+    let gs = stages_of b.stages.items in
+    let w = c.within-in-Skip.result in
+    let keep : all_keep true gs ≡ true = search rules in
+    skip_selects b.first_stage gs c.in-Skip.count keep (windowed b.window.from b.window.to (source_walk ss)) (windowed w.from w.to (source_walk ss)) (skips ss b.window.from b.window.to c.in-Skip.count w.from w.to c.within-in-Skip.ensures) m env
+    ∙ sym (ap (λ d. sliced (slice_of d) m env (pipe b.first_stage gs env (windowed b.window.from b.window.to (source_walk ss)))) c.in-Skip.is)

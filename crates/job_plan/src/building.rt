@@ -1,0 +1,302 @@
+//! The route of a job, built stage by stage. A stage goes to the stages that look at one item at a time, to the
+//! positions of the job's sources, or to the slices that a walk goes through; a prefix ends a leg.
+
+ghost use Rattle.std.specs.Prelude.{◌≡◌, ◌≤◌, ◌+◌, ℕ, suc, List, [], length, IfOk, IfSome, OnOk};
+ghost use Rattle.lambda_values.specs.Earlier.{Numbers};
+ghost use Rattle.trace.specs.Stages.{pipe, stage_of, stages_of, through};
+ghost use Rattle.trace.specs.Trace.{Trace};
+ghost use Rattle.reduce_ops.specs.Operators.{value_of};
+ghost use Rattle.prefix_scan.specs.Prefixes.{prefixed};
+ghost use Rattle.slice_ops.specs.Slices.{slice_of, sliced};
+ghost use Rattle.job_language.specs.Jobs.{AbstractPlainSource, job_stage_of, job_stages_of, terminal_of};
+ghost use Rattle.job_meaning.specs.Walks.{after_stage, after_stages, answer_of, source_walk};
+ghost use Rattle.job_plan.specs.Building.{begun_in, begun_walk, leg_of, number_of};
+ghost use Rattle.job_plan.specs.Parts.{end_in, leg_in, legs_in};
+ghost use Rattle.job_plan.specs.Plans.{ended, legs_answer, windowed};
+
+use crate::ends::SegmentEnd;
+use crate::faultless::{all_calm, all_keep, keeps_first};
+use crate::leg::{Leg, Link};
+use crate::segment::Segment;
+use find_ops::FindTerminal;
+use job_language::{JobStage, Terminal};
+use lambda_values::LongExpr;
+use prefix_walks::{Prefix, Window};
+use slice_ops::Slice;
+use std::alloc::Global;
+use std::mem;
+use trace::{NoMemory, Stage};
+
+/// A route as far as it is built.
+#[derive(Drop)]
+pub(crate) struct Begun {
+    alloc: Global,
+    /// The positions of the sources that are walked.
+    pub(crate) window: Window,
+    /// The legs up to prefixes.
+    pub(crate) scans: Vec<Leg>,
+    /// The slices since the last prefix that don't select positions.
+    pub(crate) links: Vec<Link>,
+    /// The number of the first of the stages after them.
+    pub(crate) first_stage: u32,
+    pub(crate) stages: Vec<Stage>,
+}
+
+/// What a job walks: positions of its sources, by legs up to prefixes, and a last one.
+#[derive(Drop)]
+pub(crate) struct Way {
+    pub(crate) window: Window,
+    pub(crate) scans: Vec<Leg>,
+    pub(crate) last: Leg,
+}
+
+impl Begun {
+    /// No stages yet.
+    fn none(alloc: Global) -> Begun
+        ensures walk { (env : Numbers) (ss : List AbstractPlainSource)
+            → begun_walk (begun_in result) env ss ≡ source_walk ss }
+        ensures number { number_of (begun_in result) ≡ 1 }
+        ensures few { length result.links.items ≡ 0 }
+    {
+        Begun {
+            alloc,
+            window: Window::all(),
+            scans: Vec::new(alloc),
+            links: Vec::new(alloc),
+            first_stage: 1,
+            stages: Vec::new(alloc),
+        }
+    }
+
+    /// The number of the stage after the next one.
+    fn after_next(&self) -> u32
+        requires few { self.now.first_stage + length self.now.stages.items ≤ 32 }
+        ensures { result ≡ self.now.first_stage + length self.now.stages.items + 1 }
+    {
+        self.first_stage + self.stages.len() as u32 + 1
+    }
+
+    /// The stages since the last slice; those to come begin with this number.
+    fn take_stages(&mut self, next: u32) -> Vec<Stage>
+        ensures taken { result ≡ self.old.stages }
+        ensures none { (self.new.stages.items ≡ []) × (self.new.first_stage ≡ next) }
+        ensures kept { (self.new.scans ≡ self.old.scans) × (self.new.window ≡ self.old.window)
+            × (self.new.links ≡ self.old.links) }
+    {
+        self.first_stage = next;
+        mem::replace(&mut self.stages, Vec::new(self.alloc))
+    }
+
+    /// The positions that are left if a slice selects some of those that are walked: only maps come before it. `skip`
+    /// drops what maps make of items, so none of these may have a fault. `limit(0)` takes the fault of a walk away.
+    fn selected(&self, slice: &Slice) -> Option<Window>
+        ensures unlinked { IfSome result (λ _. (self.now.scans.items ≡ []) × (self.now.links.items ≡ [])) }
+        ensures window { IfSome result (λ w. (m : ℕ) (env : Numbers) (ss : List AbstractPlainSource)
+            → pipe self.now.first_stage (stages_of self.now.stages.items) env (windowed w.from w.to (source_walk ss))
+            ≡ sliced (slice_of slice.now) m env (pipe self.now.first_stage (stages_of self.now.stages.items) env
+            (windowed self.now.window.from self.now.window.to (source_walk ss)))) }
+    {
+        if !self.scans.is_empty() || !self.links.is_empty() {
+            return None;
+        }
+        match slice {
+            Slice::Limit(count) if *count > 0 && all_keep(&self.stages, false) => {
+                Some(self.window.within(0, Some(*count)))
+            }
+            Slice::Skip(count) if all_keep(&self.stages, true) => {
+                Some(self.window.within(*count, None))
+            }
+            _ => None,
+        }
+    }
+
+    /// Walks these positions. The number of the slice that selects them goes to a map that changes nothing, if stages
+    /// come before it.
+    fn select(&mut self, window: Window) -> Result<(), NoMemory>
+        requires few { self.old.first_stage + length self.old.stages.items ≤ 32 }
+        ensures kept { OnOk result ((self.new.scans ≡ self.old.scans) × (self.new.links ≡ self.old.links)) }
+        ensures window { OnOk result (self.new.window ≡ window) }
+        ensures walk { OnOk result ((env : Numbers) (t : Trace)
+            → pipe self.new.first_stage (stages_of self.new.stages.items) env t
+            ≡ pipe self.old.first_stage (stages_of self.old.stages.items) env t) }
+        ensures number { OnOk result (self.new.first_stage + length self.new.stages.items
+            ≡ self.old.first_stage + length self.old.stages.items + 1) }
+    {
+        self.window = window;
+        if self.stages.is_empty() {
+            self.first_stage += 1;
+            return Ok(());
+        }
+        self.stages.push(Stage::Map(LongExpr::Parameter(0)))?;
+        Ok(())
+    }
+
+    /// Adds a slice that a walk goes through.
+    fn link(&mut self, slice: Slice) -> Result<(), NoMemory>
+        requires few { self.old.first_stage + length self.old.stages.items ≤ 32 }
+        ensures walk { OnOk result ((env : Numbers) (ss : List AbstractPlainSource)
+            → begun_walk (begun_in self.new) env ss
+            ≡ sliced (slice_of slice) (number_of (begun_in self.old)) env (begun_walk (begun_in self.old) env ss)) }
+        ensures number { OnOk result (self.new.first_stage + length self.new.stages.items
+            ≡ self.old.first_stage + length self.old.stages.items + 1) }
+        ensures few { OnOk result (length self.new.links.items ≡ length self.old.links.items + 1) }
+    {
+        let first_stage = self.first_stage;
+        let next = self.after_next();
+        let stages = self.take_stages(next);
+        self.links.push(Link {
+            first_stage,
+            stages,
+            slice,
+        })?;
+        Ok(())
+    }
+
+    /// Forgets all stages, but not how many there were.
+    fn forget(&mut self)
+        requires few { self.old.first_stage + length self.old.stages.items ≤ 32 }
+        ensures number { number_of (begun_in self.new) ≡ number_of (begun_in self.old) }
+        ensures stages { self.new.first_stage + length self.new.stages.items
+            ≡ self.old.first_stage + length self.old.stages.items }
+        ensures few { length self.new.links.items ≡ 0 }
+    {
+        self.first_stage += self.stages.len() as u32;
+        self.stages = Vec::new(self.alloc);
+        self.links = Vec::new(self.alloc);
+        self.scans = Vec::new(self.alloc);
+    }
+
+    /// Adds a slice. Nothing is walked before `limit(0)`.
+    fn slice(&mut self, slice: Slice) -> Result<(), NoMemory>
+        requires few { self.old.first_stage + length self.old.stages.items ≤ 32 }
+        ensures walk { OnOk result ((env : Numbers) (ss : List AbstractPlainSource)
+            → begun_walk (begun_in self.new) env ss
+            ≡ sliced (slice_of slice) (number_of (begun_in self.old)) env (begun_walk (begun_in self.old) env ss)) }
+        ensures number { OnOk result (self.new.first_stage + length self.new.stages.items
+            ≡ self.old.first_stage + length self.old.stages.items + 1) }
+        ensures few { OnOk result (length self.new.links.items ≤ length self.old.links.items + 1) }
+    {
+        if let Some(window) = self.selected(&slice) {
+            return self.select(window);
+        }
+        if let Slice::Limit(0) = slice {
+            self.forget();
+        }
+        self.link(slice)
+    }
+
+    /// The leg of the slices and the stages since the last prefix, with this end; the next one begins with the stage of
+    /// this number.
+    fn take_leg(&mut self, end: SegmentEnd, next: u32) -> Leg
+        requires number { self.old.first_stage + length self.old.stages.items ≤ 33 }
+        requires few { length self.old.links.items ≤ 32 }
+        ensures leg { leg_in result ≡ leg_of (begun_in self.old) (end_in end) }
+        ensures none { (self.new.links.items ≡ []) × (self.new.stages.items ≡ []) × (self.new.first_stage ≡ next) }
+        ensures kept { (self.new.scans ≡ self.old.scans) × (self.new.window ≡ self.old.window) }
+    {
+        let links = mem::replace(&mut self.links, Vec::new(self.alloc));
+        let first_stage = self.first_stage;
+        let stages = self.take_stages(next);
+        let last = Segment {
+            first_stage,
+            stages,
+            end,
+        };
+        Leg { links, last }
+    }
+
+    /// Adds a prefix.
+    fn scan(&mut self, prefix: Prefix) -> Result<(), NoMemory>
+        requires few { self.old.first_stage + length self.old.stages.items ≤ 32 }
+        requires links { length self.old.links.items ≤ 32 }
+        ensures walk { OnOk result ((env : Numbers) (ss : List AbstractPlainSource)
+            → begun_walk (begun_in self.new) env ss
+            ≡ prefixed (value_of prefix.op) prefix.range (number_of (begun_in self.old))
+            (begun_walk (begun_in self.old) env ss)) }
+        ensures number { OnOk result (self.new.first_stage + length self.new.stages.items
+            ≡ self.old.first_stage + length self.old.stages.items + 1) }
+        ensures few { OnOk result (length self.new.links.items ≡ 0) }
+    {
+        let next = self.after_next();
+        let leg = self.take_leg(SegmentEnd::Prefix(prefix), next);
+        self.scans.push(leg)?;
+        Ok(())
+    }
+
+    /// Adds a stage that looks at one item at a time.
+    fn item(&mut self, stage: Stage) -> Result<(), NoMemory>
+        ensures walk { OnOk result ((env : Numbers) (ss : List AbstractPlainSource)
+            → begun_walk (begun_in self.new) env ss
+            ≡ through (number_of (begun_in self.old)) (stage_of stage) env (begun_walk (begun_in self.old) env ss)) }
+        ensures number { OnOk result (self.new.first_stage + length self.new.stages.items
+            ≡ self.old.first_stage + length self.old.stages.items + 1) }
+        ensures few { OnOk result (self.new.links ≡ self.old.links) }
+    {
+        self.stages.push(stage)?;
+        Ok(())
+    }
+
+    /// Adds a stage.
+    fn add(&mut self, stage: JobStage) -> Result<(), NoMemory>
+        requires few { self.old.first_stage + length self.old.stages.items ≤ 32 }
+        requires links { length self.old.links.items ≤ 32 }
+        ensures walk { OnOk result ((env : Numbers) (ss : List AbstractPlainSource)
+            → begun_walk (begun_in self.new) env ss
+            ≡ after_stage (number_of (begun_in self.old)) (job_stage_of stage) env
+            (begun_walk (begun_in self.old) env ss)) }
+        ensures number { OnOk result (self.new.first_stage + length self.new.stages.items
+            ≡ self.old.first_stage + length self.old.stages.items + 1) }
+        ensures few { OnOk result (length self.new.links.items ≤ length self.old.links.items + 1) }
+    {
+        match stage {
+            JobStage::Item(stage) => self.item(stage),
+            JobStage::Slice(slice) => self.slice(slice),
+            JobStage::Prefix { positions, op } => self.scan(Prefix {
+                op,
+                range: positions,
+            }),
+        }
+    }
+
+    /// The end that is walked for another one: `findFirst` for a fold that keeps the first value, if no fault can come.
+    fn end_for(&self, end: SegmentEnd) -> SegmentEnd
+        ensures { (env : Numbers) (ss : List AbstractPlainSource)
+            → ended (end_in result) (number_of (begun_in self.now)) env (begun_walk (begun_in self.now) env ss)
+            ≡ ended (end_in end) (number_of (begun_in self.now)) env (begun_walk (begun_in self.now) env ss) }
+    {
+        if !self.scans.is_empty() || !self.links.is_empty() {
+            return end;
+        }
+        if keeps_first(&end) && all_calm(&self.stages) {
+            return SegmentEnd::Find(FindTerminal::First);
+        }
+        end
+    }
+}
+
+/// What a job of these stages and this terminal walks.
+pub(crate) fn way_of(
+    alloc: Global,
+    stages: Vec<JobStage>,
+    terminal: Terminal,
+) -> Result<Way, NoMemory>
+    requires few { length stages.items ≤ 32 }
+    ensures { IfOk result (λ way. (env : Numbers) (ss : List AbstractPlainSource)
+        → legs_answer (record { scans = legs_in way.scans.items; last = leg_in way.last }) env
+        (windowed way.window.from way.window.to (source_walk ss))
+        ≡ answer_of (suc (length stages.items)) env (terminal_of terminal)
+        (after_stages 1 (job_stages_of stages.items) env (source_walk ss))) }
+{
+    let end = SegmentEnd::of(terminal);
+    let mut begun = Begun::none(alloc);
+    for stage in stages {
+        begun.add(stage)?;
+    }
+    let walked = begun.end_for(end);
+    let last = begun.take_leg(walked, 0);
+    Ok(Way {
+        window: begun.window,
+        scans: begun.scans,
+        last,
+    })
+}
