@@ -140,10 +140,6 @@ pub Consumes-none : (a : Option (List ℕ)) → Consumes a a []
 Consumes-none None = tt
 Consumes-none (Some xs) = refl
 
--- nothing was read and put
-pub Goes-none : (a : Option (List ℕ)) (bytes : List ℕ) (columns : List NamedColumn) → Goes a a bytes bytes columns columns
-Goes-none a bytes columns = ([], Consumes-none a, λ front f. (front, ap (λ l. front ++ l) (sym (append-nil bytes)), f))
-
 -- one after the other
 moved : (front bytes one two : List ℕ) → (front ++ (bytes ++ one)) ++ two ≡ front ++ (bytes ++ (one ++ two))
 moved front bytes one two = append_assoc front (bytes ++ one) two ∙ ap (λ l. front ++ l) (append_assoc bytes one two)

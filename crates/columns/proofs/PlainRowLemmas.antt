@@ -27,15 +27,6 @@ cell_fault-push r c (first ∷ cells) cell n number good =
     let (here, rest) = cell_fault-good r c first cells (number_of first) refl good in
     rw here (cell_fault-push r (c + 1) cells cell n number rest)
 
-pub AreCellsThere-none : (xs : List ℕ) (columns : List NamedColumn) → AreCellsThere xs xs 0 columns columns
-AreCellsThere-none xs columns = record {
-  cells = [];
-  wide = refl;
-  reads = refl;
-  good = λ r c. refl;
-  put = λ more. refl;
-}
-
 -- a cell more is put under its column
 put_more : (columns : List Column) (cells : List (List ℕ)) (cell : List ℕ) (more : List (List ℕ)) (count : ℕ) (c a : Column) (n : ℤ) → count < length columns → length cells ≡ count
     → number_of cell ≡ Some n → c ≡ get_or columns count c → named a ≡ record { name = c.name.items; cells = c.cells.items ++ n ∷ [] }

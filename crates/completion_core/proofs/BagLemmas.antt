@@ -22,11 +22,6 @@ pub count_zero : (i : ℕ) (xs : List ℕ) → ((k : ℕ) → k < length xs → 
 count_zero i [] h = refl
 count_zero i (x ∷ xs) h = let z : only_at i 1 x ≡ 0 = at_else i 1 x (h 0 (omega arith)) in let r = count_zero i xs (λ k l. h (suc k) (omega arith)) in omega arith
 
-pub count_some : (xs : List ℕ) (k : ℕ) → k < length xs → 0 < count (get_or xs k 0) xs
-count_some [] k h = absurd (omega arith)
-count_some (x ∷ xs) zero h = let e = at_here x 1 in omega arith
-count_some (x ∷ xs) (suc k) h = let r = count_some xs k (omega arith) in omega arith
-
 pub all_counted : (P : ℕ → Type 0) (xs : List ℕ) → All P xs → (i : ℕ) → 0 < count i xs → P i
 all_counted P [] h i c = absurd (omega arith)
 all_counted P (x ∷ xs) h i c = dite (ℕ_discrete x i)

@@ -1,5 +1,5 @@
 -- A legal action meets all demands but those that are limits of the store.
-use Rattle.std.proofs.Common.{◌≡◌, ◌≢◌, ℕ, ◌<◌, List, [], ◌∷◌, length, cond, sym, subst, arith, ap, inl, inr, eq-eqb, refl}
+use Rattle.std.proofs.Common.{◌≡◌, ◌≢◌, ℕ, ◌<◌, List, [], ◌∷◌, length, cond, sym, subst, arith, ap, eq-eqb, refl}
 use Rattle.completion_core.specs.Legal.{count, only_at}
 use Rattle.completion_core.specs.declared.action.Action.{Action}
 use Rattle.completion_core.specs.declared.action.Action.TheVariants.{Claim, Arm, Add, Give, Arrive, Run, Settle}
@@ -58,11 +58,6 @@ arm_wants (Settle a) g is m = is
 -- a run that isn't logged
 pub run_lacks : (action : Action) (g : Graph) (a node : ℕ) → action ≡ Run a node → Legal action g → Meets TooMany action g → LacksLog NoMemory action g
 run_lacks action g a node e l few = subst (λ x. LacksLog NoMemory x g) (sym e) (subst (λ x. (demand : Illegal) → rank demand < 8 → Meets demand x g) e (all_but_memory action g l few))
-
--- memory is wanted by a gift that changes hands, and by a run of a node that kept something
-pub give_wants : (g : Graph) (a b node k : ℕ) → a ≢ b → k ≢ 0 → Meets NoMemory (Give a b node k) g → ⊥
-give_wants g a b node k other some (inl e) = other e
-give_wants g a b node k other some (inr e) = some e
 
 pub some_kept : (xs : List ℕ) → 0 < length xs → ((i : ℕ) → count i xs ≡ 0) → ⊥
 some_kept [] h none = absurd (omega arith)

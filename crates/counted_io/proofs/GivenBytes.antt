@@ -2,7 +2,7 @@
 use Rattle.std.proofs.Common.{◌≡◌, ◌+◌, ℕ, List, ◌++◌, Some, None, Option, take, drop, sym, ap, ◌∙◌, append_assoc}
 use Rattle.std.proofs.Math.Seq.{take-add}
 use Rattle.std.specs.Io.KnownBytes.{Consumes}
-use Rattle.counted_io.specs.CountedRead.{GaveSome, HasGiven}
+use Rattle.counted_io.specs.CountedRead.{HasGiven}
 
 -- two reads in a row gave the bytes of the first and then the bytes of the second
 pub Consumes-append : (a b c : Option (List ℕ)) (xs ys : List ℕ) → Consumes a b xs → Consumes b c ys → Consumes a c (xs ++ ys)
@@ -20,6 +20,3 @@ HasGiven-filled a b c first old new f n front (gone, before, is) read =
       Consumes-append a b c gone more before read,
       take-add f n new ∙ ap (λ l. l ++ more) (front ∙ is) ∙ append_assoc first gone more,
     )
-
-pub GaveSome-more : (a b c : Option (List ℕ)) (xs : List ℕ) → GaveSome a b → Consumes b c xs → GaveSome a c
-GaveSome-more a b c xs (gone, before) read = (gone ++ xs, Consumes-append a b c gone xs before read)

@@ -27,11 +27,6 @@ same_set [] id v w j e h = absurd (some-ne-none v (sym e))
 same_set (x ∷ xs) zero v w j e h = let same : least j x.lowered ≡ least j v.lowered = ap (λ (u : KnownPlaces). least j u.lowered) (some-injective x v e) in omega arith
 same_set (x ∷ xs) (suc id) v w j e h = let r = same_set xs id v w j e h in omega arith
 
--- a view that has lowered nothing is added
-least_top : (i : ℕ) (views : List KnownPlaces) → least_lowered i views ≤ greatest
-least_top i [] = omega arith
-least_top i (x ∷ xs) = let r = least_top i xs in omega arith
-
 same_snoc : (views : List KnownPlaces) (v : KnownPlaces) (j : ℕ) → least j v.lowered ≡ greatest → least_lowered j (views ++ v ∷ []) ≡ least_lowered j views
 same_snoc [] v j h = omega arith
 same_snoc (x ∷ xs) v j h = let r = same_snoc xs v j h in omega arith

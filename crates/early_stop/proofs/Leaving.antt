@@ -1,10 +1,10 @@
 -- What may be left unwalked.
-use Rattle.std.proofs.Common.{◌≡◌, ℕ, zero, suc, ◌+◌, ◌-◌, ◌≤◌, min, List, [], ◌∷◌, ◌++◌, length, take, drop, sym, refl, ap, ◌∙◌, subst, inl, inr, ⊎_elim, arith, length-append}
+use Rattle.std.proofs.Common.{◌≡◌, ℕ, zero, suc, ◌+◌, ◌-◌, ◌≤◌, List, [], ◌∷◌, ◌++◌, length, take, drop, sym, refl, ap, ◌∙◌, subst, inl, inr, ⊎_elim, arith, length-append}
 use Rattle.std.specs.Prelude.{◌⊎◌}
 use Rattle.std.proofs.Math.Seq.{take-append-add}
 use Rattle.std.proofs.lemmas.List.{take-append-le}
 use mathlib.Core.Logic.{dite}
-use native.Mathlib.Decide.{ℕ_discrete, dec_le}
+use native.Mathlib.Decide.{dec_le}
 use Rattle.trace.specs.declared.item.Item.{Item}
 use Rattle.trace.specs.declared.item.End.{End}
 use Rattle.trace.specs.declared.item.End.TheVariants as end
@@ -65,9 +65,6 @@ begins_cut : (k : ℕ) (s t b d : Trace) → k ≤ length s.items → BeginsAs k
 begins_cut k s t b d h w = ((λ low. begins_on k s t b d h (w.0 h)), λ few. let l = long_append s b in absurd (omega arith))
 
 module _ (decides : ℕ → Type 0) where
-  min_decides : (c d : ℕ) → decides c → decides d → decides (min c d)
-  min_decides c d p q = dite (ℕ_discrete (min c d) c) (λ e. subst decides (sym e) p) (λ n. let e : min c d ≡ d = omega arith in subst decides (sym e) q)
-
   -- a piece that was walked
   pub enough_walked : (at : ℕ) (s : Trace) → IsEnough decides at s s
   enough_walked at s = inl refl
@@ -107,11 +104,4 @@ pub enough_as : (decides decides' : ℕ → Type 0) (at : ℕ) (s t : Trace) →
 enough_as decides decides' at s t to e = ⊎_elim
     (λ (h : t ≡ s). inl h)
     (λ (h : (c : ℕ) × decides c × BeginsAs (c - at) s t). inr (h.0, to h.0 h.1, h.2))
-    e
-
--- if none is, the piece itself does
-pub enough_none : (decides : ℕ → Type 0) (at : ℕ) (s t : Trace) → ((c : ℕ) → decides c → ⊥) → IsEnough decides at s t → t ≡ s
-enough_none decides at s t never e = ⊎_elim
-    (λ (h : t ≡ s). h)
-    (λ (h : (c : ℕ) × decides c × BeginsAs (c - at) s t). absurd (never h.0 h.1))
     e

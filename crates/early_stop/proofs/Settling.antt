@@ -5,9 +5,8 @@ use mathlib.Core.Logic.{dite}
 use native.Mathlib.Decide.{dec_le}
 use Rattle.trace.specs.declared.item.Item.{Item}
 use Rattle.trace.specs.declared.item.Fault.{Fault}
-use Rattle.trace.specs.declared.item.End.{End}
 use Rattle.trace.specs.declared.item.End.TheVariants as end
-use Rattle.trace.specs.Trace.{Trace, trace, then_on, append}
+use Rattle.trace.specs.Trace.{Trace, trace, append}
 use Rattle.trace.proofs.JoinLemmas.{append_grouped, append_faulted}
 use Rattle.early_stop.specs.Decisive.{BeginsAs, Decides}
 use Rattle.early_stop.specs.Leaving.{IsSettled, IsSettledAfter, IsEnough}
@@ -17,10 +16,6 @@ use Rattle.early_stop.proofs.Leaving.{begins_less}
 pub later_decides : {O : Type 0} (outcome : Trace → O) (s : Trace) (c d : ℕ) → c ≤ d → Decides outcome s c → Decides outcome s d
 later_decides outcome s c d h ok t b = ok t (begins_less c d s t h b)
 
--- and so is one after the end of the source
-pub beyond_decides : {O : Type 0} (outcome : Trace → O) (s : Trace) (c : ℕ) → length s.items < c → Decides outcome s c
-beyond_decides outcome s c h t b = ap outcome (b.1 h)
-
 module _ {O : Type 0} (close : Trace → O) where
   -- a fault settles every outcome
   pub fault_settles : (t : Trace) (f : Fault) → t.ending ≡ end.Fault f → IsSettled close t
@@ -28,15 +23,6 @@ module _ {O : Type 0} (close : Trace → O) where
     where
       same : (b : Trace) → append (append a t) b ≡ append a t
       same b = append_grouped a t b ∙ ap (append a) (append_faulted t b f h)
-
-  -- enough: it settles where walks before and after it are done
-  pub settles_by : (t : Trace) → ((xs ys zs : List Item) (e e' : End) → close (trace ((xs ++ t.items) ++ ys) e) ≡ close (trace ((xs ++ t.items) ++ zs) e')) → IsSettled close t
-  settles_by t h a b c = by_end a.ending t.ending refl
-    where
-      by_end : (e e' : End) → t.ending ≡ e' → close (append (then_on a.items e t) b) ≡ close (append (then_on a.items e t) c)
-      by_end (end.Fault f) e' q = refl
-      by_end end.Done end.Done q = ap (λ (z : End). close (then_on (a.items ++ t.items) z b)) q ∙ h a.items b.items c.items b.ending c.ending ∙ ap (λ (z : End). close (then_on (a.items ++ t.items) z c)) (sym q)
-      by_end end.Done (end.Fault f) q = ap (λ (z : End). close (then_on (a.items ++ t.items) z b)) q ∙ ap (λ (z : End). close (then_on (a.items ++ t.items) z c)) (sym q)
 
 take_both : (i m : ℕ) (xs : List Item) → take (i + m) xs ≡ take i xs ++ take m (drop i xs)
 take_both zero m xs = let e : 0 + m ≡ m = omega arith in ap (λ k. take k xs) e

@@ -13,8 +13,7 @@ use Rattle.trace.specs.Stops.{stop_at}
 use Rattle.trace.specs.Trace.{Trace, trace, nothing, append}
 use Rattle.trace.proofs.JoinLemmas.{each_append}
 use Rattle.slice_ops.specs.Slices.{AbstractSlice, limit, skip, take_while, drop_while, front_ends, limited, skipped, taken, dropped, sliced}
-use Rattle.slice_ops.proofs.GrownPartLemmas.{is_above}
-use Rattle.slice_ops.proofs.JoinLemmas.{at_least, limit_stays, limited_few}
+use Rattle.slice_ops.proofs.JoinLemmas.{at_least, is_above, limit_stays, limited_few}
 use Rattle.slice_ops.proofs.RestLemmas.{closed, then_closed, limit_goes_on, skip_goes_on, take_closes, take_goes_on, drop_opens, drop_goes_on}
 use Rattle.find_ops.specs.Finds.{Find, decision_of}
 use Rattle.find_ops.proofs.DecisionLemmas.{decision_joined}

@@ -12,7 +12,7 @@ use Rattle.trace.specs.Stops.{shift, stop_or, stop_at}
 use Rattle.find_ops.specs.declared.find_part.Found.TheVariants as found
 use Rattle.find_ops.specs.Finds.{Find, any_match, all_match, none_match, decision, first_decision, if_true, if_false, tested}
 use Rattle.slice_ops.specs.Slices.{front_ends, end_by}
-use Rattle.slice_ops.specs.Parts.{before_stop}
+use Rattle.slice_ops.specs.Rests.{before_stop}
 
 abbrev values_of : List Item → List ℤ
 values_of xs = map (λ (x : Item). x.value) xs

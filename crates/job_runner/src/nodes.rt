@@ -33,18 +33,6 @@ pub(crate) fn segment_count<S: JobSegments>(jobs: &S) -> u64 {
     count
 }
 
-/// How many positions the first segments have that are walked in pieces, in all jobs together.
-fn divided_positions<S: JobSegments>(jobs: &S) -> u64 {
-    let mut positions = 0u64;
-    for job in 0..jobs.jobs() {
-        if jobs.is_divided(job, 0) {
-            let size = jobs.likely_size(job);
-            positions = positions.saturating_add(size);
-        }
-    }
-    positions
-}
-
 /// The most nodes that a segment of this many positions uses, if pieces longer than `longest` are cut. Each cut leaves
 /// half of the positions at most, rounded up.
 fn cuts_within(size: u64, longest: u64) -> u64 {
@@ -56,30 +44,6 @@ fn cuts_within(size: u64, longest: u64) -> u64 {
         }
         length -= length / 2;
         cuts = cuts.saturating_mul(2).saturating_add(1);
-    }
-    cuts
-}
-
-/// The most nodes that the segments of a job use if no piece is longer than this. A later segment is taken to have no
-/// more positions than the first one.
-fn cuts_of_job<S: JobSegments>(jobs: &S, job: usize, longest: u64) -> u64
-    requires { job < S.job_count }
-{
-    let each = cuts_within(jobs.likely_size(job), longest);
-    let mut cuts = 0u64;
-    for segment in 0..=jobs.last_segment(job) {
-        if jobs.is_divided(job, segment) {
-            cuts = cuts.saturating_add(each);
-        }
-    }
-    cuts
-}
-
-/// The most nodes that all jobs use so.
-fn cuts_of_all<S: JobSegments>(jobs: &S, longest: u64) -> u64 {
-    let mut cuts = 0u64;
-    for job in 0..jobs.jobs() {
-        cuts = cuts.saturating_add(cuts_of_job(jobs, job, longest));
     }
     cuts
 }
@@ -97,6 +61,18 @@ fn divided_of_job<S: JobSegments>(jobs: &S, job: usize, from: usize) -> u64
     count
 }
 
+/// The most nodes that the segments of all jobs use if no piece is longer than this. A later segment is taken to have
+/// no more positions than the first one.
+fn cuts_of_all<S: JobSegments>(jobs: &S, longest: u64) -> u64 {
+    let mut cuts = 0u64;
+    for job in 0..jobs.jobs() {
+        let divided = divided_of_job(jobs, job, 0);
+        let each = cuts_within(jobs.likely_size(job), longest);
+        cuts = cuts.saturating_add(divided.saturating_mul(each));
+    }
+    cuts
+}
+
 /// The most nodes that the segments of all jobs use, of those from this number on in each job, whatever they go over.
 fn cuts_of_segments<S: JobSegments>(jobs: &S, settings: Settings, from: usize) -> u64 {
     let longest = share_of(u64::MAX, pieces_of_segment(settings));
@@ -109,17 +85,15 @@ fn cuts_of_segments<S: JobSegments>(jobs: &S, settings: Settings, from: usize) -
     cuts
 }
 
-/// The most positions of a piece that isn't cut: the threshold, or more if there are too few nodes for pieces as short
-/// as that: an even share of all positions, doubled until there are nodes for all cuts, as long as something is cut. So
-/// no piece is left long because others were cut small before it, and the last of many jobs is cut as the first one is.
+/// The most positions of a piece that isn't cut: the threshold, doubled until there are nodes for all cuts, as long as
+/// something is cut. So no piece is left long because others were cut small before it, and the last of many jobs is cut
+/// as the first one is.
 pub(crate) fn most_positions<S: JobSegments>(jobs: &S, settings: Settings) -> u64
     ensures some { 0 < result }
     ensures threshold { threshold_of settings ≤ result }
 {
     let nodes = cuts_of_segments(jobs, settings, 0).min(settings.nodes());
-    let pieces = nodes.saturating_add(jobs.jobs() as u64);
-    let share = share_of(divided_positions(jobs), pieces);
-    let mut longest = settings.threshold().max(share);
+    let mut longest = settings.threshold();
     for _doubled in 0..64 {
         let twice = longest.saturating_mul(2);
         if cuts_of_all(jobs, longest) <= nodes || cuts_of_all(jobs, twice) == 0 {

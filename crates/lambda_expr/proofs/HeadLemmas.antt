@@ -159,9 +159,6 @@ ended (p ∷ ps) ws r n t is = ended_first p ps ws t.1.0 n t.0 (nat_eq t.1.0 (le
 
 -- ---- the words of a head and what follows
 
-abbrev After : Type 1
-After = List Lexeme → List Lexeme → Type 0
-
 -- something may stand after each head
 abbrev pub Follows : (List Lexeme → List Lexeme → Type 0) → Type 0
 Follows after = (front : List Lexeme) → (rest : List Lexeme) × after front rest

@@ -2,7 +2,7 @@
 use Rattle.std.proofs.Common.{◌≡◌, ℕ, zero, suc, ◌+◌, ◌-◌, ◌<◌, ◌≤◌, Option, None, List, [], ◌∷◌, length, take, drop, get_or, refl, sym, ap, ◌∙◌, arith, length-drop, length-take, option_copied}
 use Rattle.std.specs.Prelude.{slice_range}
 use Rattle.stream_tokens.specs.CutTexts.{TokenizedText}
-use Rattle.std.proofs.lemmas.List.{drop-drop, drop-take, get_or-drop, get_or-take, take-take, take_all}
+use Rattle.std.proofs.lemmas.List.{drop-drop, drop-take, get_or-drop, get_or-take, take_all}
 use Rattle.lambda_expr.specs.declared.lexeme.Lexeme.{Lexeme}
 use Rattle.lambda_expr.specs.declared.lexeme.Lexemes.TheInside.{Inside}
 use Rattle.lambda_expr.specs.CodeWords.{words_in}
@@ -61,9 +61,3 @@ rest_part l ls n is h le =
     let count = length-part l ls is h in
     let left : l.to - l.from ≡ n + (l.to - (l.from + n)) = omega arith in
     sym (ap (drop n) (sym h ∙ ap (λ k. take k (drop l.from (whole l))) left) ∙ drop-take n (l.to - (l.from + n)) (drop l.from (whole l)) ∙ ap (take (l.to - (l.from + n))) (drop-drop n l.from (whole l)))
-
-pub front_part : (l : Inside) (ls : List Lexeme) (n : ℕ) → IsPart l → part_of l ≡ ls → n ≤ length ls → slice_range (whole l) l.from (l.from + n) ≡ take n ls
-front_part l ls n is h le =
-    let count = length-part l ls is h in
-    let same : l.from + n - l.from ≡ n = omega arith in
-    ap (λ k. take k (drop l.from (whole l))) same ∙ sym (take-take n (l.to - l.from) (drop l.from (whole l)) (omega arith)) ∙ ap (take n) h

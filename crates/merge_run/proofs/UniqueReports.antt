@@ -1,7 +1,6 @@
 -- A report as JSON holds one list of answers.
 use Rattle.std.proofs.Common.{◌≡◌, ℕ, suc, ℤ, pos, negsuc, ◌+◌, ◌*◌, ◌<◌, ◌≤◌, max, Bool, false, List, [], ◌∷◌, ◌++◌, length, Option, Some, None, refl, sym, ap, ◌∙◌, arith}
 use Rattle.std.specs.Prelude.{map, slice_index_or}
-use Rattle.std.specs.Fmt.{signed_decimal}
 use Rattle.std.proofs.lemmas.Fmt.{decimal_injective, signed_decimal_injective}
 use Rattle.json.specs.Json as json
 use Rattle.json.specs.Tree.{HasNumbers, ItemsHaveNumbers, depth, items_depth}
@@ -10,9 +9,8 @@ use Rattle.json.proofs.Printed.Trees.{document-print}
 use Rattle.lambda_values.specs.declared.fault.FaultKind.{FaultKind}
 use Rattle.lambda_values.specs.declared.fault.FaultKind.TheVariants.{DivideByZero, Overflow, OutOfArray, SourceTooLong}
 use Rattle.serde_json.specs.Data.{Data, array}
-use Rattle.serde_json.specs.Find.{of_integer}
 use Rattle.serde_json.specs.View.{items_of}
-use Rattle.serde_json.specs.Written.{compact_text, items_outline, number_text, outline}
+use Rattle.serde_json.specs.Written.{compact_text, items_outline, outline}
 use Rattle.serde_json.proofs.Texts.{print-outline}
 use Rattle.trace.specs.declared.item.Fault.{Fault}
 use Rattle.job_meaning.specs.declared.answer.Answer.{Answer}
@@ -35,10 +33,6 @@ same_outline d e hd he sd se same =
     the_same (sym (document-print (outline d) hd sd) ∙ ap json.document (print-outline d ∙ same ∙ sym (print-outline e)) ∙ document-print (outline e) he se)
 
 -- ---- numbers
-
-integer_text : (z : ℤ) → number_text (of_integer z) ≡ signed_decimal z
-integer_text (pos n) = refl
-integer_text (negsuc n) = refl
 
 integer_fits : (z : ℤ) → Fits z → HasNumbers (outline (integer_json z))
 integer_fits (pos n) h = IsNumber-signed_decimal (pos n) h

@@ -219,14 +219,6 @@ reach_after a b r s done left right =
     ∙ ap reach_of (sym (values_joined a.items b.items))
     ∙ ap (λ (t : Trace). reach_of (item_values t.items)) (sym (on_done a b done))
 
--- the reach of one more item
-pub reach_one_more : (a : Trace) (x : Item) (r : AbstractReach) → a.ending ≡ end.Done → r ≡ reach_of (item_values a.items) → reach_on r x.value ≡ reach_of (item_values (append a (trace (x ∷ []) end.Done)).items)
-reach_one_more a x r done left =
-    ap (λ (q : AbstractReach). reach_on q x.value) left
-    ∙ sym (fold-append reach_on no_reach (item_values a.items) (x.value ∷ []))
-    ∙ ap reach_of (sym (values_joined a.items (x ∷ [])))
-    ∙ ap (λ (t : Trace). reach_of (item_values t.items)) (sym (on_done a (trace (x ∷ []) end.Done) done))
-
 pub end_after : (a b : Trace) → a.ending ≡ end.Done → b.ending ≡ (append a b).ending
 end_after a b done = ap (λ (t : Trace). t.ending) (sym (on_done a b done))
 
@@ -318,9 +310,6 @@ over_then n t u z h x =
 -- one more item
 pub one_more : (n : ℕ) (z : ℤ) (x : Item) → is_long (z +ℤ x.value) ≡ true → sum_on n (Ok z) (trace (x ∷ []) end.Done) ≡ Ok (z +ℤ x.value)
 one_more n z x h = ap (λ b. exact_end n end.Done (if b then Ok (z +ℤ x.value) else Err x)) h
-
-pub too_far : (n : ℕ) (z : ℤ) (x : Item) → is_long (z +ℤ x.value) ≡ false → sum_on n (Ok z) (trace (x ∷ []) end.Done) ≡ Err (record { kind = kind.Overflow; stage = n; origin = Some x.origin })
-too_far n z x h = ap (λ b. exact_end n end.Done (if b then Ok (z +ℤ x.value) else Err x)) h
 
 -- ---- what is left when a case is ruled out
 

@@ -1,5 +1,5 @@
 -- Loops over answers and over parts.
-use Rattle.std.proofs.Common.{◌≡◌, ℕ, suc, ◌+◌, ◌<◌, ◌≤◌, true, false, List, [], ◌∷◌, ◌++◌, length, Option, Some, None, Result, Ok, Err, IfOk, IfErr, refl, sym, ap, ◌∙◌, append_assoc, arith, get_or, take, drop}
+use Rattle.std.proofs.Common.{◌≡◌, ℕ, suc, ◌+◌, ◌<◌, ◌≤◌, true, false, List, [], ◌∷◌, ◌++◌, length, Option, Some, None, Result, Ok, Err, IfOk, IfErr, refl, sym, ap, ◌∙◌, arith, get_or, take, drop}
 use Rattle.std.proofs.Math.Seq.{drop-cons}
 use Rattle.std.proofs.lemmas.List.{drop_all, length-drop, take_more}
 use Rattle.job_language.specs.declared.job.Job.{Job}
@@ -16,21 +16,10 @@ abbrev pub onto : List Answer → Option (List Answer) → Option (List Answer)
 onto ls None = None
 onto ls (Some bs) = Some (ls ++ bs)
 
-pub onto_none : (ls : List Answer) (o : Option (List Answer)) → o ≡ None → onto ls o ≡ None
-onto_none ls o e = ap (onto ls) e
-
--- one answer more
-pub onto_more : (ls : List Answer) (a : Answer) (o : Option (List Answer)) → onto (ls ++ a ∷ []) o ≡ onto ls (both (Some a) o)
-onto_more ls a None = refl
-onto_more ls a (Some bs) = ap Some (append_assoc ls (a ∷ []) bs)
-
 -- what the parts so far as one, if there are some, give with those that are left
 abbrev pub merged_on : List AbstractJob → Option PartAnswers → List Part → Option (List Answer)
 merged_on jobs None ps = merged jobs ps
 merged_on jobs (Some p) ps = finished jobs (all_as_one jobs (Some (part_of p)) ps)
-
-pub nothing_as_one : (jobs : List AbstractJob) (ps : List Part) → finished jobs (all_as_one jobs None ps) ≡ None
-nothing_as_one jobs ps = refl
 
 -- ---- sources
 

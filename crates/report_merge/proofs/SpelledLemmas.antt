@@ -30,7 +30,7 @@ use Rattle.job_language.specs.Jobs.{AbstractJob, AbstractJobStage, AbstractPlain
 use Rattle.job_language.specs.Operators.{is_add_exact, spelled_op}
 use Rattle.job_language.specs.Rows.{AbstractCall, Argument, column as column_cells, fallback, source, stage, terminal}
 use Rattle.job_language.specs.Table.{built_of, name_in, role_of, string_in}
-use Rattle.job_language.specs.Verdicts.{AreRead, BegunJob, IsCallRead, IsInside, IsJobRead, IsNextCall, IsRead, IsReadAfter, IsReadInTurn, added, below_terminal, call_answer, earlier_of, fallback_below, finished, finished_by, job_named, placed_calls}
+use Rattle.job_language.specs.Verdicts.{AreRead, BegunJob, IsInside, IsJobRead, IsNextCall, IsRead, IsReadAfter, IsReadInTurn, added, below_terminal, call_answer, earlier_of, finished_by, placed_calls}
 use Rattle.job_language.specs.Verdicts as verdict
 use Rattle.job_language.proofs.ShapeLemmas.{one_spelled}
 use Rattle.report_merge.proofs.Written.{Cells, WrittenJob, WrittenSource, all_filled, column, earlier_same, filled, filled_more, filled_sources, literal, sources_more}

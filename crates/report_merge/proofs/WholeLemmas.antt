@@ -94,12 +94,6 @@ module _ (bytes : List ℕ) (header : Row) (jobs : List WrittenJob)
       (λ both later. subst (λ (zs : List Row). Stands zs r) (append_assoc xs ys (all_rows tables)) (after_all tables ps (xs ++ ys) (one (xs ++ ys) p q) r both a.1 later))
       h (nat_lt (2 ^ 62) (p.rows + q.rows)) refl
 
-  row_count : (tables : List (List Row)) (ps : List Part) → AreAnswered bytes header over_header tables ps → rows_in ps ≡ length (all_rows tables)
-  row_count [] [] a = refl
-  row_count [] (q ∷ ps) a = absurd a
-  row_count (ys ∷ tables) [] a = absurd a
-  row_count (ys ∷ tables) (q ∷ ps) a = (λ i. (stands ys q a.0).count i + row_count tables ps a.1 i) ∙ sym (length-append ys (all_rows tables))
-
   all_there : (tables : List (List Row)) (ps : List Part) (xs : List Row) (p : Part) → Stands xs p → AreAnswered bytes header over_header tables ps → p.rows + rows_in ps ≤ 2 ^ 62
       → (r : Part) × (all_as_one over_header (Some p) ps ≡ Some r) × Stands (xs ++ all_rows tables) r
   all_there [] [] xs p s a few = (p, refl, subst (λ (zs : List Row). Stands zs p) (sym (append-nil xs)) s)

@@ -1,5 +1,5 @@
 -- Jobs as they are written, in which a column is its name; and what they are over cells.
-use Rattle.std.proofs.Common.{◌≡◌, ℕ, suc, ℤ, Bool, true, false, List, [], ◌∷◌, ◌++◌, length, Option, refl, ap}
+use Rattle.std.proofs.Common.{◌≡◌, ℕ, ℤ, Bool, true, false, List, [], ◌∷◌, ◌++◌, Option, refl, ap}
 use Rattle.std.specs.Prelude.{map, ◌||◌}
 use Rattle.job_language.specs.Jobs.{AbstractPlainSource, range, range_closed, values, result, AbstractJobStage, AbstractTerminal, AbstractJob, names_of}
 use Rattle.job_language.specs.Verdicts.{earlier_of}
@@ -52,10 +52,6 @@ sources_more g (r ∷ ss) s = ap (λ (rs : List AbstractPlainSource). filled_sou
 pub earlier_same : (g h : Cells) (ks : List WrittenJob) → map earlier_of (all_filled g ks) ≡ map earlier_of (all_filled h ks)
 earlier_same g h [] = refl
 earlier_same g h (k ∷ ks) = ap (λ js. earlier_of (filled g k) ∷ js) (earlier_same g h ks)
-
-pub length_same : (g h : Cells) (ks : List WrittenJob) → length (all_filled g ks) ≡ length (all_filled h ks)
-length_same g h [] = refl
-length_same g h (k ∷ ks) = ap suc (length_same g h ks)
 
 pub names_same : (g h : Cells) (ks : List WrittenJob) → names_of (all_filled g ks) ≡ names_of (all_filled h ks)
 names_same g h [] = refl

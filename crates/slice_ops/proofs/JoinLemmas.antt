@@ -1,5 +1,5 @@
 -- What slices keep of joined pieces.
-use Rattle.std.proofs.Common.{◌≡◌, ℕ, zero, suc, ◌≤◌, Bool, true, false, not, nat_lt, if◌then◌else◌, is_some, List, [], ◌∷◌, ◌++◌, length, length-append, take, Option, Some, None, refl, sym, ap, subst, ◌∙◌, arith}
+use Rattle.std.proofs.Common.{◌≡◌, ℕ, zero, suc, ◌<◌, ◌≤◌, Bool, true, false, not, nat_lt, if◌then◌else◌, is_some, List, [], ◌∷◌, ◌++◌, length, length-append, take, Option, Some, None, refl, sym, ap, subst, ◌∙◌, arith}
 use Rattle.std.specs.Option.{option_or}
 use Rattle.std.proofs.Math.Seq.{take-append-add}
 use Rattle.std.proofs.lemmas.List.{take-append-le}
@@ -20,6 +20,12 @@ use Rattle.slice_ops.specs.Parts.{kept_of, stops, StandsFor, IsJoined}
 
 pub at_least : (m k : ℕ) → nat_lt m k ≡ false → k ≤ m
 at_least m k h = grind (arith, nat_tests)
+
+pub is_below : (m k : ℕ) → m < k → nat_lt m k ≡ true
+is_below m k h = grind (arith, nat_tests)
+
+pub is_above : (m k : ℕ) → nat_lt m k ≡ true → m < k
+is_above m k h = grind (arith, nat_tests)
 
 is_enough : (m k : ℕ) → k ≤ m → nat_lt m k ≡ false
 is_enough m k h = grind (arith, nat_tests)

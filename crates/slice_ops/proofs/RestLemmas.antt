@@ -13,8 +13,7 @@ use Rattle.trace.proofs.CutLemmas.{take_past, drop_past}
 use Rattle.trace.proofs.JoinLemmas.{append_nothing, append_faulted}
 use Rattle.trace.proofs.StopLemmas.{stop_within}
 use Rattle.slice_ops.specs.Slices.{limited, skipped, taken, dropped, front_ends}
-use Rattle.slice_ops.proofs.GrownPartLemmas.{is_below, is_above}
-use Rattle.slice_ops.proofs.JoinLemmas.{at_least, limited_enough, limited_few, front_stays, still_stops, after_front, fronts_join, not_some, the_some}
+use Rattle.slice_ops.proofs.JoinLemmas.{at_least, is_above, is_below, limited_enough, limited_few, front_stays, still_stops, after_front, fronts_join, not_some, the_some}
 
 take_none : (xs : List Item) → take 0 xs ≡ []
 take_none [] = refl

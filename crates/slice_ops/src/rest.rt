@@ -6,8 +6,7 @@ ghost use Rattle.lambda_values.specs.Term.{truth_of};
 ghost use Rattle.trace.specs.Stops.{stop_at};
 ghost use Rattle.trace.specs.Trace.{Trace, append, nothing, trace};
 ghost use Rattle.trace.specs.declared.item.End.TheVariants as end;
-ghost use Rattle.slice_ops.specs.Parts.{before_stop};
-ghost use Rattle.slice_ops.specs.Rests.{IsTested, rest_of, stop_after};
+ghost use Rattle.slice_ops.specs.Rests.{IsTested, before_stop, rest_of, stop_after};
 ghost use Rattle.slice_ops.specs.Slices.{dropped, front_ends, slice_of, sliced, taken};
 
 use super::shorten::FrontTest;

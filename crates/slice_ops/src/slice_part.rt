@@ -1,18 +1,14 @@
 //! What a slice keeps of the pieces of a stream, and how the pieces join in encounter order.
 
-ghost use Rattle.std.specs.Prelude.{◌≡◌, ◌≢◌, ◌<◌, ℕ, false, [], ◌∷◌, IfOk, IfErr, OnOk, OnErr, is_some, length};
+ghost use Rattle.std.specs.Prelude.{◌≡◌, ◌≢◌, ℕ, false, [], IfOk, IfErr, OnErr};
 ghost use Rattle.lambda_values.specs.Earlier.{Numbers};
-ghost use Rattle.lambda_values.specs.Term.{truth_of};
-ghost use Rattle.trace.specs.Stops.{stop_at};
-ghost use Rattle.trace.specs.Trace.{Trace, trace, append};
-ghost use Rattle.trace.specs.declared.item.End.TheVariants as end;
-ghost use Rattle.slice_ops.specs.Parts.{AreAdded, IsAdded, IsFront, IsJoined};
-ghost use Rattle.slice_ops.specs.Parts.{IsKept, StandsFor, before_stop, is_settled};
-ghost use Rattle.slice_ops.specs.Slices.{AbstractSlice, front_ends, slice_of, sliced, taken};
+ghost use Rattle.trace.specs.Trace.{Trace, append};
+ghost use Rattle.slice_ops.specs.Parts.{IsJoined, StandsFor, is_settled};
+ghost use Rattle.slice_ops.specs.Slices.{AbstractSlice, slice_of, sliced};
 
-use super::shorten::{FrontTest, drop_while, limit, skip, take_while};
+use super::shorten::{drop_while, limit, skip, take_while};
 use lambda_values::{BoolExpr, Env};
-use trace::{Chunk, End, EndTest, Item, NoMemory, SourceItems};
+use trace::{Chunk, End};
 
 /// A stage that looks at a whole walk.
 #[derive(Drop)]
@@ -52,68 +48,6 @@ impl<'a> SlicePart<'a> {
             stage,
             chunk,
             stopped,
-        }
-    }
-
-    /// The part of the piece and one more item after it. It keeps no item that the stage takes away.
-    ///
-    /// If the allocation fails, the part stays as it was. An item that ends the front of a `takeWhile` takes no memory.
-    pub fn push(&mut self, env: &Env, item: Item) -> Result<(), NoMemory>
-        requires { is_settled self.old ≡ false }
-        ensures ok { OnOk result ((d : AbstractSlice) (stage : ℕ) (t : Trace) → StandsFor d stage env.now self.old t
-            → StandsFor d stage env.now self.new (append t (trace (item ∷ []) end.Done))) }
-        ensures err { OnErr result (self.new ≡ self.old) }
-        ensures refused { OnErr result (IsKept (slice_of self.old.slice.now) self.old.stage env.now item) }
-    {
-        self.stopped = add_to(self.slice, self.stage, env, &mut self.chunk, item)?;
-        Ok(())
-    }
-
-    /// The part of the piece and the items of a source after it. Of `takeWhile`, `front` is how many of them come
-    /// before the first one at which the test isn't true; the test is evaluated at that one alone.
-    ///
-    /// If the allocation fails, the part stays as it was. Without items it takes no memory.
-    pub fn push_all<I: SourceItems>(
-        &mut self,
-        env: &Env,
-        source: &I,
-        front: u64,
-    ) -> Result<(), NoMemory>
-        requires open { is_settled self.old ≡ false }
-        requires front { IsFront (slice_of self.old.slice.now) self.old.stage env.now (I.items source.now) front }
-        ensures ok { OnOk result ((d : AbstractSlice) (stage : ℕ) (t : Trace) → StandsFor d stage env.now self.old t
-            → StandsFor d stage env.now self.new (append t (trace (I.items source.now) end.Done))) }
-        ensures err { OnErr result (self.new ≡ self.old) }
-        ensures refused { OnErr result (0 < length (I.items source.now)) }
-    {
-        self.stopped = add_all(self.slice, self.stage, env, &mut self.chunk, source, front)?;
-        Ok(())
-    }
-
-    /// The stage that the part is of.
-    pub fn slice(&self) -> &'a Slice
-        ensures { result.now ≡ self.now.slice.now }
-    {
-        self.slice
-    }
-
-    /// Ends the piece as said. It takes no memory.
-    pub fn end_with(&mut self, end: End)
-        ensures { (d : AbstractSlice) (stage : ℕ) (env : Numbers) (t : Trace) → StandsFor d stage env self.old t
-            → StandsFor d stage env self.new (append t (trace [] end)) }
-    {
-        if !self.stopped {
-            self.chunk.end_with(end);
-        }
-    }
-
-    /// Whether nothing after the piece matters: the stage takes no more, or a fault has ended the piece.
-    pub fn is_settled(&self) -> bool
-        ensures { result ≡ is_settled self.now }
-    {
-        match self.chunk.end() {
-            End::Done => self.stopped,
-            End::Fault(_) => true,
         }
     }
 
@@ -185,97 +119,4 @@ fn shorten_joined(slice: &Slice, chunk: &mut Chunk, stopped: bool) -> bool
         Slice::Limit(n) => limit(chunk, *n),
         Slice::Skip(_) | Slice::TakeWhile(_) | Slice::DropWhile(_) => stopped,
     }
-}
-
-/// Adds an item to the chunk of a piece that goes on. The answer says whether the stage takes no more.
-fn add_to(
-    slice: &Slice,
-    stage: u32,
-    env: &Env,
-    chunk: &mut Chunk,
-    item: Item,
-) -> Result<bool, NoMemory>
-    requires { chunk.old.ending ≡ end.Done }
-    ensures ok { IfOk result (λ stopped. IsAdded (slice_of slice.now) stage env.now item chunk.old chunk.new stopped) }
-    ensures err { OnErr result (chunk.new ≡ chunk.old) }
-    ensures refused { OnErr result (IsKept (slice_of slice.now) stage env.now item) }
-{
-    match slice {
-        Slice::Limit(n) => {
-            chunk.push(item)?;
-            Ok(limit(chunk, *n))
-        }
-        Slice::Skip(_) | Slice::DropWhile(_) => {
-            chunk.push(item)?;
-            Ok(false)
-        }
-        Slice::TakeWhile(test) => {
-            let front = FrontTest { stage, test, env };
-            if let Some(end) = front.end_before(item) {
-                chunk.end_with(end);
-                return Ok(true);
-            }
-            chunk.push(item)?;
-            Ok(false)
-        }
-    }
-}
-
-/// Adds the items of a source to the chunk of a piece that goes on. The answer says whether the stage takes no more.
-fn add_all<I: SourceItems>(
-    slice: &Slice,
-    stage: u32,
-    env: &Env,
-    chunk: &mut Chunk,
-    source: &I,
-    front: u64,
-) -> Result<bool, NoMemory>
-    requires ending { chunk.old.ending ≡ end.Done }
-    requires front { IsFront (slice_of slice.now) stage env.now (I.items source.now) front }
-    ensures ok { IfOk result (λ stopped. AreAdded (slice_of slice.now) stage env.now
-        (I.items source.now) chunk.old chunk.new stopped) }
-    ensures err { OnErr result (chunk.new ≡ chunk.old) }
-    ensures refused { OnErr result (0 < length (I.items source.now)) }
-{
-    match slice {
-        Slice::Limit(n) => {
-            chunk.push_first(source, source.count())?;
-            Ok(limit(chunk, *n))
-        }
-        Slice::Skip(_) | Slice::DropWhile(_) => {
-            chunk.push_first(source, source.count())?;
-            Ok(false)
-        }
-        Slice::TakeWhile(test) => add_front(stage, test, env, chunk, source, front),
-    }
-}
-
-/// Adds items `0..front`; `front` is the first item that fails the test. The answer says whether there is one.
-fn add_front<I: SourceItems>(
-    stage: u32,
-    test: &BoolExpr,
-    env: &Env,
-    chunk: &mut Chunk,
-    source: &I,
-    front: u64,
-) -> Result<bool, NoMemory>
-    requires ending { chunk.old.ending ≡ end.Done }
-    requires front { front ≡ before_stop (stop_at (front_ends (truth_of test.now) stage env.now) (I.items source.now))
-        (I.items source.now) }
-    ensures kept { IfOk result (λ stopped. chunk.new
-        ≡ append chunk.old (taken (truth_of test.now) stage env.now (trace (I.items source.now) end.Done))) }
-    ensures stopped { IfOk result (λ stopped. stopped
-        ≡ is_some (stop_at (front_ends (truth_of test.now) stage env.now) (I.items source.now))) }
-    ensures err { OnErr result (chunk.new ≡ chunk.old) }
-    ensures refused { OnErr result (0 < length (I.items source.now)) }
-{
-    chunk.push_first(source, front)?;
-    if front == source.count() {
-        return Ok(false);
-    }
-    let first = FrontTest { stage, test, env };
-    if let Some(end) = first.end_before(source.item_at(front)) {
-        chunk.end_with(end);
-    }
-    Ok(true)
 }

@@ -1,6 +1,5 @@
 -- Texts that were given, and those that are left.
-use Rattle.std.proofs.Common.{◌≡◌, ℕ, List, [], ◌∷◌, ◌++◌, length, Result, Ok, Err, IfErr, refl, ap, ◌∙◌, append_assoc, rules}
-use Rattle.std.proofs.lemmas.List.{append-nil}
+use Rattle.std.proofs.Common.{◌≡◌, ℕ, List, [], ◌∷◌, ◌++◌, length, Result, Ok, Err, IfErr, refl, ap, ◌∙◌}
 use Rattle.stream_tokens.specs.declared.job_text.JobText.{JobText}
 use Rattle.stream_tokens.specs.declared.line.LineKind.{LineKind}
 use Rattle.stream_tokens.specs.declared.line.LineKind.TheVariants.{Skipped, Continues, Begins}
@@ -20,12 +19,6 @@ count_left (Err fault) = 0
 pub with_front-nothing : (left : Texts) → with_front [] left ≡ left
 with_front-nothing (Ok more) = refl
 with_front-nothing (Err fault) = refl
-
-pub with_front-more : (texts more : List JobText) (job : JobText) → with_front texts (Ok (job ∷ more)) ≡ with_front (texts ++ job ∷ []) (Ok more)
-with_front-more texts more job = ap Ok (search (rules, append_assoc))
-
-pub with_front-all : (texts : List JobText) → with_front texts (Ok []) ≡ Ok texts
-with_front-all texts = ap Ok (append-nil texts)
 
 -- a text that is left is one of all
 pub HasText-with_front : (texts : List JobText) (left : Texts) → HasText left → HasText (with_front texts left)

@@ -8,23 +8,17 @@ use Rattle.completion_core.specs.declared.action.Reply.TheVariants.{Pending, Las
 use Rattle.completion_core.specs.Graph.{copies}
 use Rattle.completion_core.specs.Legal.{count, only_at, reply_of_arrival}
 use Rattle.pending_count.specs.declared.view.View.{View}
-use Rattle.pending_count.specs.Views.{IsPlainAt, left_slot, right_slot, less, minus, note_of, rest_view, part_view, joined_view}
+use Rattle.pending_count.specs.Views.{less, minus, note_of, rest_view, part_view, joined_view}
 use Rattle.pending_count.specs.Steps.{IsArrived, IsArmed, IsAdded, IsClaimed, IsSettled, drawn_node}
 use Rattle.test_completers.specs.RandomTrees.{parent, Knows, Has}
 use Rattle.pending_count.proofs.SumLemmas.{one_at, total-append, total-minus, total-less, at_here, at_else, at_sym}
 use Rattle.pending_count.proofs.RecordLemmas.{fresh-count, fresh_here, copies_fit}
-use Rattle.pending_count.proofs.CallerLemmas.{was_pending, was_last, pending_held, pending_sides, last_held, last_noted, last_side_notes, last_sides, claim_held, claim_noted, claim_side_notes, claim_sides, arm_held, arm_note, arm_note_else, arm_side_note, arm_side_note_else, arm_sides}
+use Rattle.pending_count.proofs.CallerLemmas.{was_pending, was_last, pending_held, last_held, last_noted, last_side_notes, last_sides, claim_held, claim_noted, claim_side_notes, claim_sides, arm_held, arm_note, arm_note_else, arm_side_note, arm_side_note_else, arm_sides}
 
 -- an arrival that wasn't the last
 module _ {S T : Type 0} {nodes actor : ℕ} {v w : View T} (node n k : ℕ) (told : IsArrived S nodes actor node v n w) (have : 0 < count node v.held) (answer : Pending k ≡ reply_of_arrival (n - 1)) where
   more : n ≢ 1
   more = (was_pending n k answer told.some_owed).0
-
-  pub one_fewer : count node w.held + 1 ≡ count node v.held
-  one_fewer = let h = pending_held node n told have more node in let o = at_here node in omega arith
-
-  pub still_plain : IsPlainAt node v → IsPlainAt node w
-  still_plain plain = (ap (count (left_slot node)) (pending_sides node n told have more) ∙ plain.0, ap (count (right_slot node)) (pending_sides node n told have more) ∙ plain.1)
 
   pub only_one_fewer : (j : ℕ) → count j v.held ≤ count j w.held + count j (node ∷ [])
   only_one_fewer j = let h = pending_held node n told have more j in let s = at_sym j node in omega arith
@@ -54,15 +48,6 @@ module _ {T : Type 0} (node k c : ℕ) (v rest part : View T) (is : rest ≡ res
         let e : count i rest.held ≡ count i (minus (copies k node) v.held) = ap (λ (u : View T). count i u.held) is in
         let m = total-minus (one_at i) (copies k node) v.held (copies_fit node k v.held have) in
         let f = fresh-count node k i in
-        omega arith
-
-    -- and joined back
-    pub joined_back : (both : View T) → both ≡ joined_view rest part → (i : ℕ) → count i both.held ≡ count i v.held
-    joined_back both all i =
-        let e : count i both.held ≡ count i (rest.held ++ part.held) = ap (λ (u : View T). count i u.held) all in
-        let a = total-append (one_at i) rest.held part.held in
-        let r = rest_held i in
-        let p = part_held i in
         omega arith
 
 -- a first note stays the first

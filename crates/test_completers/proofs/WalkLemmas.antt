@@ -1,18 +1,16 @@
 -- Walks of parts side by side.
-use Rattle.std.proofs.Common.{◌≡◌, ℕ, ℤ, ◌+◌, ◌-◌, ◌<◌, ◌≤◌, List, ◌++◌, take, drop, ap, sym, ◌∙◌, subst, refl, arith, Bool, false, Option, Some, None, inl, inr, ◌⊎◌}
-use Rattle.std.specs.Prelude.{Result, Ok, Err, int_lt, slice_index_or, pos}
+use Rattle.std.proofs.Common.{◌≡◌, ℕ, ℤ, ◌+◌, ◌-◌, ◌<◌, ◌≤◌, List, ◌++◌, take, drop, ap, sym, ◌∙◌, refl, arith, Bool, false, Option, Some, None, inl, inr, ◌⊎◌}
+use Rattle.std.specs.Prelude.{Result, int_lt, slice_index_or, pos}
 use Rattle.std.proofs.lemmas.Bool.{cases_lt}
 use Rattle.std.proofs.lemmas.List.{drop-drop}
 use Rattle.std.proofs.Math.Seq.{take-add}
 use Rattle.pending_count.specs.Pairs.{side_of}
 use Rattle.completer_tree.specs.declared.part.Failure.{Failure}
-use Rattle.completer_tree.specs.declared.part.Failure.TheVariants as failed
 use Rattle.pending_count.specs.declared.place.Place.{Place}
-use Rattle.completer_tree.specs.Places.{Goes, leftmost, place_by}
+use Rattle.completer_tree.specs.Places.{Goes, place_by}
 use Rattle.test_completers.specs.declared.cut.NumberCut.{NumberCut}
-use Rattle.pending_count.proofs.SumLemmas.{some_is}
 use Rattle.test_completers.specs.WalkLaws.{by_bounds}
-use Rattle.test_completers.specs.Walks.{slice, begins, ends_at, IsClean, Walked}
+use Rattle.test_completers.specs.Walks.{slice, begins, ends_at, IsClean}
 
 -- two parts side by side
 pub slices_join : (xs : List ℤ) (from middle to : ℕ) → from ≤ middle → middle ≤ to → slice xs from middle ++ slice xs middle to ≡ slice xs from to
@@ -29,21 +27,6 @@ clean_at xs from middle to i l r low high (inr h) = r i h high
 
 pub clean_join : (xs : List ℤ) (from middle to : ℕ) → IsClean xs from middle → IsClean xs middle to → IsClean xs from to
 clean_join xs from middle to l r i low high = clean_at xs from middle to i l r low high (cases_lt i middle)
-
-module _ {X : Type 0} (items : X → List ℤ) (xs : List ℤ) where
-  -- a failure of the left part is one of both, and so is one of the right part if the left one has none
-  pub failed_left : (failure : Failure) (from middle to : ℕ) → middle ≤ to → Walked items xs from middle (Err failure) → Walked items xs from to (Err failure)
-  failed_left (failed.Fault f) from middle to m h = (h.0, h.1, (h.2.0, (let a = h.2.1 in omega arith), h.2.2, h.2.3))
-  failed_left failed.NoMemory from middle to m h = tt
-
-  pub failed_right : (failure : Failure) (from middle to : ℕ) → from ≤ middle → IsClean xs from middle → Walked items xs middle to (Err failure) → Walked items xs from to (Err failure)
-  failed_right (failed.Fault f) from middle to m clean h = (h.0, h.1, ((let a = h.2.0 in omega arith), h.2.1, h.2.2, clean_join xs from middle h.0 clean h.2.3))
-  failed_right failed.NoMemory from middle to m clean h = tt
-
-  pub failed_of : (failure : Failure) (l r : Result X Failure) (from middle to : ℕ) → from ≤ middle → middle ≤ to → leftmost {T = NumberCut} (λ c side v. Walked items xs (begins c side) (ends_at c side) v) l r ≡ Some failure → Walked items xs from middle l → Walked items xs middle to r → Walked items xs from to (Err failure)
-  failed_of failure (Err e) r from middle to a b is hl hr = subst (λ z. Walked items xs from to (Err z)) (some_is _ _ is) (failed_left e from middle to b hl)
-  failed_of failure (Ok x) (Err e) from middle to a b is hl hr = subst (λ z. Walked items xs from to (Err z)) (some_is _ _ is) (failed_right e from middle to a hl.1 hr)
-  failed_of failure (Ok x) (Ok y) from middle to a b is hl hr = absurd (grind arith)
 
 -- the answer of a node fits where it goes, for any fact of the bounds of a part and its value
 pub goes_of : {X : Type 0} (fact : ℕ → ℕ → Result X Failure → Type 0) (cut : NumberCut) (parent : Option (NumberCut × Bool)) (v : Result X Failure) → fact cut.from cut.to v

@@ -219,22 +219,6 @@ fn are_sliced(alloc: Global) -> Result<bool, NoMemory> {
     Ok(true)
 }
 
-/// Whether `limit(3)` takes the items of a source behind a piece, and then no more.
-fn is_filled(alloc: Global) -> Result<bool, NoMemory> {
-    let env = Env::empty(alloc);
-    let slice = Slice::Limit(3);
-    let mut part = SlicePart::of(&slice, 1, two(alloc, 0, [2, 20])?, &env);
-    let more = Vec::from_slice(alloc, &[item(2, 3), item(3, 40)])?;
-    if part.is_settled() {
-        return Ok(false);
-    }
-    let Slice::Limit(_) = part.slice() else {
-        return Ok(false);
-    };
-    part.push_all(&env, &more, 0)?;
-    Ok(part.is_settled() && has(&part.finish(&env), &[2, 20, 3], End::Done))
-}
-
 /// Whether a terminal finds this in 2, 20 and 3, 40: in parts side by side, and in a sink.
 fn is_found(alloc: Global, terminal: &FindTerminal, found: Found) -> Result<bool, NoMemory> {
     let env = Env::empty(alloc);
@@ -279,7 +263,7 @@ fn each_call_that_the_program_does_not_make_gives_its_value(rt: HostRuntime) -> 
         ("prefixes", are_prefixes(alloc)?),
         ("folds", are_folded()),
         ("slices of chunks", are_shortened(alloc)?),
-        ("slices of pieces", are_sliced(alloc)? && is_filled(alloc)?),
+        ("slices of pieces", are_sliced(alloc)?),
         ("finds and matches", are_found(alloc)?),
     ] {
         assert!(rt; are_right, "{calls}");

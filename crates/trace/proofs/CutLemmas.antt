@@ -62,29 +62,9 @@ module _ {X A : Type 0} (f : X → List A) where
   pub first_of : (ps : List X) (w : ℕ) (p : X) → w < length ps → p ≡ get_or ps w p → flat_map f (take 1 (drop w ps)) ≡ f p
   first_of ps w p h e = ap (λ qs. flat_map f (take 1 qs)) (drop-cons ps w p h) ∙ ap (λ qs. f (get_or ps w p) ++ flat_map f qs) (take_nothing (drop (suc w) ps)) ∙ append-nil (f (get_or ps w p)) ∙ ap f (sym e)
 
-  -- the walk stops in a piece
-  pub cut_in : (ps : List X) (n w left : ℕ) (p : X) → w < length ps → p ≡ get_or ps w p → left < length (f p) → Passed ps n w left → IsCut f ps n w left
-  cut_in ps n w left p h e k s = record {
-    inside = record { pieces = omega arith; next = λ z. let l = ap length (first_of ps w p h e) in omega arith };
-    front = s.front;
-    back = s.back;
-  }
-
-  pub enough_in : (ps : List X) (n w left : ℕ) (p : X) → w < length ps → p ≡ get_or ps w p → left < length (f p) → Passed ps n w left → n ≤ length (flat_map f ps)
-  enough_in ps n w left p h e k s = let l = ap length (drop_on ps w p h e) ∙ length-append (f p) (flat_map f (drop (w + 1) ps)) in let size = s.size in omega arith
-
-  all_dropped : (ps : List X) (w : ℕ) → w ≡ length ps → flat_map f (drop w ps) ≡ []
-  all_dropped ps w e = ap (λ m. flat_map f (drop m ps)) e ∙ at_end ps where
-    at_end : (qs : List X) → flat_map f (drop (length qs) qs) ≡ []
-    at_end [] = refl
-    at_end (q ∷ qs) = at_end qs
-
   -- or after the last one
   pub cut_after : (ps : List X) (n w : ℕ) → w ≡ length ps → Passed ps n w 0 → IsCut f ps n w 0
   cut_after ps n w e s = record { inside = record { pieces = omega arith; next = λ z. absurd (omega arith) }; front = s.front; back = s.back }
-
-  pub size_after : (ps : List X) (n w left : ℕ) → w ≡ length ps → Passed ps n w left → length (flat_map f ps) + left ≡ n
-  size_after ps n w left e s = let l = ap length (all_dropped ps w e) in let size = s.size in omega arith
 
   pub next_exists : (ps : List X) (w : ℕ) → 0 < length (flat_map f (take 1 (drop w ps))) → w < length ps
   next_exists [] zero h = absurd (omega arith)

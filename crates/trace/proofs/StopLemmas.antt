@@ -2,7 +2,7 @@
 use Rattle.std.proofs.Common.{◌≡◌, ℕ, suc, ◌+◌, ◌<◌, List, [], ◌∷◌, ◌++◌, length, length-append, take, drop, get_or, Option, Some, None, refl, sym, ap, ◌∙◌, arith}
 use Rattle.std.specs.List.{flat_map}
 use Rattle.std.specs.Option.{option_or}
-use Rattle.std.proofs.Math.Seq.{drop-cons, take-append-add, drop-append-add}
+use Rattle.std.proofs.Math.Seq.{take-append-add, drop-append-add}
 use Rattle.std.proofs.lemmas.List.{take-append-drop}
 use Rattle.std.proofs.lemmas.List.Concat.{flat_map-append}
 use Rattle.trace.specs.declared.item.Item.{Item}
@@ -37,38 +37,10 @@ module _ (g : Item → Option End) where
       ∙ ap (stop_or (g x)) (shift_or 1 (stop_at g xs) (shift (length xs) (stop_at g ys)) ∙ ap (option_or (shift 1 (stop_at g xs))) (shift_twice 1 (length xs) (stop_at g ys) ∙ ap (λ m. shift m (stop_at g ys)) n))
       ∙ at_front (g x) (shift 1 (stop_at g xs)) (shift (suc (length xs)) (stop_at g ys))
 
-  -- a loop over items
-  pub stop_next : (xs : List Item) (i : ℕ) (x : Item) → i < length xs → x ≡ get_or xs i x → stop_at g (drop i xs) ≡ stop_or (g x) (shift 1 (stop_at g (drop (i + 1) xs)))
-  stop_next xs i x h e =
-      let k : suc i ≡ i + 1 = omega arith in
-      ap (stop_at g) (drop-cons xs i x h) ∙ (λ j. stop_or (g (sym e j)) (shift 1 (stop_at g (drop (k j) xs))))
-
-  pub stop_begins : (xs : List Item) → stop_at g xs ≡ shift 0 (stop_at g (drop 0 xs))
-  stop_begins [] = refl
-  stop_begins (x ∷ xs) = sym (shift_zero (stop_at g (x ∷ xs)))
-
-  pub stop_passes : (xs : List Item) (i : ℕ) (x : Item) → i < length xs → x ≡ get_or xs i x → g x ≡ None → stop_at g xs ≡ shift i (stop_at g (drop i xs)) → stop_at g xs ≡ shift (i + 1) (stop_at g (drop (i + 1) xs))
-  stop_passes xs i x h e none s = s ∙ ap (shift i) (stop_next xs i x h e ∙ ap (λ o. stop_or o (shift 1 (stop_at g (drop (i + 1) xs)))) none) ∙ shift_twice i 1 (stop_at g (drop (i + 1) xs))
-
-  pub stop_found : (xs : List Item) (i : ℕ) (x : Item) (v : End) → i < length xs → x ≡ get_or xs i x → g x ≡ Some v → stop_at g xs ≡ shift i (stop_at g (drop i xs)) → Some (i, v) ≡ stop_at g xs
-  stop_found xs i x v h e some s =
-      let k : i + 0 ≡ i = omega arith in
-      sym (s ∙ ap (shift i) (stop_next xs i x h e ∙ ap (λ o. stop_or o (shift 1 (stop_at g (drop (i + 1) xs)))) some) ∙ ap (λ (n : ℕ). Some (n, v)) k)
-
-  pub stop_ends : (xs : List Item) (i : ℕ) → i ≡ length xs → stop_at g xs ≡ shift i (stop_at g (drop i xs)) → None ≡ stop_at g xs
-  stop_ends xs i e s = sym (s ∙ ap (λ m. shift i (stop_at g (drop m xs))) e ∙ ap (λ zs. shift i (stop_at g zs)) (at_end xs)) where
-    at_end : (ys : List Item) → drop (length ys) ys ≡ []
-    at_end [] = refl
-    at_end (y ∷ ys) = at_end ys
-
   module _ {X : Type 0} (f : X → List Item) where
     -- a loop over pieces
     abbrev pub StopsLater : List X → ℕ → Type 0
     StopsLater ps w = stop_at g (flat_map f ps) ≡ shift (length (flat_map f (take w ps))) (stop_at g (flat_map f (drop w ps)))
-
-    pub pieces_begin : (ps : List X) → StopsLater ps 0
-    pieces_begin [] = refl
-    pieces_begin (p ∷ ps) = sym (shift_zero (stop_at g (flat_map f (p ∷ ps))))
 
     pub pieces_pass : (ps : List X) (w : ℕ) (p : X) → w < length ps → p ≡ get_or ps w p → stop_at g (f p) ≡ None → StopsLater ps w → StopsLater ps (w + 1)
     pieces_pass ps w p h e none s =
@@ -84,12 +56,6 @@ module _ (g : Item → Option End) where
         let rest = flat_map f (drop (w + 1) ps) in
         s ∙ ap (λ zs. shift (length (flat_map f (take w ps))) (stop_at g zs)) (drop_on f ps w p h e)
         ∙ ap (shift (length (flat_map f (take w ps)))) (stop_joined (f p) rest ∙ ap (λ o. option_or o (shift (length (f p)) (stop_at g rest))) some)
-
-    pub pieces_end : (ps : List X) (w : ℕ) → w ≡ length ps → StopsLater ps w → stop_at g (flat_map f ps) ≡ None
-    pieces_end ps w e s = s ∙ ap (λ zs. shift (length (flat_map f (take w ps))) (stop_at g zs)) (ap (λ m. flat_map f (drop m ps)) e ∙ at_end ps) where
-      at_end : (qs : List X) → flat_map f (drop (length qs) qs) ≡ []
-      at_end [] = refl
-      at_end (q ∷ qs) = at_end qs
 
   -- a stop is at one of the items
   pub stop_within : (xs : List Item) (n : ℕ) (v : End) → stop_at g xs ≡ Some (n, v) → n < length xs

@@ -1,12 +1,11 @@
 //! The items of a walk so far, and how the walk ended.
 
-ghost use Rattle.std.specs.Prelude.{◌≡◌, ◌≢◌, ◌<◌, ◌≤◌, [], ◌∷◌, ◌++◌, All, OnOk};
-ghost use Rattle.std.specs.Prelude.{OnErr, IfErr, IfOk, ⊤, flat_map, length, map, take};
+ghost use Rattle.std.specs.Prelude.{◌≡◌, ◌≢◌, [], ◌∷◌, ◌++◌, All, OnOk};
+ghost use Rattle.std.specs.Prelude.{OnErr, IfErr, IfOk, ⊤, flat_map, map};
 ghost use Rattle.trace.specs.Trace.{trace, append};
 ghost use Rattle.trace.specs.Sinks.{flow_at};
 ghost use Rattle.trace.specs.declared.item.End.TheVariants as end;
 
-mod growing;
 mod rewriting;
 mod searching;
 mod shortening;
@@ -14,7 +13,6 @@ mod shortening;
 use crate::NoMemory;
 use crate::item::{End, Item};
 use crate::sink::{Flow, LongSink};
-use crate::source::SourceItems;
 pub use rewriting::Rewrite;
 pub use searching::EndTest;
 use std::alloc::Global;
@@ -64,30 +62,6 @@ impl Chunk {
             None => {
                 let mut piece = Vec::new(*self.pieces.allocator());
                 piece.push(item)?;
-                self.pieces.push(piece)?;
-            }
-        }
-        Ok(())
-    }
-
-    /// Adds the first `count` items of a source after the others, in amortized constant time for each.
-    ///
-    /// If the allocation fails, the chunk stays as it was. Without items it takes no memory.
-    pub fn push_first<I: SourceItems>(&mut self, source: &I, count: u64) -> Result<(), NoMemory>
-        requires ending { self.old.ending ≡ End.Done }
-        requires within { count ≤ length (I.items source.now) }
-        ensures ok { OnOk result (self.new ≡ trace (self.old.items ++ take count (I.items source.now)) End.Done) }
-        ensures err { OnErr result (self.new ≡ self.old) }
-        ensures refused { OnErr result (0 < count) }
-    {
-        if count == 0 {
-            return Ok(());
-        }
-        match self.pieces.last_mut() {
-            Some(piece) => growing::add_first(piece, source, count)?,
-            None => {
-                let mut piece = Vec::new(*self.pieces.allocator());
-                growing::add_first(&mut piece, source, count)?;
                 self.pieces.push(piece)?;
             }
         }

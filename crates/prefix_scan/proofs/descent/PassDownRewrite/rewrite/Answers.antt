@@ -1,7 +1,7 @@
 use Rattle.std.proofs.Common.{◌≡◌, ◌+◌, ◌++◌, ℕ, length, sym, ap, ◌∙◌, arith}
 use Rattle.reduce_ops.specs.Operators.{value_of}
 use Rattle.prefix_scan.specs.Prefixes.{is_within}
-use Rattle.prefix_scan.specs.Scans.{fold_at, scan_at}
+use Rattle.prefix_scan.specs.Scans.{scan_at}
 use Rattle.prefix_scan.proofs.ScanLemmas.{length-scan_at, scan_as, scan_more}
 use Rattle.prefix_scan.proofs.descent.PassDownRewrite.rewrite.Goals as goal
 
