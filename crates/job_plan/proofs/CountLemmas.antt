@@ -1,7 +1,7 @@
 -- Counts after maps that can't have a fault, which leave one item for each that they take.
 use Rattle.std.proofs.Common.{◌≡◌, ℕ, Bool, suc, ◌+◌, ◌≤◌, ◌-◌, ℤ, pos, ◌+ℤ◌, true, false, List, [], ◌∷◌, length, drop, Option, Some, None, Result, refl, sym, ap, subst, ◌∙◌, arith, rules}
 use Rattle.std.proofs.lemmas.Int.{int_wrap_fits}
-use Rattle.std.proofs.lemmas.List.{append-nil, length-take}
+use Rattle.std.proofs.lemmas.List.{append-nil, length-drop, length-take}
 use Rattle.std.specs.Int.{w64}
 use Rattle.lambda_values.specs.Earlier.{Numbers}
 use Rattle.lambda_values.specs.Term.{Long}
@@ -31,7 +31,6 @@ use Rattle.job_plan.specs.Parts.{EndsFor, IsFold, StandsFor, end_in, segment_in}
 use Rattle.prefix_walks.specs.Pieces.{piece_of}
 use Rattle.prefix_walks.specs.Batches.{counted_as}
 use Rattle.prefix_walks.specs.Spans.{span}
-use Rattle.prefix_walks.proofs.Elements.{length_dropped}
 use Rattle.prefix_walks.proofs.FaultlessLemmas.{both, value_there}
 use Rattle.job_plan.proofs.MapLemmas.{first_of}
 use Rattle.job_plan.proofs.WalkLemmas.{same_ending}
@@ -62,10 +61,10 @@ maps_keep m (flat_map g ∷ gs) h env t = absurd (let z : false ≡ true = h in 
 
 -- how many items stand at positions
 piece_size : (from : ℕ) (to : Option ℕ) (t : Trace) → length (piece_of from to t).items ≡ span from to (length t.items)
-piece_size from None t = length_dropped from t.items
+piece_size from None t = length-drop from t.items
 piece_size from (Some to) t =
     let a = length-take (to - from) (drop from t.items) in
-    let d = length_dropped from t.items in
+    let d = length-drop from t.items in
     a ∙ omega (arith, d)
 
 -- the sum of some ones

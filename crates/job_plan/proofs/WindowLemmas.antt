@@ -1,6 +1,7 @@
 -- Positions of a walk over sources, and what slices make of them.
 use Rattle.std.proofs.Common.{◌≡◌, ℕ, zero, suc, ◌-◌, ◌^◌, ◌<◌, ◌≤◌, nat_lt, if◌then◌else◌, Bool, true, false, List, [], ◌∷◌, length, take, Option, Some, None, refl, sym, ap, subst, ◌∙◌, arith}
 use Rattle.std.proofs.lemmas.Bool.{ltb-false, ltb-true, lt-ltb}
+use Rattle.std.proofs.lemmas.List.{take_all}
 use Rattle.trace.specs.Cover.{placed, too_long}
 use Rattle.trace.specs.Trace.{Trace, trace}
 use Rattle.trace.specs.declared.item.Item.{Item}
@@ -13,7 +14,7 @@ use Rattle.prefix_walks.specs.Pieces.{elements}
 use Rattle.job_plan.specs.Building.{IsClean}
 use Rattle.job_plan.specs.Plans.{windowed}
 use Rattle.job_meaning.specs.Walks.{source_walk, values_of}
-use Rattle.prefix_walks.proofs.Elements.{drop_none, elements_none, take_none, take_whole}
+use Rattle.prefix_walks.proofs.Elements.{drop_none, elements_none, take_none}
 
 -- a walk over sources has at most 2^62 items
 pub few_items : (ss : List AbstractPlainSource) → length (source_walk ss).items ≤ 4611686018427387904
@@ -36,7 +37,7 @@ limited_window ss f o n = by (nat_lt (2 ^ 62) (length (values_of ss)))
         (ap (λ (b : Bool). if b then trace no_items e else trace (take (suc n) no_items) end.Done) (lt-ltb 0 (suc n) (omega arith)) ∙ sym (ap (λ zs. trace zs e) (elements_none 0 (Some (suc n)))))
 
     whole : (ys : List Item) (b : Bool) → nat_lt (length ys) (suc n) ≡ b → (if b then trace ys end.Done else trace (take (suc n) ys) end.Done) ≡ trace (take (suc n) ys) end.Done
-    whole ys true e = let l = ltb-true (length ys) (suc n) e in ap (λ zs. trace zs end.Done) (sym (take_whole (suc n) ys (omega (arith, l))))
+    whole ys true e = let l = ltb-true (length ys) (suc n) e in ap (λ zs. trace zs end.Done) (sym (take_all (suc n) ys (omega (arith, l))))
     whole ys false e = refl
 
     by : (b : Bool) → limited (suc n) (windowed f o (if b then too_long else trace (placed 0 (values_of ss)) end.Done))

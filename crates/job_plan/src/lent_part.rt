@@ -23,9 +23,9 @@ use crate::source::{ClosedRange, Source, piece_end, range_piece};
 use crate::sources::{PlainSources, plain_size};
 use batch_eval::Registers;
 use job_language::PlainSource;
-use prefix_walks::{CheapStages, Portion, PrefixPart, Window, within};
+use prefix_walks::{CheapStages, LentItems, Portion, PrefixPart, Window, within};
 use std::alloc::Global;
-use trace::NoMemory;
+use trace::{NoMemory, PlacedValues};
 
 /// The part of the items at these positions, if a prefix goes over the sources of a job with no stage but cheap ones
 /// before it. It takes memory for each 1,024 of them, and none for values.
@@ -141,12 +141,14 @@ fn push_one<'a>(
         PlainSource::Values(values) => {
             let end = portion.start + portion.count;
             let values = &values[portion.start as usize..end as usize];
-            part.push_lent(cheap, origin, values, registers)
+            let lent = LentItems::Values(PlacedValues { origin, values });
+            part.push_lent(cheap, &lent, registers)
         }
         PlainSource::Column(cells) => {
             let end = portion.start + portion.count;
             let values = &cells[portion.start as usize..end as usize];
-            part.push_lent(cheap, origin, values, registers)
+            let lent = LentItems::Values(PlacedValues { origin, values });
+            part.push_lent(cheap, &lent, registers)
         }
         PlainSource::Result(_) => Ok(()),
     }
@@ -170,5 +172,5 @@ fn push_range<'a>(
         (placed origin (counted (range.from +ℤ pos portion.start) portion.count))) end.Done)) }
 {
     let piece = range_piece(origin, range.from, portion.start, portion.count);
-    part.push_range(cheap, &piece, registers)
+    part.push_lent(cheap, &LentItems::Range(piece), registers)
 }

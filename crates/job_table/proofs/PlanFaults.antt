@@ -1,6 +1,6 @@
 -- A piece that ends in a fault: what the whole segment gives, and what the job answers.
 use Rattle.std.proofs.Common.{◌≡◌, ◌≢◌, ℕ, ◌+◌, ◌-◌, ◌<◌, ◌≤◌, ◌==◌, Bool, true, false, List, length, drop, Option, Some, None, IfSome, if◌then◌else◌, ap, sym, subst, refl, ◌∙◌, le_refl, arith}
-use Rattle.std.proofs.lemmas.List.{length-take}
+use Rattle.std.proofs.lemmas.List.{length-drop, length-take}
 use Rattle.lambda_values.specs.Earlier.{Numbers}
 use Rattle.trace.specs.declared.item.Fault.{Fault}
 use Rattle.trace.specs.declared.item.Item.{Item}
@@ -25,7 +25,6 @@ use Rattle.prefix_walks.specs.Pieces.{piece_of}
 use Rattle.job_plan.specs.PlannedAnswers.{first_unusable_at}
 use Rattle.prefix_walks.specs.Batches.{counted_as}
 use Rattle.job_meaning.specs.Walks.{instead_of_fault, unless_fault}
-use Rattle.prefix_walks.proofs.Elements.{length_dropped}
 use Rattle.prefix_walks.proofs.SideBySide.{pieces_joined, whole_piece}
 use Rattle.job_table.specs.Caught.{FaultAmong, IsCaught}
 use Rattle.job_table.specs.PlanSegments.{AbstractChain, PartStands, answer_of, answers_before, chain_at, gives_at, piece_between, plan_at, size_at, last_leg, walk_at}
@@ -95,7 +94,7 @@ right_joined w size from to h = by (to == size)
     by false = pieces_joined w from to None h tt
 
 left_long : (w : Trace) (m : ℕ) → m ≤ length w.items → 0 + length (piece_of 0 (Some m) w).items ≡ m
-left_long w m h = let a = length-take (m - 0) (drop 0 w.items) in let d = length_dropped 0 w.items in omega arith
+left_long w m h = let a = length-take (m - 0) (drop 0 w.items) in let d = length-drop 0 w.items in omega arith
 
 -- a walk that describes all of it, if one describes a piece
 whole_of : (decides : ℕ → Type 0) (w : Trace) (size from to : ℕ) (t : Trace) → from ≤ to → from ≤ length w.items → IsEnough decides from (piece_between size from to w) t

@@ -4,14 +4,13 @@ use Rattle.trace.specs.Trace.{Trace, append, nothing}
 use Rattle.lambda_values.specs.Earlier.{Numbers}
 use Rattle.job_plan.specs.declared.outcome.Outcome.{Outcome}
 use Rattle.job_plan.specs.declared.part.Part.{Part}
-use Rattle.std.proofs.lemmas.List.{length-take}
+use Rattle.std.proofs.lemmas.List.{length-drop, length-take}
 use Rattle.early_stop.specs.Decisive.{Decides}
 use Rattle.early_stop.specs.Leaving.{IsEnough}
 use Rattle.early_stop.proofs.Leaving.{enough_as, enough_gives, enough_joined, enough_left}
 use Rattle.job_plan.specs.Parts.{EndsFor, StandsEnough, StandsFor, is_running, is_settled, may_search}
 use Rattle.job_plan.specs.Links.{is_linked}
 use Rattle.job_plan.specs.Plans.{AbstractEnd, AbstractLeg, AbstractLink, AbstractSegment, ended, exactly, given_answer, given_walk, last_stage, leg_at, legs_answer, linked, outcome_of, walk_of}
-use Rattle.prefix_walks.proofs.Elements.{length_dropped}
 use Rattle.job_plan.proofs.EnoughLemmas.{whole_enough}
 use Rattle.job_plan.proofs.PartLemmas.{other_ends, settled_decides}
 use Rattle.prefix_walks.specs.Pieces.{piece_of}
@@ -58,7 +57,7 @@ between_all t size = ap (λ (o : Option ℕ). piece_of 0 o t) (upto_last size) �
 between_long : (t : Trace) (size from middle : ℕ) → from < middle → middle < size → size ≤ length t.items → from + length (piece_between size from middle t).items ≡ middle
 between_long t size from middle l w fits =
     ap (λ (o : Option ℕ). from + length (piece_of from o t).items) (upto_middle size middle w)
-    ∙ (let a = length-take (middle - from) (drop from t.items) in let d = length_dropped from t.items in omega arith)
+    ∙ (let a = length-take (middle - from) (drop from t.items) in let d = length-drop from t.items in omega arith)
 
 pub merged : (chain : AbstractChain) (segment from middle to : ℕ) (p q r : Part) → from < middle → middle < to → to ≤ size_at chain segment
     → PartStands chain segment from middle p → PartStands chain segment middle to q

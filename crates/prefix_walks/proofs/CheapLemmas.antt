@@ -1,28 +1,22 @@
 -- Items that cheap stages leave where they are read.
-use Rattle.std.proofs.Common.{◌≡◌, ℕ, suc, ◌≤◌, ℤ, Bool, true, false, if◌then◌else◌, List, [], ◌∷◌, ◌++◌, length, length-append, map as each_of, Result, Ok, Err, OnErr, refl, sym, ap, subst, ◌∙◌, arith}
+use Rattle.std.proofs.Common.{◌≡◌, ℕ, suc, ◌≤◌, Bool, true, false, if◌then◌else◌, List, [], ◌∷◌, ◌++◌, length, length-append, map as each_of, Result, Ok, Err, OnErr, refl, sym, ap, ◌∙◌, arith}
 use Rattle.std.specs.declared.alloc.AllocError.{AllocError}
-use Rattle.std.proofs.lemmas.List.{length-map}
 use Rattle.std.proofs.lemmas.List.Concat.{flat_map-append}
 use Rattle.lambda_values.specs.Earlier.{Numbers}
 use Rattle.lambda_values.specs.Term.{Long, Truth}
 use Rattle.lambda_values.specs.Value.{long_value, truth_value}
-use Rattle.trace.specs.Cover.{placed}
 use Rattle.trace.specs.Sinks.{IsFed, flow_after}
-use Rattle.trace.specs.Stages.{AbstractStage, map, filter, flat_map, image as item_image, passed, pipe, stages_of, through}
-use Rattle.trace.specs.Trace.{Trace, trace, append}
+use Rattle.trace.specs.Stages.{AbstractStage, map, filter, flat_map, image as item_image, passed, pipe, through}
+use Rattle.trace.specs.Trace.{trace, append}
 use Rattle.trace.specs.declared.feeding.Fed.{Fed}
 use Rattle.trace.specs.declared.feeding.Fed.TheVariants as fed
 use Rattle.trace.specs.declared.item.Item.{Item}
 use Rattle.trace.specs.declared.item.End.{End}
 use Rattle.trace.specs.declared.item.End.TheVariants as end
 use Rattle.trace.specs.declared.sink.Flow.TheVariants as flow
-use Rattle.trace.proofs.Sources.{length-placed}
-use Rattle.prefix_walks.specs.CheapStages.{AreCheap, left_by, left_of, truth_in}
-use Rattle.prefix_walks.specs.Maps.{ArePlain, IsPlain, IsPlainTest, image, images, value_in}
-use Rattle.prefix_walks.specs.Runs.{FitsSource, passing_items, run_values}
-use Rattle.prefix_walks.specs.declared.passing.Passing.{Passing}
-use Rattle.prefix_walks.proofs.MapLemmas.{truth_is, value_is}
-use Rattle.prefix_walks.proofs.RunLemmas.{values_placed}
+use Rattle.prefix_walks.specs.CheapStages.{AreCheap, left_by, left_of, truth_in, value_in}
+use Rattle.prefix_walks.specs.Plain.{IsPlain, IsPlainTest}
+use Rattle.prefix_walks.proofs.PlainLemmas.{truth_is, value_is}
 
 -- ---- a walk through cheap stages
 
@@ -78,7 +72,7 @@ cheap_walk n (flat_map g ∷ gs) h env xs ending = absurd h.0
 pub left_both : (gs : List AbstractStage) (xs ys : List Item) → left_by gs (xs ++ ys) ≡ left_by gs xs ++ left_by gs ys
 left_both gs xs ys = flat_map-append (left_of gs) xs ys
 
--- ---- how many items are left, and which if all stages are maps
+-- ---- how many items are left
 
 one_few : (gs : List AbstractStage) (x : Item) → length (left_of gs x) ≤ 1
 one_few [] x = omega arith
@@ -94,28 +88,6 @@ pub left_few : (gs : List AbstractStage) (xs : List Item) → length (left_by gs
 left_few gs [] = omega arith
 left_few gs (x ∷ xs) = let l = length-append (left_of gs x) (left_by gs xs) in omega (arith, l, one_few gs x, left_few gs xs)
 
-pub passing_few : (s : Passing) → FitsSource s → length (passing_items s) ≤ 1024
-passing_few s fits =
-    let vs = run_values s.values in
-    let l = length-placed s.place vs in
-    omega (arith, l, left_few (stages_of s.stages.stages.now) (placed s.place vs), fits.few)
-
-pub plain_cheap : (gs : List AbstractStage) → ArePlain gs → AreCheap gs
-plain_cheap [] h = tt
-plain_cheap (map e ∷ gs) h = (h.0, plain_cheap gs h.1)
-plain_cheap (filter p ∷ gs) h = absurd h.0
-plain_cheap (flat_map g ∷ gs) h = absurd h.0
-
-one_left : (gs : List AbstractStage) → ArePlain gs → (x : Item) → left_of gs x ≡ record { origin = x.origin; value = image gs x.value } ∷ []
-one_left [] h x = refl
-one_left (map e ∷ gs) h x = one_left gs h.1 (record { origin = x.origin; value = value_in (long_value e x.value []) })
-one_left (filter p ∷ gs) h x = absurd h.0
-one_left (flat_map g ∷ gs) h x = absurd h.0
-
-pub only_maps : (gs : List AbstractStage) → ArePlain gs → (p : ℕ) (vs : List ℤ) → left_by gs (placed p vs) ≡ placed p (images gs vs)
-only_maps gs h p [] = refl
-only_maps gs h p (v ∷ vs) = (λ i. one_left gs h (record { origin = p; value = v }) i ++ only_maps gs h (suc p) vs i)
-
 -- ---- a sink that takes all
 
 pub all_taken : {B : Type 0} (taken : B → List Item → Type 0) (xs : List Item) (b : B) (r : Result Fed AllocError) → flow.More ≡ flow_after r → OnErr r ⊥ → IsFed taken [] (trace xs end.Done) r b → taken b xs
@@ -123,12 +95,3 @@ all_taken taken xs b (Ok fed.More) wants safe given = given.0
 all_taken taken xs b (Ok (fed.Fault f)) wants safe given = absurd (let e = given.1 in cc)
 all_taken taken xs b (Ok fed.Enough) wants safe given = absurd cc
 all_taken taken xs b (Err e) wants safe given = absurd safe
-
--- a buffer that a walk of values through maps went into
-pub images_put : (gs : List AbstractStage) → ArePlain gs → (n : ℕ) (env : Numbers) (vs buffer : List ℤ) (r : Result Fed AllocError) → length vs ≤ 1024 → flow.More ≡ flow_after r → OnErr r ⊥
-    → IsFed (λ (b : List ℤ) (xs : List Item). length xs ≤ 1024 → b ≡ each_of (λ (x : Item). x.value) xs) [] (pipe n gs env (trace (placed 0 vs) end.Done)) r buffer → buffer ≡ images gs vs
-images_put gs h n env vs buffer r few wants safe given =
-    let taken = λ (b : List ℤ) (xs : List Item). length xs ≤ 1024 → b ≡ each_of (λ (x : Item). x.value) xs in
-    let walk = cheap_walk n gs (plain_cheap gs h) env (placed 0 vs) end.Done ∙ ap (λ (l : List Item). trace l end.Done) (only_maps gs h 0 vs) in
-    all_taken taken (placed 0 (images gs vs)) buffer r wants safe (subst (λ (t : Trace). IsFed taken [] t r buffer) walk given)
-    (subst (λ m. m ≤ 1024) (sym (length-placed 0 (images gs vs) ∙ length-map vs (image gs))) few) ∙ values_placed 0 (images gs vs)

@@ -2,6 +2,7 @@
 use Rattle.std.proofs.Common.{FitsSigned, w64, int_lt, unsigned_abs, ◌-ℤ◌, Bool, true, false, if◌then◌else◌, subst, ◌≡◌, ℕ, zero, suc, ◌+◌, ◌-◌, ◌<◌, ◌≤◌, min, ℤ, pos, ◌+ℤ◌, List, [], ◌∷◌, ◌++◌, length, take, drop, Option, Some, None, refl, sym, ap, ◌∙◌, arith}
 use Rattle.std.proofs.lemmas.Int.{ints}
 use Rattle.std.specs.List.{flat_map}
+use Rattle.std.proofs.lemmas.List.{drop-drop, length-drop, take-append-drop, take-take, take_all}
 use Rattle.std.proofs.lemmas.List.Concat.{flat_map-append}
 use borrow.Author.Differences.{fits_in, fits_out}
 use Rattle.trace.specs.declared.item.Item.{Item}
@@ -42,11 +43,6 @@ module _ {A : Type 0} where
   drop_both zero (x ∷ xs) ys = let e : 0 - suc (length xs) ≡ 0 = omega arith in sym (ap (λ m. (x ∷ xs) ++ drop m ys) e ∙ ap (λ (zs : List A). (x ∷ xs) ++ zs) (drop_none ys))
   drop_both (suc n) (x ∷ xs) ys = let e : n - length xs ≡ suc n - suc (length xs) = omega arith in drop_both n xs ys ∙ ap (λ m. drop n xs ++ drop m ys) e
 
-  pub length_dropped : (n : ℕ) (xs : List A) → length (drop n xs) ≡ length xs - n
-  length_dropped n [] = ap length (drop_of_none n) ∙ omega arith
-  length_dropped zero (x ∷ xs) = omega arith
-  length_dropped (suc n) (x ∷ xs) = length_dropped n xs ∙ omega arith
-
   -- to take more than there is is to take all
   pub take_same : (m n : ℕ) (xs : List A) → min m (length xs) ≡ min n (length xs) → take m xs ≡ take n xs
   take_same m n [] e = take_of_none m ∙ sym (take_of_none n)
@@ -54,11 +50,6 @@ module _ {A : Type 0} where
   take_same zero (suc n) (x ∷ xs) e = absurd (omega arith)
   take_same (suc m) zero (x ∷ xs) e = absurd (omega arith)
   take_same (suc m) (suc n) (x ∷ xs) e = ap (λ (zs : List A). x ∷ zs) (take_same m n xs (omega arith))
-
-  pub take_whole : (n : ℕ) (xs : List A) → length xs ≤ n → take n xs ≡ xs
-  take_whole n [] h = take_of_none n
-  take_whole zero (x ∷ xs) h = absurd (omega arith)
-  take_whole (suc n) (x ∷ xs) h = ap (λ (zs : List A). x ∷ zs) (take_whole n xs (omega arith))
 
   pub drop_same : (m n : ℕ) (xs : List A) → min m (length xs) ≡ min n (length xs) → drop m xs ≡ drop n xs
   drop_same m n [] e = drop_of_none m ∙ sym (drop_of_none n)
@@ -71,18 +62,18 @@ module _ {A : Type 0} where
   pub clamped : (from : ℕ) (to : Option ℕ) (xs : List A) → elements from to xs ≡ take (span from to (length xs)) (drop (min from (length xs)) xs)
   clamped from None xs =
       let d = drop_same from (min from (length xs)) xs (omega arith) in
-      let l = length_dropped (min from (length xs)) xs in
-      d ∙ sym (take_whole (length xs - from) (drop (min from (length xs)) xs) (omega arith))
+      let l = length-drop (min from (length xs)) xs in
+      d ∙ sym (take_all (length xs - from) (drop (min from (length xs)) xs) (omega arith))
   clamped from (Some to) xs =
       let d = drop_same from (min from (length xs)) xs (omega arith) in
-      let l = length_dropped (min from (length xs)) xs in
+      let l = length-drop (min from (length xs)) xs in
       ap (take (to - from)) d ∙ take_same (to - from) (min to (length xs) - from) (drop (min from (length xs)) xs) (omega arith)
 
   -- positions in two lists
   pub elements_both : (from : ℕ) (to : Option ℕ) (xs ys : List A) → elements from to (xs ++ ys) ≡ elements from to xs ++ elements (from - length xs) (after to (length xs)) ys
   elements_both from None xs ys = drop_both from xs ys
   elements_both from (Some to) xs ys =
-      let l = length_dropped from xs in
+      let l = length-drop from xs in
       let e : (to - from) - length (drop from xs) ≡ (to - length xs) - (from - length xs) = omega arith in
       ap (take (to - from)) (drop_both from xs ys) ∙ take_both (to - from) (drop from xs) (drop (from - length xs) ys)
       ∙ ap (λ m. take (to - from) (drop from xs) ++ take m (drop (from - length xs) ys)) e
@@ -90,23 +81,6 @@ module _ {A : Type 0} where
   pub elements_none : (from : ℕ) (to : Option ℕ) → elements from to empty ≡ []
   elements_none from None = drop_of_none from
   elements_none from (Some to) = ap (take (to - from)) (drop_of_none from) ∙ take_of_none (to - from)
-
-  pub drop_twice : (m n : ℕ) (xs : List A) → drop m (drop n xs) ≡ drop (n + m) xs
-  drop_twice m n [] = ap (drop m) (drop_of_none n) ∙ drop_of_none m ∙ sym (drop_of_none (n + m))
-  drop_twice m zero (x ∷ xs) = let e : m ≡ 0 + m = omega arith in ap (λ k. drop k (x ∷ xs)) e
-  drop_twice m (suc n) (x ∷ xs) = drop_twice m n xs ∙ (let e : suc (n + m) ≡ suc n + m = omega arith in ap (λ k. drop k (x ∷ xs)) e)
-
-  front_back : (n : ℕ) (xs : List A) → take n xs ++ drop n xs ≡ xs
-  front_back zero [] = refl
-  front_back zero (x ∷ xs) = refl
-  front_back (suc n) [] = refl
-  front_back (suc n) (x ∷ xs) = ap (λ (zs : List A). x ∷ zs) (front_back n xs)
-
-  pub take_twice : (m n : ℕ) (xs : List A) → m ≤ n → take m (take n xs) ≡ take m xs
-  take_twice m n [] h = ap (take m) (take_of_none n)
-  take_twice zero n (x ∷ xs) h = take_none (take n (x ∷ xs)) ∙ sym (take_none (x ∷ xs))
-  take_twice (suc m) zero (x ∷ xs) h = absurd (omega arith)
-  take_twice (suc m) (suc n) (x ∷ xs) h = ap (λ (zs : List A). x ∷ zs) (take_twice m n xs (omega arith))
 
   pub drop_taken : (m n : ℕ) (xs : List A) → drop m (take n xs) ≡ take (n - m) (drop m xs)
   drop_taken m n [] = ap (drop m) (take_of_none n) ∙ drop_of_none m ∙ sym (ap (take (n - m)) (drop_of_none m) ∙ take_of_none (n - m))
@@ -118,13 +92,13 @@ module _ {A : Type 0} where
   pub elements_join : (from middle : ℕ) (to : Option ℕ) (xs : List A) → from ≤ middle → IsNotAfter middle to → elements from (Some middle) xs ++ elements middle to xs ≡ elements from to xs
   elements_join from middle None xs h k =
       let e : from + (middle - from) ≡ middle = omega arith in
-      ap (λ (zs : List A). take (middle - from) (drop from xs) ++ zs) (ap (λ n. drop n xs) (sym e) ∙ sym (drop_twice (middle - from) from xs)) ∙ front_back (middle - from) (drop from xs)
+      ap (λ (zs : List A). take (middle - from) (drop from xs) ++ zs) (ap (λ n. drop n xs) (sym e) ∙ sym (drop-drop (middle - from) from xs)) ∙ take-append-drop (middle - from) (drop from xs)
   elements_join from middle (Some to) xs h k =
       let e : from + (middle - from) ≡ middle = omega arith in
       let f : to - middle ≡ (to - from) - (middle - from) = omega arith in
       let ys : List A = drop from xs in
-      (λ i. sym (take_twice (middle - from) (to - from) ys (omega arith)) i ++ (ap (λ n. take (to - middle) (drop n xs)) (sym e) ∙ ap (take (to - middle)) (sym (drop_twice (middle - from) from xs)) ∙ ap (λ n. take n (drop (middle - from) ys)) f ∙ sym (drop_taken (middle - from) (to - from) ys)) i)
-      ∙ front_back (middle - from) (take (to - from) ys)
+      (λ i. sym (take-take (middle - from) (to - from) ys (omega arith)) i ++ (ap (λ n. take (to - middle) (drop n xs)) (sym e) ∙ ap (take (to - middle)) (sym (drop-drop (middle - from) from xs)) ∙ ap (λ n. take n (drop (middle - from) ys)) f ∙ sym (drop_taken (middle - from) (to - from) ys)) i)
+      ∙ take-append-drop (middle - from) (take (to - from) ys)
 
 -- places go on in a piece
 pub placed_both : (o : ℕ) (us vs : List ℤ) → placed o (us ++ vs) ≡ placed o us ++ placed (o + length us) vs
@@ -200,10 +174,6 @@ elements_after f ps w n from to e h =
     let xs = flat_map f (take w ps) in
     let ys = flat_map f (drop w ps) in
     let few : length xs ≤ from = omega (arith, e, h) in
-    ap (λ qs. elements from to (flat_map f qs)) (sym (front_back w ps)) ∙ ap (elements from to) (flat_map-append f (take w ps) (drop w ps))
+    ap (λ qs. elements from to (flat_map f qs)) (sym (take-append-drop w ps)) ∙ ap (elements from to) (flat_map-append f (take w ps) (drop w ps))
     ∙ elements_both from to xs ys ∙ ap (λ zs. zs ++ elements (from - length xs) (after to (length xs)) ys) (past_first from to xs few)
     ∙ (λ i. elements (from - sym e i) (after to (sym e i)) ys)
-
--- all that is left of a list
-pub rest_of : {A : Type 0} (n : ℕ) (xs : List A) → take (length xs - n) (drop n xs) ≡ drop n xs
-rest_of n xs = let l = length_dropped n xs in take_whole (length xs - n) (drop n xs) (omega arith)

@@ -5,8 +5,9 @@ pub mod Elements
 pub mod FaultlessLemmas
 pub mod FeedLemmas
 pub mod FlaggedFolds
-pub mod MapLemmas
-pub mod RunLemmas
+pub mod PieceLemmas
+pub mod PlacingLemmas
+pub mod PlainLemmas
 pub mod ScanLemmas
 pub mod SideBySide
 pub mod WindowPositions

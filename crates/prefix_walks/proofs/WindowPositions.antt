@@ -1,9 +1,10 @@
 -- Positions of the elements at positions of a list.
 use Rattle.std.proofs.Common.{◌≡◌, ℕ, zero, suc, ◌+◌, ◌-◌, ◌≤◌, min, List, [], ◌∷◌, length, take, drop, Option, Some, None, sym, ap, ◌∙◌, arith}
+use Rattle.std.proofs.lemmas.List.{drop-drop, length-drop, length-take}
 use Rattle.trace.specs.declared.item.Item.{Item}
 use Rattle.prefix_walks.specs.Pieces.{elements}
 use Rattle.prefix_walks.specs.Spans.{earlier, moved, span}
-use Rattle.prefix_walks.proofs.Elements.{clamped, drop_taken, drop_twice, length_dropped, take_none, take_of_none}
+use Rattle.prefix_walks.proofs.Elements.{clamped, drop_taken, take_none, take_of_none}
 
 -- the end of positions within others
 abbrev inner_end : ℕ → Option ℕ → Option ℕ → Option ℕ
@@ -21,16 +22,16 @@ module _ {A : Type 0} where
 
   -- positions of the elements at positions
   elements_within : (a f : ℕ) (p o : Option ℕ) (xs : List A) → elements a p (elements f o xs) ≡ elements (f + a) (inner_end f o p) xs
-  elements_within a f None None xs = drop_twice a f xs
+  elements_within a f None None xs = drop-drop a f xs
   elements_within a f None (Some t) xs =
       let e : (t - f) - a ≡ t - (f + a) = omega arith in
-      drop_taken a (t - f) (drop f xs) ∙ ap (take ((t - f) - a)) (drop_twice a f xs) ∙ ap (λ k. take k (drop (f + a) xs)) e
+      drop_taken a (t - f) (drop f xs) ∙ ap (take ((t - f) - a)) (drop-drop a f xs) ∙ ap (λ k. take k (drop (f + a) xs)) e
   elements_within a f (Some b) None xs =
       let e : b - a ≡ (f + b) - (f + a) = omega arith in
-      ap (take (b - a)) (drop_twice a f xs) ∙ ap (λ k. take k (drop (f + a) xs)) e
+      ap (take (b - a)) (drop-drop a f xs) ∙ ap (λ k. take k (drop (f + a) xs)) e
   elements_within a f (Some b) (Some t) xs =
       let e : min (b - a) ((t - f) - a) ≡ min t (f + b) - (f + a) = omega arith in
-      ap (take (b - a)) (drop_taken a (t - f) (drop f xs) ∙ ap (take ((t - f) - a)) (drop_twice a f xs))
+      ap (take (b - a)) (drop_taken a (t - f) (drop f xs) ∙ ap (take ((t - f) - a)) (drop-drop a f xs))
       ∙ take_of_taken (b - a) ((t - f) - a) (drop (f + a) xs) ∙ ap (λ k. take k (drop (f + a) xs)) e
 
   same_elements : (f g : ℕ) (o p : Option ℕ) (xs : List A) → min f (length xs) ≡ min g (length xs) → span f o (length xs) ≡ span g p (length xs) → elements f o xs ≡ elements g p xs
@@ -48,13 +49,8 @@ module _ {A : Type 0} where
 
   -- the number of elements is the number of positions within the list
   length_elements : (from : ℕ) (to : Option ℕ) (xs : List A) → length (elements from to xs) ≡ span from to (length xs)
-  length_elements from None xs = length_dropped from xs
-  length_elements from (Some to) xs = let l = length_dropped from xs in length_taken (to - from) (drop from xs) ∙ omega arith
-    where
-      length_taken : (n : ℕ) (ys : List A) → length (take n ys) ≡ min n (length ys)
-      length_taken n [] = ap length (take_of_none n) ∙ omega arith
-      length_taken zero (y ∷ ys) = omega arith
-      length_taken (suc n) (y ∷ ys) = let l = length_taken n ys in omega arith
+  length_elements from None xs = length-drop from xs
+  length_elements from (Some to) xs = let l = length-drop from xs in length-take (to - from) (drop from xs) ∙ omega arith
 
 -- how many items there are at positions of a walk
 pub window_size : (f : ℕ) (o : Option ℕ) (xs : List Item) (n count : ℕ) → n ≡ length xs → length xs ≤ 4611686018427387904 → count ≡ span f o n → count ≡ min (length (elements f o xs)) 18446744073709551615

@@ -1,11 +1,11 @@
 -- Condition: items that cheap stages leave where they are read.
-use Rattle.std.specs.Prelude.{if◌then◌else◌, Bool, false, List, [], ◌∷◌, flat_map as joined_of, Result, Ok, Err, ⊤}
+use Rattle.std.specs.Prelude.{if◌then◌else◌, ℤ, pos, Bool, false, List, [], ◌∷◌, flat_map as joined_of, Result, Ok, Err, ⊤}
 use Rattle.std.specs.Coded.{×_prop, Unit-prop}
 use Rattle.lambda_values.specs.declared.fault.FaultKind.{FaultKind}
 use Rattle.lambda_values.specs.Value.{long_value, truth_value}
 use Rattle.trace.specs.declared.item.Item.{Item}
 use Rattle.trace.specs.Stages.{AbstractStage, map, filter, flat_map}
-use Rattle.prefix_walks.specs.Maps.{IsPlain, IsPlainTest, IsPlain-prop, IsPlainTest-prop, value_in}
+use Rattle.prefix_walks.specs.Plain.{IsPlain, IsPlainTest, IsPlain-prop, IsPlainTest-prop}
 
 -- stages that are maps and filters by expressions and tests that only the item decides
 abbrev pub IsCheapStage : AbstractStage → Type 0
@@ -16,6 +16,11 @@ IsCheapStage (flat_map g) = ⊥
 abbrev pub AreCheap : List AbstractStage → Type 0
 AreCheap [] = ⊤
 AreCheap (g ∷ gs) = IsCheapStage g × AreCheap gs
+
+-- helper: the value of an expression that can't fault
+abbrev pub value_in : Result ℤ FaultKind → ℤ
+value_in (Ok v) = v
+value_in (Err k) = pos 0
 
 -- helper: the truth of a test that can't fault
 abbrev pub truth_in : Result Bool FaultKind → Bool

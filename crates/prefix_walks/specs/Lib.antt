@@ -3,8 +3,10 @@ pub mod Batches
 pub mod CheapStages
 pub mod Faultless
 pub mod Kept
-pub mod Maps
+pub mod Lent
+pub mod PieceItems
 pub mod Pieces
-pub mod Runs
+pub mod Placing
+pub mod Plain
 pub mod Scans
 pub mod Spans

@@ -1,5 +1,5 @@
 -- Condition: the part of a prefix, and its walk, in pieces.
-use Rattle.std.specs.Prelude.{◌≡◌, ℕ, ◌+◌, ◌<◌, ◌≤◌, ◌^◌, ℤ, List, [], ◌∷◌, length, flat_map, All, Option, None}
+use Rattle.std.specs.Prelude.{◌≡◌, ℕ, ◌+◌, ◌<◌, ◌^◌, ℤ, List, [], ◌∷◌, length, flat_map, All, Option, None}
 use Rattle.trace.specs.declared.item.Item.{Item}
 use Rattle.trace.specs.declared.item.End.TheVariants as end
 use Rattle.trace.specs.Trace.{Trace, trace, append}
@@ -8,7 +8,7 @@ use Rattle.reduce_ops.specs.Operators.{value_of}
 use Rattle.reduce_ops.specs.Parts.{StandsFor as FoldStands}
 use Rattle.prefix_scan.specs.Prefixes.{Range}
 use Rattle.prefix_scan.specs.Scans.{fold_at, scan_at}
-use Rattle.prefix_walks.specs.Runs.{FitsPlaces, items_in}
+use Rattle.prefix_walks.specs.PieceItems.{items_in}
 use Rattle.prefix_walks.specs.declared.folded_piece.FoldedPiece.{FoldedPiece}
 use Rattle.prefix_walks.specs.declared.folded_piece.PieceStart.{PieceStart}
 
@@ -33,12 +33,10 @@ items_of p = items_in p.items
 abbrev pub all_items : List FoldedPiece → List Item
 all_items ps = flat_map items_of ps
 
--- a piece has the fold of its items by this operator, and 1,024 items at most
+-- a piece has the fold of its items by this operator
 pub record IsFolded (f : Op) (p : FoldedPiece) : Type 0 where
   pub op : p.fold.op ≡ f
   pub stands : FoldStands p.fold (trace (items_in p.items) end.Done)
-  pub few : length (items_in p.items) ≤ 1024
-  pub places : FitsPlaces p.items
 
 -- for each piece the position of its first item, and the fold of what lies left of it
 abbrev pub mark : ℕ → Option ℤ → PieceStart

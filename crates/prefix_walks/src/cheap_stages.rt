@@ -1,22 +1,19 @@
 //! Maps and filters that are so cheap that what they leave of values is computed where it is read, and not kept.
 
-ghost use Rattle.std.specs.Prelude.{◌≡◌, ◌≤◌, ◌<◌, ◌+◌, ◌^◌, [], IfSome, List, OnErr, length, true};
+ghost use Rattle.std.specs.Prelude.{◌≡◌, ◌≤◌, ◌<◌, ◌^◌, [], IfSome, length};
 ghost use Rattle.lambda_values.specs.Term.{long_of, truth_of};
-ghost use Rattle.trace.specs.Cover.{placed};
-ghost use Rattle.trace.specs.Sinks.{IsFed, flow_after};
 ghost use Rattle.trace.specs.Stages.{stage_of, stages_of};
-ghost use Rattle.trace.specs.Trace.{trace};
-ghost use Rattle.trace.specs.declared.item.End.TheVariants as end;
-ghost use Rattle.trace.specs.declared.item.Item.{Item as item};
 ghost use Rattle.prefix_walks.specs.CheapStages.{AreCheap, AreCheap-prop, IsCheapStage, left_by};
-ghost use Rattle.prefix_walks.specs.Maps.{ArePlain, ArePlain-prop, IsPlain, IsPlainTest, images};
+ghost use Rattle.prefix_walks.specs.Lent.{lent_items};
+ghost use Rattle.prefix_walks.specs.Plain.{IsPlain, IsPlainTest};
 
-use crate::buffer::Buffer;
 use crate::faultless::{is_total, is_total_by};
-use batch_eval::{BatchSink, Pipeline, Registers, feed_at_once};
+use crate::lent::LentItems;
+use crate::piece_buffer::PieceBuffer;
+use batch_eval::{BatchSource, Pipeline, Registers, feed_at_once};
 use lambda_values::{BinaryOperator, BoolExpr, Env, Faults, LongExpr};
 use std::alloc::Global;
-use trace::{Fed, Flow, NoMemory, PlacedValues, Stage};
+use trace::Stage;
 
 /// How many operators cheap stages have at most. What they leave of a value is computed twice: for the fold of a piece,
 /// and where the piece is read. Up to about this many, that takes less time than to write each value and to read it
@@ -42,112 +39,36 @@ impl<'a> CheapStages<'a> {
         Some(CheapStages { alloc, stages })
     }
 
-    /// The stages, if all of them are maps.
-    pub(crate) fn maps(&self) -> Option<Maps<'a>>
-        ensures { IfSome result (λ maps. maps.stages.now ≡ self.now.stages.now) }
-    {
-        if !are_maps(self.stages) {
-            return None;
-        }
-        Some(Maps {
-            alloc: self.alloc,
-            stages: self.stages,
-        })
-    }
-
-    /// No maps: what they make of values is these values.
-    pub(crate) fn no_maps(&self) -> Maps<'a>
-        ensures { result.stages.now ≡ [] }
-    {
-        Maps {
-            alloc: self.alloc,
-            stages: &[],
-        }
-    }
-
-    /// Gives a sink what the stages leave of values at places that count up from this one.
-    pub(crate) fn feed<S: BatchSink>(
+    /// Puts what the stages leave of up to 1,024 items into a buffer.
+    pub(crate) fn put(
         &self,
-        place: u64,
-        values: &[i64],
+        lent: &LentItems<'_>,
         registers: &mut Registers,
-        sink: &mut S,
-    ) -> Result<Fed, NoMemory>
-        requires wants { S.flow sink.old ≡ Flow.More }
-        requires places { place + length values.now ≤ 2 ^ 62 }
-        ensures fed { (xs : List item) → S.has_taken sink.old xs → IsFed S.has_taken xs
-            (trace (left_by (stages_of self.now.stages.now) (placed place values.now)) end.Done) result sink.new }
-        ensures flow { S.flow sink.new ≡ flow_after result }
-        ensures refused { OnErr result S.takes_memory }
+        buffer: &mut PieceBuffer,
+    )
+        requires { length (lent_items lent.now) ≤ 1024 }
+        ensures { buffer.new ≡ left_by (stages_of self.now.stages.now) (lent_items lent.now) }
     {
-        let env = Env::empty(self.alloc);
-        let items = PlacedValues {
-            origin: place,
-            values,
-        };
-        let line = Pipeline {
-            stages: self.stages,
-            first: 0,
-            env: &env,
-        };
-        feed_at_once(line, &items, registers, sink)
-    }
-}
-
-/// Cheap stages that are maps.
-#[derive(Clone, Copy)]
-pub struct Maps<'a> {
-    alloc: Global,
-    pub(crate) stages: &'a [Stage],
-    ghost plain: { ArePlain (stages_of stages.now) } by { ArePlain-prop (stages_of stages.now) },
-    ghost few: { length stages.now < 2 ^ 32 },
-}
-
-impl<'a> Maps<'a> {
-    /// Whether there are none.
-    pub(crate) fn is_empty(&self) -> bool
-        ensures { result ≡ true → self.now.stages.now ≡ [] }
-    {
-        self.stages.is_empty()
-    }
-
-    /// Puts what the maps make of each value in its place.
-    pub(crate) fn apply(&self, values: &mut [i64], registers: &mut Registers)
-        requires { length values.old ≤ 1024 }
-        ensures { values.new ≡ images (stages_of self.now.stages.now) values.old }
-    {
-        if self.is_empty() {
-            return;
+        buffer.clear();
+        match lent {
+            LentItems::Values(values) => self.feed(values, registers, buffer),
+            LentItems::Range(range) => self.feed(range, registers, buffer),
         }
-        let mut buffer = Buffer::new();
-        self.put_images(values, registers, &mut buffer);
-        values.copy_from_slice(buffer.values());
     }
 
-    /// Puts what the maps make of each value into a buffer.
-    fn put_images(&self, values: &[i64], registers: &mut Registers, buffer: &mut Buffer)
-        requires few { length values.now ≤ 1024 }
+    /// Puts what the stages leave of up to 1,024 items into an empty buffer.
+    fn feed<I: BatchSource>(&self, source: &I, registers: &mut Registers, buffer: &mut PieceBuffer)
+        requires few { length (I.items source.now) ≤ 1024 }
         requires none { buffer.old ≡ [] }
-        ensures { buffer.new ≡ images (stages_of self.now.stages.now) values.now }
+        ensures { buffer.new ≡ left_by (stages_of self.now.stages.now) (I.items source.now) }
     {
         let env = Env::empty(self.alloc);
-        let items = PlacedValues { origin: 0, values };
         let line = Pipeline {
             stages: self.stages,
             first: 0,
             env: &env,
         };
-        let _ = feed_at_once(line, &items, registers, buffer);
-    }
-}
-
-/// Whether all of these cheap stages are maps.
-fn are_maps(stages: &[Stage]) -> bool
-    ensures { result ≡ true → AreCheap (stages_of stages.now) → ArePlain (stages_of stages.now) }
-{
-    match stages.split_first() {
-        None => true,
-        Some((stage, later)) => matches!(stage, Stage::Map(_)) && are_maps(later),
+        let _ = feed_at_once(line, source, registers, buffer);
     }
 }
 

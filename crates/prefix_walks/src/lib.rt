@@ -10,28 +10,28 @@
 //! stages leave of a borrowed value is worked out for its fold and again where it is read.
 #![tactic(auto)]
 
-mod buffer;
 mod cheap_stages;
 mod faultless;
 mod folded_piece;
 mod folded_walk;
 mod folding;
 mod given;
-mod item_buffer;
 mod kept;
 mod laws;
-mod passing;
+mod lent;
+mod piece_buffer;
 mod piece_folds;
 mod piece_items;
 mod pieces;
 mod prefix;
 mod prefix_part;
 mod prefix_pieces;
-mod run_values;
 mod scanned;
 mod scanned_pieces;
 mod spans;
+mod stored;
 mod window;
+mod worked;
 
 pub use cheap_stages::CheapStages;
 pub use faultless::{never_faults, test_never_faults};
@@ -39,6 +39,7 @@ pub use folded_walk::feed_values;
 pub use folding::{folded, folded_flagged};
 pub use given::GivenWalk;
 pub use laws::pieces_join;
+pub use lent::LentItems;
 pub use pieces::ItemPiece;
 pub use prefix::Prefix;
 pub use prefix_part::PrefixPart;

@@ -1,16 +1,38 @@
-//! Items side by side.
+//! Items of a piece.
 
-use crate::passing::Passing;
-use crate::run_values::RunValues;
-use trace::Item;
+ghost use Rattle.std.specs.Prelude.{◌≡◌, length};
+ghost use Rattle.prefix_walks.specs.PieceItems.{items_in};
 
-/// Items side by side.
+use crate::piece_buffer::PieceBuffer;
+use crate::stored::Stored;
+use crate::worked::Worked;
+use batch_eval::Registers;
+
+/// Items side by side, up to 1,024 of them.
 #[derive(Drop)]
 pub enum PieceItems<'a> {
-    /// Items, each with its place.
-    Listed(Vec<Item>),
-    /// Values at places that count up from this one.
-    Run(u64, RunValues<'a>),
-    /// Items that are worked out where they are read.
-    Passing(Passing<'a>),
+    Stored(Stored),
+    Worked(Worked<'a>),
+}
+
+impl PieceItems<'_> {
+    /// How many items there are.
+    pub(crate) fn count(&self) -> usize
+        ensures { result ≡ length (items_in self.now) }
+    {
+        match self {
+            PieceItems::Stored(stored) => stored.count(),
+            PieceItems::Worked(worked) => worked.count,
+        }
+    }
+
+    /// Puts the items into a buffer.
+    pub(crate) fn put(&self, registers: &mut Registers, buffer: &mut PieceBuffer)
+        ensures { buffer.new ≡ items_in self.now }
+    {
+        match self {
+            PieceItems::Stored(stored) => stored.put(buffer),
+            PieceItems::Worked(worked) => worked.stages.put(&worked.lent, registers, buffer),
+        }
+    }
 }

@@ -1,26 +1,27 @@
 //! What a piece gives to a prefix: its items, in pieces with their folds.
 
-ghost use Rattle.std.specs.Prelude.{◌≡◌, ◌+◌, ◌<◌, ◌≤◌, ◌^◌, [], All, length, map, OnOk, OnErr, IfErr, IfOk};
-ghost use Rattle.trace.specs.Cover.{counted, placed};
+ghost use Rattle.std.specs.Prelude.{◌≡◌, ◌<◌, [], All, length, map, OnOk, OnErr, IfErr, IfOk};
 ghost use Rattle.trace.specs.Stages.{stages_of};
 ghost use Rattle.trace.specs.Trace.{trace, nothing, append};
 ghost use Rattle.trace.specs.declared.item.End.TheVariants as end;
 ghost use Rattle.reduce_ops.specs.Operators.{value_of};
 ghost use Rattle.prefix_scan.specs.Prefixes.{ends_after, prefixed, prefixed_items};
 ghost use Rattle.prefix_walks.specs.CheapStages.{left_by};
+ghost use Rattle.prefix_walks.specs.Lent.{lent_items};
 ghost use Rattle.prefix_walks.specs.Scans.{IsFolded, all_items, scan, scan_append};
 
 use crate::cheap_stages::CheapStages;
 use crate::folded_piece::FoldedPiece;
 use crate::given::GivenWalk;
+use crate::lent::LentItems;
 use crate::prefix::Prefix;
-use crate::prefix_pieces::{add_items, add_lent, add_range, add_run, run_place};
+use crate::prefix_pieces::{add_items, add_lent};
 use crate::scanned::ScannedWalk;
 use batch_eval::Registers;
 use lambda_values::FaultKind;
 use std::alloc::Global;
 use std::marker::Model;
-use trace::{End, Fault, NoMemory, RangeItems, SourceItems};
+use trace::{End, Fault, NoMemory, SourceItems};
 
 /// The items of a piece for a prefix, the stage with this number, and how the walk ended. Contracts see just that.
 ///
@@ -69,51 +70,21 @@ impl<'a> PrefixPart<'a> {
         ensures err { OnErr result (self.new ≡ self.old) }
         ensures refused { OnErr result (0 < length (I.items source.now)) }
     {
-        if values.is_empty() {
-            return Ok(());
-        }
-        match run_place(source, values.len()) {
-            Some(place) => add_run(&mut self.pieces, self.prefix.op, place, values),
-            None => add_items(&mut self.pieces, self.prefix.op, source, values),
-        }
+        add_items(&mut self.pieces, self.prefix.op, source, values)
     }
 
-    /// Adds what cheap stages leave of values of a source that stays as long as the job, at places that count up from
-    /// this one. It copies none of them.
+    /// Adds what cheap stages leave of items of a source that stays as long as the job. It stores few of them or none.
     pub fn push_lent(
         &mut self,
         cheap: CheapStages<'a>,
-        place: u64,
-        values: &'a [i64],
+        lent: &LentItems<'a>,
         registers: &mut Registers,
     ) -> Result<(), NoMemory>
         requires open { self.old.walk.ending ≡ end.Done }
-        requires places { place + length values.now ≤ 2 ^ 62 }
         ensures { OnOk result (self.new ≡ scan_append self.old
-            (trace (left_by (stages_of cheap.entry.stages.now) (placed place values.now)) end.Done)) }
+            (trace (left_by (stages_of cheap.entry.stages.now) (lent_items lent.now)) end.Done)) }
     {
-        add_lent(
-            &mut self.pieces,
-            self.prefix.op,
-            cheap,
-            place,
-            values,
-            registers,
-        )
-    }
-
-    /// Adds what cheap stages leave of the integers of a range. It stores none of them.
-    pub fn push_range(
-        &mut self,
-        cheap: CheapStages<'a>,
-        range: &RangeItems,
-        registers: &mut Registers,
-    ) -> Result<(), NoMemory>
-        requires open { self.old.walk.ending ≡ end.Done }
-        ensures { OnOk result (self.new ≡ scan_append self.old (trace (left_by (stages_of cheap.entry.stages.now)
-            (placed range.now.origin (counted range.now.first range.now.count))) end.Done)) }
-    {
-        add_range(&mut self.pieces, self.prefix.op, cheap, range, registers)
+        add_lent(&mut self.pieces, self.prefix.op, cheap, lent, registers)
     }
 
     /// Ends so, unless a fault has ended the part. It takes no memory.

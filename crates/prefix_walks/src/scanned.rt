@@ -85,7 +85,7 @@ fn marks(
     for piece in pieces {
         marks.push(PieceStart { before, start })?;
         start = piece.fold_from(prefix.op, prefix.range, before, start, &mut registers);
-        let Some(next) = before.checked_add(piece.count() as u64) else {
+        let Some(next) = before.checked_add(piece.items.count() as u64) else {
             return Err(NoMemory);
         };
         before = next;

@@ -16,6 +16,7 @@ use crate::folded_piece::{FoldedPiece, PieceStart};
 use crate::folded_walk::{Scan, feed_piece};
 use crate::given::GivenWalk;
 use crate::kept::Kept;
+use crate::piece_buffer::PieceBuffer;
 use crate::scanned::ScannedWalk;
 use crate::window::Window;
 use batch_eval::{BatchSink, Pipeline, Registers};
@@ -119,6 +120,7 @@ fn feed_from<S: BatchSink>(
     let mut position = scan.position;
     let mut start = scan.start;
     let mut left = window;
+    let mut buffer = PieceBuffer::new();
     for piece in pieces {
         if is_over(left.to) {
             return Ok(Fed::More);
@@ -128,11 +130,11 @@ fn feed_from<S: BatchSink>(
             position,
             start,
         };
-        match feed_piece(line, here, piece, left, registers, sink)? {
+        match feed_piece(line, here, piece, left, &mut buffer, registers, sink)? {
             Fed::More => {}
             stopped => return Ok(stopped),
         }
-        let size = piece.count() as u64;
+        let size = piece.items.count() as u64;
         start = piece.fold_from(
             scan.prefix.op,
             scan.prefix.range,

@@ -1,5 +1,5 @@
 use Rattle.std.proofs.Common.{◌≡◌, ◌+◌, arith, rules}
-use Rattle.prefix_walks.proofs.RunLemmas.{places_next}
+use Rattle.prefix_walks.proofs.PlacingLemmas.{places_next}
 use Rattle.prefix_walks.proofs.prefix_pieces.run_place.Goals as goal
 
 pub loop-position-preserved : goal.loop-position-preserved

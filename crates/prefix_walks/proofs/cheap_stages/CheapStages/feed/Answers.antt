@@ -1,13 +1,19 @@
-use Rattle.std.proofs.Common.{subst}
-use Rattle.trace.specs.Cover.{placed}
+use Rattle.std.proofs.Common.{◌≡◌, ◌≤◌, List, [], length, subst, arith}
+use Rattle.trace.specs.declared.item.Item.{Item}
+use Rattle.trace.specs.declared.item.End.TheVariants as end
 use Rattle.trace.specs.Sinks.{IsFed}
 use Rattle.trace.specs.Stages.{stages_of}
 use Rattle.trace.specs.Trace.{Trace}
-use Rattle.trace.specs.declared.item.End.TheVariants as end
-use Rattle.prefix_walks.proofs.CheapLemmas.{cheap_walk}
+use Rattle.prefix_walks.specs.CheapStages.{left_by}
+use Rattle.prefix_walks.proofs.CheapLemmas.{all_taken, cheap_walk, left_few}
 use Rattle.prefix_walks.proofs.cheap_stages.CheapStages.feed.Goals as goal
 
-pub returns-clause-fed : goal.returns-clause-fed
-returns-clause-fed g c = λ xs took.
-    subst (λ (t : Trace). IsFed g.S.LongSink.has_taken xs t c.feed_at_once.result c.feed_at_once.new.sink)
-    (cheap_walk 0 (stages_of c.args.self.now.stages.now) c.args.self.now.cheap c.empty-env.result (placed c.args.place c.args.values.now) end.Done) (c.feed_at_once.ensures.fed xs took)
+pub returns : goal.returns
+returns g c =
+    let none : List Item = [] in
+    let gs = stages_of c.args.self.now.stages.now in
+    let xs = g.I.SourceItems.items c.args.source.now in
+    let taken = λ (b : List Item) (ys : List Item). length ys ≤ 1024 → b ≡ ys in
+    all_taken taken (left_by gs xs) c.feed_at_once.new.sink c.feed_at_once.result c.feed_at_once.ensures.flow c.feed_at_once.ensures.refused
+    (subst (λ (t : Trace). IsFed taken none t c.feed_at_once.result c.feed_at_once.new.sink) (cheap_walk 0 gs c.args.self.now.cheap c.empty-env.result xs end.Done) (c.feed_at_once.ensures.fed none (λ few. c.requires.none)))
+    (let few = left_few gs xs in omega (arith, few, c.requires.few))

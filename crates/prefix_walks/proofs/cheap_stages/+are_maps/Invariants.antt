@@ -1,5 +1,0 @@
-use Rattle.std.proofs.Common.{length}
-use Rattle.prefix_walks.proofs.cheap_stages.+are_maps.Given as goal
-
-abbrev pub decreases-are_maps : goal.decreases-are_maps
-decreases-are_maps l = length l.stages.now

@@ -1,7 +1,0 @@
-use Rattle.prefix_walks.specs.Scans.{IsFolded}
-use Rattle.prefix_walks.proofs.RunLemmas.{all_pushed}
-use Rattle.prefix_walks.proofs.prefix_pieces.add_run.Goals as goal
-
-pub returns-clause-folds : goal.returns-clause-folds
-returns-clause-folds c =
-    all_pushed (IsFolded c.args.op) c.add_run_to_last.new.pieces.items c.in_ok-piece.piece c.push.new.self.items c.in_ok-push.ensures.items c.in_ok-add_run_to_last.ensures.folds c.in_ok-piece.ensures.folded

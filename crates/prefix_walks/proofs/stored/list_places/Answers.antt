@@ -1,0 +1,17 @@
+use Rattle.std.proofs.Common.{◌≡◌, ◌++◌, ◌∷◌, [], ◌+◌, ℕ, map, take, List, sym, ap, ◌∙◌, append_assoc}
+use Rattle.std.proofs.lemmas.Option.{slice_get_within, get_or_from_slice_get}
+use Rattle.std.proofs.lemmas.List.{map-append, take_more}
+use Rattle.trace.specs.declared.item.Item.{Item}
+use Rattle.prefix_walks.proofs.stored.list_places.Goals as goal
+
+pub loop-position-preserved : goal.loop-position-preserved
+loop-position-preserved g c =
+    let xs = g.I.SourceItems.items c.args.source.now in
+    let i = c.loop-position.position in
+    let x = c.item_at.result in
+    let old = c.args.places.now.items in
+    let places = map (λ (z : Item). z.origin) (take i xs) in
+    let more : take (i + 1) xs ≡ take i xs ++ x ∷ [] =
+    take_more xs i x (slice_get_within xs i x c.item_at.ensures) ∙ ap (λ (z : Item). take i xs ++ z ∷ []) (get_or_from_slice_get xs i x x c.item_at.ensures) in
+    c.in_default.ensures.items ∙ ap (λ (ys : List ℕ). ys ++ x.origin ∷ []) c.loop-position.invariant ∙ append_assoc old places (x.origin ∷ [])
+    ∙ ap (λ (ys : List ℕ). old ++ ys) (sym (ap (map (λ (z : Item). z.origin)) more ∙ map-append (λ (z : Item). z.origin) (take i xs) (x ∷ [])))
