@@ -14,7 +14,7 @@ use Rattle.job_plan.specs.PlannedAnswers.{all_put_at, array_at, array_in, first_
 use Rattle.job_plan.specs.declared.plan.JobPlan.{JobPlan}
 use Rattle.job_plan.specs.Building.{AreRoutes, IsRoute}
 use Rattle.job_plan.specs.Parts.{plan_names, plans_in}
-use Rattle.job_plan.specs.Plans.{AbstractPlan, all_placed, legs_answer, placed, windowed}
+use Rattle.job_plan.specs.Plans.{AbstractPlan, all_placed, legs_answer, placed}
 use Rattle.job_meaning.specs.Walks.{fallback_of, instead_of_fault, source_walk}
 
 abbrev names_in : List NamedAnswer → List (List ℕ)
@@ -163,7 +163,7 @@ one_answer before plan job h =
     let first = ap (first_unusable_at (answers_in before)) h.named ∙ first_placed before names in
     let env = ap (numbers_at (answers_in before)) h.named ∙ numbers_placed before names in
     let sources = (λ i. all_put_at (answers_in before) (h.named i) (h.sources i)) ∙ sources_placed before names job.sources within in
-    (λ i. unless_unusable (first i) (instead_of_fault (h.fallback i) (legs_answer plan.legs (env i) (windowed plan.from plan.to (source_walk (sources i))))))
+    (λ i. unless_unusable (first i) (instead_of_fault (h.fallback i) (legs_answer plan.legs (env i) (source_walk (sources i)))))
     ∙ ap (λ (a : Answer). unless_unusable (first_unusable before names) (instead_of_fault (fallback_of job) a)) (h.answers (numbers_named before names) (all_put_in before job.sources))
 
 each_answer : (before : List NamedAnswer) (plans : List AbstractPlan) (jobs : List AbstractJob) → AreRoutes (names_in before) plans jobs → planned_from (answers_in before) plans ≡ answers_after before jobs

@@ -1,5 +1,5 @@
 -- Condition: the route of a job, built stage by stage.
-use Rattle.std.specs.Prelude.{◌≡◌, ℕ, suc, Bool, true, false, ◌&&◌, ◌+◌, List, [], ◌∷◌, ◌++◌, length, Option, ⊤}
+use Rattle.std.specs.Prelude.{◌≡◌, ◌≤◌, ℕ, suc, Bool, true, false, ◌&&◌, ◌+◌, List, [], ◌∷◌, ◌++◌, length, ⊤}
 use Rattle.lambda_values.specs.Earlier.{Numbers}
 use Rattle.trace.specs.declared.item.Fault.{Fault}
 use Rattle.trace.specs.declared.item.End.TheVariants as end
@@ -11,7 +11,7 @@ use Rattle.job_meaning.specs.Names.{names_in_job}
 use Rattle.job_meaning.specs.Walks.{after_stages, answer_of, fallback_of, source_walk}
 use Rattle.job_plan.specs.declared.building.Begun.{Begun}
 use Rattle.job_plan.specs.Parts.{legs_in, links_in}
-use Rattle.job_plan.specs.Plans.{AbstractEnd, AbstractLeg, AbstractLink, AbstractPlan, all_placed, legs_answer, linked, scanned, windowed}
+use Rattle.job_plan.specs.Plans.{AbstractEnd, AbstractLeg, AbstractPlan, all_placed, legs_answer, linked, scanned, windowed}
 
 -- whether stages are all maps; if asked for, maps that can't have a fault
 abbrev pub stage_keeps : Bool → AbstractStage → Bool
@@ -38,30 +38,27 @@ all_calm (g ∷ gs) = is_calm g && all_calm gs
 abbrev pub IsClean : Trace → Type 0
 IsClean t = (f : Fault) → t.ending ≡ end.Fault f → t.items ≡ []
 
--- a route as far as it is built: the positions of the sources, the legs up to prefixes, the slices after them, and the
--- stages after these
-pub record AbstractBegun : Type 0 where
-  pub from : ℕ
-  pub to : Option ℕ
-  pub scans : List AbstractLeg
-  pub links : List AbstractLink
-  pub first : ℕ
-  pub stages : List AbstractStage
+-- the number of the next stage of a route that is built
+abbrev pub number_of : Begun → ℕ
+number_of b = b.first_stage + length b.stages.items
 
-abbrev pub begun_in : Begun → AbstractBegun
-begun_in b = record { from = b.window.from; to = b.window.to; scans = legs_in b.scans.items; links = links_in b.links.items; first = b.first_stage; stages = stages_of b.stages.items }
+-- what a walk over sources is after its legs, and after its slices
+abbrev pub walk_over : Begun → Numbers → List AbstractPlainSource → Trace
+walk_over b env ss = linked (links_in b.links.items) env (windowed b.window.from b.window.to (scanned (legs_in b.scans.items) env (source_walk ss)))
 
--- the number of the next stage
-abbrev pub number_of : AbstractBegun → ℕ
-number_of b = b.first + length b.stages
+-- what a walk over sources is after all its stages
+abbrev pub begun_walk : Begun → Numbers → List AbstractPlainSource → Trace
+begun_walk b env ss = pipe b.first_stage (stages_of b.stages.items) env (walk_over b env ss)
 
--- what the walk over sources is after these stages
-abbrev pub begun_walk : AbstractBegun → Numbers → List AbstractPlainSource → Trace
-begun_walk b env ss = pipe b.first b.stages env (linked b.links env (scanned b.scans env (windowed b.from b.to (source_walk ss))))
+-- the leg since its last prefix, with this end
+abbrev pub leg_of : Begun → AbstractEnd → AbstractLeg
+leg_of b e = record { from = b.window.from; to = b.window.to; links = links_in b.links.items; last = record { first = b.first_stage; stages = stages_of b.stages.items; ending = e } }
 
--- the leg since the last prefix, with this end
-abbrev pub leg_of : AbstractBegun → AbstractEnd → AbstractLeg
-leg_of b e = record { links = b.links; last = record { first = b.first; stages = b.stages; ending = e } }
+-- a route with one stage more, which has the next number and does this to a walk
+pub record HasNext (b : Begun) (does : ℕ → Numbers → Trace → Trace) (new : Begun) : Type 0 where
+  pub walk : (env : Numbers) (ss : List AbstractPlainSource) → begun_walk new env ss ≡ does (number_of b) env (begun_walk b env ss)
+  pub number : number_of new ≡ suc (number_of b)
+  pub few : length new.links.items ≤ suc (length b.links.items)
 
 -- a route of a job, after jobs with these names: it has the job's answer, whatever the arrays and the numbers of earlier
 -- jobs are
@@ -70,7 +67,7 @@ pub record IsRoute (before : List (List ℕ)) (plan : AbstractPlan) (job : Abstr
   pub named : plan.named ≡ all_placed before (names_in_job job)
   pub sources : plan.sources ≡ job.sources
   pub fallback : plan.fallback ≡ fallback_of job
-  pub answers : (env : Numbers) (ss : List AbstractPlainSource) → legs_answer plan.legs env (windowed plan.from plan.to (source_walk ss))
+  pub answers : (env : Numbers) (ss : List AbstractPlainSource) → legs_answer plan.legs env (source_walk ss)
       ≡ answer_of (suc (length job.stages)) env job.terminal (after_stages 1 job.stages env (source_walk ss))
 
 -- routes of jobs, in file order

@@ -1,5 +1,6 @@
 -- Condition: the files of this crate's definitions; the first line of each says what it is.
 pub mod Arrays
+pub mod Bases
 pub mod Building
 pub mod EndRows
 pub mod FoldFaults

@@ -32,10 +32,9 @@ use Rattle.job_plan.specs.declared.leg.Leg.{Leg}
 use Rattle.job_plan.specs.declared.leg.Link.{Link}
 use Rattle.job_plan.specs.declared.plan.JobPlan.{JobPlan}
 use Rattle.job_plan.specs.declared.source.Source.{Source}
-use Rattle.job_plan.specs.declared.source.Source.TheVariants as source
+use Rattle.job_plan.specs.Bases.{base_walk}
 use Rattle.prefix_walks.specs.Batches.{counted_as}
 use Rattle.job_plan.specs.Plans.{AbstractEnd, folding, finding, collecting, exactly, scanning, AbstractSegment, AbstractLink, AbstractLeg, AbstractPlan, walk_of, last_stage, windowed}
-use Rattle.job_meaning.specs.Walks.{source_walk}
 
 -- the end of a segment of the program
 abbrev pub end_in : SegmentEnd → AbstractEnd
@@ -59,7 +58,7 @@ links_in (l ∷ ls) = link_in l ∷ links_in ls
 
 -- a leg of the program, and several
 abbrev pub leg_in : Leg → AbstractLeg
-leg_in l = record { links = links_in l.links.items; last = segment_in l.last }
+leg_in l = record { from = l.window.from; to = l.window.to; links = links_in l.links.items; last = segment_in l.last }
 
 abbrev pub legs_in : List Leg → List AbstractLeg
 legs_in [] = []
@@ -76,8 +75,6 @@ plan_in j = record {
   name = j.name;
   named = j.named.items;
   sources = sources_of j.sources.items;
-  from = j.window.from;
-  to = j.window.to;
   legs = record { scans = legs_in j.scans.items; last = leg_in j.last };
   fallback = option_map fallback_in j.fallback;
 }
@@ -93,8 +90,7 @@ plan_names (j ∷ js) = j.name ∷ plan_names js
 
 -- the walk over a source of the program
 abbrev pub walk_in : Source → Trace
-walk_in (source.Plain p) = windowed p.window.from p.window.to (source_walk (sources_of p.sources.now))
-walk_in (source.Given w) = w.now
+walk_in s = windowed s.window.from s.window.to (base_walk s.base)
 
 -- a fold with this operator and start has the fold of this walk, and its end
 pub record IsFold (f : Op) (a : Option ℤ) (counts : Bool) (p : FoldPart) (t : Trace) : Type 0 where

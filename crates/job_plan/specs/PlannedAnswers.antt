@@ -57,7 +57,7 @@ all_put_at before named (s ∷ ss) = put_at before named s ∷ all_put_at before
 
 -- a job; the arrays that it names become values
 abbrev pub put_into : List Answer → AbstractPlan → AbstractPlan
-put_into before plan = record { name = plan.name; named = plan.named; sources = all_put_at before plan.named plan.sources; from = plan.from; to = plan.to; legs = plan.legs; fallback = plan.fallback }
+put_into before plan = record { name = plan.name; named = plan.named; sources = all_put_at before plan.named plan.sources; legs = plan.legs; fallback = plan.fallback }
 
 -- the answer of a job after the answers of the jobs before it
 abbrev pub planned_after : List Answer → AbstractPlan → Answer

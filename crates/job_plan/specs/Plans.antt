@@ -44,8 +44,11 @@ pub record AbstractLink : Type 0 where
   pub stages : List AbstractStage
   pub slice : AbstractSlice
 
--- slices that a walk goes through one after the other, and the segment after them
+-- the positions of a walk that are gone over, from one on and up to another; slices that they go through one after the
+-- other; and the segment after them
 pub record AbstractLeg : Type 0 where
+  pub from : ℕ
+  pub to : Option ℕ
   pub links : List AbstractLink
   pub last : AbstractSegment
 
@@ -55,14 +58,11 @@ pub record AbstractLegs : Type 0 where
   pub scans : List AbstractLeg
   pub last : AbstractLeg
 
--- the route of a job: the positions of its sources that the first leg goes over, from one on and up to another; its legs;
--- the earlier jobs that it names; and what it gives after a fault, if anything
+-- the route of a job: its sources; its legs; the earlier jobs that it names; and what it gives after a fault, if anything
 pub record AbstractPlan : Type 0 where
   pub name : List ℕ
   pub named : List Named
   pub sources : List AbstractPlainSource
-  pub from : ℕ
-  pub to : Option ℕ
   pub legs : AbstractLegs
   pub fallback : Option Answer
 
@@ -121,9 +121,17 @@ abbrev pub linked : List AbstractLink → Numbers → Trace → Trace
 linked [] env t = t
 linked (l ∷ ls) env t = linked ls env (link_walk l env t)
 
+-- the items of a walk at these positions, with its end
+abbrev pub windowed : ℕ → Option ℕ → Trace → Trace
+windowed from to t = trace (elements from to t.items) t.ending
+
+-- what a leg goes over of a walk
+abbrev pub leg_walk : AbstractLeg → Trace → Trace
+leg_walk l t = windowed l.from l.to t
+
 -- what a leg makes of a walk
 abbrev pub leg_outcome : AbstractLeg → Numbers → Trace → Outcome
-leg_outcome l env t = outcome_of l.last env (linked l.links env t)
+leg_outcome l env t = outcome_of l.last env (linked l.links env (leg_walk l t))
 
 -- the walk that a segment gives; one that gives an answer gives none
 abbrev pub given_walk : Outcome → Trace
@@ -153,14 +161,6 @@ leg_at k legs = leg_among k legs.scans legs.last
 abbrev pub legs_answer : AbstractLegs → Numbers → Trace → Answer
 legs_answer legs env t = given_answer (leg_outcome legs.last env (scanned legs.scans env t))
 
--- the items of a walk at these positions, with its end
-abbrev pub windowed : ℕ → Option ℕ → Trace → Trace
-windowed from to t = trace (elements from to t.items) t.ending
-
--- what the first leg of a job goes over
-abbrev pub selected_source : AbstractPlan → Trace
-selected_source plan = windowed plan.from plan.to (source_walk plan.sources)
-
 -- the answer of a job by its route
 abbrev pub planned_answer : Numbers → AbstractPlan → Answer
-planned_answer env plan = instead_of_fault plan.fallback (legs_answer plan.legs env (selected_source plan))
+planned_answer env plan = instead_of_fault plan.fallback (legs_answer plan.legs env (source_walk plan.sources))

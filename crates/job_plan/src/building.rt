@@ -1,7 +1,7 @@
 //! The route of a job, built stage by stage. A stage goes to the stages that look at one item at a time, to the
-//! positions of the job's sources, or to the slices that a walk goes through; a prefix ends a leg.
+//! positions that its leg goes over, or to the slices that a walk goes through; a prefix ends a leg.
 
-ghost use Rattle.std.specs.Prelude.{◌≡◌, ◌≤◌, ◌+◌, ℕ, suc, List, [], length, IfOk, IfSome, OnOk};
+ghost use Rattle.std.specs.Prelude.{◌≡◌, ◌≤◌, ℕ, suc, List, [], None, length, IfOk, IfSome, OnOk};
 ghost use Rattle.lambda_values.specs.Earlier.{Numbers};
 ghost use Rattle.trace.specs.Stages.{pipe, stage_of, stages_of, through};
 ghost use Rattle.trace.specs.Trace.{Trace};
@@ -10,7 +10,7 @@ ghost use Rattle.prefix_scan.specs.Prefixes.{prefixed};
 ghost use Rattle.slice_ops.specs.Slices.{slice_of, sliced};
 ghost use Rattle.job_language.specs.Jobs.{AbstractPlainSource, job_stage_of, job_stages_of, terminal_of};
 ghost use Rattle.job_meaning.specs.Walks.{after_stage, after_stages, answer_of, source_walk};
-ghost use Rattle.job_plan.specs.Building.{begun_in, begun_walk, leg_of, number_of};
+ghost use Rattle.job_plan.specs.Building.{HasNext, IsClean, begun_walk, leg_of, number_of};
 ghost use Rattle.job_plan.specs.Parts.{end_in, leg_in, legs_in};
 ghost use Rattle.job_plan.specs.Plans.{ended, legs_answer, windowed};
 
@@ -27,41 +27,31 @@ use std::alloc::Global;
 use std::mem;
 use trace::{NoMemory, Stage};
 
-/// A route as far as it is built.
+/// A route as far as it is built: the legs up to prefixes, and the leg that goes on.
 #[derive(Drop)]
 pub(crate) struct Begun {
     alloc: Global,
-    /// The positions of the sources that are walked.
-    pub(crate) window: Window,
-    /// The legs up to prefixes.
     pub(crate) scans: Vec<Leg>,
-    /// The slices since the last prefix that don't select positions.
+    /// The positions that the leg goes over.
+    pub(crate) window: Window,
+    /// The slices of the leg that don't select positions.
     pub(crate) links: Vec<Link>,
     /// The number of the first of the stages after them.
     pub(crate) first_stage: u32,
     pub(crate) stages: Vec<Stage>,
 }
 
-/// What a job walks: positions of its sources, by legs up to prefixes, and a last one.
-#[derive(Drop)]
-pub(crate) struct Way {
-    pub(crate) window: Window,
-    pub(crate) scans: Vec<Leg>,
-    pub(crate) last: Leg,
-}
-
 impl Begun {
     /// No stages yet.
     fn none(alloc: Global) -> Begun
-        ensures walk { (env : Numbers) (ss : List AbstractPlainSource)
-            → begun_walk (begun_in result) env ss ≡ source_walk ss }
-        ensures number { number_of (begun_in result) ≡ 1 }
+        ensures walk { (env : Numbers) (ss : List AbstractPlainSource) → begun_walk result env ss ≡ source_walk ss }
+        ensures number { number_of result ≡ 1 }
         ensures few { length result.links.items ≡ 0 }
     {
         Begun {
             alloc,
-            window: Window::all(),
             scans: Vec::new(alloc),
+            window: Window::all(),
             links: Vec::new(alloc),
             first_stage: 1,
             stages: Vec::new(alloc),
@@ -70,8 +60,8 @@ impl Begun {
 
     /// The number of the stage after the next one.
     fn after_next(&self) -> u32
-        requires few { self.now.first_stage + length self.now.stages.items ≤ 32 }
-        ensures { result ≡ self.now.first_stage + length self.now.stages.items + 1 }
+        requires few { number_of self.now ≤ 32 }
+        ensures { result ≡ suc (number_of self.now) }
     {
         self.first_stage + self.stages.len() as u32 + 1
     }
@@ -87,40 +77,38 @@ impl Begun {
         mem::replace(&mut self.stages, Vec::new(self.alloc))
     }
 
-    /// The positions that are left if a slice selects some of those that are walked: only maps come before it. `skip`
-    /// drops what maps make of items, so none of these may have a fault. `limit(0)` takes the fault of a walk away.
+    /// The positions that are left if a slice selects some of those that the leg goes over: only maps come before it.
+    /// `skip` drops what maps make of items, so none of these may have a fault. `limit(0)` takes the fault of a walk
+    /// away.
     fn selected(&self, slice: &Slice) -> Option<Window>
-        ensures unlinked { IfSome result (λ _. (self.now.scans.items ≡ []) × (self.now.links.items ≡ [])) }
-        ensures window { IfSome result (λ w. (m : ℕ) (env : Numbers) (ss : List AbstractPlainSource)
-            → pipe self.now.first_stage (stages_of self.now.stages.items) env (windowed w.from w.to (source_walk ss))
+        ensures unlinked { IfSome result (λ _. self.now.links.items ≡ []) }
+        ensures window { IfSome result (λ w. (m : ℕ) (env : Numbers) (t : Trace) → IsClean t
+            → pipe self.now.first_stage (stages_of self.now.stages.items) env (windowed w.from w.to t)
             ≡ sliced (slice_of slice.now) m env (pipe self.now.first_stage (stages_of self.now.stages.items) env
-            (windowed self.now.window.from self.now.window.to (source_walk ss)))) }
+            (windowed self.now.window.from self.now.window.to t))) }
     {
-        if !self.scans.is_empty() || !self.links.is_empty() {
+        if !self.links.is_empty() {
             return None;
         }
         match slice {
             Slice::Limit(count) if *count > 0 && all_keep(&self.stages, false) => {
-                Some(self.window.within(0, Some(*count)))
+                self.window.limited(*count)
             }
-            Slice::Skip(count) if all_keep(&self.stages, true) => {
-                Some(self.window.within(*count, None))
-            }
+            Slice::Skip(count) if all_keep(&self.stages, true) => self.window.skipped(*count),
             _ => None,
         }
     }
 
-    /// Walks these positions. The number of the slice that selects them goes to a map that changes nothing, if stages
-    /// come before it.
+    /// Goes over these positions. The number of the slice that selects them goes to a map that changes nothing, if
+    /// stages come before it.
     fn select(&mut self, window: Window) -> Result<(), NoMemory>
-        requires few { self.old.first_stage + length self.old.stages.items ≤ 32 }
+        requires few { number_of self.old ≤ 32 }
         ensures kept { OnOk result ((self.new.scans ≡ self.old.scans) × (self.new.links ≡ self.old.links)) }
         ensures window { OnOk result (self.new.window ≡ window) }
         ensures walk { OnOk result ((env : Numbers) (t : Trace)
             → pipe self.new.first_stage (stages_of self.new.stages.items) env t
             ≡ pipe self.old.first_stage (stages_of self.old.stages.items) env t) }
-        ensures number { OnOk result (self.new.first_stage + length self.new.stages.items
-            ≡ self.old.first_stage + length self.old.stages.items + 1) }
+        ensures number { OnOk result (number_of self.new ≡ suc (number_of self.old)) }
     {
         self.window = window;
         if self.stages.is_empty() {
@@ -133,13 +121,8 @@ impl Begun {
 
     /// Adds a slice that a walk goes through.
     fn link(&mut self, slice: Slice) -> Result<(), NoMemory>
-        requires few { self.old.first_stage + length self.old.stages.items ≤ 32 }
-        ensures walk { OnOk result ((env : Numbers) (ss : List AbstractPlainSource)
-            → begun_walk (begun_in self.new) env ss
-            ≡ sliced (slice_of slice) (number_of (begun_in self.old)) env (begun_walk (begun_in self.old) env ss)) }
-        ensures number { OnOk result (self.new.first_stage + length self.new.stages.items
-            ≡ self.old.first_stage + length self.old.stages.items + 1) }
-        ensures few { OnOk result (length self.new.links.items ≡ length self.old.links.items + 1) }
+        requires few { number_of self.old ≤ 32 }
+        ensures { OnOk result (HasNext self.old (sliced (slice_of slice)) self.new) }
     {
         let first_stage = self.first_stage;
         let next = self.after_next();
@@ -154,10 +137,8 @@ impl Begun {
 
     /// Forgets all stages, but not how many there were.
     fn forget(&mut self)
-        requires few { self.old.first_stage + length self.old.stages.items ≤ 32 }
-        ensures number { number_of (begun_in self.new) ≡ number_of (begun_in self.old) }
-        ensures stages { self.new.first_stage + length self.new.stages.items
-            ≡ self.old.first_stage + length self.old.stages.items }
+        requires few { number_of self.old ≤ 32 }
+        ensures number { number_of self.new ≡ number_of self.old }
         ensures few { length self.new.links.items ≡ 0 }
     {
         self.first_stage += self.stages.len() as u32;
@@ -168,13 +149,8 @@ impl Begun {
 
     /// Adds a slice. Nothing is walked before `limit(0)`.
     fn slice(&mut self, slice: Slice) -> Result<(), NoMemory>
-        requires few { self.old.first_stage + length self.old.stages.items ≤ 32 }
-        ensures walk { OnOk result ((env : Numbers) (ss : List AbstractPlainSource)
-            → begun_walk (begun_in self.new) env ss
-            ≡ sliced (slice_of slice) (number_of (begun_in self.old)) env (begun_walk (begun_in self.old) env ss)) }
-        ensures number { OnOk result (self.new.first_stage + length self.new.stages.items
-            ≡ self.old.first_stage + length self.old.stages.items + 1) }
-        ensures few { OnOk result (length self.new.links.items ≤ length self.old.links.items + 1) }
+        requires few { number_of self.old ≤ 32 }
+        ensures { OnOk result (HasNext self.old (sliced (slice_of slice)) self.new) }
     {
         if let Some(window) = self.selected(&slice) {
             return self.select(window);
@@ -185,15 +161,17 @@ impl Begun {
         self.link(slice)
     }
 
-    /// The leg of the slices and the stages since the last prefix, with this end; the next one begins with the stage of
-    /// this number.
+    /// The leg since the last prefix, with this end; the next one goes over all positions, and begins with the stage
+    /// of this number.
     fn take_leg(&mut self, end: SegmentEnd, next: u32) -> Leg
-        requires number { self.old.first_stage + length self.old.stages.items ≤ 33 }
+        requires number { number_of self.old ≤ 33 }
         requires few { length self.old.links.items ≤ 32 }
-        ensures leg { leg_in result ≡ leg_of (begun_in self.old) (end_in end) }
-        ensures none { (self.new.links.items ≡ []) × (self.new.stages.items ≡ []) × (self.new.first_stage ≡ next) }
-        ensures kept { (self.new.scans ≡ self.old.scans) × (self.new.window ≡ self.old.window) }
+        ensures leg { leg_in result ≡ leg_of self.old (end_in end) }
+        ensures none { (self.new.links.items ≡ []) × (self.new.stages.items ≡ []) × (self.new.first_stage ≡ next)
+            × (self.new.window.from ≡ 0) × (self.new.window.to ≡ None) }
+        ensures kept { self.new.scans ≡ self.old.scans }
     {
+        let window = mem::replace(&mut self.window, Window::all());
         let links = mem::replace(&mut self.links, Vec::new(self.alloc));
         let first_stage = self.first_stage;
         let stages = self.take_stages(next);
@@ -202,20 +180,19 @@ impl Begun {
             stages,
             end,
         };
-        Leg { links, last }
+        Leg {
+            window,
+            links,
+            last,
+        }
     }
 
     /// Adds a prefix.
     fn scan(&mut self, prefix: Prefix) -> Result<(), NoMemory>
-        requires few { self.old.first_stage + length self.old.stages.items ≤ 32 }
+        requires few { number_of self.old ≤ 32 }
         requires links { length self.old.links.items ≤ 32 }
-        ensures walk { OnOk result ((env : Numbers) (ss : List AbstractPlainSource)
-            → begun_walk (begun_in self.new) env ss
-            ≡ prefixed (value_of prefix.op) prefix.range (number_of (begun_in self.old))
-            (begun_walk (begun_in self.old) env ss)) }
-        ensures number { OnOk result (self.new.first_stage + length self.new.stages.items
-            ≡ self.old.first_stage + length self.old.stages.items + 1) }
-        ensures few { OnOk result (length self.new.links.items ≡ 0) }
+        ensures { OnOk result
+            (HasNext self.old (λ n env t. prefixed (value_of prefix.op) prefix.range n t) self.new) }
     {
         let next = self.after_next();
         let leg = self.take_leg(SegmentEnd::Prefix(prefix), next);
@@ -225,12 +202,7 @@ impl Begun {
 
     /// Adds a stage that looks at one item at a time.
     fn item(&mut self, stage: Stage) -> Result<(), NoMemory>
-        ensures walk { OnOk result ((env : Numbers) (ss : List AbstractPlainSource)
-            → begun_walk (begun_in self.new) env ss
-            ≡ through (number_of (begun_in self.old)) (stage_of stage) env (begun_walk (begun_in self.old) env ss)) }
-        ensures number { OnOk result (self.new.first_stage + length self.new.stages.items
-            ≡ self.old.first_stage + length self.old.stages.items + 1) }
-        ensures few { OnOk result (self.new.links ≡ self.old.links) }
+        ensures { OnOk result (HasNext self.old (λ n env t. through n (stage_of stage) env t) self.new) }
     {
         self.stages.push(stage)?;
         Ok(())
@@ -238,15 +210,10 @@ impl Begun {
 
     /// Adds a stage.
     fn add(&mut self, stage: JobStage) -> Result<(), NoMemory>
-        requires few { self.old.first_stage + length self.old.stages.items ≤ 32 }
+        requires few { number_of self.old ≤ 32 }
         requires links { length self.old.links.items ≤ 32 }
-        ensures walk { OnOk result ((env : Numbers) (ss : List AbstractPlainSource)
-            → begun_walk (begun_in self.new) env ss
-            ≡ after_stage (number_of (begun_in self.old)) (job_stage_of stage) env
-            (begun_walk (begun_in self.old) env ss)) }
-        ensures number { OnOk result (self.new.first_stage + length self.new.stages.items
-            ≡ self.old.first_stage + length self.old.stages.items + 1) }
-        ensures few { OnOk result (length self.new.links.items ≤ length self.old.links.items + 1) }
+        ensures { OnOk result
+            (HasNext self.old (λ n env t. after_stage n (job_stage_of stage) env t) self.new) }
     {
         match stage {
             JobStage::Item(stage) => self.item(stage),
@@ -258,32 +225,29 @@ impl Begun {
         }
     }
 
-    /// The end that is walked for another one: `findFirst` for a fold that keeps the first value, if no fault can come.
+    /// The end that is walked for another one: `findFirst` for a fold that keeps the first value, if no fault can come
+    /// after an item.
     fn end_for(&self, end: SegmentEnd) -> SegmentEnd
-        ensures { (env : Numbers) (ss : List AbstractPlainSource)
-            → ended (end_in result) (number_of (begun_in self.now)) env (begun_walk (begun_in self.now) env ss)
-            ≡ ended (end_in end) (number_of (begun_in self.now)) env (begun_walk (begun_in self.now) env ss) }
+        ensures { (n : ℕ) (env : Numbers) (ss : List AbstractPlainSource)
+            → ended (end_in result) n env (begun_walk self.now env ss)
+            ≡ ended (end_in end) n env (begun_walk self.now env ss) }
     {
-        if !self.scans.is_empty() || !self.links.is_empty() {
-            return end;
-        }
-        if keeps_first(&end) && all_calm(&self.stages) {
+        if self.links.is_empty() && keeps_first(&end) && all_calm(&self.stages) {
             return SegmentEnd::Find(FindTerminal::First);
         }
         end
     }
 }
 
-/// What a job of these stages and this terminal walks.
-pub(crate) fn way_of(
+/// The legs of a job of these stages and this terminal: those up to prefixes, and the last one.
+pub(crate) fn legs_of(
     alloc: Global,
     stages: Vec<JobStage>,
     terminal: Terminal,
-) -> Result<Way, NoMemory>
+) -> Result<(Vec<Leg>, Leg), NoMemory>
     requires few { length stages.items ≤ 32 }
-    ensures { IfOk result (λ way. (env : Numbers) (ss : List AbstractPlainSource)
-        → legs_answer (record { scans = legs_in way.scans.items; last = leg_in way.last }) env
-        (windowed way.window.from way.window.to (source_walk ss))
+    ensures { IfOk result (λ made. (env : Numbers) (ss : List AbstractPlainSource)
+        → legs_answer (record { scans = legs_in made.0.items; last = leg_in made.1 }) env (source_walk ss)
         ≡ answer_of (suc (length stages.items)) env (terminal_of terminal)
         (after_stages 1 (job_stages_of stages.items) env (source_walk ss))) }
 {
@@ -294,9 +258,5 @@ pub(crate) fn way_of(
     }
     let walked = begun.end_for(end);
     let last = begun.take_leg(walked, 0);
-    Ok(Way {
-        window: begun.window,
-        scans: begun.scans,
-        last,
-    })
+    Ok((begun.scans, last))
 }

@@ -15,7 +15,7 @@ use crate::faultless::all_keep;
 use crate::fold_part::FoldPart;
 use crate::part::Part;
 use crate::segment::Segment;
-use crate::source::{Source, piece_end};
+use crate::source::Source;
 use prefix_walks::{Window, within};
 use reduce_ops::{Op, Partial};
 use trace::{End, Item, MAX_SOURCE_SIZE};
@@ -46,7 +46,7 @@ pub(crate) fn counted_part<'p>(
         return None;
     }
     let (_, count) = within(window.from, window.to, size);
-    let part = FoldPart::of_count(*fold, count, piece_end(source, window.to));
+    let part = FoldPart::of_count(*fold, count, source.piece_end(window.to));
     Some(Part::Fold(part))
 }
 

@@ -15,7 +15,7 @@ use crate::lent_part::lent_part;
 use crate::part::Part;
 use crate::part_sink::{EndBrand, PartSink};
 use crate::room::with_room;
-use crate::source::{Walked, piece_end};
+use crate::source::Walked;
 use crate::stretches::feed_until;
 use batch_eval::Registers;
 use early_stop::Stop;
@@ -111,7 +111,7 @@ fn leaf_until_as<'p, K: EndBrand, W: Stop>(
     };
     let mut sink = taken;
     match fed {
-        Fed::More => sink.part.end_with(piece_end(&walked.source, window.to)),
+        Fed::More => sink.part.end_with(walked.source.piece_end(window.to)),
         Fed::Fault(fault) => sink.part.end_with(End::Fault(fault)),
         Fed::Enough => {}
     }

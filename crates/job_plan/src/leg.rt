@@ -5,6 +5,7 @@ ghost use Rattle.std.specs.Prelude.{◌≡◌, ◌≤◌, ◌+◌, ◌<◌, ◌^
 use crate::segment::Segment;
 use batch_eval::Pipeline;
 use lambda_values::Env;
+use prefix_walks::Window;
 use slice_ops::Slice;
 use trace::Stage;
 
@@ -21,6 +22,8 @@ pub struct Link {
 /// What a walk goes through at once: slices one after another, and the segment after them.
 #[derive(Drop)]
 pub struct Leg {
+    /// The positions that it goes over.
+    pub window: Window,
     pub links: Vec<Link>,
     pub last: Segment,
     ghost few: { length links.items ≤ 32 },

@@ -11,16 +11,15 @@ ghost use Rattle.trace.specs.declared.item.End.TheVariants as end;
 ghost use Rattle.job_language.specs.Jobs.{source_of, sources_of};
 ghost use Rattle.prefix_walks.specs.CheapStages.{left_by};
 ghost use Rattle.job_plan.specs.Parts.{StandsFor, end_in, end_keeps_items, segment_in, walk_in};
-ghost use Rattle.job_plan.specs.Plans.{windowed};
 ghost use Rattle.prefix_walks.specs.Pieces.{elements, piece_of};
 ghost use Rattle.prefix_walks.specs.Scans.{scan_append};
-ghost use Rattle.job_meaning.specs.Walks.{plain_values, source_walk, values_of};
+ghost use Rattle.job_meaning.specs.Walks.{plain_values, values_of};
 
 use crate::ends::SegmentEnd;
 use crate::part::Part;
 use crate::segment::Segment;
-use crate::source::{ClosedRange, Source, piece_end, range_piece};
-use crate::sources::{PlainSources, plain_size};
+use crate::source::{Base, ClosedRange, Source, range_piece};
+use crate::sources::plain_size;
 use batch_eval::Registers;
 use job_language::PlainSource;
 use prefix_walks::{CheapStages, LentItems, Portion, PrefixPart, Window, within};
@@ -43,7 +42,7 @@ pub(crate) fn lent_part<'p>(
     let SegmentEnd::Prefix(prefix) = &segment.end else {
         return Ok(None);
     };
-    let Source::Plain(plain) = source else {
+    let Base::Plain(plain) = source.base else {
         return Ok(None);
     };
     let Some(cheap) = CheapStages::of(alloc, &segment.stages) else {
@@ -51,30 +50,11 @@ pub(crate) fn lent_part<'p>(
     };
     let stage = segment.first_stage + segment.stages.len() as u32;
     let mut part = PrefixPart::none(alloc, *prefix, stage);
-    push_plain(&mut part, cheap, plain, window, registers)?;
-    part.end_with(piece_end(source, window.to));
+    let Window { from, to } = window;
+    let selected = source.window.within(from, to);
+    push_sources(&mut part, cheap, plain.sources, 0, selected, registers)?;
+    part.end_with(source.piece_end(to));
     Ok(Some(Part::Prefix(part)))
-}
-
-/// Adds what cheap stages leave of the items at these positions of sources.
-fn push_plain<'a>(
-    part: &mut PrefixPart<'a>,
-    cheap: CheapStages<'a>,
-    plain: &PlainSources<'a, '_>,
-    window: Window,
-    registers: &mut Registers,
-) -> Result<(), NoMemory>
-    requires open { part.old.walk.ending ≡ end.Done }
-    ensures { OnOk result (part.new ≡ scan_append part.old
-        (trace (left_by (stages_of cheap.entry.stages.now) (elements window.from window.to
-        (windowed plain.now.window.from plain.now.window.to (source_walk (sources_of plain.now.sources.now))).items))
-        end.Done)) }
-{
-    if plain.is_too_long {
-        return Ok(());
-    }
-    let selected = plain.window.within(window.from, window.to);
-    push_sources(part, cheap, plain.sources, 0, selected, registers)
 }
 
 /// Adds what cheap stages leave of the items at these positions of sources. The first item has the place `origin`.

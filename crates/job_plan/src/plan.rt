@@ -8,14 +8,13 @@ ghost use Rattle.job_plan.specs.Parts.{leg_in, plan_in, plan_names, plans_in};
 ghost use Rattle.job_plan.specs.PlannedAnswers.{planned_meaning};
 ghost use Rattle.job_plan.specs.Plans.{leg_at};
 
-use crate::building::{Way, way_of};
+use crate::building::legs_of;
 use crate::fallback::{Fallback, fallback_of};
 use crate::leg::Leg;
 use crate::lent_arrays::lent_arrays;
 use crate::likely::likely_size;
 use crate::names::named_in;
 use job_language::{Job, PlainSource};
-use prefix_walks::Window;
 use std::alloc::Global;
 use stream_tokens::Bytes;
 use trace::NoMemory;
@@ -28,8 +27,8 @@ pub struct Named {
     pub job: usize,
 }
 
-/// The route of a job. Its first leg goes over positions of the job's sources, each further one over what the prefix at
-/// the end of the leg before it gives, and the last one gives the answer.
+/// The route of a job. Its first leg goes over positions of the job's sources, each further one over positions of what
+/// the prefix at the end of the leg before it gives, and the last one gives the answer.
 #[derive(Drop)]
 pub struct JobPlan<'c> {
     pub name: Bytes,
@@ -40,8 +39,6 @@ pub struct JobPlan<'c> {
     /// takes this number of that job. No answer depends on it.
     pub likely_size: u64,
     pub sources: Vec<PlainSource<'c>>,
-    /// The positions of the sources that the first leg goes over.
-    pub window: Window,
     /// The legs that end in prefixes.
     pub scans: Vec<Leg>,
     pub last: Leg,
@@ -61,10 +58,10 @@ pub struct Plan<'c> {
 impl<'c> Plan<'c> {
     /// The routes of jobs, with the earlier jobs that they name. A name that no earlier job has is left out.
     ///
-    /// `limit` goes before maps, and so does `skip` if these can't have a fault. So they select positions of the job's
-    /// sources, and a run cuts what they leave. A `reduce` that keeps the first value becomes `findFirst`, which ends
-    /// there, if only maps and filters that can't have a fault come before it. Before `limit(0)` nothing is walked.
-    /// Stages keep their numbers.
+    /// `limit` goes before maps, and so does `skip` if these can't have a fault. So they select positions of what their
+    /// leg goes over, and a run cuts what they leave. A `reduce` that keeps the first value becomes `findFirst`, which
+    /// ends there, if its leg has no other slices, and only maps and filters that can't have a fault. Before `limit(0)`
+    /// nothing is walked. Stages keep their numbers.
     ///
     /// The jobs are moved; after a refused allocation they are dropped. Takes time and memory for each stage, and each
     /// name in a job is compared with the names of the jobs before.
@@ -97,18 +94,14 @@ impl<'c> JobPlan<'c> {
             on_fault,
         } = job;
         let fallback = fallback_of(&terminal, on_fault);
-        let Way {
-            window,
-            scans,
-            last,
-        } = way_of(alloc, stages, terminal)?;
-        let likely_size = likely_size(&sources, window, before);
+        let (scans, last) = legs_of(alloc, stages, terminal)?;
+        let first = scans.first().unwrap_or(&last);
+        let likely_size = likely_size(&sources, first.window, before);
         Ok(JobPlan {
             name,
             named,
             likely_size,
             sources,
-            window,
             scans,
             last,
             fallback,

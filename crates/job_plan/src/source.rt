@@ -9,19 +9,18 @@ ghost use Rattle.trace.specs.declared.item.Item.{Item as item};
 ghost use Rattle.trace.specs.declared.item.End.TheVariants as end;
 ghost use Rattle.batch_eval.specs.Pipelines.{piped};
 ghost use Rattle.job_language.specs.Jobs.{source_of, sources_of};
-ghost use Rattle.job_plan.specs.Parts.{plan_in, walk_in};
-ghost use Rattle.job_plan.specs.Plans.{selected_source, windowed};
+ghost use Rattle.job_plan.specs.Bases.{base_walk};
 ghost use Rattle.prefix_walks.specs.Pieces.{elements, piece_of};
 ghost use Rattle.prefix_walks.specs.Spans.{after};
 ghost use Rattle.job_meaning.specs.Walks.{plain_values, source_walk, values_of};
 
-use crate::plan::JobPlan;
-use crate::sources::{PlainSources, plain_size};
+use crate::leg::Leg;
+use crate::sources::{PlainSources, plain_size, total_size};
 use batch_eval::{BatchSink, Pipeline, Registers, feed_batches};
 use job_language::PlainSource;
 use lambda_values::{Env, FaultKind};
 use prefix_walks::{GivenWalk, Portion, Window, feed_given, feed_values, within};
-use trace::{End, Fault, Fed, Flow, NoMemory, PlacedValues, RangeItems};
+use trace::{End, Fault, Fed, Flow, MAX_SOURCE_SIZE, NoMemory, PlacedValues, RangeItems};
 
 /// The fault of sources of more than 2^62 values.
 const TOO_LONG: Fault = Fault {
@@ -30,13 +29,26 @@ const TOO_LONG: Fault = Fault {
     origin: None,
 };
 
-/// What a leg goes over. It borrows the values and copies none.
+/// A whole walk, by position. It borrows the values and copies none.
 #[derive(Clone, Copy)]
-pub enum Source<'g, 'a, 'c> {
-    /// Of the first leg: positions of the sources of the job.
+pub(crate) enum Base<'g, 'a, 'c> {
+    /// Of the sources of a job.
     Plain(PlainSources<'a, 'c>),
-    /// Of a later leg: what the leg before it gave.
+    /// Of sources of more than 2^62 values.
+    TooLong,
+    /// Of a leg: what it gave.
     Given(&'g GivenWalk<'a>),
+}
+
+/// What a leg goes over: positions of a walk.
+#[derive(Clone, Copy)]
+pub struct Source<'g, 'a, 'c> {
+    pub(crate) base: Base<'g, 'a, 'c>,
+    pub(crate) window: Window,
+    /// How many items the whole walk has.
+    size: u64,
+    ghost measured: { size ≡ length (base_walk base).items },
+    ghost few: { length (base_walk base).items < 2 ^ 64 },
 }
 
 /// What is walked, with the values of the job's names.
@@ -47,41 +59,78 @@ pub struct Walked<'g, 'a, 'c, 'e> {
 }
 
 impl<'g, 'a, 'c> Source<'g, 'a, 'c> {
-    /// The source of a job's first leg: positions of the job's sources. It takes no memory.
-    pub fn of_selected(job: &'a JobPlan<'c>) -> Source<'g, 'a, 'c>
-        ensures { walk_in result ≡ selected_source (plan_in job.now) }
+    ghost use Rattle.std.specs.Prelude.{◌-◌, min};
+    ghost use Rattle.job_plan.specs.Parts.{leg_in, walk_in};
+    ghost use Rattle.job_plan.specs.Plans.{leg_walk};
+
+    /// All positions of sources. It takes no memory.
+    pub fn of_sources(sources: &'a [PlainSource<'c>]) -> Source<'g, 'a, 'c>
+        ensures { walk_in result ≡ source_walk (sources_of sources.now) }
     {
-        Source::of_sources(&job.sources, job)
+        let size = total_size(sources);
+        if size > MAX_SOURCE_SIZE {
+            return Source {
+                base: Base::TooLong,
+                window: Window::all(),
+                size: 0,
+            };
+        }
+        Source {
+            base: Base::Plain(PlainSources { sources }),
+            window: Window::all(),
+            size,
+        }
     }
 
-    /// The source of a job's first leg, as `of_selected` gives it, but over these sources instead of the job's own.
-    pub fn of_sources(sources: &'a [PlainSource<'c>], job: &JobPlan) -> Source<'g, 'a, 'c>
-        ensures { walk_in result
-            ≡ windowed job.now.window.from job.now.window.to (source_walk (sources_of sources.now)) }
-    {
-        Source::Plain(PlainSources::within(sources, job.window))
-    }
-
-    /// The source of a leg after another one that was walked.
+    /// All positions of what a leg gave.
     pub fn of_given(given: &'g GivenWalk<'a>) -> Source<'g, 'a, 'c>
         ensures { walk_in result ≡ given.now }
     {
-        Source::Given(given)
+        Source {
+            base: Base::Given(given),
+            window: Window::all(),
+            size: given.size(),
+        }
+    }
+
+    /// The positions that a leg goes over.
+    pub fn of_leg(self, leg: &Leg) -> Source<'g, 'a, 'c>
+        ensures { walk_in result ≡ leg_walk (leg_in leg.now) (walk_in self.entry) }
+    {
+        let Window { from, to } = leg.window;
+        Source {
+            base: self.base,
+            window: self.window.within(from, to),
+            size: self.size,
+        }
     }
 
     /// How the walk over the source ends.
     pub fn end(&self) -> End
         ensures { result ≡ (walk_in self.now).ending }
     {
-        match self {
-            Source::Plain(plain) => {
-                if plain.is_too_long {
-                    End::Fault(TOO_LONG)
-                } else {
-                    End::Done
-                }
-            }
-            Source::Given(given) => given.end(),
+        match self.base {
+            Base::Plain(_) => End::Done,
+            Base::TooLong => End::Fault(TOO_LONG),
+            Base::Given(given) => given.end(),
+        }
+    }
+
+    /// How many items the source has, or the greatest `u64` if there are more. It takes constant time.
+    pub fn size(&self) -> u64
+        ensures { result ≡ min (length (walk_in self.now).items) (2 ^ 64 - 1) }
+    {
+        let (_, count) = within(self.window.from, self.window.to, self.size);
+        count
+    }
+
+    /// How a piece of the source ends.
+    pub(crate) fn piece_end(&self, to: Option<u64>) -> End
+        ensures { result ≡ (piece_of 0 to (walk_in self.now)).ending }
+    {
+        match to {
+            Some(_) => End::Done,
+            None => self.end(),
         }
     }
 
@@ -100,26 +149,12 @@ impl<'g, 'a, 'c> Source<'g, 'a, 'c> {
         ensures flow { S.flow sink.new ≡ flow_after result }
         ensures refused { OnErr result S.takes_memory }
     {
-        match self {
-            Source::Plain(plain) => {
-                if plain.is_too_long {
-                    return Ok(Fed::More);
-                }
-                let selected = plain.window.within(window.from, window.to);
-                feed_plain(line, plain.sources, 0, selected, registers, sink)
-            }
-            Source::Given(given) => feed_given(line, given, window, registers, sink),
+        let window = self.window.within(window.from, window.to);
+        match self.base {
+            Base::Plain(plain) => feed_plain(line, plain.sources, 0, window, registers, sink),
+            Base::TooLong => Ok(Fed::More),
+            Base::Given(given) => feed_given(line, given, window, registers, sink),
         }
-    }
-}
-
-/// How a piece of a source ends.
-pub(crate) fn piece_end(source: &Source, to: Option<u64>) -> End
-    ensures { result ≡ (piece_of 0 to (walk_in source.now)).ending }
-{
-    match to {
-        Some(_) => End::Done,
-        None => source.end(),
     }
 }
 

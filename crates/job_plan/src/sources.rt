@@ -1,34 +1,17 @@
 //! The plain sources of a job, and how many values they have.
 
-ghost use Rattle.std.specs.Prelude.{◌≡◌, ◌-◌, ◌<◌, ◌^◌, min, length, nat_lt, pos, ◌+ℤ◌};
+ghost use Rattle.std.specs.Prelude.{◌≡◌, ◌≤◌, ◌-◌, ◌<◌, ◌^◌, min, length, pos, ◌+ℤ◌};
 ghost use Rattle.trace.specs.Cover.{distance};
 ghost use Rattle.job_language.specs.Jobs.{source_of, sources_of};
 ghost use Rattle.job_meaning.specs.Walks.{plain_values, values_of};
 
 use job_language::PlainSource;
-use prefix_walks::Window;
-use trace::MAX_SOURCE_SIZE;
 
-/// Positions of the plain sources of a job, one source after the other, and whether these have more than 2^62 values.
+/// The plain sources of a job, one after the other, with at most 2^62 values.
 #[derive(Clone, Copy)]
-pub struct PlainSources<'a, 'c> {
+pub(crate) struct PlainSources<'a, 'c> {
     pub(crate) sources: &'a [PlainSource<'c>],
-    pub(crate) is_too_long: bool,
-    pub(crate) window: Window,
-    ghost measured: { is_too_long ≡ nat_lt (2 ^ 62) (length (values_of (sources_of sources.now))) },
-}
-
-impl<'a, 'c> PlainSources<'a, 'c> {
-    /// These positions of the sources.
-    pub(crate) fn within(sources: &'a [PlainSource<'c>], window: Window) -> PlainSources<'a, 'c>
-        ensures { (result.sources.now ≡ sources.now) × (result.window ≡ window) }
-    {
-        PlainSources {
-            sources,
-            is_too_long: total_size(sources) > MAX_SOURCE_SIZE,
-            window,
-        }
-    }
+    ghost few: { length (values_of (sources_of sources.now)) ≤ 2 ^ 62 },
 }
 
 /// How many integers there are from one up to, not with, another.

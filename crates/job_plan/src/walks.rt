@@ -45,12 +45,11 @@ pub fn walk_tree(
     ensures { IfOk result (λ answer. answer ≡ planned_answer env.now (plan_in job.now)) }
 {
     let mut registers = Registers::new(alloc);
-    let source = Source::of_selected(job);
     let given = walk_legs(
         alloc,
         &job.scans,
         &job.last,
-        &source,
+        Source::of_sources(&job.sources),
         tree,
         env,
         &mut registers,
@@ -70,13 +69,13 @@ fn walk_legs<'p>(
     alloc: Global,
     scans: &'p [Leg],
     last: &'p Leg,
-    source: &Source<'_, 'p, '_>,
+    source: Source<'_, 'p, '_>,
     tree: &SplitTree,
     env: &Env,
     registers: &mut Registers,
 ) -> Result<Answer, NoMemory>
     ensures { IfOk result (λ answer. answer
-        ≡ legs_answer (record { scans = legs_in scans.now; last = leg_in last.now }) env.now (walk_in source.now)) }
+        ≡ legs_answer (record { scans = legs_in scans.now; last = leg_in last.now }) env.now (walk_in source.entry)) }
 {
     let Some((leg, later)) = scans.split_first() else {
         let outcome = walk_leg(alloc, last, source, tree, env, registers)?;
@@ -87,7 +86,7 @@ fn walk_legs<'p>(
         alloc,
         later,
         last,
-        &Source::of_given(&given),
+        Source::of_given(&given),
         tree,
         env,
         registers,
@@ -98,17 +97,15 @@ fn walk_legs<'p>(
 fn walk_leg<'p>(
     alloc: Global,
     leg: &'p Leg,
-    source: &Source<'_, 'p, '_>,
+    source: Source<'_, 'p, '_>,
     tree: &SplitTree,
     env: &Env,
     registers: &mut Registers,
 ) -> Result<Outcome<'p>, NoMemory>
-    ensures { IfOk result (λ outcome. outcome ≡ leg_outcome (leg_in leg.now) env.now (walk_in source.now)) }
+    ensures { IfOk result (λ outcome. outcome ≡ leg_outcome (leg_in leg.now) env.now (walk_in source.entry)) }
 {
-    let walked = Walked {
-        source: *source,
-        env,
-    };
+    let source = source.of_leg(leg);
+    let walked = Walked { source, env };
     if !leg.streams() {
         let all = Window { from: 0, to: None };
         let part = walk_piece(alloc, leg, walked, all, tree, registers)?;

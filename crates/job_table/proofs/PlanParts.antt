@@ -17,7 +17,7 @@ use Rattle.prefix_walks.specs.Pieces.{piece_of}
 use Rattle.prefix_walks.specs.Spans.{IsNotAfter}
 use Rattle.prefix_walks.proofs.SideBySide.{pieces_joined, whole_piece}
 use Rattle.job_plan.proofs.LinkLemmas.{unlinked}
-use Rattle.job_table.specs.PlanSegments.{AbstractChain, PartStands, gives_at, last_leg, piece_between, positions_of, size_at, source_at, upto, walk_at, walk_size}
+use Rattle.job_table.specs.PlanSegments.{AbstractChain, PartStands, given_at, gives_at, last_leg, piece_between, positions_of, size_at, source_at, upto, walk_at, walk_size}
 use Rattle.job_table.proofs.PlanAnswers.{answer_there, goes_on}
 
 upto_middle : (size middle : ℕ) → middle < size → upto size middle ≡ Some middle
@@ -95,7 +95,7 @@ module _ (chain : AbstractChain) (segment : ℕ) (part : Part) where
 
   -- the next leg goes over what this one gave
   pub goes_over : (o : Outcome) → ((s : AbstractSegment) (t : Trace) → StandsFor s chain.numbers part t → o ≡ outcome_of s chain.numbers t) → segment < last_leg chain.legs → PartStands chain segment 0 (size_at chain segment) part
-      → given_walk o ≡ source_at chain (suc segment)
+      → given_walk o ≡ given_at chain (suc segment)
   goes_over o ends before stands = ap given_walk (outcome_all o ends stands) ∙ sym (goes_on chain.numbers segment chain.legs chain.source before)
 
   -- a part that leaves it open what its leg gives is of a leg that gives no walk
@@ -103,7 +103,7 @@ module _ (chain : AbstractChain) (segment : ℕ) (part : Part) where
   searched exactly n t w h may = refl
   searched e n t w h may = absurd (let z : true ≡ false = sym may ∙ other_ends e n chain.numbers part t (λ x. (let k : e ≡ exactly = x in cc)) h in cc)
 
-  pub goes_nowhere : segment < last_leg chain.legs → PartStands chain segment 0 (size_at chain segment) part → may_search part ≡ true → nothing ≡ source_at chain (suc segment)
+  pub goes_nowhere : segment < last_leg chain.legs → PartStands chain segment 0 (size_at chain segment) part → may_search part ≡ true → nothing ≡ given_at chain (suc segment)
   goes_nowhere before (t, enough, h) may =
       let s = (leg_at segment chain.legs).last in
       searched s.ending (last_stage s) (walk_of s chain.numbers t) (walk_of s chain.numbers (walk_at chain segment)) h may ∙ sym (goes_on chain.numbers segment chain.legs chain.source before)

@@ -10,9 +10,9 @@ use Rattle.job_meaning.specs.declared.answer.Answer.TheVariants as answer
 use Rattle.job_plan.specs.declared.part.Part.{Part}
 use Rattle.job_plan.specs.declared.plan.Named.{Named}
 use Rattle.job_plan.specs.PlannedAnswers.{all_put_at, first_unusable_at, put_at}
-use Rattle.job_plan.specs.Plans.{AbstractPlan, legs_answer, windowed}
+use Rattle.job_plan.specs.Plans.{AbstractPlan, legs_answer}
 use Rattle.job_meaning.specs.Walks.{instead_of_fault, source_walk}
-use Rattle.job_table.specs.PlanSegments.{AbstractChain, PartStands, answer_of, answers_before, chain_at, plan_at, last_leg, size_at, source_at}
+use Rattle.job_table.specs.PlanSegments.{AbstractChain, PartStands, answer_of, answers_before, chain_at, given_at, plan_at, last_leg, size_at}
 use Rattle.job_table.specs.declared.kept.SegmentSource.{SegmentSource}
 use Rattle.job_table.specs.declared.kept.SegmentSource.TheVariants.{Own, Kept}
 use Rattle.job_runner.specs.declared.segments.Begun.{Begun}
@@ -23,11 +23,11 @@ use Rattle.job_table.proofs.PlannedAnswers.{unusable_answer, walked_answer}
 
 module _ (plans : List AbstractPlan) (job : ℕ) (p : AbstractPlan) (same : p ≡ plan_at plans job) where
   -- the sources of a job with the arrays put in
-  pub put_walk : (segment : ℕ) (sources : List AbstractPlainSource) → segment ≡ 0 → sources ≡ all_put_at (answers_before plans job) p.named p.sources → windowed p.from p.to (source_walk sources) ≡ source_at (chain_at plans job) segment
+  pub put_walk : (segment : ℕ) (sources : List AbstractPlainSource) → segment ≡ 0 → sources ≡ all_put_at (answers_before plans job) p.named p.sources → source_walk sources ≡ given_at (chain_at plans job) segment
   put_walk segment sources first put =
-      ap (λ (ss : List AbstractPlainSource). windowed p.from p.to (source_walk ss)) put
-      ∙ ap (λ (q : AbstractPlan). windowed q.from q.to (source_walk (all_put_at (answers_before plans job) q.named q.sources))) same
-      ∙ ap (source_at (chain_at plans job)) (sym first)
+      ap source_walk put
+      ∙ ap (λ (q : AbstractPlan). source_walk (all_put_at (answers_before plans job) q.named q.sources)) same
+      ∙ ap (given_at (chain_at plans job)) (sym first)
 
   pub legs_there : (chain_at plans job).legs ≡ p.legs
   legs_there = sym (ap (λ (q : AbstractPlan). q.legs) same)
@@ -72,7 +72,7 @@ module _ (plans : List AbstractPlan) (job : ℕ) (p : AbstractPlan) (same : p �
       known.2 ∙ unusable_answer plans job known.0 low (ap (λ (q : AbstractPlan). first_unusable_at (answers_before plans job) q.named) (sym same) ∙ known.1)
 
 -- what a later leg goes over
-pub kept_walk : (chain : AbstractChain) (segment : ℕ) (source : SegmentSource) (w : Trace) → source ≡ Kept w → IsKept chain segment source → (0 < segment) × (w ≡ source_at chain segment)
+pub kept_walk : (chain : AbstractChain) (segment : ℕ) (source : SegmentSource) (w : Trace) → source ≡ Kept w → IsKept chain segment source → (0 < segment) × (w ≡ given_at chain segment)
 kept_walk chain segment source w is kept = subst (IsKept chain segment) is kept
 
 pub own_first : (chain : AbstractChain) (segment : ℕ) (source : SegmentSource) → source ≡ Own → IsKept chain segment source → segment ≡ 0

@@ -10,17 +10,18 @@ use Rattle.early_stop.specs.Decisive.{Decides}
 use Rattle.job_plan.specs.Links.{is_linked}
 use Rattle.job_plan.specs.Parts.{StandsEnough}
 use Rattle.job_plan.specs.PlannedAnswers.{numbers_at, planned_meaning, put_into}
-use Rattle.job_plan.specs.Plans.{AbstractLeg, AbstractLegs, AbstractLink, AbstractPlan, collecting, given_walk, leg_at, leg_outcome, linked, outcome_of, selected_source}
+use Rattle.job_plan.specs.Plans.{AbstractLeg, AbstractLegs, AbstractLink, AbstractPlan, collecting, given_walk, leg_at, leg_outcome, leg_walk, linked, outcome_of}
+use Rattle.job_meaning.specs.Walks.{source_walk}
 use Rattle.prefix_walks.specs.Pieces.{piece_of}
 
--- what a run walks of a job: its legs, what the first of them goes over, and the numbers of the jobs that it names
+-- what a run walks of a job: its legs, what the first of them is given, and the numbers of the jobs that it names
 pub record AbstractChain : Type 0 where
   pub legs : AbstractLegs
   pub source : Trace
   pub numbers : Numbers
 
 abbrev pub chain_of : Numbers → AbstractPlan → AbstractChain
-chain_of env plan = record { legs = plan.legs; source = selected_source plan; numbers = env }
+chain_of env plan = record { legs = plan.legs; source = source_walk plan.sources; numbers = env }
 
 -- helper: the plan of no job
 abbrev no_plan : AbstractPlan
@@ -28,9 +29,7 @@ no_plan = record {
   name = [];
   named = [];
   sources = [];
-  from = 0;
-  to = None;
-  legs = record { scans = []; last = record { links = []; last = record { first = 0; stages = []; ending = collecting } } };
+  legs = record { scans = []; last = record { from = 0; to = None; links = []; last = record { first = 0; stages = []; ending = collecting } } };
   fallback = None;
 }
 
@@ -54,15 +53,19 @@ chain_at plans job = chain_of (numbers_at (answers_before plans job) (plan_at pl
 abbrev pub last_leg : AbstractLegs → ℕ
 last_leg legs = length legs.scans
 
--- what the leg with this number goes over, if the first one goes over this
+-- what the leg with this number has positions of, if the first one has positions of this
 abbrev pub passed_on : Numbers → ℕ → List AbstractLeg → Trace → Trace
 passed_on env zero ls t = t
 passed_on env (suc k) [] t = t
 passed_on env (suc k) (l ∷ ls) t = passed_on env k ls (given_walk (leg_outcome l env t))
 
--- what the leg of a job with this number goes over, and what comes through its slices to its last segment
+-- what the leg of a job with this number is given, what it goes over of that, and what comes through its slices to its
+-- last segment
+abbrev pub given_at : AbstractChain → ℕ → Trace
+given_at chain k = passed_on chain.numbers k chain.legs.scans chain.source
+
 abbrev pub source_at : AbstractChain → ℕ → Trace
-source_at chain k = passed_on chain.numbers k chain.legs.scans chain.source
+source_at chain k = leg_walk (leg_at k chain.legs) (given_at chain k)
 
 abbrev pub walk_at : AbstractChain → ℕ → Trace
 walk_at chain k = linked (leg_at k chain.legs).links chain.numbers (source_at chain k)

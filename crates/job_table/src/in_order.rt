@@ -41,11 +41,11 @@ impl<'a, 'c, P: PlanBrand> PlanJobs<'a, 'c, P> {
             SegmentSource::Own if plan.takes_arrays() => {
                 let own = self.own(job);
                 let sources = self.put_sources(alloc, job, own, input.earlier)?;
-                let source = Source::of_sources(&sources, own);
+                let source = Source::of_sources(&sources);
                 part_in_order(alloc, plan, last, Walked { source, env }, registers)
             }
             SegmentSource::Own => {
-                let source = Source::of_selected(plan);
+                let source = Source::of_sources(&plan.sources);
                 part_in_order(alloc, plan, last, Walked { source, env }, registers)
             }
             SegmentSource::Kept(walk) => {

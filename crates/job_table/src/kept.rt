@@ -3,10 +3,10 @@
 use lambda_values::Env;
 use prefix_walks::GivenWalk;
 
-/// What a segment goes over.
+/// What a segment is given: it goes over positions of it.
 #[derive(Drop)]
 pub enum SegmentSource<'a> {
-    /// The sources of the job, or the positions of them that slices before every other stage select.
+    /// The sources of the job.
     Own,
     /// What the segment before it gave.
     Kept(GivenWalk<'a>),

@@ -11,6 +11,7 @@ ghost use Rattle.job_meaning.specs.declared.answer.Answer.TheVariants as answer;
 ghost use Rattle.job_runner.specs.Begins.{IsBegun};
 ghost use Rattle.job_table.specs.PlanSegments.{answer_of, answers_before, chain_at, plan_at, size_at};
 
+use crate::plan_parts::positions;
 use crate::planned::{PlanBrand, PlanJobs};
 use job_language::PlainSource;
 use job_meaning::Answer;
@@ -236,13 +237,11 @@ impl<'a, 'c, P: PlanBrand> PlanJobs<'a, 'c, P> {
         requires plan { plan_in plan.now ≡ plan_at (plans_in P.jobs) job }
         ensures { IfOk result (λ size. size ≡ size_at (chain_at (plans_in P.jobs) job) 0) }
     {
-        if plan.leg(0).streams() {
-            return Ok(0);
-        }
+        let first = plan.leg(0);
         if !plan.takes_arrays() {
-            return Ok(Source::of_selected(plan).size());
+            return Ok(positions(first, Source::of_sources(&plan.sources)));
         }
         let sources = self.put_sources(alloc, job, plan, earlier)?;
-        Ok(Source::of_sources(&sources, plan).size())
+        Ok(positions(first, Source::of_sources(&sources)))
     }
 }

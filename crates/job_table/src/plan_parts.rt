@@ -4,26 +4,31 @@ ghost use Rattle.std.specs.Prelude.{None, IfNone, IfOk, IfSome};
 ghost use Rattle.early_stop.specs.Decisive.{Decides};
 ghost use Rattle.job_plan.specs.Parts.{leg_in, may_search, plan_in, walk_in};
 ghost use Rattle.prefix_walks.specs.Spans.{IsNotAfter};
-ghost use Rattle.job_plan.specs.Plans.{leg_at, legs_answer};
+ghost use Rattle.job_plan.specs.Plans.{leg_at, leg_walk, legs_answer};
 ghost use Rattle.job_meaning.specs.Walks.{instead_of_fault};
-ghost use Rattle.job_table.specs.PlanSegments.{AbstractChain, PartStands, gives_at, last_leg};
-ghost use Rattle.job_table.specs.PlanSegments.{positions_of, size_at, source_at, upto, walk_at, walk_size};
+ghost use Rattle.job_table.specs.PlanSegments.{AbstractChain, PartStands, given_at, gives_at, last_leg};
+ghost use Rattle.job_table.specs.PlanSegments.{positions_of, size_at, upto, walk_at, walk_size};
 
 use batch_eval::Registers;
 use early_stop::Stop;
 use job_meaning::Answer;
-use job_plan::{JobPlan, Part, Source, Walked, leaf_stored, leaf_until, streamed};
+use job_plan::{JobPlan, Leg, Part, Source, Walked, leaf_stored, leaf_until, streamed};
 use job_runner::{NoMemory, Piece};
 use lambda_values::Env;
 use prefix_walks::{GivenWalk, Window};
 use std::alloc::Global;
 use trace::End;
 
-/// How many positions a leg of a job has for a run, if it goes over a walk of this size.
-pub(crate) fn positions(plan: &JobPlan, leg: usize, size: u64) -> u64
-    ensures { result ≡ positions_of (leg_at leg (plan_in plan.now).legs).links size }
+/// How many positions a leg has for a run, if it is given this.
+pub(crate) fn positions(leg: &Leg, given: Source) -> u64
+    ensures { result ≡ positions_of (leg_in leg.now).links
+        (walk_size (leg_walk (leg_in leg.now) (walk_in given.entry))) }
 {
-    if plan.leg(leg).streams() { 0 } else { size }
+    if leg.streams() {
+        0
+    } else {
+        given.of_leg(leg).size()
+    }
 }
 
 /// Where a piece ends, if that isn't the end of its source.
@@ -51,11 +56,14 @@ pub(crate) fn lent_piece<'a, W: Stop>(
     requires ordered { piece.from ≤ piece.to }
     ensures { (chain : AbstractChain) → chain.legs ≡ (plan_in plan.now).legs
         → chain.numbers ≡ walked.entry.env.now
-        → walk_in walked.entry.source ≡ source_at chain piece.segment → piece.to ≤ size_at chain piece.segment
+        → walk_in walked.entry.source ≡ given_at chain piece.segment → piece.to ≤ size_at chain piece.segment
         → ((c : ℕ) → W.decides stop.old c → Decides (gives_at chain piece.segment) (walk_at chain piece.segment) c)
         → IfOk result (λ part. PartStands chain piece.segment piece.from piece.to part) }
 {
     let leg = plan.leg(piece.segment);
+    let source = walked.source.of_leg(leg);
+    let env = walked.env;
+    let walked = Walked { source, env };
     if leg.streams() {
         return streamed(alloc, leg, walked, registers);
     }
@@ -79,11 +87,14 @@ pub(crate) fn stored_piece<'a, W: Stop>(
     requires ordered { piece.from ≤ piece.to }
     ensures { (chain : AbstractChain) → chain.legs ≡ (plan_in plan.now).legs
         → chain.numbers ≡ walked.entry.env.now
-        → walk_in walked.entry.source ≡ source_at chain piece.segment → piece.to ≤ size_at chain piece.segment
+        → walk_in walked.entry.source ≡ given_at chain piece.segment → piece.to ≤ size_at chain piece.segment
         → ((c : ℕ) → W.decides stop.old c → Decides (gives_at chain piece.segment) (walk_at chain piece.segment) c)
         → IfOk result (λ part. PartStands chain piece.segment piece.from piece.to part) }
 {
     let leg = plan.leg(piece.segment);
+    let source = walked.source.of_leg(leg);
+    let env = walked.env;
+    let walked = Walked { source, env };
     if leg.streams() {
         return streamed(alloc, leg, walked, registers);
     }
@@ -102,7 +113,7 @@ pub(crate) fn next_walk<'a>(
 ) -> Result<GivenWalk<'a>, NoMemory>
     ensures { IfOk result (λ given. (chain : AbstractChain) (k : ℕ) → chain.numbers ≡ env.now
         → k < last_leg chain.legs
-        → PartStands chain k 0 (size_at chain k) part.entry → given ≡ source_at chain (k + 1)) }
+        → PartStands chain k 0 (size_at chain k) part.entry → given ≡ given_at chain (k + 1)) }
 {
     match part.finish(alloc, env)? {
         Some(outcome) => Ok(outcome.walk()),
@@ -120,11 +131,14 @@ pub(crate) fn part_in_order<'a>(
 ) -> Result<Part<'a>, NoMemory>
     ensures stands { (chain : AbstractChain) → chain.legs ≡ (plan_in plan.now).legs
         → chain.numbers ≡ walked.entry.env.now
-        → walk_in walked.entry.source ≡ source_at chain leg
+        → walk_in walked.entry.source ≡ given_at chain leg
         → IfOk result (λ part. PartStands chain leg 0 (size_at chain leg) part) }
     ensures kind { IfOk result (λ part. may_search part ≡ false) }
 {
-    streamed(alloc, plan.leg(leg), walked, registers)
+    let leg = plan.leg(leg);
+    let source = walked.source.of_leg(leg);
+    let env = walked.env;
+    streamed(alloc, leg, Walked { source, env }, registers)
 }
 
 /// The answer of a job, of the part of its whole last leg, or what the job gives after a fault. `None` if what the leg

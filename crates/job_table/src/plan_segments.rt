@@ -112,7 +112,9 @@ impl<'a, 'c, P: PlanBrand> JobSegments for PlanJobs<'a, 'c, P> {
     fn size(&self, job: usize, segment: usize, source: &SegmentSource<'a>, given: &Taken) -> u64 {
         match source {
             SegmentSource::Own => given.size,
-            SegmentSource::Kept(walk) => positions(self.job(job), segment, walk.size()),
+            SegmentSource::Kept(walk) => {
+                positions(self.job(job).leg(segment), Source::of_given(walk))
+            }
         }
     }
 
@@ -185,11 +187,11 @@ impl<'a, 'c, P: PlanBrand> JobSegments for PlanJobs<'a, 'c, P> {
             SegmentSource::Own if plan.takes_arrays() => {
                 let own = self.own(piece.job);
                 let sources = self.put_sources(alloc, piece.job, own, input.earlier)?;
-                let source = Source::of_sources(&sources, own);
+                let source = Source::of_sources(&sources);
                 stored_piece(alloc, plan, piece, Walked { source, env }, registers, stop)
             }
             SegmentSource::Own => {
-                let source = Source::of_selected(plan);
+                let source = Source::of_sources(&plan.sources);
                 lent_piece(alloc, plan, piece, Walked { source, env }, registers, stop)
             }
             SegmentSource::Kept(walk) => {

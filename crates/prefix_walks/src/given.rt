@@ -1,6 +1,6 @@
 //! A walk that was kept, as the source of another one.
 
-ghost use Rattle.std.specs.Prelude.{◌≡◌, ◌-◌, ◌^◌, [], min, length};
+ghost use Rattle.std.specs.Prelude.{◌≡◌, [], length};
 ghost use Rattle.trace.specs.Trace.{trace};
 
 use crate::kept::Kept;
@@ -56,7 +56,7 @@ impl<'a> GivenWalk<'a> {
 
     /// How many items the walk has.
     pub fn size(&self) -> u64
-        ensures { result ≡ min (length self.now.items) (2 ^ 64 - 1) }
+        ensures { result ≡ length self.now.items }
     {
         match &self.kept {
             Kept::Ended(_) => 0,

@@ -1,6 +1,6 @@
 //! Positions of a list, side by side.
 
-ghost use Rattle.std.specs.Prelude.{◌≡◌, ◌≤◌, ◌-◌, ◌^◌, length, List, None};
+ghost use Rattle.std.specs.Prelude.{◌≡◌, ◌<◌, ◌-◌, ◌^◌, drop, length, take, IfSome, List, None};
 ghost use Rattle.trace.specs.declared.item.Item.{Item as item};
 ghost use Rattle.prefix_walks.specs.Pieces.{elements};
 ghost use Rattle.prefix_walks.specs.Spans.{after};
@@ -24,13 +24,34 @@ impl Window {
 
     /// These positions of the window, as positions of the list itself.
     pub fn within(self, from: u64, to: Option<u64>) -> Window
-        ensures { (xs : List item) → length xs ≤ 2 ^ 62
+        ensures { (xs : List item) → length xs < 2 ^ 64
             → elements from to (elements self.from self.to xs) ≡ elements result.from result.to xs }
     {
         Window {
             from: self.from.saturating_add(from),
             to: earlier(self.to, moved(to, self.from)),
         }
+    }
+
+    /// The window without this number of its first positions. `None` if the first one that is left isn't below 2^64.
+    pub fn skipped(self, count: u64) -> Option<Window>
+        ensures { IfSome result (λ w. (xs : List item)
+            → elements w.from w.to xs ≡ drop count (elements self.from self.to xs)) }
+    {
+        let from = self.from.checked_add(count)?;
+        Some(Window { from, to: self.to })
+    }
+
+    /// This number of the first positions of the window. `None` if the position after them isn't below 2^64.
+    pub fn limited(self, count: u64) -> Option<Window>
+        ensures { IfSome result (λ w. (xs : List item)
+            → elements w.from w.to xs ≡ take count (elements self.from self.to xs)) }
+    {
+        let end = self.from.checked_add(count)?;
+        Some(Window {
+            from: self.from,
+            to: earlier(self.to, Some(end)),
+        })
     }
 
     /// The positions of the window, counted after this number of elements.

@@ -40,8 +40,13 @@ fn tree_gives(
     Ok(shown(alloc, &answer)?.as_str() == want)
 }
 
-/// Adds the number of slices of a leg, of the stages after them, and of the first of these.
+/// Adds the positions that a leg goes over, the number of its slices, of the stages after them, and of the first of
+/// these.
 fn add_leg(alloc: Global, shown: &mut String, leg: &Leg) -> Result<(), AllocError> {
+    shown.push_str(format!(in alloc; "from {}", leg.window.from)?.as_str())?;
+    if let Some(to) = leg.window.to {
+        shown.push_str(format!(in alloc; " to {to}")?.as_str())?;
+    }
     let first = leg.last.first_stage;
     let stages = leg.last.stages.len();
     let text = format!(in alloc; ", {} slices, {stages} at {first}", leg.links.len())?;
@@ -50,21 +55,19 @@ fn add_leg(alloc: Global, shown: &mut String, leg: &Leg) -> Result<(), AllocErro
 
 /// Whether a job has the route that a text says.
 fn has_route(alloc: Global, job: &JobPlan, route: &str) -> Result<bool, AllocError> {
-    let mut shown = format!(in alloc; "from {}", job.window.from)?;
-    if let Some(to) = job.window.to {
-        shown.push_str(format!(in alloc; " to {to}")?.as_str())?;
-    }
+    let mut shown = String::new(alloc);
     let last = job.last_leg();
     for number in 0..last {
         add_leg(alloc, &mut shown, job.leg(number))?;
+        shown.push_str("; ")?;
     }
     add_leg(alloc, &mut shown, job.leg(last))?;
     Ok(shown.as_str() == route)
 }
 
-/// Jobs, each with its answer, and after it the positions that its first leg goes over, and of each leg the number of
-/// slices, of stages after them, and of the first of these; worked out by hand. Slices that stand before every other
-/// stage, or after maps alone, select positions of the source. Nothing is walked before `limit(0)`.
+/// Jobs, each with its answer, and after it for each leg the positions that it goes over, the number of slices, of
+/// stages after them, and of the first of these; worked out by hand. Slices that come before the other stages of a leg,
+/// or after maps alone, select positions. Nothing is walked before `limit(0)`.
 const WALKED: &str = "\
 range(0, 9).sum() => 36; from 0, 0 slices, 0 at 1
 range(0, 9).skip(1).sum() => 36; from 1, 0 slices, 0 at 2
@@ -77,10 +80,16 @@ range(0, 9).dropWhile(x -> true).skip(1).sum() => 0; from 0, 2 slices, 0 at 3
 range(0, 9).filter(x -> x > 2).skip(1).map(x -> x).sum() => 30; from 0, 1 slices, 1 at 3
 of(5, 3, 8).skip(1).map(x -> 24 / x).toArray() => [8, 3]; from 1, 0 slices, 1 at 2
 of(5, 3, 0).map(x -> 24 / x).skip(1).toArray() => fault divide-by-zero stage 1 item 2; from 0, 1 slices, 0 at 3
+range(0, 9).skip(9223372036854775807).skip(9223372036854775807).skip(2).sum() => 0; \
+from 18446744073709551614, 1 slices, 0 at 4
 of(3, 0).prefix(sum).map(x -> 6 / (x - 3)).findFirst() => fault divide-by-zero stage 2 item 0; \
-from 0, 0 slices, 0 at 1, 0 slices, 1 at 2
+from 0, 0 slices, 0 at 1; from 0, 0 slices, 1 at 2
 range(0, 9).prefix(sum).skip(2).prefix(max).limit(2).sum() => 9; \
-from 0, 0 slices, 0 at 1, 1 slices, 0 at 3, 1 slices, 0 at 5";
+from 0, 0 slices, 0 at 1; from 2, 0 slices, 0 at 3; from 0 to 2, 0 slices, 0 at 5
+range(0, 9).skip(1).prefix(sum).map(x -> x).skip(1).limit(3).filter(x -> x > 3).skip(1).sum() => 10; \
+from 1, 0 slices, 0 at 2; from 1 to 4, 1 slices, 0 at 8
+of(1, 0).prefix(sum).map(x -> 2 / (x - 1)).skip(1).sum() => fault divide-by-zero stage 2 item 0; \
+from 0, 0 slices, 0 at 1; from 0, 1 slices, 0 at 4";
 
 /// Whether the jobs of a text are walked so, whatever the first piece.
 fn is_walked(alloc: Global, text: &str, answer: &str, route: &str) -> Result<bool, Fail> {

@@ -1,5 +1,10 @@
-use Rattle.std.proofs.Common.{◌≡◌, ◌+◌, [], length, sym, ap, subst, ◌∙◌, rules}
+use Rattle.std.proofs.Common.{◌≡◌, ◌+◌, ◌<◌, [], length, sym, ap, subst, ◌∙◌, arith, rules}
 use Rattle.trace.specs.declared.item.End.TheVariants as end
+use Rattle.trace.specs.Cover.{placed}
+use Rattle.trace.proofs.Sources.{length-placed}
+use Rattle.job_language.specs.Jobs.{sources_of}
+use Rattle.job_meaning.specs.Walks.{values_of}
+use Rattle.job_plan.specs.Bases.{base_walk}
 use Rattle.trace.specs.Stages.{stages_of}
 use Rattle.trace.specs.Trace.{trace, nothing, append}
 use Rattle.prefix_walks.specs.CheapStages.{AreCheap, left_by}
@@ -22,8 +27,14 @@ returns-clause-stands c = λ env.
     let len : c.len.result ≡ length s.stages.items = search rules in
     let n = s.first_stage + length s.stages.items in
     let none : c.none-part.result ≡ scan p.op p.range n nothing = c.none-part.ensures ∙ ap (λ m. scan p.op p.range (s.first_stage + m) nothing) len in
-    let pushed : c.push_plain.new.part ≡ scan p.op p.range n (append nothing (trace (left_by gs (elements from to t.items)) end.Done)) =
-    c.in_ok-push_plain.ensures ∙ (λ j. scan_append (none j) (trace (left_by (stages_of (same j)) (elements from to (walk_in (sym c.in-Plain.is j)).items)) end.Done)) in
+    let plain_walk = c.in-Plain.plain in
+    let vs = values_of (sources_of plain_walk.sources.now) in
+    let l = length-placed 0 vs in
+    let few : length (placed 0 vs) < 18446744073709551616 = omega (arith, l, plain_walk.few) in
+    let w = c.args.source.now.window in
+    let here = ap (λ b. elements from to (elements w.from w.to (base_walk b).items)) c.in-Plain.is ∙ c.within-selected.ensures (placed 0 vs) few in
+    let pushed : c.push_sources.new.part ≡ scan p.op p.range n (append nothing (trace (left_by gs (elements from to t.items)) end.Done)) =
+    c.in_ok-push_sources.ensures ∙ (λ j. scan_append (none j) (trace (left_by (stages_of (same j)) (sym here j)) end.Done)) in
     let whole : c.end_with.new.self ≡ scan p.op p.range n (trace (left_by gs (piece_of from to t).items) (piece_of from to t).ending) =
     c.end_with.ensures ∙ (λ j. scan_append (pushed j) (trace [] c.piece_end.result)) ∙ ap (scan p.op p.range n) (piece_again gs from to t c.piece_end.result c.piece_end.ensures) in
     lent_stands s p c.end_with.new.self (piece_of from to t) env c.in-Prefix.is plain whole

@@ -1,4 +1,5 @@
 use Rattle.std.proofs.Common.{None, sym, ap, ◌∙◌}
+use Rattle.trace.specs.Trace.{Trace}
 use Rattle.job_plan.specs.Parts.{leg_in, segment_in, walk_in}
 use Rattle.job_plan.specs.Plans.{linked, outcome_of}
 use Rattle.prefix_walks.specs.Pieces.{piece_of}
@@ -11,12 +12,14 @@ returns-in-Some c =
     let leg = c.args.leg.now in
     let s = segment_in leg.last in
     let env = c.args.env.now in
-    let source = walk_in c.args.source.now in
+    let source = walk_in c.of_leg-source.result in
     (rw c.in-Some.is at c.in_ok-outcome.ensures.some) s (piece_of 0 None source) c.in_ok-part.ensures
     ∙ ap (outcome_of s env) (whole_piece source ∙ sym (unlinked (leg_in leg).links env source (sym c.streams.ensures ∙ c.if-not-streams.true)))
+    ∙ ap (λ (t : Trace). outcome_of s env (linked (leg_in leg).links env t)) c.of_leg-source.ensures
 
 pub returns : goal.returns
 returns c =
     let leg = c.args.leg.now in
     let env = c.args.env.now in
-    (rw c.in-Some-2.is at c.in_ok-outcome-2.ensures.some) (segment_in leg.last) (linked (leg_in leg).links env (walk_in c.args.source.now)) c.in_ok-part-2.ensures.stands
+    (rw c.in-Some-2.is at c.in_ok-outcome-2.ensures.some) (segment_in leg.last) (linked (leg_in leg).links env (walk_in c.of_leg-source.result)) c.in_ok-part-2.ensures.stands
+    ∙ ap (λ (t : Trace). outcome_of (segment_in leg.last) env (linked (leg_in leg).links env t)) c.of_leg-source.ensures

@@ -1,28 +1,29 @@
 use Rattle.std.proofs.Common.{◌≡◌, ◌<◌, true, false, sym, ap, ◌∙◌, rules}
 use Rattle.trace.specs.Stages.{pipe, stages_of}
 use Rattle.slice_ops.specs.Slices.{slice_of, sliced}
-use Rattle.job_meaning.specs.Walks.{source_walk}
 use Rattle.job_plan.specs.Building.{all_keep}
 use Rattle.job_plan.specs.Plans.{windowed}
-use Rattle.job_plan.proofs.BuiltLemmas.{limit_selects, skip_selects}
+use Rattle.job_plan.proofs.BuiltLemmas.{limit_selects, skip_selects, some_map}
 use Rattle.job_plan.proofs.WindowLemmas.{limits, skips}
 use Rattle.job_plan.proofs.building.Begun.selected.Goals as goal
 
 pub returns-in-Limit-clause-window : goal.returns-in-Limit-clause-window
-returns-in-Limit-clause-window c = λ m env ss.
+returns-in-Limit-clause-window c =
     let b = c.args.self.now in
     let gs = stages_of b.stages.items in
-    let w = c.within.result in
     let keep : all_keep false gs ≡ true = search rules in
     let some : 0 < c.in-Limit.count = search rules in
-    limit_selects b.first_stage gs c.in-Limit.count keep (windowed b.window.from b.window.to (source_walk ss)) (windowed w.from w.to (source_walk ss)) (limits ss b.window.from b.window.to c.in-Limit.count w.from w.to some c.within.ensures) m env
-    ∙ sym (ap (λ d. sliced (slice_of d) m env (pipe b.first_stage gs env (windowed b.window.from b.window.to (source_walk ss)))) c.in-Limit.is)
+    some_map c.limited.result
+    (λ w h m env t clean.
+    limit_selects b.first_stage gs c.in-Limit.count keep (windowed b.window.from b.window.to t) (windowed w.from w.to t) (limits b.window.from b.window.to c.in-Limit.count w.from w.to t some clean h) m env
+    ∙ sym (ap (λ d. sliced (slice_of d) m env (pipe b.first_stage gs env (windowed b.window.from b.window.to t))) c.in-Limit.is)) c.limited.ensures
 
 pub returns-in-Skip-clause-window : goal.returns-in-Skip-clause-window
-returns-in-Skip-clause-window c = λ m env ss.
+returns-in-Skip-clause-window c =
     let b = c.args.self.now in
     let gs = stages_of b.stages.items in
-    let w = c.within-in-Skip.result in
     let keep : all_keep true gs ≡ true = search rules in
-    skip_selects b.first_stage gs c.in-Skip.count keep (windowed b.window.from b.window.to (source_walk ss)) (windowed w.from w.to (source_walk ss)) (skips ss b.window.from b.window.to c.in-Skip.count w.from w.to c.within-in-Skip.ensures) m env
-    ∙ sym (ap (λ d. sliced (slice_of d) m env (pipe b.first_stage gs env (windowed b.window.from b.window.to (source_walk ss)))) c.in-Skip.is)
+    some_map c.skipped.result
+    (λ w h m env t clean.
+    skip_selects b.first_stage gs c.in-Skip.count keep (windowed b.window.from b.window.to t) (windowed w.from w.to t) (skips b.window.from b.window.to c.in-Skip.count w.from w.to t h) m env
+    ∙ sym (ap (λ d. sliced (slice_of d) m env (pipe b.first_stage gs env (windowed b.window.from b.window.to t))) c.in-Skip.is)) c.skipped.ensures

@@ -1,5 +1,5 @@
 use Rattle.std.proofs.Common.{rules}
 use Rattle.job_plan.proofs.source.Source.end.Goals as goal
 
-pub returns-then-plain : goal.returns-then-plain
-returns-then-plain c = search rules
+pub returns-in-TooLong : goal.returns-in-TooLong
+returns-in-TooLong c = search rules

@@ -25,10 +25,10 @@ returns-in-Own-2 g c =
     let chain = chain_at plans job in
     let p = plan_in c.job-plan.result.now in
     let first = own_first chain k c.args.input.source.now c.in-Own-2.is c.requires.source in
-    let none = sym (c.takes_arrays.ensures c.if-takes_arrays.false (answers_before plans job) p.named) in
+    let none = ap sources_of c.deref-in-Own-2.ensures.value ∙ sym (c.takes_arrays.ensures c.if-takes_arrays.false (answers_before plans job) p.named) in
     let piece = c.requires.piece in
     c.lent_piece.ensures chain (legs_there plans job p c.job-plan.ensures) (sym c.requires.given.1.0)
-    (c.of_selected-source.ensures ∙ put_walk plans job p c.job-plan.ensures k p.sources first none) piece.within c.requires.stop
+    (c.of_sources-source-in-Own-2.ensures ∙ put_walk plans job p c.job-plan.ensures k (sources_of c.deref-in-Own-2.result.now) first none) piece.within c.requires.stop
 
 pub returns-in-Kept : goal.returns-in-Kept
 returns-in-Kept g c =

@@ -1,5 +1,5 @@
 use Rattle.std.proofs.Common.{rules}
-use Rattle.job_plan.proofs.source.piece_end.Goals as goal
+use Rattle.job_plan.proofs.source.Source.piece_end.Goals as goal
 
 pub returns-in-None : goal.returns-in-None
 returns-in-None c = search rules

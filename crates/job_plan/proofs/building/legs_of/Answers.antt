@@ -3,24 +3,23 @@ use Rattle.std.specs.Vec.Iter.{into_iter_items, into_iter_len}
 use Rattle.lambda_values.specs.Earlier.{Numbers}
 use Rattle.job_language.specs.Jobs.{AbstractPlainSource, job_stages_of, terminal_of}
 use Rattle.job_meaning.specs.Walks.{after_stages, answer_of, source_walk}
-use Rattle.job_plan.specs.Building.{begun_in, begun_walk, number_of}
-use Rattle.job_plan.specs.Parts.{legs_in}
-use Rattle.job_plan.specs.Plans.{AbstractEnd, ended, given_answer, leg_outcome, scanned, windowed}
+use Rattle.job_plan.specs.Building.{begun_walk, number_of}
+use Rattle.job_plan.specs.Parts.{end_in, legs_in}
+use Rattle.job_plan.specs.Plans.{AbstractEnd, ended, given_answer, leg_outcome, scanned}
 use Rattle.job_plan.proofs.PartLemmas.{length-stages_of, no_items, terminal_ends}
-use Rattle.job_plan.proofs.building.way_of.Goals as goal
+use Rattle.job_plan.proofs.building.legs_of.Goals as goal
 
 pub loop-stage-init : goal.loop-stage-init
 loop-stage-init c =
     let b = c.none-begun.result in
     let all : into_iter_items c.into_iter-stage-iterator.result ≡ c.args.stages.items = search rules in
     let count : into_iter_len c.into_iter-stage-iterator.result ≡ length (into_iter_items c.into_iter-stage-iterator.result) = search rules in
-    let l = length-stages_of b.stages.items in
     let k = ap length all in
-    let one : number_of (begun_in b) ≡ 1 = c.none-begun.ensures.number in (
+    let one : number_of b ≡ 1 = c.none-begun.ensures.number in (
       tt,
       tt,
       λ env ss. (λ i. after_stages (one i) (job_stages_of (all i)) env (c.none-begun.ensures.walk env ss i)),
-      omega (arith, k, l, one),
+      omega (arith, k, one),
       omega (arith, k, c.none-begun.ensures.few, c.requires.few),
       count,
       c.of-end.ensures,
@@ -32,15 +31,13 @@ loop-stage-preserved c =
     let new = c.add.new.self in
     let rest = into_iter_items c.next.new.self in
     let count : into_iter_len c.next.new.self ≡ length (into_iter_items c.next.new.self) = search rules in
-    let l = length-stages_of b.stages.items in
-    let m = length-stages_of new.stages.items in
     let k = ap length c.in-Some.ensures.steps.0 in
-    let next : number_of (begun_in new) ≡ suc (number_of (begun_in b)) = omega (arith, l, m, c.in_ok-add.ensures.number) in (
+    let next = c.in_ok-add.ensures.number in (
       tt,
       tt,
       λ env ss. (λ i. after_stages (next i) (job_stages_of rest) env (c.in_ok-add.ensures.walk env ss i))
-          ∙ sym (ap (λ js. after_stages (number_of (begun_in b)) (job_stages_of js) env (begun_walk (begun_in b) env ss)) c.in-Some.ensures.steps.0) ∙ c.loop-stage.invariant.2 env ss,
-      omega (arith, k, c.in_ok-add.ensures.number, c.loop-stage.invariant.3),
+          ∙ sym (ap (λ js. after_stages (number_of b) (job_stages_of js) env (begun_walk b env ss)) c.in-Some.ensures.steps.0) ∙ c.loop-stage.invariant.2 env ss,
+      omega (arith, k, next, c.loop-stage.invariant.3),
       omega (arith, k, c.in_ok-add.ensures.few, c.loop-stage.invariant.4),
       count,
       c.loop-stage.invariant.6,
@@ -49,15 +46,16 @@ loop-stage-preserved c =
 pub returns : goal.returns
 returns c = λ env ss.
     let b = c.loop-stage.begun in
-    let taken = c.take_leg-last in
+    let e = c.take_leg-last.ensures in
     let d = terminal_of c.args.terminal in
+    let n = number_of b in
     let none = no_items (into_iter_items c.loop-stage.stage-iterator) (sym c.loop-stage.invariant.5 ∙ c.in-None.ensures.steps.0) in
-    let l = length-stages_of b.stages.items in
     let z = ap length none in
-    let last : number_of (begun_in b) ≡ suc (length c.args.stages.items) = omega (arith, l, z, c.loop-stage.invariant.3) in
-    let walk : begun_walk (begun_in b) env ss ≡ after_stages 1 (job_stages_of c.args.stages.items) env (source_walk ss)
-    = sym (ap (λ js. after_stages (number_of (begun_in b)) (job_stages_of js) env (begun_walk (begun_in b) env ss)) none) ∙ c.loop-stage.invariant.2 env ss in
-    (λ i. given_answer (leg_outcome (taken.ensures.leg i) env (scanned (legs_in (taken.ensures.kept.0 i).items) env (windowed (taken.ensures.kept.1 i).from (taken.ensures.kept.1 i).to (source_walk ss)))))
-    ∙ ap given_answer (c.end_for-walked.ensures env ss ∙ ap (λ (e : AbstractEnd). ended e (number_of (begun_in b)) env (begun_walk (begun_in b) env ss)) c.loop-stage.invariant.6)
-    ∙ terminal_ends d (number_of (begun_in b)) env (begun_walk (begun_in b) env ss)
+    let last : n ≡ suc (length c.args.stages.items) = omega (arith, z, c.loop-stage.invariant.3) in
+    let walk : begun_walk b env ss ≡ after_stages 1 (job_stages_of c.args.stages.items) env (source_walk ss)
+    = sym (ap (λ js. after_stages n (job_stages_of js) env (begun_walk b env ss)) none) ∙ c.loop-stage.invariant.2 env ss in
+    (λ i. given_answer (leg_outcome (e.leg i) env (scanned (legs_in (e.kept i).items) env (source_walk ss))))
+    ∙ ap (λ k. given_answer (ended (end_in c.end_for-walked.result) (b.first_stage + k) env (begun_walk b env ss))) (length-stages_of b.stages.items)
+    ∙ ap given_answer (c.end_for-walked.ensures n env ss ∙ ap (λ (f : AbstractEnd). ended f n env (begun_walk b env ss)) c.loop-stage.invariant.6)
+    ∙ terminal_ends d n env (begun_walk b env ss)
     ∙ (λ i. answer_of (last i) env d (walk i))

@@ -1,0 +1,10 @@
+use Rattle.std.proofs.Common.{List, sym, ap}
+use Rattle.trace.specs.declared.item.Item.{Item}
+use Rattle.trace.specs.Trace.{trace}
+use Rattle.job_plan.specs.Bases.{base_walk}
+use Rattle.job_plan.proofs.source.Source.of_leg.Goals as goal
+
+pub returns : goal.returns
+returns c =
+    let t = base_walk c.args.self.base in
+    ap (λ (xs : List Item). trace xs t.ending) (sym (c.within.ensures t.items c.args.self.few))

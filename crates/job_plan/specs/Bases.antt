@@ -1,0 +1,13 @@
+-- Condition: the walks of which sources of the program have positions.
+use Rattle.trace.specs.Cover.{placed, too_long}
+use Rattle.trace.specs.Trace.{Trace, trace}
+use Rattle.trace.specs.declared.item.End.TheVariants as end
+use Rattle.job_language.specs.Jobs.{sources_of}
+use Rattle.job_meaning.specs.Walks.{values_of}
+use Rattle.job_plan.specs.declared.source.Base.{Base}
+use Rattle.job_plan.specs.declared.source.Base.TheVariants as base
+
+abbrev pub base_walk : Base → Trace
+base_walk (base.Plain p) = trace (placed 0 (values_of (sources_of p.sources.now))) end.Done
+base_walk base.TooLong = too_long
+base_walk (base.Given w) = w.now
