@@ -1,6 +1,6 @@
 -- Items whose places count up or are listed.
 use Rattle.std.proofs.Common.{◌≡◌, ℕ, zero, suc, ℤ, pos, ◌+◌, ◌<◌, ◌≤◌, ◌^◌, Bool, true, false, List, [], ◌∷◌, ◌++◌, length, length-append, slice_get, get_or, set, map, take, drop, Option, Some, None, IfSome, add-one, refl, sym, ap, ◌∙◌, arith}
-use Rattle.std.proofs.lemmas.List.{get_or-take, length-drop, length-map, length-take, length-take-le, map-append, take_at, take_more, take_more_set}
+use Rattle.std.proofs.lemmas.List.{length-drop, length-map, length-take, length-take-le, map-append, take_at, take_more, take_more_set}
 use Rattle.std.proofs.lemmas.List.FromFn.{length-range_with_len}
 use Rattle.std.proofs.lemmas.Option.{slice_get_within, get_or_from_slice_get}
 use Rattle.std.specs.List.{range_with_len}
@@ -139,19 +139,8 @@ pub get_at : (start : Option ℕ) (ps : List ℕ) (vs : List ℤ) (k : ℕ) → 
 get_at (Some first) ps vs k h below = placed_get first vs k (pos 0) (get_or vs k (pos 0)) below refl
 get_at None ps vs k h below = listed_get ps vs k (h refl) below
 
-module _ (start : Option ℕ) (places : List ℕ) (values : List ℤ) (n : ℕ) (is : IsBuffer start places values n) (xs : List Item) (k : ℕ) (e : items_at start (take n places) (take n values) ≡ xs) (inside : k < length xs) where
-  pub front_within : k < n
-  front_within = let l = ap length e in omega (arith, l, length_front start places values n is, inside)
-
-  pub front_item : slice_get xs k ≡ Some (item_at start places values k)
-  front_item =
-      ap (λ (ys : List Item). slice_get ys k) (sym e)
-      ∙ get_at start (take n places) (take n values) k (front_paired start places values n is) (let l = front_values start places values n is in omega (arith, l, front_within))
-      ∙ ap Some (at_front start (get_or-take n places k 0 front_within) (get_or-take n values k (pos 0) front_within))
-    where
-      at_front : (s : Option ℕ) → get_or (take n places) k 0 ≡ get_or places k 0 → get_or (take n values) k (pos 0) ≡ get_or values k (pos 0) → item_at s (take n places) (take n values) k ≡ item_at s places values k
-      at_front (Some first) p v = λ i. record { origin = first + k; value = v i }
-      at_front None p v = λ i. record { origin = p i; value = v i }
+pub front_within : (start : Option ℕ) (places : List ℕ) (values : List ℤ) (n : ℕ) → IsBuffer start places values n → (xs : List Item) (k : ℕ) → items_at start (take n places) (take n values) ≡ xs → k < length xs → k < n
+front_within start places values n is xs k e inside = let l = ap length e in omega (arith, l, length_front start places values n is, inside)
 
 -- the items of a batch
 pub batch_listed : (xs : List Item) (ps : List ℕ) (vs : List ℤ) → length ps ≡ length vs → length vs ≡ length xs → ((k : ℕ) → k < length vs → slice_get xs (0 + k) ≡ Some (item_at None ps vs k)) → listed ps vs ≡ xs

@@ -15,9 +15,9 @@ use lambda_values::{BinaryOperator, BoolExpr, Env, Faults, LongExpr};
 use std::alloc::Global;
 use trace::Stage;
 
-/// How many operators cheap stages have at most. What they leave of a value is computed twice: for the fold of a piece,
-/// and where the piece is read. Up to about this many, that takes less time than to write each value and to read it
-/// again.
+/// How many operators cheap stages have at most. What they leave of a value is computed twice, for the fold of a piece
+/// and where the piece is read, and takes no memory. With several workers, or where most values pass, that takes less
+/// time than to write what is left and to read it again. With one worker it takes more where few pass.
 const MOST_OPERATORS: u32 = 4;
 
 /// Maps and filters, one after the other. Each names no earlier job and can't have a fault. There may be none.

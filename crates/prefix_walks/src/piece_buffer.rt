@@ -1,7 +1,8 @@
 //! Items of a piece in a buffer, in which they are scanned, and out of which they are fed.
 
-ghost use Rattle.std.specs.Prelude.{◌≡◌, ◌+◌, ◌≤◌, ◌<◌, ◌^◌, ◌++◌, ◌∷◌, [], ℕ, Some, length, map};
+ghost use Rattle.std.specs.Prelude.{◌≡◌, ◌+◌, ◌≤◌, ◌<◌, ◌^◌, ◌++◌, ◌∷◌, [], ℕ, None, Some, length, map};
 ghost use Rattle.trace.specs.declared.sink.Flow.TheVariants as flows;
+ghost use Rattle.batch_eval.specs.Batches.{item_at};
 ghost use Rattle.reduce_ops.specs.Operators.{value_of};
 ghost use Rattle.prefix_scan.specs.Scans.{fold_at, scan_at};
 ghost use Rattle.prefix_walks.specs.Placing.{FitsPlaces, items_at, places_from};
@@ -167,17 +168,28 @@ impl SourceItems for PieceBuffer {
     }
 
     fn item_at(&self, position: u64) -> Item {
-        let lane = position as usize;
-        match self.start {
-            Some(first) => Item {
-                origin: first + position,
-                value: self.values[lane],
-            },
-            None => Item {
-                origin: self.places[lane],
-                value: self.values[lane],
-            },
-        }
+        item_of(
+            self.start,
+            &self.places[..self.count],
+            &self.values[..self.count],
+            position as usize,
+        )
+    }
+}
+
+/// The item of a value, at a place that counts up from the first one, if it is given, or is listed.
+fn item_of(start: Option<u64>, places: &[u64], values: &[i64], lane: usize) -> Item
+    requires value { lane < length values.now }
+    requires place { start ≡ None → lane < length places.now }
+    requires below { (first : ℕ) → start ≡ Some first → first + lane < 2 ^ 64 }
+    ensures { result ≡ item_at start places.now values.now lane }
+{
+    Item {
+        origin: match start {
+            Some(first) => first + lane as u64,
+            None => places[lane],
+        },
+        value: values[lane],
     }
 }
 

@@ -19,9 +19,9 @@ use trace::{MAX_SOURCE_SIZE, NoMemory, SourceItems};
 /// How many items there are at least whose values are stored without their places, if these count up.
 const LEAST_RUN: usize = 16;
 
-/// From how many items of a piece on these are worked out again where they are read. To work out few takes longer than
-/// to store them.
-const LEAST_WORKED: usize = 64;
+/// From how many items of a piece on these are worked out again where they are read. With one worker it takes less time
+/// to store fewer; that takes at most 2 bytes for each value that the stages go over.
+const LEAST_WORKED: usize = 128;
 
 /// The place of the first of this many items, if the places count up and there are enough of them.
 fn run_place<I: SourceItems>(source: &I, count: usize) -> Option<u64>
