@@ -2,18 +2,12 @@
 use Rattle.std.proofs.Common.{◌≡◌, ℕ, ◌+◌, ◌<◌, List, [], ◌∷◌, ◌++◌, ap, ◌∙◌, arith}
 use Rattle.completion_core.specs.Legal.{count}
 use Rattle.pending_count.specs.declared.view.View.{View}
-use Rattle.pending_count.specs.Views.{left_slot, right_slot, note_of, less, IsPlainAt}
+use Rattle.pending_count.specs.Views.{left_slot, right_slot, note_of, less}
 use Rattle.pending_count.specs.Steps.{IsArrived}
-use Rattle.pending_count.proofs.SumLemmas.{one_at, total-append, at_here}
+use Rattle.pending_count.proofs.SumLemmas.{one_at, total-append}
 use Rattle.completer_tree.specs.Paths.{KeepsNext, IsPath, Propagates}
 
 module _ {T : Type 0} where
-  pub can_arrive : (i : ℕ) (path : List ℕ) (v : View T) → IsPath (i ∷ path) v → (0 < i) × (0 < count i v.held) × IsPlainAt i v
-  can_arrive i path v p =
-      let h = at_here i in
-      let here = p.1 i (omega arith) in
-      (here.0, p.0, here.1)
-
   -- what a seat knows of a path it knows by its notes
   keeps_on : (i : ℕ) (path : List ℕ) (v w : View T) → w.noted ≡ v.noted → w.noted_sides ≡ v.noted_sides → KeepsNext i path v → KeepsNext i path w
   keeps_on i [] v w same same_sides k = tt

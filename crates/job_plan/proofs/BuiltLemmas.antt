@@ -19,7 +19,7 @@ use Rattle.find_ops.specs.Finds.{find_of}
 use Rattle.find_ops.specs.declared.terminal.FindTerminal.TheVariants as terminal
 use Rattle.reduce_ops.specs.declared.op.Op.TheVariants as op
 use Rattle.job_plan.proofs.FirstLemmas.{first_answer, pipe_clean}
-use Rattle.job_plan.proofs.MapLemmas.{limit_before_maps, limited_none, pipe_joined, same_items, skip_before_maps}
+use Rattle.job_plan.proofs.MapLemmas.{limit_before_maps, pipe_joined, same_items, skip_before_maps}
 use Rattle.job_plan.proofs.PartLemmas.{length-stages_of, stages_more}
 use Rattle.job_plan.proofs.WindowLemmas.{clean_scanned, clean_source, clean_window}
 
@@ -46,10 +46,6 @@ limit_selects n gs k keep t u h m env = sym (limit_before_maps n gs keep k env t
 
 pub skip_selects : (n : ℕ) (gs : List AbstractStage) (k : ℕ) → all_keep true gs ≡ true → (t u : Trace) → skipped k t ≡ u → (m : ℕ) (env : Numbers) → pipe n gs env u ≡ sliced (skip k) m env (pipe n gs env t)
 skip_selects n gs k keep t u h m env = sym (skip_before_maps n gs keep k env t ∙ ap (pipe n gs env) h)
-
--- `limit(0)` makes the same of any walk
-pub limits_alike : (t u : Trace) → limited 0 t ≡ limited 0 u
-limits_alike t u = limited_none t ∙ sym (limited_none u)
 
 -- a slice that selects positions
 pub window_next : (b new : Begun) (w : Window) (d : AbstractSlice) → b.links.items ≡ [] → (new.scans ≡ b.scans) × (new.links ≡ b.links) → new.window ≡ w

@@ -15,7 +15,7 @@ use Rattle.find_ops.specs.declared.terminal.FindTerminal.TheVariants as terminal
 use Rattle.job_meaning.specs.declared.answer.Answer.TheVariants as answer
 use Rattle.job_plan.specs.declared.outcome.Outcome.TheVariants as outcome
 use Rattle.job_plan.specs.Building.{IsClean, all_calm, is_calm}
-use Rattle.job_plan.specs.Plans.{AbstractEnd, folding, finding, ended}
+use Rattle.job_plan.specs.Plans.{folding, finding, ended}
 use Rattle.prefix_walks.proofs.FaultlessLemmas.{both, test_there, value_there}
 
 one_value : (a : ℤ) (xs : List Item) → fold_from (value_of op.First) a xs ≡ a

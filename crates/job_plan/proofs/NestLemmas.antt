@@ -1,23 +1,20 @@
 -- What a sink makes of the whole walk of a source.
-use Rattle.std.proofs.Common.{◌≡◌, ℕ, List, [], ◌++◌, take, length, ◌+◌, None, sym, ap, subst, ◌∙◌}
+use Rattle.std.proofs.Common.{◌≡◌, ℕ, List, [], ◌++◌, take, ◌+◌, None, sym, ap, subst, ◌∙◌}
 use Rattle.lambda_values.specs.Earlier.{Numbers}
 use Rattle.trace.specs.declared.item.Item.{Item}
 use Rattle.trace.specs.declared.item.Fault.{Fault}
 use Rattle.trace.specs.declared.item.End.{End}
 use Rattle.trace.specs.declared.item.End.TheVariants as end
 use Rattle.trace.specs.declared.sink.Flow.{Flow}
-use Rattle.trace.specs.Stages.{pipe}
 use Rattle.trace.specs.Trace.{Trace, trace, nothing, append}
 use Rattle.trace.proofs.JoinLemmas.{pipe_ended}
-use Rattle.slice_ops.specs.Slices.{AbstractSlice, sliced}
+use Rattle.slice_ops.specs.Slices.{AbstractSlice}
 use Rattle.job_plan.specs.declared.link_sink.Passage.{Passage}
 use Rattle.job_plan.specs.declared.part.Part.{Part}
-use Rattle.job_plan.specs.Links.{open_link}
-use Rattle.job_plan.specs.Plans.{link_walk, AbstractEnd, AbstractLink, AbstractSegment, last_stage, walk_of}
+use Rattle.job_plan.specs.Plans.{AbstractEnd, AbstractSegment, last_stage, walk_of}
 use Rattle.job_plan.specs.Parts.{EndsFor, GoesOnFrom, HasTaken, StandsFor}
 use Rattle.job_plan.specs.Passages.{HasPassed}
 use Rattle.prefix_walks.specs.Pieces.{elements}
-use Rattle.job_plan.proofs.MapLemmas.{skip_none}
 use Rattle.job_plan.proofs.FeedLemmas.{piece_in_two, stands_more, stands_fault, stands_enough}
 use Rattle.prefix_walks.proofs.SideBySide.{whole_piece}
 use Rattle.job_plan.proofs.WalkLemmas.{taken_none}
@@ -46,10 +43,6 @@ module _ (P : Trace → Type 0) (g : AbstractSegment) (env : Numbers) (t : Trace
 pub begun_as : {S : Type 0} (h : S → List Item → Type 0) (f : S → Flow) (d e : AbstractSlice) (n : ℕ) (g : AbstractSegment) (env : Numbers) (p : Passage) (s : S) → d ≡ e
     → HasPassed h f d n g env d p s [] → HasPassed h f e n g env d p s []
 begun_as h f d e n g env p s is x = subst (λ (b : AbstractSlice). HasPassed h f b n g env d p s []) is x
-
--- a link that lets all items pass
-pub open_walk : (l : AbstractLink) → l ≡ open_link → (env : Numbers) (t : Trace) → sliced l.slice (l.first + length l.stages) env (pipe l.first l.stages env t) ≡ t
-open_walk l is env t = ap (λ (k : AbstractLink). link_walk k env t) is ∙ skip_none t
 
 -- ---- from the part of no item
 

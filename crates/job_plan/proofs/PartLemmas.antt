@@ -121,10 +121,6 @@ optional_fault (end.Fault g) v f a h = let k : f ≡ g = cc in ap answer.Fault k
 
 -- ---- what settles a piece
 
-pub is_done : (e : End) → is_fault e ≡ false → e ≡ end.Done
-is_done end.Done h = refl
-is_done (end.Fault f) h = absurd (let z : true ≡ false = h in cc)
-
 the_fault : (e : End) → is_fault e ≡ true → (f : Fault) × (e ≡ end.Fault f)
 the_fault end.Done h = absurd (let z : false ≡ true = h in cc)
 the_fault (end.Fault f) h = (f, refl)

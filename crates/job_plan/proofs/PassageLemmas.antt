@@ -16,18 +16,9 @@ use Rattle.trace.proofs.JoinLemmas.{append_faulted, append_grouped, pipe_append,
 use Rattle.slice_ops.specs.Slices.{AbstractSlice, sliced}
 use Rattle.job_plan.specs.declared.link_sink.Passage.{Passage}
 use Rattle.job_plan.specs.declared.link_sink.Passage.TheVariants as passage
-use Rattle.job_plan.specs.Passages.{HasPassed, IsAfter, fed_by, onward, passage_flow, through_link}
+use Rattle.job_plan.specs.Passages.{HasPassed, IsAfter, fed_by, onward, through_link}
 use Rattle.job_plan.specs.Plans.{AbstractSegment, walk_of}
 use Rattle.job_plan.proofs.WalkLemmas.{enough_at_last}
-
--- what a slice answers is what it wants
-pub answered_flow : (r : Fed) (p : Passage) (e : End) (left : AbstractSlice) (f : Flow) → IsAfter r e left p → f ≡ flow_after (Ok r) → passage_flow p f ≡ flow_after (Ok (fed_by p))
-answered_flow fed.More passage.Open e left f next wants = wants
-answered_flow fed.More passage.Enough e left f next wants = absurd next
-answered_flow fed.More (passage.Ended k) e left f next wants = refl
-answered_flow fed.More passage.Refused e left f next wants = absurd next
-answered_flow (fed.Fault x) p e left f next wants = ap (λ (q : Passage). passage_flow q f) next ∙ sym (ap (λ (q : Passage). flow_after (Ok (fed_by q))) next)
-answered_flow fed.Enough p e left f next wants = ap (λ (q : Passage). passage_flow q f) next ∙ sym (ap (λ (q : Passage). flow_after (Ok (fed_by q))) next)
 
 -- all items were taken
 pub answered : {T : Type 0} (has : T → List Item → Type 0) (t : T) (xs items : List Item) (p : Passage) → has t (xs ++ items) → IsFed has xs (trace items end.Done) (Ok (fed_by p)) t
@@ -143,9 +134,6 @@ module _ {S : Type 0} (h : S → List Item → Type 0) (f : S → Flow) (begun :
         → P (onward h f begun n g env xs (trace [] e))
     closed_open e k ends took p =
         subst P (sym (took.2 (trace [] e) ∙ ap (λ (t : Trace). append (trace took.0 end.Done) (walk_of g env t)) ends ∙ ap (append (trace took.0 end.Done)) (pipe_ended g.first g.stages env k))) (p took.0 took.1)
-
-    pub enough_open : (later : Trace) → Passed rest passage.Open s xs → ((ys : List Item) (u : Trace) → h s ys → P (append (trace ys end.Done) u)) → P (onward h f begun n g env xs later)
-    enough_open later took p = subst P (sym (took.2 later)) (p took.0 (through_link rest n g env later) took.1)
 
     pub closed_enough : (later : Trace) → Passed rest passage.Enough s xs → (f s ≡ flow.Enough → (ys : List Item) (u : Trace) → h s ys → P (append (trace ys end.Done) u)) → P (onward h f begun n g env xs later)
     closed_enough later took p = subst P (sym (took.3 later).1) (p took.2 took.0 (took.3 later).0 took.1)

@@ -6,7 +6,7 @@ use native.Mathlib.Decide.{ℕ_discrete}
 use Rattle.completion_core.specs.Graph.{copies}
 use Rattle.completion_core.specs.Legal.{count, only_at}
 use Rattle.pending_count.specs.declared.view.View.{View}
-use Rattle.pending_count.specs.Views.{left_slot, right_slot, note_of, first_view}
+use Rattle.pending_count.specs.Views.{left_slot, right_slot, note_of}
 use Rattle.pending_count.specs.Steps.{IsClaimed, IsArmed, drawn_node}
 use Rattle.pending_count.proofs.SumLemmas.{one_at, at_here, at_else, total-append}
 use Rattle.pending_count.proofs.RecordLemmas.{fresh-count, fresh_here, fresh_else}
@@ -135,9 +135,6 @@ module _ {T : Type 0} where
     no_side : (k : ℕ) → count k v1.sides ≡ 0
     no_side k = ap (count k) claim.sides ∙ has.no_side k
 
-    pub arm_plain : (i : ℕ) → 0 < count i onward → count (left_slot i) v1.sides + count (right_slot i) v1.sides ≤ 1
-    arm_plain i there = let a = no_side (left_slot i) in let b = no_side (right_slot i) in omega arith
-
     module _ {S : Type 0} {actor pending : ℕ} (s : Start) (later : List ℕ) (v2 : View T) (named : s.node ≡ node) (keeps : s.onward.items ≡ onward) (told : IsArmed S nodes actor node pending onward v1 v2)
         (more : (i : ℕ) → count i later ≤ count i (copies pending node) + count i taken) where
       other : (i : ℕ) (l : List ℕ) → note_of i v.noted ≡ Some l → i ≢ node
@@ -175,32 +172,6 @@ module _ {T : Type 0} where
         ends = by_last (λ n l. 0 < count 0 l) ss s has.ends (subst (λ l. 0 < count 0 l) (sym keeps) (let c = onward_count 0 in let o = at_here 0 in omega arith));
       }
 
-  -- the first seat, before any start node is armed
-  pub first_starts : (jobs : ℕ) (all : List ℕ) (v : View T) → v ≡ first_view jobs → ((i : ℕ) → count i all ≡ 0) → HasStarts jobs [] all v
-  first_starts jobs all v is none_wait = record {
-    held = λ i. let a = none_wait i in let e : count i v.held ≡ count i (copies jobs 0) = ap (λ (u : View T). count i u.held) is in omega arith;
-    no_side = λ k. ap (λ (u : View T). count k u.sides) is;
-    rooted = λ node q e. let f : None ≡ Some (Some q) = sym (ap (λ (u : View T). note_of node u.places) is) ∙ e in absurd (grind arith);
-    unplaced = ap (λ (u : View T). length u.places) is;
-    noted = λ k low. absurd (omega arith);
-    noted_sides = λ k low. absurd (omega arith);
-    smaller = λ k i low. absurd (omega arith);
-    ends = λ k low. absurd (omega arith);
-  }
-
-  -- after the last one no job is left
-  pub all_armed : (left : ℕ) (ss : List Start) (all : List ℕ) (v : View T) → left ≡ 0 → HasStarts left ss all v → HasStarts 0 ss [] v
-  all_armed left ss all v e h = record {
-    held = λ i. let a = h.held i in omega arith;
-    no_side = h.no_side;
-    rooted = h.rooted;
-    unplaced = h.unplaced;
-    noted = h.noted;
-    noted_sides = h.noted_sides;
-    smaller = h.smaller;
-    ends = h.ends;
-  }
-
   -- a seat that armed all start nodes knows them
   pub starts_known : (jobs : ℕ) (start : ℕ → ℕ) (keeps : ℕ → List ℕ) (left : ℕ) (ss : List Start) (all : List ℕ) (v : View T) → length ss ≡ jobs → ((j : ℕ) → (start j ≡ node_at ss (jobs - 1 - j)) × (keeps j ≡ kept_at ss (jobs - 1 - j))) → HasStarts left ss all v → KnowsStarts jobs start keeps v
   starts_known jobs start keeps left ss all v count_is is h =
@@ -215,10 +186,6 @@ module _ {T : Type 0} where
         plain = λ j i low there. (h.no_side (left_slot i), h.no_side (right_slot i));
         rooted = h.rooted;
       }
-
-nodes_as : (f h : ℕ → ℕ) (n : ℕ) → ((k : ℕ) → k < n → f k ≡ h k) → nodes_below f n ≡ nodes_below h n
-nodes_as f h zero same = refl
-nodes_as f h (suc n) same = ap (λ a. a ∷ nodes_below f n) (same n (omega arith)) ∙ ap (λ l. h n ∷ l) (nodes_as f h n (λ k low. same k (omega arith)))
 
 -- the start nodes of all jobs, the last one's first, are those that were armed
 pub all_below : (start : ℕ → ℕ) (ss : List Start) (n : ℕ) → length ss ≡ n → ((k : ℕ) → k < n → start k ≡ node_at ss (n - 1 - k)) → nodes_below start n ≡ start_nodes ss

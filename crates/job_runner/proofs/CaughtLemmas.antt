@@ -1,16 +1,15 @@
 -- Parts and faults as they are handed in, and where they go.
-use Rattle.std.proofs.Common.{◌≡◌, ◌≢◌, ℕ, ◌<◌, ◌≤◌, Bool, true, false, Option, Some, None, Result, Ok, Err, subst, sym, refl, ◌∙◌, arith}
+use Rattle.std.proofs.Common.{◌≡◌, ◌≢◌, ℕ, ◌<◌, ◌≤◌, Bool, Option, Some, None, Result, Ok, Err, subst, sym, refl, ◌∙◌, arith}
 use Rattle.trace.specs.declared.item.Fault.{Fault}
 use Rattle.pending_count.specs.declared.place.Side.{Side}
 use Rattle.pending_count.specs.declared.place.Side.TheVariants.{Left, Right, Whole}
-use Rattle.pending_count.specs.Pairs.{side_of}
 use Rattle.completer_tree.specs.declared.part.Failure.{Failure}
 use Rattle.completer_tree.specs.declared.part.Failure.TheVariants as failure
 use Rattle.completer_tree.specs.Places.{Goes, IsLeftmost}
 use Rattle.job_runner.specs.declared.cut.CutPiece.{CutPiece}
 use Rattle.job_runner.specs.declared.cut.Merged.{Merged}
 use Rattle.job_runner.specs.declared.cut.Merged.TheVariants.{Part, Caught}
-use Rattle.job_runner.specs.Cuts.{Fits, HandedIn, IfMerged, IsSideOf, StandsWhole, begins, ends_at}
+use Rattle.job_runner.specs.Cuts.{Fits, HandedIn, IfMerged, StandsWhole, begins, ends_at}
 
 -- a fact by other names for job, segment and positions
 pub moved : (P : ℕ → ℕ → ℕ → ℕ → Type 0) {j j' k k' a a' b b' : ℕ} → j ≡ j' → k ≡ k' → a ≡ a' → b ≡ b' → P j k a b → P j' k' a' b'
@@ -24,11 +23,6 @@ module _ {A X : Type 0} (stands : ℕ → ℕ → ℕ → ℕ → A → Type 0) 
   side_handed cut Right v some h = h
   side_handed cut Whole v some h = absurd (some refl)
 
-  pub handed_side : (cut : CutPiece) (side : Side) (v : Result X Failure) → side ≢ Whole → HandedIn stands faults found cut.job cut.segment (begins cut side) (ends_at cut side) v → Fits stands faults found cut side v
-  handed_side cut Left v some h = h
-  handed_side cut Right v some h = h
-  handed_side cut Whole v some h = absurd (some refl)
-
   -- what a part or a fault that is handed in says
   pub handed_part : (job segment from to : ℕ) (v : Result X Failure) (x : X) (p : A) → v ≡ Ok x → found x ≡ Part p → HandedIn stands faults found job segment from to v → stands job segment from to p
   handed_part job segment from to v x p is part h = subst (IfMerged (stands job segment from to) ⊥) part (subst (HandedIn stands faults found job segment from to) is h)
@@ -39,13 +33,6 @@ module _ {A X : Type 0} (stands : ℕ → ℕ → ℕ → ℕ → A → Type 0) 
   pub handed_failure : (job segment from to : ℕ) (v : Result X Failure) (e : Failure) (f : Fault) → v ≡ Err e → e ≡ failure.Fault f → HandedIn stands faults found job segment from to v → faults job segment from to f
   handed_failure job segment from to v e f is fault h = subst (λ (d : Failure). HandedIn stands faults found job segment from to (Err d)) fault (subst (HandedIn stands faults found job segment from to) is h)
 
-  pub none_caught : (job segment from to : ℕ) (v : Result X Failure) (x : X) → v ≡ Ok x → found x ≡ Caught → HandedIn stands faults found job segment from to v → ⊥
-  none_caught job segment from to v x is caught h = subst (IfMerged (stands job segment from to) ⊥) caught (subst (HandedIn stands faults found job segment from to) is h)
-
-  -- and what is handed in for them
-  pub part_handed : (job segment from to : ℕ) (x : X) (p : A) → found x ≡ Part p → stands job segment from to p → HandedIn stands faults found job segment from to (Ok x)
-  part_handed job segment from to x p part h = subst (IfMerged (stands job segment from to) ⊥) (sym part) h
-
   -- of a whole segment
   pub whole_part : (size : ℕ → ℕ → ℕ) (job segment : ℕ) (v : Result X Failure) (x : X) (p : A) → v ≡ Ok x → found x ≡ Part p → StandsWhole stands faults size job segment found v → stands job segment 0 (size job segment) p
   whole_part size job segment v x p is part h = subst (IfMerged (stands job segment 0 (size job segment)) ((f : Fault) × faults job segment 0 (size job segment) f)) part (subst (StandsWhole stands faults size job segment found) is h)
@@ -53,32 +40,7 @@ module _ {A X : Type 0} (stands : ℕ → ℕ → ℕ → ℕ → A → Type 0) 
   pub whole_caught : (size : ℕ → ℕ → ℕ) (job segment : ℕ) (v : Result X Failure) (x : X) → v ≡ Ok x → found x ≡ Caught → StandsWhole stands faults size job segment found v → (f : Fault) × faults job segment 0 (size job segment) f
   whole_caught size job segment v x is caught h = subst (IfMerged (stands job segment 0 (size job segment)) ((f : Fault) × faults job segment 0 (size job segment) f)) caught (subst (StandsWhole stands faults size job segment found) is h)
 
-  pub part_whole : (size : ℕ → ℕ → ℕ) (job segment n : ℕ) (x : X) (p : A) → found x ≡ Part p → n ≡ size job segment → stands job segment 0 n p → StandsWhole stands faults size job segment found (Ok x)
-  part_whole size job segment n x p part e h = subst (IfMerged (stands job segment 0 (size job segment)) ((f : Fault) × faults job segment 0 (size job segment) f)) (sym part) (subst (λ z. stands job segment 0 z p) e h)
-
   -- ---- where the answer of a node goes
-
-  goes_side : (cut : CutPiece) (p : CutPiece × Bool) (v : Result X Failure) → IsSideOf cut p → HandedIn stands faults found cut.job cut.segment cut.from cut.to v → Fits stands faults found p.0 (side_of p.1) v
-  goes_side cut (q, true) v s h = moved (λ j k a b. HandedIn stands faults found j k a b v) (sym s.0) (sym s.1) (sym s.2) (sym s.3) h
-  goes_side cut (q, false) v s h = moved (λ j k a b. HandedIn stands faults found j k a b v) (sym s.0) (sym s.1) (sym s.2) (sym s.3) h
-
-  -- a merged part
-  pub part_goes : (cut : CutPiece) (parent : Option (CutPiece × Bool)) (x : X) (p : A) → found x ≡ Part p → ((q : CutPiece × Bool) → parent ≡ Some q → IsSideOf cut q) → stands cut.job cut.segment cut.from cut.to p
-      → Goes {T = CutPiece} {V = X} {F = Failure} (λ c side v. Fits stands faults found c side v) cut parent (Ok x)
-  part_goes cut None x p part side h = subst (IfMerged (stands cut.job cut.segment cut.from cut.to) ((f : Fault) × faults cut.job cut.segment cut.from cut.to f)) (sym part) h
-  part_goes cut (Some q) x p part side h = goes_side cut q (Ok x) (side q refl) (part_handed cut.job cut.segment cut.from cut.to x p part h)
-
-  -- a fault below the top
-  pub fault_goes : (cut : CutPiece) (parent : Option (CutPiece × Bool)) (f : Fault) → (parent ≡ None → ⊥) → ((q : CutPiece × Bool) → parent ≡ Some q → IsSideOf cut q) → faults cut.job cut.segment cut.from cut.to f
-      → Goes {T = CutPiece} {V = X} {F = Failure} (λ c side v. Fits stands faults found c side v) cut parent (Err (failure.Fault f))
-  fault_goes cut None f some side h = absurd (some refl)
-  fault_goes cut (Some q) f some side h = goes_side cut q (Err (failure.Fault f)) (side q refl) h
-
-  -- a refused allocation
-  pub nothing_goes : (cut : CutPiece) (parent : Option (CutPiece × Bool)) → Goes {T = CutPiece} {V = X} {F = Failure} (λ c side v. Fits stands faults found c side v) cut parent (Err failure.NoMemory)
-  nothing_goes cut None = tt
-  nothing_goes cut (Some (q, true)) = tt
-  nothing_goes cut (Some (q, false)) = tt
 
   -- at the top, a caught fault
   pub caught_goes : (cut : CutPiece) (parent : Option (CutPiece × Bool)) (x : X) → found x ≡ Caught → parent ≡ None → (f : Fault) × faults cut.job cut.segment cut.from cut.to f

@@ -32,13 +32,6 @@ module _ {V K T : Type 0} {g : Ghosts K V T} where
   pub part_unplaced : (credit : ℕ) (seat part : Seat V K T g) → length (view_of seat).places ≡ 0 → view_of part ≡ part_view 0 0 credit [] (view_of seat) → length (view_of part).places ≡ 0
   part_unplaced credit seat part none is = ap (λ (u : View T). length u.places) is ∙ none
 
-  pub rest_unplaced : (credit : ℕ) (seat rest : Seat V K T g) → length (view_of seat).places ≡ 0 → view_of rest ≡ rest_view 0 0 credit [] (view_of seat) → length (view_of rest).places ≡ 0
-  rest_unplaced credit seat rest none is = ap (λ (u : View T). length u.places) is ∙ none
-
-  -- it has no node to arm
-  pub part_armed : (credit : ℕ) (seat part : Seat V K T g) → view_of part ≡ part_view 0 0 credit [] (view_of seat) → (i : ℕ) → count i (view_of part).claims ≡ 0
-  part_armed credit seat part is i = ap (λ (u : View T). count i u.claims) is
-
 module _ {V K T : Type 0} {g : Ghosts K V T} {jobs : ℕ} {start : ℕ → ℕ} {keeps : ℕ → List ℕ} where
   -- a seat from which credit alone was split off holds and knows what it did
   pub credit_rest : (credit : ℕ) (seat rest : Seat V K T g) → KnowsStarts jobs start keeps (view_of seat) → ((k : ℕ) → count k (view_of seat).sides ≡ 0) → view_of rest ≡ rest_view 0 0 credit [] (view_of seat)

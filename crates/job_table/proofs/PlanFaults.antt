@@ -18,7 +18,7 @@ use Rattle.job_plan.specs.declared.outcome.Outcome.TheVariants as outcome
 use Rattle.job_plan.specs.declared.fold_part.FoldPart.{FoldPart}
 use Rattle.job_plan.specs.declared.part.Part.{Part}
 use Rattle.job_plan.specs.declared.part.Part.TheVariants as part
-use Rattle.job_plan.specs.Parts.{EndsFor, StandsEnough, is_fault}
+use Rattle.job_plan.specs.Parts.{EndsFor, is_fault}
 use Rattle.job_plan.specs.Plans.{AbstractEnd, folding, finding, collecting, exactly, scanning, AbstractPlan, AbstractSegment, ended, folded, given_answer, last_stage, leg_at, legs_answer, walk_of}
 use Rattle.job_plan.specs.FoldFaults.{end_fault, fold_fault}
 use Rattle.prefix_walks.specs.Pieces.{piece_of}

@@ -1,9 +1,7 @@
 -- Elements at positions of a list, and of two lists one after the other.
 use Rattle.std.proofs.Common.{FitsSigned, w64, int_lt, unsigned_abs, ◌-ℤ◌, Bool, true, false, if◌then◌else◌, subst, ◌≡◌, ℕ, zero, suc, ◌+◌, ◌-◌, ◌<◌, ◌≤◌, min, ℤ, pos, ◌+ℤ◌, List, [], ◌∷◌, ◌++◌, length, take, drop, Option, Some, None, refl, sym, ap, ◌∙◌, arith}
 use Rattle.std.proofs.lemmas.Int.{ints}
-use Rattle.std.specs.List.{flat_map}
 use Rattle.std.proofs.lemmas.List.{drop-drop, length-drop, take-append-drop, take-take, take_all}
-use Rattle.std.proofs.lemmas.List.Concat.{flat_map-append}
 use borrow.Author.Differences.{fits_in, fits_out}
 use Rattle.trace.specs.declared.item.Item.{Item}
 use Rattle.trace.specs.Cover.{counted, distance, placed}
@@ -132,14 +130,6 @@ take_counted zero a (suc c) h = refl
 take_counted (suc n) a zero h = absurd (omega arith)
 take_counted (suc n) a (suc c) h = ap (λ (vs : List ℤ). a ∷ vs) (take_counted n (a +ℤ pos 1) c (omega arith))
 
--- the values of a range are numbers of 64 bits
-pub closed_range_fits : (a b : ℤ) (i : ℕ) → FitsSigned w64 a → FitsSigned w64 b → i < distance a (b +ℤ pos 1) → FitsSigned w64 (a +ℤ pos i)
-closed_range_fits a b i p q h = by_test (int_lt a (b +ℤ pos 1)) refl
-  where
-    by_test : (t : Bool) → int_lt a (b +ℤ pos 1) ≡ t → FitsSigned w64 (a +ℤ pos i)
-    by_test true e = let k : i < unsigned_abs ((b +ℤ pos 1) -ℤ a) = subst (λ (m : ℕ). i < m) (ap (λ (t : Bool). if t then unsigned_abs ((b +ℤ pos 1) -ℤ a) else 0) e) h in omega (arith, ints, fits_in, fits_out w64 a p, fits_out w64 b q, k, e)
-    by_test false e = let k : i < 0 = subst (λ (m : ℕ). i < m) (ap (λ (t : Bool). if t then unsigned_abs ((b +ℤ pos 1) -ℤ a) else 0) e) h in absurd (omega (arith, k))
-
 -- a piece of a range
 pub counted_piece : (a : ℤ) (n start count : ℕ) → start + count ≤ n → take count (drop start (counted a n)) ≡ counted (a +ℤ pos start) count
 counted_piece a n start count h = ap (take count) (drop_counted start a n) ∙ take_counted count (a +ℤ pos start) (n - start) (omega arith)
@@ -166,14 +156,3 @@ less_one_fits a b p q h = by_test (int_lt a b) refl
 pub past_first : {A : Type 0} (from : ℕ) (to : Option ℕ) (xs : List A) → length xs ≤ from → elements from to xs ≡ []
 past_first from None xs h = let e : length xs - from ≡ 0 = omega arith in clamped from None xs ∙ ap (λ n. take n (drop (min from (length xs)) xs)) e ∙ take_none (drop (min from (length xs)) xs)
 past_first from (Some to) xs h = let e : min to (length xs) - from ≡ 0 = omega arith in clamped from (Some to) xs ∙ ap (λ n. take n (drop (min from (length xs)) xs)) e ∙ take_none (drop (min from (length xs)) xs)
-
--- positions after the items of whole pieces
-pub elements_after : {X A : Type 0} (f : X → List A) (ps : List X) (w n from : ℕ) (to : Option ℕ) → n ≡ length (flat_map f (take w ps)) → n ≤ from
-    → elements from to (flat_map f ps) ≡ elements (from - n) (after to n) (flat_map f (drop w ps))
-elements_after f ps w n from to e h =
-    let xs = flat_map f (take w ps) in
-    let ys = flat_map f (drop w ps) in
-    let few : length xs ≤ from = omega (arith, e, h) in
-    ap (λ qs. elements from to (flat_map f qs)) (sym (take-append-drop w ps)) ∙ ap (elements from to) (flat_map-append f (take w ps) (drop w ps))
-    ∙ elements_both from to xs ys ∙ ap (λ zs. zs ++ elements (from - length xs) (after to (length xs)) ys) (past_first from to xs few)
-    ∙ (λ i. elements (from - sym e i) (after to (sym e i)) ys)

@@ -18,7 +18,7 @@ use Rattle.prefix_walks.specs.declared.folded_piece.FoldedPiece.{FoldedPiece}
 use Rattle.prefix_walks.specs.declared.folded_piece.PieceStart.{PieceStart}
 use Rattle.prefix_walks.specs.Pieces.{elements}
 use Rattle.prefix_walks.specs.Spans.{after}
-use Rattle.prefix_walks.proofs.Elements.{elements_both, elements_none, past_first}
+use Rattle.prefix_walks.proofs.Elements.{elements_both, past_first}
 use Rattle.prefix_walks.specs.Scans.{all_items, items_of, mark, marks_of}
 
 -- the fold of a whole piece, after what lies left of it
@@ -106,9 +106,6 @@ next_scanned f r q start ps w p from to size zs h is k z =
     ∙ elements_both from to here (scan_at f r (q + length xs) (fold_at f r q start xs) ys)
     ∙ (λ i. elements from to (sym z i) ++ elements (from - l i) (after to (l i)) (scan_at f r (q + sym k i) (fold_at f r q start xs) ys))
 
-pub none_scanned : (f : ℤ → ℤ → ℤ) (r : Range) (q : ℕ) (start : Option ℤ) (ps : List FoldedPiece) (w from : ℕ) (to : Option ℕ) → length ps ≤ w → elements from to (scan_at f r q start (all_items (drop w ps))) ≡ []
-none_scanned f r q start ps w from to h = ap (λ qs. elements from to (scan_at f r q start (all_items qs))) (none_left ps w h) ∙ elements_none from to
-
 -- the pieces from one on, with what lies left of them
 mark_is : (f : ℤ → ℤ → ℤ) (r : Range) (q : ℕ) (start : Option ℤ) (ps : List FoldedPiece) (k : ℕ) (m : PieceStart) → slice_get (marks_of f r q start ps) k ≡ Some m
     → (m.before ≡ q + length (all_items (take k ps))) × (m.start ≡ fold_at f r q start (all_items (take k ps)))
@@ -142,11 +139,6 @@ scanned_after f r ps k n from start to e s h =
     ∙ elements_both from to here (scan_at f r (0 + length xs) (fold_at f r 0 None xs) ys)
     ∙ ap (λ us. us ++ elements (from - length here) (after to (length here)) (scan_at f r (0 + length xs) (fold_at f r 0 None xs) ys)) (past_first from to here few)
     ∙ (λ i. elements (from - l i) (after to (l i)) (scan_at f r (z i) (sym s i) ys))
-
-pub marks_within : (f : ℤ → ℤ → ℤ) (r : Range) (q : ℕ) (start : Option ℤ) (ps : List FoldedPiece) (k : ℕ) (m : PieceStart) → slice_get (marks_of f r q start ps) k ≡ Some m → k ≤ length ps
-marks_within f r q start [] k m h = absurd (let z : None ≡ Some m = h in cc)
-marks_within f r q start (p ∷ ps) zero m h = omega arith
-marks_within f r q start (p ∷ ps) (suc k) m h = let l = marks_within f r (q + length (items_of p)) (fold_at f r q start (items_of p)) ps k m h in omega (arith, l)
 
 -- what is left of the pieces, and how many items they have
 pub few_after : (ps : List FoldedPiece) (k n size bound : ℕ) → n ≡ length (all_items (take k ps)) → size ≡ length (all_items ps) → size < bound → n + length (all_items (drop k ps)) < bound

@@ -1,6 +1,5 @@
 -- Walks that end without a fault: no place in them decides how they end.
 use Rattle.std.proofs.Common.{◌≡◌, ℕ, ℤ, suc, ◌≤◌, ◌<◌, Bool, true, false, List, [], ◌∷◌, length, None, refl, ap, arith}
-use Rattle.trace.specs.declared.item.Item.{Item}
 use Rattle.trace.specs.declared.item.End.{End}
 use Rattle.trace.specs.declared.item.End.TheVariants as end
 use Rattle.lambda_values.specs.declared.fault.FaultKind.TheVariants as kind

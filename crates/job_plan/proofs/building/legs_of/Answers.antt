@@ -1,7 +1,6 @@
-use Rattle.std.proofs.Common.{◌≡◌, ◌≤◌, ◌+◌, ℕ, suc, List, [], length, sym, ap, ◌∙◌, arith, rules}
+use Rattle.std.proofs.Common.{◌≡◌, ◌≤◌, ◌+◌, suc, [], length, sym, ap, ◌∙◌, arith, rules}
 use Rattle.std.specs.Vec.Iter.{into_iter_items, into_iter_len}
-use Rattle.lambda_values.specs.Earlier.{Numbers}
-use Rattle.job_language.specs.Jobs.{AbstractPlainSource, job_stages_of, terminal_of}
+use Rattle.job_language.specs.Jobs.{job_stages_of, terminal_of}
 use Rattle.job_meaning.specs.Walks.{after_stages, answer_of, source_walk}
 use Rattle.job_plan.specs.Building.{begun_walk, number_of}
 use Rattle.job_plan.specs.Parts.{end_in, legs_in}

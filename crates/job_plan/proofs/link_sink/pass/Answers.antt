@@ -3,7 +3,7 @@ use Rattle.trace.specs.declared.item.Item.{Item}
 use Rattle.trace.specs.declared.item.End.TheVariants as end
 use Rattle.trace.specs.declared.feeding.Fed.{Fed}
 use Rattle.trace.specs.Sinks.{IsFed}
-use Rattle.trace.specs.Trace.{Trace, trace}
+use Rattle.trace.specs.Trace.{trace}
 use Rattle.slice_ops.specs.Rests.{rest_of}
 use Rattle.job_plan.specs.declared.link_sink.Passage.{Passage}
 use Rattle.job_plan.specs.declared.link_sink.Passage.TheVariants as passage

@@ -1,7 +1,6 @@
 use denote.Exit.{no}
 use denote.Param.{param}
 use denote.Param.Send.{arg_send, arg_sync, param_send, param_sync}
-use mir.Syntax.{named}
 use Rattle.job_plan.specs.contracts.part.Part as parts
 use Rattle.job_table.specs.contracts.kept.SegmentSource as segment_sources
 use Rattle.job_table.specs.contracts.planned.PlanJobs as plan_jobs
