@@ -1,6 +1,6 @@
 -- The items of lanes, by their position.
-use Rattle.std.proofs.Common.{◌≡◌, ℕ, ℤ, pos, map, add-one, zero, suc, ◌+◌, ◌<◌, ◌≤◌, List, [], ◌∷◌, ◌++◌, length, get_or, take, Option, Some, None, refl, sym, ap, ◌∙◌, append_assoc, arith, length-append, add-zero}
-use Rattle.std.proofs.lemmas.List.{append-nil, get_or_append_left, get_or_at, map-append, take_more}
+use Rattle.std.proofs.Common.{◌≡◌, ℕ, ℤ, pos, map, add-one, zero, suc, ◌+◌, ◌<◌, ◌≤◌, List, [], ◌∷◌, ◌++◌, length, get_or, drop, take, Option, Some, None, refl, sym, ap, ◌∙◌, append_assoc, arith, length-append, add-zero}
+use Rattle.std.proofs.lemmas.List.{append-nil, get_or_append_left, get_or_at, map-append, take_all, take_more}
 use Rattle.std.proofs.lemmas.Option.{slice_get_within, get_or_from_slice_get, slice_get-get_or}
 use Rattle.std.specs.List.{slice_get}
 use mathlib.Core.Logic.{dite}
@@ -36,6 +36,12 @@ lanes_taken items p (suc n) g here =
     let one = take_more items (p + n) (g n) (slice_get_within items (p + n) (g n) last) in
     let before = lanes_taken items p n g (λ k below. here k (omega arith)) in
     ap (λ (m : ℕ). take m items) on ∙ one ∙ rw (before, get_or_from_slice_get items (p + n) (g n) (g n) last) (append_assoc (take p items) (lanes n g) (g n ∷ []))
+
+-- items up to a position, and some after it
+pub taken_more : (items : List Item) (p n : ℕ) → take (p + n) items ≡ take p items ++ take n (drop p items)
+taken_more items zero n = let on : 0 + n ≡ n = omega arith in ap (λ (m : ℕ). take m items) on
+taken_more [] (suc p) n = take_all (suc p + n) [] (omega arith) ∙ sym (take_all n [] (omega arith))
+taken_more (x ∷ xs) (suc p) n = let on : suc p + n ≡ suc (p + n) = omega arith in ap (λ (m : ℕ). take m (x ∷ xs)) on ∙ ap (λ (ys : List Item). x ∷ ys) (taken_more xs p n)
 
 -- a position of an item is a live lane
 pub lane_inside : (live k : ℕ) (g : ℕ → Item) (e : End) (t : Trace) → trace (lanes live g) e ≡ t → k < length t.items → k < live

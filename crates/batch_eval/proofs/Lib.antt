@@ -5,6 +5,7 @@ pub mod FlagLemmas
 pub mod FlaggedLemmas
 pub mod Items
 pub mod KeptLaneLemmas
+pub mod LaneLemmas
 pub mod PlaceLemmas
 pub mod PowerLemmas
 pub mod ReciprocalLemmas

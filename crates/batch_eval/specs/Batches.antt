@@ -31,9 +31,9 @@ item_at start origins values k = record { origin = origin_at start origins k; va
 abbrev pub counted_item : ℕ → ℤ → ℕ → Item
 counted_item place first k = record { origin = place + k; value = wrap (first +ℤ pos k) }
 
--- the items of listed places and values, one after the other
-abbrev pub listed_items : List ℕ → List ℤ → List Item
-listed_items places values = lanes (length values) (item_at None places values)
+-- the items of places and values, one after the other
+abbrev pub laid_items : Option ℕ → List ℕ → List ℤ → List Item
+laid_items start places values = lanes (length values) (item_at start places values)
 
 -- the first n lanes that pass, in turn
 abbrev pub picked : (ℕ → Bool) → ℕ → List ℕ
@@ -85,7 +85,7 @@ StopsInside (Some kind) live n = live < n
 -- registers of 1,024 lanes
 pub record IsSized (live : ℕ) (start : Option ℕ) (origins : List ℕ) (values : List ℤ) (spare : List ℤ) : Type 0 where
   pub live_lanes : live ≤ 1024
-  pub counts : CountsUp start 1024
+  pub counts : CountsUp start live
   pub origins_length : length origins ≡ 1024
   pub values_length : length values ≡ 1024
   pub spare_length : length spare ≡ 1024

@@ -1,7 +1,7 @@
 //! A batch of items in registers, and the stages over it.
 
 ghost use Rattle.batch_eval.specs.Batches.{CountsUp, StopsInside, counted_item, end_after, item_at, lanes};
-ghost use Rattle.batch_eval.specs.Batches.{listed_items, origin_at};
+ghost use Rattle.batch_eval.specs.Batches.{laid_items, origin_at};
 ghost use Rattle.batch_eval.specs.Lanes.{at};
 ghost use Rattle.batch_eval.specs.Rooms.{Fits};
 ghost use Rattle.lambda_values.specs.Term.{long_of};
@@ -9,12 +9,11 @@ ghost use Rattle.std.specs.Prelude.{◌≡◌, ◌+◌, ◌<◌, ◌≤◌, ◌^
 ghost use Rattle.std.specs.Prelude.{take};
 ghost use Rattle.trace.specs.Stages.{of_item};
 ghost use Rattle.trace.specs.Stages.{map as abstract_map};
-ghost use Rattle.trace.specs.Cover.{placed};
 ghost use Rattle.trace.specs.Trace.{each, trace};
 ghost use Rattle.trace.specs.declared.item.Item.{Item};
 
 use crate::counted::eval_counted;
-use crate::listed::ListedItems;
+use crate::lane_items::LaneItems;
 use crate::listing::{copy_front, list_items, list_places, list_values};
 use crate::pipeline::Pipeline;
 use crate::reached::Reached;
@@ -24,13 +23,13 @@ use lambda_values::LongExpr;
 use std::alloc::Global;
 use std::marker::Model;
 use std::mem;
-use trace::{End, Fault, Item, NoMemory, PlacedValues, SourceItems};
+use trace::{End, Fault, Item, NoMemory, SourceItems};
 
 /// Up to 1,024 items in registers, and how the walk ends after them.
 ///
 /// Contracts see a batch as the trace of those items.
 #[derive(Drop)]
-pub struct Batch {
+pub(crate) struct Batch {
     pub(crate) live: usize,
     /// The place of the first lane, if the places count up from it; else they are listed.
     pub(crate) start: Option<u64>,
@@ -54,7 +53,7 @@ impl Model for Batch {
 /// The place of a lane.
 pub(crate) fn origin_of(start: Option<u64>, origins: &[u64], lane: usize) -> u64
     requires counts { CountsUp start (lane + 1) }
-    requires within { lane < length origins.now }
+    requires listed { start ≡ None → lane < length origins.now }
     ensures { result ≡ origin_at start origins.now lane }
 {
     match start {
@@ -75,12 +74,14 @@ fn value_of(values: &[i64], lane: usize) -> i64
 pub(crate) fn stopped(
     end: End,
     stage: u32,
+    live: usize,
     start: Option<u64>,
     origins: &[u64],
     reached: Reached,
 ) -> End
-    requires counts { CountsUp start (length origins.now) }
-    requires inside { StopsInside reached.fault reached.live (length origins.now) }
+    requires counts { CountsUp start live }
+    requires listed { start ≡ None → live ≤ length origins.now }
+    requires inside { StopsInside reached.fault reached.live live }
     ensures { result ≡ end_after end stage (origin_at start origins.now reached.live) reached.fault }
 {
     match reached.fault {
@@ -120,35 +121,49 @@ impl Batch {
             live: self.live,
         };
         let reached = eval_long(image, inputs, &mut self.spare, room);
-        self.end = stopped(self.end, line.first, self.start, &self.origins, reached);
+        self.end = stopped(
+            self.end,
+            line.first,
+            self.live,
+            self.start,
+            &self.origins,
+            reached,
+        );
         self.live = reached.live;
         mem::swap(&mut self.values, &mut self.spare);
     }
 
-    /// Starts again with the images of values that lie elsewhere.
-    pub(crate) fn map_run(
+    /// Starts again with the images of items that lie elsewhere.
+    pub(crate) fn map_from(
         &mut self,
-        run: PlacedValues<'_>,
+        lanes: LaneItems<'_>,
         image: &LongExpr,
         line: Pipeline<'_>,
         room: &mut [i64],
     )
-        requires lanes { length run.values.now ≤ 1024 }
+        requires lanes { length lanes.values.now ≤ 1024 }
         requires room { Fits (long_of image.now) (length room.old) }
         ensures { self.new ≡ each (of_item line.entry.first (abstract_map (long_of image.now)) line.entry.env.now)
-            (placed run.entry.origin run.entry.values.now) End.Done }
+            (laid_items lanes.entry.start lanes.entry.places.now lanes.entry.values.now) End.Done }
     {
-        let live = run.values.len();
-        let start = Some(run.origin);
+        let live = lanes.values.len();
         let inputs = Inputs {
             env: line.env,
-            xs: run.values,
+            xs: lanes.values,
             live,
         };
         let reached = eval_long(image, inputs, &mut self.values, room);
-        self.end = stopped(End::Done, line.first, start, &self.origins, reached);
+        self.end = stopped(
+            End::Done,
+            line.first,
+            live,
+            lanes.start,
+            lanes.places,
+            reached,
+        );
+        lanes.copy_places(&mut self.origins);
         self.live = reached.live;
-        self.start = start;
+        self.start = lanes.start;
     }
 
     /// Starts again with the images of numbers that count up, at places that do, if there are loops for it that read no
@@ -172,21 +187,22 @@ impl Batch {
             return false;
         };
         let start = Some(place);
-        self.end = stopped(End::Done, line.first, start, &self.origins, reached);
+        self.end = stopped(End::Done, line.first, live, start, &self.origins, reached);
         self.live = reached.live;
         self.start = start;
         true
     }
 
     /// Starts again with items that lie elsewhere.
-    pub(crate) fn copy(&mut self, listed: ListedItems<'_>)
-        requires lanes { length listed.values.now ≤ 1024 }
-        ensures { self.new ≡ trace (listed_items listed.entry.places.now listed.entry.values.now) End.Done }
+    pub(crate) fn copy(&mut self, lanes: LaneItems<'_>)
+        requires { length lanes.values.now ≤ 1024 }
+        ensures { self.new
+            ≡ trace (laid_items lanes.entry.start lanes.entry.places.now lanes.entry.values.now) End.Done }
     {
-        copy_front(listed.values, &mut self.values);
-        copy_front(listed.places, &mut self.origins);
-        self.live = listed.values.len();
-        self.start = None;
+        copy_front(lanes.values, &mut self.values);
+        lanes.copy_places(&mut self.origins);
+        self.live = lanes.values.len();
+        self.start = lanes.start;
         self.end = End::Done;
     }
 
@@ -253,8 +269,15 @@ impl Batch {
         self.live += count;
     }
 
+    /// The items, where they lie.
+    pub(crate) fn lanes(&self) -> LaneItems<'_>
+        ensures { laid_items result.start result.places.now result.values.now ≡ self.now.items }
+    {
+        LaneItems::front(self.live, self.start, &self.origins, &self.values)
+    }
+
     /// The values of the items, in encounter order.
-    pub fn values(&self) -> &[i64]
+    pub(crate) fn values(&self) -> &[i64]
         ensures { result.now ≡ map (λ x. x.value) self.now.items }
     {
         &self.values[..self.live]

@@ -1,10 +1,9 @@
 //! The items of a source in batches, through the stages and into a sink.
 
-ghost use Rattle.batch_eval.specs.Batches.{listed_items};
+ghost use Rattle.batch_eval.specs.Batches.{laid_items};
 ghost use Rattle.batch_eval.specs.Pipelines.{piped};
 ghost use Rattle.batch_eval.specs.Rooms.{FitsStages};
 ghost use Rattle.std.specs.Prelude.{◌≡◌, ◌+◌, ◌<◌, ◌≤◌, ◌^◌, List, Ok, OnErr, length, take};
-ghost use Rattle.trace.specs.Cover.{placed};
 ghost use Rattle.trace.specs.Sinks.{IsFed, flow_after};
 ghost use Rattle.trace.specs.Stages.{stages_of};
 ghost use Rattle.trace.specs.Trace.{trace};
@@ -12,14 +11,14 @@ ghost use Rattle.trace.specs.declared.feeding.Fed.TheVariants as fed;
 ghost use Rattle.trace.specs.declared.item.End.TheVariants as end;
 ghost use Rattle.trace.specs.declared.item.Item.{Item};
 
-use crate::listed::ListedItems;
+use crate::lane_items::LaneItems;
 use crate::pipeline::Pipeline;
 use crate::register::LANES;
 use crate::registers::{Registers, Space};
 use crate::sink::BatchSink;
 use crate::source::BatchSource;
 use crate::staging::feed_batch;
-use trace::{Fed, Flow, NoMemory, PlacedValues, Stage, feed_all};
+use trace::{Fed, Flow, NoMemory, Stage, feed_all};
 
 /// The first batch of a walk. Each further one is four times as large, up to 1,024 items, so that a
 /// sink that soon has enough doesn't pay for a large one.
@@ -30,9 +29,9 @@ const FIRST_BATCH: u64 = 16;
 /// The sink gets what `feed_all` of `trace` gives it. Each operator of a stage goes over a whole batch
 /// before the next one, so lambdas may be evaluated at up to one batch of items more than decide the
 /// result, and after each `flatMap` at one batch of inner values more. Expressions that need more than 32 registers,
-/// and what comes after a fourth `flatMap`, are evaluated item by item; so is all of a source of under 64 items without
-/// a `flatMap` if no registers are there yet, and of any source if an allocation of registers failed. `NoMemory` comes
-/// from the sink alone, which then keeps what it has accepted before.
+/// and what comes after a fourth `flatMap`, are evaluated item by item; so is all of a source of under 8 items without
+/// a `flatMap`, of under 64 if no registers are there yet, and of any source if an allocation of registers failed.
+/// `NoMemory` comes from the sink alone, which then keeps what it has accepted before.
 pub fn feed_batches<I: BatchSource, S: BatchSink>(
     line: Pipeline<'_>,
     source: &I,
@@ -146,14 +145,10 @@ fn feed_piece<I: BatchSource, S: BatchSink>(
     ensures refused { OnErr result S.takes_memory }
     ensures room { length space.new.room.items ≡ length space.old.room.items }
 {
+    if let Some(lanes) = source.lanes_at(position, count) {
+        return feed_in_place(line, lanes, space, sink);
+    }
     if let Some(first) = source.first_place() {
-        if let Some(values) = source.values_at(position, count) {
-            let run = PlacedValues {
-                origin: first + position,
-                values,
-            };
-            return feed_run(line, run, space, sink);
-        }
         if let Some(value) = source.value_from(position) {
             if let Some((Stage::Map(image), later)) = line.split_first() {
                 let place = first + position;
@@ -163,81 +158,40 @@ fn feed_piece<I: BatchSource, S: BatchSink>(
             }
         }
     }
-    if let Some(listed) = source.items_at(position, count) {
-        return feed_listed(line, listed, space, sink);
-    }
     space.batch.fill(source, position, count);
     feed_space(line, space, sink)
 }
 
-/// Takes up to 1,024 items whose places and values lie side by side. A `filter` that comes first reads them there,
-/// unless the sink takes its flags.
-fn feed_listed<S: BatchSink>(
+/// Takes up to 1,024 items whose values lie side by side. A `map` or a `filter` that comes first, and a sink, read them
+/// there.
+fn feed_in_place<S: BatchSink>(
     line: Pipeline<'_>,
-    listed: ListedItems<'_>,
+    lanes: LaneItems<'_>,
     space: &mut Space,
     sink: &mut S,
 ) -> Result<Fed, NoMemory>
     requires wants { S.flow sink.old ≡ Flow.More }
     requires room { FitsStages (stages_of line.stages.now) (length space.old.room.items) }
-    requires lanes { length listed.values.now ≤ 1024 }
+    requires lanes { length lanes.values.now ≤ 1024 }
     ensures fed { (xs : List Item) → S.has_taken sink.old xs → IsFed S.has_taken xs
-        (piped line.entry (trace (listed_items listed.entry.places.now listed.entry.values.now) end.Done))
+        (piped line.entry (trace (laid_items lanes.entry.start lanes.entry.places.now lanes.entry.values.now) end.Done))
         result sink.new }
     ensures flow { S.flow sink.new ≡ flow_after result }
     ensures refused { OnErr result S.takes_memory }
     ensures room { length space.new.room.items ≡ length space.old.room.items }
 {
-    if let Some((Stage::Filter(test), later)) = line.split_first() {
-        if !later.stages.is_empty() || !sink.takes_flags() {
-            space
-                .batch
-                .filter_listed(listed, test, line, &mut space.room);
-            return feed_space(later, space, sink);
-        }
-    }
-    space.batch.copy(listed);
-    feed_space(line, space, sink)
-}
-
-/// Takes up to 1,024 values that lie side by side. A `map` or a `filter` that comes first, and a sink, read them there.
-fn feed_run<S: BatchSink>(
-    line: Pipeline<'_>,
-    run: PlacedValues<'_>,
-    space: &mut Space,
-    sink: &mut S,
-) -> Result<Fed, NoMemory>
-    requires wants { S.flow sink.old ≡ Flow.More }
-    requires room { FitsStages (stages_of line.stages.now) (length space.old.room.items) }
-    requires lanes { length run.values.now ≤ 1024 }
-    ensures fed { (xs : List Item) → S.has_taken sink.old xs → IsFed S.has_taken xs
-        (piped line.entry (trace (placed run.entry.origin run.entry.values.now) end.Done)) result sink.new }
-    ensures flow { S.flow sink.new ≡ flow_after result }
-    ensures refused { OnErr result S.takes_memory }
-    ensures room { length space.new.room.items ≡ length space.old.room.items }
-{
     let Some((stage, later)) = line.split_first() else {
-        return sink.accept_run(run, &mut space.room);
+        return sink.accept_lanes(lanes, &mut space.room);
     };
-    match stage {
-        Stage::Map(image) => {
-            space.batch.map_run(run, image, line, &mut space.room);
-            feed_space(later, space, sink)
-        }
-        Stage::Filter(test) => {
-            if later.stages.is_empty() && sink.takes_flags() {
-                return space
-                    .batch
-                    .give_passing_run(run, test, line, &mut space.room, sink);
-            }
-            space.batch.filter_run(run, test, line, &mut space.room);
-            feed_space(later, space, sink)
-        }
-        Stage::FlatMap(_) => {
-            space.batch.fill(&run, 0, run.values.len() as u64);
-            feed_space(line, space, sink)
+    if sink.takes_flags() && later.stages.is_empty() {
+        if let Stage::Filter(test) = stage {
+            return space
+                .batch
+                .give_passing_from(lanes, test, line, &mut space.room, sink);
         }
     }
+    let later = space.batch.begin(lanes, line, &mut space.room);
+    feed_space(later, space, sink)
 }
 
 /// Takes the batch of these registers through the stages.

@@ -1,26 +1,24 @@
 //! Filters of a batch.
 
-ghost use Rattle.batch_eval.specs.Batches.{listed_items};
+ghost use Rattle.batch_eval.specs.Batches.{laid_items};
 ghost use Rattle.batch_eval.specs.Lanes.{at};
 ghost use Rattle.batch_eval.specs.Rooms.{FitsTest};
 ghost use Rattle.lambda_values.specs.Term.{truth_of};
 ghost use Rattle.std.specs.Prelude.{◌≡◌, ◌<◌, ◌≤◌, List, None, OnErr, Some, length};
 ghost use Rattle.trace.specs.Stages.{filter, of_item};
-ghost use Rattle.trace.specs.Cover.{placed};
 ghost use Rattle.trace.specs.Sinks.{IsFed, flow_after};
 ghost use Rattle.trace.specs.Trace.{each};
 ghost use Rattle.trace.specs.declared.item.Item.{Item};
 
 use crate::batch::{Batch, stopped};
-use crate::flagged::{LiveLanes, give_passing};
-use crate::keep::{keep, keep_lanes};
-use crate::lanes::{CountedPlaces, ListedPlaces, Register};
-use crate::listed::ListedItems;
+use crate::flagged::give_passing;
+use crate::keep::{keep_from, keep_lanes};
+use crate::lane_items::LaneItems;
 use crate::pipeline::Pipeline;
 use crate::register::{Inputs, eval_bool};
 use crate::sink::BatchSink;
 use lambda_values::BoolExpr;
-use trace::{End, Fed, Flow, Item, NoMemory, PlacedValues};
+use trace::{End, Fed, Flow, Item, NoMemory};
 
 impl Batch {
     /// `filter` of `LongStream`: the items at which the test is true, moved to the front.
@@ -35,7 +33,14 @@ impl Batch {
             live: self.live,
         };
         let reached = eval_bool(test, inputs, &mut self.spare, room);
-        self.end = stopped(self.end, line.first, self.start, &self.origins, reached);
+        self.end = stopped(
+            self.end,
+            line.first,
+            self.live,
+            self.start,
+            &self.origins,
+            reached,
+        );
         self.live = keep_lanes(
             &self.spare,
             reached.live,
@@ -46,65 +51,38 @@ impl Batch {
         self.start = None;
     }
 
-    /// Starts again with the values of a run at which the test is true.
-    pub(crate) fn filter_run(
+    /// Starts again with the items that lie elsewhere at which the test is true.
+    pub(crate) fn filter_from(
         &mut self,
-        run: PlacedValues<'_>,
+        lanes: LaneItems<'_>,
         test: &BoolExpr,
         line: Pipeline<'_>,
         room: &mut [i64],
     )
-        requires lanes { length run.values.now ≤ 1024 }
+        requires lanes { length lanes.values.now ≤ 1024 }
         requires room { FitsTest (truth_of test.now) (length room.old) }
         ensures { self.new ≡ each (of_item line.entry.first (filter (truth_of test.now)) line.entry.env.now)
-            (placed run.entry.origin run.entry.values.now) End.Done }
+            (laid_items lanes.entry.start lanes.entry.places.now lanes.entry.values.now) End.Done }
     {
-        let live = run.values.len();
-        let start = Some(run.origin);
+        let live = lanes.values.len();
         let inputs = Inputs {
             env: line.env,
-            xs: run.values,
+            xs: lanes.values,
             live,
         };
         let reached = eval_bool(test, inputs, &mut self.spare, room);
-        self.end = stopped(End::Done, line.first, start, &self.origins, reached);
-        self.live = keep(
-            &self.spare,
-            reached.live,
-            CountedPlaces(run.origin),
-            Register(run.values),
-            &mut self.values,
-            &mut self.origins,
+        self.end = stopped(
+            End::Done,
+            line.first,
+            live,
+            lanes.start,
+            lanes.places,
+            reached,
         );
-        self.start = None;
-    }
-
-    /// Starts again with the listed items at which the test is true.
-    pub(crate) fn filter_listed(
-        &mut self,
-        listed: ListedItems<'_>,
-        test: &BoolExpr,
-        line: Pipeline<'_>,
-        room: &mut [i64],
-    )
-        requires lanes { length listed.values.now ≤ 1024 }
-        requires room { FitsTest (truth_of test.now) (length room.old) }
-        ensures { self.new ≡ each (of_item line.entry.first (filter (truth_of test.now)) line.entry.env.now)
-            (listed_items listed.entry.places.now listed.entry.values.now) End.Done }
-    {
-        let live = listed.values.len();
-        let inputs = Inputs {
-            env: line.env,
-            xs: listed.values,
-            live,
-        };
-        let reached = eval_bool(test, inputs, &mut self.spare, room);
-        self.end = stopped(End::Done, line.first, None, listed.places, reached);
-        self.live = keep(
+        self.live = keep_from(
             &self.spare,
             reached.live,
-            ListedPlaces(listed.places),
-            Register(listed.values),
+            lanes,
             &mut self.values,
             &mut self.origins,
         );
@@ -127,41 +105,28 @@ impl Batch {
         ensures flow { S.flow sink.new ≡ flow_after result }
         ensures refused { OnErr result S.takes_memory }
     {
-        let lanes = LiveLanes {
-            live: self.live,
-            start: self.start,
-            origins: &self.origins,
-            values: &self.values,
-            end: self.end,
-        };
-        give_passing(test, line, lanes, &mut self.spare, room, sink)
+        let lanes = LaneItems::front(self.live, self.start, &self.origins, &self.values);
+        give_passing(test, line, lanes, self.end, &mut self.spare, room, sink)
     }
 
-    /// `filter` as the last stage over a run: gives a sink the values at which the test is true, where they lie.
-    pub(crate) fn give_passing_run<S: BatchSink>(
+    /// `filter` as the last stage over items that lie elsewhere: gives a sink those at which the test is true.
+    pub(crate) fn give_passing_from<S: BatchSink>(
         &mut self,
-        run: PlacedValues<'_>,
+        lanes: LaneItems<'_>,
         test: &BoolExpr,
         line: Pipeline<'_>,
         room: &mut [i64],
         sink: &mut S,
     ) -> Result<Fed, NoMemory>
-        requires lanes { length run.values.now ≤ 1024 }
+        requires lanes { length lanes.values.now ≤ 1024 }
         requires room { FitsTest (truth_of test.now) (length room.old) }
         requires wants { S.flow sink.old ≡ Flow.More }
         ensures fed { (xs : List Item) → S.has_taken sink.old xs → IsFed S.has_taken xs
             (each (of_item line.entry.first (filter (truth_of test.now)) line.entry.env.now)
-            (placed run.entry.origin run.entry.values.now) End.Done) result sink.new }
+            (laid_items lanes.entry.start lanes.entry.places.now lanes.entry.values.now) End.Done) result sink.new }
         ensures flow { S.flow sink.new ≡ flow_after result }
         ensures refused { OnErr result S.takes_memory }
     {
-        let lanes = LiveLanes {
-            live: run.values.len(),
-            start: Some(run.origin),
-            origins: &self.origins,
-            values: run.values,
-            end: End::Done,
-        };
-        give_passing(test, line, lanes, &mut self.spare, room, sink)
+        give_passing(test, line, lanes, End::Done, &mut self.spare, room, sink)
     }
 }

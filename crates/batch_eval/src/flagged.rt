@@ -1,10 +1,9 @@
 //! Lanes with a flag each, as a `filter` that comes last gives them to a sink: nothing is moved.
 
-ghost use Rattle.batch_eval.specs.Batches.{CountsUp, StopsInside, flagged_items, item_at};
-ghost use Rattle.batch_eval.specs.Batches.{lanes as lanes_of};
+ghost use Rattle.batch_eval.specs.Batches.{CountsUp, StopsInside, flagged_items, item_at, laid_items};
 ghost use Rattle.batch_eval.specs.Rooms.{FitsTest};
 ghost use Rattle.lambda_values.specs.Term.{truth_of};
-ghost use Rattle.std.specs.Prelude.{◌≡◌, ℕ, ◌+◌, ◌<◌, ◌≤◌, ◌^◌, List, OnErr, Some, length};
+ghost use Rattle.std.specs.Prelude.{◌≡◌, ℕ, ◌+◌, ◌<◌, ◌≤◌, ◌^◌, List, None, OnErr, Some, length};
 ghost use Rattle.trace.specs.Sinks.{IsFed, flow_after};
 ghost use Rattle.trace.specs.Stages.{filter, of_item};
 ghost use Rattle.trace.specs.Trace.{each, trace};
@@ -13,6 +12,7 @@ ghost use Rattle.trace.specs.declared.item.Item.{Item};
 
 use crate::batch::{origin_of, stopped};
 use crate::flag::is_set;
+use crate::lane_items::LaneItems;
 use crate::pipeline::Pipeline;
 use crate::register::{Inputs, eval_bool};
 use crate::sink::BatchSink;
@@ -28,7 +28,7 @@ pub struct FlaggedLanes<'a> {
     pub values: &'a [i64],
     pub flags: &'a [i64],
     ghost counts: { (first : ℕ) → start ≡ Some first → first + length flags.now < 2 ^ 64 },
-    ghost listed: { length flags.now ≤ length origins.now },
+    ghost listed: { start ≡ None → length flags.now ≤ length origins.now },
     ghost flagged: { length flags.now ≤ length values.now },
 }
 
@@ -68,49 +68,43 @@ pub fn accept_each_flagged<S: LongSink>(
     Ok(Fed::More)
 }
 
-/// Items in lanes, and how the walk ends after them.
-#[derive(Clone, Copy)]
-pub(crate) struct LiveLanes<'a> {
-    pub(crate) live: usize,
-    pub(crate) start: Option<u64>,
-    pub(crate) origins: &'a [u64],
-    pub(crate) values: &'a [i64],
-    pub(crate) end: End,
-}
-
 /// Tests lanes, and gives a sink the items at which the test is true. `flags` gets the flags.
 pub(crate) fn give_passing<S: BatchSink>(
     test: &BoolExpr,
     line: Pipeline<'_>,
-    lanes: LiveLanes<'_>,
+    lanes: LaneItems<'_>,
+    end: End,
     flags: &mut [i64],
     room: &mut [i64],
     sink: &mut S,
 ) -> Result<Fed, NoMemory>
-    requires lanes { lanes.live ≤ 1024 }
-    requires counts { CountsUp lanes.start (length lanes.origins.now) }
-    requires origins { 1024 ≤ length lanes.origins.now }
-    requires values { lanes.live ≤ length lanes.values.now }
-    requires flags { lanes.live ≤ length flags.old }
+    requires lanes { length lanes.values.now ≤ 1024 }
+    requires flags { length lanes.values.now ≤ length flags.old }
     requires room { FitsTest (truth_of test.now) (length room.old) }
     requires wants { S.flow sink.old ≡ Flow.More }
     ensures fed { (xs : List Item) → S.has_taken sink.old xs → IsFed S.has_taken xs
         (each (of_item line.entry.first (filter (truth_of test.now)) line.entry.env.now)
-        (lanes_of lanes.entry.live (item_at lanes.entry.start lanes.entry.origins.now lanes.entry.values.now))
-        lanes.entry.end) result sink.new }
+        (laid_items lanes.entry.start lanes.entry.places.now lanes.entry.values.now) end) result sink.new }
     ensures flow { S.flow sink.new ≡ flow_after result }
     ensures refused { OnErr result S.takes_memory }
 {
     let inputs = Inputs {
         env: line.env,
         xs: lanes.values,
-        live: lanes.live,
+        live: lanes.values.len(),
     };
     let reached = eval_bool(test, inputs, flags, room);
-    let end = stopped(lanes.end, line.first, lanes.start, lanes.origins, reached);
+    let end = stopped(
+        end,
+        line.first,
+        inputs.live,
+        lanes.start,
+        lanes.places,
+        reached,
+    );
     let flagged = FlaggedLanes {
         start: lanes.start,
-        origins: lanes.origins,
+        origins: lanes.places,
         values: lanes.values,
         flags: &flags[..reached.live],
     };

@@ -5,7 +5,8 @@ ghost use Rattle.batch_eval.specs.Lanes.{at};
 ghost use Rattle.std.specs.Prelude.{◌≡◌, ℕ, ◌<◌, ◌≤◌, length, slice_index};
 
 use crate::flag::is_set;
-use crate::lanes::{CountedPlaces, Lanes, Own};
+use crate::lane_items::LaneItems;
+use crate::lanes::{CountedPlaces, Lanes, ListedPlaces, Own, Register};
 
 /// Moves the items of the lanes whose flag is set to the front, and answers how many they are. Their places are listed.
 pub(crate) fn keep_lanes(
@@ -31,9 +32,36 @@ pub(crate) fn keep_lanes(
     }
 }
 
+/// Puts the items of lanes that lie elsewhere and whose flag is set to the front of registers, and answers how many
+/// they are. Their places are listed.
+pub(crate) fn keep_from(
+    flags: &[i64],
+    live: usize,
+    lanes: LaneItems<'_>,
+    values: &mut [i64],
+    origins: &mut [u64],
+) -> usize
+    requires flags { live ≤ length flags.now }
+    requires lanes { live ≤ length lanes.values.now }
+    requires values { live ≤ length values.old }
+    requires origins { live ≤ length origins.old }
+    ensures count { result ≡ length (passing flags.now live) }
+    ensures within { result ≤ live }
+    ensures values { (j : ℕ) → j < result
+        → at values.new j ≡ at lanes.entry.values.now (slice_index (passing flags.now live) j) }
+    ensures origins { (j : ℕ) → j < result → slice_index origins.new j
+        ≡ origin_at lanes.entry.start lanes.entry.places.now (slice_index (passing flags.now live) j) }
+{
+    let xs = Register(lanes.values);
+    match lanes.start {
+        Some(start) => keep(flags, live, CountedPlaces(start), xs, values, origins),
+        None => keep(flags, live, ListedPlaces(lanes.places), xs, values, origins),
+    }
+}
+
 /// Puts the items of the lanes whose flag is set to the front of registers, with their places, and answers how many
 /// they are.
-pub(crate) fn keep<P: Lanes<u64>, A: Lanes<i64>>(
+fn keep<P: Lanes<u64>, A: Lanes<i64>>(
     flags: &[i64],
     live: usize,
     places: P,

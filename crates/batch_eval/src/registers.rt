@@ -20,6 +20,9 @@ const MOST_REGISTERS: usize = 32 * LANES + 2;
 /// How many `flatMap`s of a pipeline go by batches. What comes out of a further one goes item by item.
 const MOST_NESTED: usize = 3;
 
+/// A walk over fewer items isn't worth registers, unless each item may become many.
+const LEAST_ITEMS: u64 = 8;
+
 /// A walk over fewer items isn't worth an allocation of registers, unless each item may become many.
 const FEW_ITEMS: u64 = 64;
 
@@ -51,8 +54,8 @@ impl Registers {
     }
 
     /// Registers that these stages can use for a walk over this number of items, moved out; a sink's test as well,
-    /// unless it needs more than 31 of them. There are none if the stages need more than 32, if the items are few,
-    /// without a `flatMap`, and an allocation would be needed, or if it failed.
+    /// unless it needs more than 31 of them. There are none if the stages need more than 32, if the items are under 8,
+    /// or under 64 and an allocation would be needed, without a `flatMap`, or if an allocation failed.
     pub(crate) fn take_for(
         &mut self,
         stages: &[Stage],
@@ -71,13 +74,17 @@ impl Registers {
     fn take_room(&mut self, stages: &[Stage], test: Option<&BoolExpr>, count: u64) -> Option<Space>
         ensures { IfSome result (λ space. FitsStages (stages_of stages.now) (length space.room.items)) }
     {
+        let grows = may_grow(stages);
+        if count < LEAST_ITEMS && !grows {
+            return None;
+        }
         if let Some(space) = self.space.take() {
             let room = space.room.len();
             if stages_fit(stages, room) && (flags_fit(test, room) || room >= MOST_REGISTERS) {
                 return Some(space);
             }
         }
-        if count < FEW_ITEMS && !may_grow(stages) {
+        if count < FEW_ITEMS && !grows {
             return None;
         }
         let few = stages_fit(stages, FEW_REGISTERS) && flags_fit(test, FEW_REGISTERS);

@@ -1,46 +1,35 @@
 //! Sinks that take the items of a batch at once.
 
-ghost use Rattle.batch_eval.specs.Batches.{flagged_items};
+ghost use Rattle.batch_eval.specs.Batches.{flagged_items, laid_items};
 ghost use Rattle.std.specs.Prelude.{◌≡◌, List, OnErr};
-ghost use Rattle.trace.specs.Cover.{placed};
 ghost use Rattle.trace.specs.Sinks.{IsFed, flow_after};
 ghost use Rattle.trace.specs.Trace.{trace};
 ghost use Rattle.trace.specs.declared.item.End.TheVariants as end;
 ghost use Rattle.trace.specs.declared.item.Item.{Item};
 
-use crate::batch::Batch;
 use crate::flagged::{FlaggedLanes, accept_each_flagged};
+use crate::lane_items::LaneItems;
 use lambda_values::BoolExpr;
-use trace::{Fed, Flow, LongSink, NoMemory, PlacedValues, SourceItems};
+use trace::{Fed, Flow, LongSink, NoMemory, SourceItems};
 
 /// A sink that takes the items of a batch at once.
 pub trait BatchSink: LongSink {
     /// Takes the items one after the other until it has enough, as `accept` takes one, and answers `More` or `Enough`.
     /// It doesn't learn how the walk ends after them. The sink may write to the room, which no other reads:
-    /// `count_passing` tests the values of a batch in it.
-    ///
-    /// `accept_each` does this for any sink.
-    fn accept_batch(&mut self, batch: &Batch, room: &mut [i64]) -> Result<Fed, NoMemory>
+    /// `count_passing` tests the values in it. Unless a sink has a faster way, it takes the items one by one.
+    fn accept_lanes(&mut self, lanes: LaneItems<'_>, room: &mut [i64]) -> Result<Fed, NoMemory>
         requires wants { Self.flow self.old ≡ Flow.More }
-        ensures fed { (xs : List Item) → Self.has_taken self.old xs
-            → IsFed Self.has_taken xs (trace batch.now.items end.Done) result self.new }
-        ensures flow { Self.flow self.new ≡ flow_after result }
-        ensures refused { OnErr result Self.takes_memory };
-
-    /// Takes values that lie side by side, as `accept` takes one item after the other. Unless a sink has a faster way,
-    /// it takes them one by one.
-    fn accept_run(&mut self, run: PlacedValues<'_>, room: &mut [i64]) -> Result<Fed, NoMemory>
-        requires wants { Self.flow self.old ≡ Flow.More }
-        ensures fed { (xs : List Item) → Self.has_taken self.old xs
-            → IsFed Self.has_taken xs (trace (placed run.entry.origin run.entry.values.now) end.Done) result self.new }
+        ensures fed { (xs : List Item) → Self.has_taken self.old xs → IsFed Self.has_taken xs
+            (trace (laid_items lanes.entry.start lanes.entry.places.now lanes.entry.values.now) end.Done)
+            result self.new }
         ensures flow { Self.flow self.new ≡ flow_after result }
         ensures refused { OnErr result Self.takes_memory }
     {
-        accept_each(&run, self)
+        accept_each(&lanes, self)
     }
 
     /// Whether a `filter` that comes last is to give its lanes with their flags, by `accept_flagged`, and not the items
-    /// that pass as a batch of their own, by `accept_batch`. Both give the sink equal items.
+    /// that pass, by `accept_lanes`. Both give the sink equal items.
     fn takes_flags(&self) -> bool {
         false
     }

@@ -47,20 +47,13 @@ pub(crate) fn feed_batch<S: BatchSink>(
     ensures flow { S.flow sink.new ≡ flow_after result }
     ensures refused { OnErr result S.takes_memory }
 {
+    let line = batch.go_on(line, sink.takes_flags(), room);
     let Some((stage, later)) = line.split_first() else {
         return give(batch, room, sink);
     };
     match stage {
-        Stage::Map(image) => {
-            batch.map(image, line, room);
-            feed_batch(later, batch, nested, room, sink)
-        }
-        Stage::Filter(test) => {
-            if later.stages.is_empty() && sink.takes_flags() {
-                return batch.give_passing(test, line, room, sink);
-            }
-            batch.filter(test, line, room);
-            feed_batch(later, batch, nested, room, sink)
+        Stage::Filter(test) if later.stages.is_empty() && sink.takes_flags() => {
+            batch.give_passing(test, line, room, sink)
         }
         Stage::FlatMap(inner) => match nested.split_first_mut() {
             Some((pending, rest)) => {
@@ -73,6 +66,7 @@ pub(crate) fn feed_batch<S: BatchSink>(
             }
             None => feed_lanes(line, batch, sink),
         },
+        Stage::Map(_) | Stage::Filter(_) => feed_lanes(line, batch, sink),
     }
 }
 
@@ -242,7 +236,7 @@ fn give<S: BatchSink>(batch: &Batch, room: &mut [i64], sink: &mut S) -> Result<F
     ensures flow { S.flow sink.new ≡ flow_after result }
     ensures refused { OnErr result S.takes_memory }
 {
-    match sink.accept_batch(batch, room)? {
+    match sink.accept_lanes(batch.lanes(), room)? {
         Fed::More => Ok(fed_by(batch.end())),
         stopped => Ok(stopped),
     }

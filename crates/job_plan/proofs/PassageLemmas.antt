@@ -1,5 +1,5 @@
 -- What goes on from a slice in the middle of a walk.
-use Rattle.std.proofs.Common.{◌≡◌, ℕ, List, [], ◌++◌, take, drop, Result, Ok, Err, IfOk, refl, sym, ap, subst, ◌∙◌, append_assoc}
+use Rattle.std.proofs.Common.{◌≡◌, ℕ, List, [], ◌++◌, take, drop, Some, Result, Ok, Err, IfOk, refl, sym, ap, subst, ◌∙◌, append_assoc}
 use Rattle.std.proofs.lemmas.List.{append-nil, take-append-drop}
 use Rattle.lambda_values.specs.Earlier.{Numbers}
 use Rattle.trace.specs.declared.item.Item.{Item}
@@ -16,7 +16,7 @@ use Rattle.trace.proofs.JoinLemmas.{append_faulted, append_grouped, pipe_append,
 use Rattle.slice_ops.specs.Slices.{AbstractSlice, sliced}
 use Rattle.job_plan.specs.declared.link_sink.Passage.{Passage}
 use Rattle.job_plan.specs.declared.link_sink.Passage.TheVariants as passage
-use Rattle.job_plan.specs.Passages.{HasPassed, IsAfter, fed_by, onward, through_link}
+use Rattle.job_plan.specs.Passages.{EndsAs, HasPassed, IsAfter, fed_by, onward, passage_flow, through_link}
 use Rattle.job_plan.specs.Plans.{AbstractSegment, walk_of}
 use Rattle.job_plan.proofs.WalkLemmas.{enough_at_last}
 
@@ -30,6 +30,10 @@ answered has t xs items passage.Refused took = enough_at_last (has t) xs items t
 pub if_ok_map : {A E : Type 0} (P Q : A → Type 0) (r : Result A E) → ((a : A) → P a → Q a) → IfOk r P → IfOk r Q
 if_ok_map P Q (Ok a) f h = f a h
 if_ok_map P Q (Err e) f h = h
+
+pub if_ok_both : {A E : Type 0} (P Q R : A → Type 0) (r : Result A E) → ((a : A) → P a → Q a → R a) → IfOk r P → IfOk r Q → IfOk r R
+if_ok_both P Q R (Ok a) f p q = f a p q
+if_ok_both P Q R (Err e) f p q = p
 
 module _ {S : Type 0} (h : S → List Item → Type 0) (f : S → Flow) (begun : AbstractSlice) (n : ℕ) (g : AbstractSegment) (env : Numbers) where
   abbrev Passed : AbstractSlice → Passage → S → List Item → Type 0
@@ -130,13 +134,28 @@ module _ {S : Type 0} (h : S → List Item → Type 0) (f : S → Flow) (begun :
 
   -- what a next sink makes that is closed instead of the slice
   module _ (P : Trace → Type 0) (rest : AbstractSlice) (s : S) (xs : List Item) where
-    pub closed_open : (e k : End) → sliced rest n env (trace [] e) ≡ trace [] k → Passed rest passage.Open s xs → ((ys : List Item) → h s ys → P (append (trace ys end.Done) (trace [] k)))
-        → P (onward h f begun n g env xs (trace [] e))
-    closed_open e k ends took p =
-        subst P (sym (took.2 (trace [] e) ∙ ap (λ (t : Trace). append (trace took.0 end.Done) (walk_of g env t)) ends ∙ ap (append (trace took.0 end.Done)) (pipe_ended g.first g.stages env k))) (p took.0 took.1)
+    -- what it makes of items, by how the walk ends after them, and if it has enough
+    abbrev Ends : End → Type 0
+    Ends k = (ys : List Item) → h s ys → P (append (trace ys end.Done) (trace [] k))
 
-    pub closed_enough : (later : Trace) → Passed rest passage.Enough s xs → (f s ≡ flow.Enough → (ys : List Item) (u : Trace) → h s ys → P (append (trace ys end.Done) u)) → P (onward h f begun n g env xs later)
-    closed_enough later took p = subst P (sym (took.3 later).1) (p took.2 took.0 (took.3 later).0 took.1)
+    abbrev Suffices : Type 0
+    Suffices = f s ≡ flow.Enough → (ys : List Item) (u : Trace) → h s ys → P (append (trace ys end.Done) u)
 
-    pub closed_ended : (e : End) (later : Trace) → Passed rest (passage.Ended e) s xs → ((ys : List Item) → h s ys → P (append (trace ys end.Done) (trace [] e))) → P (onward h f begun n g env xs later)
-    closed_ended e later took p = subst P (sym (took.2 later)) (p took.0 took.1)
+    settled : (later : Trace) → Passed rest passage.Enough s xs → Suffices → P (onward h f begun n g env xs later)
+    settled later took p = subst P (sym (took.3 later).1) (p took.2 took.0 (took.3 later).0 took.1)
+
+    ended : (x k : End) (later : Trace) → k ≡ x → Passed rest (passage.Ended x) s xs → Ends k → P (onward h f begun n g env xs later)
+    ended x k later is took p = subst P (sym (took.2 later ∙ ap (λ (z : End). append (trace took.0 end.Done) (trace [] z)) (sym is))) (p took.0 took.1)
+
+    pub closed_as : (p : Passage) (e k : End) → EndsAs p rest e (Some k) → Passed rest p s xs → Ends k → Suffices → P (onward h f begun n g env xs (trace [] e))
+    closed_as passage.Open e k ends took last enough =
+        subst P (sym (took.2 (trace [] e) ∙ ap (λ (t : Trace). append (trace took.0 end.Done) (walk_of g env t)) (ends n env) ∙ ap (append (trace took.0 end.Done)) (pipe_ended g.first g.stages env k))) (last took.0 took.1)
+    closed_as passage.Enough e k ends took last enough = settled (trace [] e) took enough
+    closed_as (passage.Ended x) e k ends took last enough = ended x k (trace [] e) ends took last
+    closed_as passage.Refused e k ends took last enough = absurd ends
+
+    pub enough_as : (p : Passage) (e k : End) (later : Trace) → EndsAs p rest e (Some k) → passage_flow p (f s) ≡ flow.Enough → Passed rest p s xs → Ends k → Suffices → P (onward h f begun n g env xs later)
+    enough_as passage.Open e k later ends wants took last enough = subst P (sym (took.2 later)) (enough wants took.0 (through_link rest n g env later) took.1)
+    enough_as passage.Enough e k later ends wants took last enough = settled later took enough
+    enough_as (passage.Ended x) e k later ends wants took last enough = ended x k later ends took last
+    enough_as passage.Refused e k later ends wants took last enough = absurd ends

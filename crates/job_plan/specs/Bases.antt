@@ -1,4 +1,4 @@
--- Condition: the walks of which sources of the program have positions.
+-- Condition: the whole walk whose positions a leg goes over, as the program keeps it.
 use Rattle.trace.specs.Cover.{placed, too_long}
 use Rattle.trace.specs.Trace.{Trace, trace}
 use Rattle.trace.specs.declared.item.End.TheVariants as end

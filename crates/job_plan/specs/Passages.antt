@@ -1,5 +1,5 @@
 -- Condition: a slice in the middle of a walk, and what went on from it.
-use Rattle.std.specs.Prelude.{◌≡◌, ℕ, List, [], ⊤}
+use Rattle.std.specs.Prelude.{◌≡◌, ℕ, List, [], Option, Some, None, ⊤}
 use Rattle.lambda_values.specs.Earlier.{Numbers}
 use Rattle.trace.specs.declared.item.Item.{Item}
 use Rattle.trace.specs.declared.item.End.{End}
@@ -34,6 +34,17 @@ IsAfter fed.More e rest (passage.Ended k) = (k ≡ e) × (e ≡ end.Done → (n 
 IsAfter fed.More e rest passage.Refused = ⊥
 IsAfter (fed.Fault f) e rest p = p ≡ passage.Ended (end.Fault f)
 IsAfter fed.Enough e rest p = p ≡ passage.Enough
+
+-- how the walk into the next sink ends, if the one into the slice ends so
+abbrev pub EndsAs : Passage → AbstractSlice → End → Option End → Type 0
+EndsAs passage.Open rest e (Some k) = (n : ℕ) (env : Numbers) → sliced rest n env (trace [] e) ≡ trace [] k
+EndsAs passage.Open rest e None = ⊥
+EndsAs passage.Enough rest e (Some k) = ⊤
+EndsAs passage.Enough rest e None = ⊥
+EndsAs (passage.Ended x) rest e (Some k) = k ≡ x
+EndsAs (passage.Ended x) rest e None = ⊥
+EndsAs passage.Refused rest e (Some k) = ⊥
+EndsAs passage.Refused rest e None = ⊤
 
 -- what a slice answers that goes on so
 abbrev pub fed_by : Passage → Fed

@@ -1,7 +1,8 @@
 //! A slice that comes after other stages, as a sink: what passes goes on at once, a batch at a time, through the stages
 //! after the slice and into the next sink. Nothing is kept.
 
-ghost use Rattle.std.specs.Prelude.{◌≡◌, ◌-◌, ◌<◌, ◌≤◌, ◌^◌, ℕ, List, [], drop, length, map, take, ⊤, ◌++◌, OnOk};
+ghost use Rattle.std.specs.Prelude.{◌≡◌, ◌-◌, ◌≤◌, ℕ, List, [], drop, length, take, ⊤, ◌++◌, OnOk};
+ghost use Rattle.batch_eval.specs.Batches.{laid_items};
 ghost use Rattle.lambda_values.specs.Earlier.{Numbers};
 ghost use Rattle.trace.specs.Sinks.{IsFed, flow_after};
 ghost use Rattle.trace.specs.Trace.{Trace, append, trace};
@@ -12,22 +13,16 @@ ghost use Rattle.slice_ops.specs.Rests.{rest_of};
 ghost use Rattle.slice_ops.specs.Slices.{AbstractSlice, limit, sliced};
 ghost use Rattle.batch_eval.specs.Pipelines.{piped};
 ghost use Rattle.job_plan.specs.Links.{line_in};
-ghost use Rattle.job_plan.specs.Passages.{HasPassed, IsAfter, fed_by, passage_flow, through_link};
+ghost use Rattle.job_plan.specs.Passages.{EndsAs, HasPassed, IsAfter, fed_by, passage_flow, through_link};
 ghost use Rattle.job_plan.specs.Plans.{AbstractSegment, collecting};
 
 use crate::closing::Closing;
 use crate::fronts::tested;
-use batch_eval::{
-    Batch, BatchSink, BatchSource, Pipeline, Registers, SourcePart, accept_each, feed_at_once,
-};
+use batch_eval::{BatchSink, LaneItems, Pipeline, Registers, feed_at_once};
 use lambda_values::BoolExpr;
-use prefix_walks::ItemPiece;
 use slice_ops::{SliceCut, SliceRest};
 use std::marker::{Brand, PhantomData};
-use trace::{End, Fed, Flow, Item, LongSink, NoMemory, PlacedValues, SourceItems, feed_all};
-
-/// At most this number of items go through stages one by one.
-const FEW_ITEMS: u64 = 8;
+use trace::{End, Fed, Flow, Item, LongSink, NoMemory};
 
 /// How a link of a walk began, and what comes after it, as contracts see it. No value has this type.
 pub(crate) trait LinkBrand {
@@ -72,6 +67,18 @@ impl Passage {
             Passage::Ended(End::Done)
         } else {
             Passage::Open
+        }
+    }
+
+    /// How the walk into the next sink ends, if that into the slice ends with `ending`; `None` if memory was refused.
+    fn end_after(self, rest: &SliceRest<'_>, ending: End) -> Option<End>
+        ensures { EndsAs self (rest_of rest.now) ending result }
+    {
+        match self {
+            Passage::Open => Some(rest.end_after(ending)),
+            Passage::Enough => Some(End::Done),
+            Passage::Ended(end) => Some(end),
+            Passage::Refused => None,
         }
     }
 }
@@ -129,102 +136,82 @@ fn answer(passage: Passage) -> Fed
     }
 }
 
-/// What a slice lets pass of the items of a source, which have these values. A function of its own keeps `pass` small,
-/// which is there for each depth of a nest.
+/// What a slice lets pass of items. A function of its own keeps `pass` small, which is there for each depth of a nest.
 #[inline(never)]
-fn cut_of<'p, I: BatchSource>(
+fn cut_of<'p>(
     rest: SliceRest<'p>,
     junction: Junction,
-    source: &I,
-    values: &[i64],
+    lanes: LaneItems<'_>,
     room: &mut [i64],
 ) -> SliceCut<'p>
-    requires values { map (λ x. x.value) (I.items source.now) ≡ values.now }
     ensures ordered { result.from ≤ result.to }
-    ensures within { result.to ≤ length (I.items source.now) }
+    ensures within { result.to ≤ length lanes.entry.values.now }
     ensures passes { (later : Trace)
         → sliced (rest_of rest.entry) junction.entry.stage junction.entry.next.env.now
-        (append (trace (I.items source.now) end.Done) later)
-        ≡ append (trace (take (result.to - result.from) (drop result.from (I.items source.now))) result.end)
+        (append (trace (laid_items lanes.entry.start lanes.entry.places.now lanes.entry.values.now) end.Done) later)
+        ≡ append (trace (take (result.to - result.from) (drop result.from
+        (laid_items lanes.entry.start lanes.entry.places.now lanes.entry.values.now))) result.end)
         (sliced (rest_of result.rest) junction.entry.stage junction.entry.next.env.now later) }
 {
     let Junction { stage, next } = junction;
-    let front = tested(&rest, next.env, values, room);
-    rest.cut(stage, next.env, source, front)
+    let front = tested(&rest, next.env, lanes.values, room);
+    rest.cut(stage, next.env, &lanes, front)
 }
 
-/// Takes the items of a source that a slice cut out of it through the stages and into a sink.
-fn hand_on<I: BatchSource, S: BatchSink>(
+/// Takes items through the stages and into a sink.
+fn hand_on<S: BatchSink>(
     line: Pipeline<'_>,
-    source: &I,
-    cut: &SliceCut<'_>,
+    lanes: LaneItems<'_>,
     registers: &mut Registers,
     room: &mut [i64],
     sink: &mut S,
 ) -> Result<Fed, NoMemory>
     requires wants { S.flow sink.old ≡ Flow.More }
-    requires ordered { cut.now.from ≤ cut.now.to }
-    requires within { cut.now.to ≤ length (I.items source.now) }
     ensures fed { (xs : List item) → S.has_taken sink.old xs → IsFed S.has_taken xs
-        (piped line.entry (trace (take (cut.now.to - cut.now.from) (drop cut.now.from (I.items source.now))) end.Done))
+        (piped line.entry (trace (laid_items lanes.entry.start lanes.entry.places.now lanes.entry.values.now) end.Done))
         result sink.new }
     ensures flow { S.flow sink.new ≡ flow_after result }
 {
-    let size = source.count();
-    let count = cut.to - cut.from;
-    let plain = line.stages.is_empty();
-    if plain && count == size {
-        return source.give(room, sink);
+    if line.stages.is_empty() {
+        return sink.accept_lanes(lanes, room);
     }
-    let part = SourcePart {
-        source,
-        from: cut.from,
-        count,
-    };
-    if plain {
-        return accept_each(&part, sink);
-    }
-    if count < FEW_ITEMS {
-        return feed_all(line.stages, line.first, line.env, &part, sink);
-    }
-    feed_at_once(line, &part, registers, sink)
+    feed_at_once(line, &lanes, registers, sink)
 }
 
-/// Lets the items of a source, which have these values, pass as a slice does, and takes those that pass through the
-/// stages of the next segment.
-fn pass<I: BatchSource, S: BatchSink + Drop>(
+/// Lets items pass as a slice does, and takes those that pass through the stages of the next segment.
+fn pass<S: BatchSink + Drop>(
     passing: &mut Passing<'_, S>,
     junction: Junction,
-    source: &I,
-    values: &[i64],
+    lanes: LaneItems<'_>,
     registers: &mut Registers,
     room: &mut [i64],
 ) -> Result<Fed, NoMemory>
     requires wants { passage_flow passing.old.passage (S.flow passing.old.inner.value) ≡ Flow.More }
-    requires values { map (λ x. x.value) (I.items source.now) ≡ values.now }
     ensures fed { (begun : AbstractSlice) (xs : List item)
         → HasPassed S.has_taken S.flow begun junction.entry.stage (line_in junction.entry.next)
         junction.entry.next.env.now (rest_of passing.old.rest) passing.old.passage passing.old.inner.value xs
         → IsFed (λ p. HasPassed S.has_taken S.flow begun junction.entry.stage
         (line_in junction.entry.next) junction.entry.next.env.now (rest_of p.rest) p.passage p.inner.value) xs
-        (trace (I.items source.now) end.Done) result passing.new }
+        (trace (laid_items lanes.entry.start lanes.entry.places.now lanes.entry.values.now) end.Done)
+        result passing.new }
     ensures all { OnOk result ((begun : AbstractSlice) (xs : List item)
         → HasPassed S.has_taken S.flow begun junction.entry.stage (line_in junction.entry.next)
         junction.entry.next.env.now (rest_of passing.old.rest) passing.old.passage passing.old.inner.value xs
         → HasPassed S.has_taken S.flow begun junction.entry.stage (line_in junction.entry.next)
         junction.entry.next.env.now (rest_of passing.new.rest) passing.new.passage passing.new.inner.value
-        (xs ++ I.items source.now)) }
+        (xs ++ laid_items lanes.entry.start lanes.entry.places.now lanes.entry.values.now)) }
     ensures flow { passage_flow passing.new.passage (S.flow passing.new.inner.value) ≡ flow_after result }
 {
     let Passage::Open = passing.passage else {
         return Ok(Fed::More);
     };
-    if values.is_empty() {
+    if lanes.values.is_empty() {
         return Ok(Fed::More);
     }
-    let cut = cut_of(passing.rest, junction, source, values, room);
+    let cut = cut_of(passing.rest, junction, lanes, room);
+    let part = lanes.part(cut.from, cut.to - cut.from);
     let inner = &mut *passing.inner;
-    let fed = match hand_on(junction.next, source, &cut, registers, room, inner) {
+    let fed = match hand_on(junction.next, part, registers, room, inner) {
         Ok(fed) => fed,
         Err(refused) => {
             passing.passage = Passage::Refused;
@@ -251,8 +238,11 @@ impl<K: LinkBrand, S: Closing> LongSink for LinkSink<'_, '_, K, S> {
         let fed = pass(
             &mut self.passing,
             self.junction,
-            &ItemPiece { items: &[item] },
-            &[item.value],
+            LaneItems {
+                start: None,
+                places: &[item.origin],
+                values: &[item.value],
+            },
             &mut self.registers,
             &mut [],
         )?;
@@ -264,24 +254,11 @@ impl<K: LinkBrand, S: Closing> LongSink for LinkSink<'_, '_, K, S> {
 }
 
 impl<K: LinkBrand, S: Closing> BatchSink for LinkSink<'_, '_, K, S> {
-    fn accept_batch(&mut self, batch: &Batch, room: &mut [i64]) -> Result<Fed, NoMemory> {
-        let values = batch.values();
+    fn accept_lanes(&mut self, lanes: LaneItems<'_>, room: &mut [i64]) -> Result<Fed, NoMemory> {
         pass(
             &mut self.passing,
             self.junction,
-            batch,
-            values,
-            &mut self.registers,
-            room,
-        )
-    }
-
-    fn accept_run(&mut self, run: PlacedValues<'_>, room: &mut [i64]) -> Result<Fed, NoMemory> {
-        pass(
-            &mut self.passing,
-            self.junction,
-            &run,
-            run.values,
+            lanes,
             &mut self.registers,
             room,
         )
@@ -311,12 +288,9 @@ impl<K: LinkBrand, S: Closing> Closing for LinkSink<'_, '_, K, S> {
             passage,
             inner,
         } = self.passing;
-        let inner = Box::into_inner(inner);
-        match passage {
-            Passage::Open => inner.close(rest.end_after(ending)),
-            Passage::Enough => inner.close(End::Done),
-            Passage::Ended(end) => inner.close(end),
-            Passage::Refused => Err(NoMemory),
+        match passage.end_after(&rest, ending) {
+            Some(end) => Box::into_inner(inner).close(end),
+            None => Err(NoMemory),
         }
     }
 }

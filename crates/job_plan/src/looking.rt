@@ -4,11 +4,11 @@ ghost use Rattle.std.specs.Prelude.{◌≡◌, ◌≤◌, ℕ, Bool, true, false
 ghost use Rattle.trace.specs.declared.item.Item.{Item as item};
 ghost use Rattle.job_plan.specs.Stretches.{HasLooked, IsDecided, flow_unless};
 
-use batch_eval::{Batch, BatchSink, FlaggedLanes};
+use batch_eval::{BatchSink, FlaggedLanes, LaneItems};
 use early_stop::Stop;
 use lambda_values::BoolExpr;
 use std::marker::{Brand, PhantomData};
-use trace::{Fed, Flow, Item, LongSink, NoMemory, PlacedValues};
+use trace::{Fed, Flow, Item, LongSink, NoMemory};
 
 /// After how many positions of the source, or values of inner streams, a walk looks for a place that decides.
 pub(crate) const STRETCH: u64 = 65_536;
@@ -96,12 +96,8 @@ impl<P: StartBrand, S: BatchSink + Drop, W: Stop> LongSink for Looking<'_, P, S,
 }
 
 impl<P: StartBrand, S: BatchSink + Drop, W: Stop> BatchSink for Looking<'_, P, S, W> {
-    fn accept_batch(&mut self, batch: &Batch, room: &mut [i64]) -> Result<Fed, NoMemory> {
-        self.inner.accept_batch(batch, room)
-    }
-
-    fn accept_run(&mut self, run: PlacedValues<'_>, room: &mut [i64]) -> Result<Fed, NoMemory> {
-        self.inner.accept_run(run, room)
+    fn accept_lanes(&mut self, lanes: LaneItems<'_>, room: &mut [i64]) -> Result<Fed, NoMemory> {
+        self.inner.accept_lanes(lanes, room)
     }
 
     fn takes_flags(&self) -> bool {

@@ -1,6 +1,7 @@
 //! A sink that puts the items of a walk into a part.
 
-ghost use Rattle.std.specs.Prelude.{◌≡◌, ℕ, List, [], false, true, map, OnErr};
+ghost use Rattle.std.specs.Prelude.{◌≡◌, ℕ, List, [], false, true, OnErr};
+ghost use Rattle.batch_eval.specs.Batches.{laid_items};
 ghost use Rattle.trace.specs.Trace.{trace};
 ghost use Rattle.lambda_values.specs.Earlier.{Numbers};
 ghost use Rattle.trace.specs.Sinks.{IsFed, flow_after};
@@ -16,10 +17,10 @@ ghost use Rattle.job_plan.specs.declared.ends.SegmentEnd.TheVariants as ends;
 use crate::end_part::{EndPart, LastStage};
 use crate::part::Part;
 use crate::segment::Segment;
-use batch_eval::{Batch, BatchSink, FlaggedLanes, accept_each_flagged};
+use batch_eval::{BatchSink, FlaggedLanes, LaneItems, accept_each_flagged};
 use lambda_values::{BoolExpr, Env};
 use std::marker::{Brand, PhantomData};
-use trace::{Fed, Flow, Item, LongSink, NoMemory, PlacedValues, SourceItems};
+use trace::{Fed, Flow, Item, LongSink, NoMemory};
 
 /// The end of a walk, as contracts see it. No value has this type.
 pub(crate) trait EndBrand {
@@ -77,23 +78,13 @@ impl<K: EndBrand> LongSink for PartSink<'_, '_, K> {
 }
 
 impl<K: EndBrand> BatchSink for PartSink<'_, '_, K> {
-    fn accept_batch(&mut self, batch: &Batch, room: &mut [i64]) -> Result<Fed, NoMemory> {
-        let values = batch.values();
+    fn accept_lanes(&mut self, lanes: LaneItems<'_>, room: &mut [i64]) -> Result<Fed, NoMemory> {
         let last = LastStage {
             end: &self.segment.end,
             number: self.stage,
             env: self.env,
         };
-        accept_all(&mut self.part, last, batch, values, room)
-    }
-
-    fn accept_run(&mut self, run: PlacedValues<'_>, room: &mut [i64]) -> Result<Fed, NoMemory> {
-        let last = LastStage {
-            end: &self.segment.end,
-            number: self.stage,
-            env: self.env,
-        };
-        accept_all(&mut self.part, last, &run, run.values, room)
+        accept_all(&mut self.part, last, lanes, room)
     }
 
     fn takes_flags(&self) -> bool {
@@ -112,28 +103,26 @@ impl<K: EndBrand> BatchSink for PartSink<'_, '_, K> {
     }
 }
 
-/// Puts the items of a source, which have these values, into a part, and answers whether it takes more.
-fn accept_all<I: SourceItems>(
+/// Puts items into a part, and answers whether it takes more.
+fn accept_all(
     part: &mut Part<'_>,
     last: LastStage<'_>,
-    source: &I,
-    values: &[i64],
+    lanes: LaneItems<'_>,
     room: &mut [i64],
 ) -> Result<Fed, NoMemory>
     requires wants { is_settled part.old ≡ false }
-    requires values { map (λ x. x.value) (I.items source.now) ≡ values.now }
     ensures fed { (begun : part_kept) (xs : List item)
         → HasTaken (end_in last.entry.end.now) last.entry.number last.entry.env.now begun part.old xs
         → IsFed (HasTaken (end_in last.entry.end.now) last.entry.number last.entry.env.now begun) xs
-        (trace (I.items source.now) end.Done) result part.new }
+        (trace (laid_items lanes.entry.start lanes.entry.places.now lanes.entry.values.now) end.Done) result part.new }
     ensures flow { flow_of (is_settled part.new) ≡ flow_after result }
     ensures memory { OnErr result (keeps_items part.old ≡ true) }
     ensures keeps { keeps_items part.new ≡ keeps_items part.old }
 {
-    if values.is_empty() {
+    if lanes.values.is_empty() {
         return Ok(Fed::More);
     }
-    part.push_all(last, source, values, room)?;
+    part.push_all(last, &lanes, lanes.values, room)?;
     if part.is_settled() {
         return Ok(Fed::Enough);
     }

@@ -44,7 +44,7 @@ fn put_on(op: Op, before: Option<i64>, value: i64) -> i64
 }
 
 /// The fold of `start` and of the items at positions of the range. It takes no memory.
-pub fn fold_items(
+pub(crate) fn fold_items(
     op: Op,
     range: Option<(u64, u64)>,
     start: Option<i64>,
@@ -78,7 +78,7 @@ fn fold_by(op: Op, range: Option<(u64, u64)>, start: Option<i64>, items: &[Item]
 
 /// Replaces each item at a position of the range by the fold of `start` and of all these items up to and with it; the
 /// others stay. The answer is the fold of all. It takes no memory.
-pub fn scan_items(
+pub(crate) fn scan_items(
     op: Op,
     range: Option<(u64, u64)>,
     start: Option<i64>,

@@ -1,5 +1,5 @@
 -- Items whose places count up or are listed.
-use Rattle.std.proofs.Common.{◌≡◌, ℕ, zero, suc, ℤ, pos, ◌+◌, ◌<◌, ◌≤◌, ◌^◌, Bool, true, false, List, [], ◌∷◌, ◌++◌, length, length-append, slice_get, get_or, set, map, take, drop, Option, Some, None, IfSome, add-one, refl, sym, ap, ◌∙◌, arith}
+use Rattle.std.proofs.Common.{◌≡◌, ℕ, zero, suc, ℤ, pos, ◌+◌, ◌<◌, ◌≤◌, ◌^◌, Bool, true, false, List, [], ◌∷◌, ◌++◌, length, length-append, slice_get, get_or, set, map, take, drop, Option, Some, None, add-one, refl, sym, ap, ◌∙◌, arith}
 use Rattle.std.proofs.lemmas.List.{length-drop, length-map, length-take, length-take-le, map-append, take_at, take_more, take_more_set}
 use Rattle.std.proofs.lemmas.List.FromFn.{length-range_with_len}
 use Rattle.std.proofs.lemmas.Option.{slice_get_within, get_or_from_slice_get}
@@ -9,12 +9,14 @@ use Rattle.trace.specs.Cover.{placed}
 use Rattle.trace.proofs.Ranges.{placed_get}
 use Rattle.prefix_scan.specs.Prefixes.{Range, is_within}
 use Rattle.prefix_scan.specs.Scans.{fold_on, item_on, scan_at}
-use Rattle.batch_eval.specs.Batches.{item_at}
-use Rattle.batch_eval.specs.Places.{CountsFrom}
+use Rattle.batch_eval.specs.Batches.{item_at, laid_items}
 use Rattle.batch_eval.proofs.FewLemmas.{items_lanes}
-use Rattle.batch_eval.proofs.PlaceLemmas.{placed_counts, placed_values}
 use Rattle.prefix_walks.specs.Placing.{FitsPlaces, IsAt, IsBuffer, items_at, listed, places_for, places_from}
 use Rattle.prefix_walks.proofs.Elements.{placed_both}
+
+placed_values : (first : ℕ) (vs : List ℤ) → map (λ (x : Item). x.value) (placed first vs) ≡ vs
+placed_values first [] = refl
+placed_values first (v ∷ vs) = ap (λ (us : List ℤ). v ∷ us) (placed_values (suc first) vs)
 
 values_listed : (ps : List ℕ) (vs : List ℤ) → length ps ≡ length vs → map (λ (x : Item). x.value) (listed ps vs) ≡ vs
 values_listed [] [] h = refl
@@ -50,10 +52,10 @@ items_own (Some first) xs vs at = sym (at.count_up first refl)
 items_own None xs vs at = ap (listed (map (λ (x : Item). x.origin) xs)) (sym at.values) ∙ listed_own xs
 
 pub fits_own : (start : Option ℕ) (xs : List Item) (vs : List ℤ) → IsAt start xs vs → FitsPlaces start (places_for start xs) vs
-fits_own (Some first) xs vs at = record { below = at.below; paired = λ e. cc; few = omega arith }
+fits_own (Some first) xs vs at = record { below = at.below; paired = λ e. cc }
 fits_own None xs vs at =
     let l : length (map (λ (x : Item). x.origin) xs) ≡ length vs = length-map xs (λ (x : Item). x.origin) ∙ sym (length-map xs (λ (x : Item). x.value)) ∙ ap length at.values in
-    record { below = λ first e. cc; paired = λ e. l; few = omega (arith, l) }
+    record { below = λ first e. cc; paired = λ e. l }
 
 -- items after others that are placed in their way
 pub both_own : (first start : Option ℕ) (ps : List ℕ) (us : List ℤ) (xs : List Item) (vs : List ℤ) → FitsPlaces first ps us → IsAt start xs vs → ((p : ℕ) → first ≡ Some p → start ≡ Some (p + length us)) → (first ≡ None → start ≡ None)
@@ -72,7 +74,6 @@ both_fit (Some p) start ps us xs vs fits at go on =
     record {
       below = λ q e. (let same : p ≡ q = cc in let b = at.below (p + length us) (go p refl) in omega (arith, same, b, lv));
       paired = λ e. cc;
-      few = omega (arith, lp, lv, other.few, fits.few);
     }
 both_fit None start ps us xs vs fits at go on =
     let other = fits_own start xs vs at in
@@ -83,7 +84,6 @@ both_fit None start ps us xs vs fits at go on =
     record {
       below = λ q e. cc;
       paired = λ e. omega (arith, lp, lv, l, m);
-      few = omega (arith, lp, lv, l, m);
     }
 
 -- places that count up, listed
@@ -135,30 +135,13 @@ listed_get (p ∷ ps) [] k h below = absurd (omega (arith, h))
 listed_get (p ∷ ps) (v ∷ vs) zero h below = refl
 listed_get (p ∷ ps) (v ∷ vs) (suc k) h below = listed_get ps vs k (omega (arith, h)) (omega (arith, below))
 
-pub get_at : (start : Option ℕ) (ps : List ℕ) (vs : List ℤ) (k : ℕ) → (start ≡ None → length ps ≡ length vs) → k < length vs → slice_get (items_at start ps vs) k ≡ Some (item_at start ps vs k)
+get_at : (start : Option ℕ) (ps : List ℕ) (vs : List ℤ) (k : ℕ) → (start ≡ None → length ps ≡ length vs) → k < length vs → slice_get (items_at start ps vs) k ≡ Some (item_at start ps vs k)
 get_at (Some first) ps vs k h below = placed_get first vs k (pos 0) (get_or vs k (pos 0)) below refl
 get_at None ps vs k h below = listed_get ps vs k (h refl) below
 
-pub front_within : (start : Option ℕ) (places : List ℕ) (values : List ℤ) (n : ℕ) → IsBuffer start places values n → (xs : List Item) (k : ℕ) → items_at start (take n places) (take n values) ≡ xs → k < length xs → k < n
-front_within start places values n is xs k e inside = let l = ap length e in omega (arith, l, length_front start places values n is, inside)
-
--- the items of a batch
-pub batch_listed : (xs : List Item) (ps : List ℕ) (vs : List ℤ) → length ps ≡ length vs → length vs ≡ length xs → ((k : ℕ) → k < length vs → slice_get xs (0 + k) ≡ Some (item_at None ps vs k)) → listed ps vs ≡ xs
-batch_listed xs ps vs h size here =
-    let n = length vs in
-    let l : n ≡ length (listed ps vs) = sym (length_at None ps vs (λ e. h)) in
-    items_lanes (listed ps vs) n (item_at None ps vs) l (λ k below. let z : 0 + k ≡ k = omega arith in ap (slice_get (listed ps vs)) z ∙ listed_get ps vs k h below)
-    ∙ sym (items_lanes xs n (item_at None ps vs) size here)
-
-pub batch_placed : (first : ℕ) (xs : List Item) → ((k : ℕ) (x : Item) → slice_get xs k ≡ Some x → x.origin ≡ first + k) → placed first (map (λ (x : Item). x.value) xs) ≡ xs
-batch_placed first [] h = refl
-batch_placed first (x ∷ xs) h =
-    let o : first ≡ x.origin = let e = h 0 x refl in omega (arith, e) in
-    (λ i. record { origin = o i; value = x.value } ∷ batch_placed (suc first) xs (λ k y e. let f = h (suc k) y e in omega (arith, f)) i)
-
-pub counts_at : (start : Option ℕ) (ps : List ℕ) (vs : List ℤ) → ((first : ℕ) → start ≡ Some first → first + length vs ≤ 2 ^ 62) → IfSome start (λ first. CountsFrom first (items_at start ps vs))
-counts_at (Some first) ps vs h = placed_counts first vs (h first refl)
-counts_at None ps vs h = tt
+-- the items, lane by lane
+pub laid_at : (start : Option ℕ) (ps : List ℕ) (vs : List ℤ) → (start ≡ None → length ps ≡ length vs) → items_at start ps vs ≡ laid_items start ps vs
+laid_at start ps vs h = items_lanes (items_at start ps vs) (length vs) (item_at start ps vs) (sym (length_at start ps vs h)) (λ k below. let z : 0 + k ≡ k = omega arith in ap (slice_get (items_at start ps vs)) z ∙ get_at start ps vs k h below)
 
 -- a scan moves no item
 at_place : (f : ℤ → ℤ → ℤ) (b : Bool) (s : Option ℤ) (p : ℕ) (v : ℤ) → record { origin = p; value = (item_on f b s (record { origin = p; value = v })).value } ≡ item_on f b s (record { origin = p; value = v })

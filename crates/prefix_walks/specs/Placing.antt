@@ -1,5 +1,5 @@
 -- Condition: items whose places count up or are listed.
-use Rattle.std.specs.Prelude.{◌≡◌, ℕ, ◌+◌, ◌≤◌, ◌^◌, ℤ, List, [], ◌∷◌, length, map, Option, Some, None}
+use Rattle.std.specs.Prelude.{◌≡◌, ℕ, ◌+◌, ◌<◌, ◌≤◌, ◌^◌, ℤ, List, [], ◌∷◌, length, map, Option, Some, None}
 use Rattle.std.specs.List.{range_with_len}
 use Rattle.trace.specs.declared.item.Item.{Item}
 use Rattle.trace.specs.Cover.{placed}
@@ -19,12 +19,11 @@ items_at None places vs = listed places vs
 pub record FitsPlaces (start : Option ℕ) (places : List ℕ) (vs : List ℤ) : Type 0 where
   pub below : (first : ℕ) → start ≡ Some first → first + length vs ≤ 2 ^ 62
   pub paired : start ≡ None → length places ≡ length vs
-  pub few : length places ≤ length vs
 
 -- a buffer for 1,024 items that has this number of them
 pub record IsBuffer (start : Option ℕ) (places : List ℕ) (values : List ℤ) (count : ℕ) : Type 0 where
   pub few : count ≤ 1024
-  pub below : (first : ℕ) → start ≡ Some first → first + count ≤ 2 ^ 62
+  pub below : (first : ℕ) → start ≡ Some first → first + count < 2 ^ 64
   pub places_size : length places ≡ 1024
   pub values_size : length values ≡ 1024
 

@@ -17,7 +17,7 @@ use crate::piece_buffer::PieceBuffer;
 use crate::prefix::Prefix;
 use crate::spans::within;
 use crate::window::Window;
-use batch_eval::{BatchSink, Pipeline, Registers, SourcePart, feed_at_once, feed_batches};
+use batch_eval::{BatchSink, Pipeline, Registers, feed_at_once, feed_batches};
 use prefix_scan::cut_to;
 use trace::{Fed, Flow, NoMemory, PlacedValues, SourceItems};
 
@@ -66,12 +66,9 @@ fn feed_buffer<S: BatchSink>(
     ensures flow { S.flow sink.new ≡ flow_after result }
     ensures refused { OnErr result S.takes_memory }
 {
-    let (from, count) = within(window.from, window.to, buffer.count());
-    let part = SourcePart {
-        source: buffer,
-        from,
-        count,
-    };
+    let lanes = buffer.lanes();
+    let (from, count) = within(window.from, window.to, lanes.count());
+    let part = lanes.part(from, count);
     feed_at_once(line, &part, registers, sink)
 }
 

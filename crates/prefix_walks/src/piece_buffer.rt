@@ -1,17 +1,17 @@
 //! Items of a piece in a buffer, in which they are scanned, and out of which they are fed.
 
-ghost use Rattle.std.specs.Prelude.{◌≡◌, ◌+◌, ◌≤◌, ◌<◌, ◌^◌, ◌++◌, ◌∷◌, [], ℕ, None, Some, length, map};
+ghost use Rattle.std.specs.Prelude.{◌≡◌, ◌+◌, ◌≤◌, ◌<◌, ◌^◌, ◌++◌, ◌∷◌, [], ℕ, Some, length, map};
 ghost use Rattle.trace.specs.declared.sink.Flow.TheVariants as flows;
-ghost use Rattle.batch_eval.specs.Batches.{item_at};
+ghost use Rattle.batch_eval.specs.Batches.{laid_items};
 ghost use Rattle.reduce_ops.specs.Operators.{value_of};
 ghost use Rattle.prefix_scan.specs.Scans.{fold_at, scan_at};
-ghost use Rattle.prefix_walks.specs.Placing.{FitsPlaces, items_at, places_from};
+ghost use Rattle.prefix_walks.specs.Placing.{items_at, places_from};
 
-use batch_eval::{Batch, BatchSink, BatchSource, ListedItems, accept_each};
+use batch_eval::{BatchSink, LaneItems, accept_each};
 use prefix_scan::scan_values;
 use reduce_ops::Op;
 use std::marker::Model;
-use trace::{Fed, Flow, Item, LongSink, NoMemory, PlacedValues, SourceItems};
+use trace::{Fed, Flow, Item, LongSink, NoMemory};
 
 /// How many items a piece has at most.
 pub(crate) const MOST_ITEMS: usize = 1_024;
@@ -62,30 +62,44 @@ impl PieceBuffer {
         self.count = 0;
     }
 
-    /// Starts again with values at places that count up from the first one, or are listed, if there is space for them.
-    pub(crate) fn hold(&mut self, start: Option<u64>, places: &[u64], values: &[i64])
-        requires { FitsPlaces start places.now values.now }
-        ensures { length values.now ≤ 1024 → self.new ≡ items_at start places.now values.now }
+    /// Starts again with these items, if there is space for them.
+    pub(crate) fn hold(&mut self, lanes: LaneItems<'_>)
+        ensures { length lanes.entry.values.now ≤ 1024
+            → self.new ≡ items_at lanes.entry.start lanes.entry.places.now lanes.entry.values.now }
     {
-        if values.len() > MOST_ITEMS {
+        let count = lanes.values.len();
+        if count > MOST_ITEMS {
             return;
         }
-        self.places[..places.len()].copy_from_slice(places);
-        self.values[..values.len()].copy_from_slice(values);
-        self.start = start;
-        self.count = values.len();
+        if lanes.start.is_none() {
+            self.places[..count].copy_from_slice(lanes.places);
+        }
+        self.values[..count].copy_from_slice(lanes.values);
+        self.start = lanes.start;
+        self.count = count;
     }
 
     /// Adds an item after the others, if there is space for it. The places are listed then.
     fn add(&mut self, item: Item)
         ensures { length self.old < 1024 → self.new ≡ self.old ++ item ∷ [] }
     {
-        list_places(self.start, &mut self.places[..self.count]);
+        list_counted(self.start, &mut self.places[..self.count]);
         self.start = None;
         if self.count < MOST_ITEMS {
             self.places[self.count] = item.origin;
             self.values[self.count] = item.value;
             self.count += 1;
+        }
+    }
+
+    /// The items, where they lie.
+    pub(crate) fn lanes(&self) -> LaneItems<'_>
+        ensures { laid_items result.start result.places.now result.values.now ≡ self.now }
+    {
+        LaneItems {
+            start: self.start,
+            places: &self.places[..self.count],
+            values: &self.values[..self.count],
         }
     }
 
@@ -112,8 +126,8 @@ impl PieceBuffer {
 }
 
 /// Lists places that count up from the first one, if it is given. Else they stay.
-fn list_places(start: Option<u64>, places: &mut [u64])
-    requires { (first : ℕ) → start ≡ Some first → first + length places.old ≤ 2 ^ 62 }
+fn list_counted(start: Option<u64>, places: &mut [u64])
+    requires { (first : ℕ) → start ≡ Some first → first + length places.old < 2 ^ 64 }
     ensures { places.new ≡ places_from start places.old }
 {
     if let Some(first) = start {
@@ -137,81 +151,11 @@ impl LongSink for PieceBuffer {
 }
 
 impl BatchSink for PieceBuffer {
-    fn accept_batch(&mut self, batch: &Batch, _room: &mut [i64]) -> Result<Fed, NoMemory> {
+    fn accept_lanes(&mut self, lanes: LaneItems<'_>, _room: &mut [i64]) -> Result<Fed, NoMemory> {
         if self.count == 0 {
-            if let Some(listed) = batch.items_at(0, batch.count()) {
-                self.hold(None, listed.places, listed.values);
-                return Ok(Fed::More);
-            }
-            if let Some(first) = batch.first_place() {
-                self.hold(Some(first), &[], batch.values());
-                return Ok(Fed::More);
-            }
-        }
-        accept_each(batch, self)
-    }
-
-    fn accept_run(&mut self, run: PlacedValues<'_>, _room: &mut [i64]) -> Result<Fed, NoMemory> {
-        if self.count == 0 {
-            self.hold(Some(run.origin), &[], run.values);
+            self.hold(lanes);
             return Ok(Fed::More);
         }
-        accept_each(&run, self)
-    }
-}
-
-impl SourceItems for PieceBuffer {
-    ghost items = { λ buffer. buffer };
-
-    fn count(&self) -> u64 {
-        self.count as u64
-    }
-
-    fn item_at(&self, position: u64) -> Item {
-        item_of(
-            self.start,
-            &self.places[..self.count],
-            &self.values[..self.count],
-            position as usize,
-        )
-    }
-}
-
-/// The item of a value, at a place that counts up from the first one, if it is given, or is listed.
-fn item_of(start: Option<u64>, places: &[u64], values: &[i64], lane: usize) -> Item
-    requires value { lane < length values.now }
-    requires place { start ≡ None → lane < length places.now }
-    requires below { (first : ℕ) → start ≡ Some first → first + lane < 2 ^ 64 }
-    ensures { result ≡ item_at start places.now values.now lane }
-{
-    Item {
-        origin: match start {
-            Some(first) => first + lane as u64,
-            None => places[lane],
-        },
-        value: values[lane],
-    }
-}
-
-impl BatchSource for PieceBuffer {
-    fn first_place(&self) -> Option<u64> {
-        self.start
-    }
-
-    fn values_at(&self, _position: u64, count: u64) -> Option<&[i64]> {
-        if count != self.count as u64 {
-            return None;
-        }
-        Some(&self.values[..self.count])
-    }
-
-    fn items_at(&self, _position: u64, count: u64) -> Option<ListedItems<'_>> {
-        if self.start.is_some() || count != self.count as u64 {
-            return None;
-        }
-        Some(ListedItems {
-            places: &self.places[..self.count],
-            values: &self.values[..self.count],
-        })
+        accept_each(&lanes, self)
     }
 }

@@ -21,8 +21,4 @@ impl SourceItems for ItemPiece<'_> {
     }
 }
 
-impl BatchSource for ItemPiece<'_> {
-    fn first_place(&self) -> Option<u64> {
-        None
-    }
-}
+impl BatchSource for ItemPiece<'_> {}

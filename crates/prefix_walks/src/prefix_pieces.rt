@@ -158,7 +158,7 @@ fn add_left<'a>(
 {
     let values = left.values();
     if values.len() < LEAST_WORKED {
-        return add_items(pieces, op, left, values);
+        return add_items(pieces, op, &left.lanes(), values);
     }
     pieces.push(FoldedPiece::worked(op, cheap, lent, values))?;
     Ok(())

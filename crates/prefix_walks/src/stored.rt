@@ -4,6 +4,7 @@ ghost use Rattle.std.specs.Prelude.{◌≡◌, ◌+◌, ◌≤◌, ◌++◌, ℕ
 ghost use Rattle.prefix_walks.specs.Placing.{IsAt, places_for};
 
 use crate::piece_buffer::{MOST_ITEMS, PieceBuffer};
+use batch_eval::LaneItems;
 use std::alloc::Global;
 use std::marker::Model;
 use trace::{NoMemory, SourceItems};
@@ -89,7 +90,11 @@ impl Stored {
     pub(crate) fn put(&self, buffer: &mut PieceBuffer)
         ensures { buffer.new ≡ self.now }
     {
-        buffer.hold(self.start, &self.places, &self.values);
+        buffer.hold(LaneItems {
+            start: self.start,
+            places: &self.places,
+            values: &self.values,
+        });
     }
 }
 

@@ -1,6 +1,6 @@
 //! Positions of a list, side by side.
 
-ghost use Rattle.std.specs.Prelude.{◌≡◌, ◌<◌, ◌-◌, ◌^◌, drop, length, take, IfSome, List, None};
+ghost use Rattle.std.specs.Prelude.{◌≡◌, ◌≤◌, ◌<◌, ◌+◌, ◌-◌, ◌^◌, drop, length, take, IfNone, IfSome, List, None};
 ghost use Rattle.trace.specs.declared.item.Item.{Item as item};
 ghost use Rattle.prefix_walks.specs.Pieces.{elements};
 ghost use Rattle.prefix_walks.specs.Spans.{after};
@@ -35,8 +35,9 @@ impl Window {
 
     /// The window without this number of its first positions. `None` if the first one that is left isn't below 2^64.
     pub fn skipped(self, count: u64) -> Option<Window>
-        ensures { IfSome result (λ w. (xs : List item)
+        ensures some { IfSome result (λ w. (xs : List item)
             → elements w.from w.to xs ≡ drop count (elements self.from self.to xs)) }
+        ensures none { IfNone result (2 ^ 64 ≤ self.from + count) }
     {
         let from = self.from.checked_add(count)?;
         Some(Window { from, to: self.to })
@@ -44,8 +45,9 @@ impl Window {
 
     /// This number of the first positions of the window. `None` if the position after them isn't below 2^64.
     pub fn limited(self, count: u64) -> Option<Window>
-        ensures { IfSome result (λ w. (xs : List item)
+        ensures some { IfSome result (λ w. (xs : List item)
             → elements w.from w.to xs ≡ take count (elements self.from self.to xs)) }
+        ensures none { IfNone result (2 ^ 64 ≤ self.from + count) }
     {
         let end = self.from.checked_add(count)?;
         Some(Window {

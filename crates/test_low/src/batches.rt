@@ -3,7 +3,7 @@ ghost use Rattle.std.specs.Prelude.{◌≡◌, ◌+◌, ◌<◌, ◌≤◌, ◌^
 ghost use Rattle.trace.specs.declared.sink.Flow.TheVariants as flow;
 
 use crate::random::{any_stage, any_values, next};
-use batch_eval::{Batch, BatchSink, BatchSource, Pipeline, Registers, accept_each, feed_batches};
+use batch_eval::{BatchSink, BatchSource, Pipeline, Registers, feed_batches};
 use lambda_expr::{Want, read_lambda};
 use lambda_values::{Body, Env, InnerExpr, LongExpr};
 use std::alloc::{AllocError, Global};
@@ -48,10 +48,6 @@ impl LongSink for Items {
 }
 
 impl BatchSink for Items {
-    fn accept_batch(&mut self, batch: &Batch, _room: &mut [i64]) -> Result<Fed, NoMemory> {
-        accept_each(batch, self)
-    }
-
     fn takes_flags(&self) -> bool {
         self.flags
     }

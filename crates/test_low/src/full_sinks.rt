@@ -4,7 +4,7 @@ ghost use Rattle.std.specs.Prelude.{◌+◌, ◌<◌, ◌^◌, ⊤, length, if�
 ghost use Rattle.trace.specs.declared.sink.Flow.TheVariants as flow;
 
 use crate::batches::{line_of, stage};
-use batch_eval::{Batch, BatchSink, Registers, accept_each, feed_batches};
+use batch_eval::{BatchSink, Registers, feed_batches};
 use lambda_expr::Want;
 use lambda_values::{Env, InnerExpr, LongExpr};
 use std::alloc::{AllocError, Global};
@@ -39,11 +39,7 @@ impl LongSink for Few {
     }
 }
 
-impl BatchSink for Few {
-    fn accept_batch(&mut self, batch: &Batch, _room: &mut [i64]) -> Result<Fed, NoMemory> {
-        accept_each(batch, self)
-    }
-}
+impl BatchSink for Few {}
 
 /// What a walk into a sink of this kind answers, and how many items the sink took.
 fn walk_into_few(

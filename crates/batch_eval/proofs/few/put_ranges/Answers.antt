@@ -1,4 +1,4 @@
-use Rattle.std.proofs.Common.{◌≡◌, ◌+◌, ℕ, ℤ, List, ap, arith, rules, sym, ◌∙◌, None, w64, to_z, of_z}
+use Rattle.std.proofs.Common.{◌≡◌, ◌+◌, ℕ, ℤ, List, arith, rules, sym, ◌∙◌, None, w64, to_z, of_z}
 use Rattle.lambda_values.specs.Streams.{inner_of, run_values}
 use Rattle.trace.specs.declared.item.Item.{Item}
 use Rattle.trace.specs.Stages.{at_place}

@@ -13,9 +13,9 @@ returns-clause-fed g c = λ xs took.
     let r = c.eval_bool-reached.result in
     let out = c.eval_bool-reached.new.out in
     let h = g.S.LongSink.has_taken in
-    let lane = item_at c.args.lanes.start c.args.lanes.origins.now c.args.lanes.values.now in
-    let whole = each_filtered (truth_of c.args.test.now) c.args.line.env.now c.args.line.first c.args.lanes.live lane (at out) r c.args.lanes.end c.eval_bool-reached.ensures in
+    let lane = item_at c.args.lanes.start c.args.lanes.places.now c.args.lanes.values.now in
+    let whole = each_filtered (truth_of c.args.test.now) c.args.line.env.now c.args.line.first (length c.args.lanes.values.now) lane (at out) r c.args.end c.eval_bool-reached.ensures in
     let within : r.live ≤ length out = omega (arith, c.eval_bool-reached.ensures.within, c.requires.flags, c.eval_bool-reached.auto.out) in
-    let cut = flags_cut c.args.lanes.start c.args.lanes.origins.now c.args.lanes.values.now out r.live within in
+    let cut = flags_cut c.args.lanes.start c.args.lanes.places.now c.args.lanes.values.now out r.live within in
     let fed = rw (cut, c.stopped-end.ensures) at (c.give_flagged.ensures.fed xs took) in
     subst (λ (t : Trace). IsFed h xs t c.give_flagged.result c.give_flagged.new.sink) (sym whole) fed

@@ -16,23 +16,11 @@ use Rattle.batch_eval.specs.Pours.{Holds}
 use Rattle.batch_eval.proofs.WaitingItemLemmas.{holds_none, holds_ended, holds_added, holds_further, flushed, poured_rest, inner_stopped, each_next, each_fault, each_whole}
 use Rattle.batch_eval.proofs.staging.+batches.Goals as goal
 
-pub feed_batch-returns-in-Map-clause-fed : goal.feed_batch-returns-in-Map-clause-fed
-feed_batch-returns-in-Map-clause-fed g t c = λ xs took.
-    let split = c.in-Some.ensures in
-    let here = rw (c.map.ensures, split.first, split.env, add-one) at (c.feed_batch.ensures.fed xs took) in
-    rw (split.stages, c.in-Map.is) here
-
-pub feed_batch-returns-else-is_empty-clause-fed : goal.feed_batch-returns-else-is_empty-clause-fed
-feed_batch-returns-else-is_empty-clause-fed g t c = λ xs took.
-    let split = c.in-Some.ensures in
-    let here = rw (c.filter.ensures, split.first, split.env, add-one) at (c.feed_batch-in-Filter.ensures.fed xs took) in
-    rw (split.stages, c.in-Filter.is) here
-
 pub feed_batch-returns-in-Some-split_first_mut-clause-fed : goal.feed_batch-returns-in-Some-split_first_mut-clause-fed
 feed_batch-returns-in-Some-split_first_mut-clause-fed g t c = λ xs took.
     let split = c.in-Some.ensures in
     let here = rw (split.first, split.env, add-one) at (c.feed_inner.ensures.fed xs took) in
-    rw (split.stages, c.in-FlatMap.is) here
+    rw (sym c.go_on-line.ensures.walk) (rw (split.stages, c.in-FlatMap.is) here)
 
 pub finish-returns-clause-fed : goal.finish-returns-clause-fed
 finish-returns-clause-fed g t c = λ xs whole held.

@@ -33,7 +33,7 @@ put_values-put-requires-clause-counts c =
     let b = c.batch.inside in
     let old : ℕ → Item = item_at b.start b.origins.items b.values.items in
     let same : length (lanes b.live old) ≡ length c.args.batch.now.items = ap (λ (t : Trace). length t.items) c.batch.view_is in
-    counts_less b.start c.args.columns.lanes 1024 (omega (arith, length_lanes b.live old, same, c.requires.lanes, c.batch.invariant.live_lanes)) c.batch.invariant.counts
+    counts_less b.start c.args.columns.lanes b.live (omega (arith, length_lanes b.live old, same, c.requires.lanes)) c.batch.invariant.counts
 
 pub returns-clause-added : goal.returns-clause-added
 returns-clause-added c = λ stage env operands.

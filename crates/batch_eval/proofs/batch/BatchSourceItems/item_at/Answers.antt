@@ -11,15 +11,15 @@ origin_of-requires-clause-counts c =
     let b = c.self.inside in
     let sized = c.self.invariant in
     let inside = lane_inside b.live c.args.position (item_at b.start b.origins.items b.values.items) b.end c.args.self.now c.self.view_is c.requires in
-    counts_less b.start (c.args.position + 1) 1024 (omega (arith, inside, sized.live_lanes)) sized.counts
+    counts_less b.start (c.args.position + 1) b.live (omega (arith, inside)) sized.counts
 
-pub origin_of-requires-clause-within : goal.origin_of-requires-clause-within
-origin_of-requires-clause-within c =
+pub origin_of-requires-clause-listed : goal.origin_of-requires-clause-listed
+origin_of-requires-clause-listed c =
     let b = c.self.inside in
     let sized = c.self.invariant in
     let inside = lane_inside b.live c.args.position (item_at b.start b.origins.items b.values.items) b.end c.args.self.now c.self.view_is c.requires in
     let within : c.args.position < length b.origins.items = omega (arith, inside, sized.live_lanes, sized.origins_length) in
-    subst (λ (xs : List ℕ). c.args.position < length xs) (sym c.deref.ensures.value) within
+    λ _. subst (λ (xs : List ℕ). c.args.position < length xs) (sym c.deref.ensures.value) within
 
 pub value_of-requires : goal.value_of-requires
 value_of-requires c =

@@ -16,7 +16,7 @@ returns-in-Limit-clause-window c =
     some_map c.limited.result
     (λ w h m env t clean.
     limit_selects b.first_stage gs c.in-Limit.count keep (windowed b.window.from b.window.to t) (windowed w.from w.to t) (limits b.window.from b.window.to c.in-Limit.count w.from w.to t some clean h) m env
-    ∙ sym (ap (λ d. sliced (slice_of d) m env (pipe b.first_stage gs env (windowed b.window.from b.window.to t))) c.in-Limit.is)) c.limited.ensures
+    ∙ sym (ap (λ d. sliced (slice_of d) m env (pipe b.first_stage gs env (windowed b.window.from b.window.to t))) c.in-Limit.is)) c.limited.ensures.some
 
 pub returns-in-Skip-clause-window : goal.returns-in-Skip-clause-window
 returns-in-Skip-clause-window c =
@@ -26,4 +26,4 @@ returns-in-Skip-clause-window c =
     some_map c.skipped.result
     (λ w h m env t clean.
     skip_selects b.first_stage gs c.in-Skip.count keep (windowed b.window.from b.window.to t) (windowed w.from w.to t) (skips b.window.from b.window.to c.in-Skip.count w.from w.to t h) m env
-    ∙ sym (ap (λ d. sliced (slice_of d) m env (pipe b.first_stage gs env (windowed b.window.from b.window.to t))) c.in-Skip.is)) c.skipped.ensures
+    ∙ sym (ap (λ d. sliced (slice_of d) m env (pipe b.first_stage gs env (windowed b.window.from b.window.to t))) c.in-Skip.is)) c.skipped.ensures.some
