@@ -8,6 +8,7 @@ pub mod KeptLaneLemmas
 pub mod LaneLemmas
 pub mod PlaceLemmas
 pub mod PowerLemmas
+pub mod RangeLemmas
 pub mod ReciprocalLemmas
 pub mod Steps
 pub mod WaitingItemLemmas

@@ -1,11 +1,11 @@
 -- Condition: the files of this crate's definitions; the first line of each says what it is.
+pub mod BatchItems
 pub mod Batches
 pub mod Choices
 pub mod InnerColumns
 pub mod Lanes
 pub mod NumberTests
 pub mod Pipelines
-pub mod Places
 pub mod Pours
 pub mod Powers
 pub mod Reciprocals

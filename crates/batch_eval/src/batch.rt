@@ -1,12 +1,13 @@
 //! A batch of items in registers, and the stages over it.
 
-ghost use Rattle.batch_eval.specs.Batches.{CountsUp, StopsInside, counted_item, end_after, item_at, lanes};
+ghost use Rattle.batch_eval.specs.Batches.{CountsUp, StopsInside, end_after, item_at, lanes};
 ghost use Rattle.batch_eval.specs.Batches.{laid_items, origin_at};
 ghost use Rattle.batch_eval.specs.Lanes.{at};
 ghost use Rattle.batch_eval.specs.Rooms.{Fits};
 ghost use Rattle.lambda_values.specs.Term.{long_of};
 ghost use Rattle.std.specs.Prelude.{◌≡◌, ◌+◌, ◌<◌, ◌≤◌, ◌^◌, List, [], ◌++◌, IfOk, IsTrue, None, Some, length, map};
 ghost use Rattle.std.specs.Prelude.{take};
+ghost use Rattle.trace.specs.Cover.{counted, placed};
 ghost use Rattle.trace.specs.Stages.{of_item};
 ghost use Rattle.trace.specs.Stages.{map as abstract_map};
 ghost use Rattle.trace.specs.Trace.{each, trace};
@@ -14,16 +15,15 @@ ghost use Rattle.trace.specs.declared.item.Item.{Item};
 
 use crate::counted::eval_counted;
 use crate::lane_items::LaneItems;
-use crate::listing::{copy_front, list_items, list_places, list_values};
+use crate::listing::{copy_front, list_items, list_numbers, list_places};
 use crate::pipeline::Pipeline;
 use crate::reached::Reached;
 use crate::register::{Inputs, LANES, eval_long};
-use crate::source::BatchSource;
 use lambda_values::LongExpr;
 use std::alloc::Global;
 use std::marker::Model;
 use std::mem;
-use trace::{End, Fault, Item, NoMemory, SourceItems};
+use trace::{End, Fault, Item, NoMemory, RangeItems, SourceItems};
 
 /// Up to 1,024 items in registers, and how the walk ends after them.
 ///
@@ -166,31 +166,41 @@ impl Batch {
         self.start = lanes.start;
     }
 
-    /// Starts again with the images of numbers that count up, at places that do, if there are loops for it that read no
-    /// register; else answers false.
+    /// Starts again with the images of a range, if there are loops for it that read no register; else answers false.
     pub(crate) fn map_counted(
         &mut self,
-        place: u64,
-        first: i64,
-        count: u64,
+        range: &RangeItems,
         image: &LongExpr,
         line: Pipeline<'_>,
     ) -> bool
-        requires lanes { count ≤ 1024 }
-        requires few { place ≤ 2 ^ 62 }
+        requires { range.now.count ≤ 1024 }
         ensures { IsTrue result → self.new ≡ each
             (of_item line.entry.first (abstract_map (long_of image.now)) line.entry.env.now)
-            (lanes count (counted_item place first)) End.Done }
+            (placed range.now.origin (counted range.now.first range.now.count)) End.Done }
     {
-        let live = count as usize;
-        let Some(reached) = eval_counted(image, line.env, first, live, &mut self.values) else {
+        let live = range.count as usize;
+        let counted = eval_counted(image, line.env, range.first, live, &mut self.values);
+        let Some(reached) = counted else {
             return false;
         };
-        let start = Some(place);
+        let start = Some(range.origin);
         self.end = stopped(End::Done, line.first, live, start, &self.origins, reached);
         self.live = reached.live;
         self.start = start;
         true
+    }
+
+    /// Starts again with the items of a range.
+    pub(crate) fn count_up(&mut self, range: &RangeItems)
+        requires { range.now.count ≤ 1024 }
+        ensures { self.new
+            ≡ trace (placed range.now.origin (counted range.now.first range.now.count)) End.Done }
+    {
+        let live = range.count as usize;
+        list_numbers(range.first, live, &mut self.values);
+        self.live = live;
+        self.start = Some(range.origin);
+        self.end = End::Done;
     }
 
     /// Starts again with items that lie elsewhere.
@@ -220,30 +230,6 @@ impl Batch {
         ensures { self.new ≡ trace self.old.items end }
     {
         self.end = end;
-    }
-
-    /// Starts again with items of a source, from a position on.
-    pub(crate) fn fill<I: BatchSource>(&mut self, source: &I, position: u64, count: u64)
-        requires within { position + count ≤ length (I.items source.now) }
-        requires bound { length (I.items source.now) < 2 ^ 64 }
-        requires lanes { count ≤ 1024 }
-        ensures items { take (position + count) (I.items source.now) ≡ take position (I.items source.now)
-            ++ self.new.items }
-        ensures ending { self.new.ending ≡ End.Done }
-    {
-        match source.first_place() {
-            Some(first) => {
-                let live = count as usize;
-                list_values(source, position, live, &mut self.values);
-                self.live = live;
-                self.start = Some(first + position);
-                self.end = End::Done;
-            }
-            None => {
-                self.clear();
-                self.add(source, position, count);
-            }
-        }
     }
 
     /// Adds items of a source, from a position on, after those that are there.

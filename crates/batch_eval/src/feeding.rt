@@ -1,9 +1,11 @@
-//! The items of a source in batches, through the stages and into a sink.
+//! Items in batches, through the stages and into a sink.
 
+ghost use Rattle.batch_eval.specs.BatchItems.{batch_items};
 ghost use Rattle.batch_eval.specs.Batches.{laid_items};
 ghost use Rattle.batch_eval.specs.Pipelines.{piped};
 ghost use Rattle.batch_eval.specs.Rooms.{FitsStages};
 ghost use Rattle.std.specs.Prelude.{◌≡◌, ◌+◌, ◌<◌, ◌≤◌, ◌^◌, List, Ok, OnErr, length, take};
+ghost use Rattle.trace.specs.Cover.{counted, placed};
 ghost use Rattle.trace.specs.Sinks.{IsFed, flow_after};
 ghost use Rattle.trace.specs.Stages.{stages_of};
 ghost use Rattle.trace.specs.Trace.{trace};
@@ -11,63 +13,63 @@ ghost use Rattle.trace.specs.declared.feeding.Fed.TheVariants as fed;
 ghost use Rattle.trace.specs.declared.item.End.TheVariants as end;
 ghost use Rattle.trace.specs.declared.item.Item.{Item};
 
+use crate::batch_items::BatchItems;
 use crate::lane_items::LaneItems;
 use crate::pipeline::Pipeline;
 use crate::register::LANES;
 use crate::registers::{Registers, Space};
 use crate::sink::BatchSink;
-use crate::source::BatchSource;
 use crate::staging::feed_batch;
-use trace::{Fed, Flow, NoMemory, Stage, feed_all};
+use trace::{Fed, Flow, NoMemory, RangeItems, SourceItems, Stage, feed_all};
 
 /// The first batch of a walk. Each further one is four times as large, up to 1,024 items, so that a
 /// sink that soon has enough doesn't pay for a large one.
 const FIRST_BATCH: u64 = 16;
 
-/// Takes the items of a source through all stages and into a sink, a batch at a time.
+/// Takes items through all stages and into a sink, a batch at a time.
 ///
-/// The sink gets what `feed_all` of `trace` gives it. Each operator of a stage goes over a whole batch
-/// before the next one, so lambdas may be evaluated at up to one batch of items more than decide the
-/// result, and after each `flatMap` at one batch of inner values more. Expressions that need more than 32 registers,
-/// and what comes after a fourth `flatMap`, are evaluated item by item; so is all of a source of under 8 items without
-/// a `flatMap`, of under 64 if no registers are there yet, and of any source if an allocation of registers failed.
-/// `NoMemory` comes from the sink alone, which then keeps what it has accepted before.
-pub fn feed_batches<I: BatchSource, S: BatchSink>(
+/// The sink gets what `feed_all` of `trace` gives it. Each operator of a stage goes over a whole batch before the next
+/// one, so lambdas may be evaluated at up to one batch of items more than decide the result, and after each `flatMap`
+/// at one batch of inner values more. Expressions that need more than 32 registers, and what comes after a fourth
+/// `flatMap`, are evaluated item by item. So are all items if there are under 8 of them and no `flatMap`, if they are
+/// under 64 and no registers are there yet, or if an allocation of registers failed. `NoMemory` comes from the sink
+/// alone, which then keeps what it has accepted before.
+pub fn feed_batches<S: BatchSink>(
     line: Pipeline<'_>,
-    source: &I,
+    items: &BatchItems<'_>,
     registers: &mut Registers,
     sink: &mut S,
 ) -> Result<Fed, NoMemory>
     requires wants { S.flow sink.old ≡ Flow.More }
     ensures fed { (xs : List Item) → S.has_taken sink.old xs → IsFed S.has_taken xs
-        (piped line.entry (trace (I.items source.now) end.Done)) result sink.new }
+        (piped line.entry (trace (batch_items items.now) end.Done)) result sink.new }
     ensures flow { S.flow sink.new ≡ flow_after result }
     ensures refused { OnErr result S.takes_memory }
 {
-    feed_from(line, source, FIRST_BATCH, registers, sink)
+    feed_from(line, items, FIRST_BATCH, registers, sink)
 }
 
-/// Feeds a source as `feed_batches` does, but the first batch may hold 1,024 items already. It is for items that were
+/// Feeds items as `feed_batches` does, but the first batch may hold 1,024 items already. It is for items that were
 /// in one batch together: they stay in one batch.
-pub fn feed_at_once<I: BatchSource, S: BatchSink>(
+pub fn feed_at_once<S: BatchSink>(
     line: Pipeline<'_>,
-    source: &I,
+    items: &BatchItems<'_>,
     registers: &mut Registers,
     sink: &mut S,
 ) -> Result<Fed, NoMemory>
     requires wants { S.flow sink.old ≡ Flow.More }
     ensures fed { (xs : List Item) → S.has_taken sink.old xs → IsFed S.has_taken xs
-        (piped line.entry (trace (I.items source.now) end.Done)) result sink.new }
+        (piped line.entry (trace (batch_items items.now) end.Done)) result sink.new }
     ensures flow { S.flow sink.new ≡ flow_after result }
     ensures refused { OnErr result S.takes_memory }
 {
-    feed_from(line, source, LANES as u64, registers, sink)
+    feed_from(line, items, LANES as u64, registers, sink)
 }
 
-/// Feeds a source as `feed_batches` does, with a first batch of `first` items.
-fn feed_from<I: BatchSource, S: BatchSink>(
+/// Feeds items as `feed_batches` does, with a first batch of `first` items.
+fn feed_from<S: BatchSink>(
     line: Pipeline<'_>,
-    source: &I,
+    items: &BatchItems<'_>,
     first: u64,
     registers: &mut Registers,
     sink: &mut S,
@@ -76,23 +78,23 @@ fn feed_from<I: BatchSource, S: BatchSink>(
     requires some { 0 < first }
     requires few { first ≤ 1024 }
     ensures fed { (xs : List Item) → S.has_taken sink.old xs → IsFed S.has_taken xs
-        (piped line.entry (trace (I.items source.now) end.Done)) result sink.new }
+        (piped line.entry (trace (batch_items items.now) end.Done)) result sink.new }
     ensures flow { S.flow sink.new ≡ flow_after result }
     ensures refused { OnErr result S.takes_memory }
 {
-    let Some(mut space) = registers.take_for(line.stages, sink.test(), source.count()) else {
-        return feed_all(line.stages, line.first, line.env, source, sink);
+    let Some(mut space) = registers.take_for(line.stages, sink.test(), items.count()) else {
+        return feed_all(line.stages, line.first, line.env, items, sink);
     };
-    let fed = feed_pieces(line, source, first, &mut space, sink);
+    let fed = feed_pieces(line, items, first, &mut space, sink);
     registers.put_back(space);
     fed
 }
 
-/// Feeds a source as `feed_batches` does, with a first batch of `first` items, through stages for which the room is
+/// Feeds items as `feed_batches` does, with a first batch of `first` items, through stages for which the room is
 /// enough.
-fn feed_pieces<I: BatchSource, S: BatchSink>(
+fn feed_pieces<S: BatchSink>(
     line: Pipeline<'_>,
-    source: &I,
+    items: &BatchItems<'_>,
     first: u64,
     space: &mut Space,
     sink: &mut S,
@@ -102,16 +104,16 @@ fn feed_pieces<I: BatchSource, S: BatchSink>(
     requires few { first ≤ 1024 }
     requires room { FitsStages (stages_of line.stages.now) (length space.old.room.items) }
     ensures fed { (xs : List Item) → S.has_taken sink.old xs → IsFed S.has_taken xs
-        (piped line.entry (trace (I.items source.now) end.Done)) result sink.new }
+        (piped line.entry (trace (batch_items items.now) end.Done)) result sink.new }
     ensures flow { S.flow sink.new ≡ flow_after result }
     ensures refused { OnErr result S.takes_memory }
 {
-    let count = source.count();
+    let count = items.count();
     let mut position = 0;
     let mut size = first;
     while position < count {
         let taken = size.min(count - position);
-        match feed_piece(line, source, position, taken, space, sink)? {
+        match feed_piece(line, items, position, taken, space, sink)? {
             Fed::More => {}
             ended => return Ok(ended),
         }
@@ -121,10 +123,10 @@ fn feed_pieces<I: BatchSource, S: BatchSink>(
     Ok(Fed::More)
 }
 
-/// Takes the items of a source from a position on, up to 1,024 of them.
-fn feed_piece<I: BatchSource, S: BatchSink>(
+/// Takes up to 1,024 of the items, from a position on.
+fn feed_piece<S: BatchSink>(
     line: Pipeline<'_>,
-    source: &I,
+    items: &BatchItems<'_>,
     position: u64,
     count: u64,
     space: &mut Space,
@@ -134,32 +136,21 @@ fn feed_piece<I: BatchSource, S: BatchSink>(
     requires room { FitsStages (stages_of line.stages.now) (length space.old.room.items) }
     requires some { 0 < count }
     requires lanes { count ≤ 1024 }
-    requires within { position + count ≤ length (I.items source.now) }
-    requires bound { length (I.items source.now) < 2 ^ 64 }
+    requires within { position + count ≤ length (batch_items items.now) }
+    requires bound { length (batch_items items.now) < 2 ^ 64 }
     ensures fed { (xs : List Item)
-        → IsFed S.has_taken xs (piped line.entry (trace (take position (I.items source.now)) end.Done))
+        → IsFed S.has_taken xs (piped line.entry (trace (take position (batch_items items.now)) end.Done))
         (Ok fed.More) sink.old
-        → IsFed S.has_taken xs (piped line.entry (trace (take (position + count) (I.items source.now)) end.Done))
+        → IsFed S.has_taken xs (piped line.entry (trace (take (position + count) (batch_items items.now)) end.Done))
         result sink.new }
     ensures flow { S.flow sink.new ≡ flow_after result }
     ensures refused { OnErr result S.takes_memory }
     ensures room { length space.new.room.items ≡ length space.old.room.items }
 {
-    if let Some(lanes) = source.lanes_at(position, count) {
-        return feed_in_place(line, lanes, space, sink);
+    match items.part(position, count) {
+        BatchItems::Lanes(lanes) => feed_in_place(line, lanes, space, sink),
+        BatchItems::Range(range) => feed_range(line, &range, space, sink),
     }
-    if let Some(first) = source.first_place() {
-        if let Some(value) = source.value_from(position) {
-            if let Some((Stage::Map(image), later)) = line.split_first() {
-                let place = first + position;
-                if space.batch.map_counted(place, value, count, image, line) {
-                    return feed_space(later, space, sink);
-                }
-            }
-        }
-    }
-    space.batch.fill(source, position, count);
-    feed_space(line, space, sink)
 }
 
 /// Takes up to 1,024 items whose values lie side by side. A `map` or a `filter` that comes first, and a sink, read them
@@ -192,6 +183,32 @@ fn feed_in_place<S: BatchSink>(
     }
     let later = space.batch.begin(lanes, line, &mut space.room);
     feed_space(later, space, sink)
+}
+
+/// Takes the items of a range of up to 1,024 integers. A `map` that comes first reads none of them.
+fn feed_range<S: BatchSink>(
+    line: Pipeline<'_>,
+    range: &RangeItems,
+    space: &mut Space,
+    sink: &mut S,
+) -> Result<Fed, NoMemory>
+    requires wants { S.flow sink.old ≡ Flow.More }
+    requires room { FitsStages (stages_of line.stages.now) (length space.old.room.items) }
+    requires lanes { range.now.count ≤ 1024 }
+    ensures fed { (xs : List Item) → S.has_taken sink.old xs → IsFed S.has_taken xs
+        (piped line.entry (trace (placed range.now.origin (counted range.now.first range.now.count)) end.Done))
+        result sink.new }
+    ensures flow { S.flow sink.new ≡ flow_after result }
+    ensures refused { OnErr result S.takes_memory }
+    ensures room { length space.new.room.items ≡ length space.old.room.items }
+{
+    if let Some((Stage::Map(image), later)) = line.split_first() {
+        if space.batch.map_counted(range, image, line) {
+            return feed_space(later, space, sink);
+        }
+    }
+    space.batch.count_up(range);
+    feed_space(line, space, sink)
 }
 
 /// Takes the batch of these registers through the stages.

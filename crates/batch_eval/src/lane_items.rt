@@ -2,11 +2,10 @@
 
 ghost use Rattle.batch_eval.specs.Batches.{CountsUp, item_at, laid_items, lanes, origin_at};
 ghost use Rattle.std.specs.Prelude.{◌≡◌, ◌+◌, ◌<◌, ◌≤◌, ◌^◌, ℕ, None, Some, drop, length, take};
-ghost use Rattle.trace.specs.Cover.{placed};
 
 use crate::batch::origin_of;
 use crate::listing::copy_front;
-use trace::{Item, PlacedValues, SourceItems};
+use trace::{Item, SourceItems};
 
 /// Items in lanes. Their values lie side by side in memory, and so do their places, unless these count up from one.
 #[derive(Clone, Copy)]
@@ -19,19 +18,6 @@ pub struct LaneItems<'a> {
 }
 
 impl<'a> LaneItems<'a> {
-    /// The items of values at places that count up.
-    pub(crate) fn of_run(run: PlacedValues<'a>) -> LaneItems<'a>
-        ensures items { laid_items result.start result.places.now result.values.now
-            ≡ placed run.entry.origin run.entry.values.now }
-        ensures count { length result.values.now ≡ length run.entry.values.now }
-    {
-        LaneItems {
-            start: Some(run.origin),
-            places: &[],
-            values: run.values,
-        }
-    }
-
     /// The items of the first lanes of registers.
     pub(crate) fn front(
         live: usize,

@@ -13,6 +13,7 @@
 #![tactic(auto)]
 
 mod batch;
+mod batch_items;
 mod cheap;
 mod choice;
 mod choose;
@@ -46,10 +47,10 @@ mod register;
 mod registers;
 mod room;
 mod sink;
-mod source;
 mod staging;
 mod step;
 
+pub use batch_items::BatchItems;
 pub use feeding::{feed_at_once, feed_batches};
 pub use flag::is_set;
 pub use flagged::{FlaggedLanes, accept_each_flagged};
@@ -58,4 +59,3 @@ pub use passing::count_passing;
 pub use pipeline::Pipeline;
 pub use registers::Registers;
 pub use sink::{BatchSink, accept_each};
-pub use source::BatchSource;

@@ -2,10 +2,11 @@
 
 ghost use Rattle.batch_eval.specs.Batches.{CountsUp, item_at, origin_at};
 ghost use Rattle.batch_eval.specs.Lanes.{at};
-ghost use Rattle.batch_eval.specs.Places.{HasValue};
-ghost use Rattle.std.specs.Prelude.{◌≡◌, ℕ, ◌+◌, ◌*◌, ◌<◌, ◌≤◌, ◌^◌, None};
+ghost use Rattle.lambda_values.specs.Wrap.{wrap};
+ghost use Rattle.std.specs.Prelude.{◌≡◌, ℕ, ◌+◌, ◌*◌, ◌<◌, ◌≤◌, ◌^◌, ◌+ℤ◌, pos, None};
 ghost use Rattle.std.specs.Prelude.{Some, length, slice_get, slice_index, take};
 
+use crate::lanes::{Counting, Lanes};
 use crate::register::LANES;
 use trace::SourceItems;
 
@@ -31,20 +32,14 @@ pub(crate) fn list_places(start: Option<u64>, live: usize, origins: &mut [u64])
     }
 }
 
-/// The values of a source's items from a position on, lane by lane.
-pub(crate) fn list_values<I: SourceItems>(
-    source: &I,
-    position: u64,
-    count: usize,
-    values: &mut [i64],
-)
-    requires within { position + count ≤ length (I.items source.now) }
-    requires bound { length (I.items source.now) < 2 ^ 64 }
-    requires values { count ≤ length values.old }
-    ensures { (k : ℕ) → k < count → HasValue (I.items source.now) (position + k) (at values.new k) }
+/// Numbers that count up from the first one, lane by lane.
+pub(crate) fn list_numbers(first: i64, count: usize, values: &mut [i64])
+    requires few { count ≤ 1024 }
+    requires within { count ≤ length values.old }
+    ensures { (k : ℕ) → k < count → at values.new k ≡ wrap (first +ℤ pos k) }
 {
     for lane in 0..count {
-        values[lane] = source.item_at(position + lane as u64).value;
+        values[lane] = Counting(first).get(lane, 0);
     }
 }
 

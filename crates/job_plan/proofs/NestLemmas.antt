@@ -1,5 +1,5 @@
 -- What a sink makes of the whole walk of a source.
-use Rattle.std.proofs.Common.{◌≡◌, ℕ, List, [], ◌++◌, take, ◌+◌, None, sym, ap, subst, ◌∙◌}
+use Rattle.std.proofs.Common.{◌≡◌, ℕ, List, [], ◌++◌, take, None, sym, ap, subst, ◌∙◌}
 use Rattle.lambda_values.specs.Earlier.{Numbers}
 use Rattle.trace.specs.declared.item.Item.{Item}
 use Rattle.trace.specs.declared.item.Fault.{Fault}

@@ -1,30 +1,30 @@
 //! The part of a prefix that nothing or cheap stages come before: it borrows the values of the job's sources and the
 //! stages.
 
-ghost use Rattle.std.specs.Prelude.{◌≡◌, ◌+◌, ◌<◌, ◌≤◌, ◌^◌, pos, ◌+ℤ◌, length};
-ghost use Rattle.std.specs.Prelude.{take, drop, true, IfOk, IfSome, OnErr, OnOk};
+ghost use Rattle.std.specs.Prelude.{◌≡◌, ◌+◌, ◌≤◌, ◌^◌, length};
+ghost use Rattle.std.specs.Prelude.{true, IfOk, IfSome, OnErr, OnOk};
 ghost use Rattle.lambda_values.specs.Earlier.{Numbers};
-ghost use Rattle.trace.specs.Cover.{counted, distance, placed};
+ghost use Rattle.trace.specs.Cover.{placed};
 ghost use Rattle.trace.specs.Stages.{stages_of};
 ghost use Rattle.trace.specs.Trace.{trace};
 ghost use Rattle.trace.specs.declared.item.End.TheVariants as end;
-ghost use Rattle.job_language.specs.Jobs.{source_of, sources_of};
+ghost use Rattle.job_language.specs.Jobs.{sources_of};
 ghost use Rattle.prefix_walks.specs.CheapStages.{left_by};
 ghost use Rattle.job_plan.specs.Parts.{StandsFor, end_in, end_keeps_items, segment_in, walk_in};
 ghost use Rattle.prefix_walks.specs.Pieces.{elements, piece_of};
 ghost use Rattle.prefix_walks.specs.Scans.{scan_append};
-ghost use Rattle.job_meaning.specs.Walks.{plain_values, values_of};
+ghost use Rattle.job_meaning.specs.Walks.{values_of};
 
 use crate::ends::SegmentEnd;
 use crate::part::Part;
 use crate::segment::Segment;
-use crate::source::{Base, ClosedRange, Source, range_piece};
-use crate::sources::plain_size;
+use crate::source::{Base, Source};
+use crate::sources::{items_of, plain_size};
 use batch_eval::Registers;
 use job_language::PlainSource;
-use prefix_walks::{CheapStages, LentItems, Portion, PrefixPart, Window, within};
+use prefix_walks::{CheapStages, Portion, PrefixPart, Window, within};
 use std::alloc::Global;
-use trace::{NoMemory, PlacedValues};
+use trace::NoMemory;
 
 /// The part of the items at these positions, if a prefix goes over the sources of a job with no stage but cheap ones
 /// before it. It takes memory for each 1,024 of them, and none for values.
@@ -76,81 +76,10 @@ fn push_sources<'a>(
         Some((source, later)) => {
             let size = plain_size(source);
             let (start, count) = within(window.from, window.to, size);
-            let portion = Portion { start, count };
-            push_one(part, cheap, source, origin + start, portion, registers)?;
+            let items = items_of(source, origin + start, Portion { start, count });
+            part.push_lent(cheap, &items, registers)?;
             let left = window.after(size);
             push_sources(part, cheap, later, origin + size, left, registers)
         }
     }
-}
-
-/// Adds what cheap stages leave of some items of a source; the first of them has the place `origin`.
-fn push_one<'a>(
-    part: &mut PrefixPart<'a>,
-    cheap: CheapStages<'a>,
-    source: &'a PlainSource<'_>,
-    origin: u64,
-    portion: Portion,
-    registers: &mut Registers,
-) -> Result<(), NoMemory>
-    requires open { part.old.walk.ending ≡ end.Done }
-    requires within { portion.start + portion.count ≤ length (plain_values (source_of source.now)) }
-    requires short { length (plain_values (source_of source.now)) ≤ 2 ^ 62 }
-    requires few { origin + portion.count ≤ 2 ^ 62 }
-    ensures { OnOk result (part.new ≡ scan_append part.old (trace (left_by (stages_of cheap.entry.stages.now)
-        (placed origin (take portion.count (drop portion.start (plain_values (source_of source.now)))))) end.Done)) }
-{
-    if portion.count == 0 {
-        return Ok(());
-    }
-    match source {
-        PlainSource::Range { from, to } => {
-            let range = ClosedRange {
-                from: *from,
-                to: *to - 1,
-            };
-            push_range(part, cheap, origin, range, portion, registers)
-        }
-        PlainSource::RangeClosed { from, to } => {
-            let range = ClosedRange {
-                from: *from,
-                to: *to,
-            };
-            push_range(part, cheap, origin, range, portion, registers)
-        }
-        PlainSource::Values(values) => {
-            let end = portion.start + portion.count;
-            let values = &values[portion.start as usize..end as usize];
-            let lent = LentItems::Values(PlacedValues { origin, values });
-            part.push_lent(cheap, &lent, registers)
-        }
-        PlainSource::Column(cells) => {
-            let end = portion.start + portion.count;
-            let values = &cells[portion.start as usize..end as usize];
-            let lent = LentItems::Values(PlacedValues { origin, values });
-            part.push_lent(cheap, &lent, registers)
-        }
-        PlainSource::Result(_) => Ok(()),
-    }
-}
-
-/// Adds what cheap stages leave of some integers of a range; the first of them has the place `origin`.
-fn push_range<'a>(
-    part: &mut PrefixPart<'a>,
-    cheap: CheapStages<'a>,
-    origin: u64,
-    range: ClosedRange,
-    portion: Portion,
-    registers: &mut Registers,
-) -> Result<(), NoMemory>
-    requires open { part.old.walk.ending ≡ end.Done }
-    requires some { 0 < portion.count }
-    requires within { portion.start + portion.count ≤ distance range.from (range.to +ℤ pos 1) }
-    requires short { portion.start + portion.count ≤ 2 ^ 62 }
-    requires few { origin + portion.count ≤ 2 ^ 62 }
-    ensures { OnOk result (part.new ≡ scan_append part.old (trace (left_by (stages_of cheap.entry.stages.now)
-        (placed origin (counted (range.from +ℤ pos portion.start) portion.count))) end.Done)) }
-{
-    let piece = range_piece(origin, range.from, portion.start, portion.count);
-    part.push_lent(cheap, &LentItems::Range(piece), registers)
 }

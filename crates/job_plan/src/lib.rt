@@ -3,10 +3,11 @@
 //! Stands on `job_meaning`, which says what the answer of a job is, on `job_language`, for jobs, on `trace` and
 //! `batch_eval`, for walks, and on `reduce_ops`, `slice_ops`, `find_ops` and `prefix_walks`, for what stages and
 //! terminals keep of a walk. Used by whatever runs jobs.
-//! Begin with `specs/Plans.antt`. `Plan::of` makes the route of each job, its legs. The first one goes over positions of
-//! the job's sources, each further one over positions of what the prefix at the end of the one before it gives. It
-//! finds the earlier jobs that a job names. `leaf_until` takes a piece of what a leg goes over to a `Part`, two parts side by side merge, and
-//! `Part::finish` gives the next source or the answer. `walk_tree` does all of this on one thread.
+//! Begin with `specs/Plans.antt`. `Plan::of` makes the route of each job, its legs, and finds the earlier jobs that a
+//! job names. The first leg goes over positions of the job's sources, each further one over positions of what the
+//! prefix at the end of the leg before gives. `leaf_until` takes a piece of what a leg goes over to a `Part`, two parts
+//! side by side merge, and `Part::finish` gives the next source or the answer. `walk_tree` does all of this on one
+//! thread.
 //! Not promised: that pieces are walked at the same time, or that a piece is walked no further than needed.
 #![tactic(auto)]
 

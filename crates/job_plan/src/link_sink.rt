@@ -18,7 +18,7 @@ ghost use Rattle.job_plan.specs.Plans.{AbstractSegment, collecting};
 
 use crate::closing::Closing;
 use crate::fronts::tested;
-use batch_eval::{BatchSink, LaneItems, Pipeline, Registers, feed_at_once};
+use batch_eval::{BatchItems, BatchSink, LaneItems, Pipeline, Registers, feed_at_once};
 use lambda_values::BoolExpr;
 use slice_ops::{SliceCut, SliceRest};
 use std::marker::{Brand, PhantomData};
@@ -175,7 +175,7 @@ fn hand_on<S: BatchSink>(
     if line.stages.is_empty() {
         return sink.accept_lanes(lanes, room);
     }
-    feed_at_once(line, &lanes, registers, sink)
+    feed_at_once(line, &BatchItems::Lanes(lanes), registers, sink)
 }
 
 /// Lets items pass as a slice does, and takes those that pass through the stages of the next segment.

@@ -1,26 +1,25 @@
 //! What a leg goes over, by position.
 
-ghost use Rattle.std.specs.Prelude.{◌≡◌, ◌+◌, ◌<◌, ◌≤◌, ◌^◌, pos, ◌+ℤ◌, ℕ, FitsSigned, List, length, take, drop, OnErr};
-ghost use Rattle.std.specs.Int.{w64};
-ghost use Rattle.trace.specs.Cover.{counted, distance, placed};
+ghost use Rattle.std.specs.Prelude.{◌≡◌, ◌+◌, ◌<◌, ◌≤◌, ◌^◌, List, length, OnErr};
+ghost use Rattle.trace.specs.Cover.{placed};
 ghost use Rattle.trace.specs.Sinks.{IsFed, flow_after};
 ghost use Rattle.trace.specs.Trace.{trace};
 ghost use Rattle.trace.specs.declared.item.Item.{Item as item};
 ghost use Rattle.trace.specs.declared.item.End.TheVariants as end;
 ghost use Rattle.batch_eval.specs.Pipelines.{piped};
-ghost use Rattle.job_language.specs.Jobs.{source_of, sources_of};
+ghost use Rattle.job_language.specs.Jobs.{sources_of};
 ghost use Rattle.job_plan.specs.Bases.{base_walk};
 ghost use Rattle.prefix_walks.specs.Pieces.{elements, piece_of};
 ghost use Rattle.prefix_walks.specs.Spans.{after};
 ghost use Rattle.job_meaning.specs.Walks.{plain_values, source_walk, values_of};
 
 use crate::leg::Leg;
-use crate::sources::{PlainSources, plain_size, total_size};
+use crate::sources::{PlainSources, items_of, plain_size, total_size};
 use batch_eval::{BatchSink, Pipeline, Registers, feed_batches};
 use job_language::PlainSource;
 use lambda_values::{Env, FaultKind};
-use prefix_walks::{GivenWalk, Portion, Window, feed_given, feed_values, within};
-use trace::{End, Fault, Fed, Flow, MAX_SOURCE_SIZE, NoMemory, PlacedValues, RangeItems};
+use prefix_walks::{GivenWalk, Portion, Window, feed_given, within};
+use trace::{End, Fault, Fed, Flow, MAX_SOURCE_SIZE, NoMemory};
 
 /// The fault of sources of more than 2^62 values.
 const TOO_LONG: Fault = Fault {
@@ -180,112 +179,13 @@ fn feed_plain<S: BatchSink>(
         Some((source, later)) => {
             let size = plain_size(source);
             let (start, count) = within(window.from, window.to, size);
-            let portion = Portion { start, count };
-            match feed_one(line, source, origin + start, portion, registers, sink)? {
+            let items = items_of(source, origin + start, Portion { start, count });
+            match feed_batches(line, &items, registers, sink)? {
                 Fed::More => {}
                 stopped => return Ok(stopped),
             }
             let left = window.after(size);
             feed_plain(line, later, origin + size, left, registers, sink)
         }
-    }
-}
-
-/// Takes some items of a source; the first of them has the place `origin`.
-fn feed_one<S: BatchSink>(
-    line: Pipeline<'_>,
-    source: &PlainSource,
-    origin: u64,
-    portion: Portion,
-    registers: &mut Registers,
-    sink: &mut S,
-) -> Result<Fed, NoMemory>
-    requires wants { S.flow sink.old ≡ Flow.More }
-    requires within { portion.start + portion.count ≤ length (plain_values (source_of source.now)) }
-    requires short { length (plain_values (source_of source.now)) ≤ 2 ^ 62 }
-    requires few { origin + portion.count ≤ 2 ^ 62 }
-    ensures fed { (xs : List item) → S.has_taken sink.old xs → IsFed S.has_taken xs
-        (piped line.entry (trace (placed origin
-        (take portion.count (drop portion.start (plain_values (source_of source.now))))) end.Done)) result sink.new }
-    ensures flow { S.flow sink.new ≡ flow_after result }
-    ensures refused { OnErr result S.takes_memory }
-{
-    if portion.count == 0 {
-        return Ok(Fed::More);
-    }
-    match source {
-        PlainSource::Range { from, to } => {
-            let range = ClosedRange {
-                from: *from,
-                to: *to - 1,
-            };
-            feed_range(line, origin, range, portion, registers, sink)
-        }
-        PlainSource::RangeClosed { from, to } => {
-            let range = ClosedRange {
-                from: *from,
-                to: *to,
-            };
-            feed_range(line, origin, range, portion, registers, sink)
-        }
-        PlainSource::Values(values) => {
-            let end = portion.start + portion.count;
-            let values = &values[portion.start as usize..end as usize];
-            feed_values(line, origin, values, registers, sink)
-        }
-        PlainSource::Column(cells) => {
-            let end = portion.start + portion.count;
-            let values = &cells[portion.start as usize..end as usize];
-            feed_values(line, origin, values, registers, sink)
-        }
-        PlainSource::Result(_) => Ok(Fed::More),
-    }
-}
-
-/// The integers from the first up to and with the second one.
-#[derive(Clone, Copy)]
-pub(crate) struct ClosedRange {
-    pub(crate) from: i64,
-    pub(crate) to: i64,
-}
-
-/// Takes some integers of a range; the first of them has the place `origin`.
-fn feed_range<S: BatchSink>(
-    line: Pipeline<'_>,
-    origin: u64,
-    range: ClosedRange,
-    portion: Portion,
-    registers: &mut Registers,
-    sink: &mut S,
-) -> Result<Fed, NoMemory>
-    requires wants { S.flow sink.old ≡ Flow.More }
-    requires some { 0 < portion.count }
-    requires within { portion.start + portion.count ≤ distance range.from (range.to +ℤ pos 1) }
-    requires short { portion.start + portion.count ≤ 2 ^ 62 }
-    requires few { origin + portion.count ≤ 2 ^ 62 }
-    ensures fed { (xs : List item) → S.has_taken sink.old xs → IsFed S.has_taken xs
-        (piped line.entry (trace (placed origin (counted (range.from +ℤ pos portion.start) portion.count)) end.Done))
-        result sink.new }
-    ensures flow { S.flow sink.new ≡ flow_after result }
-    ensures refused { OnErr result S.takes_memory }
-{
-    let items = range_piece(origin, range.from, portion.start, portion.count);
-    feed_batches(line, &items, registers, sink)
-}
-
-/// `count` integers that count up, from a position on; the first of them has the place `origin`.
-pub(crate) fn range_piece(origin: u64, from: i64, start: u64, count: u64) -> RangeItems
-    requires some { 0 < count }
-    requires few { origin + count ≤ 2 ^ 62 }
-    requires short { start + count ≤ 2 ^ 62 }
-    requires in_range { (i : ℕ) → i < start + count → FitsSigned w64 (from +ℤ pos i) }
-    ensures origin { result.origin ≡ origin }
-    ensures first { result.first ≡ from +ℤ pos start }
-    ensures count { result.count ≡ count }
-{
-    RangeItems {
-        origin,
-        first: from + start as i64,
-        count,
     }
 }

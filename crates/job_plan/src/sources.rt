@@ -1,11 +1,15 @@
-//! The plain sources of a job, and how many values they have.
+//! The plain sources of a job: how many values they have, and items of them.
 
-ghost use Rattle.std.specs.Prelude.{◌≡◌, ◌≤◌, ◌-◌, ◌<◌, ◌^◌, min, length, pos, ◌+ℤ◌};
-ghost use Rattle.trace.specs.Cover.{distance};
+ghost use Rattle.std.specs.Prelude.{◌≡◌, ◌+◌, ◌≤◌, ◌-◌, ◌<◌, ◌^◌, min, drop, length, pos, take, ◌+ℤ◌};
+ghost use Rattle.trace.specs.Cover.{counted, distance, placed};
+ghost use Rattle.batch_eval.specs.BatchItems.{batch_items};
 ghost use Rattle.job_language.specs.Jobs.{source_of, sources_of};
 ghost use Rattle.job_meaning.specs.Walks.{plain_values, values_of};
 
+use batch_eval::BatchItems;
 use job_language::PlainSource;
+use prefix_walks::Portion;
+use trace::RangeItems;
 
 /// The plain sources of a job, one after the other, with at most 2^62 values.
 #[derive(Clone, Copy)]
@@ -53,4 +57,45 @@ pub(crate) fn total_size(sources: &[PlainSource]) -> u64
         return 0;
     };
     plain_size(source).saturating_add(total_size(later))
+}
+
+/// Some items of a source, where they lie; the first of them has the place `origin`.
+pub(crate) fn items_of<'a>(
+    source: &'a PlainSource<'_>,
+    origin: u64,
+    portion: Portion,
+) -> BatchItems<'a>
+    requires within { portion.start + portion.count ≤ length (plain_values (source_of source.now)) }
+    requires short { length (plain_values (source_of source.now)) ≤ 2 ^ 62 }
+    requires few { origin + portion.count ≤ 2 ^ 62 }
+    ensures { batch_items result
+        ≡ placed origin (take portion.count (drop portion.start (plain_values (source_of source.now)))) }
+{
+    if portion.count == 0 {
+        return BatchItems::placed(origin, &[]);
+    }
+    let first = portion.start as usize;
+    let end = (portion.start + portion.count) as usize;
+    match source {
+        PlainSource::Range { from, to } => range_items(origin, *from, *to - 1, portion),
+        PlainSource::RangeClosed { from, to } => range_items(origin, *from, *to, portion),
+        PlainSource::Values(values) => BatchItems::placed(origin, &values[first..end]),
+        PlainSource::Column(cells) => BatchItems::placed(origin, &cells[first..end]),
+        PlainSource::Result(_) => BatchItems::placed(origin, &[]),
+    }
+}
+
+/// Some of the integers from one up to and with another; the first of them has the place `origin`.
+fn range_items<'a>(origin: u64, from: i64, last: i64, portion: Portion) -> BatchItems<'a>
+    requires some { 0 < portion.count }
+    requires within { portion.start + portion.count ≤ distance from (last +ℤ pos 1) }
+    requires short { portion.start + portion.count ≤ 2 ^ 62 }
+    requires few { origin + portion.count ≤ 2 ^ 62 }
+    ensures { batch_items result ≡ placed origin (counted (from +ℤ pos portion.start) portion.count) }
+{
+    BatchItems::Range(RangeItems {
+        origin,
+        first: from + portion.start as i64,
+        count: portion.count,
+    })
 }

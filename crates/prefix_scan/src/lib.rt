@@ -1,6 +1,6 @@
 //! The two passes of a prefix over pieces: folds go up, and what lies left of each piece comes down.
 //!
-//! Stands on `reduce_ops` for operators and on `trace` for items and chunks. `up` folds the items of a chunk, and `down`
+//! Stands on `reduce_ops` for operators and on `trace` for items and chunks. `up` folds the items of a chunk, `down`
 //! scans them in place. Used by `prefix_walks`, which cuts a range to a piece (`cut_to`) and scans its values
 //! (`scan_values`). What it promises: folds and scans meet `specs/Scans.antt`, and by `two_passes_give_the_prefix` two
 //! passes over the pieces of a walk give the prefix of `specs/Prefixes.antt`.

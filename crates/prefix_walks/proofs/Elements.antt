@@ -1,11 +1,12 @@
 -- Elements at positions of a list, and of two lists one after the other.
-use Rattle.std.proofs.Common.{FitsSigned, w64, int_lt, unsigned_abs, ◌-ℤ◌, Bool, true, false, if◌then◌else◌, subst, ◌≡◌, ℕ, zero, suc, ◌+◌, ◌-◌, ◌<◌, ◌≤◌, min, ℤ, pos, ◌+ℤ◌, List, [], ◌∷◌, ◌++◌, length, take, drop, Option, Some, None, refl, sym, ap, ◌∙◌, arith}
+use Rattle.std.proofs.Common.{FitsSigned, w64, int_lt, unsigned_abs, ◌-ℤ◌, Bool, true, false, if◌then◌else◌, subst, ◌≡◌, ℕ, zero, suc, ◌+◌, ◌-◌, ◌<◌, ◌≤◌, ◌^◌, min, ℤ, pos, List, [], ◌∷◌, ◌++◌, length, length-append, take, drop, Option, Some, None, refl, sym, ap, ◌∙◌, arith}
 use Rattle.std.proofs.lemmas.Int.{ints}
 use Rattle.std.proofs.lemmas.List.{drop-drop, length-drop, take-append-drop, take-take, take_all}
 use borrow.Author.Differences.{fits_in, fits_out}
 use Rattle.trace.specs.declared.item.Item.{Item}
-use Rattle.trace.specs.Cover.{counted, distance, placed}
+use Rattle.trace.specs.Cover.{distance, placed}
 use Rattle.trace.proofs.Sources.{length-placed}
+use Rattle.batch_eval.proofs.RangeLemmas.{drop_placed, take_placed}
 use Rattle.prefix_walks.specs.Pieces.{elements}
 use Rattle.prefix_walks.specs.Spans.{IsNotAfter, after, span}
 
@@ -105,37 +106,8 @@ placed_both o (u ∷ us) vs =
     let e : suc o + length us ≡ o + suc (length us) = omega arith in
     ap (λ (xs : List Item). record { origin = o; value = u } ∷ xs) (placed_both (suc o) us vs ∙ ap (λ (n : ℕ). placed (suc o) us ++ placed n vs) e)
 
-pub drop_placed : (n o : ℕ) (vs : List ℤ) → drop n (placed o vs) ≡ placed (o + n) (drop n vs)
-drop_placed n o [] = drop_of_none n ∙ sym (ap (placed (o + n)) (drop_of_none n))
-drop_placed zero o (v ∷ vs) = let e : o ≡ o + 0 = omega arith in ap (λ (m : ℕ). placed m (v ∷ vs)) e
-drop_placed (suc n) o (v ∷ vs) = drop_placed n (suc o) vs ∙ (let e : suc o + n ≡ o + suc n = omega arith in ap (λ (m : ℕ). placed m (drop n vs)) e)
-
-pub take_placed : (n o : ℕ) (vs : List ℤ) → take n (placed o vs) ≡ placed o (take n vs)
-take_placed n o [] = take_of_none n ∙ sym (ap (placed o) (take_of_none n))
-take_placed zero o (v ∷ vs) = refl
-take_placed (suc n) o (v ∷ vs) = ap (λ (xs : List Item). record { origin = o; value = v } ∷ xs) (take_placed n (suc o) vs)
-
--- integers that count up, from a position on
-pub drop_counted : (n : ℕ) (a : ℤ) (c : ℕ) → drop n (counted a c) ≡ counted (a +ℤ pos n) (c - n)
-drop_counted n a zero = let e : 0 - n ≡ 0 = omega arith in drop_of_none n ∙ sym (ap (counted (a +ℤ pos n)) e)
-drop_counted zero a (suc c) = let e : a ≡ a +ℤ pos 0 = omega (arith, ints) in let k : suc c ≡ suc c - 0 = omega arith in ap (λ b. counted b (suc c)) e ∙ ap (counted (a +ℤ pos 0)) k
-drop_counted (suc n) a (suc c) =
-    let e : (a +ℤ pos 1) +ℤ pos n ≡ a +ℤ pos (suc n) = omega (arith, ints) in
-    let k : c - n ≡ suc c - suc n = omega arith in
-    drop_counted n (a +ℤ pos 1) c ∙ ap (λ b. counted b (c - n)) e ∙ ap (counted (a +ℤ pos (suc n))) k
-
-pub take_counted : (n : ℕ) (a : ℤ) (c : ℕ) → n ≤ c → take n (counted a c) ≡ counted a n
-take_counted zero a zero h = refl
-take_counted zero a (suc c) h = refl
-take_counted (suc n) a zero h = absurd (omega arith)
-take_counted (suc n) a (suc c) h = ap (λ (vs : List ℤ). a ∷ vs) (take_counted n (a +ℤ pos 1) c (omega arith))
-
--- a piece of a range
-pub counted_piece : (a : ℤ) (n start count : ℕ) → start + count ≤ n → take count (drop start (counted a n)) ≡ counted (a +ℤ pos start) count
-counted_piece a n start count h = ap (take count) (drop_counted start a n) ∙ take_counted count (a +ℤ pos start) (n - start) (omega arith)
-
 -- positions in the values of a source, and in those after it
-pub placed_positions : (o from : ℕ) (to : Option ℕ) (us vs : List ℤ) (size start count : ℕ) → size ≡ length us → start ≡ min from size → count ≡ span from to size
+placed_positions : (o from : ℕ) (to : Option ℕ) (us vs : List ℤ) (size start count : ℕ) → size ≡ length us → start ≡ min from size → count ≡ span from to size
     → elements from to (placed o (us ++ vs)) ≡ placed (o + start) (take count (drop start us)) ++ elements (from - size) (after to size) (placed (o + size) vs)
 placed_positions o from to us vs size start count e s c =
     let l = length-placed o us in
@@ -143,6 +115,15 @@ placed_positions o from to us vs size start count e s c =
     ∙ (λ i. (clamped from to (placed o us) ∙ (λ j. take (span from to (l j)) (drop (min from (l j)) (placed o us))) ∙ (λ j. take (span from to (sym e j)) (drop (min from (sym e j)) (placed o us)))
     ∙ (λ j. take (sym c j) (drop (sym s j) (placed o us))) ∙ ap (take count) (drop_placed start o us) ∙ take_placed count (o + start) (drop start us)) i
     ++ elements (from - (l ∙ sym e) i) (after to ((l ∙ sym e) i)) (placed (o + sym e i) vs))
+
+-- these, of sources of at most 2^62 values
+pub source_parts : (all us vs : List ℤ) (xs : List Item) (o from : ℕ) (to : Option ℕ) (size start count : ℕ) → all ≡ us ++ vs → o + length all ≤ 2 ^ 62 → size ≡ min (length us) (2 ^ 64 - 1) → start ≡ min from size
+    → count ≡ span from to size → xs ≡ placed (o + start) (take count (drop start us)) → elements from to (placed o all) ≡ xs ++ elements (from - size) (after to size) (placed (o + size) vs)
+source_parts all us vs xs o from to size start count split few s a c x =
+    let l = ap length split ∙ length-append us vs in
+    let same : size ≡ length us = omega (arith, s, few, l) in
+    ap (λ (ws : List ℤ). elements from to (placed o ws)) split ∙ placed_positions o from to us vs size start count same a c
+    ∙ ap (λ (ys : List Item). ys ++ elements (from - size) (after to size) (placed (o + size) vs)) (sym x)
 
 -- the last value of a range that has one
 pub less_one_fits : (a b : ℤ) → FitsSigned w64 a → FitsSigned w64 b → 0 < distance a b → FitsSigned w64 (b -ℤ pos 1)

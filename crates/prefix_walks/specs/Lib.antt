@@ -3,7 +3,6 @@ pub mod Batches
 pub mod CheapStages
 pub mod Faultless
 pub mod Kept
-pub mod Lent
 pub mod PieceItems
 pub mod Pieces
 pub mod Placing

@@ -1,16 +1,15 @@
 //! Maps and filters that are so cheap that what they leave of values is computed where it is read, and not kept.
 
-ghost use Rattle.std.specs.Prelude.{◌≡◌, ◌≤◌, ◌<◌, ◌^◌, [], IfSome, length};
+ghost use Rattle.std.specs.Prelude.{◌≡◌, ◌≤◌, ◌<◌, ◌^◌, IfSome, length};
 ghost use Rattle.lambda_values.specs.Term.{long_of, truth_of};
 ghost use Rattle.trace.specs.Stages.{stage_of, stages_of};
+ghost use Rattle.batch_eval.specs.BatchItems.{batch_items};
 ghost use Rattle.prefix_walks.specs.CheapStages.{AreCheap, AreCheap-prop, IsCheapStage, left_by};
-ghost use Rattle.prefix_walks.specs.Lent.{lent_items};
 ghost use Rattle.prefix_walks.specs.Plain.{IsPlain, IsPlainTest};
 
 use crate::faultless::{is_total, is_total_by};
-use crate::lent::LentItems;
 use crate::piece_buffer::PieceBuffer;
-use batch_eval::{BatchSource, Pipeline, Registers, feed_at_once};
+use batch_eval::{BatchItems, Pipeline, Registers, feed_at_once};
 use lambda_values::{BinaryOperator, BoolExpr, Env, Faults, LongExpr};
 use std::alloc::Global;
 use trace::Stage;
@@ -42,33 +41,21 @@ impl<'a> CheapStages<'a> {
     /// Puts what the stages leave of up to 1,024 items into a buffer.
     pub(crate) fn put(
         &self,
-        lent: &LentItems<'_>,
+        lent: &BatchItems<'_>,
         registers: &mut Registers,
         buffer: &mut PieceBuffer,
     )
-        requires { length (lent_items lent.now) ≤ 1024 }
-        ensures { buffer.new ≡ left_by (stages_of self.now.stages.now) (lent_items lent.now) }
+        requires { length (batch_items lent.now) ≤ 1024 }
+        ensures { buffer.new ≡ left_by (stages_of self.now.stages.now) (batch_items lent.now) }
     {
         buffer.clear();
-        match lent {
-            LentItems::Values(values) => self.feed(values, registers, buffer),
-            LentItems::Range(range) => self.feed(range, registers, buffer),
-        }
-    }
-
-    /// Puts what the stages leave of up to 1,024 items into an empty buffer.
-    fn feed<I: BatchSource>(&self, source: &I, registers: &mut Registers, buffer: &mut PieceBuffer)
-        requires few { length (I.items source.now) ≤ 1024 }
-        requires none { buffer.old ≡ [] }
-        ensures { buffer.new ≡ left_by (stages_of self.now.stages.now) (I.items source.now) }
-    {
         let env = Env::empty(self.alloc);
         let line = Pipeline {
             stages: self.stages,
             first: 0,
             env: &env,
         };
-        let _ = feed_at_once(line, source, registers, buffer);
+        let _ = feed_at_once(line, lent, registers, buffer);
     }
 }
 

@@ -2,17 +2,17 @@
 
 ghost use Rattle.std.specs.Prelude.{◌≡◌, ◌≤◌, ◌++◌, true, Ok, length, map, IfOk};
 ghost use Rattle.trace.specs.Stages.{stages_of};
+ghost use Rattle.batch_eval.specs.BatchItems.{batch_items};
 ghost use Rattle.prefix_walks.specs.CheapStages.{left_by};
-ghost use Rattle.prefix_walks.specs.Lent.{lent_items};
 ghost use Rattle.prefix_walks.specs.Placing.{IsAt};
 ghost use Rattle.prefix_walks.specs.Scans.{IsFolded, items_of};
 
 use crate::cheap_stages::CheapStages;
 use crate::folding::folded;
-use crate::lent::LentItems;
 use crate::piece_items::PieceItems;
 use crate::stored::Stored;
 use crate::worked::Worked;
+use batch_eval::BatchItems;
 use reduce_ops::{Op, Partial};
 use std::alloc::Global;
 use trace::{NoMemory, SourceItems};
@@ -57,12 +57,12 @@ impl<'a> FoldedPiece<'a> {
     pub(crate) fn worked(
         op: Op,
         stages: CheapStages<'a>,
-        lent: LentItems<'a>,
+        lent: BatchItems<'a>,
         values: &[i64],
     ) -> FoldedPiece<'a>
-        requires few { length (lent_items lent) ≤ 1024 }
-        requires values { map (λ x. x.value) (left_by (stages_of stages.stages.now) (lent_items lent)) ≡ values.now }
-        ensures items { items_of result ≡ left_by (stages_of stages.entry.stages.now) (lent_items lent.entry) }
+        requires few { length (batch_items lent) ≤ 1024 }
+        requires values { map (λ x. x.value) (left_by (stages_of stages.stages.now) (batch_items lent)) ≡ values.now }
+        ensures items { items_of result ≡ left_by (stages_of stages.entry.stages.now) (batch_items lent.entry) }
         ensures folded { IsFolded op result }
     {
         FoldedPiece {

@@ -1,7 +1,6 @@
 //! A piece of a walk, scanned in a buffer and taken through stages.
 
-ghost use Rattle.std.specs.Prelude.{◌≡◌, ◌≤◌, ◌+◌, ◌^◌, List, length, OnErr};
-ghost use Rattle.trace.specs.Cover.{placed};
+ghost use Rattle.std.specs.Prelude.{◌≡◌, List, OnErr};
 ghost use Rattle.trace.specs.Sinks.{IsFed, flow_after};
 ghost use Rattle.trace.specs.Trace.{trace};
 ghost use Rattle.trace.specs.declared.item.Item.{Item as item};
@@ -17,9 +16,9 @@ use crate::piece_buffer::PieceBuffer;
 use crate::prefix::Prefix;
 use crate::spans::within;
 use crate::window::Window;
-use batch_eval::{BatchSink, Pipeline, Registers, feed_at_once, feed_batches};
+use batch_eval::{BatchItems, BatchSink, Pipeline, Registers, feed_at_once};
 use prefix_scan::cut_to;
-use trace::{Fed, Flow, NoMemory, PlacedValues, SourceItems};
+use trace::{Fed, Flow, NoMemory, SourceItems};
 
 /// A prefix from a position on; `start` is the fold of what lies left of it.
 #[derive(Clone, Copy)]
@@ -69,24 +68,5 @@ fn feed_buffer<S: BatchSink>(
     let lanes = buffer.lanes();
     let (from, count) = within(window.from, window.to, lanes.count());
     let part = lanes.part(from, count);
-    feed_at_once(line, &part, registers, sink)
-}
-
-/// Takes values. The first one has the place `origin`.
-pub fn feed_values<S: BatchSink>(
-    line: Pipeline<'_>,
-    origin: u64,
-    values: &[i64],
-    registers: &mut Registers,
-    sink: &mut S,
-) -> Result<Fed, NoMemory>
-    requires wants { S.flow sink.old ≡ Flow.More }
-    requires few { origin + length values.now ≤ 2 ^ 62 }
-    ensures fed { (xs : List item) → S.has_taken sink.old xs → IsFed S.has_taken xs
-        (piped line.entry (trace (placed origin values.now) end.Done)) result sink.new }
-    ensures flow { S.flow sink.new ≡ flow_after result }
-    ensures refused { OnErr result S.takes_memory }
-{
-    let items = PlacedValues { origin, values };
-    feed_batches(line, &items, registers, sink)
+    feed_at_once(line, &BatchItems::Lanes(part), registers, sink)
 }

@@ -1,6 +1,5 @@
 //! Items that a walk left, as a source whose items are read by position.
 
-use batch_eval::BatchSource;
 use trace::{Item, SourceItems};
 
 /// Items that already have their places.
@@ -20,5 +19,3 @@ impl SourceItems for ItemPiece<'_> {
         self.items[position as usize]
     }
 }
-
-impl BatchSource for ItemPiece<'_> {}

@@ -4,20 +4,19 @@ ghost use Rattle.std.specs.Prelude.{◌≡◌, ◌<◌, [], All, length, map, On
 ghost use Rattle.trace.specs.Stages.{stages_of};
 ghost use Rattle.trace.specs.Trace.{trace, nothing, append};
 ghost use Rattle.trace.specs.declared.item.End.TheVariants as end;
+ghost use Rattle.batch_eval.specs.BatchItems.{batch_items};
 ghost use Rattle.reduce_ops.specs.Operators.{value_of};
 ghost use Rattle.prefix_scan.specs.Prefixes.{ends_after, prefixed, prefixed_items};
 ghost use Rattle.prefix_walks.specs.CheapStages.{left_by};
-ghost use Rattle.prefix_walks.specs.Lent.{lent_items};
 ghost use Rattle.prefix_walks.specs.Scans.{IsFolded, all_items, scan, scan_append};
 
 use crate::cheap_stages::CheapStages;
 use crate::folded_piece::FoldedPiece;
 use crate::given::GivenWalk;
-use crate::lent::LentItems;
 use crate::prefix::Prefix;
 use crate::prefix_pieces::{add_items, add_lent};
 use crate::scanned::ScannedWalk;
-use batch_eval::Registers;
+use batch_eval::{BatchItems, Registers};
 use lambda_values::FaultKind;
 use std::alloc::Global;
 use std::marker::Model;
@@ -77,12 +76,12 @@ impl<'a> PrefixPart<'a> {
     pub fn push_lent(
         &mut self,
         cheap: CheapStages<'a>,
-        lent: &LentItems<'a>,
+        lent: &BatchItems<'a>,
         registers: &mut Registers,
     ) -> Result<(), NoMemory>
         requires open { self.old.walk.ending ≡ end.Done }
         ensures { OnOk result (self.new ≡ scan_append self.old
-            (trace (left_by (stages_of cheap.entry.stages.now) (lent_items lent.now)) end.Done)) }
+            (trace (left_by (stages_of cheap.entry.stages.now) (batch_items lent.now)) end.Done)) }
     {
         add_lent(&mut self.pieces, self.prefix.op, cheap, lent, registers)
     }

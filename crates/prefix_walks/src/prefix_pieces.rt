@@ -3,16 +3,15 @@
 ghost use Rattle.std.specs.Prelude.{◌≡◌, ◌+◌, ◌<◌, ◌≤◌, ◌^◌, ◌++◌, Ok, All, true, length, map, OnOk, OnErr, IfSome};
 ghost use Rattle.trace.specs.Cover.{placed};
 ghost use Rattle.trace.specs.Stages.{stages_of};
+ghost use Rattle.batch_eval.specs.BatchItems.{batch_items};
 ghost use Rattle.prefix_walks.specs.CheapStages.{left_by};
-ghost use Rattle.prefix_walks.specs.Lent.{lent_items};
 ghost use Rattle.prefix_walks.specs.Placing.{IsAt};
 ghost use Rattle.prefix_walks.specs.Scans.{IsFolded, all_items, items_of};
 
 use crate::cheap_stages::CheapStages;
 use crate::folded_piece::FoldedPiece;
-use crate::lent::LentItems;
 use crate::piece_buffer::{MOST_ITEMS, PieceBuffer};
-use batch_eval::Registers;
+use batch_eval::{BatchItems, Registers};
 use reduce_ops::Op;
 use trace::{MAX_SOURCE_SIZE, NoMemory, SourceItems};
 
@@ -121,12 +120,12 @@ pub(crate) fn add_lent<'a>(
     pieces: &mut Vec<FoldedPiece<'a>>,
     op: Op,
     cheap: CheapStages<'a>,
-    lent: &LentItems<'a>,
+    lent: &BatchItems<'a>,
     registers: &mut Registers,
 ) -> Result<(), NoMemory>
     requires folds { All (IsFolded op) pieces.old.items }
     ensures ok { OnOk result (all_items pieces.new.items ≡ all_items pieces.old.items
-        ++ left_by (stages_of cheap.entry.stages.now) (lent_items lent.now)) }
+        ++ left_by (stages_of cheap.entry.stages.now) (batch_items lent.now)) }
     ensures folds { All (IsFolded op) pieces.new.items }
 {
     let mut buffer = PieceBuffer::new();
@@ -147,12 +146,12 @@ fn add_left<'a>(
     pieces: &mut Vec<FoldedPiece<'a>>,
     op: Op,
     cheap: CheapStages<'a>,
-    lent: LentItems<'a>,
+    lent: BatchItems<'a>,
     left: &PieceBuffer,
 ) -> Result<(), NoMemory>
     requires folds { All (IsFolded op) pieces.old.items }
-    requires few { length (lent_items lent) ≤ 1024 }
-    requires left { left.now ≡ left_by (stages_of cheap.stages.now) (lent_items lent) }
+    requires few { length (batch_items lent) ≤ 1024 }
+    requires left { left.now ≡ left_by (stages_of cheap.stages.now) (batch_items lent) }
     ensures ok { OnOk result (all_items pieces.new.items ≡ all_items pieces.old.items ++ left.now) }
     ensures folds { All (IsFolded op) pieces.new.items }
 {

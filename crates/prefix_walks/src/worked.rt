@@ -2,18 +2,18 @@
 
 ghost use Rattle.std.specs.Prelude.{◌≡◌, ◌≤◌, length};
 ghost use Rattle.trace.specs.Stages.{stages_of};
+ghost use Rattle.batch_eval.specs.BatchItems.{batch_items};
 ghost use Rattle.prefix_walks.specs.CheapStages.{left_by};
-ghost use Rattle.prefix_walks.specs.Lent.{lent_items};
 
 use crate::cheap_stages::CheapStages;
-use crate::lent::LentItems;
+use batch_eval::BatchItems;
 
 /// What cheap stages leave of up to 1,024 items of a source: this number of items.
 #[derive(Drop)]
 pub struct Worked<'a> {
     pub(crate) stages: CheapStages<'a>,
-    pub(crate) lent: LentItems<'a>,
+    pub(crate) lent: BatchItems<'a>,
     pub(crate) count: usize,
-    ghost few: { length (lent_items lent) ≤ 1024 },
-    ghost counted: { count ≡ length (left_by (stages_of stages.stages.now) (lent_items lent)) },
+    ghost few: { length (batch_items lent) ≤ 1024 },
+    ghost counted: { count ≡ length (left_by (stages_of stages.stages.now) (batch_items lent)) },
 }

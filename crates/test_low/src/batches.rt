@@ -3,12 +3,12 @@ ghost use Rattle.std.specs.Prelude.{◌≡◌, ◌+◌, ◌<◌, ◌≤◌, ◌^
 ghost use Rattle.trace.specs.declared.sink.Flow.TheVariants as flow;
 
 use crate::random::{any_stage, any_values, next};
-use batch_eval::{BatchSink, BatchSource, Pipeline, Registers, feed_batches};
+use batch_eval::{BatchItems, BatchSink, LaneItems, Pipeline, Registers, feed_batches};
 use lambda_expr::{Want, read_lambda};
 use lambda_values::{Body, Env, InnerExpr, LongExpr};
 use std::alloc::{AllocError, Global};
 use std::test::Fail;
-use trace::{Fed, Flow, Item, LongSink, NoMemory, PlacedValues, Stage, feed_all};
+use trace::{Fed, Flow, Item, LongSink, NoMemory, Stage, feed_all};
 
 /// Images and tests, each operator at least once; divisors and exact operations that fault at some of
 /// the values from -8 to 7.
@@ -63,17 +63,6 @@ fn no_items(alloc: Global, flags: bool) -> Items
     }
 }
 
-/// The values at the places 0, 1, 2 and so on.
-fn items_of(alloc: Global, values: &[i64]) -> Result<Vec<Item>, NoMemory> {
-    (0..)
-        .zip(values)
-        .map(|(origin, value)| Item {
-            origin,
-            value: *value,
-        })
-        .collect(alloc)
-}
-
 /// `map` or `filter` by a lambda.
 pub(crate) fn stage(alloc: Global, text: &str, want: Want) -> Result<Stage, NoMemory> {
     match read_lambda(alloc, text.trim().as_bytes(), want) {
@@ -106,10 +95,10 @@ pub(crate) fn line_of<'a>(stages: &'a [Stage], env: &'a Env) -> Pipeline<'a>
 }
 
 /// Whether all ways give equal items and ends.
-fn agree<I: BatchSource>(
+fn agree(
     alloc: Global,
     stages: &[Stage],
-    items: &I,
+    items: &BatchItems<'_>,
     registers: &mut Registers,
 ) -> Result<bool, NoMemory>
     requires { 1 + length stages.now < 2 ^ 32 }
@@ -127,22 +116,20 @@ fn agree<I: BatchSource>(
     Ok(true)
 }
 
-/// Whether all ways give equal items and ends for values that lie in a slice, at the places from 7 on.
-fn agree_in_place(
-    alloc: Global,
-    stages: &[Stage],
-    values: &[i64],
-    registers: &mut Registers,
-) -> Result<bool, NoMemory>
-    requires numbered { 1 + length stages.now < 2 ^ 32 }
-    requires few { 7 + length values.now ≤ 2 ^ 62 }
-{
-    let source = PlacedValues { origin: 7, values };
-    agree(alloc, stages, &source, registers)
+/// Values at the places 0, 2, 4 and so on.
+fn spread<'a>(places: &'a [u64], values: &'a [i64]) -> Result<BatchItems<'a>, NoMemory> {
+    if places.len() != values.len() {
+        return Err(AllocError);
+    }
+    Ok(BatchItems::Lanes(LaneItems {
+        start: None,
+        places,
+        values,
+    }))
 }
 
-/// Whether three stages that a seed chooses give equal items and ends by batches and item by item: over items, and over
-/// values in a slice.
+/// Whether three stages that a seed chooses give equal items and ends by batches and item by item: over values at
+/// places that are listed, and that count up from 7.
 fn agree_by_seed(
     alloc: Global,
     seed: u64,
@@ -155,13 +142,15 @@ fn agree_by_seed(
         any_stage(alloc, next(seed ^ 2))?,
         any_stage(alloc, next(seed ^ 3))?,
     ];
-    let items = items_of(alloc, &values)?;
+    let places: Vec<u64> = (0..values.len() as u64)
+        .map(|lane| 2 * lane)
+        .collect(alloc)?;
     let stages = &stages[..];
     let later = &stages[(seed % 4) as usize..];
-    if !agree(alloc, stages, &items, registers)? {
+    if !agree(alloc, stages, &spread(&places, &values)?, registers)? {
         return Ok(false);
     }
-    agree_in_place(alloc, later, &values, registers)
+    agree(alloc, later, &BatchItems::placed(7, &values), registers)
 }
 
 #[test]

@@ -4,7 +4,7 @@ ghost use Rattle.std.specs.Prelude.{◌+◌, ◌<◌, ◌^◌, ⊤, length, if�
 ghost use Rattle.trace.specs.declared.sink.Flow.TheVariants as flow;
 
 use crate::batches::{line_of, stage};
-use batch_eval::{BatchSink, Registers, feed_batches};
+use batch_eval::{BatchItems, BatchSink, Registers, feed_batches};
 use lambda_expr::Want;
 use lambda_values::{Env, InnerExpr, LongExpr};
 use std::alloc::{AllocError, Global};
@@ -45,7 +45,7 @@ impl BatchSink for Few {}
 fn walk_into_few(
     alloc: Global,
     stages: &[Stage],
-    source: &RangeItems,
+    items: &BatchItems<'_>,
     all: u64,
     room: u64,
 ) -> (Result<Fed, NoMemory>, u64)
@@ -59,7 +59,7 @@ fn walk_into_few(
         all,
         room,
     };
-    let fed = feed_batches(line_of(stages, &env), source, &mut registers, &mut sink);
+    let fed = feed_batches(line_of(stages, &env), items, &mut registers, &mut sink);
     (fed, sink.taken)
 }
 
@@ -78,7 +78,7 @@ fn three_for_each_even(
         stage(alloc, "x -> x % 2 == 0", Want::Bool)?,
         Stage::FlatMap(InnerExpr::Range(LongExpr::Number(0), LongExpr::Number(3))),
     ];
-    Ok(walk_into_few(alloc, &stages, &source, all, room))
+    Ok(walk_into_few(alloc, &stages, &BatchItems::Range(source), all, room))
 }
 
 #[test]

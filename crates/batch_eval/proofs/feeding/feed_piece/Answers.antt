@@ -1,52 +1,42 @@
-use Rattle.std.proofs.Common.{◌≡◌, ◌+◌, ℕ, ℤ, pos, ◌+ℤ◌, List, ◌++◌, take, sym, ap, subst, ◌∙◌, add-one, arith, rules, w64, to_z, of_z}
-use Rattle.lambda_values.specs.Wrap.{wrap}
+use Rattle.std.proofs.Common.{◌+◌, List, ◌++◌, length, take, drop, sym, ap, ◌∙◌, arith}
+use Rattle.std.proofs.lemmas.List.{length-take}
+use Rattle.trace.specs.Cover.{counted}
+use Rattle.trace.proofs.Sources.{length-counted, length-placed}
 use Rattle.trace.specs.declared.item.Item.{Item}
-use Rattle.trace.specs.declared.item.End.{End}
-use Rattle.trace.specs.declared.item.End.TheVariants as end
-use Rattle.trace.specs.Trace.{trace}
-use Rattle.trace.specs.Sinks.{IsFed}
-use Rattle.trace.specs.Stages.{pipe, stages_of}
-use Rattle.batch_eval.specs.Batches.{counted_item, laid_items, lanes}
-use Rattle.batch_eval.specs.Places.{HasValue}
+use Rattle.trace.specs.Stages.{stages_of}
+use Rattle.batch_eval.specs.BatchItems.{batch_items}
+use Rattle.batch_eval.specs.declared.batch_items.BatchItems.TheVariants as items
 use Rattle.batch_eval.proofs.BatchWalkLemmas.{IsFed_more}
-use Rattle.batch_eval.proofs.Items.{lanes_taken, taken_more}
-use Rattle.batch_eval.proofs.PlaceLemmas.{placed_item}
+use Rattle.batch_eval.proofs.Items.{taken_more}
+use Rattle.batch_eval.proofs.LaneLemmas.{length_laid}
 use Rattle.batch_eval.proofs.feeding.feed_piece.Goals as goal
 
-pub returns-clause-fed : goal.returns-clause-fed
-returns-clause-fed g c = λ xs so_far.
-    let h = g.S.LongSink.has_taken in
-    let items = g.I.SourceItems.items c.args.source.now in
-    let n = c.args.line.first in
-    let gs = stages_of c.args.line.stages.now in
-    let env = c.args.line.env.now in
-    let part = c.fill.new.self.items in
-    let here = subst (λ (e : End). (vs : List Item) → h c.args.sink.now vs → IsFed h vs (pipe n gs env (trace part e)) c.feed_space-2.result c.feed_space-2.new.sink) c.fill.ensures.ending c.feed_space-2.ensures.fed in
-    IsFed_more h n gs env xs (take c.args.position items) part (take (c.args.position + c.args.count) items) c.feed_space-2.result c.args.sink.now c.feed_space-2.new.sink c.fill.ensures.items so_far here
+pub feed_in_place-requires-clause-lanes : goal.feed_in_place-requires-clause-lanes
+feed_in_place-requires-clause-lanes g c =
+    let lanes = c.in-Lanes.lanes in
+    let same = sym (ap batch_items c.in-Lanes.is) ∙ c.part.ensures in
+    let few = ap length same ∙ length-take c.args.count (drop c.args.position (batch_items c.args.items.now)) in
+    omega (arith, few, length_laid lanes.start lanes.places.now lanes.values.now, c.requires.lanes)
 
-pub returns-in-Some-clause-fed : goal.returns-in-Some-clause-fed
-returns-in-Some-clause-fed g c = λ xs so_far.
-    let items = g.I.SourceItems.items c.args.source.now in
-    let p = c.args.position in
-    let lanes = c.in-Some.lanes in
-    let part = laid_items lanes.start lanes.places.now lanes.values.now in
-    let taken = taken_more items p c.args.count ∙ ap (λ (ys : List Item). take p items ++ ys) (sym c.in-Some.ensures.items) in
-    IsFed_more g.S.LongSink.has_taken c.args.line.first (stages_of c.args.line.stages.now) c.args.line.env.now xs (take p items) part (take (p + c.args.count) items) c.feed_in_place.result c.args.sink.now c.feed_in_place.new.sink taken so_far c.feed_in_place.ensures.fed
+pub feed_range-requires-clause-lanes : goal.feed_range-requires-clause-lanes
+feed_range-requires-clause-lanes g c =
+    let r = c.in-Range.range in
+    let same = sym (ap batch_items c.in-Range.is) ∙ c.part.ensures in
+    let few = ap length same ∙ length-take c.args.count (drop c.args.position (batch_items c.args.items.now)) in
+    omega (arith, few, length-placed r.origin (counted r.first r.count), length-counted r.first r.count, c.requires.lanes)
 
-pub returns-then-map_counted-clause-fed : goal.returns-then-map_counted-clause-fed
-returns-then-map_counted-clause-fed g c = λ xs so_far.
-    let h = g.S.LongSink.has_taken in
-    let items = g.I.SourceItems.items c.args.source.now in
+pub returns-in-Lanes-clause-fed : goal.returns-in-Lanes-clause-fed
+returns-in-Lanes-clause-fed g c = λ xs so_far.
+    let all = batch_items c.args.items.now in
     let p = c.args.position in
-    let n = c.args.count in
-    let first = c.in-Some-first_place.first in
-    let value = to_z w64 (of_z w64 c.in-Some-value_from.value) in
-    let same : value ≡ c.in-Some-value_from.value = search rules in
-    let gs = stages_of c.args.line.stages.now in
-    let lane : ℕ → Item = counted_item (first + p) value in
-    let taken = lanes_taken items p n lane (λ k below. placed_item items first p k (wrap (value +ℤ pos k)) c.in-Some-first_place.ensures (subst (λ (z : ℤ). HasValue items (p + k) (wrap (z +ℤ pos k))) (sym same) (c.in-Some-value_from.ensures k (omega (arith, below, c.requires.within))))) in
-    let split = c.in-Some-Map-default.ensures in
-    let here : (vs : List Item) → h c.args.sink.now vs → IsFed h vs (pipe c.args.line.first gs c.args.line.env.now (trace (lanes n lane) end.Done)) c.feed_space.result c.feed_space.new.sink = λ vs took.
-    let later = rw (c.map_counted.ensures c.if-map_counted.true, split.first, split.env, add-one) at (c.feed_space.ensures.fed vs took) in
-    rw (split.stages, c.in-Some-Map-default.field-0-0-is) later in
-    IsFed_more h c.args.line.first gs c.args.line.env.now xs (take p items) (lanes n lane) (take (p + n) items) c.feed_space.result c.args.sink.now c.feed_space.new.sink taken so_far here
+    let here = sym (ap batch_items c.in-Lanes.is) ∙ c.part.ensures in
+    let taken = taken_more all p c.args.count ∙ ap (λ (ys : List Item). take p all ++ ys) (sym here) in
+    IsFed_more g.S.LongSink.has_taken c.args.line.first (stages_of c.args.line.stages.now) c.args.line.env.now xs (take p all) (batch_items (items.Lanes c.in-Lanes.lanes)) (take (p + c.args.count) all) c.feed_in_place.result c.args.sink.now c.feed_in_place.new.sink taken so_far c.feed_in_place.ensures.fed
+
+pub returns-in-Range-clause-fed : goal.returns-in-Range-clause-fed
+returns-in-Range-clause-fed g c = λ xs so_far.
+    let all = batch_items c.args.items.now in
+    let p = c.args.position in
+    let here = sym (ap batch_items c.in-Range.is) ∙ c.part.ensures in
+    let taken = taken_more all p c.args.count ∙ ap (λ (ys : List Item). take p all ++ ys) (sym here) in
+    IsFed_more g.S.LongSink.has_taken c.args.line.first (stages_of c.args.line.stages.now) c.args.line.env.now xs (take p all) (batch_items (items.Range c.in-Range.range)) (take (p + c.args.count) all) c.feed_range.result c.args.sink.now c.feed_range.new.sink taken so_far c.feed_range.ensures.fed

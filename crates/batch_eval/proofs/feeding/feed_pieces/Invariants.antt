@@ -1,6 +1,7 @@
 use Rattle.std.proofs.Common.{◌≡◌, ◌-◌, ◌≤◌, List, length, take, Ok}
 use Rattle.trace.specs.declared.item.Item.{Item}
 use Rattle.trace.specs.declared.item.End.TheVariants as end
+use Rattle.batch_eval.specs.BatchItems.{batch_items}
 use Rattle.trace.specs.declared.sink.Flow.TheVariants as flow
 use Rattle.trace.specs.declared.feeding.Fed.TheVariants as fed
 use Rattle.trace.specs.Trace.{trace}
@@ -18,7 +19,7 @@ invariant-loop-position g l =
       few : l.size ≤ 1024;
       room : FitsStages (stages_of l.line.stages.now) (length l.space.room.items);
       wants : g.S.LongSink.flow l.sink ≡ flow.More;
-      fed : (xs : List Item) → g.S.LongSink.has_taken l.initial.sink xs → IsFed g.S.LongSink.has_taken xs (piped l.line (trace (take l.position (g.I.SourceItems.items l.source)) end.Done)) (Ok fed.More) l.sink;
+      fed : (xs : List Item) → g.S.LongSink.has_taken l.initial.sink xs → IsFed g.S.LongSink.has_taken xs (piped l.line (trace (take l.position (batch_items l.items)) end.Done)) (Ok fed.More) l.sink;
     }
 
 abbrev pub decreases-loop-position : goal.decreases-loop-position

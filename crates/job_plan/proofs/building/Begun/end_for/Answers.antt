@@ -1,4 +1,4 @@
-use Rattle.std.proofs.Common.{◌≡◌, [], length, true, sym, ap, ◌∙◌, rules}
+use Rattle.std.proofs.Common.{◌≡◌, length, true, sym, ap, ◌∙◌, rules}
 use Rattle.trace.specs.Stages.{stages_of}
 use Rattle.job_plan.specs.Building.{all_calm, begun_walk}
 use Rattle.job_plan.specs.Plans.{AbstractEnd, ended}

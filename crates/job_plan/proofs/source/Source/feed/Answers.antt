@@ -1,4 +1,4 @@
-use Rattle.std.proofs.Common.{◌≡◌, List, sym, ap, subst, ◌∙◌}
+use Rattle.std.proofs.Common.{List, sym, ap, subst, ◌∙◌}
 use Rattle.trace.specs.declared.item.Item.{Item}
 use Rattle.trace.specs.declared.item.End.TheVariants as end
 use Rattle.trace.specs.Sinks.{IsFed}
