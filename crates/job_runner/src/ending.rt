@@ -17,10 +17,6 @@ use crate::tools::TableTools;
 use crate::work::{JobWork, TableWork};
 use worker_pool::{Gate, Spawn};
 
-/// How far a job has come on a worker: `Ok` with a segment that was walked whole, `Ok(None)` if others have the rest of
-/// a segment, `Err` if the job is over.
-type TableTurn<S, R> = Result<Option<TableFinishedSegment<S, R>>, TableJobSeat<S, R>>;
-
 /// The answer of a job, of the part of its whole last segment.
 fn last_answer<S: JobSegments, R: RunBrand>(
     work: &TableWork<S, R>,
@@ -39,15 +35,17 @@ fn last_answer<S: JobSegments, R: RunBrand>(
     let Some(held) = hold_source(work.jobs, &work.places, job, segment) else {
         return Err(NoMemory);
     };
-    let Some(source) = held.source(job, segment) else {
-        return Err(NoMemory);
-    };
-    let input = SegmentInput {
-        source,
-        given,
-        earlier: &Earlier::in_places(&work.places),
-    };
-    work.jobs.answer(work.alloc, job, part, input, scratch)
+    match held.source(job, segment) {
+        Some(source) => {
+            let input = SegmentInput {
+                source,
+                given,
+                earlier: &Earlier::in_places(&work.places),
+            };
+            work.jobs.answer(work.alloc, job, part, input, scratch)
+        }
+        None => Err(NoMemory),
+    }
 }
 
 impl<'a, S: JobSegments, R: RunBrand> JobWork<'a, S, TablePart<S>, TableKept<S>, R> {
@@ -62,24 +60,6 @@ impl<'a, S: JobSegments, R: RunBrand> JobWork<'a, S, TablePart<S>, TableKept<S>,
             Ok(Begun::Walk(given)) => keep_given(&self.places, job, given),
             Ok(Begun::Known(answer)) => keep_answer(&self.places, gate, job, answer),
             Err(_refused) => {}
-        }
-    }
-
-    /// Begins a job.
-    fn begin_job<G: Gate, P: Spawn<TableTask<S, R>>>(
-        &self,
-        gate: &G,
-        begun: TableJobSeat<S, R>,
-        spawn: &mut P,
-        tools: &mut TableTools<'_, S, R>,
-    ) -> TableTurn<S, R>
-        ensures { IfOk result (λ next. IfSome next (λ whole.
-            StandsWhole S.stands_for S.faults_with S.size_of whole.job.job whole.segment (λ x. x.found) whole.part)) }
-    {
-        self.prepare(gate, begun.job);
-        match size_of(self.jobs, &self.places, begun.job, 0) {
-            Some(size) => Ok(self.begin(gate, begun, 0, size, spawn, tools)),
-            None => Err(begun),
         }
     }
 
@@ -162,24 +142,41 @@ impl<'a, S: JobSegments, R: RunBrand> JobWork<'a, S, TablePart<S>, TableKept<S>,
         }
     }
 
-    /// Ends a segment whose last part this worker has, and begins the next one.
-    fn end_segment<G: Gate, P: Spawn<TableTask<S, R>>>(
+    /// Ends one segment after the other, while this worker has the last part of one. `Some` if the job is over, `None`
+    /// if others have the rest of a segment.
+    fn end_segments<G: Gate, P: Spawn<TableTask<S, R>>>(
         &self,
-        gate: &G,
-        whole: TableFinishedSegment<S, R>,
-        spawn: &mut P,
-        tools: &mut TableTools<'_, S, R>,
-    ) -> TableTurn<S, R>
-        requires { StandsWhole S.stands_for S.faults_with S.size_of whole.job.job whole.segment
-            (λ x. x.found) whole.part }
-        ensures { IfOk result (λ next. IfSome next (λ whole.
-            StandsWhole S.stands_for S.faults_with S.size_of whole.job.job whole.segment (λ x. x.found) whole.part)) }
+        first: Option<TableFinishedSegment<S, R>>,
+        tools: &mut TableTools<'_, S, R, G, P>,
+    ) -> Option<TableJobSeat<S, R>>
+        requires { IfSome first (λ whole.
+            StandsWhole S.stands_for S.faults_with S.size_of whole.job.job whole.segment (λ x. x.found) whole.part) }
     {
-        let FinishedSegment { job, segment, part } = whole;
-        match self.leave(gate, job.job, segment, part, &mut tools.scratch) {
-            Some((next, size)) => Ok(self.begin(gate, job, next, size, spawn, tools)),
-            None => Err(job),
+        let mut ended = first;
+        for _ in 0..u64::MAX {
+            let Some(FinishedSegment { job, segment, part }) = ended else {
+                return None;
+            };
+            match self.leave(tools.gate, job.job, segment, part, &mut tools.scratch) {
+                Some((next, size)) => ended = self.begin(job, next, size, tools),
+                None => return Some(job),
+            }
         }
+        None
+    }
+
+    /// Begins a job, and ends its segments as `end_segments` does.
+    fn run_job<G: Gate, P: Spawn<TableTask<S, R>>>(
+        &self,
+        begun: TableJobSeat<S, R>,
+        tools: &mut TableTools<'_, S, R, G, P>,
+    ) -> Option<TableJobSeat<S, R>> {
+        self.prepare(tools.gate, begun.job);
+        let Some(size) = size_of(self.jobs, &self.places, begun.job, 0) else {
+            return Some(begun);
+        };
+        let first = self.begin(begun, 0, size, tools);
+        self.end_segments(first, tools)
     }
 }
 
@@ -190,10 +187,8 @@ impl<'a, S: JobSegments, R: RunBrand> JobWork<'a, S, TablePart<S>, TableKept<S>,
     #[tactic(auto, using(crate::proofs::SeatLemmas::begin_waiting, crate::proofs::SeatLemmas::ends_kept))]
     fn end_job<G: Gate, P: Spawn<TableTask<S, R>>>(
         &self,
-        gate: &G,
         over: TableJobSeat<S, R>,
-        spawn: &mut P,
-        tools: &mut TableTools<'_, S, R>,
+        tools: &mut TableTools<'_, S, R, G, P>,
         depth: usize,
     ) -> Option<TableJobSeat<S, R>> {
         let JobSeat { seat, job, of: _ } = over;
@@ -205,7 +200,7 @@ impl<'a, S: JobSegments, R: RunBrand> JobWork<'a, S, TablePart<S>, TableKept<S>,
             seat = rest;
             if let Some(freed) = freed {
                 if let Some(other) = next.replace(freed) {
-                    self.hand_over(gate, other, spawn, tools, depth);
+                    self.hand_over(other, tools, depth);
                 }
             }
         }
@@ -218,59 +213,41 @@ impl<'a, S: JobSegments, R: RunBrand> JobWork<'a, S, TablePart<S>, TableKept<S>,
     #[cycle(over)]
     fn hand_over<G: Gate, P: Spawn<TableTask<S, R>>>(
         &self,
-        gate: &G,
         begun: TableJobSeat<S, R>,
-        spawn: &mut P,
-        tools: &mut TableTools<'_, S, R>,
+        tools: &mut TableTools<'_, S, R, G, P>,
         depth: usize,
     ) {
-        if let Err(Task::Begin(begun)) = spawn.push(Task::Begin(begun)) {
-            if let Some(depth) = depth.checked_sub(1) {
-                let turn = self.begin_job(gate, begun, spawn, tools);
-                self.go_on(gate, turn, spawn, tools, depth);
+        if let Err(task) = tools.spawn.push(Task::Begin(begun)) {
+            if depth > 0 {
+                self.take(task, tools, depth - 1);
             }
         }
     }
 
-    /// Ends one segment after the other, while this worker has the last part of one, and then the job, and goes on with
-    /// a job that may begin then.
+    /// Runs a task, and what comes after it on this worker: a job that is over is ended, and one that may begin then
+    /// is run, and so on. `depth` is for `hand_over`.
     #[cycle(over)]
-    fn go_on<G: Gate, P: Spawn<TableTask<S, R>>>(
-        &self,
-        gate: &G,
-        first: TableTurn<S, R>,
-        spawn: &mut P,
-        tools: &mut TableTools<'_, S, R>,
-        depth: usize,
-    )
-        requires { IfOk first (λ next. IfSome next (λ whole.
-            StandsWhole S.stands_for S.faults_with S.size_of whole.job.job whole.segment (λ x. x.found) whole.part)) }
-    {
-        let mut turn = first;
-        for _ in 0..u64::MAX {
-            turn = match turn {
-                Ok(Some(whole)) => self.end_segment(gate, whole, spawn, tools),
-                Ok(None) => return,
-                Err(over) => match self.end_job(gate, over, spawn, tools, depth) {
-                    Some(next) => self.begin_job(gate, next, spawn, tools),
-                    None => return,
-                },
-            };
-        }
-    }
-
-    /// Runs a task, and what comes after it on this worker.
     pub(crate) fn take<G: Gate, P: Spawn<TableTask<S, R>>>(
         &self,
-        gate: &G,
         task: TableTask<S, R>,
-        spawn: &mut P,
-        tools: &mut TableTools<'_, S, R>,
+        tools: &mut TableTools<'_, S, R, G, P>,
+        depth: usize,
     ) {
-        let turn = match task {
-            Task::Begin(begun) => self.begin_job(gate, begun, spawn, tools),
-            Task::Walk(side) => Ok(self.walk(gate, side, spawn, tools)),
+        let mut over = match task {
+            Task::Begin(begun) => self.run_job(begun, tools),
+            Task::Walk(side) => {
+                let whole = self.walk(side, tools);
+                self.end_segments(whole, tools)
+            }
         };
-        self.go_on(gate, turn, spawn, tools, self.starts.len());
+        for _ in 0..u64::MAX {
+            let Some(job) = over else {
+                return;
+            };
+            let Some(next) = self.end_job(job, tools, depth) else {
+                return;
+            };
+            over = self.run_job(next, tools);
+        }
     }
 }

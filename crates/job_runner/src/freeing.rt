@@ -4,6 +4,7 @@ ghost use Rattle.job_runner.specs.Tasks.{HasKept};
 ghost use Rattle.job_runner.specs.Waits.{nodes_in};
 
 use crate::cut::{TableKept, TablePart, TableSeat};
+use crate::opening::arrive_at;
 use crate::segments::JobSegments;
 use crate::start::Waiting;
 use crate::task::{RunBrand, TableJobSeat};
@@ -27,7 +28,10 @@ impl<'a, S: JobSegments, R: RunBrand> JobWork<'a, S, TablePart<S>, TableKept<S>,
             return (seat, None);
         }
         let (seat, part) = self.counts.split(seat, waiting.node, 1, share);
-        (seat, self.arrive_at(part, waiting.job))
+        (
+            seat,
+            arrive_at(&self.counts, part, waiting.job, waiting.node),
+        )
     }
 
     /// Arrives so for the one at this position of those that wait.

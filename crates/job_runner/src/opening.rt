@@ -9,19 +9,20 @@ ghost use Rattle.job_runner.specs.Tasks.{CanArrive};
 
 use crate::NoMemory;
 use crate::arming::arm_all;
+use crate::credit::split_spare;
 use crate::cut::{CutPiece, TableCounts, TableKept, TablePart, TableSeat};
 use crate::nodes::{most_positions, node_count, segment_count};
 use crate::segments::JobSegments;
 use crate::start::Start;
 use crate::stopping::{RunSegments, RunStops};
 use crate::task::{
-    Idle, JobSeat, RunBrand, TableIdle, TableJobSeat, TableSpare, TableTask, TableUnopenedJobs,
-    Task, UnopenedJobs,
+    Idle, JobSeat, RunBrand, TableIdle, TableSpare, TableTask, TableUnopenedJobs, Task,
+    UnopenedJobs,
 };
 use crate::work::{JobWork, TableWork};
 use completer_tree::Tree;
-use completion_core::END;
-use early_stop::CutSeat;
+use completion_core::{END, Node};
+use early_stop::{Cut as StopWords, CutSeat, Segments};
 use pending_count::{Counts, Fits, Seat};
 use run_settings::Settings;
 use std::alloc::Global;
@@ -92,47 +93,58 @@ fn stop_words<S: JobSegments>(alloc: Global, jobs: &S) -> Result<(RunStops<S>, C
     RunStops::<S>::new(alloc, &segments)
 }
 
+/// Arrives at the start node of a job, along the path of that node alone: the next one on the way is arrived at
+/// once the job has left its answer. If it is the last arrival, the job may begin.
+pub(crate) fn arrive_at<V, K: Fits<V, Tag = CutPiece>, R: RunBrand>(
+    counts: &Counts<V, K>,
+    seat: Seat<V, K>,
+    job: usize,
+    node: Node,
+) -> Option<JobSeat<V, K, R>>
+    requires table { table_id_of counts.now ≡ R.table }
+    requires job { job < R.jobs }
+    requires node { node ≡ R.start job }
+    requires can { CanArrive R.table R.jobs R.start R.keeps job seat }
+{
+    let path = [node];
+    let tree = Tree::new(counts, &[]);
+    let (seat, finished) = tree.propagate_completion(seat, &path);
+    if finished == 0 {
+        return None;
+    }
+    let begun = JobSeat {
+        seat,
+        job,
+        of: PhantomData,
+    };
+    Some(begun)
+}
+
+/// Opens the last job that isn't opened, whose start node this is. `Some` if the job names no other one, so that it
+/// may begin.
+fn open_one<V, K: Fits<V, Tag = CutPiece>, R: RunBrand>(
+    counts: &Counts<V, K>,
+    unopened: UnopenedJobs<V, K, R>,
+    node: Node,
+) -> (UnopenedJobs<V, K, R>, Option<JobSeat<V, K, R>>)
+    requires table { table_id_of counts.now ≡ R.table }
+    requires some_left { 0 < unopened.jobs }
+    requires node { node ≡ R.start (unopened.jobs - 1) }
+    ensures { result.0.jobs ≡ unopened.jobs - 1 }
+{
+    let UnopenedJobs { seat, jobs, of } = unopened;
+    let share = seat.credit() / jobs as u64;
+    let job = jobs - 1;
+    let (seat, part) = counts.split(seat, node, 1, share);
+    let rest = UnopenedJobs {
+        seat,
+        jobs: job,
+        of,
+    };
+    (rest, arrive_at(counts, part, job, node))
+}
+
 impl<'a, S: JobSegments, R: RunBrand> JobWork<'a, S, TablePart<S>, TableKept<S>, R> {
-    /// Arrives at the start node of a job, along the path of that node alone: the next one on the way is arrived at
-    /// once the job has left its answer. If it is the last arrival, the job may begin.
-    pub(crate) fn arrive_at(&self, seat: TableSeat<S>, job: usize) -> Option<TableJobSeat<S, R>>
-        requires job { job < R.jobs }
-        requires can { CanArrive R.table R.jobs R.start R.keeps job seat }
-    {
-        let path = [self.start(job).node];
-        let tree = Tree::new(&self.counts, &[]);
-        let (seat, finished) = tree.propagate_completion(seat, &path);
-        if finished == 0 {
-            return None;
-        }
-        let begun = JobSeat {
-            seat,
-            job,
-            of: PhantomData,
-        };
-        Some(begun)
-    }
-
-    /// Opens the last job that isn't opened. `Some` if the job names no other one, so that it may begin.
-    fn open_one(
-        &self,
-        unopened: TableUnopenedJobs<S, R>,
-    ) -> (TableUnopenedJobs<S, R>, Option<TableJobSeat<S, R>>)
-        requires some_left { 0 < unopened.jobs }
-        ensures { result.0.jobs ≡ unopened.jobs - 1 }
-    {
-        let UnopenedJobs { seat, jobs, of } = unopened;
-        let share = seat.credit() / jobs as u64;
-        let job = jobs - 1;
-        let (seat, part) = self.counts.split(seat, self.start(job).node, 1, share);
-        let rest = UnopenedJobs {
-            seat,
-            jobs: job,
-            of,
-        };
-        (rest, self.arrive_at(part, job))
-    }
-
     /// Tasks for the jobs that name no other one, the last job first, and an `Idle` with an equal part of the credit
     /// for each worker.
     pub(crate) fn open_all(
@@ -150,13 +162,21 @@ impl<'a, S: JobSegments, R: RunBrand> JobWork<'a, S, TablePart<S>, TableKept<S>,
         let count = unopened.jobs;
         let mut unopened = unopened;
         for _opened in 0..count {
-            let (rest, begun) = self.open_one(unopened);
+            let node = self.start(unopened.jobs - 1).node;
+            let (rest, begun) = open_one(&self.counts, unopened, node);
             unopened = rest;
             if let Some(begun) = begun {
                 tasks.push(Task::Begin(begun))?;
             }
         }
-        let first = self.first_idle(unopened, spare, stop_seat);
+        let UnopenedJobs { seat, jobs: _, of } = unopened;
+        let first = Idle {
+            seat,
+            spare: Some(spare),
+            stop_seat,
+            scratch: self.jobs.scratch(self.alloc),
+            of,
+        };
         match self.idle_seats(first, workers) {
             Ok(idles) => Ok((tasks, idles)),
             Err(refused) => Err(refused),
@@ -165,25 +185,6 @@ impl<'a, S: JobSegments, R: RunBrand> JobWork<'a, S, TablePart<S>, TableKept<S>,
 }
 
 impl<'a, S: JobSegments, R: RunBrand> JobWork<'a, S, TablePart<S>, TableKept<S>, R> {
-    /// The credit of all workers, once all jobs are opened.
-    fn first_idle(
-        &self,
-        unopened: TableUnopenedJobs<S, R>,
-        spare: TableSpare<S, R>,
-        stop_seat: CutSeat,
-    ) -> TableIdle<S, R>
-        requires stops { stop_table_of stop_seat ≡ R.stops }
-    {
-        let UnopenedJobs { seat, jobs: _, of } = unopened;
-        Idle {
-            seat,
-            spare: Some(spare),
-            stop_seat,
-            scratch: self.jobs.scratch(self.alloc),
-            of,
-        }
-    }
-
     /// This many `Idle`s, split off the first one, each with an equal part of its credit.
     fn idle_seats(
         &self,
@@ -195,42 +196,51 @@ impl<'a, S: JobSegments, R: RunBrand> JobWork<'a, S, TablePart<S>, TableKept<S>,
         let mut idles = Vec::new(self.alloc);
         let mut left = first;
         for made in 0..workers {
-            let (rest, part) = self.idle_one(left, workers - made);
+            let scratch = self.jobs.scratch(self.alloc);
+            let (rest, part) = idle_one(&self.counts, &self.stops, left, workers - made, scratch);
             left = rest;
             idles.push(part)?;
         }
         Ok(idles)
     }
+}
 
-    /// One `Idle` with one of that many equal parts of the credit, and the one that it was split off from.
-    fn idle_one(&self, from: TableIdle<S, R>, parts: u64) -> (TableIdle<S, R>, TableIdle<S, R>)
-        requires parts { 0 < parts }
-    {
-        let Idle {
+/// One `Idle` with one of that many equal parts of the credit, and the one that it was split off from.
+fn idle_one<V, K: Fits<V, Tag = CutPiece>, R: RunBrand, T, Z: Segments>(
+    counts: &Counts<V, K>,
+    stops: &StopWords<Z>,
+    from: Idle<V, K, R, T>,
+    parts: u64,
+    scratch_part: T,
+) -> (Idle<V, K, R, T>, Idle<V, K, R, T>)
+    requires table { table_id_of counts.now ≡ R.table }
+    requires stops { stop_id_of stops.now ≡ R.stops }
+    requires parts { 0 < parts }
+{
+    let Idle {
+        seat,
+        spare,
+        stop_seat,
+        scratch,
+        of,
+    } = from;
+    let (seat, part) = counts.split(seat, END, 0, 0);
+    let (spare, spare_part) = split_spare(counts, spare, parts);
+    let (stop_seat, stop_part) = stops.split(stop_seat);
+    (
+        Idle {
             seat,
             spare,
             stop_seat,
             scratch,
             of,
-        } = from;
-        let (seat, part) = self.counts.split(seat, END, 0, 0);
-        let (spare, spare_part) = self.split_spare(spare, parts);
-        let (stop_seat, stop_part) = self.stops.split(stop_seat);
-        (
-            Idle {
-                seat,
-                spare,
-                stop_seat,
-                scratch,
-                of,
-            },
-            Idle {
-                seat: part,
-                spare: spare_part,
-                stop_seat: stop_part,
-                scratch: self.jobs.scratch(self.alloc),
-                of: PhantomData,
-            },
-        )
-    }
+        },
+        Idle {
+            seat: part,
+            spare: spare_part,
+            stop_seat: stop_part,
+            scratch: scratch_part,
+            of: PhantomData,
+        },
+    )
 }

@@ -8,16 +8,16 @@ use crate::piece::{Piece, SegmentInput};
 use crate::places::{hold_source, kept_given};
 use crate::segments::JobSegments;
 use crate::task::RunBrand;
-use crate::tools::TableTools;
+use crate::tools::{TableTools, Tools};
 use crate::work::TableWork;
 use worker_pool::Gate;
 
 /// Walks a piece with what the job takes of earlier answers.
-fn walked<S: JobSegments, R: RunBrand>(
+fn walked<S: JobSegments, R: RunBrand, G, P>(
     work: &TableWork<S, R>,
     piece: Piece,
     given: &S::Given,
-    tools: &mut TableTools<'_, S, R>,
+    tools: &mut TableTools<'_, S, R, G, P>,
 ) -> Result<S::Part, NoMemory>
     requires watched { (tools.old.watch.job ≡ piece.job) × (tools.old.watch.segment ≡ piece.segment) }
     requires piece { IsPiece S.job_count S.last_of S.size_of piece.job piece.segment piece.from piece.to }
@@ -27,31 +27,27 @@ fn walked<S: JobSegments, R: RunBrand>(
     let Some(held) = hold_source(work.jobs, &work.places, piece.job, piece.segment) else {
         return Err(NoMemory);
     };
-    let Some(source) = held.source(piece.job, piece.segment) else {
-        return Err(NoMemory);
-    };
-    let input = SegmentInput {
-        source,
-        given,
-        earlier: &Earlier::in_places(&work.places),
-    };
-    work.jobs.leaf(
-        work.alloc,
-        piece,
-        input,
-        &mut tools.scratch,
-        &mut tools.watch,
-    )
+    match held.source(piece.job, piece.segment) {
+        Some(source) => {
+            let input = SegmentInput {
+                source,
+                given,
+                earlier: &Earlier::in_places(&work.places),
+            };
+            let Tools { scratch, watch, .. } = tools;
+            work.jobs.leaf(work.alloc, piece, input, scratch, watch)
+        }
+        None => Err(NoMemory),
+    }
 }
 
 /// Enters the gate and walks a piece, unless a place at or before its first position decides what the segment gives:
 /// then the gate isn't entered. If the segment's source isn't there, or what the job takes of earlier answers, it is as
 /// if an allocation had failed: the part is missing.
-pub(crate) fn part_of<S: JobSegments, R: RunBrand, G: Gate>(
+pub(crate) fn part_of<S: JobSegments, R: RunBrand, G: Gate, P>(
     work: &TableWork<S, R>,
-    gate: &G,
     piece: Piece,
-    tools: &mut TableTools<'_, S, R>,
+    tools: &mut TableTools<'_, S, R, G, P>,
 ) -> Result<S::Part, NoMemory>
     requires piece { IsPiece S.job_count S.last_of S.size_of piece.job piece.segment piece.from piece.to }
     ensures { IfOk result (λ part. S.stands_for piece.job piece.segment piece.from piece.to part) }
@@ -64,6 +60,6 @@ pub(crate) fn part_of<S: JobSegments, R: RunBrand, G: Gate>(
     if seen <= piece.from && seen != u64::MAX {
         return Ok(work.jobs.left_out(work.alloc, piece, given));
     }
-    gate.at_leaf(piece.job, piece.from, piece.to);
+    tools.gate.at_leaf(piece.job, piece.from, piece.to);
     walked(work, piece, given, tools)
 }

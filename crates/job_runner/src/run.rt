@@ -11,14 +11,14 @@ use crate::earlier::Earlier;
 use crate::opening::TableFreshCounts;
 use crate::places::{JobPlaces, answer_in, empty_places};
 use crate::segments::JobSegments;
-use crate::task::{RunBrand, TableIdle, TableTask};
+use crate::task::RunBrand;
 use crate::work::{JobWork, TableWork};
 use run_settings::Settings;
 use std::alloc::Global;
 use std::marker::Brand;
 use std::sync::Wait;
 use std::thread::Threads;
-use worker_pool::{Gate, run_pool};
+use worker_pool::{Gate, Work, run_pool};
 
 /// The answer that lies in the job's place. If there is none, it is worked out from the answers of the jobs before it.
 fn read_answer<S: JobSegments, G: Gate>(
@@ -61,38 +61,23 @@ fn read_answers<S: JobSegments, G: Gate>(
     Ok(answers)
 }
 
-/// Has workers run the tasks, if there are workers: no more of them than nodes, since there are never
-/// more tasks.
-fn run_tasks<
-    S: JobSegments + Send + Sync,
-    R: RunBrand + Send + Sync,
-    H: Threads + Wait + Sync,
-    G: Gate + Sync,
->(
+/// Has workers run the tasks, if there are workers: this many at most.
+fn run_tasks<W: Work, H: Threads + Wait + Sync, G: Gate + Sync>(
     rt: &H,
     alloc: Global,
     gate: &G,
-    work: &TableWork<'_, S, R>,
-    tasks: Vec<TableTask<S, R>>,
-    mut idles: Vec<TableIdle<S, R>>,
+    work: &W,
+    tasks: Vec<W::Task>,
+    mut idles: Vec<W::Idle>,
+    most: usize,
 )
 where
-    S::Part: Send,
-    S::Source: Send + Sync,
-    S::Answer: Send + Sync,
-    S::Given: Send + Sync,
-    S::Scratch: Send,
+    W::Task: Drop,
 {
-    idles.truncate(work.counts.nodes() as usize);
+    idles.truncate(most);
     if !idles.is_empty() {
         run_pool(rt, alloc, gate, work, tasks, idles);
     }
-}
-
-/// The places of jobs that were run.
-fn places_of<S: JobSegments, R: RunBrand>(work: TableWork<'_, S, R>) -> Vec<JobPlaces<S>> {
-    let JobWork { places, .. } = work;
-    places
 }
 
 /// Runs the jobs over one table of counts, and gives back their places.
@@ -123,9 +108,16 @@ where
     requires planned { (R.jobs ≡ S.job_count) × ((j : ℕ) → R.last j ≡ S.last_of j)
         × ((j k : ℕ) → R.size j k ≡ S.size_of j k) }
 {
-    let (work, tasks, idles) = TableWork::<S, R>::new(alloc, jobs, settings, opened)?;
-    run_tasks(rt, alloc, gate, &work, tasks, idles);
-    Ok(places_of(work))
+    match TableWork::<S, R>::new(alloc, jobs, settings, opened) {
+        Ok((work, tasks, idles)) => {
+            // There are never more tasks than nodes.
+            let nodes = work.counts.nodes() as usize;
+            run_tasks(rt, alloc, gate, &work, tasks, idles, nodes);
+            let JobWork { places, .. } = work;
+            Ok(places)
+        }
+        Err(refused) => Err(refused),
+    }
 }
 
 /// The answers of all jobs, in their order, worked out by no more workers than the settings say.

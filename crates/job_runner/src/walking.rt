@@ -4,6 +4,7 @@ ghost use Rattle.trace.specs.declared.item.Fault.{Fault};
 ghost use Rattle.job_runner.specs.Cuts.{HandedIn, IfMerged, IsPiece, StandsWhole, begins, ends_at, positions_at};
 
 use crate::NoMemory;
+use crate::credit::pay;
 use crate::cut::{CutPiece, Join, SegmentPart, TableKept, TablePart, is_left, side_at};
 use crate::nodes::share_of;
 use crate::parts::part_of;
@@ -24,11 +25,10 @@ use worker_pool::{Gate, Spawn};
 
 /// Walks a piece. What is handed in for it: its part, or the fault that ends it, if the job gives an answer in its
 /// place.
-fn handed<S: JobSegments, R: RunBrand, G: Gate>(
+fn handed<S: JobSegments, R: RunBrand, G: Gate, P>(
     work: &TableWork<S, R>,
-    gate: &G,
     piece: Piece,
-    tools: &mut TableTools<'_, S, R>,
+    tools: &mut TableTools<'_, S, R, G, P>,
 ) -> TablePart<S>
     requires piece { IsPiece S.job_count S.last_of S.size_of piece.job piece.segment piece.from piece.to }
     ensures handed { HandedIn S.stands_for S.faults_with
@@ -36,7 +36,7 @@ fn handed<S: JobSegments, R: RunBrand, G: Gate>(
     ensures caught { IfOk result (λ x.
         IfMerged (λ part. (fault : Fault) → S.is_caught piece.job piece.segment part fault → ⊥) ⊥ x.found) }
 {
-    let Ok(part) = part_of(work, gate, piece, tools) else {
+    let Ok(part) = part_of(work, piece, tools) else {
         return Err(Failure::NoMemory);
     };
     let Some(given) = kept_given(&work.places, piece.job) else {
@@ -50,11 +50,10 @@ fn handed<S: JobSegments, R: RunBrand, G: Gate>(
 
 /// Walks one side of a cut as one piece, and hands its part in.
 #[tactic(auto, using(crate::proofs::SameRun::as_planned))]
-fn leaf<S: JobSegments, R: RunBrand, G: Gate>(
+fn leaf<S: JobSegments, R: RunBrand, G: Gate, P>(
     work: &TableWork<S, R>,
-    gate: &G,
     side: TableSideTask<S, R>,
-    tools: &mut TableTools<'_, S, R>,
+    tools: &mut TableTools<'_, S, R, G, P>,
 ) -> Option<TableFinishedSegment<S, R>>
     ensures { IfSome result (λ whole. StandsWhole S.stands_for S.faults_with S.size_of whole.job.job whole.segment
         (λ x. x.found) whole.part) }
@@ -62,7 +61,7 @@ fn leaf<S: JobSegments, R: RunBrand, G: Gate>(
     let SideTask { half, of: _ } = side;
     let Half { seat, place } = half;
     let cut = place.tag;
-    let value = handed(work, gate, side_at(&place), tools);
+    let value = handed(work, side_at(&place), tools);
     let tree = Tree::new(&work.counts, &[]);
     let watch = &mut tools.watch;
     watch.aim(cut.job, cut.segment);
@@ -155,10 +154,8 @@ impl<'a, S: JobSegments, R: RunBrand> JobWork<'a, S, TablePart<S>, TableKept<S>,
     #[tactic(auto, using(crate::proofs::SameRun::as_planned))]
     pub(crate) fn walk<G: Gate, P: Spawn<TableTask<S, R>>>(
         &self,
-        gate: &G,
         side: TableSideTask<S, R>,
-        spawn: &mut P,
-        tools: &mut TableTools<'_, S, R>,
+        tools: &mut TableTools<'_, S, R, G, P>,
     ) -> Option<TableFinishedSegment<S, R>>
         ensures { IfSome result (λ whole. StandsWhole S.stands_for S.faults_with S.size_of whole.job.job whole.segment
             (λ x. x.found) whole.part) }
@@ -166,11 +163,11 @@ impl<'a, S: JobSegments, R: RunBrand> JobWork<'a, S, TablePart<S>, TableKept<S>,
         let piece = side_at(&side.half.place);
         let longest = longest_of(self, piece.job, piece.segment);
         if piece.to - piece.from <= longest || is_left_out(&mut tools.watch, piece) {
-            return leaf(self, gate, side, tools);
+            return leaf(self, side, tools);
         }
         match self.cut_side(side) {
-            Ok((own, other)) => self.walk_both(gate, own, other, spawn, tools),
-            Err(whole) => leaf(self, gate, whole, tools),
+            Ok((own, other)) => self.walk_both(own, other, tools),
+            Err(whole) => leaf(self, whole, tools),
         }
     }
 
@@ -178,34 +175,30 @@ impl<'a, S: JobSegments, R: RunBrand> JobWork<'a, S, TablePart<S>, TableKept<S>,
     #[cycle(walk)]
     fn walk_both<G: Gate, P: Spawn<TableTask<S, R>>>(
         &self,
-        gate: &G,
         own: TableSideTask<S, R>,
         other: TableSideTask<S, R>,
-        spawn: &mut P,
-        tools: &mut TableTools<'_, S, R>,
+        tools: &mut TableTools<'_, S, R, G, P>,
     ) -> Option<TableFinishedSegment<S, R>>
         ensures { IfSome result (λ whole. StandsWhole S.stands_for S.faults_with S.size_of whole.job.job whole.segment
             (λ x. x.found) whole.part) }
     {
-        let pushed = spawn.push(Task::Walk(other));
-        let first = self.walk(gate, own, spawn, tools);
-        let Err(Task::Walk(other)) = pushed else {
-            return first;
-        };
-        let second = self.walk(gate, other, spawn, tools);
-        first.or(second)
+        let pushed = tools.spawn.push(Task::Walk(other));
+        let first = self.walk(own, tools);
+        match pushed {
+            Err(Task::Walk(other)) => first.or(self.walk(other, tools)),
+            _ => first,
+        }
     }
 }
 
 /// Walks a segment as one piece.
 #[tactic(auto, using(crate::proofs::SameRun::as_planned))]
-fn walk_whole<S: JobSegments, R: RunBrand, G: Gate>(
+fn walk_whole<S: JobSegments, R: RunBrand, G: Gate, P>(
     work: &TableWork<S, R>,
-    gate: &G,
     job: TableJobSeat<S, R>,
     segment: usize,
     size: u64,
-    tools: &mut TableTools<'_, S, R>,
+    tools: &mut TableTools<'_, S, R, G, P>,
 ) -> TableFinishedSegment<S, R>
     requires known { segment ≤ R.last job.job }
     requires size { size ≡ R.size job.job segment }
@@ -213,7 +206,7 @@ fn walk_whole<S: JobSegments, R: RunBrand, G: Gate>(
         (λ x. x.found) result.part }
 {
     let all = Piece::all(job.job, segment, size);
-    let walked = part_of(work, gate, all, tools);
+    let walked = part_of(work, all, tools);
     let part = match walked {
         Ok(part) => Ok(SegmentPart::of_part(part)),
         Err(_refused) => Err(Failure::NoMemory),
@@ -267,12 +260,10 @@ impl<'a, S: JobSegments, R: RunBrand> JobWork<'a, S, TablePart<S>, TableKept<S>,
     /// to others.
     pub(crate) fn begin<G: Gate, P: Spawn<TableTask<S, R>>>(
         &self,
-        gate: &G,
         begun: TableJobSeat<S, R>,
         segment: usize,
         size: u64,
-        spawn: &mut P,
-        tools: &mut TableTools<'_, S, R>,
+        tools: &mut TableTools<'_, S, R, G, P>,
     ) -> Option<TableFinishedSegment<S, R>>
         requires known { segment ≤ R.last begun.job }
         requires size { size ≡ R.size begun.job segment }
@@ -280,12 +271,12 @@ impl<'a, S: JobSegments, R: RunBrand> JobWork<'a, S, TablePart<S>, TableKept<S>,
             (λ x. x.found) whole.part) }
     {
         if size <= self.threshold || !self.jobs.is_divided(begun.job, segment) {
-            return Some(walk_whole(self, gate, begun, segment, size, tools));
+            return Some(walk_whole(self, begun, segment, size, tools));
         }
-        let paid = self.pay(begun, &mut tools.spare);
+        let paid = pay(&self.counts, self.share, begun, &mut tools.spare);
         match self.cut_segment(paid, segment, size) {
-            Ok((own, other)) => self.walk_both(gate, own, other, spawn, tools),
-            Err(begun) => Some(walk_whole(self, gate, begun, segment, size, tools)),
+            Ok((own, other)) => self.walk_both(own, other, tools),
+            Err(begun) => Some(walk_whole(self, begun, segment, size, tools)),
         }
     }
 }

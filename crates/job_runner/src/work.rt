@@ -83,7 +83,9 @@ impl<'a, S: JobSegments, R: RunBrand> JobWork<'a, S, TablePart<S>, TableKept<S>,
         ensures tasks { IfOk result (λ made. length made.1.items ≤ S.job_count) }
         ensures idles { IfOk result (λ made. length made.2.items ≡ workers_of settings) }
     {
-        let places = empty_places(alloc, jobs)?;
+        let Ok(places) = empty_places(alloc, jobs) else {
+            return Err(NoMemory);
+        };
         let FreshCounts {
             counts,
             seat,
@@ -115,8 +117,10 @@ impl<'a, S: JobSegments, R: RunBrand> JobWork<'a, S, TablePart<S>, TableKept<S>,
             seat: other,
             of: PhantomData,
         };
-        let (tasks, idles) = work.open_all(unopened, spare, stop_seat, settings.workers())?;
-        Ok((work, tasks, idles))
+        match work.open_all(unopened, spare, stop_seat, settings.workers()) {
+            Ok((tasks, idles)) => Ok((work, tasks, idles)),
+            Err(refused) => Err(refused),
+        }
     }
 
     /// The start node of a job.
@@ -226,15 +230,19 @@ where
         } = idle;
         let watch = self.watch(task_job(&task), stop_seat);
         let mut tools = Tools {
+            gate,
+            spawn,
             scratch,
             watch,
             spare,
         };
-        self.take(gate, task, spawn, &mut tools);
+        self.take(task, &mut tools, self.starts.len());
         let Tools {
             scratch,
             watch,
             spare,
+            gate: _,
+            spawn: _,
         } = tools;
         let Watch {
             seat: stop_seat,

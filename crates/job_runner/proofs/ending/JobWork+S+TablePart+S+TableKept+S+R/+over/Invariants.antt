@@ -1,6 +1,4 @@
 use Rattle.std.proofs.Common.{◌+◌, ◌*◌, ◌∷◌, ◌++◌, [], drop}
-use Rattle.std.specs.Prelude.{IfSome, IfOk}
-use Rattle.job_runner.specs.Cuts.{StandsWhole}
 use Rattle.job_runner.specs.Tasks.{HasKept}
 use Rattle.job_runner.specs.Waits.{nodes_in}
 use Rattle.job_runner.proofs.ending.JobWork+S+TablePart+S+TableKept+S+R.+over.Given as goal
@@ -11,11 +9,8 @@ decreases-end_job g l = 3 * l.depth + 1
 abbrev pub decreases-hand_over : goal.decreases-hand_over
 decreases-hand_over g l = 3 * l.depth
 
-abbrev pub decreases-go_on : goal.decreases-go_on
-decreases-go_on g l = 3 * l.depth + 2
+abbrev pub decreases-take : goal.decreases-take
+decreases-take g l = 3 * l.depth + 2
 
 abbrev pub invariant-end_job-loop-at : goal.invariant-end_job-loop-at
 invariant-end_job-loop-at g l = HasKept g.R.RunBrand.table g.R.RunBrand.jobs g.R.RunBrand.start g.R.RunBrand.keeps (nodes_in (drop l.at l.waiting) ++ 0 ∷ []) l.seat
-
-abbrev pub invariant-go_on-loop : goal.invariant-go_on-loop
-invariant-go_on-loop g l = IfOk l.turn (λ next. IfSome next (λ whole. StandsWhole g.S.JobSegments.stands_for g.S.JobSegments.faults_with g.S.JobSegments.size_of whole.job.job whole.segment (λ x. x.found) whole.part))

@@ -1,7 +1,7 @@
 use Rattle.std.proofs.Common.{◌≡◌, ◌∙◌, length, rules}
 use Rattle.pending_count.specs.Seats.{view_of}
 use Rattle.job_runner.proofs.CreditLemmas.{credit_joined}
-use Rattle.job_runner.proofs.credit.JobWork+S+TablePart+S+TableKept+S+R.pay.Goals as goal
+use Rattle.job_runner.proofs.credit.pay.Goals as goal
 
 pub invariant_of-result : goal.invariant_of-result
 invariant_of-result g c =
