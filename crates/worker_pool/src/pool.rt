@@ -10,7 +10,7 @@ use deques::Inbox;
 use std::alloc::Global;
 use std::sync::Wait;
 use std::thread;
-use std::thread::Threads;
+use std::thread::{Scope, Threads};
 use std::vec::IntoIter;
 
 /// Where the workers find tasks: the caller, and the others in turn; and what wakes them.
@@ -21,7 +21,39 @@ struct Finders<'a, F> {
     others: IntoIter<F>,
 }
 
-// Worker 0 is the caller. Each other worker has a thread, if one can be made.
+/// Starts a thread for each worker from number 2 on, as long as something is left, and as far as threads can be made.
+fn start<'s, E, R: Wait + Sync, W: Work, G: Gate + Sync, F: TaskFinder<W::Task> + Send + Drop>(
+    scope: &Scope<'s, E>,
+    rt: &'s R,
+    gate: &'s G,
+    work: &'s W,
+    bell: &'s Bell,
+    idle: IntoIter<W::Idle>,
+    finders: IntoIter<F>,
+)
+where
+    W::Task: Drop,
+    F: 's,
+    W: 's,
+{
+    for (number, (idle, finder)) in (2..).zip(idle.zip(finders)) {
+        let (idle, left) = work.left(rt, idle);
+        if left == 0 {
+            return;
+        }
+        let worker = Worker {
+            number,
+            idle,
+            finder,
+        };
+        let _ = scope.spawn(move || {
+            work_on(rt, gate, work, bell, worker);
+        });
+    }
+}
+
+/// Runs the tasks on the workers. Worker 0 is the caller. It starts a thread for worker 1, which starts the threads of
+/// the others: so the caller is at work at once, and a short run is over before it has all threads.
 fn run_workers<
     R: Threads + Wait + Sync,
     W: Work,
@@ -52,20 +84,21 @@ where
             let Finders {
                 bell,
                 mut mine,
-                others,
+                mut others,
             } = finders;
             let mut idle = idle.into_iter();
             let Some(my_idle) = idle.next() else {
                 unreachable!()
             };
-            for (number, (idle, finder)) in (1..).zip(idle.zip(others)) {
-                let worker = Worker {
-                    number,
-                    idle,
+            if let (Some(its_idle), Some(finder)) = (idle.next(), others.next()) {
+                let second = Worker {
+                    number: 1,
+                    idle: its_idle,
                     finder,
                 };
                 let _ = scope.spawn(move || {
-                    work_on(rt, gate, work, bell, worker);
+                    start(scope, rt, gate, work, bell, idle, others);
+                    work_on(rt, gate, work, bell, second);
                 });
             }
             let me = Worker {
