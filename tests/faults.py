@@ -14,12 +14,16 @@ import subprocess
 import sys
 import tempfile
 import threading
+import time
 
 import running
 
 KINDS = ['ALLOC', 'READ', 'WRITE', 'OPEN', 'THREAD', 'FAILED']
 
 Run = collections.namedtuple('Run', 'out err status seen')
+
+# A job of 2^62 items.
+ENDLESS = b'e = range(0, 4611686018427387904).filter(x -> x < 0).sum()\n'
 
 
 def compiler():
@@ -61,11 +65,29 @@ class Faults:
             self.files.path = self.file(f'seen-{threading.get_ident()}', b'')
         return running.write(self.files.path, bytes(64))
 
+    def environment(self, path, words):
+        """What is set for a run whose counters are in this file, and in which these calls fail."""
+        return {'FAULTS_SEEN': path, **{f'FAULTS_{word}': str(words[word]) for word in words}}
+
+    def threads(self, arguments, wanted, **words):
+        """How many threads a run over an endless job has, as soon as it has as many as are wanted at two looks in turn, or after
+        20 seconds. Then the run is ended."""
+        environment = {**os.environ, 'LD_PRELOAD': self.library, **self.environment(self.counters(), words)}
+        found = None
+        with subprocess.Popen([self.program, *arguments, self.file('endless.jobs', ENDLESS)], env=environment) as ran:
+            for _ in range(1000):
+                before, found = found, len(os.listdir(f'/proc/{ran.pid}/task'))
+                if before == found == wanted:
+                    break
+                time.sleep(0.02)
+            ran.kill()
+        return found
+
     def run(self, arguments, limit=None, is_alone=False, **words):
         """A run of the program. `limit` is called in the new process before the program is loaded; if the program `is_alone`, the
         library isn't loaded, and nothing is counted."""
         path = self.counters()
-        environment = {'FAULTS_SEEN': path, **{f'FAULTS_{word}': str(words[word]) for word in words}}
+        environment = self.environment(path, words)
         if not is_alone:
             environment['LD_PRELOAD'] = self.library
         answer = running.run([self.program, *arguments], limit, self.seconds, env=environment)
