@@ -75,12 +75,14 @@ class Faults:
         environment = {**os.environ, 'LD_PRELOAD': self.library, **self.environment(self.counters(), words)}
         found = None
         with subprocess.Popen([self.program, *arguments, self.file('endless.jobs', ENDLESS)], env=environment) as ran:
-            for _ in range(1000):
-                before, found = found, len(os.listdir(f'/proc/{ran.pid}/task'))
-                if before == found == wanted:
-                    break
-                time.sleep(0.02)
-            ran.kill()
+            try:
+                for _ in range(1000):
+                    before, found = found, len(os.listdir(f'/proc/{ran.pid}/task'))
+                    if before == found == wanted:
+                        break
+                    time.sleep(0.02)
+            finally:
+                ran.kill()
         return found
 
     def run(self, arguments, limit=None, is_alone=False, **words):
