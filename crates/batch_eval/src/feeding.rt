@@ -17,13 +17,13 @@ use crate::batch_items::BatchItems;
 use crate::lane_items::LaneItems;
 use crate::pipeline::Pipeline;
 use crate::register::LANES;
-use crate::registers::{Registers, Space};
+use crate::registers::{Registers, Space, may_grow};
 use crate::sink::BatchSink;
 use crate::staging::feed_batch;
 use trace::{Fed, Flow, NoMemory, RangeItems, SourceItems, Stage, feed_all};
 
-/// The first batch of a walk. Each further one is four times as large, up to 1,024 items, so that a
-/// sink that soon has enough doesn't pay for a large one.
+/// The first batch of a walk. Each further one is four times as large, up to `most_items`, so that a sink that soon has
+/// enough doesn't pay for a large one.
 const FIRST_BATCH: u64 = 16;
 
 /// Takes items through all stages and into a sink, a batch at a time.
@@ -109,6 +109,7 @@ fn feed_pieces<S: BatchSink>(
     ensures refused { OnErr result S.takes_memory }
 {
     let count = items.count();
+    let most = most_items(line.stages);
     let mut position = 0;
     let mut size = first;
     while position < count {
@@ -118,9 +119,22 @@ fn feed_pieces<S: BatchSink>(
             ended => return Ok(ended),
         }
         position += taken;
-        size = (size * 4).min(LANES as u64);
+        size = (size * 4).min(most);
     }
     Ok(Fed::More)
+}
+
+/// How many items a batch has at most. Before a `flatMap` they fill half a register: with two operands for each and a
+/// batch of inner values they then take 28 KB, so all stay in the first cache of a processor.
+fn most_items(stages: &[Stage]) -> u64
+    ensures some { 0 < result }
+    ensures few { result ≤ 1024 }
+{
+    if may_grow(stages) {
+        LANES as u64 / 2
+    } else {
+        LANES as u64
+    }
 }
 
 /// Takes up to 1,024 of the items, from a position on.

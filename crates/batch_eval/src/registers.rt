@@ -104,7 +104,7 @@ impl Registers {
 }
 
 /// Whether what comes out of these stages may be longer than what goes in.
-fn may_grow(stages: &[Stage]) -> bool {
+pub(crate) fn may_grow(stages: &[Stage]) -> bool {
     stages
         .iter()
         .any(|stage| matches!(stage, Stage::FlatMap(_)))
