@@ -91,11 +91,11 @@ counted_end p t counts ending adds last =
 
 -- a part of a segment that counts after maps that can't have a fault
 pub counted_stands : (segment : Segment) (fold : Fold) (p : FoldPart) (from : ℕ) (to : Option ℕ) (t : Trace) (count : ℕ) (ending : End) (env : Numbers)
-    → segment.end ≡ ends.Fold fold → all_keep true (stages_of segment.stages.items) ≡ true → count ≡ span from to (length t.items) → ending ≡ (piece_of 0 to t).ending
+    → segment.end ≡ ends.Fold fold → all_keep true (stages_of segment.stages.list.items) ≡ true → count ≡ span from to (length t.items) → ending ≡ (piece_of 0 to t).ending
     → ((u : Trace) → length u.items ≡ count → u.ending ≡ ending → IsFold fold.op fold.start fold.counts p u) → StandsFor (segment_in segment) env (part.Fold p) (piece_of from to t)
 counted_stands segment fold p from to t count ending env e keep few last made =
-    let n = segment.first_stage in
-    let gs = stages_of segment.stages.items in
+    let n = segment.stages.first in
+    let gs = stages_of segment.stages.list.items in
     let piece = piece_of from to t in
     let kept = maps_keep n gs keep env piece in
     let stands : IsFold fold.op fold.start fold.counts p (pipe n gs env piece) = made (pipe n gs env piece) (kept.0 ∙ piece_size from to t ∙ sym few) (kept.1 ∙ sym (last ∙ same_ending from to t)) in

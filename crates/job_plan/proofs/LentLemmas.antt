@@ -1,5 +1,5 @@
 -- Parts of a prefix that comes before every other stage.
-use Rattle.std.proofs.Common.{◌≡◌, ℕ, ◌+◌, Option, Some, None, List, [], ◌++◌, length, sym, ap, subst, ◌∙◌, append_assoc, refl}
+use Rattle.std.proofs.Common.{◌≡◌, ℕ, Option, Some, None, List, [], ◌++◌, sym, ap, subst, ◌∙◌, append_assoc, refl}
 use Rattle.std.proofs.lemmas.List.{append-nil}
 use Rattle.lambda_values.specs.Earlier.{Numbers}
 use Rattle.trace.specs.declared.item.Item.{Item}
@@ -12,11 +12,10 @@ use Rattle.prefix_walks.specs.declared.prefix.Prefix.{Prefix}
 use Rattle.job_plan.specs.declared.segment.Segment.{Segment}
 use Rattle.job_plan.specs.declared.ends.SegmentEnd.TheVariants as ends
 use Rattle.prefix_walks.specs.CheapStages.{AreCheap, left_by}
-use Rattle.job_plan.specs.Parts.{EndsFor, StandsFor, end_in, segment_in}
+use Rattle.job_plan.specs.Parts.{number_after, EndsFor, StandsFor, end_in, segment_in}
 use Rattle.prefix_walks.specs.Pieces.{elements, piece_of}
 use Rattle.prefix_walks.specs.Scans.{AbstractScan, scan, scan_append}
 use Rattle.prefix_walks.proofs.CheapLemmas.{cheap_walk}
-use Rattle.job_plan.proofs.PartLemmas.{length-stages_of}
 
 -- items after others
 pub grown : (w : Trace) (ys zs : List Item) → append (append w (trace ys end.Done)) (trace zs end.Done) ≡ append w (trace (ys ++ zs) end.Done)
@@ -37,13 +36,12 @@ piece_again gs from None t ending e = (λ j. trace (append-nil (left_by gs (elem
 piece_again gs from (Some to) t ending e = (λ j. trace (append-nil (left_by gs (elements from (Some to) t.items)) j) (e j))
 
 -- a part of a segment whose stages are cheap
-pub lent_stands : (segment : Segment) (prefix : Prefix) (p : AbstractScan) (t : Trace) (env : Numbers) → segment.end ≡ ends.Prefix prefix → AreCheap (stages_of segment.stages.items)
-    → p ≡ scan prefix.op prefix.range (segment.first_stage + length segment.stages.items) (trace (left_by (stages_of segment.stages.items) t.items) t.ending) → StandsFor (segment_in segment) env (part.Prefix p) t
+pub lent_stands : (segment : Segment) (prefix : Prefix) (p : AbstractScan) (t : Trace) (env : Numbers) → segment.end ≡ ends.Prefix prefix → AreCheap (stages_of segment.stages.list.items)
+    → p ≡ scan prefix.op prefix.range (number_after segment.stages) (trace (left_by (stages_of segment.stages.list.items) t.items) t.ending) → StandsFor (segment_in segment) env (part.Prefix p) t
 lent_stands segment prefix p t env e plain is =
-    let n = segment.first_stage in
-    let gs = stages_of segment.stages.items in
-    let last : ℕ = n + length gs in
+    let n = segment.stages.first in
+    let gs = stages_of segment.stages.list.items in
+    let last : ℕ = number_after segment.stages in
     let walk : pipe n gs env t ≡ trace (left_by gs t.items) t.ending = cheap_walk n gs plain env t.items t.ending in
-    let number : n + length segment.stages.items ≡ last = ap (λ m. n + m) (sym (length-stages_of segment.stages.items)) in
-    let stands : p ≡ scan prefix.op prefix.range last (pipe n gs env t) = is ∙ (λ j. scan prefix.op prefix.range (number j) (sym walk j)) in
+    let stands : p ≡ scan prefix.op prefix.range last (pipe n gs env t) = is ∙ ap (scan prefix.op prefix.range last) (sym walk) in
     subst (λ d. EndsFor (end_in d) last env (part.Prefix p) (pipe n gs env t)) (sym e) stands

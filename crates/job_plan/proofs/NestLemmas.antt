@@ -7,7 +7,6 @@ use Rattle.trace.specs.declared.item.End.{End}
 use Rattle.trace.specs.declared.item.End.TheVariants as end
 use Rattle.trace.specs.declared.sink.Flow.{Flow}
 use Rattle.trace.specs.Trace.{Trace, trace, nothing, append}
-use Rattle.trace.proofs.JoinLemmas.{pipe_ended}
 use Rattle.slice_ops.specs.Slices.{AbstractSlice}
 use Rattle.job_plan.specs.declared.link_sink.Passage.{Passage}
 use Rattle.job_plan.specs.declared.part.Part.{Part}
@@ -46,9 +45,8 @@ begun_as h f d e n g env p s is x = subst (λ (b : AbstractSlice). HasPassed h f
 
 -- ---- from the part of no item
 
-pub stands_after : (s : AbstractSegment) (env : Numbers) (none p : Part) (t : Trace) → StandsFor s env none nothing → GoesOnFrom s.ending (last_stage s) env none p (walk_of s env t) → StandsFor s env p t
-stands_after s env none p t first on =
-    on.0 nothing (subst (EndsFor s.ending (last_stage s) env none) (pipe_ended s.first s.stages env end.Done) first)
+pub stands_after : (s : AbstractSegment) (env : Numbers) (none p : Part) (t : Trace) → EndsFor s.ending (last_stage s) env none nothing → GoesOnFrom s.ending (last_stage s) env none p (walk_of s env t) → StandsFor s env p t
+stands_after s env none p t first on = on.0 nothing first
 
 pub begun_with : (e : AbstractEnd) (n : ℕ) (env : Numbers) (none begun : Part) → none ≡ begun → HasTaken e n env begun none []
 begun_with e n env none begun is = subst (λ (b : Part). HasTaken e n env b none []) is (taken_none e n env none)

@@ -8,7 +8,7 @@ use Rattle.trace.specs.declared.item.End.TheVariants as end
 use Rattle.trace.specs.declared.stage.Stage.{Stage}
 use Rattle.trace.specs.Stages.{AbstractStage, stage_of, stages_of}
 use Rattle.trace.specs.Trace.{Trace, trace, nothing, then_on, append}
-use Rattle.trace.proofs.JoinLemmas.{append_faulted, pipe_append}
+use Rattle.trace.proofs.JoinLemmas.{append_faulted, pipe_append, pipe_ended}
 use Rattle.early_stop.specs.Decisive.{Decides}
 use Rattle.early_stop.specs.Leaving.{IsSettled, IsSettledAfter}
 use Rattle.early_stop.proofs.Settling.{enough_decides}
@@ -175,6 +175,10 @@ prefixes_merge e n env a b p q r is s t = s
 pub length-stages_of : (gs : List Stage) → length (stages_of gs) ≡ length gs
 length-stages_of [] = refl
 length-stages_of (g ∷ gs) = ap suc (length-stages_of gs)
+
+-- the part of no item
+pub none_stands : (s : AbstractSegment) (env : Numbers) (p : Part) → EndsFor s.ending (last_stage s) env p nothing → StandsFor s env p nothing
+none_stands s env p = subst (EndsFor s.ending (last_stage s) env p) (sym (pipe_ended s.first s.stages env end.Done))
 
 -- one more of several
 pub stages_more : (gs : List Stage) (g : Stage) → stages_of (gs ++ g ∷ []) ≡ stages_of gs ++ stage_of g ∷ []

@@ -1,17 +1,17 @@
 -- Condition: the route of a job, built stage by stage.
-use Rattle.std.specs.Prelude.{◌≡◌, ◌≤◌, ℕ, suc, Bool, true, false, ◌&&◌, ◌+◌, List, [], ◌∷◌, ◌++◌, length}
+use Rattle.std.specs.Prelude.{◌≡◌, ◌≤◌, ℕ, suc, Bool, true, false, ◌&&◌, List, [], ◌∷◌, ◌++◌, length}
 use Rattle.lambda_values.specs.Earlier.{Numbers}
 use Rattle.trace.specs.declared.item.Fault.{Fault}
 use Rattle.trace.specs.declared.item.End.TheVariants as end
-use Rattle.trace.specs.Stages.{AbstractStage, map, filter, flat_map, pipe, stages_of}
+use Rattle.trace.specs.Stages.{AbstractStage, map, filter, flat_map}
 use Rattle.trace.specs.Trace.{Trace}
 use Rattle.job_language.specs.Jobs.{AbstractPlainSource, AbstractJob}
 use Rattle.prefix_walks.specs.Faultless.{never_faults, test_never_faults}
 use Rattle.job_meaning.specs.Names.{names_in_job}
 use Rattle.job_meaning.specs.Walks.{after_stages, answer_of, fallback_of, source_walk}
 use Rattle.job_plan.specs.declared.building.Begun.{Begun}
-use Rattle.job_plan.specs.Parts.{legs_in, links_in}
-use Rattle.job_plan.specs.Plans.{AbstractEnd, AbstractLeg, AbstractPlan, all_placed, legs_answer, linked, scanned, windowed}
+use Rattle.job_plan.specs.Parts.{legs_in, links_in, number_after, walk_through}
+use Rattle.job_plan.specs.Plans.{AbstractPlan, all_placed, legs_answer, linked, scanned, windowed}
 
 -- whether stages are all maps; if asked for, maps that can't have a fault
 abbrev pub stage_keeps : Bool → AbstractStage → Bool
@@ -38,26 +38,18 @@ all_calm (g ∷ gs) = is_calm g && all_calm gs
 abbrev pub IsClean : Trace → Type 0
 IsClean t = (f : Fault) → t.ending ≡ end.Fault f → t.items ≡ []
 
--- the number of the next stage of a route that is built
-abbrev pub number_of : Begun → ℕ
-number_of b = b.first_stage + length b.stages.items
-
 -- what a walk over sources is after its legs, and after its slices
 abbrev pub walk_over : Begun → Numbers → List AbstractPlainSource → Trace
 walk_over b env ss = linked (links_in b.links.items) env (windowed b.window.from b.window.to (scanned (legs_in b.scans.items) env (source_walk ss)))
 
 -- what a walk over sources is after all its stages
 abbrev pub begun_walk : Begun → Numbers → List AbstractPlainSource → Trace
-begun_walk b env ss = pipe b.first_stage (stages_of b.stages.items) env (walk_over b env ss)
-
--- the leg since its last prefix, with this end
-abbrev pub leg_of : Begun → AbstractEnd → AbstractLeg
-leg_of b e = record { from = b.window.from; to = b.window.to; links = links_in b.links.items; last = record { first = b.first_stage; stages = stages_of b.stages.items; ending = e } }
+begun_walk b env ss = walk_through b.stages env (walk_over b env ss)
 
 -- a route with one stage more, which has the next number and does this to a walk
 pub record HasNext (b : Begun) (does : ℕ → Numbers → Trace → Trace) (new : Begun) : Type 0 where
-  pub walk : (env : Numbers) (ss : List AbstractPlainSource) → begun_walk new env ss ≡ does (number_of b) env (begun_walk b env ss)
-  pub number : number_of new ≡ suc (number_of b)
+  pub walk : (env : Numbers) (ss : List AbstractPlainSource) → begun_walk new env ss ≡ does (number_after b.stages) env (begun_walk b env ss)
+  pub number : number_after new.stages ≡ suc (number_after b.stages)
   pub few : length new.links.items ≤ suc (length b.links.items)
 
 -- a route of a job, after jobs with these names: it has the job's answer, whatever the arrays and the numbers of earlier

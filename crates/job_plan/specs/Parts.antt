@@ -1,12 +1,12 @@
 -- Condition: what the parts, segments and sources of the program mean.
-use Rattle.std.specs.Prelude.{◌≡◌, ℕ, zero, suc, ℤ, Bool, true, false, if◌then◌else◌, List, [], ◌∷◌, Option, Some, is_some, option_map}
+use Rattle.std.specs.Prelude.{◌≡◌, ℕ, zero, suc, ℤ, Bool, true, false, if◌then◌else◌, ◌+◌, List, [], ◌∷◌, length, Option, Some, is_some, option_map}
 use Rattle.lambda_values.specs.Earlier.{Numbers}
 use Rattle.trace.specs.declared.item.Item.{Item}
 use Rattle.trace.specs.declared.item.End.{End}
 use Rattle.trace.specs.declared.item.End.TheVariants as end
 use Rattle.trace.specs.declared.sink.Flow.{Flow}
 use Rattle.trace.specs.declared.sink.Flow.TheVariants as flow
-use Rattle.trace.specs.Stages.{stages_of}
+use Rattle.trace.specs.Stages.{pipe, stages_of}
 use Rattle.trace.specs.Trace.{Trace, trace, append}
 use Rattle.reduce_ops.specs.declared.op.Op.{Op}
 use Rattle.reduce_ops.specs.Parts.{StandsFor as FoldStands}
@@ -27,6 +27,7 @@ use Rattle.job_plan.specs.declared.fallback.Fallback.{Fallback}
 use Rattle.job_plan.specs.declared.fallback.Fallback.TheVariants as fallback
 use Rattle.job_plan.specs.declared.ends.SegmentEnd.{SegmentEnd}
 use Rattle.job_plan.specs.declared.ends.SegmentEnd.TheVariants as ends
+use Rattle.job_plan.specs.declared.numbered_stages.NumberedStages.{NumberedStages}
 use Rattle.job_plan.specs.declared.segment.Segment.{Segment}
 use Rattle.job_plan.specs.declared.leg.Leg.{Leg}
 use Rattle.job_plan.specs.declared.leg.Link.{Link}
@@ -44,13 +45,20 @@ end_in ends.Array = collecting
 end_in ends.ExactSum = exactly
 end_in (ends.Prefix p) = scanning p.op p.range
 
+-- the number of the stage after stages of the program, and what these make of a walk
+abbrev pub number_after : NumberedStages → ℕ
+number_after s = s.first + length (stages_of s.list.items)
+
+abbrev pub walk_through : NumberedStages → Numbers → Trace → Trace
+walk_through s env t = pipe s.first (stages_of s.list.items) env t
+
 -- a segment of the program
 abbrev pub segment_in : Segment → AbstractSegment
-segment_in s = record { first = s.first_stage; stages = stages_of s.stages.items; ending = end_in s.end }
+segment_in s = record { first = s.stages.first; stages = stages_of s.stages.list.items; ending = end_in s.end }
 
 -- a slice of the program with the stages before it, and several
 abbrev pub link_in : Link → AbstractLink
-link_in l = record { first = l.first_stage; stages = stages_of l.stages.items; slice = slice_of l.slice }
+link_in l = record { first = l.stages.first; stages = stages_of l.stages.list.items; slice = slice_of l.slice }
 
 abbrev pub links_in : List Link → List AbstractLink
 links_in [] = []

@@ -110,7 +110,7 @@ impl EndPart for ArrayPart {
 
     fn push_all<I: SourceItems>(
         &mut self,
-        _last: LastStage<'_>,
+        _last: LastStage<'_, '_>,
         _source: &I,
         values: &[i64],
         _room: &mut [i64],

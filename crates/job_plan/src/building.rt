@@ -3,20 +3,21 @@
 
 ghost use Rattle.std.specs.Prelude.{◌≡◌, ◌≤◌, ℕ, suc, List, [], None, length, IfOk, IfSome, OnOk};
 ghost use Rattle.lambda_values.specs.Earlier.{Numbers};
-ghost use Rattle.trace.specs.Stages.{pipe, stage_of, stages_of, through};
+ghost use Rattle.trace.specs.Stages.{stage_of, through};
 ghost use Rattle.trace.specs.Trace.{Trace};
 ghost use Rattle.reduce_ops.specs.Operators.{value_of};
 ghost use Rattle.prefix_scan.specs.Prefixes.{prefixed};
 ghost use Rattle.slice_ops.specs.Slices.{slice_of, sliced};
 ghost use Rattle.job_language.specs.Jobs.{AbstractPlainSource, job_stage_of, job_stages_of, terminal_of};
 ghost use Rattle.job_meaning.specs.Walks.{after_stage, after_stages, answer_of, source_walk};
-ghost use Rattle.job_plan.specs.Building.{HasNext, IsClean, begun_walk, leg_of, number_of};
-ghost use Rattle.job_plan.specs.Parts.{end_in, leg_in, legs_in};
+ghost use Rattle.job_plan.specs.Building.{HasNext, IsClean, begun_walk};
+ghost use Rattle.job_plan.specs.Parts.{end_in, leg_in, legs_in, number_after, walk_through};
 ghost use Rattle.job_plan.specs.Plans.{ended, legs_answer, windowed};
 
 use crate::ends::SegmentEnd;
 use crate::faultless::{all_calm, all_keep, keeps_first};
 use crate::leg::{Leg, Link};
+use crate::numbered_stages::NumberedStages;
 use crate::segment::Segment;
 use find_ops::FindTerminal;
 use job_language::{JobStage, Terminal};
@@ -36,16 +37,15 @@ pub(crate) struct Begun {
     pub(crate) window: Window,
     /// The slices of the leg that don't select positions.
     pub(crate) links: Vec<Link>,
-    /// The number of the first of the stages after them.
-    pub(crate) first_stage: u32,
-    pub(crate) stages: Vec<Stage>,
+    /// The stages after them.
+    pub(crate) stages: NumberedStages,
 }
 
 impl Begun {
     /// No stages yet.
     fn none(alloc: Global) -> Begun
         ensures walk { (env : Numbers) (ss : List AbstractPlainSource) → begun_walk result env ss ≡ source_walk ss }
-        ensures number { number_of result ≡ 1 }
+        ensures number { number_after result.stages ≡ 1 }
         ensures few { length result.links.items ≡ 0 }
     {
         Begun {
@@ -53,28 +53,8 @@ impl Begun {
             scans: Vec::new(alloc),
             window: Window::all(),
             links: Vec::new(alloc),
-            first_stage: 1,
-            stages: Vec::new(alloc),
+            stages: NumberedStages::none(alloc, 1),
         }
-    }
-
-    /// The number of the stage after the next one.
-    fn after_next(&self) -> u32
-        requires few { number_of self.now ≤ 32 }
-        ensures { result ≡ suc (number_of self.now) }
-    {
-        self.first_stage + self.stages.len() as u32 + 1
-    }
-
-    /// The stages since the last slice; those to come begin with this number.
-    fn take_stages(&mut self, next: u32) -> Vec<Stage>
-        ensures taken { result ≡ self.old.stages }
-        ensures none { (self.new.stages.items ≡ []) × (self.new.first_stage ≡ next) }
-        ensures kept { (self.new.scans ≡ self.old.scans) × (self.new.window ≡ self.old.window)
-            × (self.new.links ≡ self.old.links) }
-    {
-        self.first_stage = next;
-        mem::replace(&mut self.stages, Vec::new(self.alloc))
     }
 
     /// The positions that are left if a slice selects some of those that the leg goes over: only maps come before it.
@@ -83,18 +63,18 @@ impl Begun {
     fn selected(&self, slice: &Slice) -> Option<Window>
         ensures unlinked { IfSome result (λ _. self.now.links.items ≡ []) }
         ensures window { IfSome result (λ w. (m : ℕ) (env : Numbers) (t : Trace) → IsClean t
-            → pipe self.now.first_stage (stages_of self.now.stages.items) env (windowed w.from w.to t)
-            ≡ sliced (slice_of slice.now) m env (pipe self.now.first_stage (stages_of self.now.stages.items) env
+            → walk_through self.now.stages env (windowed w.from w.to t)
+            ≡ sliced (slice_of slice.now) m env (walk_through self.now.stages env
             (windowed self.now.window.from self.now.window.to t))) }
     {
         if !self.links.is_empty() {
             return None;
         }
         match slice {
-            Slice::Limit(count) if *count > 0 && all_keep(&self.stages, false) => {
+            Slice::Limit(count) if *count > 0 && all_keep(&self.stages.list, false) => {
                 self.window.limited(*count)
             }
-            Slice::Skip(count) if all_keep(&self.stages, true) => self.window.skipped(*count),
+            Slice::Skip(count) if all_keep(&self.stages.list, true) => self.window.skipped(*count),
             _ => None,
         }
     }
@@ -102,17 +82,16 @@ impl Begun {
     /// Goes over these positions. The number of the slice that selects them goes to a map that changes nothing, if
     /// stages come before it.
     fn select(&mut self, window: Window) -> Result<(), NoMemory>
-        requires few { number_of self.old ≤ 32 }
+        requires few { number_after self.old.stages ≤ 32 }
         ensures kept { OnOk result ((self.new.scans ≡ self.old.scans) × (self.new.links ≡ self.old.links)) }
         ensures window { OnOk result (self.new.window ≡ window) }
         ensures walk { OnOk result ((env : Numbers) (t : Trace)
-            → pipe self.new.first_stage (stages_of self.new.stages.items) env t
-            ≡ pipe self.old.first_stage (stages_of self.old.stages.items) env t) }
-        ensures number { OnOk result (number_of self.new ≡ suc (number_of self.old)) }
+            → walk_through self.new.stages env t ≡ walk_through self.old.stages env t) }
+        ensures number { OnOk result (number_after self.new.stages ≡ suc (number_after self.old.stages)) }
     {
         self.window = window;
-        if self.stages.is_empty() {
-            self.first_stage += 1;
+        if self.stages.list.is_empty() {
+            self.stages.first += 1;
             return Ok(());
         }
         self.stages.push(Stage::Map(LongExpr::Parameter(0)))?;
@@ -121,35 +100,29 @@ impl Begun {
 
     /// Adds a slice that a walk goes through.
     fn link(&mut self, slice: Slice) -> Result<(), NoMemory>
-        requires few { number_of self.old ≤ 32 }
+        requires few { number_after self.old.stages ≤ 32 }
         ensures { OnOk result (HasNext self.old (sliced (slice_of slice)) self.new) }
     {
-        let first_stage = self.first_stage;
-        let next = self.after_next();
-        let stages = self.take_stages(next);
-        self.links.push(Link {
-            first_stage,
-            stages,
-            slice,
-        })?;
+        let next = self.stages.next() + 1;
+        let stages = mem::replace(&mut self.stages, NumberedStages::none(self.alloc, next));
+        self.links.push(Link { stages, slice })?;
         Ok(())
     }
 
     /// Forgets all stages, but not how many there were.
     fn forget(&mut self)
-        requires few { number_of self.old ≤ 32 }
-        ensures number { number_of self.new ≡ number_of self.old }
+        requires few { number_after self.old.stages ≤ 32 }
+        ensures number { number_after self.new.stages ≡ number_after self.old.stages }
         ensures few { length self.new.links.items ≡ 0 }
     {
-        self.first_stage += self.stages.len() as u32;
-        self.stages = Vec::new(self.alloc);
+        self.stages = NumberedStages::none(self.alloc, self.stages.next());
         self.links = Vec::new(self.alloc);
         self.scans = Vec::new(self.alloc);
     }
 
     /// Adds a slice. Nothing is walked before `limit(0)`.
     fn slice(&mut self, slice: Slice) -> Result<(), NoMemory>
-        requires few { number_of self.old ≤ 32 }
+        requires few { number_after self.old.stages ≤ 32 }
         ensures { OnOk result (HasNext self.old (sliced (slice_of slice)) self.new) }
     {
         if let Some(window) = self.selected(&slice) {
@@ -161,25 +134,22 @@ impl Begun {
         self.link(slice)
     }
 
-    /// The leg since the last prefix, with this end; the next one goes over all positions, and begins with the stage
-    /// of this number.
-    fn take_leg(&mut self, end: SegmentEnd, next: u32) -> Leg
-        requires number { number_of self.old ≤ 33 }
+    /// The leg since the last prefix, with this end; the next one goes over all positions.
+    fn take_leg(&mut self, end: SegmentEnd) -> Leg
+        requires number { number_after self.old.stages ≤ 33 }
         requires few { length self.old.links.items ≤ 32 }
-        ensures leg { leg_in result ≡ leg_of self.old (end_in end) }
-        ensures none { (self.new.links.items ≡ []) × (self.new.stages.items ≡ []) × (self.new.first_stage ≡ next)
+        ensures leg { (result.window ≡ self.old.window) × (result.links ≡ self.old.links)
+            × (result.last.stages ≡ self.old.stages) × (result.last.end ≡ end) }
+        ensures none { (self.new.links.items ≡ []) × (self.new.stages.list.items ≡ [])
+            × (self.new.stages.first ≡ suc (number_after self.old.stages))
             × (self.new.window.from ≡ 0) × (self.new.window.to ≡ None) }
         ensures kept { self.new.scans ≡ self.old.scans }
     {
         let window = mem::replace(&mut self.window, Window::all());
         let links = mem::replace(&mut self.links, Vec::new(self.alloc));
-        let first_stage = self.first_stage;
-        let stages = self.take_stages(next);
-        let last = Segment {
-            first_stage,
-            stages,
-            end,
-        };
+        let next = self.stages.next() + 1;
+        let stages = mem::replace(&mut self.stages, NumberedStages::none(self.alloc, next));
+        let last = Segment { stages, end };
         Leg {
             window,
             links,
@@ -189,19 +159,19 @@ impl Begun {
 
     /// Adds a prefix.
     fn scan(&mut self, prefix: Prefix) -> Result<(), NoMemory>
-        requires few { number_of self.old ≤ 32 }
+        requires few { number_after self.old.stages ≤ 32 }
         requires links { length self.old.links.items ≤ 32 }
         ensures { OnOk result
             (HasNext self.old (λ n env t. prefixed (value_of prefix.op) prefix.range n t) self.new) }
     {
-        let next = self.after_next();
-        let leg = self.take_leg(SegmentEnd::Prefix(prefix), next);
+        let leg = self.take_leg(SegmentEnd::Prefix(prefix));
         self.scans.push(leg)?;
         Ok(())
     }
 
     /// Adds a stage that looks at one item at a time.
     fn item(&mut self, stage: Stage) -> Result<(), NoMemory>
+        requires few { number_after self.old.stages ≤ 32 }
         ensures { OnOk result (HasNext self.old (λ n env t. through n (stage_of stage) env t) self.new) }
     {
         self.stages.push(stage)?;
@@ -210,7 +180,7 @@ impl Begun {
 
     /// Adds a stage.
     fn add(&mut self, stage: JobStage) -> Result<(), NoMemory>
-        requires few { number_of self.old ≤ 32 }
+        requires few { number_after self.old.stages ≤ 32 }
         requires links { length self.old.links.items ≤ 32 }
         ensures { OnOk result
             (HasNext self.old (λ n env t. after_stage n (job_stage_of stage) env t) self.new) }
@@ -232,7 +202,7 @@ impl Begun {
             → ended (end_in result) n env (begun_walk self.now env ss)
             ≡ ended (end_in end) n env (begun_walk self.now env ss) }
     {
-        if self.links.is_empty() && keeps_first(&end) && all_calm(&self.stages) {
+        if self.links.is_empty() && keeps_first(&end) && all_calm(&self.stages.list) {
             return SegmentEnd::Find(FindTerminal::First);
         }
         end
@@ -257,6 +227,6 @@ pub(crate) fn legs_of(
         begun.add(stage)?;
     }
     let walked = begun.end_for(end);
-    let last = begun.take_leg(walked, 0);
+    let last = begun.take_leg(walked);
     Ok((begun.scans, last))
 }

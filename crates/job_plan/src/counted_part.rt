@@ -38,7 +38,7 @@ pub(crate) fn counted_part<'p>(
     if !is_count(*fold) {
         return None;
     }
-    if !all_keep(&segment.stages, true) {
+    if !all_keep(&segment.stages.list, true) {
         return None;
     }
     let size = source.size();

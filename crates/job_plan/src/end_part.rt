@@ -18,10 +18,10 @@ use trace::{End, Item, NoMemory, SourceItems};
 
 /// The end of a segment, its number as a stage, and the values of the job's names.
 #[derive(Clone, Copy)]
-pub(crate) struct LastStage<'a> {
-    pub(crate) end: &'a SegmentEnd,
+pub(crate) struct LastStage<'s, 'e> {
+    pub(crate) end: &'s SegmentEnd,
     pub(crate) number: u32,
-    pub(crate) env: &'a Env,
+    pub(crate) env: &'e Env,
 }
 
 /// What a piece gives to an end of one kind: it takes items in order, and the parts of pieces side by side merge.
@@ -34,7 +34,7 @@ pub(crate) trait EndPart: Drop + Sized {
     /// Adds one more item after the others, as a source of one, unless the kind has a shorter way.
     ///
     /// If the allocation fails, the part stays as it was.
-    fn push(&mut self, last: LastStage<'_>, item: Item) -> Result<(), NoMemory>
+    fn push(&mut self, last: LastStage<'_, '_>, item: Item) -> Result<(), NoMemory>
         requires { is_settled (as_part self.old) ≡ false }
         ensures ok { OnOk result ((t : Trace)
             → EndsFor (end_in last.entry.end.now) last.entry.number last.entry.env.now (as_part self.old) t
@@ -55,7 +55,7 @@ pub(crate) trait EndPart: Drop + Sized {
     /// allocation fails, the part stays as it was. Without items it takes no memory.
     fn push_all<I: SourceItems>(
         &mut self,
-        last: LastStage<'_>,
+        last: LastStage<'_, '_>,
         source: &I,
         values: &[i64],
         room: &mut [i64],

@@ -9,14 +9,14 @@ use trace::{End, Item, NoMemory, SourceItems};
 impl EndPart for SumPart {
     ghost as_part = { part.Exact };
 
-    fn push(&mut self, last: LastStage<'_>, item: Item) -> Result<(), NoMemory> {
+    fn push(&mut self, last: LastStage<'_, '_>, item: Item) -> Result<(), NoMemory> {
         SumPart::push(self, last.number, item);
         Ok(())
     }
 
     fn push_all<I: SourceItems>(
         &mut self,
-        last: LastStage<'_>,
+        last: LastStage<'_, '_>,
         source: &I,
         values: &[i64],
         _room: &mut [i64],

@@ -11,7 +11,7 @@ use trace::{End, Item, NoMemory, SourceItems};
 impl EndPart for FindPart {
     ghost as_part = { part.Find };
 
-    fn push(&mut self, last: LastStage<'_>, item: Item) -> Result<(), NoMemory> {
+    fn push(&mut self, last: LastStage<'_, '_>, item: Item) -> Result<(), NoMemory> {
         if let SegmentEnd::Find(find) = last.end {
             *self = self.look_at(find, last.number, last.env, item);
         }
@@ -20,7 +20,7 @@ impl EndPart for FindPart {
 
     fn push_all<I: SourceItems>(
         &mut self,
-        last: LastStage<'_>,
+        last: LastStage<'_, '_>,
         source: &I,
         values: &[i64],
         room: &mut [i64],

@@ -59,14 +59,14 @@ impl FoldPart {
 impl EndPart for FoldPart {
     ghost as_part = { part.Fold };
 
-    fn push(&mut self, _last: LastStage<'_>, item: Item) -> Result<(), NoMemory> {
+    fn push(&mut self, _last: LastStage<'_, '_>, item: Item) -> Result<(), NoMemory> {
         self.partial.push(counted(self.counts, item));
         Ok(())
     }
 
     fn push_all<I: SourceItems>(
         &mut self,
-        _last: LastStage<'_>,
+        _last: LastStage<'_, '_>,
         _source: &I,
         values: &[i64],
         _room: &mut [i64],

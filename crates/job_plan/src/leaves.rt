@@ -1,20 +1,20 @@
 //! A piece of a segment's source, taken through the segment's stages to the part that its end wants.
 
-ghost use Rattle.std.specs.Prelude.{◌≡◌, false, true, IfOk, OnErr};
+ghost use Rattle.std.specs.Prelude.{◌≡◌, true, IfOk, OnErr};
 ghost use Rattle.trace.specs.Trace.{nothing};
 ghost use Rattle.prefix_walks.specs.Spans.{IsNotAfter};
-ghost use Rattle.job_plan.specs.Parts.{StandsEnough, StandsFor, end_in, end_keeps_items};
-ghost use Rattle.job_plan.specs.Parts.{keeps_items, may_search, segment_in, walk_in};
+ghost use Rattle.job_plan.specs.Parts.{EndsFor, StandsEnough, StandsFor, end_in, end_keeps_items};
+ghost use Rattle.job_plan.specs.Parts.{keeps_items, number_after, segment_in, walk_in};
 ghost use Rattle.prefix_walks.specs.Pieces.{piece_of};
-ghost use Rattle.job_plan.specs.Plans.{last_stage};
 
 use crate::counted_part::counted_part;
-use crate::end_part::EndPart;
+use crate::end_part::{EndPart, LastStage};
 use crate::leg::Leg;
 use crate::lent_part::lent_part;
 use crate::part::Part;
 use crate::part_sink::{EndBrand, PartSink};
 use crate::room::with_room;
+use crate::segment::Segment;
 use crate::source::Walked;
 use crate::stretches::feed_until;
 use batch_eval::Registers;
@@ -70,27 +70,27 @@ pub fn leaf_stored<'p, W: Stop>(
     if let Some(part) = counted_part(&leg.last, &walked.source, window) {
         return Ok(part);
     }
-    let none = with_room(alloc, leg, walked, window);
-    leaf_until_as::<Brand, W>(alloc, none, leg, walked, window, registers, stop)
+    let none = with_room(alloc, &leg.last, walked, window);
+    leaf_until_as::<Brand, W>(alloc, none, &leg.last, walked, window, registers, stop)
 }
 
 /// The part that `leaf_until` gives, after a given part, for an end whose type contracts can name.
 fn leaf_until_as<'p, K: EndBrand, W: Stop>(
     alloc: Global,
     part: Part<'p>,
-    leg: &'p Leg,
+    segment: &'p Segment,
     walked: Walked,
     window: Window,
     registers: &mut Registers,
     stop: &mut W,
 ) -> Result<Part<'p>, NoMemory>
-    requires last { leg.now.last.end ≡ K.last }
-    requires stage { last_stage (segment_in leg.now.last) ≡ K.stage }
+    requires last { segment.now.end ≡ K.last }
+    requires stage { number_after segment.now.stages ≡ K.stage }
     requires env { walked.env.now ≡ K.env }
     requires begun { part ≡ K.begun }
-    requires none { StandsFor (segment_in leg.now.last) walked.env.now part nothing }
+    requires none { EndsFor (end_in segment.now.end) (number_after segment.now.stages) walked.env.now part nothing }
     requires ordered { IsNotAfter window.from window.to }
-    ensures stands { IfOk result (λ made. StandsEnough (W.decides stop.old) (segment_in leg.now.last)
+    ensures stands { IfOk result (λ made. StandsEnough (W.decides stop.old) (segment_in segment.now)
         walked.entry.env.now made window.from (piece_of window.from window.to (walk_in walked.entry.source))) }
     ensures memory { OnErr result (keeps_items part.entry ≡ true) }
 {
@@ -99,15 +99,17 @@ fn leaf_until_as<'p, K: EndBrand, W: Stop>(
     }
     let sink = PartSink::<K> {
         part,
-        segment: &leg.last,
-        stage: leg.last.first_stage + leg.last.stages.len() as u32,
-        env: walked.env,
+        last: LastStage {
+            end: &segment.end,
+            number: segment.stages.next(),
+            env: walked.env,
+        },
         of: PhantomData,
     };
-    let line = leg.last.pipeline(walked.env);
+    let line = segment.stages.pipeline(walked.env);
     let ended = feed_until(&walked.source, line, window, registers, sink, stop)?;
     let Some((taken, fed)) = ended else {
-        return Ok(unwalked(alloc, leg, walked.env));
+        return Ok(Part::none(alloc, segment, walked.env));
     };
     let mut sink = taken;
     match fed {
@@ -123,18 +125,5 @@ pub fn unwalked<'p>(alloc: Global, leg: &'p Leg, env: &Env) -> Part<'p>
     ensures stands { StandsFor (segment_in leg.now.last) env.now result nothing }
     ensures keeps { keeps_items result ≡ end_keeps_items (end_in leg.now.last.end) }
 {
-    let last = &leg.last;
-    let stage = last.first_stage + last.stages.len() as u32;
-    Part::none(alloc, &last.end, stage, env)
-}
-
-/// The part of no item, for a piece that begins at the first item of its source. It takes no memory.
-pub(crate) fn first_part<'p>(alloc: Global, leg: &'p Leg, env: &Env) -> Part<'p>
-    ensures stands { StandsFor (segment_in leg.now.last) env.now result nothing }
-    ensures kind { may_search result ≡ false }
-    ensures keeps { keeps_items result ≡ end_keeps_items (end_in leg.now.last.end) }
-{
-    let last = &leg.last;
-    let stage = last.first_stage + last.stages.len() as u32;
-    Part::first(alloc, &last.end, stage, env)
+    Part::none(alloc, &leg.last, env)
 }

@@ -45,11 +45,10 @@ pub(crate) fn lent_part<'p>(
     let Base::Plain(plain) = source.base else {
         return Ok(None);
     };
-    let Some(cheap) = CheapStages::of(alloc, &segment.stages) else {
+    let Some(cheap) = CheapStages::of(alloc, &segment.stages.list) else {
         return Ok(None);
     };
-    let stage = segment.first_stage + segment.stages.len() as u32;
-    let mut part = PrefixPart::none(alloc, *prefix, stage);
+    let mut part = PrefixPart::none(alloc, *prefix, segment.stages.next());
     let Window { from, to } = window;
     let selected = source.window.within(from, to);
     push_sources(&mut part, cheap, plain.sources, 0, selected, registers)?;

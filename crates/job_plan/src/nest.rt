@@ -1,12 +1,11 @@
 //! A walk through several slices. Each of them is a sink with the next one inside.
 
-ghost use Rattle.std.specs.Prelude.{◌≡◌, ◌+◌, ◌≤◌, ◌<◌, ℕ, suc, [], IfNone, IfOk, IfSome, length};
+ghost use Rattle.std.specs.Prelude.{◌≡◌, ◌≤◌, ◌<◌, ℕ, suc, [], IfNone, IfOk, IfSome, length};
 ghost use Rattle.batch_eval.specs.Pipelines.{piped};
-ghost use Rattle.trace.specs.Stages.{pipe, stages_of};
 ghost use Rattle.trace.specs.Trace.{Trace};
 ghost use Rattle.slice_ops.specs.Slices.{slice_of, sliced};
 ghost use Rattle.job_plan.specs.Links.{line_in, open_link};
-ghost use Rattle.job_plan.specs.Parts.{link_in, links_in, walk_in};
+ghost use Rattle.job_plan.specs.Parts.{link_in, links_in, number_after, walk_in, walk_through};
 ghost use Rattle.job_plan.specs.Passages.{through_link};
 ghost use Rattle.job_plan.specs.Plans.{linked};
 
@@ -46,7 +45,7 @@ impl<'p> Chain<'p> {
         ensures fewer { IfSome result (λ before. length before.1.links.now < length self.entry.links.now) }
         ensures walk { IfSome result (λ before. (t : Trace)
             → linked (links_in self.entry.links.now) self.entry.line.env.now t
-            ≡ sliced (slice_of before.0.now.slice) (before.0.now.first_stage + length before.0.now.stages.items)
+            ≡ sliced (slice_of before.0.now.slice) (number_after before.0.now.stages)
             self.entry.line.env.now (piped before.1.line (linked (links_in before.1.links.now)
             self.entry.line.env.now t))) }
         ensures passes { IfSome result (λ before. before.1.pass_all.now ≡ self.entry.pass_all.now) }
@@ -62,14 +61,13 @@ impl<'p> Chain<'p> {
     /// The chain of these links and the stages of another one.
     fn up_to(self, links: &'p [Link], link: &'p Link) -> Chain<'p>
         ensures links { result.links.now ≡ links.now }
-        ensures line { (t : Trace) → piped result.line t
-            ≡ pipe link.now.first_stage (stages_of link.now.stages.items) self.entry.line.env.now t }
+        ensures line { (t : Trace) → piped result.line t ≡ walk_through link.now.stages self.entry.line.env.now t }
         ensures passes { result.pass_all.now ≡ self.entry.pass_all.now }
         ensures env { result.line.env.now ≡ self.entry.line.env.now }
     {
         Chain {
             links,
-            line: link.pipeline(self.line.env),
+            line: link.stages.pipeline(self.line.env),
             pass_all: self.pass_all,
         }
     }
@@ -174,7 +172,7 @@ fn feed_link<K: LinkBrand, N: Nest, S: Closing>(
     sink: S,
 ) -> Result<S::Made, NoMemory>
     requires slice { slice_of link.now.slice ≡ K.rest }
-    requires stage { link.now.first_stage + length link.now.stages.items ≡ K.stage }
+    requires stage { number_after link.now.stages ≡ K.stage }
     requires next { line_in next ≡ K.next }
     requires env { next.env.now ≡ K.env }
     requires few { length before.links.now ≤ N.depth }
@@ -190,7 +188,7 @@ fn feed_link<K: LinkBrand, N: Nest, S: Closing>(
         inner: Box::new(alloc, sink)?,
     };
     let junction = Junction {
-        stage: link.first_stage + link.stages.len() as u32,
+        stage: link.stages.next(),
         next,
     };
     let sink = LinkSink::<K, S> {

@@ -9,7 +9,7 @@ ghost use Rattle.trace.specs.declared.item.End.TheVariants as end;
 ghost use Rattle.trace.specs.declared.item.Item.{Item as item};
 ghost use Rattle.job_plan.specs.FoldFaults.{end_fault, fold_fault};
 ghost use Rattle.job_plan.specs.Parts.{EndsFor, StandsFor, end_in, end_keeps_items, is_fault};
-ghost use Rattle.job_plan.specs.Parts.{is_running, is_settled, keeps_items, may_search, settles};
+ghost use Rattle.job_plan.specs.Parts.{is_running, is_settled, keeps_items, may_search, number_after, settles};
 ghost use Rattle.job_plan.specs.Plans.{AbstractEnd, AbstractSegment, outcome_of};
 
 use crate::array_part::ArrayPart;
@@ -17,6 +17,7 @@ use crate::end_part::{EndPart, LastStage};
 use crate::ends::SegmentEnd;
 use crate::fold_part::FoldPart;
 use crate::outcome::{Outcome, answer_of, exact_answer};
+use crate::segment::Segment;
 use find_ops::FindPart;
 use lambda_values::Env;
 use prefix_walks::PrefixPart;
@@ -66,29 +67,31 @@ macro_rules! of_one_kind {
 }
 
 impl<'p> Part<'p> {
-    /// The part of no item. The end is the stage with this number. It takes no memory.
-    pub(crate) fn none(alloc: Global, end: &'p SegmentEnd, stage: u32, env: &Env) -> Part<'p>
-        ensures stands { EndsFor (end_in end.now) stage env.now result nothing }
-        ensures keeps { keeps_items result ≡ end_keeps_items (end_in end.now) }
+    /// The part of no item. It takes no memory.
+    pub(crate) fn none(alloc: Global, segment: &'p Segment, env: &Env) -> Part<'p>
+        ensures stands { EndsFor (end_in segment.now.end) (number_after segment.now.stages) env.now result nothing }
+        ensures keeps { keeps_items result ≡ end_keeps_items (end_in segment.now.end) }
     {
-        match end {
+        match &segment.end {
             SegmentEnd::Fold(fold) => Part::Fold(FoldPart::none(*fold)),
             SegmentEnd::Find(find) => Part::Find(FindPart::none(find, End::Done)),
             SegmentEnd::Array => Part::Array(ArrayPart::none(alloc)),
-            SegmentEnd::Prefix(prefix) => Part::Prefix(PrefixPart::none(alloc, *prefix, stage)),
+            SegmentEnd::Prefix(prefix) => {
+                Part::Prefix(PrefixPart::none(alloc, *prefix, segment.stages.next()))
+            }
             SegmentEnd::ExactSum => Part::Exact(SumPart::none()),
         }
     }
 
     /// The part of no item of a walk from the first item of a source on. It takes no memory.
-    pub(crate) fn first(alloc: Global, end: &'p SegmentEnd, stage: u32, env: &Env) -> Part<'p>
-        ensures stands { EndsFor (end_in end.now) stage env.now result nothing }
+    pub(crate) fn first(alloc: Global, segment: &'p Segment, env: &Env) -> Part<'p>
+        ensures stands { EndsFor (end_in segment.now.end) (number_after segment.now.stages) env.now result nothing }
         ensures kind { may_search result ≡ false }
-        ensures keeps { keeps_items result ≡ end_keeps_items (end_in end.now) }
+        ensures keeps { keeps_items result ≡ end_keeps_items (end_in segment.now.end) }
     {
-        match end {
+        match segment.end {
             SegmentEnd::ExactSum => Part::Exact(SumPart::first()),
-            other => Part::none(alloc, other, stage, env),
+            _ => Part::none(alloc, segment, env),
         }
     }
 
@@ -168,13 +171,13 @@ impl<'p> Part<'p> {
 impl<'a> EndPart for Part<'a> {
     ghost as_part = { λ part. part };
 
-    fn push(&mut self, last: LastStage<'_>, item: Item) -> Result<(), NoMemory> {
+    fn push(&mut self, last: LastStage<'_, '_>, item: Item) -> Result<(), NoMemory> {
         of_any_kind!(self, part => EndPart::push(part, last, item))
     }
 
     fn push_all<I: SourceItems>(
         &mut self,
-        last: LastStage<'_>,
+        last: LastStage<'_, '_>,
         source: &I,
         values: &[i64],
         room: &mut [i64],

@@ -16,9 +16,8 @@ ghost use Rattle.job_plan.specs.declared.ends.SegmentEnd.TheVariants as ends;
 
 use crate::end_part::{EndPart, LastStage};
 use crate::part::Part;
-use crate::segment::Segment;
 use batch_eval::{BatchSink, FlaggedLanes, LaneItems, accept_each_flagged};
-use lambda_values::{BoolExpr, Env};
+use lambda_values::BoolExpr;
 use std::marker::{Brand, PhantomData};
 use trace::{Fed, Flow, Item, LongSink, NoMemory};
 
@@ -48,28 +47,21 @@ impl EndBrand for Brand {
 #[derive(Drop)]
 pub(crate) struct PartSink<'p, 'e, K: EndBrand> {
     pub(crate) part: Part<'p>,
-    pub(crate) segment: &'p Segment,
-    pub(crate) stage: u32,
-    pub(crate) env: &'e Env,
+    pub(crate) last: LastStage<'p, 'e>,
     pub(crate) of: PhantomData<K>,
     ghost kind: { keeps_items part ≡ keeps_items K.begun },
 }
 
 impl<K: EndBrand> LongSink for PartSink<'_, '_, K> {
-    ghost has_taken = { λ sink items. (sink.segment.now.end ≡ K.last) × (sink.stage ≡ K.stage) × (sink.env.now ≡ K.env)
-        × HasTaken (end_in K.last) K.stage K.env K.begun sink.part items };
+    ghost has_taken = { λ sink items. (sink.last.end.now ≡ K.last) × (sink.last.number ≡ K.stage)
+        × (sink.last.env.now ≡ K.env) × HasTaken (end_in K.last) K.stage K.env K.begun sink.part items };
 
     ghost flow = { λ sink. flow_of (is_settled sink.part) };
 
     ghost takes_memory = { keeps_items K.begun ≡ true };
 
     fn accept(&mut self, item: Item) -> Result<Flow, NoMemory> {
-        let last = LastStage {
-            end: &self.segment.end,
-            number: self.stage,
-            env: self.env,
-        };
-        self.part.push(last, item)?;
+        self.part.push(self.last, item)?;
         if self.part.is_settled() {
             return Ok(Flow::Enough);
         }
@@ -79,16 +71,11 @@ impl<K: EndBrand> LongSink for PartSink<'_, '_, K> {
 
 impl<K: EndBrand> BatchSink for PartSink<'_, '_, K> {
     fn accept_lanes(&mut self, lanes: LaneItems<'_>, room: &mut [i64]) -> Result<Fed, NoMemory> {
-        let last = LastStage {
-            end: &self.segment.end,
-            number: self.stage,
-            env: self.env,
-        };
-        accept_all(&mut self.part, last, lanes, room)
+        accept_all(&mut self.part, self.last, lanes, room)
     }
 
     fn takes_flags(&self) -> bool {
-        self.segment.end.row().takes_flags
+        self.last.end.row().takes_flags
     }
 
     fn accept_flagged(&mut self, lanes: FlaggedLanes<'_>) -> Result<Fed, NoMemory> {
@@ -99,14 +86,14 @@ impl<K: EndBrand> BatchSink for PartSink<'_, '_, K> {
     }
 
     fn test(&self) -> Option<&BoolExpr> {
-        self.segment.end.row().test
+        self.last.end.row().test
     }
 }
 
 /// Puts items into a part, and answers whether it takes more.
 fn accept_all(
     part: &mut Part<'_>,
-    last: LastStage<'_>,
+    last: LastStage<'_, '_>,
     lanes: LaneItems<'_>,
     room: &mut [i64],
 ) -> Result<Fed, NoMemory>

@@ -11,7 +11,7 @@ impl<'a> EndPart for PrefixPart<'a> {
 
     fn push_all<I: SourceItems>(
         &mut self,
-        _last: LastStage<'_>,
+        _last: LastStage<'_, '_>,
         source: &I,
         values: &[i64],
         _room: &mut [i64],

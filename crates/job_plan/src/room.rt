@@ -2,12 +2,11 @@
 
 ghost use Rattle.std.specs.Prelude.{◌≡◌};
 ghost use Rattle.trace.specs.Trace.{nothing};
-ghost use Rattle.job_plan.specs.Parts.{StandsFor, end_in, end_keeps_items, keeps_items, segment_in};
+ghost use Rattle.job_plan.specs.Parts.{EndsFor, end_in, end_keeps_items, keeps_items, number_after};
 
 use crate::faultless::all_keep;
-use crate::leaves::{first_part, unwalked};
-use crate::leg::Leg;
 use crate::part::Part;
+use crate::segment::Segment;
 use crate::source::Walked;
 use lambda_values::Env;
 use prefix_walks::Window;
@@ -20,12 +19,18 @@ const MOST: u64 = 65_536;
 ///
 /// An array gets room for the values of all of them, if each item has one, so that it isn't copied as it grows. If that
 /// memory is refused, it grows as any other part does.
-pub(crate) fn with_room<'p>(alloc: Global, leg: &'p Leg, walked: Walked, window: Window) -> Part<'p>
-    ensures stands { StandsFor (segment_in leg.now.last) walked.entry.env.now result nothing }
-    ensures keeps { keeps_items result ≡ end_keeps_items (end_in leg.now.last.end) }
+pub(crate) fn with_room<'p>(
+    alloc: Global,
+    segment: &'p Segment,
+    walked: Walked,
+    window: Window,
+) -> Part<'p>
+    ensures stands { EndsFor (end_in segment.now.end) (number_after segment.now.stages) walked.entry.env.now
+        result nothing }
+    ensures keeps { keeps_items result ≡ end_keeps_items (end_in segment.now.end) }
 {
-    let part = begun(alloc, leg, window.from, walked.env);
-    if !all_keep(&leg.last.stages, false) {
+    let part = begun(alloc, segment, window.from, walked.env);
+    if !all_keep(&segment.stages.list, false) {
         return part;
     }
     let end = match window.to {
@@ -36,14 +41,14 @@ pub(crate) fn with_room<'p>(alloc: Global, leg: &'p Leg, walked: Walked, window:
 }
 
 /// The part of no item, for a piece that begins at this position.
-fn begun<'p>(alloc: Global, leg: &'p Leg, from: u64, env: &Env) -> Part<'p>
-    ensures stands { StandsFor (segment_in leg.now.last) env.now result nothing }
-    ensures keeps { keeps_items result ≡ end_keeps_items (end_in leg.now.last.end) }
+fn begun<'p>(alloc: Global, segment: &'p Segment, from: u64, env: &Env) -> Part<'p>
+    ensures stands { EndsFor (end_in segment.now.end) (number_after segment.now.stages) env.now result nothing }
+    ensures keeps { keeps_items result ≡ end_keeps_items (end_in segment.now.end) }
 {
     if from == 0 {
-        first_part(alloc, leg, env)
+        Part::first(alloc, segment, env)
     } else {
-        unwalked(alloc, leg, env)
+        Part::none(alloc, segment, env)
     }
 }
 

@@ -2,12 +2,13 @@
 //! between isn't kept.
 
 ghost use Rattle.std.specs.Prelude.{◌≡◌, false, IfOk};
-ghost use Rattle.job_plan.specs.Parts.{GoesOnFrom, StandsFor, end_in, leg_in, may_search, segment_in, walk_in};
-ghost use Rattle.job_plan.specs.Plans.{last_stage, linked, walk_of};
+ghost use Rattle.job_plan.specs.Parts.{GoesOnFrom, StandsFor, end_in, leg_in, may_search, number_after, walk_in};
+ghost use Rattle.job_plan.specs.Plans.{linked, walk_of};
 
-use crate::leaves::first_part;
+use crate::end_part::LastStage;
 use crate::leg::{Leg, Link};
 use crate::nest::{Chain, Deepest, Nest};
+use crate::numbered_stages::NumberedStages;
 use crate::part::Part;
 use crate::part_sink::{EndBrand, PartSink};
 use crate::source::Walked;
@@ -30,7 +31,7 @@ pub fn streamed<'p>(
         (linked (leg_in leg.now).links walked.entry.env.now (walk_in walked.entry.source))) }
     ensures kind { IfOk result (λ part. may_search part ≡ false) }
 {
-    let none = first_part(alloc, leg, walked.env);
+    let none = Part::first(alloc, &leg.last, walked.env);
     nested::<Brand>(alloc, none, leg, walked, registers)
 }
 
@@ -43,7 +44,7 @@ fn nested<'p, K: EndBrand>(
     registers: &mut Registers,
 ) -> Result<Part<'p>, NoMemory>
     requires last { leg.now.last.end ≡ K.last }
-    requires stage { last_stage (segment_in leg.now.last) ≡ K.stage }
+    requires stage { number_after leg.now.last.stages ≡ K.stage }
     requires env { walked.env.now ≡ K.env }
     requires begun { none ≡ K.begun }
     ensures { IfOk result (λ part. GoesOnFrom (end_in K.last) K.stage K.env K.begun part
@@ -53,19 +54,20 @@ fn nested<'p, K: EndBrand>(
     let last = &leg.last;
     let sink = PartSink::<K> {
         part: none,
-        segment: last,
-        stage: last.first_stage + last.stages.len() as u32,
-        env: walked.env,
+        last: LastStage {
+            end: &last.end,
+            number: last.stages.next(),
+            env: walked.env,
+        },
         of: PhantomData,
     };
     let pass_all = Link {
-        first_stage: 0,
-        stages: Vec::new(alloc),
+        stages: NumberedStages::none(alloc, 0),
         slice: Slice::Skip(0),
     };
     let chain = Chain {
         links: &leg.links,
-        line: last.pipeline(walked.env),
+        line: last.stages.pipeline(walked.env),
         pass_all: &pass_all,
     };
     Deepest::feed(alloc, chain, &walked.source, registers, sink)

@@ -47,8 +47,8 @@ fn add_leg(alloc: Global, shown: &mut String, leg: &Leg) -> Result<(), AllocErro
     if let Some(to) = leg.window.to {
         shown.push_str(format!(in alloc; " to {to}")?.as_str())?;
     }
-    let first = leg.last.first_stage;
-    let stages = leg.last.stages.len();
+    let first = leg.last.stages.first;
+    let stages = leg.last.stages.list.len();
     let text = format!(in alloc; ", {} slices, {stages} at {first}", leg.links.len())?;
     shown.push_str(text.as_str())
 }

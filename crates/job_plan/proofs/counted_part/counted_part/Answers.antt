@@ -9,7 +9,7 @@ use Rattle.job_plan.proofs.counted_part.counted_part.Goals as goal
 pub returns : goal.returns
 returns c = λ env.
     let walk = walk_in c.args.source.now in
-    let keep : all_keep true (stages_of c.args.segment.now.stages.items) ≡ true = search rules in
+    let keep : all_keep true (stages_of c.args.segment.now.stages.list.items) ≡ true = search rules in
     let size : c.size-size.result ≡ length walk.items = omega (arith, c.size-size.ensures, c.if-size-gt-MAX_SOURCE_SIZE.false) in
     counted_stands c.args.segment.now c.in-Fold.fold c.of_count-part.result c.args.window.from c.args.window.to walk c.within-count.result.1 c.piece_end.result env c.in-Fold.is keep
     (c.within-count.ensures.count ∙ ap (span c.args.window.from c.args.window.to) size) c.piece_end.ensures c.of_count-part.ensures

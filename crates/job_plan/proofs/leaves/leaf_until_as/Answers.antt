@@ -1,4 +1,4 @@
-use Rattle.std.proofs.Common.{◌≡◌, ◌+◌, List, [], ◌++◌, Ok, length, take, sym, ap, subst, ◌∙◌, rules}
+use Rattle.std.proofs.Common.{◌≡◌, List, [], ◌++◌, Ok, take, sym, ap, subst, ◌∙◌}
 use Rattle.trace.specs.declared.item.Item.{Item}
 use Rattle.trace.specs.declared.item.End.{End}
 use Rattle.trace.specs.declared.item.End.TheVariants as end
@@ -9,7 +9,7 @@ use Rattle.job_plan.specs.declared.part.Part.{Part}
 use Rattle.job_plan.specs.Parts.{EndsFor, HasTaken, StandsFor, end_in, is_settled, segment_in, walk_in}
 use Rattle.prefix_walks.specs.Pieces.{elements, piece_of}
 use Rattle.job_plan.specs.Plans.{last_stage, walk_of}
-use Rattle.job_plan.proofs.PartLemmas.{length-stages_of}
+use Rattle.job_plan.proofs.PartLemmas.{none_stands}
 use Rattle.job_plan.proofs.WalkLemmas.{after_enough, after_fault, after_more, enough_is_settled, same_ending, settled_first, taken_none, unpinned}
 use Rattle.job_plan.proofs.EnoughLemmas.{whole_enough, none_enough}
 use Rattle.job_plan.proofs.leaves.leaf_until_as.Goals.{in-More, in-Fault, in-Enough}
@@ -17,15 +17,15 @@ use Rattle.job_plan.proofs.leaves.leaf_until_as.Goals as goal
 
 pub returns-then-is_settled-clause-stands : goal.returns-then-is_settled-clause-stands
 returns-then-is_settled-clause-stands g c =
-    let s = segment_in c.args.leg.now.last in
+    let s = segment_in c.args.segment.now in
     let env = c.args.walked.env.now in
     whole_enough s env c.args.part (g.W.Stop.decides c.args.stop.now) c.args.window.from (piece_of c.args.window.from c.args.window.to (walk_in c.args.walked.source))
-    (settled_first s env c.args.part nothing (walk_in c.args.walked.source) c.args.window.from c.args.window.to (sym c.is_settled.ensures ∙ c.if-is_settled.true) c.requires.none)
+    (settled_first s env c.args.part nothing (walk_in c.args.walked.source) c.args.window.from c.args.window.to (sym c.is_settled.ensures ∙ c.if-is_settled.true) (none_stands s env c.args.part c.requires.none))
 
 pub returns-clause-stands : goal.returns-clause-stands
 returns-clause-stands g c =
-    let s = segment_in c.args.leg.now.last in
-    let e = end_in c.args.leg.now.last.end in
+    let s = segment_in c.args.segment.now in
+    let e = end_in c.args.segment.now.end in
     let f = end_in g.K.EndBrand.last in
     let m = last_stage s in
     let n = g.K.EndBrand.stage in
@@ -35,17 +35,15 @@ returns-clause-stands g c =
     let t = walk_in c.args.walked.source in
     let from = c.args.window.from in
     let to = c.args.window.to in
-    let len : c.len.result ≡ length c.args.leg.now.last.stages.items = search rules in
-    let stage = ap (λ k. c.args.leg.now.last.first_stage + k) (len ∙ sym (length-stages_of c.args.leg.now.last.stages.items)) in
     let ends : e ≡ f = ap end_in c.requires.last in
     let no_items : List Item = [] in
     let first : HasTaken f n named begun c.args.part no_items = subst (λ (b : Part). HasTaken f n named b c.args.part no_items) c.requires.begun (taken_none f n named c.args.part) in
     let walk = walk_of s env (trace (elements from to t.items) end.Done) in
-    let none : EndsFor e m env c.args.part (walk_of s env nothing) = c.requires.none in
+    let none : EndsFor e m env c.args.part (walk_of s env nothing) = none_stands s env c.args.part c.requires.none in
     let at_first : EndsFor f n named begun (walk_of s env nothing) = subst (λ (b : Part). EndsFor f n named b (walk_of s env nothing)) c.requires.begun (unpinned f e n m named env c.args.part (walk_of s env nothing) (sym ends) (sym c.requires.stage) (sym c.requires.env) none) in
     let w_before = walk_of s env nothing in
-    let has = λ (sink : PartSink g.row.K.Denot g.K.EndBrand) (items : List Item). (sink.segment.now.end ≡ g.K.EndBrand.last) × (sink.stage ≡ n) × (sink.env.now ≡ named) × HasTaken f n named begun sink.part items in
-    let piped_fed = (rw c.in-Some.is at c.in_ok-ended.ensures.fed) no_items (c.requires.last, stage ∙ c.requires.stage, c.requires.env, first) in
+    let has = λ (sink : PartSink g.row.K.Denot g.K.EndBrand) (items : List Item). (sink.last.end.now ≡ g.K.EndBrand.last) × (sink.last.number ≡ n) × (sink.last.env.now ≡ named) × HasTaken f n named begun sink.part items in
+    let piped_fed = (rw c.in-Some.is at c.in_ok-ended.ensures.fed) no_items (c.requires.last, c.next.ensures ∙ c.requires.stage, c.requires.env, first) in
     let fed = subst (λ (u : Trace). IsFed has no_items u (Ok c.in-Some.fed) c.in-Some.taken) (c.pipeline-line.ensures.walk (trace (elements from to t.items) end.Done)) piped_fed in
     let part = c.in-Some.taken.part in
     whole_enough s env c.match-fed.sink.0 (g.W.Stop.decides c.args.stop.now) from (piece_of from to t)
@@ -73,14 +71,12 @@ returns-clause-stands g c =
 
 pub returns-in_default-clause-stands : goal.returns-in_default-clause-stands
 returns-in_default-clause-stands g c =
-    let s = segment_in c.args.leg.now.last in
+    let s = segment_in c.args.segment.now in
     let f = end_in g.K.EndBrand.last in
     let n = g.K.EndBrand.stage in
     let env = c.args.walked.env.now in
     let begun = g.K.EndBrand.begun in
-    let len : c.len.result ≡ length c.args.leg.now.last.stages.items = search rules in
-    let stage = ap (λ k. c.args.leg.now.last.first_stage + k) (len ∙ sym (length-stages_of c.args.leg.now.last.stages.items)) in
     let no_items : List Item = [] in
     let first : HasTaken f n g.K.EndBrand.env begun c.args.part no_items = subst (λ (b : Part). HasTaken f n g.K.EndBrand.env b c.args.part no_items) c.requires.begun (taken_none f n g.K.EndBrand.env c.args.part) in
-    let known = (rw c.in_default.is at c.in_ok-ended.ensures.left) no_items (c.requires.last, stage ∙ c.requires.stage, c.requires.env, first) in
-    none_enough s env c.unwalked.result (g.W.Stop.decides c.args.stop.now) c.args.window.from (piece_of c.args.window.from c.args.window.to (walk_in c.args.walked.source)) known c.unwalked.ensures.stands
+    let known = (rw c.in_default.is at c.in_ok-ended.ensures.left) no_items (c.requires.last, c.next.ensures ∙ c.requires.stage, c.requires.env, first) in
+    none_enough s env c.none.result (g.W.Stop.decides c.args.stop.now) c.args.window.from (piece_of c.args.window.from c.args.window.to (walk_in c.args.walked.source)) known (none_stands s env c.none.result c.none.ensures.stands)

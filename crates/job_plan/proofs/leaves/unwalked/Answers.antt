@@ -1,15 +1,6 @@
-use Rattle.std.proofs.Common.{◌≡◌, ◌+◌, length, sym, ap, subst, ◌∙◌, rules}
-use Rattle.trace.specs.declared.item.End.TheVariants as end
-use Rattle.trace.specs.Trace.{Trace, nothing}
-use Rattle.trace.proofs.JoinLemmas.{pipe_ended}
-use Rattle.job_plan.specs.Parts.{EndsFor, segment_in}
-use Rattle.job_plan.proofs.PartLemmas.{length-stages_of}
+use Rattle.job_plan.specs.Parts.{segment_in}
+use Rattle.job_plan.proofs.PartLemmas.{none_stands}
 use Rattle.job_plan.proofs.leaves.unwalked.Goals as goal
 
 pub returns-clause-stands : goal.returns-clause-stands
-returns-clause-stands c =
-    let s = segment_in c.args.leg.now.last in
-    let env = c.args.env.now in
-    let len : c.len.result ≡ length c.args.leg.now.last.stages.items = search rules in
-    let stage = ap (λ m. c.args.leg.now.last.first_stage + m) (len ∙ sym (length-stages_of c.args.leg.now.last.stages.items)) in
-    subst (λ (t : Trace). EndsFor s.ending (s.first + length s.stages) env c.none.result t) (sym (pipe_ended s.first s.stages env end.Done)) (subst (λ m. EndsFor s.ending m env c.none.result nothing) stage c.none.ensures.stands)
+returns-clause-stands c = none_stands (segment_in c.args.leg.now.last) c.args.env.now c.none.result c.none.ensures.stands

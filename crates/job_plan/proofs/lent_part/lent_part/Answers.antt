@@ -1,4 +1,4 @@
-use Rattle.std.proofs.Common.{◌≡◌, ◌+◌, ◌<◌, [], length, sym, ap, subst, ◌∙◌, arith, rules}
+use Rattle.std.proofs.Common.{◌≡◌, ◌<◌, [], length, sym, ap, subst, ◌∙◌, arith}
 use Rattle.trace.specs.declared.item.End.TheVariants as end
 use Rattle.trace.specs.Cover.{placed}
 use Rattle.trace.proofs.Sources.{length-placed}
@@ -8,7 +8,7 @@ use Rattle.job_plan.specs.Bases.{base_walk}
 use Rattle.trace.specs.Stages.{stages_of}
 use Rattle.trace.specs.Trace.{trace, nothing, append}
 use Rattle.prefix_walks.specs.CheapStages.{AreCheap, left_by}
-use Rattle.job_plan.specs.Parts.{walk_in}
+use Rattle.job_plan.specs.Parts.{number_after, walk_in}
 use Rattle.prefix_walks.specs.Pieces.{elements, piece_of}
 use Rattle.prefix_walks.specs.Scans.{scan, scan_append}
 use Rattle.job_plan.proofs.LentLemmas.{lent_stands, piece_again}
@@ -18,15 +18,14 @@ pub returns-clause-stands : goal.returns-clause-stands
 returns-clause-stands c = λ env.
     let s = c.args.segment.now in
     let p = c.in-Prefix.prefix in
-    let gs = stages_of s.stages.items in
+    let gs = stages_of s.stages.list.items in
     let t = walk_in c.args.source.now in
     let from = c.args.window.from in
     let to = c.args.window.to in
-    let same : c.in-Some.cheap.stages.now ≡ s.stages.items = c.in-Some.ensures ∙ c.deref.ensures.value in
+    let same : c.in-Some.cheap.stages.now ≡ s.stages.list.items = c.in-Some.ensures ∙ c.deref.ensures.value in
     let plain : AreCheap gs = subst (λ ss. AreCheap (stages_of ss)) same c.in-Some.cheap.cheap in
-    let len : c.len.result ≡ length s.stages.items = search rules in
-    let n = s.first_stage + length s.stages.items in
-    let none : c.none-part.result ≡ scan p.op p.range n nothing = c.none-part.ensures ∙ ap (λ m. scan p.op p.range (s.first_stage + m) nothing) len in
+    let n = number_after s.stages in
+    let none : c.none-part.result ≡ scan p.op p.range n nothing = c.none-part.ensures ∙ ap (λ m. scan p.op p.range m nothing) c.next.ensures in
     let plain_walk = c.in-Plain.plain in
     let vs = values_of (sources_of plain_walk.sources.now) in
     let l = length-placed 0 vs in

@@ -1,4 +1,4 @@
-use Rattle.std.proofs.Common.{◌≡◌, ◌+◌, [], length, sym, ap, subst, ◌∙◌, rules}
+use Rattle.std.proofs.Common.{[], sym, subst, ◌∙◌}
 use Rattle.slice_ops.specs.Rests.{rest_of}
 use Rattle.job_plan.proofs.NestLemmas.{begun_as}
 use Rattle.job_plan.proofs.PassageLemmas.{passed_first}
@@ -9,14 +9,12 @@ feed-requires-clause-begun g c =
     let k = g.K.LinkBrand in
     let h = g.S.LongSink.has_taken in
     let f = g.S.LongSink.flow in
-    let link = c.args.link.now in
-    let len : c.len.result ≡ length link.stages.items = search rules in
     let rest = c.of-rest.ensures ∙ c.requires.slice in
     let b = c.in_ok-new.field-0.value in
     let begun = subst (λ (s : g.row.S.Denot). h s []) (sym c.in_ok-new.ensures.ok) c.requires.begun in
     let d = rest_of c.of-rest.result in (
       c.requires.next,
-      ap (λ n. link.first_stage + n) len ∙ c.requires.stage,
+      c.next.ensures ∙ c.requires.stage,
       c.requires.env,
       begun_as h f d k.rest k.stage k.next k.env c.of.result b rest (passed_first h f d k.stage k.next k.env c.of.result b begun c.of.ensures),
     )

@@ -1,20 +1,16 @@
-use Rattle.std.proofs.Common.{◌≡◌, ◌+◌, length, sym, ap, subst, ◌∙◌, rules}
+use Rattle.std.proofs.Common.{subst, ◌∙◌}
 use Rattle.batch_eval.specs.Pipelines.{piped}
 use Rattle.trace.specs.Trace.{Trace}
 use Rattle.job_plan.specs.Parts.{GoesOnFrom, end_in, leg_in, links_in, walk_in}
 use Rattle.job_plan.specs.Plans.{linked}
 use Rattle.job_plan.proofs.NestLemmas.{begun_with}
 use Rattle.job_plan.proofs.PassageLemmas.{if_ok_map}
-use Rattle.job_plan.proofs.PartLemmas.{length-stages_of}
 use Rattle.job_plan.proofs.streaming.nested.Goals as goal
 
 pub feed-requires-clause-begun : goal.feed-requires-clause-begun
 feed-requires-clause-begun g c =
     let k = g.K.EndBrand in
-    let last = c.args.leg.now.last in
-    let len : c.len.result ≡ length last.stages.items = search rules in
-    let stage = ap (λ n. last.first_stage + n) (len ∙ sym (length-stages_of last.stages.items)) in
-    (c.requires.last, stage ∙ c.requires.stage, c.requires.env, begun_with (end_in k.last) k.stage k.env c.args.none k.begun c.requires.begun)
+    (c.requires.last, c.next.ensures ∙ c.requires.stage, c.requires.env, begun_with (end_in k.last) k.stage k.env c.args.none k.begun c.requires.begun)
 
 pub returns : goal.returns
 returns g c =

@@ -10,7 +10,7 @@ pub returns-then-all_calm : goal.returns-then-all_calm
 returns-then-all_calm c = λ n env ss.
     let b = c.args.self.now in
     let none : length b.links.items ≡ 0 = search rules in
-    let calm : all_calm (stages_of b.stages.items) ≡ true = search rules in
+    let calm : all_calm (stages_of b.stages.list.items) ≡ true = search rules in
     let first : c.keeps_first.result ≡ true = search rules in
     first_found b (no_items b.links.items none) calm n env ss
     ∙ ap (λ (e : AbstractEnd). ended e n env (begun_walk b env ss)) (sym (c.keeps_first.ensures first))

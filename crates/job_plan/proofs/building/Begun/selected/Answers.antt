@@ -10,20 +10,20 @@ use Rattle.job_plan.proofs.building.Begun.selected.Goals as goal
 pub returns-in-Limit-clause-window : goal.returns-in-Limit-clause-window
 returns-in-Limit-clause-window c =
     let b = c.args.self.now in
-    let gs = stages_of b.stages.items in
+    let gs = stages_of b.stages.list.items in
     let keep : all_keep false gs ≡ true = search rules in
     let some : 0 < c.in-Limit.count = search rules in
     some_map c.limited.result
     (λ w h m env t clean.
-    limit_selects b.first_stage gs c.in-Limit.count keep (windowed b.window.from b.window.to t) (windowed w.from w.to t) (limits b.window.from b.window.to c.in-Limit.count w.from w.to t some clean h) m env
-    ∙ sym (ap (λ d. sliced (slice_of d) m env (pipe b.first_stage gs env (windowed b.window.from b.window.to t))) c.in-Limit.is)) c.limited.ensures.some
+    limit_selects b.stages.first gs c.in-Limit.count keep (windowed b.window.from b.window.to t) (windowed w.from w.to t) (limits b.window.from b.window.to c.in-Limit.count w.from w.to t some clean h) m env
+    ∙ sym (ap (λ d. sliced (slice_of d) m env (pipe b.stages.first gs env (windowed b.window.from b.window.to t))) c.in-Limit.is)) c.limited.ensures.some
 
 pub returns-in-Skip-clause-window : goal.returns-in-Skip-clause-window
 returns-in-Skip-clause-window c =
     let b = c.args.self.now in
-    let gs = stages_of b.stages.items in
+    let gs = stages_of b.stages.list.items in
     let keep : all_keep true gs ≡ true = search rules in
     some_map c.skipped.result
     (λ w h m env t clean.
-    skip_selects b.first_stage gs c.in-Skip.count keep (windowed b.window.from b.window.to t) (windowed w.from w.to t) (skips b.window.from b.window.to c.in-Skip.count w.from w.to t h) m env
-    ∙ sym (ap (λ d. sliced (slice_of d) m env (pipe b.first_stage gs env (windowed b.window.from b.window.to t))) c.in-Skip.is)) c.skipped.ensures.some
+    skip_selects b.stages.first gs c.in-Skip.count keep (windowed b.window.from b.window.to t) (windowed w.from w.to t) (skips b.window.from b.window.to c.in-Skip.count w.from w.to t h) m env
+    ∙ sym (ap (λ d. sliced (slice_of d) m env (pipe b.stages.first gs env (windowed b.window.from b.window.to t))) c.in-Skip.is)) c.skipped.ensures.some

@@ -1,12 +1,10 @@
-use Rattle.std.proofs.Common.{◌+◌, ℕ, List, length, sym, ap, ◌∙◌}
+use Rattle.std.proofs.Common.{List, sym, ap, ◌∙◌}
 use Rattle.batch_eval.specs.Pipelines.{piped}
 use Rattle.slice_ops.specs.Slices.{slice_of, sliced}
-use Rattle.trace.specs.Stages.{pipe, stages_of}
 use Rattle.job_plan.specs.declared.leg.Link.{Link}
-use Rattle.job_plan.specs.Parts.{links_in}
+use Rattle.job_plan.specs.Parts.{links_in, number_after}
 use Rattle.job_plan.specs.Plans.{linked}
 use Rattle.job_plan.proofs.LinkLemmas.{last_linked}
-use Rattle.job_plan.proofs.PartLemmas.{length-stages_of}
 use Rattle.job_plan.proofs.nest.Chain.before.Goals as goal
 
 pub returns-in-Some-clause-walk : goal.returns-in-Some-clause-walk
@@ -17,6 +15,5 @@ returns-in-Some-clause-walk c = λ t.
     let u = linked (links_in links) env t in
     let up = c.up_to.ensures in
     last_linked c.args.self.links.now links link env t c.in-Some.ensures.cases.0
-    ∙ ap (λ (n : ℕ). sliced (slice_of link.slice) (link.first_stage + n) env (pipe link.first_stage (stages_of link.stages.items) env u)) (length-stages_of link.stages.items)
-    ∙ ap (sliced (slice_of link.slice) (link.first_stage + length link.stages.items) env)
+    ∙ ap (sliced (slice_of link.slice) (number_after link.stages) env)
     (sym (up.line u) ∙ ap (λ (ls : List Link). piped c.up_to.result.line (linked (links_in ls) env t)) (sym up.links))

@@ -1,9 +1,9 @@
-use Rattle.std.proofs.Common.{◌≡◌, ◌+◌, length, sym, ap, subst, ◌∙◌}
+use Rattle.std.proofs.Common.{◌≡◌, sym, ap, subst, ◌∙◌}
 use Rattle.batch_eval.specs.Pipelines.{piped}
 use Rattle.lambda_values.specs.Earlier.{Numbers}
 use Rattle.slice_ops.specs.Slices.{slice_of, sliced}
 use Rattle.trace.specs.Trace.{Trace}
-use Rattle.job_plan.specs.Parts.{links_in, walk_in}
+use Rattle.job_plan.specs.Parts.{links_in, number_after, walk_in}
 use Rattle.job_plan.specs.Plans.{linked}
 use Rattle.job_plan.proofs.PassageLemmas.{if_ok_map}
 use Rattle.job_plan.proofs.nest.NextNest.feed.Goals as goal
@@ -15,7 +15,7 @@ returns-in-Some g c =
     let t = walk_in c.args.source.now in
     let link = c.in-Some.link.now in
     let before = c.in-Some.before in
-    let through : Numbers → Trace = λ e. sliced (slice_of link.slice) (link.first_stage + length link.stages.items) env (piped before.line (linked (links_in before.links.now) e t)) in
+    let through : Numbers → Trace = λ e. sliced (slice_of link.slice) (number_after link.stages) env (piped before.line (linked (links_in before.links.now) e t)) in
     let whole : linked (links_in chain.links.now) env t ≡ through before.line.env.now = c.in-Some.ensures.walk t ∙ ap through (sym c.in-Some.ensures.env) in
     if_ok_map _ _ c.feed_link.result
     (λ made stands. subst (λ (u : Trace). g.S.Closing.stands made (piped chain.line u)) (sym whole) stands)

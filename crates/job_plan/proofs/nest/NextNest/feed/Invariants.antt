@@ -1,7 +1,7 @@
-use Rattle.std.proofs.Common.{◌+◌, length}
 use Rattle.slice_ops.specs.Slices.{slice_of}
 use Rattle.job_plan.specs.Links.{line_in}
+use Rattle.job_plan.specs.Parts.{number_after}
 use Rattle.job_plan.proofs.nest.NextNest.feed.Given as goal
 
 abbrev pub ghosts-feed_link : goal.ghosts-feed_link
-ghosts-feed_link g a = record { rest = slice_of a.link.now.slice; stage = a.link.now.first_stage + length a.link.now.stages.items; next = line_in a.next; env = a.next.env.now }
+ghosts-feed_link g a = record { rest = slice_of a.link.now.slice; stage = number_after a.link.now.stages; next = line_in a.next; env = a.next.env.now }
