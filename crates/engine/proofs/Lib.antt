@@ -1,4 +1,3 @@
-pub mod NamedTexts
 mod OutcomeLemmas
 mod RunLemmas
 mod WorkedFiles

@@ -1,12 +1,12 @@
 -- One report more, and the report of a whole table.
 use Rattle.std.proofs.Common.{◌≡◌, ℕ, List, [], ◌∷◌, ◌++◌, None, Some, refl, ap, subst, ◌∙◌}
 use Rattle.columns.specs.Table.{table_of}
-use Rattle.engine.specs.Run.{IsReport, report_in}
 use Rattle.job_language.specs.Jobs.{AbstractJob, names_of}
 use Rattle.job_meaning.specs.declared.answer.Answer.{Answer}
 use Rattle.job_meaning.specs.FileAnswers.{meaning_of}
 use Rattle.merge_run.specs.declared.part_report.PartReport.{PartReport}
 use Rattle.merge_run.specs.Merged.{AreReportsOf, IsMergeOf, IsReportOf, IsTableOf}
+use Rattle.report.specs.Reports.{IsReport, report_in}
 use Rattle.report_merge.specs.Cuts.{IsCut}
 use Rattle.report_merge.specs.declared.part.PartAnswers.{PartAnswers}
 use Rattle.report_merge.specs.Mergeable.{first_unmergeable}

@@ -2,7 +2,6 @@
 use Rattle.std.specs.Prelude.{◌≡◌, ◌≢◌, ℕ, List, [], ◌∷◌, None, Some, slice_index_or}
 use Rattle.columns.specs.Cells.{records_of}
 use Rattle.columns.specs.Table.{NamedColumn}
-use Rattle.engine.specs.Run.{IsReport, report_in}
 use Rattle.job_language.specs.Files.{IsRefused, SpellsJobs}
 use Rattle.job_language.specs.Jobs.{AbstractJob, names_of}
 use Rattle.job_language.specs.declared.fault.Cause.TheVariants as cause
@@ -12,6 +11,7 @@ use Rattle.merge_run.specs.declared.fault.ReportMergeFault.{ReportMergeFault}
 use Rattle.merge_run.specs.declared.fault.ReportMergeFault.TheVariants.{Jobs, Unmergeable as CannotMerge, NoPart, Part as OfPart, TooManyRows, NoMemory}
 use Rattle.merge_run.specs.declared.part_report.PartReport.{PartReport}
 use Rattle.report.specs.Json.{report_json}
+use Rattle.report.specs.Reports.{IsReport, report_in}
 use Rattle.report_merge.specs.Cuts.{AreBare, IsCut, all_rows}
 use Rattle.report_merge.specs.Mergeable.{first_unmergeable}
 use Rattle.report_merge.specs.Merging.{Part, merged}

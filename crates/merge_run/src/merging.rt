@@ -1,11 +1,11 @@
 //! The report of a whole table, from the reports of its parts.
 ghost use Rattle.std.specs.Prelude.{◌≡◌, ℕ, [], All, IfErr, IfOk, List, None, length, slice_index_or};
 ghost use Rattle.columns.specs.Table.{NamedColumn};
-ghost use Rattle.engine.specs.Run.{report_in};
 ghost use Rattle.job_language.specs.Files.{SpellsJobs};
 ghost use Rattle.job_language.specs.Jobs.{jobs_of, names_of};
 ghost use Rattle.merge_run.specs.Merged.{AreReportsOf, IsMerged, IsMergeOf, IsMergeRefusal};
 ghost use Rattle.report.specs.Named.{IsNamed, IsText};
+ghost use Rattle.report.specs.Reports.{report_in};
 ghost use Rattle.report_merge.specs.Cuts.{AreBare};
 ghost use Rattle.report_merge.specs.Mergeable.{first_unmergeable};
 ghost use Rattle.report_merge.specs.Merging.{parts_of};

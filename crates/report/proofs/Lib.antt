@@ -1,5 +1,6 @@
 mod ArrayLemmas
 pub mod EachNamed
+pub mod NamedTexts
 mod NumberLemmas
 mod PieceLemmas
 mod SentPieces

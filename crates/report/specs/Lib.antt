@@ -5,6 +5,7 @@ pub mod Json
 pub mod Named
 pub mod Numbers
 pub mod Pieces
+pub mod Reports
 pub mod Runs
 pub mod Text
 pub mod Worked

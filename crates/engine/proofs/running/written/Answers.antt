@@ -7,7 +7,7 @@ use Rattle.run_settings.specs.SettingsParts.{form_of}
 use Rattle.job_meaning.specs.FileAnswers.{meaning_of}
 use Rattle.report.specs.Named.{IsNamed, IsText}
 use Rattle.report.proofs.EachNamed.{paired, named}
-use Rattle.engine.proofs.NamedTexts.{names_text}
+use Rattle.report.proofs.NamedTexts.{names_text}
 use Rattle.engine.proofs.running.written.Goals as goal
 use Rattle.engine.proofs.running.written.Given.{Over}
 use Rattle.engine.proofs.running.written.Goals.{After-deref-2}

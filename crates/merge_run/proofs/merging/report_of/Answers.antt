@@ -1,13 +1,13 @@
 use Rattle.std.proofs.Common.{ℕ, List, length, ap, sym, subst, ◌∙◌}
 use Rattle.std.specs.Prelude.{All}
-use Rattle.engine.specs.Run.{report_in}
 use Rattle.job_language.specs.Jobs.{jobs_of, names_of}
 use Rattle.job_meaning.specs.declared.answer.Answer.{Answer}
 use Rattle.report.specs.Named.{IsNamed, IsText}
+use Rattle.report.specs.Reports.{report_in}
 use Rattle.report_merge.specs.Merging.{parts_of}
+use Rattle.report.proofs.NamedTexts.{names_text}
 use Rattle.merge_run.proofs.MergedLemmas.{length_merged}
 use Rattle.merge_run.proofs.NamedAnswers.{length_names, merged_named}
-use Rattle.engine.proofs.NamedTexts.{names_text}
 use Rattle.merge_run.proofs.ReportLemmas.{merge_of}
 use Rattle.merge_run.proofs.merging.report_of.Goals as goal
 
