@@ -1,12 +1,14 @@
 -- Booleans in registers: what an expression's definition says of booleans, said of flags.
-use Rattle.std.proofs.Common.{◌≡◌, ℤ, pos, Bool, true, false, not, Result, Ok, Err, refl}
+use Rattle.std.proofs.Common.{◌≡◌, ◌∙◌, ℕ, ◌%◌, ◌^◌, ℤ, pos, negsuc, Bool, true, false, not, Result, Ok, Err, FitsSigned, ap, of_z, refl, rules, subst, to_z, w64}
+use Rattle.std.proofs.lemmas.Nat.{and_mask}
+use Rattle.std.specs.Int.{int_bit_and}
 use Rattle.lambda_values.specs.declared.fault.FaultKind.{FaultKind}
 use Rattle.lambda_values.specs.declared.operator.Comparison.{Comparison}
 use Rattle.lambda_values.specs.declared.operator.Comparison.TheVariants as comparison
 use Rattle.lambda_values.specs.Operators.{on, comparison_value}
 use Rattle.lambda_values.specs.Value.{chosen}
 use Rattle.batch_eval.specs.Choices.{between, chosen_value}
-use Rattle.batch_eval.specs.Lanes.{compared, flagged}
+use Rattle.batch_eval.specs.Lanes.{compared, flag_of, flagged, is_set}
 
 pub flagged_between : (c : Comparison) (a b : Result ℤ FaultKind) → flagged (on a (λ v. on b (λ w. Ok (comparison_value c v w)))) ≡ between (compared c) a b
 flagged_between c (Err e) b = refl
@@ -22,3 +24,18 @@ pub flagged_chosen : (c a b : Result Bool FaultKind) → flagged (on c (λ t. ch
 flagged_chosen (Err e) a b = refl
 flagged_chosen (Ok true) a b = refl
 flagged_chosen (Ok false) a b = refl
+
+-- all bits of a number
+pub all_bits : (z : ℤ) → FitsSigned w64 z → int_bit_and w64 z (negsuc 0) ≡ z
+all_bits z fits = ap (λ (n : ℕ). to_z w64 n) (and_mask (of_z w64 z) 64 ∙ below) ∙ same where
+  below : of_z w64 z % 2 ^ 64 ≡ of_z w64 z
+  below = search rules
+
+  same : to_z w64 (of_z w64 z) ≡ z
+  same = search rules
+
+-- a boolean in a register
+pub flag_is : (r : Result Bool FaultKind) (z : ℤ) → flagged r ≡ Ok z → flag_of (is_set z) ≡ z
+flag_is (Ok true) z is = let same : negsuc 0 ≡ z = cc in subst (λ (z : ℤ). flag_of (is_set z) ≡ z) same refl
+flag_is (Ok false) z is = let same : pos 0 ≡ z = cc in subst (λ (z : ℤ). flag_of (is_set z) ≡ z) same refl
+flag_is (Err kind) z is = cc

@@ -10,7 +10,7 @@ use Rattle.trace.specs.declared.item.End.TheVariants as end
 use Rattle.trace.specs.declared.feeding.Fed.TheVariants as fed
 use Rattle.trace.specs.Trace.{trace}
 use Rattle.trace.specs.Sinks.{IsFed}
-use Rattle.batch_eval.specs.Lanes.{at, is_set}
+use Rattle.batch_eval.specs.Lanes.{at, flag_of, is_set}
 use Rattle.batch_eval.specs.Batches.{flagged_items, flagged_values, gathered, item_at}
 use Rattle.batch_eval.proofs.BatchWalkLemmas.{IsFed_enough, IsFed_refused}
 use Rattle.batch_eval.proofs.Walks.{gathered_same, later}
@@ -23,27 +23,27 @@ at_seam : (xs ys : List Item) (y : Item) → slice_get (xs ++ y ∷ ys) (length 
 at_seam xs ys y =
     slice_get-get_or (xs ++ y ∷ ys) (length xs) y (omega (arith, length-append xs (y ∷ ys))) ∙ ap (λ (x : Item). Some x) (get_or_at xs y ys y (length xs) refl)
 
-module _ (start : Option ℕ) (origins : List ℕ) (values flags : List ℤ) where
+module _ (p : ℤ → Bool) (start : Option ℕ) (origins : List ℕ) (values flags : List ℤ) where
   -- the items of the first n lanes
   abbrev pub front : ℕ → List Item
-  front n = gathered n (λ k. if is_set (at flags k) then item_at start origins values k ∷ [] else [])
+  front n = gathered n (λ k. if p (at flags k) then item_at start origins values k ∷ [] else [])
 
   -- a lane more
-  pub front_set : (n : ℕ) → is_set (at flags n) ≡ true → front (n + 1) ≡ front n ++ item_at start origins values n ∷ []
+  pub front_set : (n : ℕ) → p (at flags n) ≡ true → front (n + 1) ≡ front n ++ item_at start origins values n ∷ []
   front_set n set = rw (add-one, set) refl
 
-  pub front_unset : (n : ℕ) → is_set (at flags n) ≡ false → front (n + 1) ≡ front n
+  pub front_unset : (n : ℕ) → p (at flags n) ≡ false → front (n + 1) ≡ front n
   front_unset n unset = rw (add-one, unset) (append-nil (front n))
 
   -- all items are those before a lane that is set, its own, and those after it
-  around : (n : ℕ) → n < length flags → is_set (at flags n) ≡ true → (rest : List Item) × (flagged_items start origins values flags ≡ front n ++ item_at start origins values n ∷ rest)
+  around : (n : ℕ) → n < length flags → p (at flags n) ≡ true → (rest : List Item) × (flagged_items p start origins values flags ≡ front n ++ item_at start origins values n ∷ rest)
   around n within set =
       let x = item_at start origins values n in
-      let all = later (n + 1) (length flags) (λ k. if is_set (at flags k) then item_at start origins values k ∷ [] else []) (omega arith) in
+      let all = later (n + 1) (length flags) (λ k. if p (at flags k) then item_at start origins values k ∷ [] else []) (omega arith) in
       (all.0, all.1 ∙ ap (λ (ys : List Item). ys ++ all.0) (front_set n set) ∙ append_assoc (front n) (x ∷ []) all.0)
 
   module _ {S : Type 0} (h : S → List Item → Type 0) (xs : List Item) (n : ℕ) (s : S) where
-    pub flagged_enough : n < length flags → is_set (at flags n) ≡ true → h s ((xs ++ front n) ++ item_at start origins values n ∷ []) → IsFed h xs (trace (flagged_items start origins values flags) end.Done) (Ok fed.Enough) s
+    pub flagged_enough : n < length flags → p (at flags n) ≡ true → h s ((xs ++ front n) ++ item_at start origins values n ∷ []) → IsFed h xs (trace (flagged_items p start origins values flags) end.Done) (Ok fed.Enough) s
     flagged_enough within set took =
         let x = item_at start origins values n in
         let all = around n within set in
@@ -53,7 +53,7 @@ module _ (start : Option ℕ) (origins : List ℕ) (values flags : List ℤ) whe
         subst (λ (ys : List Item). IsFed h xs (trace ys end.Done) (Ok fed.Enough) s) (sym all.1)
         (IsFed_enough h xs (trace whole end.Done) (length (front n)) x s (at_seam (front n) all.0 x) given)
 
-    pub flagged_refused : n < length flags → is_set (at flags n) ≡ true → (e : AllocError) → h s (xs ++ front n) → IsFed h xs (trace (flagged_items start origins values flags) end.Done) (Err e) s
+    pub flagged_refused : n < length flags → p (at flags n) ≡ true → (e : AllocError) → h s (xs ++ front n) → IsFed h xs (trace (flagged_items p start origins values flags) end.Done) (Err e) s
     flagged_refused within set e took =
         let x = item_at start origins values n in
         let all = around n within set in
@@ -64,19 +64,23 @@ module _ (start : Option ℕ) (origins : List ℕ) (values flags : List ℤ) whe
         (IsFed_refused h xs (trace whole end.Done) (length (front n)) x e s (at_seam (front n) all.0 x) given)
 
   -- the values of the items of the first n lanes
-  front_values : (n : ℕ) → map (λ (x : Item). x.value) (front n) ≡ flagged_values values flags n
+  front_values : (n : ℕ) → map (λ (x : Item). x.value) (front n) ≡ flagged_values p values flags n
   front_values zero = refl
-  front_values (suc n) = by_flag (is_set (at flags n)) (front_values n) where
-    by_flag : (b : Bool) → map (λ (x : Item). x.value) (front n) ≡ flagged_values values flags n → map (λ (x : Item). x.value) (front n ++ item_if b (item_at start origins values n)) ≡ flagged_values values flags n ++ (if b then at values n ∷ [] else [])
+  front_values (suc n) = by_flag (p (at flags n)) (front_values n) where
+    by_flag : (b : Bool) → map (λ (x : Item). x.value) (front n) ≡ flagged_values p values flags n → map (λ (x : Item). x.value) (front n ++ item_if b (item_at start origins values n)) ≡ flagged_values p values flags n ++ (if b then at values n ∷ [] else [])
     by_flag true before = map-append (λ (x : Item). x.value) (front n) (item_at start origins values n ∷ []) ∙ ap (λ (vs : List ℤ). vs ++ at values n ∷ []) before
-    by_flag false before = ap (λ (ys : List Item). map (λ (x : Item). x.value) ys) (append-nil (front n)) ∙ before ∙ sym (append-nil (flagged_values values flags n))
+    by_flag false before = ap (λ (ys : List Item). map (λ (x : Item). x.value) ys) (append-nil (front n)) ∙ before ∙ sym (append-nil (flagged_values p values flags n))
 
-  pub values_flagged : map (λ (x : Item). x.value) (flagged_items start origins values flags) ≡ flagged_values values flags (length flags)
+  pub values_flagged : map (λ (x : Item). x.value) (flagged_items p start origins values flags) ≡ flagged_values p values flags (length flags)
   values_flagged = front_values (length flags)
 
+set_flag : (b : Bool) → is_set (flag_of b) ≡ b
+set_flag true = refl
+set_flag false = refl
+
 -- flags that were cut to the lanes that go on
-pub flags_cut : (start : Option ℕ) (origins : List ℕ) (values flags : List ℤ) (n : ℕ) → n ≤ length flags → flagged_items start origins values (take n flags) ≡ gathered n (λ k. if is_set (at flags k) then item_at start origins values k ∷ [] else [])
-flags_cut start origins values flags n within =
-    let f : ℕ → List Item = λ k. item_if (is_set (at (take n flags) k)) (item_at start origins values k) in
-    let g : ℕ → List Item = λ k. item_if (is_set (at flags k)) (item_at start origins values k) in
-    ap (λ (m : ℕ). gathered m f) (length-take-le n flags within) ∙ gathered_same n f g (λ k below. ap (λ (z : ℤ). item_if (is_set z) (item_at start origins values k)) (get_or-take n flags k _ below))
+pub flags_cut : (p : ℤ → Bool) (start : Option ℕ) (origins : List ℕ) (values flags : List ℤ) (n : ℕ) → n ≤ length flags → flagged_items p start origins values (take n flags) ≡ gathered n (λ k. if is_set (flag_of (p (at flags k))) then item_at start origins values k ∷ [] else [])
+flags_cut p start origins values flags n within =
+    let f : ℕ → List Item = λ k. item_if (p (at (take n flags) k)) (item_at start origins values k) in
+    let g : ℕ → List Item = λ k. item_if (is_set (flag_of (p (at flags k)))) (item_at start origins values k) in
+    ap (λ (m : ℕ). gathered m f) (length-take-le n flags within) ∙ gathered_same n f g (λ k below. ap (λ (b : Bool). item_if b (item_at start origins values k)) (ap p (get_or-take n flags k _ below) ∙ sym (set_flag (p (at flags k)))))

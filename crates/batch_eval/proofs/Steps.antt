@@ -18,6 +18,19 @@ Reaches_same f g c n r same h =
     stop_same live None s = s
     stop_same live (Some kind) s = (s.0, sym (same live s.0) ∙ s.1)
 
+-- a function that has a value where another one has one, and the faults of that one
+pub Reaches_image : (f g : ℕ → Result ℤ FaultKind) (c d : ℕ → ℤ) (n : ℕ) (r : Reached) → ((k : ℕ) → f k ≡ Ok (c k) → g k ≡ Ok (d k)) → ((k : ℕ) (kind : FaultKind) → f k ≡ Err kind → g k ≡ Err kind) → Reaches f c n r → Reaches g d n r
+Reaches_image f g c d n r ok err h =
+    record {
+      within = h.within;
+      values = λ k below. ok k (h.values k below);
+      stop = stop_image r.live r.fault h.stop;
+    }
+  where
+    stop_image : (live : ℕ) (fault : Option FaultKind) → StopsAt f n live fault → StopsAt g n live fault
+    stop_image live None s = s
+    stop_image live (Some kind) s = (s.0, err live kind s.1)
+
 module _ (fa : ℕ → Result ℤ FaultKind) (g : ℕ → ℤ → Result ℤ FaultKind) (c : ℕ → ℤ) where
   abbrev both : ℕ → Result ℤ FaultKind
   both k = on (fa k) (g k)

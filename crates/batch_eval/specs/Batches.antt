@@ -1,6 +1,7 @@
 -- Condition: the walk that a batch of lanes describes.
 use Rattle.std.specs.Prelude.{◌≡◌, ℕ, zero, suc, ◌+◌, ◌<◌, ◌≤◌, ◌^◌, ℤ, pos, ◌+ℤ◌, Bool, true, false, not, List, [], ◌∷◌, ◌++◌, length, slice_index, Option, Some, None, if◌then◌else◌}
 use Rattle.lambda_values.specs.declared.fault.FaultKind.{FaultKind}
+use Rattle.lambda_values.specs.Operators.{comparison_value}
 use Rattle.lambda_values.specs.Wrap.{wrap}
 use Rattle.trace.specs.declared.item.Item.{Item}
 use Rattle.trace.specs.declared.item.End.{End}
@@ -8,6 +9,8 @@ use Rattle.trace.specs.declared.item.End.TheVariants as end
 use Rattle.trace.specs.declared.feeding.Fed.{Fed}
 use Rattle.trace.specs.declared.feeding.Fed.TheVariants as fed
 use Rattle.batch_eval.specs.Lanes.{at, is_set}
+use Rattle.batch_eval.specs.NumberTests.{masked}
+use Rattle.batch_eval.specs.declared.number_test.NumberTest.{NumberTest}
 
 -- what n lanes give, one after the other
 abbrev pub gathered : ℕ → (ℕ → List Item) → List Item
@@ -59,14 +62,18 @@ CountsUp None n = Unit {0}
 abbrev pub passing : List ℤ → ℕ → List ℕ
 passing flags n = picked (λ k. is_set (at flags k)) n
 
+-- whether a comparison with a number, after a mask, holds
+abbrev pub holds : NumberTest → ℤ → Bool
+holds t z = comparison_value t.comparison (masked t.mask z) t.number
+
 -- the items of lanes whose flag is set, one after the other
-abbrev pub flagged_items : Option ℕ → List ℕ → List ℤ → List ℤ → List Item
-flagged_items start origins values flags = gathered (length flags) (λ k. if is_set (at flags k) then item_at start origins values k ∷ [] else [])
+abbrev pub flagged_items : (ℤ → Bool) → Option ℕ → List ℕ → List ℤ → List ℤ → List Item
+flagged_items set start origins values flags = gathered (length flags) (λ k. if set (at flags k) then item_at start origins values k ∷ [] else [])
 
 -- the values of the first n lanes whose flag is set, one after the other
-abbrev pub flagged_values : List ℤ → List ℤ → ℕ → List ℤ
-flagged_values values flags zero = []
-flagged_values values flags (suc n) = flagged_values values flags n ++ (if is_set (at flags n) then at values n ∷ [] else [])
+abbrev pub flagged_values : (ℤ → Bool) → List ℤ → List ℤ → ℕ → List ℤ
+flagged_values set values flags zero = []
+flagged_values set values flags (suc n) = flagged_values set values flags n ++ (if set (at flags n) then at values n ∷ [] else [])
 
 -- whether a flag is as it is wanted
 abbrev pub wants : Bool → ℤ → Bool

@@ -12,7 +12,6 @@ use crate::flag::is_set;
 use crate::lanes::{Lanes, Register};
 use crate::number_test::NumberTest;
 use crate::reached::{Reached, all};
-use lambda_values::Comparison;
 
 /// Whether a flag is as it is wanted.
 fn is_wanted(flag: i64, kind: bool) -> bool
@@ -26,8 +25,7 @@ pub(crate) fn all_flags(flags: &[i64], kind: bool, live: usize) -> bool
     requires { live ≤ length flags.now }
     ensures { IsTrue result → (k : ℕ) → k < live → is_set_flag (at flags.now k) ≡ kind }
 {
-    let set = NumberTest::new(Comparison::NotEqual, 0);
-    lanes_pass(Register(flags), set, kind, live)
+    lanes_pass(Register(flags), NumberTest::is_set(), kind, live)
 }
 
 /// The numbers of the lanes whose flag is as it is wanted, one after the other, and how many they are.

@@ -1,8 +1,8 @@
 //! What is looked for in all lanes at once: bounds in which exact operators by a number can't overflow, those of 32
 //! bits, and what a test asks for.
 
+ghost use Rattle.batch_eval.specs.Batches.{holds};
 ghost use Rattle.batch_eval.specs.Lanes.{at};
-ghost use Rattle.lambda_values.specs.Operators.{comparison_value};
 ghost use Rattle.std.specs.Int.{w64};
 ghost use Rattle.std.specs.Prelude.{◌≡◌, ◌≤◌, ◌<◌, ℕ, ℤ, pos, ◌+ℤ◌, ◌-ℤ◌, ◌≤ℤ◌, FitsSigned, IsTrue, length};
 
@@ -58,12 +58,12 @@ pub(crate) fn lanes_within<A: Lanes<i64>>(
     within
 }
 
-/// Whether a comparison with a number is as it is wanted at each of these lanes. There is no early end, so that the
+/// Whether a test is as it is wanted at each of these lanes. There is no early end, so that the
 /// loop has no branch.
 pub(crate) fn lanes_pass<A: Lanes<i64>>(a: A, test: NumberTest, wanted: bool, live: usize) -> bool
     requires { live ≤ A.count a }
     ensures { IsTrue result → (k : ℕ) → k < live
-        → comparison_value test.comparison (A.number a (pos 0) k) test.number ≡ wanted }
+        → holds test (A.number a (pos 0) k) ≡ wanted }
 {
     let mut same = true;
     for i in 0..live {

@@ -14,13 +14,14 @@ ghost use Rattle.trace.specs.declared.item.End.TheVariants as end;
 ghost use Rattle.trace.specs.declared.item.Item.{Item};
 
 use crate::batch_items::BatchItems;
+use crate::flagged::give_passing;
 use crate::lane_items::LaneItems;
 use crate::pipeline::Pipeline;
 use crate::register::LANES;
 use crate::registers::{Registers, Space, may_grow};
 use crate::sink::BatchSink;
 use crate::staging::feed_batch;
-use trace::{Fed, Flow, NoMemory, RangeItems, SourceItems, Stage, feed_all};
+use trace::{End, Fed, Flow, NoMemory, RangeItems, SourceItems, Stage, feed_all};
 
 /// The first batch of a walk. Each further one is four times as large, up to `most_items`, so that a sink that soon has
 /// enough doesn't pay for a large one.
@@ -190,9 +191,8 @@ fn feed_in_place<S: BatchSink>(
     };
     if sink.takes_flags() && later.stages.is_empty() {
         if let Stage::Filter(test) = stage {
-            return space
-                .batch
-                .give_passing_from(lanes, test, line, &mut space.room, sink);
+            let flags = &mut space.batch.spare;
+            return give_passing(test, line, lanes, End::Done, flags, &mut space.room, sink);
         }
     }
     let later = space.batch.begin(lanes, line, &mut space.room);

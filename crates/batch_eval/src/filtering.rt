@@ -4,21 +4,17 @@ ghost use Rattle.batch_eval.specs.Batches.{laid_items};
 ghost use Rattle.batch_eval.specs.Lanes.{at};
 ghost use Rattle.batch_eval.specs.Rooms.{FitsTest};
 ghost use Rattle.lambda_values.specs.Term.{truth_of};
-ghost use Rattle.std.specs.Prelude.{◌≡◌, ◌<◌, ◌≤◌, List, None, OnErr, Some, length};
+ghost use Rattle.std.specs.Prelude.{◌≡◌, ◌<◌, ◌≤◌, None, Some, length};
 ghost use Rattle.trace.specs.Stages.{filter, of_item};
-ghost use Rattle.trace.specs.Sinks.{IsFed, flow_after};
 ghost use Rattle.trace.specs.Trace.{each};
-ghost use Rattle.trace.specs.declared.item.Item.{Item};
 
 use crate::batch::{Batch, stopped};
-use crate::flagged::give_passing;
 use crate::keep::{keep_from, keep_lanes};
 use crate::lane_items::LaneItems;
 use crate::pipeline::Pipeline;
 use crate::register::{Inputs, eval_bool};
-use crate::sink::BatchSink;
 use lambda_values::BoolExpr;
-use trace::{End, Fed, Flow, Item, NoMemory};
+use trace::End;
 
 impl Batch {
     /// `filter` of `LongStream`: the items at which the test is true, moved to the front.
@@ -87,46 +83,5 @@ impl Batch {
             &mut self.origins,
         );
         self.start = None;
-    }
-
-    /// `filter` as the last stage: gives a sink the items at which the test is true, where they lie.
-    pub(crate) fn give_passing<S: BatchSink>(
-        &mut self,
-        test: &BoolExpr,
-        line: Pipeline<'_>,
-        room: &mut [i64],
-        sink: &mut S,
-    ) -> Result<Fed, NoMemory>
-        requires room { FitsTest (truth_of test.now) (length room.old) }
-        requires wants { S.flow sink.old ≡ Flow.More }
-        ensures fed { (xs : List Item) → S.has_taken sink.old xs → IsFed S.has_taken xs
-            (each (of_item line.entry.first (filter (truth_of test.now)) line.entry.env.now) self.old.items
-            self.old.ending) result sink.new }
-        ensures flow { S.flow sink.new ≡ flow_after result }
-        ensures refused { OnErr result S.takes_memory }
-    {
-        let lanes = LaneItems::front(self.live, self.start, &self.origins, &self.values);
-        give_passing(test, line, lanes, self.end, &mut self.spare, room, sink)
-    }
-
-    /// `filter` as the last stage over items that lie elsewhere: gives a sink those at which the test is true.
-    pub(crate) fn give_passing_from<S: BatchSink>(
-        &mut self,
-        lanes: LaneItems<'_>,
-        test: &BoolExpr,
-        line: Pipeline<'_>,
-        room: &mut [i64],
-        sink: &mut S,
-    ) -> Result<Fed, NoMemory>
-        requires lanes { length lanes.values.now ≤ 1024 }
-        requires room { FitsTest (truth_of test.now) (length room.old) }
-        requires wants { S.flow sink.old ≡ Flow.More }
-        ensures fed { (xs : List Item) → S.has_taken sink.old xs → IsFed S.has_taken xs
-            (each (of_item line.entry.first (filter (truth_of test.now)) line.entry.env.now)
-            (laid_items lanes.entry.start lanes.entry.places.now lanes.entry.values.now) End.Done) result sink.new }
-        ensures flow { S.flow sink.new ≡ flow_after result }
-        ensures refused { OnErr result S.takes_memory }
-    {
-        give_passing(test, line, lanes, End::Done, &mut self.spare, room, sink)
     }
 }

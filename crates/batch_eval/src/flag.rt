@@ -12,7 +12,7 @@ pub(crate) fn flag(value: bool) -> i64
 }
 
 /// Whether a flag is set: it is not 0.
-pub fn is_set(flag: i64) -> bool
+pub(crate) fn is_set(flag: i64) -> bool
     ensures { result ≡ is_set_flag flag }
 {
     flag != 0

@@ -1,8 +1,12 @@
-//! Lanes with a flag each, as a `filter` that comes last gives them to a sink: nothing is moved.
+//! Lanes with a flag each, as a `filter` that comes last gives them to a sink: nothing is moved. A flag is what the
+//! test compares with a number, if it is such a comparison; else it is a boolean.
 
-ghost use Rattle.batch_eval.specs.Batches.{CountsUp, StopsInside, flagged_items, item_at, laid_items};
+ghost use Rattle.batch_eval.specs.Batches.{CountsUp, StopsInside, flagged_items, holds, item_at, laid_items};
+ghost use Rattle.batch_eval.specs.Choices.{at_each};
+ghost use Rattle.batch_eval.specs.Lanes.{Reaches, at, flag_of, flagged};
 ghost use Rattle.batch_eval.specs.Rooms.{FitsTest};
 ghost use Rattle.lambda_values.specs.Term.{truth_of};
+ghost use Rattle.lambda_values.specs.Value.{truth_value};
 ghost use Rattle.std.specs.Prelude.{◌≡◌, ℕ, ◌+◌, ◌<◌, ◌≤◌, ◌^◌, List, None, OnErr, Some, length};
 ghost use Rattle.trace.specs.Sinks.{IsFed, flow_after};
 ghost use Rattle.trace.specs.Stages.{filter, of_item};
@@ -11,22 +15,26 @@ ghost use Rattle.trace.specs.declared.item.End.TheVariants as end;
 ghost use Rattle.trace.specs.declared.item.Item.{Item};
 
 use crate::batch::{origin_of, stopped};
-use crate::flag::is_set;
 use crate::lane_items::LaneItems;
+use crate::number_test::NumberTest;
 use crate::pipeline::Pipeline;
-use crate::register::{Inputs, eval_bool};
+use crate::reached::Reached;
+use crate::register::{Inputs, eval_bool, eval_held};
 use crate::sink::BatchSink;
 use crate::staging::fed_by;
+use crate::step::compared_with;
 use lambda_values::BoolExpr;
 use trace::{End, Fed, Flow, Item, LongSink, NoMemory};
 
-/// Values in lanes, and a flag for each of the first lanes. The items are the values of the lanes whose flag isn't 0.
+/// Values in lanes, a flag for each of the first lanes, and the test that says which flags are set. The items are the
+/// values of the lanes whose flag is set.
 #[derive(Clone, Copy)]
 pub struct FlaggedLanes<'a> {
     start: Option<u64>,
     origins: &'a [u64],
     pub values: &'a [i64],
     pub flags: &'a [i64],
+    pub set: NumberTest,
     ghost counts: { (first : ℕ) → start ≡ Some first → first + length flags.now < 2 ^ 64 },
     ghost listed: { start ≡ None → length flags.now ≤ length origins.now },
     ghost flagged: { length flags.now ≤ length values.now },
@@ -52,13 +60,13 @@ pub fn accept_each_flagged<S: LongSink>(
 ) -> Result<Fed, NoMemory>
     requires wants { S.flow sink.old ≡ Flow.More }
     ensures fed { (xs : List Item) → S.has_taken sink.old xs → IsFed S.has_taken xs
-        (trace (flagged_items lanes.entry.start lanes.entry.origins.now lanes.entry.values.now
+        (trace (flagged_items (holds lanes.entry.set) lanes.entry.start lanes.entry.origins.now lanes.entry.values.now
         lanes.entry.flags.now) end.Done) result sink.new }
     ensures flow { S.flow sink.new ≡ flow_after result }
     ensures refused { OnErr result S.takes_memory }
 {
     for lane in 0..lanes.flags.len() {
-        if is_set(lanes.flags[lane]) {
+        if lanes.set.holds(lanes.flags[lane]) {
             match sink.accept(lanes.item(lane))? {
                 Flow::More => {}
                 Flow::Enough => return Ok(Fed::Enough),
@@ -93,7 +101,7 @@ pub(crate) fn give_passing<S: BatchSink>(
         xs: lanes.values,
         live: lanes.values.len(),
     };
-    let reached = eval_bool(test, inputs, flags, room);
+    let (flags, set, reached) = flags_of(test, inputs, flags, room);
     let end = stopped(
         end,
         line.first,
@@ -107,8 +115,33 @@ pub(crate) fn give_passing<S: BatchSink>(
         origins: lanes.places,
         values: lanes.values,
         flags: &flags[..reached.live],
+        set,
     };
     give_flagged(flagged, end, sink)
+}
+
+/// A flag for each value, the test that says which flags are set, and how far the test of the values came. No flag is
+/// written for a test that compares the values themselves with a number.
+fn flags_of<'a>(
+    test: &BoolExpr,
+    inputs: Inputs<'a>,
+    register: &'a mut [i64],
+    room: &mut [i64],
+) -> (&'a [i64], NumberTest, Reached)
+    requires lanes { inputs.live ≤ 1024 }
+    requires xs { inputs.live ≤ length inputs.xs.now }
+    requires register { inputs.live ≤ length register.old }
+    requires room { FitsTest (truth_of test.now) (length room.old) }
+    ensures flags { inputs.entry.live ≤ length result.0.now }
+    ensures reached { Reaches (at_each inputs.entry (λ x env. flagged (truth_value (truth_of test.now) x env)))
+        (λ k. flag_of (holds result.1 (at result.0.now k))) inputs.entry.live result.2 }
+{
+    if let Some((left, set)) = compared_with(test, inputs.env) {
+        let (held, reached) = eval_held(left, inputs, register, room);
+        return (held.register(register), set, reached);
+    }
+    let reached = eval_bool(test, inputs, register, room);
+    (register, NumberTest::is_set(), reached)
 }
 
 /// Gives a sink the items of lanes whose flag is set, after which the walk ends so.
@@ -119,7 +152,7 @@ fn give_flagged<S: BatchSink>(
 ) -> Result<Fed, NoMemory>
     requires wants { S.flow sink.old ≡ Flow.More }
     ensures fed { (xs : List Item) → S.has_taken sink.old xs → IsFed S.has_taken xs
-        (trace (flagged_items lanes.entry.start lanes.entry.origins.now lanes.entry.values.now
+        (trace (flagged_items (holds lanes.entry.set) lanes.entry.start lanes.entry.origins.now lanes.entry.values.now
         lanes.entry.flags.now) end) result sink.new }
     ensures flow { S.flow sink.new ≡ flow_after result }
     ensures refused { OnErr result S.takes_memory }

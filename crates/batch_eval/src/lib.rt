@@ -52,9 +52,9 @@ mod step;
 
 pub use batch_items::BatchItems;
 pub use feeding::{feed_at_once, feed_batches};
-pub use flag::is_set;
 pub use flagged::{FlaggedLanes, accept_each_flagged};
 pub use lane_items::LaneItems;
+pub use number_test::NumberTest;
 pub use passing::count_passing;
 pub use pipeline::Pipeline;
 pub use registers::Registers;

@@ -1,81 +1,123 @@
 //! Comparisons with a number, which need no register of flags.
 
-ghost use Rattle.batch_eval.specs.Lanes.{step_value};
-ghost use Rattle.batch_eval.specs.NumberTests.{between};
-ghost use Rattle.batch_eval.specs.Rooms.{Fits, FitsTest};
-ghost use Rattle.lambda_values.specs.Operators.{comparison_value, on};
-ghost use Rattle.lambda_values.specs.Term.{long_of, truth_of};
-ghost use Rattle.lambda_values.specs.Value.{long_value, truth_value};
-ghost use Rattle.std.specs.Int.{w64};
-ghost use Rattle.std.specs.Prelude.{◌≡◌, ℕ, ℤ, FitsSigned, IfSome, Ok};
+ghost use Rattle.batch_eval.specs.Lanes.{is_set};
+ghost use Rattle.batch_eval.specs.NumberTests.{masked, to_least};
+ghost use Rattle.lambda_values.specs.Operators.{comparison_value};
+ghost use Rattle.lambda_values.specs.Wrap.{wrap};
+ghost use Rattle.std.specs.Int.{w64, int_bit_and};
+ghost use Rattle.std.specs.Int.Signed.{le_z};
+ghost use Rattle.std.specs.Ordering.{int_eq};
+ghost use Rattle.std.specs.Prelude.{◌≡◌, ℤ, ◌-ℤ◌, FitsSigned, IfSome, not};
 
-use crate::constant::number_in;
-use crate::step::{LastStep, last_step};
-use lambda_values::{BoolExpr, Comparison, Env};
+use lambda_values::Comparison;
 
-/// A comparison with a number, by two bounds: it holds for all integers between them, or for all others.
+/// A comparison with a number, after a mask if there is one. `shift` makes the integers for which it holds the least
+/// ones, up to `most`: a loop over lanes needs one comparison for it, whichever of the six it is.
 #[derive(Clone, Copy)]
-pub(crate) struct NumberTest {
+pub struct NumberTest {
+    mask: Option<i64>,
     comparison: Comparison,
     number: i64,
-    least: i64,
-    greatest: i64,
-    inside: bool,
+    bits: i64,
+    shift: i64,
+    most: i64,
+    ghost masks: { (z : ℤ) → FitsSigned w64 z → int_bit_and w64 z bits ≡ masked mask z },
     ghost agrees: { (z : ℤ) → FitsSigned w64 z
-        → between least greatest inside z ≡ comparison_value comparison z number },
+        → le_z (wrap (z -ℤ shift)) most ≡ comparison_value comparison z number },
 }
 
 impl NumberTest {
-    /// The comparison of integers with this number.
-    pub(crate) fn new(comparison: Comparison, number: i64) -> NumberTest
-        ensures comparison { result.comparison ≡ comparison }
-        ensures number { result.number ≡ number }
+    /// The comparison with this number, after a mask if there is one. `None` if it holds for no integer.
+    pub(crate) fn new(mask: Option<i64>, comparison: Comparison, number: i64) -> Option<NumberTest>
+        ensures mask { IfSome result (λ test. test.mask ≡ mask) }
+        ensures comparison { IfSome result (λ test. test.comparison ≡ comparison) }
+        ensures number { IfSome result (λ test. test.number ≡ number) }
     {
-        let (least, greatest, inside) = bounds_of(comparison, number);
-        NumberTest {
+        let (shift, most) = shift_of(comparison, number)?;
+        Some(NumberTest {
+            mask,
             comparison,
             number,
-            least,
-            greatest,
-            inside,
+            bits: bits_of(mask),
+            shift,
+            most,
+        })
+    }
+
+    /// Whether a flag is set: it isn't 0.
+    pub(crate) fn is_set() -> NumberTest
+        ensures { (z : ℤ) → comparison_value result.comparison (masked result.mask z) result.number ≡ is_set z }
+    {
+        let (shift, most) = shift_of_others(0);
+        NumberTest {
+            mask: None,
+            comparison: Comparison::NotEqual,
+            number: 0,
+            bits: bits_of(None),
+            shift,
+            most,
         }
     }
 
     /// Whether the comparison holds.
-    pub(crate) fn holds(self, z: i64) -> bool
+    pub fn holds(self, z: i64) -> bool
+        ensures { result ≡ comparison_value self.comparison (masked self.mask z) self.number }
+    {
+        self.compares(z & self.bits)
+    }
+
+    /// Whether the comparison holds of what the mask left.
+    fn compares(self, z: i64) -> bool
         ensures { result ≡ comparison_value self.comparison z self.number }
     {
-        let outside = (z < self.least) | (self.greatest < z);
-        if self.inside { !outside } else { outside }
+        z.wrapping_sub(self.shift) <= self.most
     }
 }
 
-/// Two bounds, and whether a comparison with a number holds between them or outside of them.
-fn bounds_of(comparison: Comparison, number: i64) -> (i64, i64, bool)
-    ensures { (z : ℤ) → FitsSigned w64 z → between result.0 result.1 result.2 z ≡ comparison_value comparison z number }
+/// The bits of a mask, or all bits.
+#[tactic(auto, using(crate::proofs::FlagLemmas::all_bits))]
+fn bits_of(mask: Option<i64>) -> i64
+    ensures { (z : ℤ) → FitsSigned w64 z → int_bit_and w64 z result ≡ masked mask z }
+{
+    match mask {
+        Some(bits) => bits,
+        None => -1,
+    }
+}
+
+/// A shift, and the greatest integer that it makes of those for which a comparison holds: it makes greater ones of all
+/// others. `None` if the comparison holds for no integer.
+fn shift_of(comparison: Comparison, number: i64) -> Option<(i64, i64)>
+    ensures { IfSome result (λ parts. (z : ℤ) → FitsSigned w64 z
+        → le_z (wrap (z -ℤ parts.0)) parts.1 ≡ comparison_value comparison z number) }
 {
     match comparison {
-        Comparison::Equal => (number, number, true),
-        Comparison::NotEqual => (number, number, false),
-        Comparison::Less => (number, i64::MAX, false),
-        Comparison::LessOrEqual => (i64::MIN, number, true),
-        Comparison::Greater => (i64::MIN, number, false),
-        Comparison::GreaterOrEqual => (number, i64::MAX, true),
+        Comparison::Equal => Some((to_least(number), i64::MIN)),
+        Comparison::NotEqual => Some(shift_of_others(number)),
+        Comparison::Less => Some((0, number.checked_sub(1)?)),
+        Comparison::LessOrEqual => Some((0, number)),
+        Comparison::Greater => Some((to_least(number.checked_add(1)?), -2 - number)),
+        Comparison::GreaterOrEqual => Some((to_least(number), -1 - number)),
     }
 }
 
-/// A test as a comparison with a number: what is compared, after a step, and the comparison.
-pub(crate) fn compared_with<'a>(test: &'a BoolExpr, env: &Env) -> Option<(LastStep<'a>, NumberTest)>
-    ensures value { IfSome result (λ parts. (x : ℤ) → truth_value (truth_of test.now) x env.now
-        ≡ on (long_value (long_of parts.0.of.now) x env.now)
-        (λ v. Ok (comparison_value parts.1.comparison (step_value parts.0.step v) parts.1.number))) }
-    ensures room { IfSome result (λ parts. (room : ℕ) → FitsTest (truth_of test.now) room
-        → Fits (long_of parts.0.of.now) room) }
+/// The shift that makes a number the greatest integer, and the next one below that.
+fn shift_of_others(number: i64) -> (i64, i64)
+    ensures { (z : ℤ) → FitsSigned w64 z → le_z (wrap (z -ℤ result.0)) result.1 ≡ not (int_eq z number) }
 {
-    let BoolExpr::Compare(comparison, pair) = test else {
-        return None;
-    };
-    let number = number_in(&pair.right, env)?;
-    let last = last_step(&pair.left, env);
-    Some((last, NumberTest::new(*comparison, number)))
+    match number.checked_add(1) {
+        Some(next) => (to_least(next), i64::MAX - 1),
+        None => (0, i64::MAX - 1),
+    }
+}
+
+/// The shift that makes a number the least integer.
+fn to_least(number: i64) -> i64
+    ensures { result ≡ to_least number }
+{
+    if number < 0 {
+        number - i64::MIN
+    } else {
+        number + i64::MIN
+    }
 }

@@ -1,8 +1,8 @@
 //! An operator over lanes: the loop for where its operands are.
 
+ghost use Rattle.batch_eval.specs.Batches.{holds};
 ghost use Rattle.batch_eval.specs.Lanes.{HasBeside, HasBranch, HasHeld, Reaches, at, beside_value, branch_at, held_at};
 ghost use Rattle.batch_eval.specs.Lanes.{is_set, step_value};
-ghost use Rattle.lambda_values.specs.Operators.{comparison_value};
 ghost use Rattle.std.specs.Prelude.{◌≡◌, ◌<◌, ◌≤◌, ℕ, IsTrue, Ok, length, if◌then◌else◌};
 
 use crate::choose::select;
@@ -172,7 +172,7 @@ fn blend_with<A: Lanes<i64>>(flags: &[i64], a: A, other: Branch<'_>, live: usize
     }
 }
 
-/// Whether a comparison with a number is as it is wanted at each of these numbers after a step.
+/// Whether a test is as it is wanted at each of these numbers after a step.
 pub(crate) fn steps_pass(
     xs: &[i64],
     step: Step,
@@ -181,8 +181,7 @@ pub(crate) fn steps_pass(
     live: usize,
 ) -> bool
     requires { live ≤ length xs.now }
-    ensures { IsTrue result → (k : ℕ) → k < live
-        → comparison_value test.comparison (step_value step (at xs.now k)) test.number ≡ wanted }
+    ensures { IsTrue result → (k : ℕ) → k < live → holds test (step_value step (at xs.now k)) ≡ wanted }
 {
     after_step!(step, Register<'_>, Register(xs), lanes => lanes_pass(lanes, test, wanted, live))
 }

@@ -8,10 +8,10 @@ ghost use Rattle.std.specs.Prelude.{◌≡◌, ◌≢◌, ◌<◌, ◌≤◌, �
 
 use crate::choose::all_flags;
 use crate::flag::is_set;
-use crate::number_test::compared_with;
 use crate::operands::steps_pass;
 use crate::register::{Inputs, LANES, eval_bool, eval_held};
 use crate::room::test_fits;
+use crate::step::{compared_with, last_step};
 use lambda_values::{BoolExpr, Env};
 
 /// How many values come before the first one at which the test isn't `wanted`, or faults.
@@ -63,9 +63,10 @@ fn all_pass(
     ensures { IsTrue result → (k : ℕ) → k < inputs.entry.live
         → truth_value (truth_of test.now) (at inputs.entry.xs.now k) inputs.entry.env.now ≡ Ok wanted }
 {
-    let Some((last, test)) = compared_with(test, inputs.env) else {
+    let Some((left, test)) = compared_with(test, inputs.env) else {
         return false;
     };
+    let last = last_step(left, inputs.env);
     let (held, reached) = eval_held(last.of, inputs, register, room);
     if reached.live < inputs.live {
         return false;

@@ -1,6 +1,6 @@
 //! Sinks that take the items of a batch at once.
 
-ghost use Rattle.batch_eval.specs.Batches.{flagged_items, laid_items};
+ghost use Rattle.batch_eval.specs.Batches.{flagged_items, holds, laid_items};
 ghost use Rattle.std.specs.Prelude.{◌≡◌, List, OnErr};
 ghost use Rattle.trace.specs.Sinks.{IsFed, flow_after};
 ghost use Rattle.trace.specs.Trace.{trace};
@@ -39,8 +39,8 @@ pub trait BatchSink: LongSink {
     fn accept_flagged(&mut self, lanes: FlaggedLanes<'_>) -> Result<Fed, NoMemory>
         requires wants { Self.flow self.old ≡ Flow.More }
         ensures fed { (xs : List Item) → Self.has_taken self.old xs → IsFed Self.has_taken xs
-            (trace (flagged_items lanes.entry.start lanes.entry.origins.now lanes.entry.values.now
-            lanes.entry.flags.now) end.Done) result self.new }
+            (trace (flagged_items (holds lanes.entry.set) lanes.entry.start lanes.entry.origins.now
+            lanes.entry.values.now lanes.entry.flags.now) end.Done) result self.new }
         ensures flow { Self.flow self.new ≡ flow_after result }
         ensures refused { OnErr result Self.takes_memory }
     {

@@ -15,6 +15,8 @@ ghost use Rattle.trace.specs.declared.item.Item.{Item};
 
 use crate::batch::Batch;
 use crate::columns::{Columns, column_room, eval_columns};
+use crate::flagged::give_passing;
+use crate::lane_items::LaneItems;
 use crate::pipeline::Pipeline;
 use crate::register::LANES;
 use crate::sink::BatchSink;
@@ -53,7 +55,8 @@ pub(crate) fn feed_batch<S: BatchSink>(
     };
     match stage {
         Stage::Filter(test) if later.stages.is_empty() && sink.takes_flags() => {
-            batch.give_passing(test, line, room, sink)
+            let lanes = LaneItems::front(batch.live, batch.start, &batch.origins, &batch.values);
+            give_passing(test, line, lanes, batch.end, &mut batch.spare, room, sink)
         }
         Stage::FlatMap(inner) => match nested.split_first_mut() {
             Some((pending, rest)) => {

@@ -1,16 +1,19 @@
 //! Operators by a number that go into the loop of the next operator.
 
+ghost use Rattle.batch_eval.specs.Batches.{holds};
 ghost use Rattle.batch_eval.specs.Lanes.{step_value};
-ghost use Rattle.batch_eval.specs.Rooms.{Fits, size};
+ghost use Rattle.batch_eval.specs.NumberTests.{masked};
+ghost use Rattle.batch_eval.specs.Rooms.{Fits, FitsTest, size};
 ghost use Rattle.lambda_values.specs.Operators.{binary_value, on};
-ghost use Rattle.lambda_values.specs.Term.{long_of};
-ghost use Rattle.lambda_values.specs.Value.{long_value};
+ghost use Rattle.lambda_values.specs.Term.{long_of, truth_of};
+ghost use Rattle.lambda_values.specs.Value.{long_value, truth_value};
 ghost use Rattle.std.specs.Prelude.{◌≡◌, ◌≤◌, ℕ, ℤ, IfSome, Ok};
 
 use crate::constant::number_in;
 use crate::multiply::is_half;
+use crate::number_test::NumberTest;
 use crate::operands::Step;
-use lambda_values::{BinaryOperator, Env, LongExpr};
+use lambda_values::{BinaryOperator, BoolExpr, Env, LongExpr};
 
 /// An expression without its last operator, and that operator as a step; or the whole expression.
 #[derive(Clone, Copy)]
@@ -65,5 +68,34 @@ fn step_of(operator: BinaryOperator, number: i64) -> Option<Step>
         BinaryOperator::Xor => Some(Step::Xor(number)),
         BinaryOperator::Or => Some(Step::Or(number)),
         _ => None,
+    }
+}
+
+/// A test as a comparison of an expression with a number. If its last operator is an `&` with a number, this one is the
+/// mask, and the expression is without it.
+pub(crate) fn compared_with<'a>(test: &'a BoolExpr, env: &Env) -> Option<(&'a LongExpr, NumberTest)>
+    ensures value { IfSome result (λ parts. (x : ℤ) → truth_value (truth_of test.now) x env.now
+        ≡ on (long_value (long_of parts.0.now) x env.now) (λ v. Ok (holds parts.1 v))) }
+    ensures room { IfSome result (λ parts. (room : ℕ) → FitsTest (truth_of test.now) room
+        → Fits (long_of parts.0.now) room) }
+{
+    let BoolExpr::Compare(comparison, pair) = test else {
+        return None;
+    };
+    let number = number_in(&pair.right, env)?;
+    let (of, mask) = unmasked(&pair.left, env);
+    Some((of, NumberTest::new(mask, *comparison, number)?))
+}
+
+/// An expression without a last `&` with a number, and this number; or the whole expression.
+fn unmasked<'a>(expr: &'a LongExpr, env: &Env) -> (&'a LongExpr, Option<i64>)
+    ensures value { (x : ℤ) → long_value (long_of expr.now) x env.now
+        ≡ on (long_value (long_of result.0.now) x env.now) (λ v. Ok (masked result.1 v)) }
+    ensures room { (room : ℕ) → Fits (long_of expr.now) room → Fits (long_of result.0.now) room }
+{
+    let last = last_step(expr, env);
+    match last.step {
+        Step::And(mask) => (last.of, Some(mask)),
+        _ => (expr, None),
     }
 }

@@ -1,6 +1,6 @@
 //! What is asked of the parts that pieces give to an end of a segment, whichever kind of end it is.
 
-ghost use Rattle.batch_eval.specs.Batches.{flagged_values};
+ghost use Rattle.batch_eval.specs.Batches.{flagged_values, holds};
 ghost use Rattle.std.specs.Prelude.{◌≡◌, ◌<◌, ◌≤◌, ℕ, false, true, List, [], ◌∷◌, length, map, IfOk, IfErr, OnOk};
 ghost use Rattle.std.specs.Prelude.{OnErr};
 ghost use Rattle.lambda_values.specs.Earlier.{Numbers};
@@ -12,6 +12,7 @@ ghost use Rattle.job_plan.specs.Plans.{AbstractEnd};
 ghost use Rattle.job_plan.specs.declared.part.Part.{Part as any_part};
 
 use crate::ends::SegmentEnd;
+use batch_eval::FlaggedLanes;
 use lambda_values::Env;
 use prefix_walks::ItemPiece;
 use trace::{End, Item, NoMemory, SourceItems};
@@ -72,14 +73,13 @@ pub(crate) trait EndPart: Drop + Sized {
         ensures kind { may_search (as_part self.new) ≡ may_search (as_part self.old) }
         ensures keeps { keeps_items (as_part self.new) ≡ keeps_items (as_part self.old) };
 
-    /// Adds the values whose flag isn't 0, if the end is a fold by an operator that has an identity, and answers
+    /// Adds the values whose flag is set, if the end is a fold by an operator that has an identity, and answers
     /// whether it is.
-    fn push_flagged(&mut self, _values: &[i64], _flags: &[i64]) -> bool
-        requires open { is_settled (as_part self.old) ≡ false }
-        requires flagged { length _flags.now ≤ length _values.now }
+    fn push_flagged(&mut self, _lanes: FlaggedLanes<'_>) -> bool
+        requires { is_settled (as_part self.old) ≡ false }
         ensures taken { result ≡ true → (e : AbstractEnd) (stage : ℕ) (env : Numbers) (t : Trace) (xs : List item)
-            → map (λ x. x.value) xs ≡ flagged_values _values.now _flags.now
-            (length _flags.now)
+            → map (λ x. x.value) xs ≡ flagged_values (holds _lanes.entry.set) _lanes.entry.values.now
+            _lanes.entry.flags.now (length _lanes.entry.flags.now)
             → EndsFor e stage env (as_part self.old) t
             → EndsFor e stage env (as_part self.new) (append t (trace xs end.Done)) }
         ensures open { is_settled (as_part self.new) ≡ false }

@@ -13,6 +13,7 @@ ghost use Rattle.job_plan.specs.declared.part.Part.TheVariants as part;
 
 use crate::end_part::{EndPart, LastStage, is_fault};
 use crate::ends::Fold;
+use batch_eval::FlaggedLanes;
 use job_meaning::Answer;
 use prefix_walks::{folded, folded_flagged};
 use reduce_ops::Partial;
@@ -76,8 +77,8 @@ impl EndPart for FoldPart {
         Ok(())
     }
 
-    fn push_flagged(&mut self, values: &[i64], flags: &[i64]) -> bool {
-        match folded_flagged(self.partial.op(), self.counts, values, flags) {
+    fn push_flagged(&mut self, lanes: FlaggedLanes<'_>) -> bool {
+        match folded_flagged(self.partial.op(), self.counts, lanes) {
             Some(right) => {
                 self.partial = self.partial.merge(right);
                 true

@@ -1,6 +1,6 @@
 //! What a piece of a segment's source gives to the end of the segment.
 
-ghost use Rattle.batch_eval.specs.Batches.{flagged_values};
+ghost use Rattle.batch_eval.specs.Batches.{flagged_values, holds};
 ghost use Rattle.std.specs.Prelude.{◌≡◌, ◌<◌, ◌≤◌, ℕ, false, true, List, [], ◌∷◌, is_some, length, map};
 ghost use Rattle.std.specs.Prelude.{IfOk, IfErr, IfNone, IfSome, OnOk, OnErr, if◌then◌else◌};
 ghost use Rattle.lambda_values.specs.Earlier.{Numbers};
@@ -18,6 +18,7 @@ use crate::ends::SegmentEnd;
 use crate::fold_part::FoldPart;
 use crate::outcome::{Outcome, answer_of, exact_answer};
 use crate::segment::Segment;
+use batch_eval::FlaggedLanes;
 use find_ops::FindPart;
 use lambda_values::Env;
 use prefix_walks::PrefixPart;
@@ -185,8 +186,8 @@ impl<'a> EndPart for Part<'a> {
         of_any_kind!(self, part => EndPart::push_all(part, last, source, values, room))
     }
 
-    fn push_flagged(&mut self, values: &[i64], flags: &[i64]) -> bool {
-        of_any_kind!(self, part => EndPart::push_flagged(part, values, flags))
+    fn push_flagged(&mut self, lanes: FlaggedLanes<'_>) -> bool {
+        of_any_kind!(self, part => EndPart::push_flagged(part, lanes))
     }
 
     fn end_with(&mut self, ending: End) {

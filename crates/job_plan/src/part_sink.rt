@@ -79,7 +79,7 @@ impl<K: EndBrand> BatchSink for PartSink<'_, '_, K> {
     }
 
     fn accept_flagged(&mut self, lanes: FlaggedLanes<'_>) -> Result<Fed, NoMemory> {
-        if self.part.push_flagged(lanes.values, lanes.flags) {
+        if self.part.push_flagged(lanes) {
             return Ok(Fed::More);
         }
         accept_each_flagged(lanes, self)

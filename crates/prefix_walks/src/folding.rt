@@ -1,6 +1,6 @@
-//! Folds of the values of a batch, or of those whose flag isn't 0: one loop, compiled for each operator.
+//! Folds of the values of a batch, or of those whose flag is set: one loop, compiled for each operator.
 
-ghost use Rattle.batch_eval.specs.Batches.{flagged_values};
+ghost use Rattle.batch_eval.specs.Batches.{flagged_values, holds};
 ghost use Rattle.std.specs.Prelude.{◌≡◌, ◌≤◌, IfSome, List, Some, fold, length, map};
 ghost use Rattle.trace.specs.declared.item.End.TheVariants as end;
 ghost use Rattle.trace.specs.declared.item.Item.{Item as item};
@@ -10,7 +10,7 @@ ghost use Rattle.reduce_ops.specs.Parts.{StandsFor};
 ghost use Rattle.prefix_scan.specs.Scans.{joined_value};
 ghost use Rattle.prefix_walks.specs.Batches.{counted_as, each_one, folded_values};
 
-use batch_eval::is_set;
+use batch_eval::FlaggedLanes;
 use reduce_ops::{Op, Partial};
 use trace::{End, Item};
 
@@ -69,36 +69,35 @@ fn fold_from(op: Op, counts: bool, start: i64, values: &[i64]) -> i64
     folded
 }
 
-/// The fold of the values whose flag isn't 0, or of a 1 for each of them. `None` if the operator has no identity, which
+/// The fold of the values whose flag is set, or of a 1 for each of them. `None` if the operator has no identity, which
 /// the fold puts in the place of the other values.
-pub fn folded_flagged(op: Op, counts: bool, values: &[i64], flags: &[i64]) -> Option<Partial>
-    requires { length flags.now ≤ length values.now }
+pub fn folded_flagged(op: Op, counts: bool, lanes: FlaggedLanes<'_>) -> Option<Partial>
     ensures op { IfSome result (λ right. right.op ≡ op) }
     ensures ending { IfSome result (λ right. right.end ≡ end.Done) }
     ensures stands { IfSome result (λ right. (xs : List item)
-        → map (λ x. x.value) xs ≡ flagged_values values.now flags.now (length flags.now)
+        → map (λ x. x.value) xs ≡ flagged_values (holds lanes.entry.set) lanes.entry.values.now lanes.entry.flags.now
+        (length lanes.entry.flags.now)
         → StandsFor right (trace (counted_as counts xs) end.Done)) }
 {
     let identity = op.identity()?;
-    Some(match fold_flagged(op, counts, identity, values, flags) {
+    Some(match fold_flagged(op, counts, identity, lanes) {
         Some(value) => Partial::of(op, Item { origin: 0, value }),
         None => Partial::none(op, End::Done),
     })
 }
 
-/// The fold of the values whose flag isn't 0, or of a 1 for each of them, as a number; `None` if no flag is set. A loop
+/// The fold of the values whose flag is set, or of a 1 for each of them, as a number; `None` if no flag is set. A loop
 /// knows its operator and whether it counts.
-fn fold_flagged(op: Op, counts: bool, identity: i64, values: &[i64], flags: &[i64]) -> Option<i64>
-    requires identity { identity_of op ≡ Some identity }
-    requires values { length flags.now ≤ length values.now }
-    ensures { result ≡ folded_values (value_of op) counts
-        (flagged_values values.now flags.now (length flags.now)) }
+fn fold_flagged(op: Op, counts: bool, identity: i64, lanes: FlaggedLanes<'_>) -> Option<i64>
+    requires { identity_of op ≡ Some identity }
+    ensures { result ≡ folded_values (value_of op) counts (flagged_values (holds lanes.entry.set)
+        lanes.entry.values.now lanes.entry.flags.now (length lanes.entry.flags.now)) }
 {
     match op {
-        Op::Sum if counts => fold_each_flagged(Op::Sum, true, 0, values, flags),
-        _ if counts => fold_each_flagged(op, true, identity, values, flags),
+        Op::Sum if counts => fold_each_flagged(Op::Sum, true, 0, lanes),
+        _ if counts => fold_each_flagged(op, true, identity, lanes),
         _ => with_known!(op, known => {
-            fold_each_flagged(known, false, known_identity(known, identity), values, flags)
+            fold_each_flagged(known, false, known_identity(known, identity), lanes)
         }),
     }
 }
@@ -111,24 +110,23 @@ fn known_identity(op: Op, identity: i64) -> i64
     op.identity().unwrap_or(identity)
 }
 
-/// The fold of the values whose flag isn't 0, by one operator; `None` if no flag is set. For a value whose flag isn't
+/// The fold of the values whose flag is set, by one operator; `None` if no flag is set. For a value whose flag isn't
 /// set it folds the identity. It reads each value before it looks at the flag, so no lane needs a branch.
-fn fold_each_flagged(
-    op: Op,
-    counts: bool,
-    identity: i64,
-    values: &[i64],
-    flags: &[i64],
-) -> Option<i64>
-    requires identity { identity_of op ≡ Some identity }
-    requires values { length flags.now ≤ length values.now }
-    ensures { result ≡ folded_values (value_of op) counts
-        (flagged_values values.now flags.now (length flags.now)) }
+fn fold_each_flagged(op: Op, counts: bool, identity: i64, lanes: FlaggedLanes<'_>) -> Option<i64>
+    requires { identity_of op ≡ Some identity }
+    ensures { result ≡ folded_values (value_of op) counts (flagged_values (holds lanes.entry.set)
+        lanes.entry.values.now lanes.entry.flags.now (length lanes.entry.flags.now)) }
 {
+    let FlaggedLanes {
+        values,
+        flags,
+        set,
+        ..
+    } = lanes;
     let mut missed: usize = 0;
     let mut folded = identity;
     for lane in 0..flags.len() {
-        let passes = is_set(flags[lane]);
+        let passes = set.holds(flags[lane]);
         missed += if passes { 0 } else { 1 };
         let taken = counted_value(counts, values[lane]);
         let value = if passes { taken } else { identity };

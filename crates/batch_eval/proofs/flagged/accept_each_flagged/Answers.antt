@@ -1,35 +1,35 @@
 use Rattle.std.proofs.Common.{◌≡◌, ◌<◌, List, ◌++◌, [], ◌∷◌, length, true, sym, ap, subst, ◌∙◌, append_assoc, rules}
 use Rattle.std.proofs.lemmas.Result.{err_from_is_err_and}
 use Rattle.trace.specs.declared.item.Item.{Item}
-use Rattle.batch_eval.specs.Batches.{item_at}
-use Rattle.batch_eval.specs.Lanes.{at, is_set}
+use Rattle.batch_eval.specs.Batches.{holds, item_at}
+use Rattle.batch_eval.specs.Lanes.{at}
 use Rattle.batch_eval.proofs.FlaggedLemmas.{flagged_enough, flagged_refused, front, front_set, front_unset}
-use Rattle.batch_eval.proofs.flagged.accept_each_flagged.Goals.{then-is_set+in_ok-accept+in-More, else-is_set}
+use Rattle.batch_eval.proofs.flagged.accept_each_flagged.Goals.{then-holds+in_ok-accept+in-More, else-holds}
 use Rattle.batch_eval.proofs.flagged.accept_each_flagged.Goals as goal
 
 pub loop-lane-preserved : goal.loop-lane-preserved
 loop-lane-preserved g c = record {
-  wants = elim c.if-is_set.branch [
-    | then-is_set+in_ok-accept+in-More w ↦ search rules
-    | else-is_set w ↦ search rules
+  wants = elim c.if-holds.branch [
+    | then-holds+in_ok-accept+in-More w ↦ search rules
+    | else-holds w ↦ search rules
   ];
   taken = λ xs took.
       let l = c.args.lanes in
       let n = c.loop-lane.lane in
       let h = g.S.LongSink.has_taken in
-      let before : List Item = front l.start l.origins.now l.values.now l.flags.now n in
-      let flag : c.is_set.result ≡ is_set (at l.flags.now n) = search rules in
+      let before : List Item = front (holds l.set) l.start l.origins.now l.values.now l.flags.now n in
+      let flag : c.holds.result ≡ holds l.set (at l.flags.now n) = search rules in
       let so_far = c.loop-lane.invariant.taken xs took in
-      elim c.if-is_set.branch [
-        | then-is_set+in_ok-accept+in-More w ↦
-            let set : is_set (at l.flags.now n) ≡ true = sym flag ∙ w.if-is_set.true in
+      elim c.if-holds.branch [
+        | then-holds+in_ok-accept+in-More w ↦
+            let set : holds l.set (at l.flags.now n) ≡ true = sym flag ∙ w.if-holds.true in
             let more = w.in_ok-accept.ensures.ok (xs ++ before) so_far in
             let here = subst (λ (x : Item). h w.accept.new.self ((xs ++ before) ++ x ∷ [])) w.item.ensures more in
-            let joined = append_assoc xs before (item_at l.start l.origins.now l.values.now n ∷ []) ∙ ap (λ (ys : List Item). xs ++ ys) (sym (front_set l.start l.origins.now l.values.now l.flags.now n set)) in
+            let joined = append_assoc xs before (item_at l.start l.origins.now l.values.now n ∷ []) ∙ ap (λ (ys : List Item). xs ++ ys) (sym (front_set (holds l.set) l.start l.origins.now l.values.now l.flags.now n set)) in
             rw w.sink-is (subst (h w.accept.new.self) joined here)
-        | else-is_set w ↦
-            let unset = sym flag ∙ w.if-is_set.false in
-            let same = ap (λ (ys : List Item). xs ++ ys) (sym (front_unset l.start l.origins.now l.values.now l.flags.now n unset)) in
+        | else-holds w ↦
+            let unset = sym flag ∙ w.if-holds.false in
+            let same = ap (λ (ys : List Item). xs ++ ys) (sym (front_unset (holds l.set) l.start l.origins.now l.values.now l.flags.now n unset)) in
             rw w.sink-is (subst (h c.loop-lane.sink) same so_far)
       ];
 }
@@ -39,23 +39,23 @@ returns-in-Enough-clause-fed g c = λ xs took.
     let l = c.args.lanes in
     let n = c.loop-lane.lane in
     let h = g.S.LongSink.has_taken in
-    let before : List Item = front l.start l.origins.now l.values.now l.flags.now n in
-    let flag : c.is_set.result ≡ is_set (at l.flags.now n) = search rules in
-    let set : is_set (at l.flags.now n) ≡ true = sym flag ∙ c.if-is_set.true in
+    let before : List Item = front (holds l.set) l.start l.origins.now l.values.now l.flags.now n in
+    let flag : c.holds.result ≡ holds l.set (at l.flags.now n) = search rules in
+    let set : holds l.set (at l.flags.now n) ≡ true = sym flag ∙ c.if-holds.true in
     let within : n < length l.flags.now = c.loop-lane-test.true in
     let more = c.in_ok-accept.ensures.ok (xs ++ before) (c.loop-lane.invariant.taken xs took) in
     let here = subst (λ (x : Item). h c.accept.new.self ((xs ++ before) ++ x ∷ [])) c.item.ensures more in
-    flagged_enough l.start l.origins.now l.values.now l.flags.now h xs n c.accept.new.self within set here
+    flagged_enough (holds l.set) l.start l.origins.now l.values.now l.flags.now h xs n c.accept.new.self within set here
 
 pub returns-in_err-accept-clause-fed : goal.returns-in_err-accept-clause-fed
 returns-in_err-accept-clause-fed g c = λ xs took.
     let l = c.args.lanes in
     let n = c.loop-lane.lane in
     let h = g.S.LongSink.has_taken in
-    let before : List Item = front l.start l.origins.now l.values.now l.flags.now n in
-    let flag : c.is_set.result ≡ is_set (at l.flags.now n) = search rules in
-    let set : is_set (at l.flags.now n) ≡ true = sym flag ∙ c.if-is_set.true in
+    let before : List Item = front (holds l.set) l.start l.origins.now l.values.now l.flags.now n in
+    let flag : c.holds.result ≡ holds l.set (at l.flags.now n) = search rules in
+    let set : holds l.set (at l.flags.now n) ≡ true = sym flag ∙ c.if-holds.true in
     let within : n < length l.flags.now = c.loop-lane-test.true in
     let p = err_from_is_err_and c.from_residual.result c.from_residual.ensures.1 in
     let kept = c.in_err-accept.ensures.err (xs ++ before) (c.loop-lane.invariant.taken xs took) in
-    rw p.1 (flagged_refused l.start l.origins.now l.values.now l.flags.now h xs n c.accept.new.self within set c.in_err-accept.field-0.0 kept)
+    rw p.1 (flagged_refused (holds l.set) l.start l.origins.now l.values.now l.flags.now h xs n c.accept.new.self within set c.in_err-accept.field-0.0 kept)

@@ -1,6 +1,7 @@
 use Rattle.std.proofs.Common.{◌≡◌, List, ◌++◌}
 use Rattle.trace.specs.declared.item.Item.{Item}
 use Rattle.trace.specs.declared.sink.Flow.TheVariants as flow
+use Rattle.batch_eval.specs.Batches.{holds}
 use Rattle.batch_eval.proofs.FlaggedLemmas.{front}
 use Rattle.batch_eval.proofs.flagged.accept_each_flagged.Given as goal
 
@@ -8,5 +9,5 @@ abbrev pub invariant-loop-lane : goal.invariant-loop-lane
 invariant-loop-lane g l =
     record {
       wants : g.S.LongSink.flow l.sink ≡ flow.More;
-      taken : (xs : List Item) → g.S.LongSink.has_taken l.initial.sink xs → g.S.LongSink.has_taken l.sink (xs ++ front l.lanes.start l.lanes.origins.now l.lanes.values.now l.lanes.flags.now l.lane);
+      taken : (xs : List Item) → g.S.LongSink.has_taken l.initial.sink xs → g.S.LongSink.has_taken l.sink (xs ++ front (holds l.lanes.set) l.lanes.start l.lanes.origins.now l.lanes.values.now l.lanes.flags.now l.lane);
     }

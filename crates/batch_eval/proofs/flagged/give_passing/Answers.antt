@@ -2,20 +2,21 @@ use Rattle.std.proofs.Common.{◌≤◌, length, sym, subst, arith}
 use Rattle.lambda_values.specs.Term.{truth_of}
 use Rattle.trace.specs.Trace.{Trace}
 use Rattle.trace.specs.Sinks.{IsFed}
-use Rattle.batch_eval.specs.Lanes.{at}
-use Rattle.batch_eval.specs.Batches.{item_at}
+use Rattle.batch_eval.specs.Lanes.{at, flag_of}
+use Rattle.batch_eval.specs.Batches.{holds, item_at}
 use Rattle.batch_eval.proofs.FlaggedLemmas.{flags_cut}
 use Rattle.batch_eval.proofs.Walks.{each_filtered}
 use Rattle.batch_eval.proofs.flagged.give_passing.Goals as goal
 
 pub returns-clause-fed : goal.returns-clause-fed
 returns-clause-fed g c = λ xs took.
-    let r = c.eval_bool-reached.result in
-    let out = c.eval_bool-reached.new.out in
+    let r = c.flags_of.result.2 in
+    let flags = c.flags_of.result.0.now in
+    let set = holds c.flags_of.result.1 in
     let h = g.S.LongSink.has_taken in
     let lane = item_at c.args.lanes.start c.args.lanes.places.now c.args.lanes.values.now in
-    let whole = each_filtered (truth_of c.args.test.now) c.args.line.env.now c.args.line.first (length c.args.lanes.values.now) lane (at out) r c.args.end c.eval_bool-reached.ensures in
-    let within : r.live ≤ length out = omega (arith, c.eval_bool-reached.ensures.within, c.requires.flags, c.eval_bool-reached.auto.out) in
-    let cut = flags_cut c.args.lanes.start c.args.lanes.places.now c.args.lanes.values.now out r.live within in
+    let whole = each_filtered (truth_of c.args.test.now) c.args.line.env.now c.args.line.first (length c.args.lanes.values.now) lane (λ k. flag_of (set (at flags k))) r c.args.end c.flags_of.ensures.reached in
+    let within : r.live ≤ length flags = omega (arith, c.flags_of.ensures.reached.within, c.flags_of.ensures.flags) in
+    let cut = flags_cut set c.args.lanes.start c.args.lanes.places.now c.args.lanes.values.now flags r.live within in
     let fed = rw (cut, c.stopped-end.ensures) at (c.give_flagged.ensures.fed xs took) in
     subst (λ (t : Trace). IsFed h xs t c.give_flagged.result c.give_flagged.new.sink) (sym whole) fed

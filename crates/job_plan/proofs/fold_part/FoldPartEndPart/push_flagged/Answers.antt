@@ -16,4 +16,4 @@ returns-in-Some-clause-taken c = λ yes e n env t xs same.
 pub returns-in-Some-clause-open : goal.returns-in-Some-clause-open
 returns-in-Some-clause-open c =
     ap is_fault (merged_end c.args.self.now.partial c.in-Some.right c.merge-self.result c.merge-self.ensures.stands (c.in-Some.ensures.op ∙ c.op.ensures) c.in-Some.ensures.ending)
-    ∙ c.requires.open
+    ∙ c.requires
