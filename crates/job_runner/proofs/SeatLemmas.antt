@@ -167,15 +167,6 @@ module _ {V K T : Type 0} {g : Ghosts K V T} {id : TableId} {jobs : ℕ} {start 
     knows = rest_knows node credit seat rest h.knows is;
   }
 
-  -- a seat has each of the arrivals that it has
-  pub first_kept : (node : ℕ) (left : List ℕ) (seat : Seat V K T g) → HasKept id jobs start keeps (node ∷ left) seat → HasKept id jobs start keeps (node ∷ []) seat
-  first_kept node left seat h = record {
-    table = h.table;
-    held = λ i. let a = h.held i in omega arith;
-    plain_at = λ i there. h.plain_at i (omega arith);
-    knows = h.knows;
-  }
-
   -- who gave the result of a tree has what its top kept
   pub kept_back : (job : ℕ) (seat later : Seat V K T g) (p : Place T) → job < jobs → table_of later ≡ id → CanHand id p seat → KnowsTop (keeps job) p.root (view_of seat) → KnowsStarts jobs start keeps (view_of seat) → tree.HasKept p (view_of seat) (view_of later)
       → HasKept id jobs start keeps (keeps job) later
@@ -210,5 +201,5 @@ module _ {V K T : Type 0} {g : Ghosts K V T} {id : TableId} {jobs : ℕ} {start 
   ends_kept l seat h = let a = h.held 0 in let t = total-append (one_at 0) l (0 ∷ []) in let o = at_here 0 in omega arith
 
   -- the next of those that wait
-  pub next_waits : (ws : List Waiting) (k : ℕ) (w : Waiting) (seat : Seat V K T g) → k < length ws → w ≡ get_or ws k w → HasKept id jobs start keeps (nodes_in (drop k ws) ++ 0 ∷ []) seat → HasKept id jobs start keeps (w.node ∷ (nodes_in (drop (k + 1) ws) ++ 0 ∷ [])) seat
-  next_waits ws k w seat low is h = subst (λ l. HasKept id jobs start keeps l seat) (ap (λ (l : List Waiting). nodes_in l ++ 0 ∷ []) (drop_more ws k w low) ∙ ap (λ (z : Waiting). z.node ∷ (nodes_in (drop (k + 1) ws) ++ 0 ∷ [])) (sym is)) h
+  pub next_waits : (ws : List Waiting) (k : ℕ) (w : Waiting) (seat : Seat V K T g) → k < length ws → HasKept id jobs start keeps (nodes_in (drop k ws) ++ 0 ∷ []) seat → HasKept id jobs start keeps ((get_or ws k w).node ∷ (nodes_in (drop (k + 1) ws) ++ 0 ∷ [])) seat
+  next_waits ws k w seat low h = subst (λ l. HasKept id jobs start keeps l seat) (ap (λ (l : List Waiting). nodes_in l ++ 0 ∷ []) (drop_more ws k w low)) h

@@ -8,10 +8,11 @@ ghost use Rattle.job_runner.specs.Starts.{HasStarts, all_waiting};
 ghost use Rattle.job_runner.specs.Waits.{nodes_in};
 
 use crate::NoMemory;
-use crate::cut::{TableCounts, TableSeat};
+use crate::cut::{CutPiece, TableCounts, TableSeat};
 use crate::segments::JobSegments;
 use crate::start::{Start, Waiting};
 use completion_core::{END, Node};
+use pending_count::{Counts, Fits, Seat};
 use std::alloc::Global;
 use std::mem;
 
@@ -94,16 +95,15 @@ fn add_start(armed: &mut Armed, start: Start, names: &[usize], job: usize) -> Re
     Ok(())
 }
 
-/// Claims and arms the start node of the last job that has none. `None` if there is no node.
-fn arm_one<S: JobSegments>(
+/// Claims and arms the start node of the last job that has none, which names these ones. `None` if there is no node.
+fn arm_one<V, K: Fits<V, Tag = CutPiece>>(
     alloc: Global,
-    jobs: &S,
-    counts: &TableCounts<S>,
+    counts: &Counts<V, K>,
     job: usize,
-    seat: TableSeat<S>,
+    names: &[usize],
+    seat: Seat<V, K>,
     armed: &mut Armed,
-) -> Result<Option<TableSeat<S>>, NoMemory>
-    requires job { job < S.job_count }
+) -> Result<Option<Seat<V, K>>, NoMemory>
     requires table { IsSeatOf counts.now seat }
     requires has { HasStarts (job + 1) armed.old.starts.items (all_waiting armed.old.waiting.items) (view_of seat) }
     ensures table { IfOk result (λ found. IfSome found (λ later. IsSeatOf counts.now later)) }
@@ -112,9 +112,6 @@ fn arm_one<S: JobSegments>(
     ensures has { IfOk result (λ found. IfSome found
         (λ later. HasStarts job armed.new.starts.items (all_waiting armed.new.waiting.items) (view_of later))) }
 {
-    let Ok(names) = jobs.names(alloc, job) else {
-        return Err(NoMemory);
-    };
     let Ok(pending) = u32::try_from(names.len()) else {
         return Err(NoMemory);
     };
@@ -132,7 +129,7 @@ fn arm_one<S: JobSegments>(
         onward,
         waiting,
     };
-    match add_start(armed, start, &names, job) {
+    match add_start(armed, start, names, job) {
         Ok(()) => Ok(Some(seat)),
         Err(refused) => Err(refused),
     }
@@ -160,7 +157,8 @@ pub(crate) fn arm_all<S: JobSegments>(
     let mut seat = first;
     for done in 0..count {
         let job = count - 1 - done;
-        seat = match arm_one(alloc, jobs, counts, job, seat, &mut armed) {
+        let names = jobs.names(alloc, job)?;
+        seat = match arm_one(alloc, counts, job, &names, seat, &mut armed) {
             Ok(Some(later)) => later,
             Ok(None) => return Ok(None),
             Err(refused) => return Err(refused),

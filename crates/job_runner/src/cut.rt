@@ -28,7 +28,7 @@ impl CutPiece {
         requires { piece.from + 1 < piece.to }
         ensures of { (result.job ≡ piece.job) × (result.segment ≡ piece.segment) × (result.from ≡ piece.from)
             × (result.to ≡ piece.to) }
-        ensures within { (piece.from < result.middle) × (result.middle < piece.to) }
+        ensures within { (result.from < result.middle) × (result.middle < result.to) }
         ensures middle { (result.middle - piece.from ≤ piece.to - result.middle)
             × (piece.to - result.middle ≤ result.middle - piece.from + 1) }
     {

@@ -7,7 +7,7 @@ use crate::cut::{Merged, SegmentPart, TableKept, TablePart};
 use crate::earlier::Earlier;
 use crate::piece::SegmentInput;
 use crate::places::{
-    drop_source, hold_source, keep_answer, keep_given, keep_source, kept_given, size_of,
+    hold_source, keep_answer, keep_given, keep_source, kept_given, put_source, size_of,
 };
 use crate::segments::{Begun, JobSegments};
 use crate::task::{
@@ -78,7 +78,7 @@ impl<'a, S: JobSegments, R: RunBrand> JobWork<'a, S, TablePart<S>, TableKept<S>,
         requires part { S.stands_for job segment 0 (S.size_of job segment) part }
         ensures { IfSome result (λ next. (next.0 ≤ S.last_of job) × (next.1 ≡ S.size_of job next.0)) }
     {
-        drop_source(&self.places, job, segment);
+        put_source(&self.places, job, segment, None);
         let Ok(source) = self.jobs.next_source(self.alloc, job, segment, part, given) else {
             return None;
         };
@@ -102,16 +102,14 @@ impl<'a, S: JobSegments, R: RunBrand> JobWork<'a, S, TablePart<S>, TableKept<S>,
         requires part { S.stands_for job segment 0 (S.size_of job segment) part }
         ensures { IfSome result (λ next. (next.0 ≤ S.last_of job) × (next.1 ≡ S.size_of job next.0)) }
     {
-        let Some(given) = kept_given(&self.places, job) else {
-            return None;
-        };
+        let given = kept_given(&self.places, job)?;
         if segment < self.jobs.last_segment(job) {
             return self.leave_source(job, segment, part, given);
         }
         if let Ok(answer) = last_answer(self, job, segment, part, given, scratch) {
             keep_answer(&self.places, gate, job, answer);
         }
-        drop_source(&self.places, job, segment);
+        put_source(&self.places, job, segment, None);
         None
     }
 
@@ -136,7 +134,7 @@ impl<'a, S: JobSegments, R: RunBrand> JobWork<'a, S, TablePart<S>, TableKept<S>,
             Merged::Caught => {
                 let answer = self.jobs.answer_instead(job);
                 keep_answer(&self.places, gate, job, answer);
-                drop_source(&self.places, job, segment);
+                put_source(&self.places, job, segment, None);
                 None
             }
         }
@@ -178,6 +176,21 @@ impl<'a, S: JobSegments, R: RunBrand> JobWork<'a, S, TablePart<S>, TableKept<S>,
         let first = self.begin(begun, 0, size, tools);
         self.end_segments(first, tools)
     }
+
+    /// Runs a task. `Some` if its job is over then.
+    fn run_task<G: Gate, P: Spawn<TableTask<S, R>>>(
+        &self,
+        task: TableTask<S, R>,
+        tools: &mut TableTools<'_, S, R, G, P>,
+    ) -> Option<TableJobSeat<S, R>> {
+        match task {
+            Task::Begin(begun) => self.run_job(begun, tools),
+            Task::Walk(side) => {
+                let whole = self.walk(side, tools);
+                self.end_segments(whole, tools)
+            }
+        }
+    }
 }
 
 impl<'a, S: JobSegments, R: RunBrand> JobWork<'a, S, TablePart<S>, TableKept<S>, R> {
@@ -192,11 +205,11 @@ impl<'a, S: JobSegments, R: RunBrand> JobWork<'a, S, TablePart<S>, TableKept<S>,
         depth: usize,
     ) -> Option<TableJobSeat<S, R>> {
         let JobSeat { seat, job, of: _ } = over;
-        let waiting = self.waiting_for(job);
+        let waiting = self.nodes.waiting_for(job);
         let mut seat = seat;
         let mut next = None;
         for at in 0..waiting.len() {
-            let (rest, freed) = self.free_next(seat, waiting, at);
+            let (rest, freed) = self.nodes.free_next(seat, waiting, at);
             seat = rest;
             if let Some(freed) = freed {
                 if let Some(other) = next.replace(freed) {
@@ -204,7 +217,7 @@ impl<'a, S: JobSegments, R: RunBrand> JobWork<'a, S, TablePart<S>, TableKept<S>,
                 }
             }
         }
-        let _ = self.counts.settle(seat);
+        let _ = self.nodes.counts.settle(seat);
         next
     }
 
@@ -233,21 +246,15 @@ impl<'a, S: JobSegments, R: RunBrand> JobWork<'a, S, TablePart<S>, TableKept<S>,
         tools: &mut TableTools<'_, S, R, G, P>,
         depth: usize,
     ) {
-        let mut over = match task {
-            Task::Begin(begun) => self.run_job(begun, tools),
-            Task::Walk(side) => {
-                let whole = self.walk(side, tools);
-                self.end_segments(whole, tools)
-            }
-        };
+        let mut task = task;
         for _ in 0..u64::MAX {
-            let Some(job) = over else {
+            let Some(job) = self.run_task(task, tools) else {
                 return;
             };
             let Some(next) = self.end_job(job, tools, depth) else {
                 return;
             };
-            over = self.run_job(next, tools);
+            task = Task::Begin(next);
         }
     }
 }

@@ -22,13 +22,13 @@ mod credit;
 mod cut;
 mod earlier;
 mod ending;
-mod freeing;
 mod nodes;
 mod opening;
 mod parts;
 mod piece;
 mod places;
 mod run;
+mod run_nodes;
 mod segments;
 mod start;
 mod stopping;
@@ -36,7 +36,6 @@ mod task;
 mod tools;
 mod walking;
 mod watch;
-mod watching;
 mod work;
 
 pub use cut::{CutPiece, Join, Merged, SegmentPart, TableCounts, TableKept, TablePart, TableSeat};
@@ -45,12 +44,13 @@ pub use opening::{FreshCounts, TableFreshCounts};
 pub use piece::{Piece, SegmentInput};
 pub use places::{JobPlaces, KeptAnswer, KeptGiven, KeptSource};
 pub use run::run_all;
+pub use run_nodes::RunNodes;
 pub use segments::{Begun, JobSegments};
 pub use start::{Start, Waiting};
 pub use std::alloc::AllocError as NoMemory;
 pub use stopping::{RunSegments, RunStops};
 pub use task::{
     FinishedSegment, Idle, JobSeat, RunBrand, SideTask, Spare, TableFinishedSegment, TableIdle,
-    TableJobSeat, TableSideTask, TableSpare, TableTask, TableUnopenedJobs, Task, UnopenedJobs,
+    TableJobSeat, TableSideTask, TableTask, Task, UnopenedJobs,
 };
 pub use work::{JobWork, TableWork};

@@ -61,25 +61,13 @@ fn divided_of_job<S: JobSegments>(jobs: &S, job: usize, from: usize) -> u64
     count
 }
 
-/// The most nodes that the segments of all jobs use if no piece is longer than this. A later segment is taken to have
-/// no more positions than the first one.
-fn cuts_of_all<S: JobSegments>(jobs: &S, longest: u64) -> u64 {
-    let mut cuts = 0u64;
-    for job in 0..jobs.jobs() {
-        let divided = divided_of_job(jobs, job, 0);
-        let each = cuts_within(jobs.likely_size(job), longest);
-        cuts = cuts.saturating_add(divided.saturating_mul(each));
-    }
-    cuts
-}
-
-/// The most nodes that the segments of all jobs use, of those from this number on in each job, whatever they go over.
-fn cuts_of_segments<S: JobSegments>(jobs: &S, settings: Settings, from: usize) -> u64 {
-    let longest = share_of(u64::MAX, pieces_of_segment(settings));
-    let each = cuts_within(u64::MAX, longest);
+/// The most nodes that the segments of all jobs use, of those from this number on in each job, if no piece is longer
+/// than `longest`. A segment is taken to have no more positions than the first one of its job, or than `size`.
+fn cuts_of_all<S: JobSegments>(jobs: &S, from: usize, size: u64, longest: u64) -> u64 {
     let mut cuts = 0u64;
     for job in 0..jobs.jobs() {
         let divided = divided_of_job(jobs, job, from);
+        let each = cuts_within(jobs.likely_size(job).max(size), longest);
         cuts = cuts.saturating_add(divided.saturating_mul(each));
     }
     cuts
@@ -92,11 +80,12 @@ pub(crate) fn most_positions<S: JobSegments>(jobs: &S, settings: Settings) -> u6
     ensures some { 0 < result }
     ensures threshold { threshold_of settings ≤ result }
 {
-    let nodes = cuts_of_segments(jobs, settings, 0).min(settings.nodes());
+    let share = share_of(u64::MAX, pieces_of_segment(settings));
+    let nodes = cuts_of_all(jobs, 0, u64::MAX, share).min(settings.nodes());
     let mut longest = settings.threshold();
     for _doubled in 0..64 {
         let twice = longest.saturating_mul(2);
-        if cuts_of_all(jobs, longest) <= nodes || cuts_of_all(jobs, twice) == 0 {
+        if cuts_of_all(jobs, 0, 0, longest) <= nodes || cuts_of_all(jobs, 0, 0, twice) == 0 {
             break;
         }
         longest = twice;
@@ -111,8 +100,9 @@ pub(crate) fn node_count<S: JobSegments>(jobs: &S, settings: Settings, longest: 
     ensures starts { min S.job_count (2 ^ 32 - 1) ≤ result }
     ensures few { result ≤ S.job_count + nodes_of settings }
 {
-    let all = cuts_of_all(jobs, longest)
-        .max(cuts_of_segments(jobs, settings, 1))
+    let share = share_of(u64::MAX, pieces_of_segment(settings));
+    let all = cuts_of_all(jobs, 0, 0, longest)
+        .max(cuts_of_all(jobs, 1, u64::MAX, share))
         .min(settings.nodes())
         .saturating_add(jobs.jobs() as u64);
     all.min(u64::from(u32::MAX)) as u32

@@ -1,27 +1,20 @@
 //! The counts of a run, the openings of the jobs, and the seats of the workers.
-ghost use Rattle.std.specs.Prelude.{◌≡◌, ◌<◌, ◌≤◌, ◌-◌, ℕ, [], length, IfOk, IfSome};
-ghost use Rattle.pending_count.specs.Seats.{view_of, IsSeatOf};
-ghost use Rattle.completer_tree.specs.Trees.{table_id_of};
+ghost use Rattle.std.specs.Prelude.{◌≡◌, ◌<◌, ◌≤◌, [], length, IfOk, IfSome};
+ghost use Rattle.pending_count.specs.Seats.{table_of, view_of, IsSeatOf};
 ghost use Rattle.early_stop.specs.Seats.{IsSeatOf as IsStopSeatOf, table_of as stop_table_of, segments_of, count_of};
 ghost use Rattle.job_runner.specs.Starts.{HasStarts};
 ghost use Rattle.job_runner.specs.Stops.{stop_id_of};
-ghost use Rattle.job_runner.specs.Tasks.{CanArrive};
 
 use crate::NoMemory;
 use crate::arming::arm_all;
-use crate::credit::split_spare;
-use crate::cut::{CutPiece, TableCounts, TableKept, TablePart, TableSeat};
+use crate::cut::{CutPiece, TableCounts, TableKept, TablePart};
 use crate::nodes::{most_positions, node_count, segment_count};
+use crate::run_nodes::RunNodes;
 use crate::segments::JobSegments;
 use crate::start::Start;
 use crate::stopping::{RunSegments, RunStops};
-use crate::task::{
-    Idle, JobSeat, RunBrand, TableIdle, TableSpare, TableTask, TableUnopenedJobs, Task,
-    UnopenedJobs,
-};
-use crate::work::{JobWork, TableWork};
-use completer_tree::Tree;
-use completion_core::{END, Node};
+use crate::task::{Idle, RunBrand, Spare, Task, UnopenedJobs};
+use completion_core::END;
 use early_stop::{Cut as StopWords, CutSeat, Segments};
 use pending_count::{Counts, Fits, Seat};
 use run_settings::Settings;
@@ -93,154 +86,111 @@ fn stop_words<S: JobSegments>(alloc: Global, jobs: &S) -> Result<(RunStops<S>, C
     RunStops::<S>::new(alloc, &segments)
 }
 
-/// Arrives at the start node of a job, along the path of that node alone: the next one on the way is arrived at
-/// once the job has left its answer. If it is the last arrival, the job may begin.
-pub(crate) fn arrive_at<V, K: Fits<V, Tag = CutPiece>, R: RunBrand>(
-    counts: &Counts<V, K>,
-    seat: Seat<V, K>,
-    job: usize,
-    node: Node,
-) -> Option<JobSeat<V, K, R>>
-    requires table { table_id_of counts.now ≡ R.table }
-    requires job { job < R.jobs }
-    requires node { node ≡ R.start job }
-    requires can { CanArrive R.table R.jobs R.start R.keeps job seat }
-{
-    let path = [node];
-    let tree = Tree::new(counts, &[]);
-    let (seat, finished) = tree.propagate_completion(seat, &path);
-    if finished == 0 {
-        return None;
-    }
-    let begun = JobSeat {
-        seat,
-        job,
-        of: PhantomData,
-    };
-    Some(begun)
-}
-
-/// Opens the last job that isn't opened, whose start node this is. `Some` if the job names no other one, so that it
-/// may begin.
-fn open_one<V, K: Fits<V, Tag = CutPiece>, R: RunBrand>(
-    counts: &Counts<V, K>,
-    unopened: UnopenedJobs<V, K, R>,
-    node: Node,
-) -> (UnopenedJobs<V, K, R>, Option<JobSeat<V, K, R>>)
-    requires table { table_id_of counts.now ≡ R.table }
-    requires some_left { 0 < unopened.jobs }
-    requires node { node ≡ R.start (unopened.jobs - 1) }
-    ensures { result.0.jobs ≡ unopened.jobs - 1 }
-{
-    let UnopenedJobs { seat, jobs, of } = unopened;
-    let share = seat.credit() / jobs as u64;
-    let job = jobs - 1;
-    let (seat, part) = counts.split(seat, node, 1, share);
-    let rest = UnopenedJobs {
-        seat,
-        jobs: job,
-        of,
-    };
-    (rest, arrive_at(counts, part, job, node))
-}
-
-impl<'a, S: JobSegments, R: RunBrand> JobWork<'a, S, TablePart<S>, TableKept<S>, R> {
-    /// Tasks for the jobs that name no other one, the last job first, and an `Idle` with an equal part of the credit
-    /// for each worker.
-    pub(crate) fn open_all(
+impl<V, K: Fits<V, Tag = CutPiece>, R: RunBrand> RunNodes<V, K, R> {
+    /// Tasks for the jobs that name no other one, the last job first.
+    fn open_jobs(
         &self,
-        unopened: TableUnopenedJobs<S, R>,
-        spare: TableSpare<S, R>,
-        stop_seat: CutSeat,
-        workers: u64,
-    ) -> Result<(Vec<TableTask<S, R>>, Vec<TableIdle<S, R>>), NoMemory>
-        requires stops { stop_table_of stop_seat ≡ R.stops }
-        ensures tasks { IfOk result (λ made. length made.0.items ≤ unopened.jobs) }
-        ensures idles { IfOk result (λ made. length made.1.items ≡ workers) }
+        alloc: Global,
+        first: UnopenedJobs<V, K, R>,
+    ) -> Result<Vec<Task<V, K, R>>, NoMemory>
+        ensures { IfOk result (λ tasks. length tasks.items ≤ first.jobs) }
     {
-        let mut tasks = Vec::new(self.alloc);
-        let count = unopened.jobs;
-        let mut unopened = unopened;
+        let mut tasks = Vec::new(alloc);
+        let count = first.jobs;
+        let mut unopened = first;
         for _opened in 0..count {
-            let node = self.start(unopened.jobs - 1).node;
-            let (rest, begun) = open_one(&self.counts, unopened, node);
+            let (rest, begun) = self.open_one(unopened);
             unopened = rest;
             if let Some(begun) = begun {
                 tasks.push(Task::Begin(begun))?;
             }
         }
-        let UnopenedJobs { seat, jobs: _, of } = unopened;
-        let first = Idle {
-            seat,
-            spare: Some(spare),
-            stop_seat,
-            scratch: self.jobs.scratch(self.alloc),
-            of,
-        };
-        match self.idle_seats(first, workers) {
-            Ok(idles) => Ok((tasks, idles)),
-            Err(refused) => Err(refused),
-        }
+        Ok(tasks)
     }
 }
 
-impl<'a, S: JobSegments, R: RunBrand> JobWork<'a, S, TablePart<S>, TableKept<S>, R> {
-    /// This many `Idle`s, split off the first one, each with an equal part of its credit.
-    fn idle_seats(
-        &self,
-        first: TableIdle<S, R>,
-        workers: u64,
-    ) -> Result<Vec<TableIdle<S, R>>, NoMemory>
-        ensures { IfOk result (λ idles. length idles.items ≡ workers) }
-    {
-        let mut idles = Vec::new(self.alloc);
-        let mut left = first;
-        for made in 0..workers {
-            let scratch = self.jobs.scratch(self.alloc);
-            let (rest, part) = idle_one(&self.counts, &self.stops, left, workers - made, scratch);
-            left = rest;
-            idles.push(part)?;
-        }
-        Ok(idles)
-    }
-}
-
-/// One `Idle` with one of that many equal parts of the credit, and the one that it was split off from.
+/// One `Idle` with one of that many equal parts of the credit, and the seats that it was split off from.
 fn idle_one<V, K: Fits<V, Tag = CutPiece>, R: RunBrand, T, Z: Segments>(
-    counts: &Counts<V, K>,
+    nodes: &RunNodes<V, K, R>,
     stops: &StopWords<Z>,
-    from: Idle<V, K, R, T>,
+    credit: Spare<V, K, R>,
+    stop_seat: CutSeat,
     parts: u64,
-    scratch_part: T,
-) -> (Idle<V, K, R, T>, Idle<V, K, R, T>)
-    requires table { table_id_of counts.now ≡ R.table }
-    requires stops { stop_id_of stops.now ≡ R.stops }
+) -> (Spare<V, K, R>, CutSeat, Idle<V, K, R, T>)
+    requires stops { (stop_id_of stops.now ≡ R.stops) × (stop_table_of stop_seat ≡ R.stops) }
     requires parts { 0 < parts }
+    ensures { stop_table_of result.1 ≡ R.stops }
 {
-    let Idle {
-        seat,
-        spare,
-        stop_seat,
-        scratch,
-        of,
-    } = from;
-    let (seat, part) = counts.split(seat, END, 0, 0);
-    let (spare, spare_part) = split_spare(counts, spare, parts);
+    let (credit, part) = nodes.split_spare(credit, parts);
+    let Spare { seat, of } = part;
+    let (seat, asking) = nodes.counts.split(seat, END, 0, 0);
     let (stop_seat, stop_part) = stops.split(stop_seat);
-    (
-        Idle {
-            seat,
-            spare,
-            stop_seat,
-            scratch,
-            of,
-        },
-        Idle {
-            seat: part,
-            spare: spare_part,
-            stop_seat: stop_part,
-            scratch: scratch_part,
-            of: PhantomData,
-        },
-    )
+    let idle = Idle {
+        seat: asking,
+        spare: Some(Spare { seat, of }),
+        stop_seat: stop_part,
+        scratch: None,
+        of: PhantomData,
+    };
+    (credit, stop_seat, idle)
+}
+
+/// This many `Idle`s, each with an equal part of the credit.
+fn idle_seats<V, K: Fits<V, Tag = CutPiece>, R: RunBrand, T: Drop, Z: Segments>(
+    alloc: Global,
+    nodes: &RunNodes<V, K, R>,
+    stops: &StopWords<Z>,
+    credit: Spare<V, K, R>,
+    stop_seat: CutSeat,
+    workers: u64,
+) -> Result<Vec<Idle<V, K, R, T>>, NoMemory>
+    requires stops { (stop_id_of stops.now ≡ R.stops) × (stop_table_of stop_seat ≡ R.stops) }
+    ensures { IfOk result (λ idles. length idles.items ≡ workers) }
+{
+    let mut idles = Vec::new(alloc);
+    let mut left = credit;
+    let mut stop_left = stop_seat;
+    for made in 0..workers {
+        let (rest, stop_rest, idle) = idle_one(nodes, stops, left, stop_left, workers - made);
+        left = rest;
+        stop_left = stop_rest;
+        idles.push(idle)?;
+    }
+    Ok(idles)
+}
+
+/// Tasks for the jobs that name no other one, the last job first, and an `Idle` for each worker. Half of the credit is
+/// for the jobs, and an equal part of the other half for each worker.
+pub(crate) fn open_all<V, K: Fits<V, Tag = CutPiece>, R: RunBrand, T: Drop, Z: Segments>(
+    alloc: Global,
+    nodes: &RunNodes<V, K, R>,
+    stops: &StopWords<Z>,
+    seat: Seat<V, K>,
+    stop_seat: CutSeat,
+    workers: u64,
+) -> Result<(Vec<Task<V, K, R>>, Vec<Idle<V, K, R, T>>), NoMemory>
+    requires table { table_of seat ≡ R.table }
+    requires started { HasStarts 0 nodes.now.starts.items [] (view_of seat) }
+    requires stops { (stop_id_of stops.now ≡ R.stops) × (stop_table_of stop_seat ≡ R.stops) }
+    ensures tasks { IfOk result (λ made. length made.0.items ≤ R.jobs) }
+    ensures idles { IfOk result (λ made. length made.1.items ≡ workers) }
+{
+    let half = seat.credit() / 2;
+    let (seat, other) = nodes.counts.split(seat, END, 0, half);
+    let unopened = UnopenedJobs {
+        seat,
+        jobs: nodes.starts.len(),
+        of: PhantomData,
+    };
+    let spare = Spare {
+        seat: other,
+        of: PhantomData,
+    };
+    let Ok(tasks) = nodes.open_jobs(alloc, unopened) else {
+        return Err(NoMemory);
+    };
+    match idle_seats(alloc, nodes, stops, spare, stop_seat, workers) {
+        Ok(idles) => Ok((tasks, idles)),
+        Err(refused) => Err(refused),
+    }
 }

@@ -124,11 +124,7 @@ fn word_after(first: u64, segment: usize) -> u32
     ensures { result < 2 ^ 32 - 1 → (result ≡ first + segment) × (first < 2 ^ 64 - 1) }
 {
     let word = first.saturating_add(segment as u64);
-    if word < u64::from(u32::MAX) {
-        word as u32
-    } else {
-        u32::MAX
-    }
+    word.min(u64::from(u32::MAX)) as u32
 }
 
 /// The empty places of all jobs.
@@ -154,15 +150,13 @@ fn source_place<S: JobSegments>(
     job: usize,
     segment: usize,
 ) -> Option<&RwLock<Option<KeptSource<S>>>> {
-    match (places.get(job), segment.checked_sub(1)) {
-        (Some(of_job), Some(before)) => of_job.sources.get(before),
-        _ => None,
-    }
+    let before = segment.checked_sub(1)?;
+    places.get(job)?.sources.get(before)
 }
 
-/// Leaves the source of a segment in its place, or empties it. If it has none, or a reader holds the place, nothing
-/// changes, and what was to be left is dropped.
-fn put_source<S: JobSegments>(
+/// Leaves the source of a segment in its place, or empties it and frees what lay there. If it has none, or a reader
+/// holds the place, nothing changes, and what was to be left is dropped: a source stays until the run ends.
+pub(crate) fn put_source<S: JobSegments>(
     places: &[JobPlaces<S>],
     job: usize,
     segment: usize,
@@ -194,12 +188,6 @@ pub(crate) fn keep_source<S: JobSegments>(
     put_source(places, job, segment, Some(kept));
 }
 
-/// Empties the place of a segment that has ended, and frees what lay there. If a reader holds the place, the source
-/// stays until the run ends.
-pub(crate) fn drop_source<S: JobSegments>(places: &[JobPlaces<S>], job: usize, segment: usize) {
-    put_source(places, job, segment, None);
-}
-
 /// Holds the source of a segment. It doesn't wait.
 pub(crate) fn hold_source<'w, S: JobSegments>(
     jobs: &S,
@@ -217,10 +205,8 @@ pub(crate) fn hold_source<'w, S: JobSegments>(
             of: PhantomData,
         }));
     }
-    match source_place(places, job, segment)?.try_read() {
-        Some(place) => Some(HeldSource::Place(place)),
-        None => None,
-    }
+    let place = source_place(places, job, segment)?.try_read()?;
+    Some(HeldSource::Place(place))
 }
 
 /// Leaves what a job takes of earlier answers in its place.
@@ -240,10 +226,7 @@ pub(crate) fn keep_given<S: JobSegments>(places: &[JobPlaces<S>], job: usize, gi
 pub(crate) fn kept_given<S: JobSegments>(places: &[JobPlaces<S>], job: usize) -> Option<&S::Given>
     ensures { IfSome result (λ given. S.is_given job given.now) }
 {
-    let Some(of_job) = places.get(job) else {
-        return None;
-    };
-    match of_job.given.get() {
+    match places.get(job)?.given.get() {
         Some(kept) if kept.job == job => Some(&kept.given),
         _ => None,
     }
@@ -259,16 +242,10 @@ pub(crate) fn size_of<S: JobSegments>(
     requires known { (job < S.job_count) × (segment ≤ S.last_of job) }
     ensures { IfSome result (λ size. size ≡ S.size_of job segment) }
 {
-    let Some(given) = kept_given(places, job) else {
-        return None;
-    };
-    let Some(held) = hold_source(jobs, places, job, segment) else {
-        return None;
-    };
-    match held.source(job, segment) {
-        Some(source) => Some(jobs.size(job, segment, source, given)),
-        None => None,
-    }
+    let given = kept_given(places, job)?;
+    let held = hold_source(jobs, places, job, segment)?;
+    let source = held.source(job, segment)?;
+    Some(jobs.size(job, segment, source, given))
 }
 
 /// Leaves the answer of a job in its place, and calls the gate.
@@ -294,10 +271,7 @@ pub(crate) fn keep_answer<S: JobSegments, G: Gate>(
 pub(crate) fn kept_answer<S: JobSegments>(places: &[JobPlaces<S>], job: usize) -> Option<&S::Answer>
     ensures { IfSome result (λ answer. S.is_answer job answer.now) }
 {
-    let Some(of_job) = places.get(job) else {
-        return None;
-    };
-    match of_job.answer.get() {
+    match places.get(job)?.answer.get() {
         Some(kept) if kept.job == job => Some(&kept.answer),
         _ => None,
     }

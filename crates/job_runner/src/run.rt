@@ -111,7 +111,7 @@ where
     match TableWork::<S, R>::new(alloc, jobs, settings, opened) {
         Ok((work, tasks, idles)) => {
             // There are never more tasks than nodes.
-            let nodes = work.counts.nodes() as usize;
+            let nodes = work.nodes.counts.nodes() as usize;
             run_tasks(rt, alloc, gate, &work, tasks, idles, nodes);
             let JobWork { places, .. } = work;
             Ok(places)

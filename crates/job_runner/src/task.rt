@@ -91,14 +91,14 @@ pub struct Spare<V, K: Fits<V, Tag = CutPiece>, R: RunBrand> {
     ghost unplaced: { length (view_of seat).places ≡ 0 },
 }
 
-/// A worker's right to ask how many jobs are left, its credit, its seat at the words of early stop, and what it keeps
-/// from one leaf to the next.
+/// A worker's right to ask how many jobs are left, its credit, its seat at the words of early stop, and, once it has
+/// run a task, what it keeps from one leaf to the next.
 #[derive(Drop)]
 pub struct Idle<V, K: Fits<V, Tag = CutPiece>, R: RunBrand, T> {
     pub(crate) seat: Seat<V, K>,
     pub(crate) spare: Option<Spare<V, K, R>>,
     pub(crate) stop_seat: CutSeat,
-    pub(crate) scratch: T,
+    pub(crate) scratch: Option<T>,
     pub(crate) of: PhantomData<R>,
     ghost table: { table_of seat ≡ R.table },
     ghost stops: { stop_table_of stop_seat ≡ R.stops },
@@ -133,10 +133,6 @@ pub type TableSideTask<S, R> = SideTask<TablePart<S>, TableKept<S>, R>;
 
 pub type TableTask<S, R> = Task<TablePart<S>, TableKept<S>, R>;
 
-pub type TableSpare<S, R> = Spare<TablePart<S>, TableKept<S>, R>;
-
 pub type TableIdle<S, R> = Idle<TablePart<S>, TableKept<S>, R, <S as JobSegments>::Scratch>;
-
-pub type TableUnopenedJobs<S, R> = UnopenedJobs<TablePart<S>, TableKept<S>, R>;
 
 pub type TableFinishedSegment<S, R> = FinishedSegment<TablePart<S>, TableKept<S>, R>;

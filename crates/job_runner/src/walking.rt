@@ -4,7 +4,6 @@ ghost use Rattle.trace.specs.declared.item.Fault.{Fault};
 ghost use Rattle.job_runner.specs.Cuts.{HandedIn, IfMerged, IsPiece, StandsWhole, begins, ends_at, positions_at};
 
 use crate::NoMemory;
-use crate::credit::pay;
 use crate::cut::{CutPiece, Join, SegmentPart, TableKept, TablePart, is_left, side_at};
 use crate::nodes::share_of;
 use crate::parts::part_of;
@@ -62,7 +61,7 @@ fn leaf<S: JobSegments, R: RunBrand, G: Gate, P>(
     let Half { seat, place } = half;
     let cut = place.tag;
     let value = handed(work, side_at(&place), tools);
-    let tree = Tree::new(&work.counts, &[]);
+    let tree = Tree::new(&work.nodes.counts, &[]);
     let watch = &mut tools.watch;
     watch.aim(cut.job, cut.segment);
     let (seat, found) = tree.try_complete_with(seat, Some(place), value, watch);
@@ -125,7 +124,7 @@ impl<'a, S: JobSegments, R: RunBrand> JobWork<'a, S, TablePart<S>, TableKept<S>,
             parent: Some((place.tag, is_left(&place))),
             of: PhantomData,
         };
-        let tree = Tree::new(&self.counts, &[]);
+        let tree = Tree::new(&self.nodes.counts, &[]);
         match tree.fork(seat, Some(place), run) {
             Forked::Whole(seat, _run) => {
                 let whole = SideTask {
@@ -236,7 +235,7 @@ impl<'a, S: JobSegments, R: RunBrand> JobWork<'a, S, TablePart<S>, TableKept<S>,
             parent: None,
             of: PhantomData,
         };
-        let tree = Tree::new(&self.counts, &self.start(job).onward);
+        let tree = Tree::new(&self.nodes.counts, &self.nodes.start(job).onward);
         match tree.fork(seat, None, run) {
             Forked::Whole(seat, _run) => {
                 let whole = JobSeat { seat, job, of };
@@ -273,7 +272,7 @@ impl<'a, S: JobSegments, R: RunBrand> JobWork<'a, S, TablePart<S>, TableKept<S>,
         if size <= self.threshold || !self.jobs.is_divided(begun.job, segment) {
             return Some(walk_whole(self, begun, segment, size, tools));
         }
-        let paid = pay(&self.counts, self.share, begun, &mut tools.spare);
+        let paid = self.nodes.pay(self.share, begun, &mut tools.spare);
         match self.cut_segment(paid, segment, size) {
             Ok((own, other)) => self.walk_both(own, other, tools),
             Err(begun) => Some(walk_whole(self, begun, segment, size, tools)),

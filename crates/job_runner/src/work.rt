@@ -1,27 +1,25 @@
 //! The jobs of a run as work for a pool.
-ghost use Rattle.std.specs.Prelude.{◌≡◌, ◌-◌, ◌<◌, ◌≤◌, ◌++◌, ◌∷◌, ℕ, Some, [], length, IfSome, IfOk};
+ghost use Rattle.std.specs.Prelude.{◌≡◌, ◌-◌, ◌<◌, ◌≤◌, ℕ, Some, length, IfSome, IfOk};
 ghost use Rattle.run_settings.specs.SettingsParts.{workers_of};
 ghost use Rattle.pending_count.specs.Seats.{actor_of, view_of};
 ghost use Rattle.completer_tree.specs.Trees.{table_id_of};
 ghost use Rattle.early_stop.specs.Seats.{table_of as stop_table_of, segments_of, count_of};
 ghost use Rattle.job_runner.specs.Stops.{stop_id_of};
 ghost use Rattle.job_runner.specs.Starts.{kept_at, node_at};
-ghost use Rattle.job_runner.specs.Waits.{nodes_in};
 
 use crate::NoMemory;
-use crate::cut::{CutPiece, TableCounts, TableKept, TablePart};
+use crate::cut::{CutPiece, TableKept, TablePart};
 use crate::nodes::{pieces_of_segment, segment_count};
-use crate::opening::{FreshCounts, TableFreshCounts};
+use crate::opening::{FreshCounts, TableFreshCounts, open_all};
 use crate::places::{JobPlaces, empty_places, kept_answer};
+use crate::run_nodes::RunNodes;
 use crate::segments::JobSegments;
-use crate::start::{Start, Waiting};
 use crate::stopping::RunStops;
-use crate::task::{Idle, RunBrand, TableIdle, TableSpare, TableTask, TableUnopenedJobs, Task};
+use crate::task::{Idle, RunBrand, TableIdle, TableTask};
 use crate::tools::Tools;
 use crate::watch::Watch;
-use completion_core::END;
 use early_stop::CutSeat;
-use pending_count::{Counts, Fits};
+use pending_count::Fits;
 use run_settings::Settings;
 use std::alloc::Global;
 use std::marker::PhantomData;
@@ -32,7 +30,7 @@ use worker_pool::{Gate, Spawn, Work};
 #[derive(Drop)]
 pub struct JobWork<'a, S: JobSegments, V, K: Fits<V, Tag = CutPiece>, R: RunBrand> {
     pub(crate) alloc: Global,
-    pub(crate) counts: Counts<V, K>,
+    pub(crate) nodes: RunNodes<V, K, R>,
     pub(crate) jobs: &'a S,
     pub(crate) threshold: u64,
     /// The most pieces of a segment that has more positions than it was counted with.
@@ -40,16 +38,9 @@ pub struct JobWork<'a, S: JobSegments, V, K: Fits<V, Tag = CutPiece>, R: RunBran
     /// What a worker pays for each tree that it begins.
     pub(crate) share: u64,
     pub(crate) places: Vec<JobPlaces<S>>,
-    /// The start nodes of the jobs, the last job's first.
-    pub(crate) starts: Vec<Start>,
     pub(crate) stops: RunStops<S>,
-    pub(crate) of: PhantomData<R>,
-    ghost table: { table_id_of counts ≡ R.table },
     ghost planned: { (R.jobs ≡ S.job_count) × ((j : ℕ) → R.last j ≡ S.last_of j)
         × ((j k : ℕ) → R.size j k ≡ S.size_of j k) },
-    ghost count: { length starts.items ≡ R.jobs },
-    ghost started: { (j : ℕ) → (R.start j ≡ node_at starts.items (R.jobs - 1 - j))
-        × (R.keeps j ≡ kept_at starts.items (R.jobs - 1 - j)) },
     ghost splits: { 0 < threshold },
     ghost stopping: { stop_id_of stops ≡ R.stops },
     ghost counted: { count_of stops ≡ (segments_of stops).count },
@@ -94,54 +85,36 @@ impl<'a, S: JobSegments, R: RunBrand> JobWork<'a, S, TablePart<S>, TableKept<S>,
             stop_seat,
             longest,
         } = opened;
-        let half = seat.credit() / 2;
-        let (seat, other) = counts.split(seat, END, 0, half);
+        let share = seat.credit() / 2 / settings.workers() / segment_count(jobs).max(1);
         let work = TableWork::<S, R> {
             alloc,
-            counts,
+            nodes: RunNodes {
+                counts,
+                starts,
+                of: PhantomData,
+            },
             jobs,
             threshold: longest,
             pieces: pieces_of_segment(settings),
-            share: half / settings.workers() / segment_count(jobs).max(1),
+            share,
             places,
-            starts,
             stops,
-            of: PhantomData,
         };
-        let unopened = TableUnopenedJobs::<S, R> {
+        match open_all(
+            alloc,
+            &work.nodes,
+            &work.stops,
             seat,
-            jobs: jobs.jobs(),
-            of: PhantomData,
-        };
-        let spare = TableSpare::<S, R> {
-            seat: other,
-            of: PhantomData,
-        };
-        match work.open_all(unopened, spare, stop_seat, settings.workers()) {
+            stop_seat,
+            settings.workers(),
+        ) {
             Ok((tasks, idles)) => Ok((work, tasks, idles)),
             Err(refused) => Err(refused),
         }
     }
 
-    /// The start node of a job.
-    pub(crate) fn start(&self, job: usize) -> &Start
-        requires { job < R.jobs }
-        ensures { (result.now.node ≡ R.start job) × (result.now.onward.items ≡ R.keeps job) }
-    {
-        &self.starts[self.starts.len() - 1 - job]
-    }
-
-    /// The jobs that wait for a job.
-    pub(crate) fn waiting_for(&self, job: usize) -> &[Waiting]
-        requires { job < R.jobs }
-        ensures { R.keeps job ≡ nodes_in result.now ++ 0 ∷ [] }
-    {
-        &self.start(job).waiting
-    }
-
-    /// What a worker asks the words of early stop with, about the first segment of a job.
-    fn watch(&self, job: usize, seat: CutSeat) -> Watch<'_, S, R>
-        requires job { job < R.jobs }
+    /// What a worker asks the words of early stop with, about no segment yet.
+    fn watch(&self, seat: CutSeat) -> Watch<'_, S, R>
         requires seat { stop_table_of seat ≡ R.stops }
     {
         Watch {
@@ -149,7 +122,7 @@ impl<'a, S: JobSegments, R: RunBrand> JobWork<'a, S, TablePart<S>, TableKept<S>,
             places: &self.places,
             stops: &self.stops,
             seat,
-            job,
+            job: 0,
             segment: 0,
             word: u32::MAX,
             of: PhantomData,
@@ -161,16 +134,6 @@ impl<'a, S: JobSegments, R: RunBrand> JobWork<'a, S, TablePart<S>, TableKept<S>,
         ensures { IfSome result (λ answer. S.is_answer job answer.now) }
     {
         kept_answer(&self.places, job)
-    }
-}
-
-/// The job of a task.
-fn task_job<S: JobSegments, R: RunBrand>(task: &TableTask<S, R>) -> usize
-    ensures { result < R.jobs }
-{
-    match task {
-        Task::Begin(begun) => begun.job,
-        Task::Walk(side) => side.half.place.tag.job,
     }
 }
 
@@ -199,7 +162,7 @@ where
             scratch,
             of,
         } = idle;
-        let (seat, left) = self.counts.left(seat);
+        let (seat, left) = self.nodes.counts.left(seat);
         (
             Idle {
                 seat,
@@ -228,15 +191,18 @@ where
             scratch,
             of,
         } = idle;
-        let watch = self.watch(task_job(&task), stop_seat);
+        let scratch = match scratch {
+            Some(kept) => kept,
+            None => self.jobs.scratch(self.alloc),
+        };
         let mut tools = Tools {
             gate,
             spawn,
             scratch,
-            watch,
+            watch: self.watch(stop_seat),
             spare,
         };
-        self.take(task, &mut tools, self.starts.len());
+        self.take(task, &mut tools, self.nodes.starts.len());
         let Tools {
             scratch,
             watch,
@@ -252,7 +218,7 @@ where
             seat,
             spare,
             stop_seat,
-            scratch,
+            scratch: Some(scratch),
             of,
         }
     }

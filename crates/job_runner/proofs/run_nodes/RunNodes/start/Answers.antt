@@ -1,7 +1,7 @@
 use Rattle.std.proofs.Common.{◌≡◌, ◌-◌, ◌<◌, ◌∙◌, ap, sym, length, arith}
 use Rattle.job_runner.specs.Starts.{node_at, kept_at}
 use Rattle.job_runner.proofs.ArmLemmas.{start_got}
-use Rattle.job_runner.proofs.work.JobWork+S+TablePart+S+TableKept+S+R.start.Goals as goal
+use Rattle.job_runner.proofs.run_nodes.RunNodes.start.Goals as goal
 
 pub returns : goal.returns
 returns g c =

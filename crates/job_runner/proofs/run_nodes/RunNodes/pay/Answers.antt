@@ -1,12 +1,12 @@
 use Rattle.std.proofs.Common.{◌≡◌, ◌∙◌, length, rules}
 use Rattle.pending_count.specs.Seats.{view_of}
 use Rattle.job_runner.proofs.CreditLemmas.{credit_joined}
-use Rattle.job_runner.proofs.credit.pay.Goals as goal
+use Rattle.job_runner.proofs.run_nodes.RunNodes.pay.Goals as goal
 
 pub invariant_of-result : goal.invariant_of-result
 invariant_of-result g c =
     let b = c.args.begun in
-    let spare = c.in-Some.field-0 in
+    let spare = c.in-Some.own in
     let j = c.join-seat.ensures in
     let none : length (view_of spare.seat).places ≡ 0 = spare.unplaced in
     record {

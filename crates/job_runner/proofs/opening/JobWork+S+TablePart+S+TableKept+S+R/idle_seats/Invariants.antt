@@ -1,5 +1,0 @@
-use Rattle.std.proofs.Common.{◌≡◌, length}
-use Rattle.job_runner.proofs.opening.JobWork+S+TablePart+S+TableKept+S+R.idle_seats.Given as goal
-
-abbrev pub invariant-loop-made : goal.invariant-loop-made
-invariant-loop-made g l = length l.idles.items ≡ l.made
