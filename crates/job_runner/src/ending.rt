@@ -233,6 +233,8 @@ impl<'a, S: JobSegments, R: RunBrand> JobWork<'a, S, TablePart<S>, TableKept<S>,
         if let Err(task) = tools.spawn.push(Task::Begin(begun)) {
             if depth > 0 {
                 self.take(task, tools, depth - 1);
+            } else {
+                drop(task);
             }
         }
     }

@@ -53,9 +53,6 @@ impl<S: JobSegments> FreshCounts<S, TablePart<S>, TableKept<S>> {
     {
         let longest = most_positions(jobs, settings);
         let nodes = node_count(jobs, settings, longest);
-        let Ok((stops, stop_seat)) = stop_words(alloc, jobs) else {
-            return Err(NoMemory);
-        };
         let Ok((counts, seat)) = TableCounts::<S>::new(alloc, nodes, jobs.jobs() as u64) else {
             return Err(NoMemory);
         };
@@ -63,6 +60,9 @@ impl<S: JobSegments> FreshCounts<S, TablePart<S>, TableKept<S>> {
             Ok(Some(armed)) => armed,
             Ok(None) => return Ok(None),
             Err(refused) => return Err(refused),
+        };
+        let Ok((stops, stop_seat)) = stop_words(alloc, jobs) else {
+            return Err(NoMemory);
         };
         Ok(Some(FreshCounts {
             counts,

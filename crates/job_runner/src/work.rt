@@ -85,7 +85,8 @@ impl<'a, S: JobSegments, R: RunBrand> JobWork<'a, S, TablePart<S>, TableKept<S>,
             stop_seat,
             longest,
         } = opened;
-        let share = seat.credit() / 2 / settings.workers() / segment_count(jobs).max(1);
+        let workers = settings.workers();
+        let share = seat.credit() / 2 / workers / segment_count(jobs).max(1);
         let work = TableWork::<S, R> {
             alloc,
             nodes: RunNodes {
@@ -100,14 +101,7 @@ impl<'a, S: JobSegments, R: RunBrand> JobWork<'a, S, TablePart<S>, TableKept<S>,
             places,
             stops,
         };
-        match open_all(
-            alloc,
-            &work.nodes,
-            &work.stops,
-            seat,
-            stop_seat,
-            settings.workers(),
-        ) {
+        match open_all(alloc, &work.nodes, &work.stops, seat, stop_seat, workers) {
             Ok((tasks, idles)) => Ok((work, tasks, idles)),
             Err(refused) => Err(refused),
         }
