@@ -9,5 +9,6 @@ use Rattle.job_plan.specs.declared.source.Base.TheVariants as base
 
 abbrev pub base_walk : Base → Trace
 base_walk (base.Plain p) = trace (placed 0 (values_of (sources_of p.sources.now))) end.Done
+base_walk (base.Put p) = trace (placed 0 (values_of (sources_of p.sources.now))) end.Done
 base_walk base.TooLong = too_long
 base_walk (base.Given w) = w.now

@@ -36,10 +36,7 @@ impl Fallback {
 pub(crate) fn fallback_of(terminal: &Terminal, number: Option<i64>) -> Option<Fallback>
     ensures { option_map fallback_in result ≡ fallback_as (terminal_of terminal.now) number }
 {
-    match number {
-        Some(number) => number_as(terminal, number),
-        None => None,
-    }
+    number_as(terminal, number?)
 }
 
 impl<'c> JobPlan<'c> {

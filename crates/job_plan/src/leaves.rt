@@ -50,23 +50,6 @@ pub fn leaf_until<'p, W: Stop>(
     if let Some(part) = lent_part(alloc, &leg.last, &walked.source, window, registers)? {
         return Ok(part);
     }
-    leaf_stored(alloc, leg, walked, window, registers, stop)
-}
-
-/// The part that `leaf_until` gives, but it borrows no value of the source: the source may go before the part.
-pub fn leaf_stored<'p, W: Stop>(
-    alloc: Global,
-    leg: &'p Leg,
-    walked: Walked,
-    window: Window,
-    registers: &mut Registers,
-    stop: &mut W,
-) -> Result<Part<'p>, NoMemory>
-    requires ordered { IsNotAfter window.from window.to }
-    ensures stands { IfOk result (λ part. StandsEnough (W.decides stop.old) (segment_in leg.now.last)
-        walked.entry.env.now part window.from (piece_of window.from window.to (walk_in walked.entry.source))) }
-    ensures memory { OnErr result (end_keeps_items (end_in leg.now.last.end) ≡ true) }
-{
     if let Some(part) = counted_part(&leg.last, &walked.source, window) {
         return Ok(part);
     }

@@ -51,7 +51,7 @@ pub use array_part::ArrayPart;
 pub use ends::{Fold, SegmentEnd};
 pub use fallback::Fallback;
 pub use fold_part::FoldPart;
-pub use leaves::{leaf_stored, leaf_until, unwalked};
+pub use leaves::{leaf_until, unwalked};
 pub use leg::{Leg, Link};
 pub use numbered_stages::NumberedStages;
 pub use outcome::Outcome;

@@ -14,12 +14,12 @@ ghost use Rattle.prefix_walks.specs.Spans.{after};
 ghost use Rattle.job_meaning.specs.Walks.{plain_values, source_walk, values_of};
 
 use crate::leg::Leg;
-use crate::sources::{PlainSources, items_of, plain_size, total_size};
+use crate::sources::{PlainSources, items_of, plain_size};
 use batch_eval::{BatchSink, Pipeline, Registers, feed_batches};
 use job_language::PlainSource;
 use lambda_values::{Env, FaultKind};
 use prefix_walks::{GivenWalk, Portion, Window, feed_given, within};
-use trace::{End, Fault, Fed, Flow, MAX_SOURCE_SIZE, NoMemory};
+use trace::{End, Fault, Fed, Flow, NoMemory};
 
 /// The fault of sources of more than 2^62 values.
 const TOO_LONG: Fault = Fault {
@@ -31,12 +31,28 @@ const TOO_LONG: Fault = Fault {
 /// A whole walk, by position. It borrows the values and copies none.
 #[derive(Clone, Copy)]
 pub(crate) enum Base<'g, 'a, 'c> {
-    /// Of the sources of a job.
+    /// Of the sources of a job, which stay as long as the parts of the walk.
     Plain(PlainSources<'a, 'c>),
+    /// Of sources that may go before the parts of the walk.
+    Put(PlainSources<'g, 'g>),
     /// Of sources of more than 2^62 values.
     TooLong,
     /// Of a leg: what it gave.
     Given(&'g GivenWalk<'a>),
+}
+
+impl Base<'_, '_, '_> {
+    /// How many items the walk has.
+    fn size(self) -> u64
+        ensures { result ≡ length (base_walk self.entry).items }
+    {
+        match self {
+            Base::Plain(plain) => plain.size,
+            Base::Put(put) => put.size,
+            Base::TooLong => 0,
+            Base::Given(given) => given.size(),
+        }
+    }
 }
 
 /// What a leg goes over: positions of a walk.
@@ -62,22 +78,23 @@ impl<'g, 'a, 'c> Source<'g, 'a, 'c> {
     ghost use Rattle.job_plan.specs.Parts.{leg_in, walk_in};
     ghost use Rattle.job_plan.specs.Plans.{leg_walk};
 
-    /// All positions of sources. It takes no memory.
+    /// All positions of sources. A part of their walk may borrow values. It takes no memory.
     pub fn of_sources(sources: &'a [PlainSource<'c>]) -> Source<'g, 'a, 'c>
         ensures { walk_in result ≡ source_walk (sources_of sources.now) }
     {
-        let size = total_size(sources);
-        if size > MAX_SOURCE_SIZE {
-            return Source {
-                base: Base::TooLong,
-                window: Window::all(),
-                size: 0,
-            };
+        match PlainSources::of(sources) {
+            Some(plain) => Source::all(Base::Plain(plain)),
+            None => Source::all(Base::TooLong),
         }
-        Source {
-            base: Base::Plain(PlainSources { sources }),
-            window: Window::all(),
-            size,
+    }
+
+    /// All positions of sources. No part of their walk borrows values. It takes no memory.
+    pub fn of_put(sources: &'g [PlainSource<'g>]) -> Source<'g, 'a, 'c>
+        ensures { walk_in result ≡ source_walk (sources_of sources.now) }
+    {
+        match PlainSources::of(sources) {
+            Some(put) => Source::all(Base::Put(put)),
+            None => Source::all(Base::TooLong),
         }
     }
 
@@ -85,10 +102,17 @@ impl<'g, 'a, 'c> Source<'g, 'a, 'c> {
     pub fn of_given(given: &'g GivenWalk<'a>) -> Source<'g, 'a, 'c>
         ensures { walk_in result ≡ given.now }
     {
+        Source::all(Base::Given(given))
+    }
+
+    /// All positions of a walk.
+    fn all(base: Base<'g, 'a, 'c>) -> Source<'g, 'a, 'c>
+        ensures { walk_in result ≡ base_walk base.entry }
+    {
         Source {
-            base: Base::Given(given),
+            base,
             window: Window::all(),
-            size: given.size(),
+            size: base.size(),
         }
     }
 
@@ -109,7 +133,7 @@ impl<'g, 'a, 'c> Source<'g, 'a, 'c> {
         ensures { result ≡ (walk_in self.now).ending }
     {
         match self.base {
-            Base::Plain(_) => End::Done,
+            Base::Plain(_) | Base::Put(_) => End::Done,
             Base::TooLong => End::Fault(TOO_LONG),
             Base::Given(given) => given.end(),
         }
@@ -151,6 +175,7 @@ impl<'g, 'a, 'c> Source<'g, 'a, 'c> {
         let window = self.window.within(window.from, window.to);
         match self.base {
             Base::Plain(plain) => feed_plain(line, plain.sources, 0, window, registers, sink),
+            Base::Put(put) => feed_plain(line, put.sources, 0, window, registers, sink),
             Base::TooLong => Ok(Fed::More),
             Base::Given(given) => feed_given(line, given, window, registers, sink),
         }

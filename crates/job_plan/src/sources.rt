@@ -1,6 +1,7 @@
 //! The plain sources of a job: how many values they have, and items of them.
 
 ghost use Rattle.std.specs.Prelude.{◌≡◌, ◌+◌, ◌≤◌, ◌-◌, ◌<◌, ◌^◌, min, drop, length, pos, take, ◌+ℤ◌};
+ghost use Rattle.std.specs.Prelude.{IfNone, IfSome};
 ghost use Rattle.trace.specs.Cover.{counted, distance, placed};
 ghost use Rattle.batch_eval.specs.BatchItems.{batch_items};
 ghost use Rattle.job_language.specs.Jobs.{source_of, sources_of};
@@ -9,13 +10,30 @@ ghost use Rattle.job_meaning.specs.Walks.{plain_values, values_of};
 use batch_eval::BatchItems;
 use job_language::PlainSource;
 use prefix_walks::Portion;
-use trace::RangeItems;
+use trace::{MAX_SOURCE_SIZE, RangeItems};
 
 /// The plain sources of a job, one after the other, with at most 2^62 values.
 #[derive(Clone, Copy)]
 pub(crate) struct PlainSources<'a, 'c> {
     pub(crate) sources: &'a [PlainSource<'c>],
+    /// How many values they have.
+    pub(crate) size: u64,
     ghost few: { length (values_of (sources_of sources.now)) ≤ 2 ^ 62 },
+    ghost measured: { size ≡ length (values_of (sources_of sources.now)) },
+}
+
+impl<'a, 'c> PlainSources<'a, 'c> {
+    /// These sources; `None` if they have more than 2^62 values.
+    pub(crate) fn of(sources: &'a [PlainSource<'c>]) -> Option<PlainSources<'a, 'c>>
+        ensures some { IfSome result (λ plain. plain.sources.now ≡ sources.now) }
+        ensures none { IfNone result (2 ^ 62 < length (values_of (sources_of sources.now))) }
+    {
+        let size = total_size(sources);
+        if size > MAX_SOURCE_SIZE {
+            return None;
+        }
+        Some(PlainSources { sources, size })
+    }
 }
 
 /// How many integers there are from one up to, not with, another.
@@ -50,7 +68,7 @@ pub(crate) fn plain_size(source: &PlainSource) -> u64
 }
 
 /// The number of values of several sources, or the greatest `u64` if it is larger.
-pub(crate) fn total_size(sources: &[PlainSource]) -> u64
+fn total_size(sources: &[PlainSource]) -> u64
     ensures { result ≡ min (length (values_of (sources_of sources.now))) (2 ^ 64 - 1) }
 {
     let Some((source, later)) = sources.split_first() else {

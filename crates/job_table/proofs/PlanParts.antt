@@ -117,7 +117,7 @@ module _ (chain : AbstractChain) (segment : ℕ) (part : Part) where
       ∙ sym (answer_there chain.numbers chain.legs chain.source)
 
 -- the part of all that comes through a leg's slices
-pub all_stands : {F : Type 0} (chain : AbstractChain) (segment : ℕ) (l : AbstractLeg) (r : Result Part F) (env : Numbers) (w : Trace) → l ≡ leg_at segment chain.legs → env ≡ chain.numbers → w ≡ source_at chain segment
+all_stands : {F : Type 0} (chain : AbstractChain) (segment : ℕ) (l : AbstractLeg) (r : Result Part F) (env : Numbers) (w : Trace) → l ≡ leg_at segment chain.legs → env ≡ chain.numbers → w ≡ source_at chain segment
     → IfOk r (λ part. StandsFor l.last env part (linked l.links env w)) → IfOk r (λ part. PartStands chain segment 0 (size_at chain segment) part)
 all_stands chain segment l (Ok p) env w got alone walks h =
     let size = size_at chain segment in
@@ -129,15 +129,18 @@ all_stands chain segment l (Ok p) env w got alone walks h =
     whole_enough (leg_at segment chain.legs).last chain.numbers p (Decides (gives_at chain segment) t) 0 (piece_between size 0 size t) stands
 all_stands chain segment l (Err e) env w got alone walks h = tt
 
--- the part of the one piece of a leg that goes through slices
-pub streamed_stands : {F : Type 0} (chain : AbstractChain) (segment from to : ℕ) (l : AbstractLeg) (r : Result Part F) (env : Numbers) (w : Trace) → l ≡ leg_at segment chain.legs → is_linked l.links ≡ true → env ≡ chain.numbers
-    → w ≡ source_at chain segment → from ≤ to → to ≤ size_at chain segment → IfOk r (λ part. StandsFor l.last env part (linked l.links env w)) → IfOk r (λ part. PartStands chain segment from to part)
-streamed_stands chain segment from to l r env w got linked_so alone walks ordered within h =
+-- a piece of a leg that goes through slices is all of it
+pub one_piece : (chain : AbstractChain) (segment from to : ℕ) (l : AbstractLeg) → l ≡ leg_at segment chain.legs → is_linked l.links ≡ true → from ≤ to → to ≤ size_at chain segment → (from ≡ 0) × (to ≡ size_at chain segment)
+one_piece chain segment from to l got linked_so ordered within =
     let none : size_at chain segment ≡ 0 = ap (λ (k : AbstractLeg). positions_of k.links (walk_size (source_at chain segment))) (sym got) ∙ no_positions l.links (walk_size (source_at chain segment)) linked_so in
-    let begins : 0 ≡ from = omega (arith, none, ordered, within) in
-    let ends : size_at chain segment ≡ to = omega (arith, none, within) in
-    subst (λ (n : ℕ). IfOk r (λ part. PartStands chain segment n to part)) begins
-    (subst (λ (n : ℕ). IfOk r (λ part. PartStands chain segment 0 n part)) ends (all_stands chain segment l r env w got alone walks h))
+    (omega (arith, none, ordered, within), omega (arith, none, within))
+
+-- the part of a piece that is all of a leg
+pub streamed_stands : {F : Type 0} (chain : AbstractChain) (segment from to : ℕ) (l : AbstractLeg) (r : Result Part F) (env : Numbers) (w : Trace) → l ≡ leg_at segment chain.legs → env ≡ chain.numbers
+    → w ≡ source_at chain segment → (from ≡ 0) × (to ≡ size_at chain segment) → IfOk r (λ part. StandsFor l.last env part (linked l.links env w)) → IfOk r (λ part. PartStands chain segment from to part)
+streamed_stands chain segment from to l r env w got alone walks whole h =
+    subst (λ (n : ℕ). IfOk r (λ part. PartStands chain segment n to part)) (sym whole.0)
+    (subst (λ (n : ℕ). IfOk r (λ part. PartStands chain segment 0 n part)) (sym whole.1) (all_stands chain segment l r env w got alone walks h))
 
 -- the end of a piece, by a test whether it is the last position
 pub upto_all : (size n to : ℕ) (u : Option ℕ) → n ≡ size → to ≡ n → u ≡ None → u ≡ upto size to

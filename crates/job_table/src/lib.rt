@@ -11,11 +11,11 @@
 //! Not promised: what `job_runner` doesn't promise: that the call returns, that there is memory, or speed.
 #![tactic(auto)]
 
-mod in_order;
 mod kept;
 mod plan_names;
 mod plan_parts;
 mod plan_segments;
 mod planned;
+mod walking;
 
 pub use planned::{PlanBrand, PlanJobs, RunFault, run_jobs};

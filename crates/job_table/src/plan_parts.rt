@@ -12,7 +12,7 @@ ghost use Rattle.job_table.specs.PlanSegments.{positions_of, size_at, upto, walk
 use batch_eval::Registers;
 use early_stop::Stop;
 use job_meaning::Answer;
-use job_plan::{JobPlan, Leg, Part, Source, Walked, leaf_stored, leaf_until, streamed};
+use job_plan::{JobPlan, Leg, Part, Source, Walked, leaf_until, streamed};
 use job_runner::{NoMemory, Piece};
 use lambda_values::Env;
 use prefix_walks::{GivenWalk, Window};
@@ -44,27 +44,31 @@ fn end_of(piece: Piece, source: &Source) -> Option<u64>
     }
 }
 
-/// Walks a piece of a leg, as far as it matters.
-pub(crate) fn lent_piece<'a, W: Stop>(
+/// Walks a piece of a leg, as far as it matters: in one go from its first item on, if that is asked for or if the leg
+/// goes through slices. The piece is then all of the leg.
+pub(crate) fn walked_piece<'a, W: Stop>(
     alloc: Global,
     plan: &'a JobPlan,
     piece: Piece,
+    in_order: bool,
     walked: Walked<'_, 'a, '_, '_>,
     registers: &mut Registers,
     stop: &mut W,
 ) -> Result<Part<'a>, NoMemory>
     requires ordered { piece.from ≤ piece.to }
-    ensures { (chain : AbstractChain) → chain.legs ≡ (plan_in plan.now).legs
+    ensures stands { (chain : AbstractChain) → chain.legs ≡ (plan_in plan.now).legs
         → chain.numbers ≡ walked.entry.env.now
         → walk_in walked.entry.source ≡ given_at chain piece.segment → piece.to ≤ size_at chain piece.segment
+        → (in_order ≡ true → (piece.from ≡ 0) × (piece.to ≡ size_at chain piece.segment))
         → ((c : ℕ) → W.decides stop.old c → Decides (gives_at chain piece.segment) (walk_at chain piece.segment) c)
         → IfOk result (λ part. PartStands chain piece.segment piece.from piece.to part) }
+    ensures kind { in_order ≡ true → IfOk result (λ part. may_search part ≡ false) }
 {
     let leg = plan.leg(piece.segment);
     let source = walked.source.of_leg(leg);
     let env = walked.env;
     let walked = Walked { source, env };
-    if leg.streams() {
+    if in_order || leg.streams() {
         return streamed(alloc, leg, walked, registers);
     }
     let window = Window {
@@ -72,37 +76,6 @@ pub(crate) fn lent_piece<'a, W: Stop>(
         to: end_of(piece, &walked.source),
     };
     leaf_until(alloc, leg, walked, window, registers, stop)
-}
-
-/// Walks a piece of a leg, as far as it matters, into a part that borrows no value of the source: the source may go
-/// before the part.
-pub(crate) fn stored_piece<'a, W: Stop>(
-    alloc: Global,
-    plan: &'a JobPlan,
-    piece: Piece,
-    walked: Walked,
-    registers: &mut Registers,
-    stop: &mut W,
-) -> Result<Part<'a>, NoMemory>
-    requires ordered { piece.from ≤ piece.to }
-    ensures { (chain : AbstractChain) → chain.legs ≡ (plan_in plan.now).legs
-        → chain.numbers ≡ walked.entry.env.now
-        → walk_in walked.entry.source ≡ given_at chain piece.segment → piece.to ≤ size_at chain piece.segment
-        → ((c : ℕ) → W.decides stop.old c → Decides (gives_at chain piece.segment) (walk_at chain piece.segment) c)
-        → IfOk result (λ part. PartStands chain piece.segment piece.from piece.to part) }
-{
-    let leg = plan.leg(piece.segment);
-    let source = walked.source.of_leg(leg);
-    let env = walked.env;
-    let walked = Walked { source, env };
-    if leg.streams() {
-        return streamed(alloc, leg, walked, registers);
-    }
-    let window = Window {
-        from: piece.from,
-        to: end_of(piece, &walked.source),
-    };
-    leaf_stored(alloc, leg, walked, window, registers, stop)
 }
 
 /// What the next leg goes over, of the part of a whole leg.
@@ -119,26 +92,6 @@ pub(crate) fn next_walk<'a>(
         Some(outcome) => Ok(outcome.walk()),
         None => Ok(GivenWalk::ended(End::Done)),
     }
-}
-
-/// The part of a whole leg, whose source is walked in order, so that `job_answer` gives an answer.
-pub(crate) fn part_in_order<'a>(
-    alloc: Global,
-    plan: &'a JobPlan,
-    leg: usize,
-    walked: Walked,
-    registers: &mut Registers,
-) -> Result<Part<'a>, NoMemory>
-    ensures stands { (chain : AbstractChain) → chain.legs ≡ (plan_in plan.now).legs
-        → chain.numbers ≡ walked.entry.env.now
-        → walk_in walked.entry.source ≡ given_at chain leg
-        → IfOk result (λ part. PartStands chain leg 0 (size_at chain leg) part) }
-    ensures kind { IfOk result (λ part. may_search part ≡ false) }
-{
-    let leg = plan.leg(leg);
-    let source = walked.source.of_leg(leg);
-    let env = walked.env;
-    streamed(alloc, leg, Walked { source, env }, registers)
 }
 
 /// The answer of a job, of the part of its whole last leg, or what the job gives after a fault. `None` if what the leg

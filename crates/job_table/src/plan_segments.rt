@@ -1,5 +1,5 @@
 //! The jobs of a plan as segments of a run. A segment of the run is a leg of the plan.
-ghost use Rattle.std.specs.Prelude.{◌≡◌, ◌<◌, ◌≤◌, ◌+◌, ℕ, length, IfOk};
+ghost use Rattle.std.specs.Prelude.{◌≡◌, ◌<◌, ◌≤◌, ℕ, length, IfOk};
 ghost use Rattle.job_meaning.specs.declared.answer.Answer.{Answer as answers};
 ghost use Rattle.job_plan.specs.Parts.{plans_in};
 ghost use Rattle.job_plan.specs.Plans.{leg_at};
@@ -15,12 +15,12 @@ ghost use Rattle.job_table.specs.Takings.{IsTaken, one_taken};
 
 use crate::kept::{SegmentSource, Taken};
 use crate::plan_names::different;
-use crate::plan_parts::{catches, job_answer, lent_piece, next_walk, positions, stored_piece};
+use crate::plan_parts::{catches, job_answer, next_walk, positions};
 use crate::planned::{PlanBrand, PlanJobs};
 use batch_eval::Registers;
-use early_stop::Stop;
+use early_stop::{Never, Stop};
 use job_meaning::Answer;
-use job_plan::{Outcome, Part, Source, Walked, unwalked};
+use job_plan::{Outcome, Part, Source, unwalked};
 use job_runner::{Begun, CutPiece, EarlierAnswers, JobSegments, NoMemory, Piece, SegmentInput};
 use std::alloc::Global;
 use trace::Fault;
@@ -181,35 +181,10 @@ impl<'a, 'c, P: PlanBrand> JobSegments for PlanJobs<'a, 'c, P> {
         ensures { IfOk result
             (λ part. PartStands (chain_at (plans_in P.jobs) piece.job) piece.segment piece.from piece.to part) }
     {
-        let plan = self.job(piece.job);
-        let env = &input.given.numbers;
-        match input.source {
-            SegmentSource::Own if plan.takes_arrays() => {
-                let own = self.own(piece.job);
-                let sources = self.put_sources(alloc, piece.job, own, input.earlier)?;
-                let source = Source::of_sources(&sources);
-                stored_piece(alloc, plan, piece, Walked { source, env }, registers, stop)
-            }
-            SegmentSource::Own => {
-                let source = Source::of_sources(&plan.sources);
-                lent_piece(alloc, plan, piece, Walked { source, env }, registers, stop)
-            }
-            SegmentSource::Kept(walk) => {
-                let source = Source::of_given(walk);
-                lent_piece(alloc, plan, piece, Walked { source, env }, registers, stop)
-            }
-        }
+        self.part(alloc, piece, false, input, registers, stop)
     }
 
-    fn merge(cut: CutPiece, left: Part<'a>, right: Part<'a>) -> Result<Part<'a>, NoMemory>
-        requires piece { IsPiece (length P.jobs) (λ job. last_leg (chain_at (plans_in P.jobs) job).legs)
-            (λ job segment. size_at (chain_at (plans_in P.jobs) job) segment) cut.job cut.segment cut.from cut.to }
-        requires within { (cut.from < cut.middle) × (cut.middle < cut.to) }
-        requires left { PartStands (chain_at (plans_in P.jobs) cut.job) cut.segment cut.from cut.middle left }
-        requires right { PartStands (chain_at (plans_in P.jobs) cut.job) cut.segment cut.middle cut.to right }
-        ensures { IfOk result
-            (λ part. PartStands (chain_at (plans_in P.jobs) cut.job) cut.segment cut.from cut.to part) }
-    {
+    fn merge(_cut: CutPiece, left: Part<'a>, right: Part<'a>) -> Result<Part<'a>, NoMemory> {
         match left.merge(right) {
             Ok(part) => Ok(part),
             Err(_parts) => Err(NoMemory),
@@ -250,10 +225,18 @@ impl<'a, 'c, P: PlanBrand> JobSegments for PlanJobs<'a, 'c, P> {
         if let Some(answer) = job_answer(alloc, plan, part, &given.numbers)? {
             return self.for_later_jobs(alloc, job, answer);
         }
-        let again = self.in_order(alloc, job, input, registers)?;
+        let last = plan.last_leg();
+        let size = self.size(job, last, input.source, given);
+        let all = Piece {
+            job,
+            segment: last,
+            from: 0,
+            to: size,
+        };
+        let again = self.part(alloc, all, true, input, registers, &mut Never)?;
         match job_answer(alloc, plan, again, &given.numbers)? {
             Some(answer) => Ok(answer),
-            None => Ok(Answer::Number(0)),
+            None => unreachable!(),
         }
     }
 }

@@ -18,6 +18,13 @@ returns-in-Plain-clause-fed g c = λ xs took.
     let same = c.within-window.ensures (base_walk s.base).items s.few ∙ ap (λ b. elements w.from w.to (base_walk b).items) c.in-Plain.is in
     subst (λ (ys : List Item). IsFed g.S.LongSink.has_taken xs (piped c.args.line (trace ys end.Done)) c.feed_plain.result c.feed_plain.new.sink) (sym same) (c.feed_plain.ensures.fed xs took)
 
+pub returns-in-Put-clause-fed : goal.returns-in-Put-clause-fed
+returns-in-Put-clause-fed g c = λ xs took.
+    let s = c.args.self.now in
+    let w = c.within-window.result in
+    let same = c.within-window.ensures (base_walk s.base).items s.few ∙ ap (λ b. elements w.from w.to (base_walk b).items) c.in-Put.is in
+    subst (λ (ys : List Item). IsFed g.S.LongSink.has_taken xs (piped c.args.line (trace ys end.Done)) c.feed_plain-in-Put.result c.feed_plain-in-Put.new.sink) (sym same) (c.feed_plain-in-Put.ensures.fed xs took)
+
 pub returns-in-TooLong-clause-fed : goal.returns-in-TooLong-clause-fed
 returns-in-TooLong-clause-fed g c = λ xs took.
     let s = c.args.self.now in

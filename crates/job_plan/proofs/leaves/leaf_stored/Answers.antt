@@ -1,9 +1,0 @@
-use Rattle.job_plan.specs.Parts.{segment_in, walk_in}
-use Rattle.prefix_walks.specs.Pieces.{piece_of}
-use Rattle.job_plan.proofs.EnoughLemmas.{whole_enough}
-use Rattle.job_plan.proofs.leaves.leaf_stored.Goals as goal
-
-pub returns-in-Some-clause-stands : goal.returns-in-Some-clause-stands
-returns-in-Some-clause-stands g c =
-    let stands = rw c.in-Some.is at c.counted_part.ensures in
-    whole_enough (segment_in c.args.leg.now.last) c.args.walked.env.now c.in-Some.part (g.W.Stop.decides c.args.stop.now) c.args.window.from (piece_of c.args.window.from c.args.window.to (walk_in c.args.walked.source)) (stands c.args.walked.env.now)
