@@ -52,27 +52,15 @@ fn walk_alone<S: JobSegments, G: Gate>(
             given,
             earlier,
         };
-        let Ok(part) = walk_whole(alloc, jobs, job, segment, input, &mut scratch) else {
-            return Err(NoMemory);
-        };
-        source = match jobs.next_source(alloc, job, segment, part, given) {
-            Ok(next) => next,
-            Err(refused) => return Err(refused),
-        };
+        let part = walk_whole(alloc, jobs, job, segment, input, &mut scratch)?;
+        source = jobs.next_source(alloc, job, segment, part, given)?;
     }
     let input = SegmentInput {
         source: &source,
         given,
         earlier,
     };
-    let Ok(part) = walk_whole(alloc, jobs, job, last, input, &mut scratch) else {
-        return Err(NoMemory);
-    };
-    let input = SegmentInput {
-        source: &source,
-        given,
-        earlier,
-    };
+    let part = walk_whole(alloc, jobs, job, last, input, &mut scratch)?;
     jobs.answer(alloc, job, part, input, &mut scratch)
 }
 
@@ -87,13 +75,10 @@ pub(crate) fn answer_alone<S: JobSegments, G: Gate>(
     requires job { job < S.job_count }
     ensures { IfOk result (λ answer. S.is_answer job answer) }
 {
-    let answer = match jobs.given(alloc, job, earlier) {
-        Ok(Begun::Walk(given)) => walk_alone(alloc, gate, jobs, job, &given, earlier),
-        Ok(Begun::Known(answer)) => Ok(answer),
-        Err(refused) => Err(refused),
+    let answer = match jobs.given(alloc, job, earlier)? {
+        Begun::Walk(given) => walk_alone(alloc, gate, jobs, job, &given, earlier)?,
+        Begun::Known(answer) => answer,
     };
-    if answer.is_ok() {
-        gate.at_answer(job);
-    }
-    answer
+    gate.at_answer(job);
+    Ok(answer)
 }

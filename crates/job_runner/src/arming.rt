@@ -116,9 +116,7 @@ fn arm_one<V, K: Fits<V, Tag = CutPiece>>(
         return Err(NoMemory);
     };
     let waiting = take_waiting(alloc, &mut armed.waiting, job);
-    let Ok(onward) = onward_of(alloc, &waiting) else {
-        return Err(NoMemory);
-    };
+    let onward = onward_of(alloc, &waiting)?;
     let (seat, drawn) = counts.claim(seat);
     let Some(node) = drawn else {
         return Ok(None);
@@ -129,10 +127,8 @@ fn arm_one<V, K: Fits<V, Tag = CutPiece>>(
         onward,
         waiting,
     };
-    match add_start(armed, start, names, job) {
-        Ok(()) => Ok(Some(seat)),
-        Err(refused) => Err(refused),
-    }
+    add_start(armed, start, names, job)?;
+    Ok(Some(seat))
 }
 
 /// Claims and arms the start nodes of all jobs, the last job's first, so that what a node keeps has smaller numbers.
@@ -158,11 +154,10 @@ pub(crate) fn arm_all<S: JobSegments>(
     for done in 0..count {
         let job = count - 1 - done;
         let names = jobs.names(alloc, job)?;
-        seat = match arm_one(alloc, counts, job, &names, seat, &mut armed) {
-            Ok(Some(later)) => later,
-            Ok(None) => return Ok(None),
-            Err(refused) => return Err(refused),
+        let Some(later) = arm_one(alloc, counts, job, &names, seat, &mut armed)? else {
+            return Ok(None);
         };
+        seat = later;
     }
     Ok(Some((seat, armed.starts)))
 }

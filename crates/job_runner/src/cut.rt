@@ -146,15 +146,10 @@ impl<S: JobSegments> Continuation<SegmentPart<S>> for Join<S> {
     }
 
     fn on_completion(self, left: SegmentPart<S>, right: SegmentPart<S>) -> Handed<SegmentPart<S>> {
-        let SegmentPart { found: left, of: _ } = left;
-        let SegmentPart {
-            found: right,
-            of: _,
-        } = right;
-        let Merged::Part(left) = left else {
+        let Merged::Part(left) = left.found else {
             unreachable!()
         };
-        let Merged::Part(right) = right else {
+        let Merged::Part(right) = right.found else {
             unreachable!()
         };
         match S::merge(self.cut, left, right) {

@@ -32,20 +32,13 @@ fn last_answer<S: JobSegments, R: RunBrand>(
     requires part { S.stands_for job segment 0 (S.size_of job segment) part }
     ensures { IfOk result (λ answer. S.is_answer job answer) }
 {
-    let Some(held) = hold_source(work.jobs, &work.places, job, segment) else {
-        return Err(NoMemory);
+    let held = hold_source(work.jobs, &work.places, job, segment).ok_or(NoMemory)?;
+    let input = SegmentInput {
+        source: held.source(job, segment).ok_or(NoMemory)?,
+        given,
+        earlier: &Earlier::in_places(&work.places),
     };
-    match held.source(job, segment) {
-        Some(source) => {
-            let input = SegmentInput {
-                source,
-                given,
-                earlier: &Earlier::in_places(&work.places),
-            };
-            work.jobs.answer(work.alloc, job, part, input, scratch)
-        }
-        None => Err(NoMemory),
-    }
+    work.jobs.answer(work.alloc, job, part, input, scratch)
 }
 
 impl<'a, S: JobSegments, R: RunBrand> JobWork<'a, S, TablePart<S>, TableKept<S>, R> {

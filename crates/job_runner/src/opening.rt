@@ -53,17 +53,11 @@ impl<S: JobSegments> FreshCounts<S, TablePart<S>, TableKept<S>> {
     {
         let longest = most_positions(jobs, settings);
         let nodes = node_count(jobs, settings, longest);
-        let Ok((counts, seat)) = TableCounts::<S>::new(alloc, nodes, jobs.jobs() as u64) else {
-            return Err(NoMemory);
+        let (counts, seat) = TableCounts::<S>::new(alloc, nodes, jobs.jobs() as u64)?;
+        let Some((seat, starts)) = arm_all(alloc, jobs, &counts, seat)? else {
+            return Ok(None);
         };
-        let (seat, starts) = match arm_all(alloc, jobs, &counts, seat) {
-            Ok(Some(armed)) => armed,
-            Ok(None) => return Ok(None),
-            Err(refused) => return Err(refused),
-        };
-        let Ok((stops, stop_seat)) = stop_words(alloc, jobs) else {
-            return Err(NoMemory);
-        };
+        let (stops, stop_seat) = stop_words(alloc, jobs)?;
         Ok(Some(FreshCounts {
             counts,
             seat,
@@ -186,11 +180,7 @@ pub(crate) fn open_all<V, K: Fits<V, Tag = CutPiece>, R: RunBrand, T: Drop, Z: S
         seat: other,
         of: PhantomData,
     };
-    let Ok(tasks) = nodes.open_jobs(alloc, unopened) else {
-        return Err(NoMemory);
-    };
-    match idle_seats(alloc, nodes, stops, spare, stop_seat, workers) {
-        Ok(idles) => Ok((tasks, idles)),
-        Err(refused) => Err(refused),
-    }
+    let tasks = nodes.open_jobs(alloc, unopened)?;
+    let idles = idle_seats(alloc, nodes, stops, spare, stop_seat, workers)?;
+    Ok((tasks, idles))
 }

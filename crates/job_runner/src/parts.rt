@@ -24,21 +24,15 @@ fn walked<S: JobSegments, R: RunBrand, G, P>(
     requires given { S.is_given piece.job given.now }
     ensures { IfOk result (λ part. S.stands_for piece.job piece.segment piece.from piece.to part) }
 {
-    let Some(held) = hold_source(work.jobs, &work.places, piece.job, piece.segment) else {
-        return Err(NoMemory);
+    let Piece { job, segment, .. } = piece;
+    let held = hold_source(work.jobs, &work.places, job, segment).ok_or(NoMemory)?;
+    let input = SegmentInput {
+        source: held.source(job, segment).ok_or(NoMemory)?,
+        given,
+        earlier: &Earlier::in_places(&work.places),
     };
-    match held.source(piece.job, piece.segment) {
-        Some(source) => {
-            let input = SegmentInput {
-                source,
-                given,
-                earlier: &Earlier::in_places(&work.places),
-            };
-            let Tools { scratch, watch, .. } = tools;
-            work.jobs.leaf(work.alloc, piece, input, scratch, watch)
-        }
-        None => Err(NoMemory),
-    }
+    let Tools { scratch, watch, .. } = tools;
+    work.jobs.leaf(work.alloc, piece, input, scratch, watch)
 }
 
 /// Enters the gate and walks a piece, unless a place at or before its first position decides what the segment gives:
@@ -52,9 +46,7 @@ pub(crate) fn part_of<S: JobSegments, R: RunBrand, G: Gate, P>(
     requires piece { IsPiece S.job_count S.last_of S.size_of piece.job piece.segment piece.from piece.to }
     ensures { IfOk result (λ part. S.stands_for piece.job piece.segment piece.from piece.to part) }
 {
-    let Some(given) = kept_given(&work.places, piece.job) else {
-        return Err(NoMemory);
-    };
+    let given = kept_given(&work.places, piece.job).ok_or(NoMemory)?;
     tools.watch.aim(piece.job, piece.segment);
     let seen = tools.watch.seen();
     if seen <= piece.from && seen != u64::MAX {

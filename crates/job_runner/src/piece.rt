@@ -12,7 +12,7 @@ pub struct Piece {
 
 impl Piece {
     /// All positions of a segment that has this many of them.
-    pub(crate) fn all(job: usize, segment: usize, size: u64) -> Piece
+    pub fn all(job: usize, segment: usize, size: u64) -> Piece
         ensures of { (result.job ≡ job) × (result.segment ≡ segment) }
         ensures positions { (result.from ≡ 0) × (result.to ≡ size) }
     {
@@ -26,7 +26,7 @@ impl Piece {
 }
 
 /// What a segment of a job goes over, the job's inputs from the answers that it names, and those answers.
-#[derive(Drop)]
+#[derive_where(Clone, Copy)]
 pub struct SegmentInput<'i, S, G, E> {
     pub source: &'i S,
     pub given: &'i G,

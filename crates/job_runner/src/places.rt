@@ -154,8 +154,8 @@ fn source_place<S: JobSegments>(
     places.get(job)?.sources.get(before)
 }
 
-/// Leaves the source of a segment in its place, or empties it and frees what lay there. If it has none, or a reader
-/// holds the place, nothing changes, and what was to be left is dropped: a source stays until the run ends.
+/// Puts the source of a segment into its place; `None` empties the place, and frees what lay there. Nothing changes if
+/// the segment has no place, as the first one, or while a reader holds it: the old source stays until the run ends.
 pub(crate) fn put_source<S: JobSegments>(
     places: &[JobPlaces<S>],
     job: usize,
@@ -281,14 +281,7 @@ pub(crate) fn kept_answer<S: JobSegments>(places: &[JobPlaces<S>], job: usize) -
 pub(crate) fn answer_in<S: JobSegments>(places: JobPlaces<S>, job: usize) -> Option<S::Answer>
     ensures { IfSome result (λ answer. S.is_answer job answer) }
 {
-    let JobPlaces {
-        job: _,
-        first: _,
-        given: _,
-        sources: _,
-        answer,
-    } = places;
-    match answer.into_inner() {
+    match places.answer.into_inner() {
         Some(kept) if kept.job == job => Some(kept.answer),
         _ => None,
     }

@@ -12,7 +12,7 @@ use crate::opening::TableFreshCounts;
 use crate::places::{JobPlaces, answer_in, empty_places};
 use crate::segments::JobSegments;
 use crate::task::RunBrand;
-use crate::work::{JobWork, TableWork};
+use crate::work::TableWork;
 use run_settings::Settings;
 use std::alloc::Global;
 use std::marker::Brand;
@@ -108,16 +108,11 @@ where
     requires planned { (R.jobs ≡ S.job_count) × ((j : ℕ) → R.last j ≡ S.last_of j)
         × ((j k : ℕ) → R.size j k ≡ S.size_of j k) }
 {
-    match TableWork::<S, R>::new(alloc, jobs, settings, opened) {
-        Ok((work, tasks, idles)) => {
-            // There are never more tasks than nodes.
-            let nodes = work.nodes.counts.nodes() as usize;
-            run_tasks(rt, alloc, gate, &work, tasks, idles, nodes);
-            let JobWork { places, .. } = work;
-            Ok(places)
-        }
-        Err(refused) => Err(refused),
-    }
+    let (work, tasks, idles) = TableWork::<S, R>::new(alloc, jobs, settings, opened)?;
+    // There are never more tasks than nodes.
+    let nodes = work.nodes.counts.nodes() as usize;
+    run_tasks(rt, alloc, gate, &work, tasks, idles, nodes);
+    Ok(work.places)
 }
 
 /// The answers of all jobs, in their order, worked out by no more workers than the settings say.

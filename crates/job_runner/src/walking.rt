@@ -57,14 +57,12 @@ fn leaf<S: JobSegments, R: RunBrand, G: Gate, P>(
     ensures { IfSome result (λ whole. StandsWhole S.stands_for S.faults_with S.size_of whole.job.job whole.segment
         (λ x. x.found) whole.part) }
 {
-    let SideTask { half, of: _ } = side;
-    let Half { seat, place } = half;
+    let Half { seat, place } = side.half;
     let cut = place.tag;
     let value = handed(work, side_at(&place), tools);
     let tree = Tree::new(&work.nodes.counts, &[]);
-    let watch = &mut tools.watch;
-    watch.aim(cut.job, cut.segment);
-    let (seat, found) = tree.try_complete_with(seat, Some(place), value, watch);
+    tools.watch.aim(cut.job, cut.segment);
+    let (seat, found) = tree.try_complete_with(seat, Some(place), value, &mut tools.watch);
     let Some(part) = found else {
         return None;
     };
@@ -116,9 +114,8 @@ impl<'a, S: JobSegments, R: RunBrand> JobWork<'a, S, TablePart<S>, TableKept<S>,
         ensures shorter { IfOk result (λ cut. (positions_at cut.0.half.place < positions_at side.half.place)
             × (positions_at cut.1.half.place < positions_at side.half.place)) }
     {
-        let SideTask { half, of: _ } = side;
-        let piece = side_at(&half.place);
-        let Half { seat, place } = half;
+        let Half { seat, place } = side.half;
+        let piece = side_at(&place);
         let run = Join {
             cut: CutPiece::halves(piece),
             parent: Some((place.tag, is_left(&place))),
@@ -205,8 +202,7 @@ fn walk_whole<S: JobSegments, R: RunBrand, G: Gate, P>(
         (λ x. x.found) result.part }
 {
     let all = Piece::all(job.job, segment, size);
-    let walked = part_of(work, all, tools);
-    let part = match walked {
+    let part = match part_of(work, all, tools) {
         Ok(part) => Ok(SegmentPart::of_part(part)),
         Err(_refused) => Err(Failure::NoMemory),
     };

@@ -93,10 +93,8 @@ fn settles<S: JobSegments>(jobs: &S, piece: Piece, value: &TablePart<S>) -> bool
             Merged::Part(part) => jobs.is_settled(piece, part),
             Merged::Caught => false,
         },
-        Err(failure) => match failure {
-            Failure::Fault(fault) => jobs.is_settled_by(piece, *fault),
-            Failure::NoMemory => false,
-        },
+        Err(Failure::Fault(fault)) => jobs.is_settled_by(piece, *fault),
+        Err(Failure::NoMemory) => false,
     }
 }
 

@@ -74,9 +74,7 @@ impl<'a, S: JobSegments, R: RunBrand> JobWork<'a, S, TablePart<S>, TableKept<S>,
         ensures tasks { IfOk result (λ made. length made.1.items ≤ S.job_count) }
         ensures idles { IfOk result (λ made. length made.2.items ≡ workers_of settings) }
     {
-        let Ok(places) = empty_places(alloc, jobs) else {
-            return Err(NoMemory);
-        };
+        let places = empty_places(alloc, jobs)?;
         let FreshCounts {
             counts,
             seat,
@@ -101,10 +99,8 @@ impl<'a, S: JobSegments, R: RunBrand> JobWork<'a, S, TablePart<S>, TableKept<S>,
             places,
             stops,
         };
-        match open_all(alloc, &work.nodes, &work.stops, seat, stop_seat, workers) {
-            Ok((tasks, idles)) => Ok((work, tasks, idles)),
-            Err(refused) => Err(refused),
-        }
+        let (tasks, idles) = open_all(alloc, &work.nodes, &work.stops, seat, stop_seat, workers)?;
+        Ok((work, tasks, idles))
     }
 
     /// What a worker asks the words of early stop with, about no segment yet.
@@ -149,24 +145,15 @@ where
     ghost owner_of = { λ idle. actor_of idle.seat };
 
     fn left<H: Wait>(&self, _rt: &H, idle: TableIdle<S, R>) -> (TableIdle<S, R>, u64) {
-        let Idle {
+        let (seat, left) = self.nodes.counts.left(idle.seat);
+        let idle = Idle {
             seat,
-            spare,
-            stop_seat,
-            scratch,
-            of,
-        } = idle;
-        let (seat, left) = self.nodes.counts.left(seat);
-        (
-            Idle {
-                seat,
-                spare,
-                stop_seat,
-                scratch,
-                of,
-            },
-            left,
-        )
+            spare: idle.spare,
+            stop_seat: idle.stop_seat,
+            scratch: idle.scratch,
+            of: idle.of,
+        };
+        (idle, left)
     }
 
     fn run<H: Wait, G: Gate, P: Spawn<TableTask<S, R>>>(

@@ -1,4 +1,4 @@
-use Rattle.std.proofs.Common.{◌≡◌, ◌∙◌, ap, sym, subst, arith, true, false, Some}
+use Rattle.std.proofs.Common.{◌≡◌, ◌∙◌, ap, sym, subst, true, false, Some}
 use Rattle.pending_count.specs.declared.place.Place.{Place}
 use Rattle.pending_count.specs.Seats.{view_of}
 use Rattle.completer_tree.specs.Trees.{table_id_of, CanFork}
