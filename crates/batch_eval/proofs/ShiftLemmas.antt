@@ -12,8 +12,8 @@ use Rattle.batch_eval.specs.NumberTests.{to_least}
 abbrev from_least : ℤ → ℤ → ℤ
 from_least n z = if int_lt z n then (z -ℤ n) +ℤ pos (2 ^ 63) else (z -ℤ n) -ℤ pos (2 ^ 63)
 
-shifted : (z s k w : ℤ) → (z -ℤ s) +ℤ k *ℤ pos (2 ^ 64) ≡ w → FitsSigned w64 w → wrap (z -ℤ s) ≡ w
-shifted z s k w is fits = wrap_only (z -ℤ s) k (subst (λ (x : ℤ). FitsSigned w64 x) (sym is) fits) ∙ is
+wraps_to : (y k w : ℤ) → y +ℤ k *ℤ pos (2 ^ 64) ≡ w → FitsSigned w64 w → wrap y ≡ w
+wraps_to y k w is fits = wrap_only y k (subst (λ (x : ℤ). FitsSigned w64 x) (sym is) fits) ∙ is
 
 module _ (z n : ℤ) (f : FitsSigned w64 z) (g : FitsSigned w64 n) where
   below : z <ℤ n → FitsSigned w64 ((z -ℤ n) +ℤ pos (2 ^ 63)) × ((z -ℤ n) +ℤ pos (2 ^ 63) ≡ from_least n z)
@@ -25,14 +25,22 @@ module _ (z n : ℤ) (f : FitsSigned w64 z) (g : FitsSigned w64 n) where
   -- by the sign of the number
   by_sign : (b : Bool) → wrap (z -ℤ (if b then n +ℤ pos (2 ^ 63) else n -ℤ pos (2 ^ 63))) ≡ from_least n z
   by_sign true = by_lt_z z n
-      (λ o. shifted z (n +ℤ pos (2 ^ 63)) (pos 1) _ (omega (arith, ints)) (below o).0 ∙ (below o).1)
-      (λ o. shifted z (n +ℤ pos (2 ^ 63)) (pos 0) _ (omega (arith, ints)) (above o).0 ∙ (above o).1)
+      (λ o. wraps_to (z -ℤ (n +ℤ pos (2 ^ 63))) (pos 1) _ (omega (arith, ints)) (below o).0 ∙ (below o).1)
+      (λ o. wraps_to (z -ℤ (n +ℤ pos (2 ^ 63))) (pos 0) _ (omega (arith, ints)) (above o).0 ∙ (above o).1)
   by_sign false = by_lt_z z n
-      (λ o. shifted z (n -ℤ pos (2 ^ 63)) (pos 0) _ (omega (arith, ints)) (below o).0 ∙ (below o).1)
-      (λ o. shifted z (n -ℤ pos (2 ^ 63)) (negsuc 0) _ (omega (arith, ints)) (above o).0 ∙ (above o).1)
+      (λ o. wraps_to (z -ℤ (n -ℤ pos (2 ^ 63))) (pos 0) _ (omega (arith, ints)) (below o).0 ∙ (below o).1)
+      (λ o. wraps_to (z -ℤ (n -ℤ pos (2 ^ 63))) (negsuc 0) _ (omega (arith, ints)) (above o).0 ∙ (above o).1)
 
   least : wrap (z -ℤ to_least n) ≡ from_least n z
-  least = by_sign (int_lt n (pos 0))
+  least = by_lt_z n (pos 0)
+      (λ o. ap (λ s. wrap (z -ℤ s)) (wraps_to (n +ℤ pos (2 ^ 63)) (pos 0) _ (omega (arith, ints)) (negative o)) ∙ by_sign true)
+      (λ o. ap (λ s. wrap (z -ℤ s)) (wraps_to (n +ℤ pos (2 ^ 63)) (negsuc 0) _ (omega (arith, ints)) (other o)) ∙ by_sign false)
+    where
+      negative : n <ℤ pos 0 → FitsSigned w64 (n +ℤ pos (2 ^ 63))
+      negative o = search rules
+
+      other : pos 0 ≤ℤ n → FitsSigned w64 (n -ℤ pos (2 ^ 63))
+      other o = search rules
 
   pub holds_equal : le_z (wrap (z -ℤ to_least n)) (negsuc 9223372036854775807) ≡ int_eq z n
   holds_equal = ap (λ x. le_z x (negsuc 9223372036854775807)) least ∙ search rules

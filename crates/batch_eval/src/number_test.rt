@@ -115,9 +115,5 @@ fn shift_of_others(number: i64) -> (i64, i64)
 fn to_least(number: i64) -> i64
     ensures { result ≡ to_least number }
 {
-    if number < 0 {
-        number - i64::MIN
-    } else {
-        number + i64::MIN
-    }
+    number.wrapping_sub(i64::MIN)
 }
