@@ -15,7 +15,6 @@ use Rattle.prefix_walks.specs.CheapStages.{AreCheap, left_by}
 use Rattle.job_plan.specs.Parts.{number_after, EndsFor, StandsFor, end_in, segment_in}
 use Rattle.prefix_walks.specs.Pieces.{elements, piece_of}
 use Rattle.prefix_walks.specs.Scans.{AbstractScan, scan, scan_append}
-use Rattle.prefix_walks.proofs.CheapLemmas.{cheap_walk}
 
 -- items after others
 pub grown : (w : Trace) (ys zs : List Item) → append (append w (trace ys end.Done)) (trace zs end.Done) ≡ append w (trace (ys ++ zs) end.Done)
@@ -42,6 +41,6 @@ lent_stands segment prefix p t env e plain is =
     let n = segment.stages.first in
     let gs = stages_of segment.stages.list.items in
     let last : ℕ = number_after segment.stages in
-    let walk : pipe n gs env t ≡ trace (left_by gs t.items) t.ending = cheap_walk n gs plain env t.items t.ending in
+    let walk : pipe n gs env t ≡ trace (left_by gs t.items) t.ending = plain.0 n env t.items t.ending in
     let stands : p ≡ scan prefix.op prefix.range last (pipe n gs env t) = is ∙ ap (scan prefix.op prefix.range last) (sym walk) in
     subst (λ d. EndsFor (end_in d) last env (part.Prefix p) (pipe n gs env t)) (sym e) stands

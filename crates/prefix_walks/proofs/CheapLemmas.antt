@@ -1,92 +1,88 @@
 -- Items that cheap stages leave where they are read.
-use Rattle.std.proofs.Common.{◌≡◌, ℕ, suc, ◌≤◌, Bool, true, false, if◌then◌else◌, List, [], ◌∷◌, ◌++◌, length, length-append, map as each_of, Result, Ok, Err, OnErr, refl, sym, ap, ◌∙◌, arith}
+use Rattle.std.proofs.Common.{◌≡◌, ℕ, suc, ◌≤◌, Bool, true, false, if◌then◌else◌, List, [], ◌∷◌, ◌++◌, length, Result, Ok, Err, OnErr, refl, sym, ap, subst, ◌∙◌, le_trans, arith}
 use Rattle.std.specs.declared.alloc.AllocError.{AllocError}
-use Rattle.std.proofs.lemmas.List.Concat.{flat_map-append}
 use Rattle.lambda_values.specs.Earlier.{Numbers}
 use Rattle.lambda_values.specs.Term.{Long, Truth}
-use Rattle.lambda_values.specs.Value.{long_value, truth_value}
 use Rattle.trace.specs.Sinks.{IsFed, flow_after}
-use Rattle.trace.specs.Stages.{AbstractStage, map, filter, flat_map, image as item_image, passed, pipe, through}
-use Rattle.trace.specs.Trace.{trace, append}
+use Rattle.trace.specs.Stages.{AbstractStage, map, filter, image as item_image, passed, pipe, through}
+use Rattle.trace.specs.Trace.{Trace, trace, append}
 use Rattle.trace.specs.declared.feeding.Fed.{Fed}
 use Rattle.trace.specs.declared.feeding.Fed.TheVariants as fed
 use Rattle.trace.specs.declared.item.Item.{Item}
 use Rattle.trace.specs.declared.item.End.{End}
 use Rattle.trace.specs.declared.item.End.TheVariants as end
 use Rattle.trace.specs.declared.sink.Flow.TheVariants as flow
-use Rattle.prefix_walks.specs.CheapStages.{AreCheap, left_by, left_of, truth_in, value_in}
+use Rattle.trace.proofs.JoinLemmas.{pipe_ended, pipe_more}
+use Rattle.prefix_walks.specs.CheapStages.{AreCheap, left_by}
 use Rattle.prefix_walks.specs.Plain.{IsPlain, IsPlainTest}
-use Rattle.prefix_walks.proofs.PlainLemmas.{truth_is, value_is}
 
--- ---- a walk through cheap stages
+-- ---- which stages are cheap
 
-through_map : (n : ℕ) (e : Long) → IsPlain e → (env : Numbers) (xs : List Item) (ending : End)
-    → through n (map e) env (trace xs ending) ≡ trace (each_of (λ (x : Item). record { origin = x.origin; value = value_in (long_value e x.value []) }) xs) ending
-through_map n e h env [] ending = refl
-through_map n e h env (x ∷ xs) ending =
-    (λ i. append (item_image n x (value_is e h x.value env i)) (through_map n e h env xs ending i))
+-- stages that make just this of a walk
+made_cheap : (gs : List AbstractStage) (makes : List Item → List Item) → ((n : ℕ) (env : Numbers) (xs : List Item) (ending : End) → pipe n gs env (trace xs ending) ≡ trace (makes xs) ending)
+    → ((xs : List Item) → length (makes xs) ≤ length xs) → AreCheap gs
+made_cheap gs makes walk few =
+    let none : Numbers = [] in
+    let left : (xs : List Item) → left_by gs xs ≡ makes xs = λ xs. ap (λ (t : Trace). t.items) (walk 0 none xs end.Done) in (
+      λ n env xs ending. walk n env xs ending ∙ ap (λ (l : List Item). trace l ending) (sym (left xs)),
+      λ xs. subst (λ (l : List Item). length l ≤ length xs) (sym (left xs)) (few xs),
+    )
 
-left_mapped : (e : Long) (gs : List AbstractStage) (xs : List Item)
-    → left_by gs (each_of (λ (x : Item). record { origin = x.origin; value = value_in (long_value e x.value []) }) xs) ≡ left_by (map e ∷ gs) xs
-left_mapped e gs [] = refl
-left_mapped e gs (x ∷ xs) = ap (λ (l : List Item). left_of gs (record { origin = x.origin; value = value_in (long_value e x.value []) }) ++ l) (left_mapped e gs xs)
+pub none_cheap : AreCheap []
+none_cheap = made_cheap [] (λ xs. xs) (λ n env xs ending. refl) (λ xs. omega arith)
 
-abbrev kept_by : Truth → List Item → List Item
-kept_by p [] = []
-kept_by p (x ∷ xs) = if truth_in (truth_value p x.value []) then x ∷ kept_by p xs else kept_by p xs
+pub more_cheap : (g : AbstractStage) (gs : List AbstractStage) → AreCheap (g ∷ []) → AreCheap gs → AreCheap (g ∷ gs)
+more_cheap g gs h k = made_cheap (g ∷ gs) (λ xs. left_by gs (left_by (g ∷ []) xs))
+    (λ n env xs ending. ap (pipe (suc n) gs env) (h.0 n env xs ending) ∙ k.0 (suc n) env (left_by (g ∷ []) xs) ending)
+    (λ xs. le_trans (k.1 (left_by (g ∷ []) xs)) (h.1 xs))
 
-through_filter : (n : ℕ) (p : Truth) → IsPlainTest p → (env : Numbers) (xs : List Item) (ending : End) → through n (filter p) env (trace xs ending) ≡ trace (kept_by p xs) ending
-through_filter n p h env [] ending = refl
-through_filter n p h env (x ∷ xs) ending =
-    (λ i. append (passed n x (truth_is p h x.value env i)) (through_filter n p h env xs ending i)) ∙ by (truth_in (truth_value p x.value []))
+pub map_cheap : (e : Long) → IsPlain e → AreCheap (map e ∷ [])
+map_cheap e h = made_cheap (map e ∷ []) mapped walk few
   where
-    by : (b : Bool) → append (passed n x (Ok b)) (trace (kept_by p xs) ending) ≡ trace (if b then x ∷ kept_by p xs else kept_by p xs) ending
-    by true = refl
-    by false = refl
+    mapped : List Item → List Item
+    mapped [] = []
+    mapped (x ∷ xs) = record { origin = x.origin; value = (h x.value).0 } ∷ mapped xs
 
-left_kept : (p : Truth) (gs : List AbstractStage) (xs : List Item) → left_by gs (kept_by p xs) ≡ left_by (filter p ∷ gs) xs
-left_kept p gs [] = refl
-left_kept p gs (x ∷ xs) = by (truth_in (truth_value p x.value [])) (left_kept p gs xs)
+    walk : (n : ℕ) (env : Numbers) (xs : List Item) (ending : End) → through n (map e) env (trace xs ending) ≡ trace (mapped xs) ending
+    walk n env [] ending = refl
+    walk n env (x ∷ xs) ending = (λ i. append (item_image n x ((h x.value).1 env i)) (walk n env xs ending i))
+
+    few : (xs : List Item) → length (mapped xs) ≤ length xs
+    few [] = omega arith
+    few (x ∷ xs) = let l = few xs in omega arith
+
+pub filter_cheap : (p : Truth) → IsPlainTest p → AreCheap (filter p ∷ [])
+filter_cheap p h = made_cheap (filter p ∷ []) kept walk few
   where
-    by : (b : Bool) → left_by gs (kept_by p xs) ≡ left_by (filter p ∷ gs) xs
-        → left_by gs (if b then x ∷ kept_by p xs else kept_by p xs) ≡ (if b then left_of gs x else []) ++ left_by (filter p ∷ gs) xs
-    by true later = ap (λ (l : List Item). left_of gs x ++ l) later
-    by false later = later
+    kept : List Item → List Item
+    kept [] = []
+    kept (x ∷ xs) = if (h x.value).0 then x ∷ kept xs else kept xs
 
-left_none : (xs : List Item) → left_by [] xs ≡ xs
-left_none [] = refl
-left_none (x ∷ xs) = ap (λ (l : List Item). x ∷ l) (left_none xs)
+    one : (n : ℕ) (x : Item) (xs : List Item) (ending : End) (b : Bool) → append (passed n x (Ok b)) (trace xs ending) ≡ trace (if b then x ∷ xs else xs) ending
+    one n x xs ending true = refl
+    one n x xs ending false = refl
 
-pub cheap_walk : (n : ℕ) (gs : List AbstractStage) → AreCheap gs → (env : Numbers) (xs : List Item) (ending : End) → pipe n gs env (trace xs ending) ≡ trace (left_by gs xs) ending
-cheap_walk n [] h env xs ending = ap (λ (l : List Item). trace l ending) (sym (left_none xs))
-cheap_walk n (map e ∷ gs) h env xs ending =
-    ap (pipe (suc n) gs env) (through_map n e h.0 env xs ending)
-    ∙ cheap_walk (suc n) gs h.1 env (each_of (λ (x : Item). record { origin = x.origin; value = value_in (long_value e x.value []) }) xs) ending
-    ∙ ap (λ (l : List Item). trace l ending) (left_mapped e gs xs)
-cheap_walk n (filter p ∷ gs) h env xs ending =
-    ap (pipe (suc n) gs env) (through_filter n p h.0 env xs ending)
-    ∙ cheap_walk (suc n) gs h.1 env (kept_by p xs) ending
-    ∙ ap (λ (l : List Item). trace l ending) (left_kept p gs xs)
-cheap_walk n (flat_map g ∷ gs) h env xs ending = absurd h.0
+    walk : (n : ℕ) (env : Numbers) (xs : List Item) (ending : End) → through n (filter p) env (trace xs ending) ≡ trace (kept xs) ending
+    walk n env [] ending = refl
+    walk n env (x ∷ xs) ending = (λ i. append (passed n x ((h x.value).1 env i)) (walk n env xs ending i)) ∙ one n x (kept xs) ending (h x.value).0
 
-pub left_both : (gs : List AbstractStage) (xs ys : List Item) → left_by gs (xs ++ ys) ≡ left_by gs xs ++ left_by gs ys
-left_both gs xs ys = flat_map-append (left_of gs) xs ys
+    fewer : (b : Bool) (x : Item) (xs ys : List Item) → length ys ≤ length xs → length (if b then x ∷ ys else ys) ≤ length (x ∷ xs)
+    fewer true x xs ys l = omega arith
+    fewer false x xs ys l = omega arith
 
--- ---- how many items are left
+    few : (xs : List Item) → length (kept xs) ≤ length xs
+    few [] = omega arith
+    few (x ∷ xs) = fewer (h x.value).0 x xs (kept xs) (few xs)
 
-one_few : (gs : List AbstractStage) (x : Item) → length (left_of gs x) ≤ 1
-one_few [] x = omega arith
-one_few (map e ∷ gs) x = one_few gs (record { origin = x.origin; value = value_in (long_value e x.value []) })
-one_few (filter p ∷ gs) x = by (truth_in (truth_value p x.value [])) (one_few gs x)
-  where
-    by : (b : Bool) → length (left_of gs x) ≤ 1 → length (if b then left_of gs x else []) ≤ 1
-    by true few = few
-    by false few = omega arith
-one_few (flat_map g ∷ gs) x = one_few gs x
+pub left_none : (gs : List AbstractStage) → left_by gs [] ≡ []
+left_none gs =
+    let none : Numbers = [] in
+    ap (λ (t : Trace). t.items) (pipe_ended 0 gs none end.Done)
 
-pub left_few : (gs : List AbstractStage) (xs : List Item) → length (left_by gs xs) ≤ length xs
-left_few gs [] = omega arith
-left_few gs (x ∷ xs) = let l = length-append (left_of gs x) (left_by gs xs) in omega (arith, l, one_few gs x, left_few gs xs)
+pub left_both : (gs : List AbstractStage) → AreCheap gs → (xs ys : List Item) → left_by gs (xs ++ ys) ≡ left_by gs xs ++ left_by gs ys
+left_both gs h xs ys =
+    let none : Numbers = [] in
+    ap (λ (t : Trace). t.items) (pipe_more 0 gs none xs ys end.Done ∙ (λ i. append (h.0 0 none xs end.Done i) (h.0 0 none ys end.Done i)))
 
 -- ---- a sink that takes all
 

@@ -27,7 +27,7 @@ unary_by_there : (r : UnaryRule) → is_never (unary_faults_by r) ≡ true → (
 unary_by_there (always_one f) h v = (_, refl)
 unary_by_there (exactly_one f) h v = absurd (let z : false ≡ true = h in cc)
 
-unary_there : (o : UnaryOperator) → is_total o ≡ true → (v : ℤ) → HasValue (unary_value o v)
+pub unary_there : (o : UnaryOperator) → is_total o ≡ true → (v : ℤ) → HasValue (unary_value o v)
 unary_there o h v = unary_by_there (unary_rule o) h v
 
 -- a number other than 0 is no value 0
@@ -51,7 +51,7 @@ binary_by_there (always f) b v w x env h is = (_, refl)
 binary_by_there (unless_zero f) b v w x env h is = divided_there w _ (is_not_zero b w x env h is)
 binary_by_there (exactly f) b v w x env h is = absurd (let z : false ≡ true = h in cc)
 
-binary_there : (o : BinaryOperator) (b : Long) (v w x : ℤ) (env : Numbers) → is_total_by o b ≡ true → long_value b x env ≡ Ok w → HasValue (binary_value o v w)
+pub binary_there : (o : BinaryOperator) (b : Long) (v w x : ℤ) (env : Numbers) → is_total_by o b ≡ true → long_value b x env ≡ Ok w → HasValue (binary_value o v w)
 binary_there o b v w x env h is = binary_by_there (binary_rule o) b v w x env h is
 
 -- an expression that can't have a fault has a value

@@ -1,10 +1,10 @@
 //! Maps and filters that are so cheap that what they leave of values is computed where it is read, and not kept.
 
-ghost use Rattle.std.specs.Prelude.{◌≡◌, ◌≤◌, ◌<◌, ◌^◌, IfSome, length};
+ghost use Rattle.std.specs.Prelude.{◌≡◌, ◌≤◌, ◌<◌, ◌^◌, ◌∷◌, [], IfSome, length};
 ghost use Rattle.lambda_values.specs.Term.{long_of, truth_of};
 ghost use Rattle.trace.specs.Stages.{stage_of, stages_of};
 ghost use Rattle.batch_eval.specs.BatchItems.{batch_items};
-ghost use Rattle.prefix_walks.specs.CheapStages.{AreCheap, AreCheap-prop, IsCheapStage, left_by};
+ghost use Rattle.prefix_walks.specs.CheapStages.{AreCheap, AreCheap-prop, left_by};
 ghost use Rattle.prefix_walks.specs.Plain.{IsPlain, IsPlainTest};
 
 use crate::faultless::{is_total, is_total_by};
@@ -76,7 +76,7 @@ fn after_stages(stages: &[Stage], operators: u32) -> Option<u32>
 /// How many of these operators a stage leaves, if it is a map or a filter that can't have a fault and names no earlier
 /// job.
 fn after_stage(stage: &Stage, operators: u32) -> Option<u32>
-    ensures { IfSome result (λ _. IsCheapStage (stage_of stage.now)) }
+    ensures { IfSome result (λ _. AreCheap (stage_of stage.now ∷ [])) }
 {
     match stage {
         Stage::Map(image) => after_long(image, operators),
@@ -91,7 +91,8 @@ fn after_long(expr: &LongExpr, operators: u32) -> Option<u32>
     ensures { IfSome result (λ _. IsPlain (long_of expr.now)) }
 {
     match expr {
-        LongExpr::Number(_) | LongExpr::Parameter(_) => Some(operators),
+        LongExpr::Number(_) => Some(operators),
+        LongExpr::Parameter(_) => Some(operators),
         LongExpr::Reference(_) => None,
         LongExpr::Unary(operator, operand) => {
             if !is_total(*operator) {

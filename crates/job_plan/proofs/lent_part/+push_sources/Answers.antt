@@ -20,4 +20,4 @@ returns-in_ok-push_lent-in-Some t c =
     let zs = elements c.after-left.result.from c.after-left.result.to ts in
     let gs = stages_of c.args.cheap.stages.now in
     let parts = first_part c.args.sources.now c.in-Some.source.now c.in-Some.later.now _ c.args.origin c.args.window.from c.args.window.to c.plain_size-size.result c.within-start.result.0 c.within-start.result.1 (search rules) c.requires.few c.plain_size-size.ensures c.within-start.ensures.start c.within-start.ensures.count c.items_of-items.ensures ∙ (λ i. ys ++ elements (sym left.from i) (sym left.to i) ts) in
-    on_ok_map c.push_sources.result (λ later. scanned_both c.args.part.now c.push_lent.new.self c.push_sources.new.part (left_by gs ys) (left_by gs zs) _ c.in_ok-push_lent-in-Some.ensures later (ap (left_by gs) parts ∙ left_both gs ys zs)) c.push_sources.ensures
+    on_ok_map c.push_sources.result (λ later. scanned_both c.args.part.now c.push_lent.new.self c.push_sources.new.part (left_by gs ys) (left_by gs zs) _ c.in_ok-push_lent-in-Some.ensures later (ap (left_by gs) parts ∙ left_both gs c.args.cheap.cheap ys zs)) c.push_sources.ensures

@@ -11,7 +11,7 @@ loop-taken-preserved c =
     let gs = stages_of c.args.cheap.stages.now in
     let taken = c.loop-taken.taken in
     let count = c.min-count.result in (
-      lent_next gs (batch_items c.args.lent.now) (all_items c.args.pieces.now.items) (all_items c.loop-taken.pieces.items) c.put.new.buffer (all_items c.add_left.new.pieces.items) taken count
+      lent_next gs c.args.cheap.cheap (batch_items c.args.lent.now) (all_items c.args.pieces.now.items) (all_items c.loop-taken.pieces.items) c.put.new.buffer (all_items c.add_left.new.pieces.items) taken count
           c.in_ok-add_left.ensures.ok (c.put.ensures ∙ ap (left_by gs) c.part-part.ensures) c.loop-taken.invariant.0,
       c.add_left.ensures.folds,
       omega (arith, c.min-count.ensures, c.loop-taken.invariant.2),

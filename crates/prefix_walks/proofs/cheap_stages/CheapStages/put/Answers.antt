@@ -6,7 +6,7 @@ use Rattle.trace.specs.Stages.{stages_of}
 use Rattle.trace.specs.Trace.{Trace}
 use Rattle.batch_eval.specs.BatchItems.{batch_items}
 use Rattle.prefix_walks.specs.CheapStages.{left_by}
-use Rattle.prefix_walks.proofs.CheapLemmas.{all_taken, cheap_walk, left_few}
+use Rattle.prefix_walks.proofs.CheapLemmas.{all_taken}
 use Rattle.prefix_walks.proofs.cheap_stages.CheapStages.put.Goals as goal
 
 pub returns : goal.returns
@@ -16,5 +16,5 @@ returns c =
     let xs = batch_items c.args.lent.now in
     let taken = λ (b : List Item) (ys : List Item). length ys ≤ 1024 → b ≡ ys in
     all_taken taken (left_by gs xs) c.feed_at_once.new.sink c.feed_at_once.result c.feed_at_once.ensures.flow c.feed_at_once.ensures.refused
-    (subst (λ (t : Trace). IsFed taken none t c.feed_at_once.result c.feed_at_once.new.sink) (cheap_walk 0 gs c.args.self.now.cheap c.empty-env.result xs end.Done) (c.feed_at_once.ensures.fed none (λ few. c.clear.ensures)))
-    (let few = left_few gs xs in omega (arith, few, c.requires))
+    (subst (λ (t : Trace). IsFed taken none t c.feed_at_once.result c.feed_at_once.new.sink) (c.args.self.now.cheap.0 0 c.empty-env.result xs end.Done) (c.feed_at_once.ensures.fed none (λ few. c.clear.ensures)))
+    (let few = c.args.self.now.cheap.1 xs in omega (arith, few, c.requires))
