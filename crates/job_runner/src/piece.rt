@@ -12,7 +12,7 @@ pub struct Piece {
 
 impl Piece {
     /// All positions of a segment that has this many of them.
-    pub fn all(job: usize, segment: usize, size: u64) -> Piece
+    pub(crate) fn all(job: usize, segment: usize, size: u64) -> Piece
         ensures of { (result.job ≡ job) × (result.segment ≡ segment) }
         ensures positions { (result.from ≡ 0) × (result.to ≡ size) }
     {

@@ -155,7 +155,7 @@ fn source_place<S: JobSegments>(
 }
 
 /// Puts the source of a segment into its place; `None` empties the place, and frees what lay there. Nothing changes if
-/// the segment has no place, as the first one, or while a reader holds it: the old source stays until the run ends.
+/// the segment is the first one, which has no place, or while a reader holds the place.
 pub(crate) fn put_source<S: JobSegments>(
     places: &[JobPlaces<S>],
     job: usize,

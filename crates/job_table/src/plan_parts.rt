@@ -44,8 +44,8 @@ fn end_of(piece: Piece, source: &Source) -> Option<u64>
     }
 }
 
-/// Walks a piece of a leg, as far as it matters: in one go from its first item on, if that is asked for or if the leg
-/// goes through slices. The piece is then all of the leg.
+/// Walks a piece of a leg, as far as it matters. With `in_order`, or if the leg goes through slices, the piece is all
+/// of the leg, and is walked in one go from its first item on.
 pub(crate) fn walked_piece<'a, W: Stop>(
     alloc: Global,
     plan: &'a JobPlan,

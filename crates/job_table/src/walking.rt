@@ -19,8 +19,8 @@ use job_runner::{EarlierAnswers, NoMemory, Piece, SegmentInput};
 use std::alloc::Global;
 
 impl<'a, 'c, P: PlanBrand> PlanJobs<'a, 'c, P> {
-    /// The part of a piece. `in_order` asks for a walk of all of the leg in one go, so that `job_answer` gives an
-    /// answer.
+    /// The part of a piece. With `in_order` the piece is all of its leg, and is walked in one go from its first item
+    /// on, so that `job_answer` gives an answer.
     pub(crate) fn part<E: EarlierAnswers<Answer>, W: Stop>(
         &self,
         alloc: Global,
